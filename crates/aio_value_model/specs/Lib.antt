@@ -1,1 +1,9 @@
 pub mod Value
+pub mod Kinds
+pub mod Weight
+pub mod Depth
+pub mod Equality
+pub mod Escapes
+pub mod Shown
+pub mod Input
+pub mod Request
