@@ -1,6 +1,8 @@
--- What a coroutine is resumed with. Source: PEP 342, `send` and `throw`.
+-- What a coroutine is resumed with: a value, or an exception that is raised at the place where it waits.
+-- Source: PEP 342, `send` and `throw` of a generator.
 use Rattle.aio_value_model.specs.Value.{Value, Exc}
+use Rattle.aio_value_model.specs.declared.input.Input as input
+pub use Rattle.aio_value_model.specs.declared.input.Input.TheVariants.{Send, Throw}
 
-pub data Input : Type 0 where
-  Send : (value : Value) → Input
-  Throw : (fault : Exc) → Input
+abbrev pub Input : Type 0
+Input = input.Input Value Exc

@@ -3,3 +3,11 @@ pub mod Input
 pub mod Lines
 pub mod Number
 pub mod Value
+pub mod Kinds
+pub mod Weight
+pub mod Depth
+pub mod Equality
+pub mod Escapes
+pub mod Shown
+pub mod Input
+pub mod Request

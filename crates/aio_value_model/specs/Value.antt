@@ -2,6 +2,8 @@
 -- Source: the library reference, "Built-in Types" and "Built-in Exceptions".
 use Rattle.std.specs.Prelude.{ℕ, ℤ, Bool, List, [], ◌∷◌}
 use Rattle.aio_value_model.specs.declared.kind.Kind.{Kind}
+use Rattle.aio_value_model.specs.declared.outcome.Outcome as outcome
+pub use Rattle.aio_value_model.specs.declared.outcome.Outcome.TheVariants.{Value as Returned, Failed, Cancelled}
 
 mutual
   pub data Value : Type 0 where
@@ -56,7 +58,5 @@ abbrev pub exception_of : Kind → List ℕ → Exc
 exception_of kind text = exc kind text [] no_excs
 
 -- how a future ends
-pub data Outcome : Type 0 where
-  Returned : (value : Value) → Outcome
-  Failed : (fault : Exc) → Outcome
-  Cancelled : Outcome
+abbrev pub Outcome : Type 0
+Outcome = outcome.Outcome Value Exc

@@ -2,6 +2,13 @@
 //! definitions and code share.
 #![tactic(auto)]
 
+pub mod examples;
+mod input;
 mod kind;
+mod outcome;
+mod request;
 
+pub use input::Input;
 pub use kind::Kind;
+pub use outcome::Outcome;
+pub use request::Request;
