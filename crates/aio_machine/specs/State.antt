@@ -27,7 +27,11 @@ pub record State : Type 0 where
 abbrev pub parts_with_main : Parts
 parts_with_main =
     record {
-      time = 0; next_stamp = 0; next_tag = 0; pending = []; timers = [];
+      time = 0;
+      next_stamp = 0;
+      next_tag = 0;
+      pending = [];
+      timers = [];
       futures = record { kind = OfTask 0; outcome = None; callbacks = MainDone ∷ [] } ∷ [];
       tasks = record { future = 0; waiter = None; cancels = 0; must_cancel = false } ∷ [];
     }
@@ -36,7 +40,11 @@ parts_with_main =
 abbrev pub start : List Line → State
 start program =
     record {
-      program = program; parts = soon (Step 0) parts_with_main; tapes = [] ∷ []; main_done = false; events = [];
+      program = program;
+      parts = soon (Step 0) parts_with_main;
+      tapes = [] ∷ [];
+      main_done = false;
+      events = [];
     }
 
 abbrev pub with_parts : Parts → State → State

@@ -3,7 +3,8 @@ use Rattle.std.specs.Prelude.{ℕ, List, [], ◌∷◌, ◌++◌, codes}
 use Rattle.std.specs.List.{flat_map}
 use Rattle.std.specs.Fmt.{decimal}
 use Rattle.aio_value_model.specs.Shown.{shown, shown_exc}
-use Rattle.aio_value_model.specs.Value.{Value, Outcome, Returned, Failed, Cancelled}
+use Rattle.aio_value_model.specs.Value.{Outcome}
+use Rattle.aio_value_model.specs.declared.outcome.Outcome.TheVariants.{Value as Returned, Failed, Cancelled}
 use Rattle.aio_wire_model.specs.Call.{written_call}
 use Rattle.aio_machine.specs.State.{Event, Called, Got, Ran, Said}
 use Rattle.aio_machine.specs.Run.{Run, Ending, Finished, Stalled, Turns, Over, Bad}

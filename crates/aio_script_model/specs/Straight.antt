@@ -2,8 +2,10 @@
 -- Source: the language reference, "Function definitions"; what a coroutine says after its inputs: PEP 380.
 use Rattle.std.specs.Prelude.{ℕ, ◌-◌, ◌==◌, Bool, ◌&&◌, not, List, [], ◌∷◌, Option, Some, None, codes, drop, take, length, nat_eq, nat_lt, nat_le, slice_index, option_and_then, if◌then◌else◌}
 use Rattle.std.specs.List.{starts_with, list_all}
+use Rattle.std.specs.Str.{bytes_eq}
 use Rattle.std.specs.Option.{option_map}
-use Rattle.aio_value_model.specs.Input.{Input, Send, Throw}
+use Rattle.aio_value_model.specs.Input.{Input}
+use Rattle.aio_value_model.specs.declared.input.Input.TheVariants.{Send, Throw}
 use Rattle.aio_value_model.specs.Lines.{lines_of}
 use Rattle.aio_value_model.specs.Value.{Value, Exc, Nothing, Text}
 
@@ -40,14 +42,13 @@ line_before (Some line) (Some lines) = Some (line ∷ lines)
 -- the lines of a body, up to the line `end`, which is the last
 abbrev pub body_of : List (List ℕ) → Option (List Line)
 body_of [] = None
-body_of (last ∷ []) = if starts_with nat_eq last (codes "end") && (length last == 3) then Some [] else None
+body_of (last ∷ []) = if bytes_eq last (codes "end") then Some [] else None
 body_of (line ∷ next ∷ lines) = line_before (statement_of (unindented line)) (body_of (next ∷ lines))
 
 -- a body after its head `def main()`
 abbrev pub main_of : List (List ℕ) → Option (List Line)
 main_of [] = None
-main_of (head ∷ lines) =
-    if starts_with nat_eq head (codes "def main()") && (length head == 10) then body_of lines else None
+main_of (head ∷ lines) = if bytes_eq head (codes "def main()") then body_of lines else None
 
 -- the longest script, in bytes
 abbrev pub longest_script : ℕ
