@@ -7,3 +7,4 @@ pub mod Escapes
 pub mod Shown
 pub mod Input
 pub mod Request
+pub mod Code

@@ -1,0 +1,4 @@
+pub mod Exc
+pub mod ExcFalls
+pub mod Value
+pub mod ValueFalls
