@@ -9,20 +9,20 @@ use Rattle.std.specs.Option.{option_map_or}
 use Rattle.aio_value_model.specs.declared.kind.Kind.{Kind}
 use Rattle.aio_value_model.specs.Value.{Exc, exc, Excs, no_excs, exc_then, excs}
 
-abbrev pub text_of : Option (RcStr Global) → List ℕ
-text_of None = []
-text_of (Some text) = rc_str_bytes text
+abbrev pub text_held : Option (RcStr Global) → List ℕ
+text_held None = []
+text_held (Some text) = rc_str_bytes text
 
-abbrev pub bytes_of : Option (RcSlice ℕ Global) → List ℕ
-bytes_of None = []
-bytes_of (Some bytes) = rc_slice_items bytes
+abbrev pub bytes_held : Option (RcSlice ℕ Global) → List ℕ
+bytes_held None = []
+bytes_held (Some bytes) = rc_slice_items bytes
 
-abbrev pub members_of : Option (Rc (List Exc) Global) → Excs
-members_of None = no_excs
-members_of (Some members) = excs members.value
+abbrev pub members_held : Option (Rc (List Exc) Global) → Excs
+members_held None = no_excs
+members_held (Some members) = excs members.value
 
 abbrev pub exc_of : Kind → Option (RcStr Global) → Option (RcSlice ℕ Global) → Option (Rc (List Exc) Global) → Exc
-exc_of kind text bytes members = exc kind (text_of text) (bytes_of bytes) (members_of members)
+exc_of kind text bytes members = exc kind (text_held text) (bytes_held bytes) (members_held members)
 
 abbrev mutual
   pub exc_size : Exc → ℕ

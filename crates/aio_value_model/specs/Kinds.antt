@@ -48,7 +48,7 @@ same_kind = sameb the_type
 
 -- `except k` takes an exception of kind e: k is e or one of its ancestors
 abbrev pub matches : (k e : Kind) → Bool
-matches k e = list_any (same_kind k) (lineage e)
+matches k e = list_any (λ ancestor. same_kind ancestor k) (lineage e)
 
 abbrev pub Matches : (k e : Kind) → Type 0
 Matches k e = matches k e ≡ true

@@ -53,6 +53,18 @@ abbrev pub excs : List Exc → Excs
 excs [] = no_excs
 excs (e ∷ es) = exc_then e (excs es)
 
+abbrev pub kind_of : Exc → Kind
+kind_of (exc kind text bytes members) = kind
+
+abbrev pub text_of : Exc → List ℕ
+text_of (exc kind text bytes members) = text
+
+abbrev pub bytes_of : Exc → List ℕ
+bytes_of (exc kind text bytes members) = bytes
+
+abbrev pub members_of : Exc → List Exc
+members_of (exc kind text bytes members) = excs_of members
+
 -- an exception with a text alone
 abbrev pub exception_of : Kind → List ℕ → Exc
 exception_of kind text = exc kind text [] no_excs
