@@ -3,12 +3,15 @@
 
 mod blob;
 mod exc;
+mod kinds;
 mod memory;
 mod stream;
 mod value;
 
+pub use aio_value_model::Kind;
 pub use blob::Blob;
 pub use exc::{Exc, ExcList, exception};
+pub use kinds::{kind_matches, name_of};
 pub use memory::Memory;
 pub use stream::Stream;
 pub use value::{Value, ValueList};

@@ -84,6 +84,8 @@ impl Value {
     pub fn nothing() -> Value
         ensures { result ≡ Nothing }
     {
-        Value { case: Case::Nothing }
+        Value {
+            case: Case::Nothing,
+        }
     }
 }
