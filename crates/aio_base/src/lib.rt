@@ -14,4 +14,4 @@ pub use exc::{Exc, ExcList, exception};
 pub use kinds::{kind_matches, name_of};
 pub use memory::Memory;
 pub use stream::Stream;
-pub use value::{Value, ValueList};
+pub use value::{Value, ValueCase, ValueList};
