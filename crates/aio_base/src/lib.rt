@@ -5,6 +5,7 @@ mod blob;
 mod exc;
 mod kinds;
 mod memory;
+mod shared;
 mod stream;
 mod value;
 
@@ -13,5 +14,6 @@ pub use blob::Blob;
 pub use exc::{Exc, ExcList, exception};
 pub use kinds::{kind_matches, name_of};
 pub use memory::Memory;
+pub use shared::{Input, Outcome, Request};
 pub use stream::Stream;
 pub use value::{Value, ValueCase, ValueList};

@@ -3,7 +3,6 @@
 use Rattle.std.specs.Prelude.{ℕ, ℤ, Bool, List, [], ◌∷◌}
 use Rattle.aio_value_model.specs.declared.kind.Kind.{Kind}
 use Rattle.aio_value_model.specs.declared.outcome.Outcome as outcome
-pub use Rattle.aio_value_model.specs.declared.outcome.Outcome.TheVariants.{Value as Returned, Failed, Cancelled}
 
 mutual
   pub data Value : Type 0 where
@@ -69,6 +68,6 @@ members_of (exc kind text bytes members) = excs_of members
 abbrev pub exception_of : Kind → List ℕ → Exc
 exception_of kind text = exc kind text [] no_excs
 
--- how a future ends
+-- how a future ends: with a value, failed, or cancelled. Its cases are those of the enumeration.
 abbrev pub Outcome : Type 0
 Outcome = outcome.Outcome Value Exc
