@@ -1,0 +1,31 @@
+-- What a read may give.
+use Rattle.std.specs.Prelude.{◌≡◌, ℕ, ◌≤◌, List, [], ◌++◌, Option, Some, length, drop, take}
+use Rattle.aio_wire_model.specs.Told.{Agrees, Rose}
+use Rattle.aio_wire.specs.declared.source.SourceGot.{SourceGot}
+use Rattle.aio_wire.specs.declared.source.SourceGot.TheVariants.{Bytes, End, Failed}
+
+-- bytes that were read are at least one and at most as many as were asked for
+abbrev pub FitsRead : ℕ → SourceGot → Type 0
+FitsRead max (Bytes bytes) = (1 ≤ length bytes) × (length bytes ≤ max)
+FitsRead max End = Unit {0}
+FitsRead max Failed = Unit {0}
+
+-- Bytes are the next of what is left, and are then gone; the end comes where nothing is left.
+abbrev pub ReadLeaves : Option (List ℕ) → Option (List ℕ) → SourceGot → Type 0
+ReadLeaves old new (Bytes bytes) = (rest : List ℕ) → Agrees new rest → Agrees old (bytes ++ rest)
+ReadLeaves old new End = Agrees old [] × (new ≡ old)
+ReadLeaves old new Failed = new ≡ old
+
+-- a read fails only where the count of faults rose in the call
+abbrev pub FailedIfRose : ℕ → ℕ → SourceGot → Type 0
+FailedIfRose before now (Bytes bytes) = Unit {0}
+FailedIfRose before now End = Unit {0}
+FailedIfRose before now Failed = Rose before now
+
+-- What a read from a place gives of a file: its bytes there, or the end where none are there. A missing file gives
+-- neither.
+abbrev pub ReadsAt : Option (List ℕ) → ℕ → SourceGot → Type 0
+ReadsAt held from (Bytes bytes) =
+    (all : List ℕ) × (held ≡ Some all) × (bytes ≡ take (length bytes) (drop from all)) × (from ≤ length all)
+ReadsAt held from End = (all : List ℕ) × (held ≡ Some all) × (length all ≤ from)
+ReadsAt held from Failed = Unit {0}

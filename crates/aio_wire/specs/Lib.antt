@@ -1,0 +1,5 @@
+pub mod Files
+pub mod Got
+pub mod Replied
+pub mod Told
+pub mod Took

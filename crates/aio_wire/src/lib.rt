@@ -1,0 +1,17 @@
+//! The outside as traits: where bytes come from and go to, the files of a shelf, and the wire that answers the loop's
+//! calls; and each of them in memory.
+#![tactic(auto)]
+
+mod call;
+mod memory;
+mod shelf;
+mod sink;
+mod source;
+mod wire;
+
+pub use call::{Answer, Call};
+pub use memory::MemSink;
+pub use shelf::Shelf;
+pub use sink::{Sink, SinkTook};
+pub use source::{Source, SourceGot};
+pub use wire::{JournalFault, Reply, Wire};

@@ -1,0 +1,41 @@
+//! What answers the loop's calls.
+ghost use Rattle.std.specs.Prelude.{◌≡◌, ℕ, ◌≤◌, List, Option, IfOk};
+ghost use Rattle.aio_wire_model.specs.Journal.{Entry};
+ghost use Rattle.aio_wire.specs.Replied.{Replied, FailedIfRose};
+
+use crate::call::{Answer, Call};
+use aio_base::Memory;
+use std::alloc::Global;
+
+/// A journal's line that is no entry: its number from 1, and the cause.
+#[derive(Clone, Copy, Debug, PartialEq, Eq)]
+pub struct JournalFault {
+    pub line: u64,
+    pub cause: u8,
+}
+
+/// What a wire replies to a call.
+#[derive(Clone, Copy, Debug, PartialEq, Eq)]
+pub enum Reply {
+    Got(Answer),
+    /// No answer is left.
+    Over,
+    /// The next answer is a line that is none.
+    Bad(JournalFault),
+    /// The wire failed: its count of faults rose.
+    Failed,
+}
+
+/// What answers the loop's calls: the real outside, or a journal of what it answered.
+pub trait Wire {
+    /// How often it failed; the count never falls.
+    ghost faults: { Self → ℕ };
+
+    /// The answers that are left, and perhaps a line that is none behind them, where that is told.
+    ghost answers: { Self → Option (List Entry) };
+
+    fn ask(&mut self, alloc: Global, call: &Call) -> Result<Reply, Memory>
+        ensures replied { IfOk result (Replied (answers self.old) (answers self.new)) }
+        ensures failed { IfOk result (FailedIfRose (faults self.old) (faults self.new)) }
+        ensures later { faults self.old ≤ faults self.new };
+}
