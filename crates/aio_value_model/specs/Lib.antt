@@ -1,4 +1,5 @@
 pub mod Action
+pub mod Code
 pub mod Depth
 pub mod Equality
 pub mod Escapes

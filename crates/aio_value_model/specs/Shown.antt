@@ -5,7 +5,8 @@ use lib.Chars.{codes}
 use Rattle.aio_value_model.specs.declared.kind.Kind.{Kind}
 use Rattle.aio_value_model.specs.declared.kind.Kind.TheVariants.{ExceptionGroup}
 use Rattle.aio_value_model.specs.Kinds.{kind_name, same_kind}
-use Rattle.aio_value_model.specs.Escapes.{Bare, escaped, text_literal, bytes_literal}
+use Rattle.aio_value_model.specs.declared.place.Place.TheVariants.{Bare}
+use Rattle.aio_value_model.specs.Escapes.{escaped, text_literal, bytes_literal}
 use Rattle.aio_value_model.specs.Value.{Value, Nothing, Truth, Int, Text, Bytes, Items, Fut, Task, Group, Timeout, Conn, Server, Child, Errs, Exception, Values, no_values, value_then, Exc, exc, Excs, no_excs, exc_then}
 
 -- the letter of an id and its number
