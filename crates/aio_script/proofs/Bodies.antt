@@ -1,7 +1,13 @@
 -- A body's lines, one after another.
-use Rattle.std.proofs.Common.{◌≡◌, ℕ, ◌+◌, ◌<◌, List, [], ◌∷◌, ◌++◌, Option, Some, None, length, map, cond, eqb, Bool, true, false, refl, ap, ◌∙◌, sym, arith, append_assoc}
+use Rattle.std.proofs.Common.{◌≡◌, ℕ, ◌+◌, ◌<◌, List, [], ◌∷◌, ◌++◌, Option, Some, None, length, map, cond, eqb, ◌&&◌, Bool, true, false, refl, ap, ◌∙◌, sym, arith, append_assoc}
+use Rattle.std.specs.List.{list_all}
+use Rattle.std.specs.Str.{IsAscii, IsUtf8}
+use Rattle.std.proofs.lemmas.Bool.{false≢true}
+use Rattle.std.proofs.lemmas.Bool.Decides.{nat_tests}
+use Rattle.std.proofs.lemmas.Str.{IsUtf8-from_ascii}
+use Rattle.std.proofs.lemmas.Str.Ascii.{IsAscii-nil, IsAscii-cons}
 use Rattle.aio_value_model.specs.Lines.{lines_of, fronted}
-use Rattle.aio_script_model.specs.Straight.{Line, body_of, line_before, statement_of, unindented}
+use Rattle.aio_script_model.specs.Straight.{Line, body_of, is_plain, line_before, statement_of, unindented}
 
 -- lines in front of a body's, where it is one
 abbrev pub with_front : List Line → Option (List Line) → Option (List Line)
@@ -42,3 +48,19 @@ pub body_of-goes_on : (front : List Line) (text rest line behind : List ℕ) (l 
 body_of-goes_on front text rest line behind l so_far split some read =
     so_far ∙ ap (λ ls. with_front front (body_of ls)) split ∙ ap (with_front front) (body_of-more line behind some)
     ∙ ap (λ o. with_front front (line_before o (body_of (lines_of behind)))) read ∙ with_front-more front l (body_of (lines_of behind))
+
+plain-ascii : (byte : ℕ) → is_plain byte ≡ true → byte < 128
+plain-ascii byte plain = grind (arith, nat_tests)
+
+-- plain bytes are ASCII
+pub IsAscii-plain : (text : List ℕ) → list_all is_plain text ≡ true → IsAscii text
+IsAscii-plain [] plain = IsAscii-nil
+IsAscii-plain (byte ∷ bytes) plain = by_test (is_plain byte) refl (IsAscii-plain bytes)
+  where
+    by_test : (b : Bool) → is_plain byte ≡ b → (list_all is_plain bytes ≡ true → IsAscii bytes) → IsAscii (byte ∷ bytes)
+    by_test true e rest = IsAscii-cons byte bytes (plain-ascii byte e) (rest (sym (ap (λ b. b && list_all is_plain bytes) e) ∙ plain))
+    by_test false e rest = absurd (false≢true (sym (ap (λ b. b && list_all is_plain bytes) e) ∙ plain))
+
+-- plain bytes are text
+pub IsUtf8-plain : (text : List ℕ) → list_all is_plain text ≡ true → IsUtf8 text
+IsUtf8-plain text plain = IsUtf8-from_ascii text (IsAscii-plain text plain)

@@ -13,7 +13,7 @@ abbrev pub printing : List ℕ → plain.Line
 printing text = plain.Print (Text text ∷ [])
 
 abbrev pub plain_line : Line → plain.Line
-plain_line (Print text) = printing text
+plain_line (Print items) = plain.Print items
 
 abbrev pub plain_lines : List Line → List plain.Line
 plain_lines lines = map plain_line lines

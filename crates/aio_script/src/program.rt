@@ -1,15 +1,18 @@
 //! Programs that were read.
-use aio_base::Blob;
+ghost use Rattle.std.specs.Prelude.{◌≤◌, vec_len};
+
+use aio_base::ValueList;
 
 /// A line of a coroutine's body.
-#[derive(Debug, Drop)]
+#[derive(Drop)]
 pub enum Line {
-    /// `print` of a text.
-    Print(Blob),
+    /// `print` of these values.
+    Print(ValueList),
 }
 
-/// A script that was read: the lines of `main`.
-#[derive(Debug, Drop)]
+/// A script that was read: the lines of `main`, which are no more than a script's bytes.
+#[derive(Drop)]
 pub struct Program {
     pub lines: Vec<Line>,
+    ghost few: { vec_len lines ≤ 65536 },
 }

@@ -1,16 +1,18 @@
 //! From a text to the program that it spells.
-ghost use Rattle.std.specs.Prelude.{◌≡◌, List, [], ◌∷◌, IfOk, IfErr, option_copied};
+ghost use Rattle.std.specs.Prelude.{◌≡◌, List, [], ◌∷◌, IfOk, IfErr, IfSome, option_copied, length, vec_len, ◌≤◌, true};
 ghost use Rattle.std.specs.Option.{option_map};
 ghost use Rattle.std.specs.List.{list_all};
 ghost use Rattle.aio_value_model.specs.Lines.{lines_of};
 ghost use Rattle.aio_script_model.specs.Straight.{straight_of, main_of, body_of, statement_of, closed_text, is_plain, unindented};
-ghost use Rattle.aio_script.specs.Read.{plain_program, plain_lines, printing, FailsAs};
+ghost use Rattle.aio_script.specs.Read.{plain_program, plain_line, plain_lines, printing, FailsAs};
 
 use crate::fault::ScriptFault;
 use crate::program::{Line, Program};
-use aio_base::Blob;
+use aio_base::{Value, ValueList};
 use aio_text::next_line;
 use std::alloc::{AllocError, Global};
+use std::rc::RcStr;
+use std::str;
 
 /// The longest script, in bytes.
 const LONGEST: usize = 65_536;
@@ -33,7 +35,8 @@ pub fn read(alloc: Global, text: &[u8]) -> Result<Program, ScriptFault>
 
 /// The lines of `main`, which is all of a text.
 fn read_main(alloc: Global, text: &[u8]) -> Result<Option<Vec<Line>>, AllocError>
-    ensures { IfOk result (λ body. option_map (λ lines. plain_lines lines.items) body ≡ main_of (lines_of text.now)) }
+    ensures body { IfOk result (λ body. option_map (λ lines. plain_lines lines.items) body ≡ main_of (lines_of text.now)) }
+    ensures few { IfOk result (λ body. IfSome body (λ lines. vec_len lines ≤ length text.now)) }
 {
     let Some((head, rest)) = next_line(text) else {
         return Ok(None);
@@ -46,7 +49,8 @@ fn read_main(alloc: Global, text: &[u8]) -> Result<Option<Vec<Line>>, AllocError
 
 /// The lines of a body up to `end`, which is the last.
 fn read_body(alloc: Global, text: &[u8]) -> Result<Option<Vec<Line>>, AllocError>
-    ensures { IfOk result (λ body. option_map (λ lines. plain_lines lines.items) body ≡ body_of (lines_of text.now)) }
+    ensures body { IfOk result (λ body. option_map (λ lines. plain_lines lines.items) body ≡ body_of (lines_of text.now)) }
+    ensures few { IfOk result (λ body. IfSome body (λ lines. vec_len lines ≤ length text.now)) }
 {
     let mut lines = Vec::new(alloc);
     let mut rest = text;
@@ -57,10 +61,18 @@ fn read_body(alloc: Global, text: &[u8]) -> Result<Option<Vec<Line>>, AllocError
         let Some(text) = printed_text(unindented(line)) else {
             return Ok(None);
         };
-        lines.push(Line::Print(Blob::of(Vec::from_slice(alloc, text)?)))?;
+        lines.push(print_line(alloc, text)?)?;
         rest = behind;
     }
     Ok(None)
+}
+
+/// A line that prints a text.
+fn print_line(alloc: Global, text: &str) -> Result<Line, AllocError>
+    ensures { IfOk result (λ line. plain_line line ≡ printing text.now) }
+{
+    let value = Value::text(RcStr::from_str(alloc, text)?);
+    Ok(Line::Print(ValueList::of(vec![in alloc; value]?)))
 }
 
 /// A line without the spaces at its front.
@@ -75,7 +87,7 @@ fn unindented(line: &[u8]) -> &[u8]
 }
 
 /// The text of a line `print "TEXT"`.
-fn printed_text(line: &[u8]) -> Option<&[u8]>
+fn printed_text(line: &[u8]) -> Option<&str>
     ensures { option_map printing (option_copied result) ≡ statement_of line.now }
 {
     if line.starts_with(b"print \"") {
@@ -86,7 +98,7 @@ fn printed_text(line: &[u8]) -> Option<&[u8]>
 }
 
 /// Plain bytes in front of a quote that is the last byte.
-fn closed_text(bytes: &[u8]) -> Option<&[u8]>
+fn closed_text(bytes: &[u8]) -> Option<&str>
     ensures { option_copied result ≡ closed_text bytes.now }
 {
     if bytes.is_empty() {
@@ -94,11 +106,18 @@ fn closed_text(bytes: &[u8]) -> Option<&[u8]>
     }
     let count = bytes.len() - 1;
     let text = &bytes[..count];
-    if bytes[count] == b'"' && are_plain(text) {
-        Some(text)
-    } else {
-        None
+    if bytes[count] != b'"' || !are_plain(text) {
+        return None;
     }
+    Some(as_text(text))
+}
+
+/// Plain bytes as a text.
+fn as_text(plain: &[u8]) -> &str
+    requires { list_all is_plain plain.now ≡ true }
+    ensures { result.now ≡ plain.now }
+{
+    str::from_utf8(plain).unwrap()
 }
 
 /// Whether each byte stands for itself in a text: from a space to a tilde, but no quote and no backslash.
