@@ -1,0 +1,31 @@
+use Rattle.std.proofs.Common.{rules, arith, ◌≡◌, ◌++◌, ◌∷◌, [], refl, ap, sym, ◌∙◌, subst, max, length}
+use Rattle.std.proofs.lemmas.List.{length-map}
+use Rattle.aio_value_model.specs.Action.{Step, MainDone}
+use Rattle.aio_wire_model.specs.Call.{Turn}
+use Rattle.aio_script.specs.Read.{plain_program}
+use Rattle.aio_machine.specs.State.{Ran}
+use Rattle.aio_run.specs.Events.{plain_event, plain_events}
+use Rattle.aio_run.specs.Kernel.{TurnedIn}
+use Rattle.aio_run.specs.Printing.{said_by}
+use Rattle.aio_run.specs.declared.kernel.Phase.{Phase}
+use Rattle.aio_run.specs.declared.kernel.Phase.TheVariants.{Started, Ended, Over}
+use Rattle.aio_run.proofs.Turns.{turned-started, turned-ended, turned-over}
+use Rattle.aio_run.proofs.kernel.Kernel.turn.Goals as goal
+
+pub returns-in_ok-print_lines-in-Started : goal.returns-in_ok-print_lines-in-Started
+returns-in_ok-print_lines-in-Started c =
+    let k = c.args.self.now in
+    (refl, subst (λ (p : Phase). TurnedIn (plain_program k.program) k.time p c.max-self.result Ended (Turn c.args.now) (plain_events c.print_lines.new.told.items)) (sym c.in-Started.is)
+      (turned-started (plain_program k.program) k.time c.args.now c.max-self.result (plain_events c.print_lines.new.told.items) c.max-self.ensures ? ?))
+
+pub returns-in_ok-push-in-Ended : goal.returns-in_ok-push-in-Ended
+returns-in_ok-push-in-Ended c =
+    let k = c.args.self.now in
+    (refl, subst (λ (p : Phase). TurnedIn (plain_program k.program) k.time p c.max-self.result Over (Turn c.args.now) (plain_events c.push-in-Ended.new.self.items)) (sym c.in-Ended.is)
+      (turned-ended (plain_program k.program) k.time c.args.now c.max-self.result (plain_events c.push-in-Ended.new.self.items) c.max-self.ensures ?))
+
+pub returns-in-Over : goal.returns-in-Over
+returns-in-Over c =
+    let k = c.args.self.now in
+    (refl, subst (λ (p : Phase). TurnedIn (plain_program k.program) k.time p c.max-self.result Over (Turn c.args.now) (plain_events c.new-told.result.items)) (sym c.in-Over.is)
+      (turned-over (plain_program k.program) k.time c.args.now c.max-self.result (plain_events c.new-told.result.items) c.max-self.ensures ?))

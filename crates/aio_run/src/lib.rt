@@ -1,0 +1,8 @@
+//! The program: what it does for its words, over a shelf, a wire and a sink.
+#![tactic(auto)]
+
+mod event;
+mod kernel;
+mod printing;
+
+pub use kernel::Kernel;
