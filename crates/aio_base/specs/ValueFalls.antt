@@ -6,7 +6,8 @@ use Rattle.aio_value_model.specs.Value.{Value}
 use Rattle.aio_base.specs.declared.value.Case.{Case}
 use Rattle.aio_base.specs.declared.value.Case.TheVariants as case
 use Rattle.aio_base.specs.declared.value.Value.TheDeep.{deep-Case}
-use Rattle.aio_base.specs.Value.{value_of, value_size, items_size, list_size}
+use Rattle.aio_value_model.specs.Size.{value_size, list_size}
+use Rattle.aio_base.specs.Value.{value_of}
 
 pub case_falls : (c : Case) → max (deep-Case c) 0 ≤ value_size (value_of c)
 case_falls (case.List list) = omega arith

@@ -8,6 +8,7 @@ mod literal;
 mod memory;
 mod shared;
 mod stream;
+mod text;
 mod value;
 
 pub use aio_value_model::Kind;
@@ -18,4 +19,5 @@ pub use literal::{push_bytes_literal, push_escaped, push_text_literal};
 pub use memory::Memory;
 pub use shared::{Input, Outcome, Request};
 pub use stream::Stream;
+pub use text::{show, show_exc};
 pub use value::{Value, ValueCase, ValueList};
