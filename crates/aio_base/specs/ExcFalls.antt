@@ -7,8 +7,7 @@ use Rattle.std.specs.declared.alloc.Global.{Global}
 use Rattle.std.proofs.Common.{arith}
 use denote.Param.Weighed.{most}
 use Rattle.aio_value_model.specs.declared.kind.Kind.{Kind}
-use Rattle.aio_value_model.specs.Value.{Exc, excs}
-use Rattle.aio_base.specs.declared.exc.Exc.TheInside.{Inside}
+use Rattle.aio_value_model.specs.Value.{Exc}
 use Rattle.aio_base.specs.declared.exc.Exc.TheDeep.{deep-Exc}
 use Rattle.aio_value_model.specs.Size.{exc_size, excs_size}
 use Rattle.aio_base.specs.Exc.{exc_of}

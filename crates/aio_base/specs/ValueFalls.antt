@@ -1,5 +1,5 @@
 -- The items of a list value are smaller than it, and each value of a list is smaller than the list.
-use Rattle.std.specs.Prelude.{ℕ, ◌+◌, ◌≤◌, max, List, [], ◌∷◌}
+use Rattle.std.specs.Prelude.{◌+◌, ◌≤◌, max, List, [], ◌∷◌}
 use Rattle.std.proofs.Common.{arith}
 use denote.Param.Weighed.{most}
 use Rattle.aio_value_model.specs.Value.{Value}

@@ -10,6 +10,7 @@ mod shared;
 mod stream;
 mod text;
 mod value;
+mod weigh;
 
 pub use aio_value_model::Kind;
 pub use blob::Blob;
@@ -21,3 +22,4 @@ pub use shared::{Input, Outcome, Request};
 pub use stream::Stream;
 pub use text::{show, show_exc};
 pub use value::{Value, ValueCase, ValueList};
+pub use weigh::weight;

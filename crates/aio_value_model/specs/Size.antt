@@ -1,6 +1,6 @@
 -- How many values and exceptions stand inside a value: what falls in each recursion over values.
 use Rattle.std.specs.Prelude.{ℕ, ◌+◌, List}
-use Rattle.aio_value_model.specs.Value.{Value, Nothing, Truth, Int, Text, Bytes, Items, Fut, Task, Group, Timeout, Conn, Server, Child, Errs, Exception, Values, no_values, value_then, Exc, exc, Excs, no_excs, exc_then, values, excs}
+use Rattle.aio_value_model.specs.Value.{Value, Items, Exception, Values, no_values, value_then, Exc, exc, Excs, no_excs, exc_then, values, excs}
 
 abbrev mutual
   pub value_size : Value → ℕ

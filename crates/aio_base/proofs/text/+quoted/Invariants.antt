@@ -14,4 +14,4 @@ decreases-push_items l = list_size l.items.now
 abbrev pub invariant-push_items-loop-item : goal.invariant-push_items-loop-item
 invariant-push_items-loop-item l =
     (l.out.items ≡ l.initial.out.items ++ quoted_items (values (take l.item-index l.items)))
-        × (l.separator ≡ separator (take l.item-index l.items))
+    × (l.separator ≡ separator (take l.item-index l.items))
