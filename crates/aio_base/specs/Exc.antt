@@ -1,13 +1,12 @@
--- How an exception of the code is seen as plain data, and how large it is.
-use Rattle.std.specs.Prelude.{ℕ, ◌+◌, ◌≤◌, List, [], ◌∷◌, Option, Some, None}
+-- How an exception of the code is seen as plain data: what it lacks is empty.
+use Rattle.std.specs.Prelude.{ℕ, List, [], Option, Some, None}
 use Rattle.std.specs.declared.rc.Rc.{Rc}
 use Rattle.std.specs.declared.rc.RcStr.{RcStr}
 use Rattle.std.specs.declared.rc.RcSlice.{RcSlice}
 use Rattle.std.specs.declared.alloc.Global.{Global}
 use Rattle.std.specs.Rc.{rc_str_bytes, rc_slice_items}
-use Rattle.std.specs.Option.{option_map_or}
 use Rattle.aio_value_model.specs.declared.kind.Kind.{Kind}
-use Rattle.aio_value_model.specs.Value.{Exc, exc, Excs, no_excs, exc_then, excs}
+use Rattle.aio_value_model.specs.Value.{Exc, exc, Excs, no_excs, excs}
 
 abbrev pub text_held : Option (RcStr Global) → List ℕ
 text_held None = []
@@ -23,14 +22,3 @@ members_held (Some members) = excs members.value
 
 abbrev pub exc_of : Kind → Option (RcStr Global) → Option (RcSlice ℕ Global) → Option (Rc (List Exc) Global) → Exc
 exc_of kind text bytes members = exc kind (text_held text) (bytes_held bytes) (members_held members)
-
-abbrev mutual
-  pub exc_size : Exc → ℕ
-  exc_size (exc kind text bytes members) = 1 + members_size members
-
-  pub members_size : Excs → ℕ
-  members_size no_excs = 0
-  members_size (exc_then first others) = 1 + exc_size first + members_size others
-
-abbrev pub excs_size : List Exc → ℕ
-excs_size members = members_size (excs members)

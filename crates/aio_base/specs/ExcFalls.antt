@@ -7,10 +7,10 @@ use Rattle.std.specs.declared.alloc.Global.{Global}
 use Rattle.std.proofs.Common.{arith}
 use denote.Param.Weighed.{most}
 use Rattle.aio_value_model.specs.declared.kind.Kind.{Kind}
-use Rattle.aio_value_model.specs.Value.{Exc, excs}
-use Rattle.aio_base.specs.declared.exc.Exc.TheInside.{Inside}
+use Rattle.aio_value_model.specs.Value.{Exc}
 use Rattle.aio_base.specs.declared.exc.Exc.TheDeep.{deep-Exc}
-use Rattle.aio_base.specs.Exc.{exc_of, exc_size, members_size, excs_size}
+use Rattle.aio_value_model.specs.Size.{exc_size, excs_size}
+use Rattle.aio_base.specs.Exc.{exc_of}
 
 pub members_fall : (kind : Kind) (text : Option (RcStr Global)) (bytes : Option (RcSlice ℕ Global)) (members : Option (Rc (List Exc) Global)) → deep-Exc (record { kind = kind; text = text; bytes = bytes; members = members }) ≤ exc_size (exc_of kind text bytes members)
 members_fall kind text bytes None = omega arith

@@ -1,7 +1,6 @@
--- How a value of the code is seen as plain data, and how large it is.
-use Rattle.std.specs.Prelude.{ℕ, ◌+◌, List}
+-- How a value of the code is seen as plain data.
 use Rattle.std.specs.Rc.{rc_str_bytes, rc_slice_items}
-use Rattle.aio_value_model.specs.Value.{Value, Nothing, Truth, Int, Text, Bytes, Items, Fut, Task, Group, Timeout, Conn, Server, Child, Errs, Exception, Values, no_values, value_then, values}
+use Rattle.aio_value_model.specs.Value.{Value, Nothing, Truth, Int, Text, Bytes, Items, Fut, Task, Group, Timeout, Conn, Server, Child, Errs, Exception, values}
 use Rattle.aio_base.specs.declared.value.Case.{Case}
 use Rattle.aio_base.specs.declared.value.Case.TheVariants as case
 
@@ -21,15 +20,3 @@ value_of (case.Server id) = Server id
 value_of (case.Child id) = Child id
 value_of (case.Errs id) = Errs id
 value_of (case.Exc fault) = Exception fault
-
-abbrev mutual
-  pub value_size : Value → ℕ
-  value_size (Items items) = 1 + items_size items
-  value_size _ = 0
-
-  pub items_size : Values → ℕ
-  items_size no_values = 0
-  items_size (value_then value others) = 1 + value_size value + items_size others
-
-abbrev pub list_size : List Value → ℕ
-list_size items = items_size (values items)

@@ -34,7 +34,8 @@ impl Model for Exc {
 
     ghost coded = { coded_exc };
 
-    ghost use Rattle.aio_base.specs.Exc.{exc_of, exc_size};
+    ghost use Rattle.aio_value_model.specs.Size.{exc_size};
+    ghost use Rattle.aio_base.specs.Exc.{exc_of};
 
     ghost view = { λ a. exc_of a.kind a.text a.bytes a.members };
 
@@ -55,7 +56,7 @@ impl Model for ExcList {
 
     ghost coded = { coded_list coded_exc };
 
-    ghost use Rattle.aio_base.specs.Exc.{excs_size};
+    ghost use Rattle.aio_value_model.specs.Size.{excs_size};
 
     ghost view = { λ a. a.items.items };
 

@@ -8,7 +8,9 @@ mod literal;
 mod memory;
 mod shared;
 mod stream;
+mod text;
 mod value;
+mod weigh;
 
 pub use aio_value_model::Kind;
 pub use blob::Blob;
@@ -18,4 +20,6 @@ pub use literal::{push_bytes_literal, push_escaped, push_text_literal};
 pub use memory::Memory;
 pub use shared::{Input, Outcome, Request};
 pub use stream::Stream;
+pub use text::{show, show_exc};
 pub use value::{Value, ValueCase, ValueList};
+pub use weigh::weight;

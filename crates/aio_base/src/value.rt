@@ -51,7 +51,8 @@ impl Model for Value {
 
     ghost coded = { coded_value };
 
-    ghost use Rattle.aio_base.specs.Value.{value_of, value_size};
+    ghost use Rattle.aio_value_model.specs.Size.{value_size};
+    ghost use Rattle.aio_base.specs.Value.{value_of};
 
     ghost view = { λ a. value_of a.case };
 
@@ -72,7 +73,7 @@ impl Model for ValueList {
 
     ghost coded = { coded_list coded_value };
 
-    ghost use Rattle.aio_base.specs.Value.{list_size};
+    ghost use Rattle.aio_value_model.specs.Size.{list_size};
 
     ghost view = { λ a. a.items.items };
 
@@ -84,6 +85,7 @@ impl Model for ValueList {
 }
 
 /// The cases of a value, with what they hold lent.
+#[derive(Clone, Copy)]
 pub enum ValueCase<'a> {
     Nothing,
     Bool(bool),

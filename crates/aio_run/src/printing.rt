@@ -1,13 +1,12 @@
 //! What `print` writes.
 ghost use Rattle.std.specs.Prelude.{◌≡◌, ◌++◌, IfOk, OnOk};
 ghost use Rattle.aio_machine.specs.Step.{shown_all, shown_behind};
-ghost use Rattle.aio_value_model.specs.Shown.{shown};
 ghost use Rattle.aio_script.specs.Read.{plain_lines};
 ghost use Rattle.aio_run.specs.Events.{plain_events};
 ghost use Rattle.aio_run.specs.Printing.{said_by};
 
 use crate::event::Event;
-use aio_base::{Blob, Memory, Value};
+use aio_base::{Blob, Memory, Value, show};
 use aio_script::Line;
 use std::alloc::Global;
 
@@ -43,10 +42,5 @@ fn show_behind(alloc: Global, values: &[Value], text: &mut Vec<u8>) -> Result<()
         text.push(b' ')?;
         show(alloc, value, text)?;
     }
-    Ok(())
-}
-fn show(_alloc: Global, _value: &Value, _out: &mut Vec<u8>) -> Result<(), Memory>
-    ensures { OnOk result (_out.new.items ≡ _out.old.items ++ shown _value.now) }
-{
     Ok(())
 }

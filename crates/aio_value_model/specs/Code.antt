@@ -1,5 +1,5 @@
 -- A value as a tree of numbers, and back. By it proofs tell values apart, and types of code may be seen as values.
-use base.Stored.{Gv, gnil, gnum, gcons, num, Coded, coded_bool}
+use base.Stored.{Gv, gnil, gnum, gcons, num, Coded}
 use denote.Enum.Declared.{tag_of}
 use Rattle.std.specs.Prelude.{◌≡◌, ℕ, zero, suc, ℤ, pos, negsuc, Bool, true, false, List, [], ◌∷◌, slice_index_or}
 use Rattle.std.proofs.Common.{sym, refl, ap, ◌∙◌}
@@ -73,7 +73,7 @@ abbrev by_case : ℕ → Gv → Values → Exc → Value
 by_case number content items fault =
     let id = num content in
     slice_index_or (Nothing ∷ Truth (truth_from content) ∷ Int (int_from content) ∷ Text (bytes_from content) ∷ Bytes (bytes_from content) ∷ Items items ∷ Fut id ∷ Task id ∷ Group id ∷ Timeout id
-        ∷ Conn id ∷ Server id ∷ Child id ∷ Errs id ∷ Exception fault ∷ []) number Nothing
+    ∷ Conn id ∷ Server id ∷ Child id ∷ Errs id ∷ Exception fault ∷ []) number Nothing
 
 abbrev kind_from : Gv → Kind
 kind_from (gnum n) = slice_index_or kinds n BaseException

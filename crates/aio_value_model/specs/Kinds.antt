@@ -12,8 +12,8 @@ use Rattle.aio_value_model.specs.declared.kind.Kind.TheVariants.{BaseException, 
 abbrev pub kinds : List Kind
 kinds =
     BaseException ∷ CancelledError ∷ Exception ∷ ArithmeticError ∷ LookupError ∷ OSError ∷ RuntimeError ∷ TypeError ∷ ValueError ∷ NameError ∷ EOFError ∷ LimitOverrunError
-        ∷ InvalidStateError ∷ ExceptionGroup ∷ OverflowError ∷ ZeroDivisionError ∷ IndexError ∷ RecursionError ∷ IncompleteReadError ∷ TimeoutError ∷ ConnectionError
-        ∷ ConnectionResetError ∷ ConnectionRefusedError ∷ BrokenPipeError ∷ []
+    ∷ InvalidStateError ∷ ExceptionGroup ∷ OverflowError ∷ ZeroDivisionError ∷ IndexError ∷ RecursionError ∷ IncompleteReadError ∷ TimeoutError ∷ ConnectionError
+    ∷ ConnectionResetError ∷ ConnectionRefusedError ∷ BrokenPipeError ∷ []
 
 -- the kind, its parent, and so on up to the root
 abbrev pub lineage : Kind → List Kind

@@ -9,5 +9,6 @@ pub mod Lines
 pub mod Number
 pub mod Request
 pub mod Shown
+pub mod Size
 pub mod Value
 pub mod Weight

@@ -18,7 +18,7 @@ truth_text true = codes "True"
 truth_text false = codes "False"
 
 abbrev pub is_group : Kind → Bool
-is_group = same_kind ExceptionGroup
+is_group kind = same_kind kind ExceptionGroup
 
 abbrev mutual
   -- a value inside a list or an exception: a text has its quotes
