@@ -2,6 +2,7 @@
 #![tactic(auto)]
 
 mod event;
+mod journal;
 mod kernel;
 mod printing;
 

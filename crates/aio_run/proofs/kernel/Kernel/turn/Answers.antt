@@ -2,7 +2,7 @@ use Rattle.std.proofs.Common.{rules, arith, ◌≡◌, ◌++◌, ◌∷◌, [], 
 use Rattle.std.proofs.lemmas.List.{length-map}
 use Rattle.aio_value_model.specs.Action.{Step, MainDone}
 use Rattle.aio_wire_model.specs.Call.{Turn}
-use Rattle.aio_script.specs.Read.{plain_program, plain_lines}
+use Rattle.aio_script.specs.Read.{plain_program, plain_line, plain_lines}
 use Rattle.aio_script.specs.declared.program.Line.{Line}
 use Rattle.aio_machine.specs.State.{Ran}
 use Rattle.aio_run.specs.Events.{plain_event, plain_events}
@@ -20,7 +20,7 @@ returns-in_ok-print_lines-in-Started c =
     let k = c.args.self.now in
     (refl, subst (λ (p : Phase). TurnedIn (plain_program k.program) k.time p c.max-self.result Ended (Turn c.args.now) (plain_events c.print_lines.new.told.items)) (sym c.in-Started.is)
       (turned-started (plain_program k.program) k.time c.args.now c.max-self.result (plain_events c.print_lines.new.told.items) c.max-self.ensures
-        (rw length-map k.program.few)
+        (omega (arith, length-map k.program.lines.items plain_line, k.program.lines.ok.0, k.program.few))
         (c.in_ok-print_lines-in-Started.ensures
         ∙ ap (λ (es : List Event). plain_events es ++ said_by (plain_lines c.as_slice.result.now)) (c.in_ok-push-in-Started.ensures.items ∙ ap (λ (es : List Event). es ++ RanStep ∷ []) c.new-told.ensures.items)
         ∙ ap (λ (ls : List Line). Ran (Step 0) ∷ said_by (plain_lines ls)) c.as_slice.ensures.value)))
