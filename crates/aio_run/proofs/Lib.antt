@@ -1,2 +1,5 @@
+pub mod Files
+pub mod Fronts
 pub mod Journals
+pub mod Told
 pub mod Turns

@@ -2,8 +2,12 @@
 #![tactic(auto)]
 
 mod event;
+mod halt;
 mod journal;
+mod journal_wire;
 mod kernel;
 mod printing;
+mod reading;
+mod writing;
 
 pub use kernel::Kernel;

@@ -1,0 +1,24 @@
+//! Why the program stops before all is written.
+ghost use Rattle.std.specs.Prelude.{◌≡◌};
+ghost use Rattle.aio_run.specs.declared.halt.Halt.TheVariants.{Memory as OutOfMemory};
+
+use aio_base::Memory;
+
+/// Why the program stops before all is written.
+#[derive(Clone, Copy, Debug, PartialEq, Eq)]
+pub enum Halt {
+    /// Memory was refused.
+    Memory,
+    /// The sink failed.
+    Sink,
+    /// The wire failed.
+    Wire,
+}
+
+impl From<Memory> for Halt {
+    ghost from_gives = { λ _ halt. halt ≡ OutOfMemory };
+
+    fn from(_cause: Memory) -> Halt {
+        Halt::Memory
+    }
+}
