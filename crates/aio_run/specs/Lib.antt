@@ -4,6 +4,7 @@ pub mod Events
 pub mod Journal
 pub mod JournalWire
 pub mod Kernel
+pub mod Outcome
 pub mod Printing
 pub mod Reading
 pub mod Words

@@ -27,9 +27,11 @@ pub fn drive<W: Wire, K: Sink>(
 ) -> Result<u8, Halt>
     ensures run { IfOk result (Ran (plain_program program) (W.answers wire.old) (K.taken out.old) (K.taken out.new)) }
     ensures live { IfOk result (λ _. W.fails wire.old → ⊥) }
+    ensures failing { W.fails wire.old → K.taken out.new ≡ K.taken out.old }
     ensures stopped { IfErr result (Stopped (plain_program program) (W.answers wire.old) (K.taken out.old) (K.taken out.new)
         (W.faults wire.old) (W.faults wire.new) (K.faults out.old) (K.faults out.new)) }
     ensures later { W.faults wire.old ≤ W.faults wire.new }
+    ensures sink { K.faults out.old ≤ K.faults out.new }
     ensures keeps { W.keeps wire.old wire.new }
 {
     let mut kernel = Kernel::new(program);

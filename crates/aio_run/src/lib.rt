@@ -10,8 +10,9 @@ mod journal_wire;
 mod kernel;
 mod lines;
 mod printing;
+mod program;
 mod reading;
 mod words;
 mod writing;
 
-pub use kernel::Kernel;
+pub use program::aio_main;

@@ -10,7 +10,7 @@ use Rattle.aio_run.proofs.driver.drive.Goals as goal
 pub loop-made-init : goal.loop-made-init
 loop-made-init g c = record {
   running = (starting, [], running_first (plain_program c.args.program) c.new-kernel.result (g.W.Wire.answers c.args.wire.now) (g.K.Sink.taken c.args.out.now) (ap plain_program c.new-kernel.ensures.program) (fits_starting c.new-kernel.result.phase) c.new-kernel.ensures.begins);
-  first = λ fails. (fails, refl, c.new-kernel.ensures.phase);
+  first = λ fails. (fails, refl, c.new-kernel.ensures.phase, refl);
   wire_later = omega arith;
   sink_later = omega arith;
   keeps = g.met.W.Wire.keeps_same c.args.wire.now;
