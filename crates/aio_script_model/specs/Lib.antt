@@ -1,0 +1,5 @@
+pub mod Letters
+pub mod Symbols
+pub mod Faults
+pub mod Literals
+pub mod Tokens

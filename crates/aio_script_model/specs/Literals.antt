@@ -1,0 +1,91 @@
+-- Literals of texts and of bytes: where one ends, and what its inside says.
+-- Source: the Python language reference, "String and Bytes literals", cut to double quotes and seven escapes.
+use Rattle.std.specs.Prelude.{ℕ, zero, suc, ◌+◌, ◌-◌, ◌*◌, Bool, not, ◌&&◌, List, [], ◌∷◌, length, take, slice_index, Option, Some, None, option_map, Result, Ok, Err, ◌==◌, nat_lt, if◌then◌else◌, codes}
+use Rattle.std.specs.Char.{is_ascii_hexdigit, digit_value}
+use Rattle.aio_script_model.specs.Letters.{is_allowed, is_quote, is_backslash}
+use Rattle.aio_script_model.specs.Faults.{TokenFault, BadByte, joined}
+
+-- the two sorts of literals
+pub data Literal : Type 0 where
+  OfText : Literal
+  OfBytes : Literal
+
+-- what a literal begins with
+abbrev pub opening : Literal → List ℕ
+opening OfText = codes "\""
+opening OfBytes = codes "b\""
+
+-- what each byte that a literal says is below
+abbrev pub limit : Literal → ℕ
+limit OfText = 128
+limit OfBytes = 256
+
+-- What stands before the closing quote, which is the first quote that no unpaired backslash stands before; nothing
+-- where there is none. The test says whether an unpaired backslash stands before these bytes.
+abbrev pub inside_of : Bool → List ℕ → Option (List ℕ)
+inside_of escaped [] = None
+inside_of escaped (byte ∷ bytes) =
+    if is_quote byte && not escaped then Some []
+    else option_map (λ inside. byte ∷ inside) (inside_of (is_backslash byte && not escaped) bytes)
+
+-- The inside is cut into parts: a byte for itself, or a backslash with what belongs to it, three bytes where an x
+-- stands behind it and one otherwise.
+abbrev pub part_at : ℕ → List ℕ → List ℕ
+part_at byte bytes =
+    if is_backslash byte then byte ∷ take (if slice_index bytes 0 == 120 then 3 else 1) bytes
+    else byte ∷ []
+
+-- the parts of bytes of which the first few belong to the part before them
+abbrev pub parts_after : ℕ → List ℕ → List (List ℕ)
+parts_after taken [] = []
+parts_after zero (byte ∷ bytes) =
+    part_at byte bytes ∷ parts_after (length (part_at byte bytes) - 1) bytes
+parts_after (suc taken) (byte ∷ bytes) = parts_after taken bytes
+
+abbrev pub parts_of : List ℕ → List (List ℕ)
+parts_of inside = parts_after 0 inside
+
+-- \n, \r, \t, \\ and \"
+abbrev pub escaped : ℕ → Option ℕ
+escaped byte =
+    if byte == 110 then Some 10
+    else (if byte == 114 then Some 13
+    else (if byte == 116 then Some 9
+    else (if is_backslash byte then Some 92
+    else (if is_quote byte then Some 34
+    else None))))
+
+-- two hexadecimal digits of either case
+abbrev pub hexadecimal : ℕ → ℕ → Option ℕ
+hexadecimal high low =
+    if is_ascii_hexdigit high && is_ascii_hexdigit low then Some (16 * digit_value high + digit_value low)
+    else None
+
+-- the value, if it is below the bound
+abbrev pub below : ℕ → Option ℕ → Option ℕ
+below bound None = None
+below bound (Some value) = if nat_lt value bound then Some value else None
+
+-- the byte that a part says, if it says one
+abbrev pub value_of : Literal → List ℕ → Option ℕ
+value_of literal [] = None
+value_of literal (byte ∷ []) =
+    if is_allowed byte && not (is_quote byte) && not (is_backslash byte) then Some byte
+    else None
+value_of literal (byte ∷ letter ∷ []) = if is_backslash byte then escaped letter else None
+value_of literal (byte ∷ letter ∷ high ∷ []) = None
+value_of literal (byte ∷ letter ∷ high ∷ low ∷ []) =
+    if is_backslash byte && letter == 120 then below (limit literal) (hexadecimal high low)
+    else None
+value_of literal (byte ∷ letter ∷ high ∷ low ∷ next ∷ others) = None
+
+-- a part alone, which begins in this column
+abbrev pub part_said : ℕ → Option ℕ → Result (List ℕ) TokenFault
+part_said column (Some value) = Ok (value ∷ [])
+part_said column None = Err (BadByte column)
+
+-- What the parts say, of which the first begins in this column, or their first fault.
+abbrev pub said : Literal → ℕ → List (List ℕ) → Result (List ℕ) TokenFault
+said literal column [] = Ok []
+said literal column (part ∷ parts) =
+    joined (part_said column (value_of literal part)) (said literal (column + length part) parts)
