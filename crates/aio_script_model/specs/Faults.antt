@@ -11,7 +11,7 @@ pub data TokenFault : Type 0 where
   OpenText : (column : ℕ) → TokenFault
 
 -- The one list behind the other, or the first fault from the left.
-abbrev pub joined : {A : Type 0} → Result (List A) TokenFault → Result (List A) TokenFault → Result (List A) TokenFault
-joined (Ok xs) (Ok ys) = Ok (xs ++ ys)
-joined (Ok xs) (Err fault) = Err fault
-joined (Err fault) ys = Err fault
+abbrev pub both_or_fault : {A : Type 0} → Result (List A) TokenFault → Result (List A) TokenFault → Result (List A) TokenFault
+both_or_fault (Ok xs) (Ok ys) = Ok (xs ++ ys)
+both_or_fault (Ok xs) (Err fault) = Err fault
+both_or_fault (Err fault) ys = Err fault

@@ -2,4 +2,8 @@ pub mod Letters
 pub mod Symbols
 pub mod Faults
 pub mod Literals
+pub mod Pieces
 pub mod Tokens
+pub mod Cuts
+pub mod Lines
+pub mod FirstFaults

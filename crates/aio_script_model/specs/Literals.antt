@@ -1,9 +1,9 @@
 -- Literals of texts and of bytes: where one ends, and what its inside says.
--- Source: the Python language reference, "String and Bytes literals", cut to double quotes and seven escapes.
+-- Source: the Python language reference, "String and Bytes literals", cut to double quotes and six escapes.
 use Rattle.std.specs.Prelude.{ℕ, zero, suc, ◌+◌, ◌-◌, ◌*◌, Bool, not, ◌&&◌, List, [], ◌∷◌, length, take, slice_index, Option, Some, None, option_map, Result, Ok, Err, ◌==◌, nat_lt, if◌then◌else◌, codes}
 use Rattle.std.specs.Char.{is_ascii_hexdigit, digit_value}
 use Rattle.aio_script_model.specs.Letters.{is_allowed, is_quote, is_backslash}
-use Rattle.aio_script_model.specs.Faults.{TokenFault, BadByte, joined}
+use Rattle.aio_script_model.specs.Faults.{TokenFault, BadByte, both_or_fault}
 
 -- the two sorts of literals
 pub data Literal : Type 0 where
@@ -23,10 +23,10 @@ limit OfBytes = 256
 -- What stands before the closing quote, which is the first quote that no unpaired backslash stands before; nothing
 -- where there is none. The test says whether an unpaired backslash stands before these bytes.
 abbrev pub inside_of : Bool → List ℕ → Option (List ℕ)
-inside_of escaped [] = None
-inside_of escaped (byte ∷ bytes) =
-    if is_quote byte && not escaped then Some []
-    else option_map (λ inside. byte ∷ inside) (inside_of (is_backslash byte && not escaped) bytes)
+inside_of unpaired [] = None
+inside_of unpaired (byte ∷ bytes) =
+    if is_quote byte && not unpaired then Some []
+    else option_map (λ inside. byte ∷ inside) (inside_of (is_backslash byte && not unpaired) bytes)
 
 -- The inside is cut into parts: a byte for itself, or a backslash with what belongs to it, three bytes where an x
 -- stands behind it and one otherwise.
@@ -46,8 +46,8 @@ abbrev pub parts_of : List ℕ → List (List ℕ)
 parts_of inside = parts_after 0 inside
 
 -- \n, \r, \t, \\ and \"
-abbrev pub escaped : ℕ → Option ℕ
-escaped byte =
+abbrev pub escape_value : ℕ → Option ℕ
+escape_value byte =
     if byte == 110 then Some 10
     else (if byte == 114 then Some 13
     else (if byte == 116 then Some 9
@@ -56,36 +56,36 @@ escaped byte =
     else None))))
 
 -- two hexadecimal digits of either case
-abbrev pub hexadecimal : ℕ → ℕ → Option ℕ
-hexadecimal high low =
+abbrev pub hexadecimal_value : ℕ → ℕ → Option ℕ
+hexadecimal_value high low =
     if is_ascii_hexdigit high && is_ascii_hexdigit low then Some (16 * digit_value high + digit_value low)
     else None
 
 -- the value, if it is below the bound
-abbrev pub below : ℕ → Option ℕ → Option ℕ
-below bound None = None
-below bound (Some value) = if nat_lt value bound then Some value else None
+abbrev pub value_below : ℕ → Option ℕ → Option ℕ
+value_below bound None = None
+value_below bound (Some value) = if nat_lt value bound then Some value else None
 
 -- the byte that a part says, if it says one
-abbrev pub value_of : Literal → List ℕ → Option ℕ
-value_of literal [] = None
-value_of literal (byte ∷ []) =
+abbrev pub part_value : Literal → List ℕ → Option ℕ
+part_value literal [] = None
+part_value literal (byte ∷ []) =
     if is_allowed byte && not (is_quote byte) && not (is_backslash byte) then Some byte
     else None
-value_of literal (byte ∷ letter ∷ []) = if is_backslash byte then escaped letter else None
-value_of literal (byte ∷ letter ∷ high ∷ []) = None
-value_of literal (byte ∷ letter ∷ high ∷ low ∷ []) =
-    if is_backslash byte && letter == 120 then below (limit literal) (hexadecimal high low)
+part_value literal (byte ∷ letter ∷ []) = if is_backslash byte then escape_value letter else None
+part_value literal (byte ∷ letter ∷ high ∷ []) = None
+part_value literal (byte ∷ letter ∷ high ∷ low ∷ []) =
+    if is_backslash byte && letter == 120 then value_below (limit literal) (hexadecimal_value high low)
     else None
-value_of literal (byte ∷ letter ∷ high ∷ low ∷ next ∷ others) = None
+part_value literal (byte ∷ letter ∷ high ∷ low ∷ next ∷ others) = None
 
 -- a part alone, which begins in this column
-abbrev pub part_said : ℕ → Option ℕ → Result (List ℕ) TokenFault
-part_said column (Some value) = Ok (value ∷ [])
-part_said column None = Err (BadByte column)
+abbrev pub part_bytes : ℕ → Option ℕ → Result (List ℕ) TokenFault
+part_bytes column (Some value) = Ok (value ∷ [])
+part_bytes column None = Err (BadByte column)
 
 -- What the parts say, of which the first begins in this column, or their first fault.
-abbrev pub said : Literal → ℕ → List (List ℕ) → Result (List ℕ) TokenFault
-said literal column [] = Ok []
-said literal column (part ∷ parts) =
-    joined (part_said column (value_of literal part)) (said literal (column + length part) parts)
+abbrev pub literal_bytes : Literal → ℕ → List (List ℕ) → Result (List ℕ) TokenFault
+literal_bytes literal column [] = Ok []
+literal_bytes literal column (part ∷ parts) =
+    both_or_fault (part_bytes column (part_value literal part)) (literal_bytes literal (column + length part) parts)

@@ -3,6 +3,12 @@
 #![tactic(auto)]
 
 mod examples;
+mod laws;
 mod symbol;
 
+pub use examples::tokens_computed;
+pub use laws::{
+    a_line_has_one_cut, accepted_lines_are_tokens, refusals_are_first_faults,
+    spans_give_the_line_back, values_are_in_range,
+};
 pub use symbol::Symbol;
