@@ -9,7 +9,9 @@ use Rattle.aio_script_model.specs.declared.symbol.Symbol.{Symbol}
 use Rattle.aio_script_model.specs.declared.symbol.Symbol.TheVariants.{LeftParenthesis, RightParenthesis, LeftBracket, RightBracket, Comma, Assign, Equals, NotEquals, LessThan, LessOrEqual, GreaterThan, GreaterOrEqual, Plus, Minus, Star, DoubleSlash, Percent}
 use Rattle.aio_script_model.specs.Letters.{is_word, is_space, is_hash, is_quote}
 use Rattle.aio_script_model.specs.Symbols.{symbol_text, symbol_at}
-use Rattle.aio_script_model.specs.Literals.{Literal, OfText, OfBytes, opening, inside_of}
+use Rattle.aio_script_model.specs.declared.literal.Literal.{Literal}
+use Rattle.aio_script_model.specs.declared.literal.Literal.TheVariants.{OfText, OfBytes}
+use Rattle.aio_script_model.specs.Literals.{opening, inside_of}
 use Rattle.aio_script_model.specs.Pieces.{Piece, Blank, Comment, Word, Numeral, Quoted, Unclosed, Punctuation, Stray, piece_text, piece_at, literal_at, punctuation_at, pieces_after, pieces_of}
 use Rattle.aio_script_model.specs.Cuts.{FirstIs, IsLongest, Fits, Cuts}
 use Rattle.aio_script_model.proofs.PieceLemmas.{word-no_quote, digit-word, piece_at-space, piece_at-hash, piece_at-quote, piece_at-b, piece_at-digit, piece_at-word, piece_at-other}
@@ -270,3 +272,17 @@ pub Cuts-one : (line : List ℕ) (pieces : List Piece) → Cuts line pieces → 
 Cuts-one line [] c = rw c refl
 Cuts-one line (piece ∷ pieces) c =
     ap (λ others. piece ∷ others) (Cuts-one c.0 pieces c.3) ∙ sym (pieces_of-front line piece c.0 c.2 c.1)
+
+-- the first piece, and the pieces of what stands behind it
+pub pieces_of-cons : (byte : ℕ) (bytes : List ℕ) → pieces_of (byte ∷ bytes) ≡ piece_at byte bytes ∷ pieces_of (drop (length (piece_text (piece_at byte bytes))) (byte ∷ bytes))
+pieces_of-cons byte bytes =
+    let s = stands byte bytes in
+    let text : List ℕ = piece_text (piece_at byte bytes) in
+    let behind = ap (drop (length text)) s.whole ∙ drop-append_seam text s.rest in
+    pieces_of-front (byte ∷ bytes) (piece_at byte bytes) s.rest s.fits s.whole ∙ ap (λ rest. piece_at byte bytes ∷ pieces_of rest) (sym behind)
+
+pub length-piece_at : (byte : ℕ) (bytes : List ℕ) → (0 < length (piece_text (piece_at byte bytes))) × (length (piece_text (piece_at byte bytes)) ≤ length (byte ∷ bytes))
+length-piece_at byte bytes =
+    let s = stands byte bytes in
+    let text : List ℕ = piece_text (piece_at byte bytes) in
+    (text-some (piece_at byte bytes) s.rest s.fits, omega (arith, ap length s.whole, length-append text s.rest))

@@ -8,7 +8,8 @@ use Rattle.std.proofs.lemmas.Bool.Decides.{nat_tests}
 use Rattle.aio_script_model.specs.Letters.{is_allowed, is_word, is_hash}
 use Rattle.aio_script_model.specs.Symbols.{symbol_text}
 use Rattle.aio_script_model.specs.Faults.{TokenFault, BadNumber}
-use Rattle.aio_script_model.specs.Literals.{OfText, OfBytes, parts_of, literal_bytes}
+use Rattle.aio_script_model.specs.declared.literal.Literal.TheVariants.{OfText, OfBytes}
+use Rattle.aio_script_model.specs.Literals.{parts_of, literal_bytes}
 use Rattle.aio_script_model.specs.Pieces.{Piece, Blank, Comment, Word, Numeral, Quoted, Unclosed, Punctuation, Stray, piece_text, pieces_of}
 use Rattle.aio_script_model.specs.Tokens.{TokenClass, Name, Int, Text, Bytes, Symbol, Token, number_of, is_number, token_of, comment_tokens, literal_tokens, piece_tokens, tokens_in, tokens_of}
 use Rattle.aio_script_model.specs.Cuts.{IsNumeral, Fits, Cuts}

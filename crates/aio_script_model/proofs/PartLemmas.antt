@@ -1,5 +1,5 @@
 -- What the inside of a literal says.
-use Rattle.std.proofs.Common.{◌≡◌, ℕ, zero, suc, ◌+◌, ◌-◌, ◌*◌, ◌≤◌, Bool, true, false, cond, ◌&&◌, not, List, [], ◌∷◌, ◌++◌, length, take, drop, refl, sym, ap, ◌∙◌, arith, Option, Some, None, Result, Ok, Err, eqb, slice_index, append_assoc}
+use Rattle.std.proofs.Common.{◌≡◌, ℕ, zero, suc, ◌<◌, ◌+◌, ◌-◌, ◌*◌, ◌≤◌, Bool, true, false, cond, ◌&&◌, not, List, [], ◌∷◌, ◌++◌, length, take, drop, refl, sym, ap, ◌∙◌, arith, Option, Some, None, Result, Ok, Err, eqb, slice_index, append_assoc}
 use Rattle.std.specs.Option.{option_map}
 use Rattle.std.specs.Char.{is_ascii_hexdigit, digit_value}
 use Rattle.std.proofs.lemmas.List.{length-append, take-append-drop}
@@ -8,7 +8,8 @@ use Rattle.std.proofs.lemmas.Bool.{and_parts, and_right, eqb-true, not-true}
 use Rattle.std.proofs.lemmas.Bool.Decides.{nat_tests}
 use Rattle.aio_script_model.specs.Letters.{is_allowed, is_quote, is_backslash}
 use Rattle.aio_script_model.specs.Faults.{TokenFault, both_or_fault}
-use Rattle.aio_script_model.specs.Literals.{Literal, limit, inside_of, part_at, parts_after, parts_of, escape_value, hexadecimal_value, value_below, part_value, part_bytes, literal_bytes}
+use Rattle.aio_script_model.specs.declared.literal.Literal.{Literal}
+use Rattle.aio_script_model.specs.Literals.{limit, inside_of, part_at, parts_after, parts_of, escape_value, hexadecimal_value, value_below, part_value, part_bytes, literal_bytes}
 use Rattle.aio_script_model.specs.Lines.{Says}
 use Rattle.aio_script_model.proofs.InsideLemmas.{inside_of-other}
 
@@ -44,6 +45,18 @@ part_at-splits byte bytes = by_test (is_backslash byte) refl
         let k = cond (eqb (slice_index bytes 0) 120) 3 1 in
         (take k bytes, drop k bytes, rw e refl, sym (take-append-drop k bytes))
     by_test false e = ([], bytes, rw e refl, refl)
+
+-- the first part, and the parts of what stands behind it
+pub parts_of-cons : (byte : ℕ) (bytes : List ℕ) → parts_of (byte ∷ bytes) ≡ part_at byte bytes ∷ parts_of (drop (length (part_at byte bytes)) (byte ∷ bytes))
+parts_of-cons byte bytes =
+    let s = part_at-splits byte bytes in
+    let size : length (byte ∷ s.0) - 1 ≡ length s.0 = omega arith in
+    rw s.2 (ap (λ others. (byte ∷ s.0) ∷ others) (parts_after-drop (length (byte ∷ s.0) - 1) bytes ∙ ap (λ k. parts_of (drop k bytes)) size))
+
+pub length-part_at : (byte : ℕ) (bytes : List ℕ) → (0 < length (part_at byte bytes)) × (length (part_at byte bytes) ≤ length (byte ∷ bytes))
+length-part_at byte bytes =
+    let s = part_at-splits byte bytes in
+    rw s.2 (omega arith, omega (arith, ap length s.3, length-append s.0 s.1))
 
 part_bytes_ok : (column : ℕ) (value : Option ℕ) (bytes : List ℕ) → part_bytes column value ≡ Ok bytes → (byte : ℕ) × (value ≡ Some byte) × (bytes ≡ byte ∷ [])
 part_bytes_ok column (Some byte) bytes e = (byte, refl, cc)

@@ -5,7 +5,8 @@ use Rattle.std.specs.List.{take_while}
 use Rattle.std.specs.Char.{is_ascii_digit}
 use Rattle.aio_script_model.specs.Letters.{is_word, is_space, is_hash, is_quote}
 use Rattle.aio_script_model.specs.Symbols.{symbol_at}
-use Rattle.aio_script_model.specs.Literals.{OfText, OfBytes, inside_of}
+use Rattle.aio_script_model.specs.declared.literal.Literal.TheVariants.{OfText, OfBytes}
+use Rattle.aio_script_model.specs.Literals.{inside_of}
 use Rattle.aio_script_model.specs.Pieces.{Blank, Comment, Word, Numeral, piece_at, literal_at, punctuation_at}
 
 -- a letter, a digit or _ is none of the bytes that begin something else

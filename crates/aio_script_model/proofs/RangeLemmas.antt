@@ -4,7 +4,9 @@ use Rattle.std.specs.List.{AllByRecursion}
 use Rattle.std.proofs.lemmas.Bool.{and_parts, ltb-true}
 use Rattle.std.proofs.lemmas.Bool.Decides.{nat_tests}
 use Rattle.aio_script_model.specs.Letters.{is_allowed, is_quote, is_backslash}
-use Rattle.aio_script_model.specs.Literals.{Literal, OfText, OfBytes, limit, escape_value, hexadecimal_value, value_below, part_value}
+use Rattle.aio_script_model.specs.declared.literal.Literal.{Literal}
+use Rattle.aio_script_model.specs.declared.literal.Literal.TheVariants.{OfText, OfBytes}
+use Rattle.aio_script_model.specs.Literals.{limit, escape_value, hexadecimal_value, value_below, part_value}
 use Rattle.aio_script_model.specs.Tokens.{TokenClass, Name, Int, Text, Bytes, Symbol, Token, number_of}
 use Rattle.aio_script_model.specs.Lines.{Says, SpellsToken, IsTokenValue, Reads}
 use Rattle.aio_script_model.proofs.PartLemmas.{chosen}
@@ -49,7 +51,7 @@ part_value_small literal (first ∷ letter ∷ high ∷ low ∷ []) byte e =
     value_below_small (limit literal) (hexadecimal_value high low) byte c.1
 part_value_small literal (first ∷ letter ∷ high ∷ low ∷ next ∷ others) byte e = cc
 
-says_small : (literal : Literal) (bytes inside : List ℕ) → Says literal bytes inside → AllByRecursion (λ byte. byte < limit literal) bytes
+pub says_small : (literal : Literal) (bytes inside : List ℕ) → Says literal bytes inside → AllByRecursion (λ byte. byte < limit literal) bytes
 says_small literal [] inside s = tt
 says_small literal (byte ∷ bytes) inside s =
     (part_value_small literal s.0 byte s.3, says_small literal bytes s.1 s.4)

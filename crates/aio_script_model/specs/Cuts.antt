@@ -6,7 +6,8 @@ use Rattle.std.specs.Char.{is_ascii_digit}
 use Rattle.aio_script_model.specs.declared.symbol.Symbol.{Symbol}
 use Rattle.aio_script_model.specs.Letters.{is_word, is_space, is_hash, is_quote}
 use Rattle.aio_script_model.specs.Symbols.{symbol_text}
-use Rattle.aio_script_model.specs.Literals.{Literal, opening, inside_of}
+use Rattle.aio_script_model.specs.declared.literal.Literal.{Literal}
+use Rattle.aio_script_model.specs.Literals.{opening, inside_of}
 use Rattle.aio_script_model.specs.Pieces.{Piece, Blank, Comment, Word, Numeral, Quoted, Unclosed, Punctuation, Stray, piece_text}
 
 -- the bytes begin with the front

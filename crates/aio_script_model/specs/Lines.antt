@@ -6,7 +6,9 @@ use Rattle.std.specs.List.{list_all, AllByRecursion}
 use Rattle.std.specs.Char.{is_ascii_digit}
 use Rattle.aio_script_model.specs.Letters.{is_allowed, is_word, is_hash, is_quote}
 use Rattle.aio_script_model.specs.Symbols.{symbol_text}
-use Rattle.aio_script_model.specs.Literals.{Literal, OfText, OfBytes, opening, part_value}
+use Rattle.aio_script_model.specs.declared.literal.Literal.{Literal}
+use Rattle.aio_script_model.specs.declared.literal.Literal.TheVariants.{OfText, OfBytes}
+use Rattle.aio_script_model.specs.Literals.{opening, part_value}
 use Rattle.aio_script_model.specs.Tokens.{TokenClass, Name, Int, Text, Bytes, Symbol, Token, number_of}
 use Rattle.aio_script_model.specs.Cuts.{FirstIs, IsName, IsLongest}
 

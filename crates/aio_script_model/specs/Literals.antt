@@ -2,13 +2,10 @@
 -- Source: the Python language reference, "String and Bytes literals", cut to double quotes and six escapes.
 use Rattle.std.specs.Prelude.{ℕ, zero, suc, ◌+◌, ◌-◌, ◌*◌, Bool, not, ◌&&◌, List, [], ◌∷◌, length, take, slice_index, Option, Some, None, option_map, Result, Ok, Err, ◌==◌, nat_lt, if◌then◌else◌, codes}
 use Rattle.std.specs.Char.{is_ascii_hexdigit, digit_value}
+use Rattle.aio_script_model.specs.declared.literal.Literal.{Literal}
+use Rattle.aio_script_model.specs.declared.literal.Literal.TheVariants.{OfText, OfBytes}
 use Rattle.aio_script_model.specs.Letters.{is_allowed, is_quote, is_backslash}
 use Rattle.aio_script_model.specs.Faults.{TokenFault, BadByte, both_or_fault}
-
--- the two sorts of literals
-pub data Literal : Type 0 where
-  OfText : Literal
-  OfBytes : Literal
 
 -- what a literal begins with
 abbrev pub opening : Literal → List ℕ

@@ -5,7 +5,9 @@ use Rattle.std.specs.Char.{is_ascii_digit}
 use Rattle.aio_script_model.specs.declared.symbol.Symbol.{Symbol}
 use Rattle.aio_script_model.specs.Letters.{is_word, is_space, is_hash, is_quote}
 use Rattle.aio_script_model.specs.Symbols.{symbol_text, symbol_at}
-use Rattle.aio_script_model.specs.Literals.{Literal, OfText, OfBytes, opening, inside_of}
+use Rattle.aio_script_model.specs.declared.literal.Literal.{Literal}
+use Rattle.aio_script_model.specs.declared.literal.Literal.TheVariants.{OfText, OfBytes}
+use Rattle.aio_script_model.specs.Literals.{opening, inside_of}
 
 pub data Piece : Type 0 where
   Blank : Piece

@@ -7,7 +7,9 @@ use Rattle.aio_script_model.specs.declared.symbol.Symbol.{Symbol as AnySymbol}
 use Rattle.aio_script_model.specs.Letters.{is_allowed}
 use Rattle.aio_script_model.specs.Symbols.{symbol_text}
 use Rattle.aio_script_model.specs.Faults.{TokenFault, BadByte, BadNumber, OpenText, both_or_fault}
-use Rattle.aio_script_model.specs.Literals.{Literal, OfText, OfBytes, opening, parts_of, literal_bytes}
+use Rattle.aio_script_model.specs.declared.literal.Literal.{Literal}
+use Rattle.aio_script_model.specs.declared.literal.Literal.TheVariants.{OfText, OfBytes}
+use Rattle.aio_script_model.specs.Literals.{opening, parts_of, literal_bytes}
 use Rattle.aio_script_model.specs.Pieces.{Piece, Blank, Comment, Word, Numeral, Quoted, Unclosed, Punctuation, Stray, piece_text, pieces_of}
 
 -- what a token is, with its value

@@ -4,6 +4,7 @@
 
 mod examples;
 mod laws;
+mod literal;
 mod symbol;
 
 pub use examples::tokens_computed;
@@ -11,4 +12,5 @@ pub use laws::{
     a_line_has_one_cut, accepted_lines_are_tokens, refusals_are_first_faults,
     spans_give_the_line_back, values_are_in_range,
 };
+pub use literal::Literal;
 pub use symbol::Symbol;
