@@ -9,7 +9,7 @@ ghost use Rattle.aio_lex.specs.Token.{plain_content};
 ghost use Rattle.aio_lex.specs.Fronts.{FrontIs, first_piece};
 
 use crate::fault::LexFault;
-use crate::literal::{closing, said};
+use crate::literal::{closing, literal_bytes};
 use crate::number::number;
 use crate::symbols::{symbol, symbol_len};
 use crate::token::{Content, Span, Token};
@@ -99,7 +99,7 @@ fn literal(alloc: Global, literal: Literal, bytes: &[u8], column: usize) -> Resu
         Literal::OfText => 1,
         Literal::OfBytes => 2,
     };
-    let said = said(alloc, literal, &bytes[..place], column + opening)?;
+    let said = literal_bytes(alloc, literal, &bytes[..place], column + opening)?;
     let content = match literal {
         Literal::OfText => Content::Text(String::from_utf8(said).unwrap()),
         Literal::OfBytes => Content::Bytes(said),

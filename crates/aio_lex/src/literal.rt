@@ -77,7 +77,7 @@ fn part(literal: Literal, inside: &[u8]) -> Option<(u8, usize)>
 }
 
 /// What the inside of a literal says, which begins in this column.
-pub fn said(
+pub fn literal_bytes(
     alloc: Global,
     literal: Literal,
     inside: &[u8],

@@ -1,7 +1,7 @@
 -- One more part is said.
 use Rattle.std.proofs.Common.{◌∙◌}
 use Rattle.aio_lex.proofs.SaidLemmas.{said_more}
-use Rattle.aio_lex.proofs.literal.said.Goals as goal
+use Rattle.aio_lex.proofs.literal.literal_bytes.Goals as goal
 
 pub loop-at-preserved : goal.loop-at-preserved
 loop-at-preserved c =

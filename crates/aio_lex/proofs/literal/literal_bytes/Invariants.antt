@@ -2,7 +2,7 @@
 use Rattle.std.proofs.Common.{◌≡◌, ◌+◌, ◌-◌, ◌≤◌, length, drop, Ok}
 use Rattle.aio_script_model.specs.Faults.{both_or_fault}
 use Rattle.aio_script_model.specs.Literals.{parts_of, literal_bytes}
-use Rattle.aio_lex.proofs.literal.said.Given as goal
+use Rattle.aio_lex.proofs.literal.literal_bytes.Given as goal
 
 abbrev pub invariant-loop-at : goal.invariant-loop-at
 invariant-loop-at l = record {
