@@ -1,1 +1,10 @@
+pub mod Cuts
+pub mod Faults
+pub mod FirstFaults
+pub mod Letters
+pub mod Lines
+pub mod Literals
+pub mod Pieces
 pub mod Straight
+pub mod Symbols
+pub mod Tokens
