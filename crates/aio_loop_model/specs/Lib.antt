@@ -1,3 +1,13 @@
+pub mod Cancel
+pub mod Circles
+pub mod Ending
 pub mod Futures
+pub mod Groups
 pub mod Handles
+pub mod Ledger
+pub mod Loop
 pub mod Parts
+pub mod Spent
+pub mod Suspend
+pub mod Tasks
+pub mod Timeouts

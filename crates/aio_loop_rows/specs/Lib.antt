@@ -1,0 +1,5 @@
+pub mod Cancels
+pub mod Family
+pub mod Made
+pub mod Nested
+pub mod Steps
