@@ -1,0 +1,9 @@
+pub mod Answering
+pub mod CancelNumbers
+pub mod Counting
+pub mod Effects
+pub mod Lookups
+pub mod Numbering
+pub mod Seen
+pub mod Total
+pub mod Trace
