@@ -2,8 +2,11 @@ pub mod Answering
 pub mod CancelNumbers
 pub mod Counting
 pub mod Effects
+pub mod Falling
 pub mod Lookups
 pub mod Numbering
+pub mod Reach
 pub mod Seen
+pub mod StepNumbers
 pub mod Total
 pub mod Trace

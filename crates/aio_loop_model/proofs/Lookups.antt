@@ -1,5 +1,5 @@
 -- Reads of a list after a write to it.
-use Rattle.std.proofs.Common.{◌≡◌, ◌≢◌, ℕ, zero, suc, ◌<◌, ◌⊎◌, List, [], ◌∷◌, Option, Some, length, slice_get, slice_set, refl, ap, sym, ◌∙◌, arith, inl, inr}
+use Rattle.std.proofs.Common.{◌≡◌, ◌≢◌, ℕ, zero, suc, ◌<◌, ◌⊎◌, List, [], ◌∷◌, ◌++◌, Option, Some, length, slice_get, slice_set, refl, ap, sym, ◌∙◌, arith, inl, inr}
 use Rattle.std.proofs.lemmas.Bool.{cases_eq}
 
 pub get-set_same : {X : Type 0} (xs : List X) (i : ℕ) (old new : X) → slice_get xs i ≡ Some old → slice_get (slice_set xs i new) i ≡ Some new
@@ -26,3 +26,14 @@ pub get_within : {X : Type 0} (xs : List X) (i : ℕ) (x : X) → slice_get xs i
 get_within [] i x e = absurd (cc)
 get_within (y ∷ ys) zero x e = omega arith
 get_within (y ∷ ys) (suc i) x e = let h = get_within ys i x e in omega arith
+
+-- after a push
+pub get-push_last : {X : Type 0} (xs : List X) (x : X) → slice_get (xs ++ x ∷ []) (length xs) ≡ Some x
+get-push_last [] x = refl
+get-push_last (y ∷ ys) x = get-push_last ys x
+
+pub get-push_other : {X : Type 0} (xs : List X) (x : X) (i : ℕ) → i ≢ length xs → slice_get (xs ++ x ∷ []) i ≡ slice_get xs i
+get-push_other [] x zero n = absurd (n refl)
+get-push_other [] x (suc i) n = refl
+get-push_other (y ∷ ys) x zero n = refl
+get-push_other (y ∷ ys) x (suc i) n = get-push_other ys x i (λ e. n (ap suc e))

@@ -22,7 +22,7 @@ abbrev pub one_at : ℕ → ℕ → ℕ
 one_at k n = cond (nat_eq k n) 1 0
 
 -- the next number is given
-given_more : (xs ys : List ℕ) (n : ℕ) → ((k : ℕ) → occurrences k ys ≡ occurrences k xs + one_at k n) → AreGivenOnce xs n → AreGivenOnce ys (n + 1)
+pub given_more : (xs ys : List ℕ) (n : ℕ) → ((k : ℕ) → occurrences k ys ≡ occurrences k xs + one_at k n) → AreGivenOnce xs n → AreGivenOnce ys (n + 1)
 given_more xs ys n more given = record {
   once = λ k. rw more (once_at k (cases_eq k n));
   below = λ k h. rw (more, ne_eqb k n (omega arith), given.below k (omega arith)) refl;
@@ -34,7 +34,7 @@ given_more xs ys n more given = record {
     once_at k (inr ne) = let h = given.once k in rw (ne_eqb k n ne) (omega arith)
 
 -- some numbers are taken out
-given_fewer : (xs ys : List ℕ) (n : ℕ) → ((k : ℕ) → occurrences k ys ≤ occurrences k xs) → AreGivenOnce xs n → AreGivenOnce ys n
+pub given_fewer : (xs ys : List ℕ) (n : ℕ) → ((k : ℕ) → occurrences k ys ≤ occurrences k xs) → AreGivenOnce xs n → AreGivenOnce ys n
 given_fewer xs ys n fewer given = record {
   once = λ k. let f = fewer k in let h = given.once k in omega arith;
   below = λ k h. let f = fewer k in let g = given.below k h in omega arith;
@@ -44,17 +44,17 @@ pub occurrences-pushed : {A : Type 0} (k : ℕ) (f : A → ℕ) (xs : List A) (x
 occurrences-pushed k f xs x =
     ap (occurrences k) (map-append f xs (x ∷ [])) ∙ sum_by_push (λ y. cond (nat_eq k y) 1 0) (map f xs) (f x)
 
-abbrev stamp_of : Handle → ℕ
+abbrev pub stamp_of : Handle → ℕ
 stamp_of handle = handle.stamp
 
-abbrev tag_of : Handle → ℕ
+abbrev pub tag_of : Handle → ℕ
 tag_of handle = handle.tag
 
-abbrev timer_tag : Timer → ℕ
+abbrev pub timer_tag : Timer → ℕ
 timer_tag timer = timer.tag
 
 -- how often a tag stands among handles and timers
-tagged : (k : ℕ) (p : Parts) → occurrences k (tags_of p) ≡ occurrences k (map tag_of p.pending) + occurrences k (map timer_tag p.timers)
+pub tagged : (k : ℕ) (p : Parts) → occurrences k (tags_of p) ≡ occurrences k (map tag_of p.pending) + occurrences k (map timer_tag p.timers)
 tagged k p = occurrences-append k (map tag_of p.pending) (map timer_tag p.timers)
 
 -- ---- `soon`

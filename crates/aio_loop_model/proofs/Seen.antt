@@ -61,3 +61,23 @@ left_falls zero s t = omega arith
 left_falls (suc n) s t =
     let h = left_falls n s t in
     rw has_seen-append (elim (has_seen s n) as (λ b. cond (b || has_seen t n) 0 1 + left n (s ++ t) ≤ cond b 0 1 + left n s) [ true ↦ omega arith | false ↦ elim (has_seen t n) as (λ c. cond c 0 1 + left n (s ++ t) ≤ 1 + left n s) [ true ↦ omega arith | false ↦ omega arith ] ])
+
+-- the same for a task in front
+pub left-cons : (n : ℕ) (s : List ℕ) (t : ℕ) → t < n → has_seen s t ≡ false → left n (t ∷ s) + 1 ≡ left n s
+left-cons zero s t h u = absurd (omega arith)
+left-cons (suc n) s t h u = go (cases_eq n t) (λ below. left-cons n s t below u)
+  where
+    past : (m : ℕ) → m ≤ t → left m (t ∷ s) ≡ left m s
+    past zero below = refl
+    past (suc m) below =
+        let ne : m ≢ t = omega arith in
+        rw (ne_eqb m t ne, past m (omega arith)) refl
+
+    go : (n ≡ t) ⊎ (n ≡ t → ⊥) → (t < n → left n (t ∷ s) + 1 ≡ left n s) → cond (has_seen (t ∷ s) n) 0 1 + left n (t ∷ s) + 1 ≡ cond (has_seen s n) 0 1 + left n s
+    go (inl e) ih =
+        let b : has_seen s n ≡ false = rw e u in
+        let c : left n (t ∷ s) ≡ left n s = past n (omega arith) in
+        rw (eq-eqb n t e, b, c) (omega arith)
+    go (inr ne) ih =
+        let c : left n (t ∷ s) + 1 ≡ left n s = ih (omega arith) in
+        rw (ne_eqb n t ne) (omega arith)

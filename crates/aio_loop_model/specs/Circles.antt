@@ -32,9 +32,9 @@ abbrev pub PassesTo : Parts → ℕ → ℕ → Type 0
 PassesTo p from to = list_any (λ next. next == to) (passes p from) ≡ true
 
 -- One future leads to another by one pass or more.
-pub data Leads (p : Parts) (to : ℕ) : ℕ → Type 0 where
-  at_once : {from : ℕ} → PassesTo p from to → Leads p to from
-  through : {from : ℕ} (next : ℕ) → PassesTo p from next → Leads p to next → Leads p to from
+pub data Leads (p : Parts) : ℕ → ℕ → Type 0 where
+  at_once : {from to : ℕ} → PassesTo p from to → Leads p from to
+  through : {from to : ℕ} (next : ℕ) → PassesTo p from next → Leads p next to → Leads p from to
 
 -- the same by so many passes at most, as a test
 abbrev pub leads_within : ℕ → Parts → (from to : ℕ) → Bool

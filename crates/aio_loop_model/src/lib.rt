@@ -3,4 +3,5 @@
 #![tactic(auto)]
 
 pub mod cancels;
+pub mod circles;
 pub mod numbers;
