@@ -1,4 +1,5 @@
 pub mod Answering
+pub mod Beginning
 pub mod CancelNumbers
 pub mod Counting
 pub mod Effects

@@ -14,6 +14,7 @@ pub mod Numbered
 pub mod Parts
 pub mod Sound
 pub mod Spent
+pub mod Start
 pub mod Suspend
 pub mod Tasks
 pub mod Timeouts

@@ -5,3 +5,4 @@
 pub mod cancels;
 pub mod circles;
 pub mod numbers;
+pub mod soundness;

@@ -1,8 +1,11 @@
 //! Cancel requests.
 ghost use Rattle.std.specs.Prelude.{◌≡◌, [], ◌∷◌, true, false};
+ghost use Rattle.aio_value_model.specs.declared.input.Input.TheVariants.{Throw};
 ghost use Rattle.aio_loop_model.specs.Cancel.{cancel, cancel_with, answers};
+ghost use Rattle.aio_loop_model.specs.Tasks.{begin_step, first_input, cancelled_error};
 ghost use Rattle.aio_loop_model.specs.Spent.{is_spent};
 ghost use Rattle.aio_loop_model.specs.Circles.{leads};
+ghost use Rattle.aio_loop_rows.specs.Steps.{sleeping, woken_at_once, woken_and_marked, begun};
 ghost use Rattle.aio_loop_rows.specs.Cancels.{chain, chain_cancelled, chain_cancelled_twice, chain_cut, one_of_two, one_of_two_cancelled, two_on_one, two_on_one_cancelled, twice_to_one, twice_to_one_cancelled, circle_of_two, circle_through_many, free_task, free_task_cancelled, full_count, full_count_cancelled, all_done};
 
 /// A request goes down a chain of three tasks, each of which counts it.
@@ -30,6 +33,15 @@ pub fn no_member_left()
     ensures done { cancel 0 all_done ≡ answers false [] all_done }
     ensures no_future { cancel 9 all_done ≡ answers false [] all_done }
     ensures spent { is_spent all_done 4 ≡ true }
+{}
+
+/// Two requests come before the task's step: the first ends what it waits for, the second marks it, and one throw of
+/// CancelledError uses both up.
+pub fn two_before_one_step()
+    ensures first { cancel 0 sleeping ≡ answers true (0 ∷ []) (woken_at_once 1) }
+    ensures second { cancel 0 (woken_at_once 1) ≡ answers true (0 ∷ []) (woken_and_marked 2) }
+    ensures step { begin_step 0 (woken_and_marked 2) ≡ begun 2 }
+    ensures input { first_input (woken_and_marked 2) 0 (Throw cancelled_error) ≡ Throw cancelled_error }
 {}
 
 /// Two members wait for one future: the second finds it done, and is marked.

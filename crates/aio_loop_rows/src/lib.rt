@@ -4,5 +4,6 @@
 
 pub mod cancels;
 pub mod groups;
+pub mod ledgers;
 pub mod steps;
 pub mod timeouts;
