@@ -64,7 +64,7 @@ goes-counts (marks {q = q} g id) u =
     change_task-kept count_at id _ q (λ task. refl) u ∙ goes-counts g u
 
 -- ---- each task is visited once
-occurrences-unseen : (s : List ℕ) (u : ℕ) → has_seen s u ≡ false → occurrences u s ≡ 0
+pub occurrences-unseen : (s : List ℕ) (u : ℕ) → has_seen s u ≡ false → occurrences u s ≡ 0
 occurrences-unseen [] u h = refl
 occurrences-unseen (x ∷ s) u h =
     let parts = or_parts (nat_eq u x) (has_seen s u) h in

@@ -6,7 +6,7 @@ use Rattle.aio_value_model.specs.Action.{Action}
 use Rattle.aio_value_model.specs.Value.{Outcome}
 use Rattle.aio_loop_model.specs.Parts.{Future, Task, Parts}
 use Rattle.aio_loop_model.specs.Handles.{soon, soon_all}
-use Rattle.aio_loop_model.specs.Futures.{with_future, settle, settled, settled_as, mark_asked, asked_kind}
+use Rattle.aio_loop_model.specs.Futures.{with_future, settle, settled, settled_as, register, registered, registered_on, mark_asked, asked_kind}
 use Rattle.aio_loop_model.specs.Tasks.{change_task}
 
 pub soon_all-futures : (actions : List Action) (p : Parts) → (soon_all actions p).futures ≡ p.futures
@@ -70,3 +70,13 @@ change_task-futures id change p = at (slice_get p.tasks id)
     at : (o : Option Task) → (option_map_or (λ (t : Task). record p { tasks = slice_set p.tasks id (change t) }) o p).futures ≡ p.futures
     at None = refl
     at (Some task) = refl
+
+pub register-tasks : (id : ℕ) (action : Action) (p : Parts) → (register id action p).tasks ≡ p.tasks
+register-tasks id action p = at (slice_get p.futures id)
+  where
+    until : (future : Future) (o : Option Outcome) → (registered_on o id future action p).tasks ≡ p.tasks
+    until future (Some done) = refl
+    until future None = refl
+    at : (f : Option Future) → (registered f id action p).tasks ≡ p.tasks
+    at None = refl
+    at (Some future) = until future future.outcome

@@ -3,7 +3,8 @@
 -- for its parent's cancel once at most, and takes it back once where it asked before its exit began.
 use Rattle.std.specs.Prelude.{◌≡◌, ℕ, ◌+◌, Bool, true, false, ◌==◌, List, [], ◌∷◌, if◌then◌else◌}
 use Rattle.std.specs.List.{count_by, list_any}
-use Rattle.aio_loop_model.specs.Ledger.{Origin, ByTimeout, ByGroup, LedgerEntry, Asked, Raised, Took, Began}
+use Rattle.aio_loop_model.specs.Ledger.{Origin, ByTimeout, ByGroup, LedgerEntry, Asked, Raised, Took, Began, Booked}
+use Rattle.aio_loop_model.specs.Parts.{Parts}
 use Rattle.aio_loop_model.specs.Loop.{TimeoutState, Expired, Loop}
 use Rattle.aio_loop_model.specs.Tasks.{cancelling}
 use Rattle.aio_loop_model.specs.Timeouts.{timeout_of, has_expired}
@@ -24,6 +25,16 @@ raises task _ = false
 abbrev pub lowers : ℕ → LedgerEntry → Bool
 lowers task (Took other by true) = other == task
 lowers task _ = false
+
+-- What is booked of a step is what its counts change by.
+abbrev pub Balances : Parts → Booked → Type 0
+Balances before booked =
+    (task : ℕ) → cancelling booked.parts task + count_by (lowers task) booked.entries ≡ cancelling before task + count_by (raises task) booked.entries
+
+-- each count is how often it was raised less how often it was lowered
+abbrev pub TasksBalance : Loop → Type 0
+TasksBalance l =
+    (task : ℕ) → cancelling l.parts task + count_by (lowers task) l.ledger ≡ count_by (raises task) l.ledger
 
 abbrev pub asks : (Origin → Bool) → LedgerEntry → Bool
 asks from (Asked by) = from by
@@ -53,7 +64,7 @@ is_expired Expired = true
 is_expired _ = false
 
 pub record CountsBalance (l : Loop) : Type 0 where
-  pub tasks : (task : ℕ) → cancelling l.parts task + count_by (lowers task) l.ledger ≡ count_by (raises task) l.ledger
+  pub tasks : TasksBalance l
   pub timeouts_ask : (id : ℕ) → count_by (asks (is_by_timeout id)) l.ledger ≡ one_if (has_expired (timeout_of l id).state)
   pub timeouts_take : (id : ℕ) → count_by (takes (is_by_timeout id)) l.ledger ≡ one_if (is_expired (timeout_of l id).state)
   pub groups_ask : (id : ℕ) → count_by (asks (is_by_group id)) l.ledger ≡ one_if (group_of l id).requested

@@ -49,13 +49,20 @@ schedule id when l = with_deadline id when (without_handle id l)
 abbrev pub next_timeout : Loop → ℕ
 next_timeout l = length l.timeouts
 
+-- an active timeout of a task, which keeps how many cancels the task counts
+abbrev pub make_timeout : ℕ → Loop → Loop
+make_timeout task l =
+    record l {
+      timeouts = l.timeouts ++ record { state = Active; task = task; stored = cancelling l.parts task; tag = None } ∷ [];
+    }
+
+-- the deadline after a delay, which may be negative; with no delay there is none
+abbrev pub deadline_after : (time : ℕ) → Option ℤ → Option ℤ
+deadline_after time delay = option_map (λ milliseconds. pos time +ℤ milliseconds) delay
+
 -- a task enters a block whose time is over after a delay, or never
 abbrev pub enter_timeout : ℕ → Option ℤ → Loop → Loop
-enter_timeout task delay l =
-    schedule (next_timeout l) (option_map (λ milliseconds. pos l.parts.time +ℤ milliseconds) delay)
-    (record l {
-      timeouts = l.timeouts ++ record { state = Active; task = task; stored = cancelling l.parts task; tag = None } ∷ [];
-    })
+enter_timeout task delay l = schedule (next_timeout l) (deadline_after l.parts.time delay) (make_timeout task l)
 
 abbrev pub is_active : TimeoutState → Bool
 is_active Active = true

@@ -4,5 +4,6 @@
 
 pub mod cancels;
 pub mod circles;
+pub mod ledgers;
 pub mod numbers;
 pub mod soundness;
