@@ -58,9 +58,11 @@ occurrences-filter task test (x ∷ xs) = go (cases_eq task x) (occurrences-filt
   where
     whole : occurrences task (x ∷ xs) ≡ cond (nat_eq task x) 1 0 + occurrences task xs
     whole = occurrences-cons task x xs
+
     same : (b : Bool) → nat_eq task x ≡ true → occurrences task (filter test xs) ≡ cond b (occurrences task xs) 0 → occurrences task (cond b (x ∷ filter test xs) (filter test xs)) ≡ cond b (occurrences task (x ∷ xs)) 0
     same true e ih = occurrences-cons task x (filter test xs) ∙ rw ih (sym whole)
     same false e ih = ih
+
     other : (b c : Bool) → nat_eq task x ≡ false → occurrences task (filter test xs) ≡ cond c (occurrences task xs) 0 → occurrences task (cond b (x ∷ filter test xs) (filter test xs)) ≡ cond c (occurrences task (x ∷ xs)) 0
     other true c e ih = occurrences-cons task x (filter test xs) ∙ rw (whole, e, ih) (plain c)
       where
@@ -72,6 +74,7 @@ occurrences-filter task test (x ∷ xs) = go (cases_eq task x) (occurrences-filt
         plain : (c : Bool) → cond c (occurrences task xs) 0 ≡ cond c (0 + occurrences task xs) 0
         plain true = omega arith
         plain false = refl
+
     go : (task ≡ x) ⊎ (task ≡ x → ⊥) → occurrences task (filter test xs) ≡ cond (test task) (occurrences task xs) 0 → occurrences task (filter test (x ∷ xs)) ≡ cond (test task) (occurrences task (x ∷ xs)) 0
     go (inl e) ih = rw (ap test (sym e)) (same (test task) (eq-eqb task x e) ih)
     go (inr n) ih = other (test x) (test task) (ne_eqb task x n) ih
@@ -91,20 +94,26 @@ request_balances by id p task =
   where
     seen : List ℕ
     seen = (cancel id p).seen
+
     entries : List LedgerEntry
     entries = map (λ t. Raised t by) (raised_among p seen)
+
     count : cancelling (cancel id p).parts task ≡ cond (has_seen seen task) (one_more (cancelling p task)) (cancelling p task)
     count = goes-counts (with_row id [] p) task
+
     once : occurrences task seen ≤ 1
     once = goes-once (with_row id [] p) (λ u. omega arith) task
+
     lowers_none : count_by (lowers task) (Asked by ∷ entries) ≡ 0
     lowers_none = count_cons (lowers task) (Asked by) entries ∙ rw (lowers-raised task by (raised_among p seen)) (omega arith)
+
     raises_some : count_by (raises task) (Asked by ∷ entries) ≡ cond (nat_lt (cancelling p task) most) (occurrences task seen) 0
     raises_some =
         let a = count_cons (raises task) (Asked by) entries in
         let b = raises-raised task by (raised_among p seen) in
         let c = occurrences-filter task (λ t. nat_lt (cancelling p t) most) seen in
         omega arith
+
     go : (has_seen seen task ≡ true) ⊎ (has_seen seen task ≡ false) → (nat_lt (cancelling p task) most ≡ true) ⊎ (nat_lt (cancelling p task) most ≡ false)
         → cond (has_seen seen task) (one_more (cancelling p task)) (cancelling p task) + 0 ≡ cancelling p task + cond (nat_lt (cancelling p task) most) (occurrences task seen) 0
     go (inl s) (inl l) = let o = seen-occurs seen task s in rw (s, l) (omega (arith, once))
@@ -180,6 +189,7 @@ suspend_balances task on p u = at (circle p task on)
   where
     kept : cancelling (wait_on task on p) u ≡ cancelling p u
     kept = wait_on-count task on p u
+
     marked : (b : Bool) → cancelling (cancel_wait b task on (wait_on task on p)).parts u + count_by (lowers u) (cancel_wait b task on (wait_on task on p)).entries ≡ cancelling p u + count_by (raises u) (cancel_wait b task on (wait_on task on p)).entries
     marked false = ap (λ n. n + 0) kept
     marked true =
@@ -188,6 +198,7 @@ suspend_balances task on p u = at (circle p task on)
         ap (λ n. n + count_by (lowers u) asked.entries) k
         ∙ request_balances (ByWait task) on (wait_on task on p) u
         ∙ ap (λ n. n + count_by (raises u) asked.entries) kept
+
     at : (o : Option Circle) → cancelling (suspend_unless o task on p).parts u + count_by (lowers u) (suspend_unless o task on p).entries ≡ cancelling p u + count_by (raises u) (suspend_unless o task on p).entries
     at (Some why) = refl
     at None = marked (is_marked p task)

@@ -40,8 +40,10 @@ first_owns = record { of_tasks = of_tasks; of_futures = of_futures }
         let same : it.future ≡ 0 = ap (λ (t : Task). t.future) (sym (same_Some main_task it e)) in
         (main_future, ap (slice_get first_parts.futures) same, refl)
     of_tasks (suc task) it e = absurd (cc)
+
     at : (task : ℕ) → task ≡ 0 → (it : Task) × (slice_get first_parts.tasks task ≡ Some it) × (it.future ≡ 0)
     at task e = (main_task, ap (slice_get first_parts.tasks) e, refl)
+
     of_futures : (id task : ℕ) (future : Future) → slice_get first_parts.futures id ≡ Some future → future.kind ≡ OfTask task → (it : Task) × (slice_get first_parts.tasks task ≡ Some it) × (it.future ≡ id)
     of_futures zero task future e k =
         let same : future.kind ≡ OfTask 0 = ap (λ (f : Future). f.kind) (sym (same_Some main_future future e)) in
@@ -58,18 +60,21 @@ first_one_way = record {
   done = done;
   on_waiter = on_waiter;
   stays = stays;
-  timers = λ task. refl
+  timers = λ task. refl;
 }
   where
     living : (task : ℕ) → lives first_parts task ≡ true → is_running None task ≡ false → ways_on first_parts task ≡ 1
     living zero l r = refl
     living (suc task) l r = absurd (cc)
+
     done : (task : ℕ) → lives first_parts task ≡ false → ways_on first_parts task ≡ 0
     done zero l = absurd (cc)
     done (suc task) l = rw zero≢suc refl
+
     on_waiter : (task on : ℕ) → 0 < wakeups_on first_parts task on → waiter_of first_parts task ≡ Some on
     on_waiter task zero h = absurd (omega arith)
     on_waiter task (suc on) h = absurd (omega arith)
+
     stays : (task on : ℕ) → lives first_parts task ≡ true → waiter_of first_parts task ≡ Some on → is_pending first_parts on ≡ true → wakeups_on first_parts task on ≡ 1
     stays zero on l w p = absurd (cc)
     stays (suc task) on l w p = absurd (cc)
@@ -100,7 +105,7 @@ first_balance = record {
   timeouts_ask = λ id. refl;
   timeouts_take = λ id. refl;
   groups_ask = λ id. refl;
-  groups_take = λ id. refl
+  groups_take = λ id. refl;
 }
   where
     tasks : (task : ℕ) → cancelling first_loop.parts task + 0 ≡ 0
@@ -115,7 +120,7 @@ first_sound = record {
     settled = first_settled;
     one_way_on = first_one_way;
     no_circle = first_no_circle;
-    marks_wait = first_marks
+    marks_wait = first_marks;
   };
   balance = first_balance;
   timeouts = λ id. record { at_most_one = omega arith; tagged = λ tag h. absurd (omega arith) };
@@ -128,6 +133,6 @@ first_sound = record {
     told_done = λ task h. absurd (omega arith);
     tellings = λ task. refl;
     told_by_child = λ task l h. absurd (omega arith);
-    parent_lives = λ e h. absurd (cc)
-  }
+    parent_lives = λ e h. absurd (cc);
+  };
 }

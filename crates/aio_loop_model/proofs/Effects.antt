@@ -77,6 +77,7 @@ register-tasks id action p = at (slice_get p.futures id)
     until : (future : Future) (o : Option Outcome) → (registered_on o id future action p).tasks ≡ p.tasks
     until future (Some done) = refl
     until future None = refl
+
     at : (f : Option Future) → (registered f id action p).tasks ≡ p.tasks
     at None = refl
     at (Some future) = until future future.outcome

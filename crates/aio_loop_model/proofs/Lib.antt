@@ -2,6 +2,7 @@ pub mod Answering
 pub mod Balancing
 pub mod Beginning
 pub mod CancelNumbers
+pub mod Circling
 pub mod Counting
 pub mod Effects
 pub mod Falling

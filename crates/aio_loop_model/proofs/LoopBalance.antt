@@ -53,6 +53,7 @@ schedule_keeps id when l is = at when (in_parts_keeps (give_up tag) l (give_up_c
   where
     tag : Option ℕ
     tag = (timeout_of l id).tag
+
     at : (when : Option ℤ) → TasksBalance (in_parts (give_up tag) l) → TasksBalance (with_deadline id when (without_handle id l))
     at None h = h
     at (Some when) h = in_parts_keeps (fires_at id when) (without_handle id l) (fires_at_counts id when (without_handle id l).parts) h
@@ -78,6 +79,7 @@ exit_timeout_keeps id l is = at (timeout_of l id).state (in_parts_keeps (give_up
   where
     tag : Option ℕ
     tag = (timeout_of l id).tag
+
     at : (state : TimeoutState) → TasksBalance (without_handle id l) → TasksBalance (leave_from state id (without_handle id l))
     at Created h = h
     at Active h = h
@@ -93,6 +95,7 @@ spawn_counts p task = go (cases_eq task (length p.tasks))
   where
     new : Task
     new = record { future = next_future p; waiter = None; cancels = 0; must_cancel = false }
+
     go : (task ≡ length p.tasks) ⊎ (task ≡ length p.tasks → ⊥) → count_at (slice_get (p.tasks ++ new ∷ []) task) ≡ cancelling p task
     go (inl e) =
         rw (e, get-push_last p.tasks new, slice_get_past p.tasks (length p.tasks) (omega arith)) refl
@@ -130,6 +133,7 @@ blame_keeps (Some fault) id l is = at ((group_of l id).aborting || (group_of l i
   where
     failed : Loop
     failed = set_group id (record (group_of l id) { errors = (group_of l id).errors ++ fault ∷ [] }) l
+
     at : (b : Bool) → TasksBalance (abort_and_request_unless b id failed)
     at true = is
     at false = request_parent_keeps id (abort id failed) (abort_keeps id failed is)
@@ -165,10 +169,13 @@ take_back_keeps id l is = at (group_of l id).requested
   where
     parent : ℕ
     parent = (group_of l id).parent
+
     taken : Loop
     taken = book (uncancel_by (ByGroup id) (group_of l id).parent) l
+
     h : TasksBalance taken
     h = book_keeps (uncancel_by (ByGroup id) parent) l (uncancel_balances (ByGroup id) parent l.parts) is
+
     at : (b : Bool) → TasksBalance (take_back_where b id l)
     at false = is
     at true =
@@ -193,6 +200,7 @@ hear_keeps (Throw fault) id l is = at (group_of l id).aborting
   where
     kept : Loop
     kept = set_group id (record (group_of l id) { kept = Some fault }) l
+
     at : (b : Bool) → TasksBalance (keep_and_abort_unless b fault id l)
     at true = is
     at false = abort_keeps id kept is
