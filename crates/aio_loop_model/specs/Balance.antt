@@ -29,7 +29,9 @@ lowers task _ = false
 -- What is booked of a step is what its counts change by.
 abbrev pub Balances : Parts → Booked → Type 0
 Balances before booked =
-    (task : ℕ) → cancelling booked.parts task + count_by (lowers task) booked.entries ≡ cancelling before task + count_by (raises task) booked.entries
+    (task : ℕ)
+    → cancelling booked.parts task + count_by (lowers task) booked.entries
+    ≡ cancelling before task + count_by (raises task) booked.entries
 
 -- each count is how often it was raised less how often it was lowered
 abbrev pub TasksBalance : Loop → Type 0

@@ -37,6 +37,7 @@ pub record EndsAfterChildren (p : Parts) (id : ℕ) (told : List ℕ) (group : G
   pub told_done : (task : ℕ) → 1 ≤ occurrences task told → lives p task ≡ false
   -- the group will be told of each child once, and of nothing else
   pub tellings : (task : ℕ) → tellings p id task ≡ occurrences task group.children
-  pub told_by_child : (task : ℕ) → lives p task ≡ true → 1 ≤ occurrences task group.children → count_by (tells id task) (callbacks_of p (future_of p task)) ≡ 1
+  pub told_by_child : (task : ℕ) → lives p task ≡ true → 1 ≤ occurrences task group.children
+      → count_by (tells id task) (callbacks_of p (future_of p task)) ≡ 1
   -- the parent lives until the exit has ended
   pub parent_lives : group.entered ≡ true → group.ended ≡ false → lives p group.parent ≡ true

@@ -19,8 +19,10 @@ HasNoCircle p = (id : ℕ) → Leads p id id → ⊥
 
 -- each task has its own future, and each task's future has its task
 pub record OwnsFutures (p : Parts) : Type 0 where
-  pub of_tasks : (task : ℕ) (it : Task) → slice_get p.tasks task ≡ Some it → (future : Future) × (slice_get p.futures it.future ≡ Some future) × (future.kind ≡ OfTask task)
-  pub of_futures : (id task : ℕ) (future : Future) → slice_get p.futures id ≡ Some future → future.kind ≡ OfTask task → (it : Task) × (slice_get p.tasks task ≡ Some it) × (it.future ≡ id)
+  pub of_tasks : (task : ℕ) (it : Task) → slice_get p.tasks task ≡ Some it
+      → (future : Future) × (slice_get p.futures it.future ≡ Some future) × (future.kind ≡ OfTask task)
+  pub of_futures : (id task : ℕ) (future : Future) → slice_get p.futures id ≡ Some future → future.kind ≡ OfTask task
+      → (it : Task) × (slice_get p.tasks task ≡ Some it) × (it.future ≡ id)
 
 -- the parts, while this task is running, or none
 pub record ArePartsSound (running : Option ℕ) (p : Parts) : Type 0 where

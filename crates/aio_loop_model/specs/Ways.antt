@@ -50,6 +50,7 @@ pub record HasOneWayOn (running : Option ℕ) (p : Parts) : Type 0 where
   pub done : (task : ℕ) → lives p task ≡ false → ways_on p task ≡ 0
   -- a wakeup is registered on what the task waits for, and stays there while that is pending
   pub on_waiter : (task on : ℕ) → 0 < wakeups_on p task on → waiter_of p task ≡ Some on
-  pub stays : (task on : ℕ) → lives p task ≡ true → waiter_of p task ≡ Some on → is_pending p on ≡ true → wakeups_on p task on ≡ 1
+  pub stays : (task on : ℕ) → lives p task ≡ true → waiter_of p task ≡ Some on → is_pending p on ≡ true
+      → wakeups_on p task on ≡ 1
   -- no timer steps a task
   pub timers : (task : ℕ) → count_by (λ (timer : Timer). steps task timer.action) p.timers ≡ 0

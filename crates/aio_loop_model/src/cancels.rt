@@ -11,7 +11,8 @@ ghost use Rattle.aio_loop_model.specs.Numbered.{occurrences};
 /// A request ends: at each future it does what the definition says with the request itself for members and for what a
 /// task waits for, so no bound is reached.
 pub fn is_total()
-    ensures { (id : ℕ) (seen : List ℕ) (p : Parts) → cancel_with id seen p ≡ cancel_by cancel_with cancel_with id seen p }
+    ensures { (id : ℕ) (seen : List ℕ) (p : Parts)
+        → cancel_with id seen p ≡ cancel_by cancel_with cancel_with id seen p }
 {}
 
 /// So does the test whether a future is spent.
@@ -22,7 +23,8 @@ pub fn spent_is_total()
 /// The answer is false exactly where the future is spent, and then nothing has changed.
 pub fn answers_false_where_spent()
     ensures answer { (id : ℕ) (seen : List ℕ) (p : Parts) → (cancel_with id seen p).answer ≡ not (is_spent p id) }
-    ensures unchanged { (id : ℕ) (seen : List ℕ) (p : Parts) → (cancel_with id seen p).answer ≡ false → cancel_with id seen p ≡ answers false seen p }
+    ensures unchanged { (id : ℕ) (seen : List ℕ) (p : Parts)
+        → (cancel_with id seen p).answer ≡ false → cancel_with id seen p ≡ answers false seen p }
 {}
 
 /// The tasks that a request visits are each visited once, and count it once; no other count changes.

@@ -13,6 +13,7 @@ pub fn test_decides()
 
 /// No await makes a circle, since those that would are refused; and no cancel does.
 pub fn none_is_made()
-    ensures suspend { (task on : ℕ) (p : Parts) → OwnsFutures p → HasNoCircle p → HasNoCircle (suspend task on p).parts }
+    ensures suspend { (task on : ℕ) (p : Parts)
+        → OwnsFutures p → HasNoCircle p → HasNoCircle (suspend task on p).parts }
     ensures cancel { (id : ℕ) (p : Parts) → HasNoCircle p → HasNoCircle (cancel id p).parts }
 {}

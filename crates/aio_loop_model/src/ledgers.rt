@@ -21,7 +21,8 @@ pub fn steps_balance()
 
 /// So timeouts keep counts the ledger's balance.
 pub fn timeouts_keep_balance()
-    ensures enter { (task : ℕ) (delay : Option ℤ) (l : Loop) → TasksBalance l → TasksBalance (enter_timeout task delay l) }
+    ensures enter { (task : ℕ) (delay : Option ℤ) (l : Loop)
+        → TasksBalance l → TasksBalance (enter_timeout task delay l) }
     ensures reschedule { (id : ℕ) (when : Option ℤ) (l : Loop) → TasksBalance l → TasksBalance (reschedule id when l) }
     ensures fire { (id : ℕ) (l : Loop) → TasksBalance l → TasksBalance (fire id l) }
     ensures exit { (id : ℕ) (l : Loop) → TasksBalance l → TasksBalance (exit_timeout id l) }
@@ -31,7 +32,9 @@ pub fn timeouts_keep_balance()
 pub fn groups_keep_balance()
     ensures create { (id : ℕ) (l : Loop) → TasksBalance l → TasksBalance (create id l) }
     ensures child_done { (id task : ℕ) (l : Loop) → TasksBalance l → TasksBalance (child_done id task l) }
-    ensures exit_begin { (raised : Option Exc) (id : ℕ) (l : Loop) → TasksBalance l → TasksBalance (exit_begin raised id l).loop }
-    ensures exit_woken { (input : Input) (id : ℕ) (l : Loop) → TasksBalance l → TasksBalance (exit_woken input id l).loop }
+    ensures exit_begin { (raised : Option Exc) (id : ℕ) (l : Loop)
+        → TasksBalance l → TasksBalance (exit_begin raised id l).loop }
+    ensures exit_woken { (input : Input) (id : ℕ) (l : Loop)
+        → TasksBalance l → TasksBalance (exit_woken input id l).loop }
     ensures end_of_run { (l : Loop) → TasksBalance l → TasksBalance (cancel_everything l) }
 {}
