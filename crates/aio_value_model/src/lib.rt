@@ -5,6 +5,7 @@
 pub mod examples;
 mod input;
 mod kind;
+pub mod laws;
 mod outcome;
 mod place;
 mod request;
