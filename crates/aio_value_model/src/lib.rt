@@ -2,6 +2,7 @@
 //! definitions and code share.
 #![tactic(auto)]
 
+mod action;
 pub mod examples;
 mod input;
 mod kind;
@@ -10,6 +11,7 @@ mod outcome;
 mod place;
 mod request;
 
+pub use action::{Action, ChildItem, Circle};
 pub use input::Input;
 pub use kind::Kind;
 pub use outcome::Outcome;
