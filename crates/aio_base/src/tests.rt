@@ -118,7 +118,7 @@ fn push_lists(alloc: Global, rows: &mut Vec<Row>) -> Result<(), Memory> {
         1,
     )?;
     let inner = Value::list_from(alloc, vec![in alloc; Value::nothing()]?)?;
-    let  middle = Value::list_from(alloc, vec![in alloc; inner]?)?;
+    let middle = Value::list_from(alloc, vec![in alloc; inner]?)?;
     let items = vec![in alloc; Value::list_from(alloc, vec![in alloc]?)?, middle]?;
     push_row(
         rows,
@@ -140,7 +140,7 @@ fn push_exceptions(alloc: Global, rows: &mut Vec<Row>) -> Result<(), Memory> {
     let fault = exception(alloc, Kind::TypeError, "a\"\\b")?;
     push_row(rows, Value::exc(fault), "TypeError(\"a\\\"\\\\b\")", 5, 1)?;
     let fault = exception(alloc, Kind::IncompleteReadError, "2 bytes")?;
-    let  fault = fault.with_bytes(RcSlice::from_slice(alloc, b"ab")?);
+    let fault = fault.with_bytes(RcSlice::from_slice(alloc, b"ab")?);
     push_row(
         rows,
         Value::exc(fault),
@@ -163,7 +163,7 @@ fn push_groups(alloc: Global, rows: &mut Vec<Row>) -> Result<(), Memory> {
     let members = vec![in alloc; inner, exception(alloc, Kind::ValueError, "a")?]?;
     let outer = exception(alloc, Kind::ExceptionGroup, "g")?;
     let outer = outer.with_members(Rc::new(alloc, ExcList::of(members))?);
-    let  shown = "ExceptionGroup(\"g\", [ExceptionGroup(\"\", []), ValueError(\"a\")])";
+    let shown = "ExceptionGroup(\"g\", [ExceptionGroup(\"\", []), ValueError(\"a\")])";
     push_row(rows, Value::exc(outer.clone()?), shown, 5, 2)?;
     let members = vec![in alloc; outer]?;
     let whole = exception(
@@ -207,12 +207,7 @@ fn values_show_and_weigh(rt: HostRuntime) -> Result<(), Fail> {
             "text of {}",
             row.shown
         );
-        assert_eq!(rt;
-            weight(&row.value),
-            row.weight,
-            "weight of {}",
-            row.shown
-        );
+        assert_eq!(rt; weight(&row.value), row.weight, "weight of {}", row.shown);
         assert_eq!(rt; depth(&row.value), row.depth, "depth of {}", row.shown);
     }
     Ok(())
