@@ -9,6 +9,8 @@ mod mem_source;
 mod shelf;
 mod sink;
 mod source;
+#[cfg(test)]
+mod tests;
 mod window;
 mod wire;
 
