@@ -4,6 +4,8 @@
 mod files;
 mod no_wire;
 mod output;
+#[cfg(test)]
+mod tests;
 
 use aio_base::Memory;
 use aio_wire::{Shelf, Sink, Wire};

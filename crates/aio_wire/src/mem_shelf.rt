@@ -63,6 +63,7 @@ impl Shelf for MemShelf {
     ) -> Result<SourceGot, Memory>
         ensures next { IfOk result (λ got. got ≡ got_at (held self.old name.now) from max) }
         ensures after { self.new ≡ record self.old { missed = missed_by (held self.old name.now) self.old.missed } }
+        ensures unchanged { OnErr result (self.new ≡ self.old) }
         ensures later { self.old.missed ≤ self.new.missed }
     {
         match self.file(name) {
