@@ -1,0 +1,7 @@
+pub mod Driving
+pub mod Files
+pub mod Fronts
+pub mod Journals
+pub mod Told
+pub mod Turning
+pub mod Turns
