@@ -1,6 +1,6 @@
 -- What happened stays: nothing takes an event away.
 use Rattle.std.proofs.Common.{◌≡◌, ℕ, ◌+◌, zero, suc, Bool, true, false, List, [], ◌∷◌, ◌++◌, Option, Some, None, refl, ap, sym, ◌∙◌, append_assoc}
-use Rattle.aio_value_model.specs.Action.{Action, Step, Wakeup, SleepDone, MainDone}
+use Rattle.aio_value_model.specs.Action.{Action, Step, Wakeup, SleepDone, MainDone, StepInCircle, GroupDone, Fires}
 use Rattle.aio_value_model.specs.Input.{Input}
 use Rattle.aio_wire_model.specs.Call.{Call, Answer}
 use Rattle.aio_wire_model.specs.Journal.{Entry, Answered, Refused}
@@ -51,6 +51,9 @@ effect-grows (Step task) s = step-grows task _ s
 effect-grows (Wakeup task) s = step-grows task _ s
 effect-grows (SleepDone task future) s = goes_on_same s.events
 effect-grows MainDone s = goes_on_same s.events
+effect-grows (StepInCircle task circle) s = step-grows task _ s
+effect-grows (GroupDone group task) s = goes_on_same s.events
+effect-grows (Fires timeout) s = goes_on_same s.events
 
 ran-grows : (dead : Bool) (action : Action) (s : State) → Grows s (ran dead action s)
 ran-grows true action s = goes_on_same s.events
