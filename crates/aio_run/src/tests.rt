@@ -13,8 +13,11 @@ mod fake_shelf;
 mod fake_sink;
 
 const WORDS: [&str; 3] = ["replay", "s", "j"];
+
 const HELLO: &str = "def main()\n  print \"hi\"\nend\n";
+
 const JOURNAL: &str = "turn 0\nturn 0\n";
+
 const WHOLE: &str = "T0 hi\n= returned None\n";
 
 // The status of a run with these words.
@@ -80,7 +83,10 @@ static SCRIPTS: [Script; 14] = [
 #[test]
 fn scripts(rt: HostRuntime) -> Result<(), Fail> {
     for (script, status, text) in SCRIPTS {
-        assert!(rt; ends(rt.alloc(), &WORDS, script, JOURNAL, (status, text))?, "{script}");
+        assert!(rt;
+            ends(rt.alloc(), &WORDS, script, JOURNAL, (status, text))?,
+            "{script}"
+        );
     }
     Ok(())
 }
@@ -93,11 +99,7 @@ static JOURNALS: [Journal; 14] = [
     ("turn 0\nturn 0\nturm 0\n", 0, WHOLE),
     ("turn 3\nturn 007\n", 0, WHOLE),
     ("turn 9\nturn 1\n", 0, WHOLE),
-    (
-        "turn 9223372036854775807\nturn 0\n",
-        0,
-        WHOLE,
-    ),
+    ("turn 9223372036854775807\nturn 0\n", 0, WHOLE),
     ("", 6, "! over select 0\n"),
     ("turn 0\n", 6, "T0 hi\n! over select 0\n"),
     ("turn 0\nturm 0\n", 4, "T0 hi\n! journal 2 9\n"),
@@ -112,7 +114,10 @@ static JOURNALS: [Journal; 14] = [
 #[test]
 fn journals(rt: HostRuntime) -> Result<(), Fail> {
     for (journal, status, text) in JOURNALS {
-        assert!(rt; ends(rt.alloc(), &WORDS, HELLO, journal, (status, text))?, "{journal}");
+        assert!(rt;
+            ends(rt.alloc(), &WORDS, HELLO, journal, (status, text))?,
+            "{journal}"
+        );
     }
     Ok(())
 }
@@ -147,7 +152,15 @@ fn missing_files(rt: HostRuntime) -> Result<(), Fail> {
     let fault = (9, "! fault shelf\n");
     assert!(rt; ends(rt.alloc(), &["replay", "q", "j"], HELLO, JOURNAL, fault)?);
     assert!(rt; ends(rt.alloc(), &["replay", "s", "q"], HELLO, JOURNAL, fault)?);
-    assert!(rt; ends(rt.alloc(), &["replay", "s", "q"], "", JOURNAL, (3, "! script 1 9\n"))?);
+    assert!(rt;
+        ends(
+            rt.alloc(),
+            &["replay", "s", "q"],
+            "",
+            JOURNAL,
+            (3, "! script 1 9\n")
+        )?
+    );
     Ok(())
 }
 
@@ -162,7 +175,10 @@ fn ends_on_fake_shelf(alloc: Global, call: usize, want: (u8, &str)) -> Result<bo
 #[test]
 fn shelf_fails(rt: HostRuntime) -> Result<(), Fail> {
     for call in 0..4 {
-        assert!(rt; ends_on_fake_shelf(rt.alloc(), call, (9, "! fault shelf\n"))?, "{call}");
+        assert!(rt;
+            ends_on_fake_shelf(rt.alloc(), call, (9, "! fault shelf\n"))?,
+            "{call}"
+        );
     }
     assert!(rt; ends_on_fake_shelf(rt.alloc(), 4, (0, WHOLE))?);
     Ok(())
@@ -180,7 +196,10 @@ fn ends_on_fake_sink(alloc: Global, call: usize, want: (u8, &[u8])) -> Result<bo
 fn sink_fails(rt: HostRuntime) -> Result<(), Fail> {
     let whole = WHOLE.as_bytes();
     for call in 0..whole.len() {
-        assert!(rt; ends_on_fake_sink(rt.alloc(), call, (9, &whole[..call]))?, "{call}");
+        assert!(rt;
+            ends_on_fake_sink(rt.alloc(), call, (9, &whole[..call]))?,
+            "{call}"
+        );
     }
     assert!(rt; ends_on_fake_sink(rt.alloc(), whole.len(), (0, whole))?);
     Ok(())
