@@ -3,3 +3,8 @@ pub mod Syntax
 pub mod Variables
 pub mod Operations
 pub mod Expressions
+pub mod Tape
+pub mod Requests
+pub mod Endings
+pub mod Says
+pub mod Blocks
