@@ -8,3 +8,4 @@ pub mod Requests
 pub mod Endings
 pub mod Says
 pub mod Blocks
+pub mod Asked
