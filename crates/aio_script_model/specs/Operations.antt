@@ -1,6 +1,6 @@
 -- What each operator and each function of an expression gives for values, or the exception that it raises.
 -- Source: the language reference, "Expressions"; the library reference, "Built-in Types"; with the bounds of scripts.
-use Rattle.std.specs.Prelude.{ℕ, zero, suc, ◌+◌, ◌*◌, ◌/◌, ◌^◌, ℤ, pos, negsuc, ◌+ℤ◌, ◌-ℤ◌, ◌*ℤ◌, neg_ℤ, Bool, not, ◌&&◌, List, ◌++◌, length, map, reverse, slice_get, Option, Some, None, Result, Ok, Err, codes, nat_lt, nat_le, if◌then◌else◌}
+use Rattle.std.specs.Prelude.{ℕ, zero, suc, ◌+◌, ◌*◌, ◌/◌, ◌^◌, ℤ, pos, negsuc, ◌+ℤ◌, ◌-ℤ◌, ◌*ℤ◌, neg_ℤ, Bool, true, false, not, ◌&&◌, List, ◌++◌, length, map, reverse, slice_get, Option, Some, None, Result, Ok, Err, codes, nat_lt, nat_le, if◌then◌else◌}
 use Rattle.std.specs.List.{repeat}
 use Rattle.std.specs.declared.cmp.Ordering.{Ordering}
 use Rattle.std.specs.Ordering.{nat_cmp, int_cmp, is_lt, is_le, is_gt, is_ge}
@@ -91,10 +91,14 @@ abbrev pub times : ℤ → ℕ
 times (pos n) = n
 times (negsuc n) = 0
 
+abbrev pub repeated_if : Bool → (List ℕ → Value) → List ℕ → ℕ → Answer
+repeated_if true make bytes count = Ok (make (repeat count bytes))
+repeated_if false make bytes count = Err out_of_range
+
 -- the weight is known before the bytes are
 abbrev pub repeated : (List ℕ → Value) → List ℕ → ℤ → Answer
 repeated make bytes count =
-    if nat_le (1 + times count * length bytes) heaviest then Ok (make (repeat (times count) bytes)) else Err out_of_range
+    repeated_if (nat_le (1 + times count * length bytes) heaviest) make bytes (times count)
 
 abbrev pub sum : Value → Value → Answer
 sum (Int a) (Int b) = number (a +ℤ b)
