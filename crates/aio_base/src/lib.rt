@@ -2,7 +2,24 @@
 #![tactic(auto)]
 
 mod blob;
+mod exc;
+mod kinds;
+mod literal;
 mod memory;
+mod shared;
+mod stream;
+mod text;
+mod value;
+mod weigh;
 
+pub use aio_value_model::Kind;
 pub use blob::Blob;
+pub use exc::{Exc, ExcList, exception};
+pub use kinds::{kind_matches, name_of};
+pub use literal::{push_bytes_literal, push_escaped, push_text_literal};
 pub use memory::Memory;
+pub use shared::{Input, Outcome, Request};
+pub use stream::Stream;
+pub use text::{show, show_exc};
+pub use value::{Value, ValueCase, ValueList};
+pub use weigh::weight;

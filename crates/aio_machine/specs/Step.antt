@@ -1,5 +1,6 @@
 -- A task's step. Source: `tasks.py`, `Task.__step`.
 use Rattle.std.specs.Prelude.{ℕ, zero, suc, ◌++◌, Bool, true, false, List, [], ◌∷◌, Option, Some, None, slice_get, slice_set}
+use Rattle.std.specs.List.{flat_map}
 use Rattle.aio_value_model.specs.Input.{Input}
 use Rattle.aio_value_model.specs.declared.input.Input.TheVariants.{Send}
 use Rattle.aio_value_model.specs.Shown.{shown}
@@ -10,11 +11,14 @@ use Rattle.aio_loop_model.specs.Parts.{Parts, Task}
 use Rattle.aio_loop_model.specs.Futures.{settle}
 use Rattle.aio_machine.specs.State.{State, Said, with_parts, noted, tape_of, resumed}
 
+-- values behind the first, each with a space before it
+abbrev pub shown_behind : List Value → List ℕ
+shown_behind values = flat_map (λ value. 32 ∷ shown value) values
+
 -- values as `print` shows them: one space between two
 abbrev pub shown_all : List Value → List ℕ
 shown_all [] = []
-shown_all (value ∷ []) = shown value
-shown_all (value ∷ next ∷ values) = shown value ++ 32 ∷ shown_all (next ∷ values)
+shown_all (value ∷ values) = shown value ++ shown_behind values
 
 abbrev pub ended_as : Option Task → Outcome → Parts → Parts
 ended_as None outcome p = p

@@ -2,12 +2,8 @@
 -- no quote stands without a backslash before it.
 use Rattle.std.specs.Prelude.{ℕ, ◌+◌, ◌/◌, ◌%◌, Bool, true, false, ◌&&◌, ◌||◌, ◌==◌, nat_lt, nat_le, if◌then◌else◌, List, [], ◌∷◌, ◌++◌}
 use Rattle.std.specs.List.{flat_map}
-
--- where a byte stands: in a text that is printed bare, in `".."`, or in `b".."`
-pub data Place : Type 0 where
-  Bare : Place
-  InText : Place
-  InBytes : Place
+use Rattle.aio_value_model.specs.declared.place.Place.{Place}
+use Rattle.aio_value_model.specs.declared.place.Place.TheVariants.{Bare, InText, InBytes}
 
 abbrev pub is_quoted : Place → Bool
 is_quoted Bare = false

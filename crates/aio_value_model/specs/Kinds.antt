@@ -8,6 +8,13 @@ use Rattle.aio_value_model.specs.contracts.kind.Kind.{the_type}
 use Rattle.aio_value_model.specs.declared.kind.Kind.{Kind}
 use Rattle.aio_value_model.specs.declared.kind.Kind.TheVariants.{BaseException, CancelledError, Exception, ArithmeticError, LookupError, OSError, RuntimeError, TypeError, ValueError, NameError, EOFError, LimitOverrunError, InvalidStateError, ExceptionGroup, OverflowError, ZeroDivisionError, IndexError, RecursionError, IncompleteReadError, TimeoutError, ConnectionError, ConnectionResetError, ConnectionRefusedError, BrokenPipeError}
 
+-- every kind, in the order of their declaration
+abbrev pub kinds : List Kind
+kinds =
+    BaseException ∷ CancelledError ∷ Exception ∷ ArithmeticError ∷ LookupError ∷ OSError ∷ RuntimeError ∷ TypeError ∷ ValueError ∷ NameError ∷ EOFError ∷ LimitOverrunError
+    ∷ InvalidStateError ∷ ExceptionGroup ∷ OverflowError ∷ ZeroDivisionError ∷ IndexError ∷ RecursionError ∷ IncompleteReadError ∷ TimeoutError ∷ ConnectionError
+    ∷ ConnectionResetError ∷ ConnectionRefusedError ∷ BrokenPipeError ∷ []
+
 -- the kind, its parent, and so on up to the root
 abbrev pub lineage : Kind → List Kind
 lineage BaseException = BaseException ∷ []
@@ -41,7 +48,7 @@ same_kind = sameb the_type
 
 -- `except k` takes an exception of kind e: k is e or one of its ancestors
 abbrev pub matches : (k e : Kind) → Bool
-matches k e = list_any (same_kind k) (lineage e)
+matches k e = list_any (λ ancestor. same_kind ancestor k) (lineage e)
 
 abbrev pub Matches : (k e : Kind) → Type 0
 Matches k e = matches k e ≡ true

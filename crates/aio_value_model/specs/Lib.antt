@@ -1,4 +1,5 @@
 pub mod Action
+pub mod Code
 pub mod Depth
 pub mod Equality
 pub mod Escapes
@@ -8,5 +9,6 @@ pub mod Lines
 pub mod Number
 pub mod Request
 pub mod Shown
+pub mod Size
 pub mod Value
 pub mod Weight

@@ -1,5 +1,5 @@
 -- Numbers in decimal digits. Source: the language reference, "Integer literals", without underscores.
-use Rattle.std.specs.Prelude.{ℕ, ◌+◌, ◌-◌, ◌*◌, ◌^◌, Bool, true, ◌&&◌, List, [], ◌∷◌, Option, Some, None, nat_le, fold, if◌then◌else◌}
+use Rattle.std.specs.Prelude.{ℕ, ◌+◌, ◌-◌, ◌*◌, Bool, ◌&&◌, List, length, Option, Some, None, nat_le, nat_lt, fold, if◌then◌else◌}
 use Rattle.std.specs.List.{list_all}
 
 abbrev pub is_digit : ℕ → Bool
@@ -15,7 +15,6 @@ digits_value digits = fold (λ value digit. 10 * value + (digit - 48)) 0 digits
 
 -- the number that a text of digits alone stands for, where it is no greater than a script's greatest
 abbrev pub number_of : List ℕ → Option ℕ
-number_of [] = None
-number_of (first ∷ others) =
-    if list_all is_digit (first ∷ others) && nat_le (digits_value (first ∷ others)) most
-    then Some (digits_value (first ∷ others)) else None
+number_of digits =
+    if nat_lt 0 (length digits) && list_all is_digit digits && nat_le (digits_value digits) most
+    then Some (digits_value digits) else None

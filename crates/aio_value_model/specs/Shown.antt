@@ -5,7 +5,8 @@ use lib.Chars.{codes}
 use Rattle.aio_value_model.specs.declared.kind.Kind.{Kind}
 use Rattle.aio_value_model.specs.declared.kind.Kind.TheVariants.{ExceptionGroup}
 use Rattle.aio_value_model.specs.Kinds.{kind_name, same_kind}
-use Rattle.aio_value_model.specs.Escapes.{Bare, escaped, text_literal, bytes_literal}
+use Rattle.aio_value_model.specs.declared.place.Place.TheVariants.{Bare}
+use Rattle.aio_value_model.specs.Escapes.{escaped, text_literal, bytes_literal}
 use Rattle.aio_value_model.specs.Value.{Value, Nothing, Truth, Int, Text, Bytes, Items, Fut, Task, Group, Timeout, Conn, Server, Child, Errs, Exception, Values, no_values, value_then, Exc, exc, Excs, no_excs, exc_then}
 
 -- the letter of an id and its number
@@ -17,7 +18,7 @@ truth_text true = codes "True"
 truth_text false = codes "False"
 
 abbrev pub is_group : Kind → Bool
-is_group = same_kind ExceptionGroup
+is_group kind = same_kind kind ExceptionGroup
 
 abbrev mutual
   -- a value inside a list or an exception: a text has its quotes

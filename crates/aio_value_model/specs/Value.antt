@@ -3,7 +3,6 @@
 use Rattle.std.specs.Prelude.{ℕ, ℤ, Bool, List, [], ◌∷◌}
 use Rattle.aio_value_model.specs.declared.kind.Kind.{Kind}
 use Rattle.aio_value_model.specs.declared.outcome.Outcome as outcome
-pub use Rattle.aio_value_model.specs.declared.outcome.Outcome.TheVariants.{Value as Returned, Failed, Cancelled}
 
 mutual
   pub data Value : Type 0 where
@@ -53,10 +52,22 @@ abbrev pub excs : List Exc → Excs
 excs [] = no_excs
 excs (e ∷ es) = exc_then e (excs es)
 
+abbrev pub kind_of : Exc → Kind
+kind_of (exc kind text bytes members) = kind
+
+abbrev pub text_of : Exc → List ℕ
+text_of (exc kind text bytes members) = text
+
+abbrev pub bytes_of : Exc → List ℕ
+bytes_of (exc kind text bytes members) = bytes
+
+abbrev pub members_of : Exc → List Exc
+members_of (exc kind text bytes members) = excs_of members
+
 -- an exception with a text alone
 abbrev pub exception_of : Kind → List ℕ → Exc
 exception_of kind text = exc kind text [] no_excs
 
--- how a future ends
+-- how a future ends: with a value, failed, or cancelled. Its cases are those of the enumeration.
 abbrev pub Outcome : Type 0
 Outcome = outcome.Outcome Value Exc

@@ -6,9 +6,11 @@ pub mod examples;
 mod input;
 mod kind;
 mod outcome;
+mod place;
 mod request;
 
 pub use input::Input;
 pub use kind::Kind;
 pub use outcome::Outcome;
+pub use place::Place;
 pub use request::Request;

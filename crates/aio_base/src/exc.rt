@@ -1,0 +1,162 @@
+//! The exceptions of scripts.
+ghost use Rattle.std.specs.Prelude.{◌≡◌, [], IfOk};
+ghost use Rattle.aio_value_model.specs.Value.{kind_of, text_of, bytes_of, members_of, exception_of};
+
+use crate::memory::Memory;
+use aio_value_model::Kind;
+use std::alloc::{AllocError, Global};
+use std::marker::Model;
+use std::rc::{Rc, RcSlice, RcStr};
+
+/// An exception: its kind, its text, its bytes and the members of a group. Contracts see it as plain data, in which
+/// `None` and an empty text, byte value or list are the same.
+#[cycle(exc)]
+#[derive(Drop)]
+pub struct Exc {
+    pub kind: Kind,
+    pub text: Option<RcStr>,
+    pub bytes: Option<RcSlice<u8>>,
+    pub members: Option<Rc<ExcList>>,
+}
+
+/// Exceptions in order. Contracts see them as a list.
+#[cycle(exc)]
+#[derive(Drop)]
+pub struct ExcList {
+    items: Vec<Exc>,
+}
+
+impl Model for Exc {
+    ghost use Rattle.aio_value_model.specs.Value as plain;
+    ghost use Rattle.aio_value_model.specs.Code.{coded_exc};
+
+    ghost Value = { plain.Exc };
+
+    ghost coded = { coded_exc };
+
+    ghost use Rattle.aio_value_model.specs.Size.{exc_size};
+    ghost use Rattle.aio_base.specs.Exc.{exc_of};
+
+    ghost view = { λ a. exc_of a.kind a.text a.bytes a.members };
+
+    ghost size = { exc_size };
+
+    ghost use Rattle.aio_base.specs.ExcFalls.{members_fall};
+
+    ghost size_decreases = { λ a h. members_fall a.kind a.text a.bytes a.members };
+}
+
+impl Model for ExcList {
+    ghost use Rattle.std.specs.Prelude.{List};
+    ghost use Rattle.std.specs.Coded.{coded_list};
+    ghost use Rattle.aio_value_model.specs.Value as plain;
+    ghost use Rattle.aio_value_model.specs.Code.{coded_exc};
+
+    ghost Value = { List plain.Exc };
+
+    ghost coded = { coded_list coded_exc };
+
+    ghost use Rattle.aio_value_model.specs.Size.{excs_size};
+
+    ghost view = { λ a. a.items.items };
+
+    ghost size = { excs_size };
+
+    ghost use Rattle.aio_base.specs.ExcFalls.{excs_fall};
+
+    ghost size_decreases = { λ a h. excs_fall a.items.items };
+}
+
+impl Exc {
+    /// An exception of this kind with an empty text. It takes no memory.
+    pub fn bare(kind: Kind) -> Exc
+        ensures { result ≡ exception_of kind [] }
+    {
+        Exc {
+            kind,
+            text: None,
+            bytes: None,
+            members: None,
+        }
+    }
+
+    pub fn kind(&self) -> Kind
+        ensures { result ≡ kind_of self.now }
+    {
+        self.kind
+    }
+
+    pub fn text(&self) -> &str
+        ensures { result.now ≡ text_of self.now }
+    {
+        match &self.text {
+            Some(text) => text.as_str(),
+            None => "",
+        }
+    }
+
+    pub fn bytes(&self) -> &[u8]
+        ensures { result.now ≡ bytes_of self.now }
+    {
+        match &self.bytes {
+            Some(bytes) => bytes.as_slice(),
+            None => &[],
+        }
+    }
+
+    #[tactic(auto, using(aio_value_model::proofs::Rows::rows))]
+    pub fn members(&self) -> &[Exc]
+        ensures { result.now ≡ members_of self.now }
+    {
+        match &self.members {
+            Some(members) => members.as_ref().items(),
+            None => &[],
+        }
+    }
+}
+
+impl Clone for Exc {
+    ghost is_clone = { λ exc copy. copy ≡ exc };
+
+    fn clone(&self) -> Result<Exc, AllocError> {
+        let text = self.text.clone()?;
+        let bytes = self.bytes.clone()?;
+        let members = self.members.clone()?;
+        Ok(Exc {
+            kind: self.kind,
+            text,
+            bytes,
+            members,
+        })
+    }
+}
+
+impl ExcList {
+    pub fn of(items: Vec<Exc>) -> ExcList
+        ensures { result ≡ items.items }
+    {
+        ExcList { items }
+    }
+
+    pub fn items(&self) -> &[Exc]
+        ensures { result.now ≡ self.now }
+    {
+        self.items.as_slice()
+    }
+}
+
+/// An exception of this kind with this text, no bytes and no members.
+pub fn exception(alloc: Global, kind: Kind, text: &str) -> Result<Exc, Memory>
+    ensures ok { IfOk result (λ exc. exc ≡ exception_of kind text.now) }
+{
+    if text.is_empty() {
+        return Ok(Exc::bare(kind));
+    }
+    let text = Some(RcStr::from_str(alloc, text)?);
+    Ok(Exc {
+        kind,
+        text,
+        bytes: None,
+        members: None,
+    })
+}

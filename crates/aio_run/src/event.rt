@@ -1,0 +1,13 @@
+//! What happens in a turn behind its answer.
+use aio_base::Blob;
+
+/// What happens in a turn behind its answer, in order.
+#[derive(Debug, Drop)]
+pub enum Event {
+    /// A step of main's task ran.
+    RanStep,
+    /// Main's callback ran.
+    RanMainDone,
+    /// Main printed a text.
+    Said(Blob),
+}

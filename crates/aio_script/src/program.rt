@@ -1,0 +1,18 @@
+//! Programs that were read.
+ghost use Rattle.std.specs.Prelude.{◌≤◌, vec_len};
+
+use aio_base::ValueList;
+
+/// A line of a coroutine's body.
+#[derive(Drop)]
+pub enum Line {
+    /// `print` of these values.
+    Print(ValueList),
+}
+
+/// A script that was read: the lines of `main`, which are no more than a script's bytes.
+#[derive(Drop)]
+pub struct Program {
+    pub lines: Vec<Line>,
+    ghost few: { vec_len lines ≤ 65536 },
+}

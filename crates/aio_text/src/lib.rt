@@ -1,0 +1,8 @@
+//! What texts of every kind share: their lines, and the numbers in them.
+#![tactic(auto)]
+
+mod lines;
+mod numbers;
+
+pub use lines::next_line;
+pub use numbers::number;
