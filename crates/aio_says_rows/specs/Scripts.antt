@@ -241,6 +241,6 @@ pausing = script (def "main" [] (while yes (Yield ∷ []) ∷ []) ∷ [])
 abbrev pub spinning : Program
 spinning =
     script (def "main" ("n" ∷ []) (
-        "i" := int 0
-        ∷ while (var "i" < var "n") ("i" := var "i" + int 1 ∷ [])
-        ∷ []) ∷ [])
+    "i" := int 0
+    ∷ while (var "i" < var "n") ("i" := var "i" + int 1 ∷ [])
+    ∷ []) ∷ [])

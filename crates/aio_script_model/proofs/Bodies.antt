@@ -3,14 +3,14 @@ use Rattle.std.proofs.Common.{◌≡◌, ℕ, zero, suc, ◌+◌, ◌*◌, ◌�
 use mathlib.Core.Path.{fun_ext}
 use Rattle.aio_value_model.specs.Kinds.{matches}
 use Rattle.aio_value_model.specs.declared.request.Request.TheVariants as request
-use Rattle.aio_value_model.specs.Value.{Value, Nothing, Exception, Exc}
+use Rattle.aio_value_model.specs.Value.{Value, Nothing, Exception, Exc, kind_of}
 use Rattle.aio_script_model.specs.Operations.{bad_operand}
 use Rattle.aio_script_model.specs.Syntax.{Name, Expr, Target, Await, Call, Ask, SpawnTask, CreateTask, ListenAt, Manager, GroupBlock, TimeoutBlock, Statement, Assign, Yield, YieldFrom, Print, Raise, Return, Pass, If, While, Try, With, Statements, no_statements, statement_then, Branch, no_branch, branch, Handlers, no_handlers, handler_then, Program}
 use Rattle.aio_script_model.specs.Variables.{Env, held, entered, assigned}
 use Rattle.aio_script_model.specs.Requests.{requested, place_of, coroutine_at}
 use Rattle.aio_script_model.specs.Tape.{Tape}
 use Rattle.aio_script_model.specs.Endings.{Runaway, Progress, Passes, Returned, Raised, Stopped, progress_of, Next, then_next, given, valued, all_valued, decided, assign, assign_to, begun, ask}
-use Rattle.aio_script_model.specs.Says.{too_many_frames, raised, kind_of, handled, finished, back_in, came_back, Calls, exit_of, managed, exited, to_come, turns, looped, delegated, run, run_all, run_branch, run_handlers, call_within, frame_limit, unbegun, course}
+use Rattle.aio_script_model.specs.Says.{too_many_frames, raised, handled, finished, back_in, came_back, Calls, exit_of, managed, exited, to_come, turns, looped, delegated, run, run_all, run_branch, run_handlers, call_within, frame_limit, unbegun, course}
 use Rattle.aio_script_model.proofs.Loops.{behind, tested, loop_again}
 use Rattle.aio_script_model.proofs.Sound.{extended, Here, Extends, SoundBelow, Sound, sound_passes, sound_returned, sound_raised, sound_by_env, sound_in_env, sound_given, sound_valued, sound_all_valued, sound_if, sound_decided, sound_ask, sound_begun_below, sound_begun, sound_routed, here_stopped}
 

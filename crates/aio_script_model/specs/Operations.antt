@@ -8,7 +8,7 @@ use Rattle.std.specs.Cmp.Lexicographic.{slice_cmp}
 use Rattle.std.specs.Str.{is_utf8}
 use Rattle.aio_value_model.specs.declared.kind.Kind.{Kind}
 use Rattle.aio_value_model.specs.declared.kind.Kind.TheVariants.{TypeError, OverflowError, ZeroDivisionError, IndexError, ValueError}
-use Rattle.aio_value_model.specs.Value.{Value, Truth, Int, Text, Bytes, Items, Exception, Exc, exc, list_of, values, excs_of, exception_of}
+use Rattle.aio_value_model.specs.Value.{Value, Truth, Int, Text, Bytes, Items, Exception, Exc, list_of, values, exception_of, kind_of, text_of, bytes_of, members_of}
 use Rattle.aio_value_model.specs.Weight.{weight_of}
 use Rattle.aio_value_model.specs.Depth.{depth_of}
 use Rattle.aio_value_model.specs.Equality.{equal}
@@ -182,11 +182,10 @@ applied function.Len (Items items) = number (pos (length (list_of items)))
 applied function.Str value = bounded (Text (shown value))
 applied function.Bytes (Text bytes) = bounded (Bytes bytes)
 applied function.Text (Bytes bytes) = if is_utf8 bytes then bounded (Text bytes) else Err not_utf8
-applied function.Kind (Exception (exc kind text bytes members)) = bounded (Text (kind_name kind))
-applied function.Message (Exception (exc kind text bytes members)) = bounded (Text text)
-applied function.Partial (Exception (exc kind text bytes members)) = bounded (Bytes bytes)
-applied function.Members (Exception (exc kind text bytes members)) =
-    bounded (Items (values (map Exception (excs_of members))))
+applied function.Kind (Exception fault) = bounded (Text (kind_name (kind_of fault)))
+applied function.Message (Exception fault) = bounded (Text (text_of fault))
+applied function.Partial (Exception fault) = bounded (Bytes (bytes_of fault))
+applied function.Members (Exception fault) = bounded (Items (values (map Exception (members_of fault))))
 applied _ _ = Err bad_operand
 
 -- `error(KIND, t)`

@@ -3,12 +3,11 @@
 -- Source: PEP 342; PEP 380: a coroutine that another one calls by `yield from` runs in the place of the call; the language
 -- reference, "Compound statements".
 use Rattle.std.specs.Prelude.{ℕ, zero, suc, ◌+◌, ◌*◌, List, [], Option, Some, None, codes, length, if◌then◌else◌}
-use Rattle.aio_value_model.specs.declared.kind.Kind.{Kind}
 use Rattle.aio_value_model.specs.declared.kind.Kind.TheVariants.{RecursionError}
 use Rattle.aio_value_model.specs.declared.request.Request.TheVariants as request
 use Rattle.aio_value_model.specs.Kinds.{matches}
 use Rattle.aio_value_model.specs.Request.{Request}
-use Rattle.aio_value_model.specs.Value.{Value, Nothing, Exception, Exc, exc, exception_of}
+use Rattle.aio_value_model.specs.Value.{Value, Nothing, Exception, Exc, exception_of, kind_of}
 use Rattle.aio_script_model.specs.Syntax.{Expr, Target, Await, Call, Ask, SpawnTask, CreateTask, ListenAt, Manager, GroupBlock, TimeoutBlock, Statement, Assign, Yield, YieldFrom, Print, Raise, Return, Pass, If, While, Try, With, Statements, no_statements, statement_then, Branch, no_branch, branch, Handlers, no_handlers, handler_then, Program}
 use Rattle.aio_script_model.specs.Variables.{Env, held, entered}
 use Rattle.aio_script_model.specs.Operations.{bad_operand}
@@ -23,9 +22,6 @@ too_many_frames = exception_of RecursionError (codes "too many frames")
 abbrev pub raised : Value → Next
 raised (Exception fault) = Raised fault
 raised _ = Raised bad_operand
-
-abbrev pub kind_of : Exc → Kind
-kind_of (exc kind text bytes members) = kind
 
 -- `except` clauses take an exception, and nothing else
 abbrev pub handled : (Exc → Next) → Ending → Ending
