@@ -1,5 +1,5 @@
 -- Short names for the parts of scripts, so that a row reads as its script does.
-use Rattle.std.specs.Prelude.{ℕ, true, false, List, [], map, Some, None}
+use Rattle.std.specs.Prelude.{ℕ, pos, true, false, List, [], map, Some, None}
 use Prim.Native.String.{String}
 use lib.Chars.{codes}
 use Rattle.aio_value_model.specs.declared.kind.Kind.{Kind}
@@ -19,7 +19,7 @@ abbrev pub no : Expr
 no = Literal (TruthConstant false)
 
 abbrev pub int : ℕ → Expr
-int n = Literal (IntConstant n)
+int n = Literal (IntConstant (pos n))
 
 abbrev pub text : String → Expr
 text s = Literal (TextConstant (codes s))

@@ -1,6 +1,6 @@
 -- The meaning of an expression: its value, or the first exception from the left.
 -- Source: the language reference, "Expressions", "Evaluation order".
-use Rattle.std.specs.Prelude.{pos, true, false, List, [], ◌∷◌, Result, Ok, Err}
+use Rattle.std.specs.Prelude.{true, false, List, [], ◌∷◌, Result, Ok, Err}
 use Rattle.aio_value_model.specs.Value.{Value, Nothing, Truth, Int, Text, Bytes, Items, Exc, values}
 use Rattle.aio_script_model.specs.Syntax.{Constant, NoneConstant, TruthConstant, IntConstant, TextConstant, BytesConstant, Expr, Or, And, Not, Compare, Calculate, Negate, Index, Literal, Variable, ListOf, Apply, MakeError, Exprs, no_exprs, expr_then}
 use Rattle.aio_script_model.specs.Variables.{Env, held}
@@ -9,7 +9,7 @@ use Rattle.aio_script_model.specs.Operations.{Answer, bad_operand, bounded, trut
 abbrev pub constant_value : Constant → Value
 constant_value NoneConstant = Nothing
 constant_value (TruthConstant t) = Truth t
-constant_value (IntConstant number) = Int (pos number)
+constant_value (IntConstant number) = Int number
 constant_value (TextConstant bytes) = Text bytes
 constant_value (BytesConstant bytes) = Bytes bytes
 

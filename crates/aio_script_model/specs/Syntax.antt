@@ -1,7 +1,7 @@
 -- A script as plain data: a program, its coroutines, their statements and expressions. It is what a script that was read
 -- says, so its names are known and its calls have the right number of arguments.
 -- Source: the language reference, "Expressions", "Simple statements", "Compound statements"; PEP 380 for `yield from`.
-use Rattle.std.specs.Prelude.{ℕ, Bool, List, [], ◌∷◌, Option}
+use Rattle.std.specs.Prelude.{ℕ, ℤ, Bool, List, [], ◌∷◌, Option}
 use Rattle.aio_value_model.specs.declared.kind.Kind.{Kind}
 use Rattle.aio_script_model.specs.declared.operator.Operator.{Operator}
 use Rattle.aio_script_model.specs.declared.operator.Comparison.{Comparison}
@@ -16,8 +16,8 @@ Name = List ℕ
 pub data Constant : Type 0 where
   NoneConstant : Constant
   TruthConstant : (truth : Bool) → Constant
-  -- a number has no sign; a unary `-` is an operation
-  IntConstant : (number : ℕ) → Constant
+  -- a number that a script spells has no sign: its unary `-` is an operation
+  IntConstant : (number : ℤ) → Constant
   TextConstant : (bytes : List ℕ) → Constant
   BytesConstant : (bytes : List ℕ) → Constant
 
