@@ -3,6 +3,8 @@ pub mod Syntax
 pub mod Variables
 pub mod Operations
 pub mod Expressions
+pub mod ExprCode
+pub mod ExprSize
 pub mod Tape
 pub mod Requests
 pub mod Endings
