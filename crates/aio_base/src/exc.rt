@@ -1,6 +1,7 @@
 //! The exceptions of scripts.
 ghost use Rattle.std.specs.Prelude.{◌≡◌, [], IfOk};
-ghost use Rattle.aio_value_model.specs.Value.{kind_of, text_of, bytes_of, members_of, exception_of};
+ghost use Rattle.aio_value_model.specs.Value.{kind_of, text_of, bytes_of, members_of, with_bytes, with_members, exception_of};
+ghost use Rattle.std.specs.Rc.{rc_slice_items};
 
 use crate::memory::Memory;
 use aio_value_model::Kind;
@@ -111,6 +112,32 @@ impl Exc {
         match &self.members {
             Some(members) => members.as_ref().items(),
             None => &[],
+        }
+    }
+}
+
+impl Exc {
+    /// The exception with these bytes in the place of its own.
+    pub fn with_bytes(self, bytes: RcSlice<u8>) -> Exc
+        ensures { result ≡ with_bytes self (rc_slice_items bytes) }
+    {
+        Exc {
+            kind: self.kind,
+            text: self.text,
+            bytes: Some(bytes),
+            members: self.members,
+        }
+    }
+
+    /// The exception with these members in the place of its own.
+    pub fn with_members(self, members: Rc<ExcList>) -> Exc
+        ensures { result ≡ with_members self members.value }
+    {
+        Exc {
+            kind: self.kind,
+            text: self.text,
+            bytes: self.bytes,
+            members: Some(members),
         }
     }
 }

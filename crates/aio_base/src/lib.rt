@@ -6,20 +6,25 @@ mod exc;
 mod kinds;
 mod literal;
 mod memory;
+mod nesting;
 mod shared;
 mod stream;
 mod text;
 mod value;
 mod weigh;
 
-pub use aio_value_model::Kind;
+pub use aio_value_model::{Circle, Kind, Place};
 pub use blob::Blob;
 pub use exc::{Exc, ExcList, exception};
 pub use kinds::{kind_matches, name_of};
 pub use literal::{push_bytes_literal, push_escaped, push_text_literal};
 pub use memory::Memory;
-pub use shared::{Input, Outcome, Request};
+pub use nesting::{depth, depth_of_exc};
+pub use shared::{Action, ChildItem, Input, Outcome, Request};
 pub use stream::Stream;
 pub use text::{show, show_exc};
 pub use value::{Value, ValueCase, ValueList};
-pub use weigh::weight;
+pub use weigh::{weight, weight_of_exc};
+
+#[cfg(test)]
+mod tests;

@@ -1,11 +1,12 @@
 //! The values of scripts.
-ghost use Rattle.std.specs.Prelude.{◌≡◌};
+ghost use Rattle.std.specs.Prelude.{◌≡◌, IfOk};
 ghost use Rattle.std.specs.Rc.{rc_str_bytes, rc_slice_items};
 ghost use Rattle.aio_value_model.specs.Value.{Nothing, Truth, Int, Text, Bytes, Items, Fut, Task, Group, Timeout, Conn, Server, Child, Errs, Exception, values};
 ghost use Rattle.aio_base.specs.ValueCase.{value_of_case};
 
 use crate::exc::Exc;
-use std::alloc::AllocError;
+use crate::memory::Memory;
+use std::alloc::{AllocError, Global};
 use std::marker::Model;
 use std::rc::{Rc, RcSlice, RcStr};
 
@@ -151,6 +152,27 @@ impl Value {
         Value {
             case: Case::List(list),
         }
+    }
+
+    /// A text that nothing else shares.
+    pub fn text_from(alloc: Global, text: &str) -> Result<Value, Memory>
+        ensures { IfOk result (λ value. value ≡ Text text.now) }
+    {
+        Ok(Value::text(RcStr::from_str(alloc, text)?))
+    }
+
+    /// Bytes that nothing else shares.
+    pub fn bytes_from(alloc: Global, bytes: &[u8]) -> Result<Value, Memory>
+        ensures { IfOk result (λ value. value ≡ Bytes bytes.now) }
+    {
+        Ok(Value::bytes(RcSlice::from_slice(alloc, bytes)?))
+    }
+
+    /// A list that nothing else shares.
+    pub fn list_from(alloc: Global, items: Vec<Value>) -> Result<Value, Memory>
+        ensures { IfOk result (λ value. value ≡ Items (values items.items)) }
+    {
+        Ok(Value::list(Rc::new(alloc, ValueList::of(items))?))
     }
 
     /// A future that a script made. Each kind of thing has ids of its own, from 0 in order of making.

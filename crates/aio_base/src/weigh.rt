@@ -32,8 +32,9 @@ fn weight_of_all(items: &[Value]) -> u64
     total
 }
 
+/// The weight of an exception, or 18,446,744,073,709,551,615 where it is more.
 #[cycle(exc_weight)]
-fn weight_of_exc(exc: &Exc) -> u64
+pub fn weight_of_exc(exc: &Exc) -> u64
     ensures { result ≡ min (exc_weight exc.now) (2 ^ 64 - 1) }
 {
     weight_of_members(exc.members())

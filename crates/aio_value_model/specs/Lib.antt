@@ -1,6 +1,7 @@
 pub mod Action
 pub mod Code
 pub mod Depth
+pub mod Endings
 pub mod Equality
 pub mod Escapes
 pub mod Input

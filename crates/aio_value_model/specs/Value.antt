@@ -64,6 +64,13 @@ bytes_of (exc kind text bytes members) = bytes
 abbrev pub members_of : Exc → List Exc
 members_of (exc kind text bytes members) = excs_of members
 
+-- the exception with these bytes, or with these members, in the place of its own
+abbrev pub with_bytes : Exc → List ℕ → Exc
+with_bytes (exc kind text old members) bytes = exc kind text bytes members
+
+abbrev pub with_members : Exc → List Exc → Exc
+with_members (exc kind text bytes old) members = exc kind text bytes (excs members)
+
 -- an exception with a text alone
 abbrev pub exception_of : Kind → List ℕ → Exc
 exception_of kind text = exc kind text [] no_excs

@@ -2,13 +2,16 @@
 //! definitions and code share.
 #![tactic(auto)]
 
+mod action;
 pub mod examples;
 mod input;
 mod kind;
+pub mod laws;
 mod outcome;
 mod place;
 mod request;
 
+pub use action::{Action, ChildItem, Circle};
 pub use input::Input;
 pub use kind::Kind;
 pub use outcome::Outcome;

@@ -1,0 +1,123 @@
+-- Two values are equal exactly where they are one value.
+use Rattle.std.proofs.Common.{◌≡◌, ℕ, ℤ, eqb, pos, negsuc, Bool, true, false, ◌&&◌, List, [], ◌∷◌, refl, ap, sym}
+use Rattle.std.proofs.lemmas.Bool.{false≢true, eqb-true, eq-eqb}
+use denote.Enum.Bare.{same_true, true_same}
+use Rattle.aio_value_model.specs.contracts.kind.Kind.{the_type}
+use Rattle.aio_value_model.specs.declared.kind.Kind.{Kind}
+use Rattle.aio_value_model.specs.Kinds.{same_kind}
+use Rattle.aio_value_model.specs.Value.{Value, Nothing, Truth, Int, Text, Bytes, Items, Fut, Task, Group, Timeout, Conn, Server, Child, Errs, Exception, Values, no_values, value_then, Exc, exc, Excs, no_excs, exc_then}
+use Rattle.aio_value_model.specs.Equality.{equal, same_truth, same_int, same_bytes, same_items, same_exc, same_members}
+
+first_true : (a b : Bool) → (a && b) ≡ true → a ≡ true
+first_true true b e = refl
+first_true false b e = e
+
+second_true : (a b : Bool) → (a && b) ≡ true → b ≡ true
+second_true true b e = e
+second_true false b e = absurd (false≢true e)
+
+truth : (a b : Bool) → same_truth a b ≡ true → a ≡ b
+truth true b e = sym e
+truth false true e = absurd (false≢true e)
+truth false false e = refl
+
+int : (a b : ℤ) → same_int a b ≡ true → a ≡ b
+int (pos m) (pos n) e = ap pos (eqb-true m n e)
+int (negsuc m) (negsuc n) e = ap negsuc (eqb-true m n e)
+int _ _ e = absurd (false≢true e)
+
+bytes : (a b : List ℕ) → same_bytes a b ≡ true → a ≡ b
+bytes [] [] e = refl
+bytes (b ∷ bs) (c ∷ cs) e =
+    λ i. eqb-true b c (first_true (eqb b c) (same_bytes bs cs) e) i ∷ bytes bs cs (second_true (eqb b c) (same_bytes bs cs) e) i
+bytes _ _ e = absurd (false≢true e)
+
+kind : (k l : Kind) → same_kind k l ≡ true → k ≡ l
+kind k l e = same_true the_type tt k l e
+
+mutual
+  pub one_value : (v w : Value) → equal v w ≡ true → v ≡ w
+  one_value Nothing Nothing e = refl
+  one_value (Truth a) (Truth b) e = ap Truth (truth a b e)
+  one_value (Int a) (Int b) e = ap Int (int a b e)
+  one_value (Text a) (Text b) e = ap Text (bytes a b e)
+  one_value (Bytes a) (Bytes b) e = ap Bytes (bytes a b e)
+  one_value (Items a) (Items b) e = ap Items (one_row a b e)
+  one_value (Fut a) (Fut b) e = ap Fut (eqb-true a b e)
+  one_value (Task a) (Task b) e = ap Task (eqb-true a b e)
+  one_value (Group a) (Group b) e = ap Group (eqb-true a b e)
+  one_value (Timeout a) (Timeout b) e = ap Timeout (eqb-true a b e)
+  one_value (Conn a) (Conn b) e = ap Conn (eqb-true a b e)
+  one_value (Server a) (Server b) e = ap Server (eqb-true a b e)
+  one_value (Child a) (Child b) e = ap Child (eqb-true a b e)
+  one_value (Errs a) (Errs b) e = ap Errs (eqb-true a b e)
+  one_value (Exception a) (Exception b) e = ap Exception (one_exc a b e)
+  one_value _ _ e = absurd (false≢true e)
+
+  one_row : (v w : Values) → same_items v w ≡ true → v ≡ w
+  one_row no_values no_values e = refl
+  one_row (value_then v vs) (value_then w ws) e =
+      λ i. value_then (one_value v w (first_true (equal v w) (same_items vs ws) e) i) (one_row vs ws (second_true (equal v w) (same_items vs ws) e) i)
+  one_row _ _ e = absurd (false≢true e)
+
+  one_exc : (v w : Exc) → same_exc v w ≡ true → v ≡ w
+  one_exc (exc k t b ms) (exc k' t' b' ms') e =
+      let three = same_kind k k' && same_bytes t t' && same_bytes b b' in
+      let two = same_kind k k' && same_bytes t t' in
+      let front = first_true three (same_members ms ms') e in
+      let start = first_true two (same_bytes b b') front in
+      λ i. exc (kind k k' (first_true (same_kind k k') (same_bytes t t') start) i) (bytes t t' (second_true (same_kind k k') (same_bytes t t') start) i) (bytes b b' (second_true two (same_bytes b b') front) i) (one_members ms ms' (second_true three (same_members ms ms') e) i)
+
+  one_members : (v w : Excs) → same_members v w ≡ true → v ≡ w
+  one_members no_excs no_excs e = refl
+  one_members (exc_then v vs) (exc_then w ws) e =
+      λ i. exc_then (one_exc v w (first_true (same_exc v w) (same_members vs ws) e) i) (one_members vs ws (second_true (same_exc v w) (same_members vs ws) e) i)
+  one_members _ _ e = absurd (false≢true e)
+
+both : (a b : Bool) → a ≡ true → b ≡ true → (a && b) ≡ true
+both true b p q = q
+both false b p q = p
+
+same_truth_again : (b : Bool) → same_truth b b ≡ true
+same_truth_again true = refl
+same_truth_again false = refl
+
+same_int_again : (z : ℤ) → same_int z z ≡ true
+same_int_again (pos n) = eq-eqb n n refl
+same_int_again (negsuc n) = eq-eqb n n refl
+
+same_bytes_again : (bs : List ℕ) → same_bytes bs bs ≡ true
+same_bytes_again [] = refl
+same_bytes_again (b ∷ bs) = both (eqb b b) (same_bytes bs bs) (eq-eqb b b refl) (same_bytes_again bs)
+
+mutual
+  pub equal_again : (v : Value) → equal v v ≡ true
+  equal_again Nothing = refl
+  equal_again (Truth truth) = same_truth_again truth
+  equal_again (Int number) = same_int_again number
+  equal_again (Text bytes) = same_bytes_again bytes
+  equal_again (Bytes bytes) = same_bytes_again bytes
+  equal_again (Items items) = same_items_again items
+  equal_again (Fut id) = eq-eqb id id refl
+  equal_again (Task id) = eq-eqb id id refl
+  equal_again (Group id) = eq-eqb id id refl
+  equal_again (Timeout id) = eq-eqb id id refl
+  equal_again (Conn id) = eq-eqb id id refl
+  equal_again (Server id) = eq-eqb id id refl
+  equal_again (Child id) = eq-eqb id id refl
+  equal_again (Errs id) = eq-eqb id id refl
+  equal_again (Exception fault) = same_exc_again fault
+
+  same_items_again : (vs : Values) → same_items vs vs ≡ true
+  same_items_again no_values = refl
+  same_items_again (value_then v vs) = both (equal v v) (same_items vs vs) (equal_again v) (same_items_again vs)
+
+  same_exc_again : (e : Exc) → same_exc e e ≡ true
+  same_exc_again (exc k t b ms) =
+      both (same_kind k k && same_bytes t t && same_bytes b b) (same_members ms ms)
+      (both (same_kind k k && same_bytes t t) (same_bytes b b) (both (same_kind k k) (same_bytes t t) (true_same the_type k k refl) (same_bytes_again t)) (same_bytes_again b))
+      (same_members_again ms)
+
+  same_members_again : (es : Excs) → same_members es es ≡ true
+  same_members_again no_excs = refl
+  same_members_again (exc_then e es) = both (same_exc e e) (same_members es es) (same_exc_again e) (same_members_again es)
