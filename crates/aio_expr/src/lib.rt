@@ -1,0 +1,4 @@
+//! The values of expressions.
+#![tactic(auto)]
+
+mod equality;
