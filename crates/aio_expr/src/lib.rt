@@ -1,4 +1,10 @@
 //! The values of expressions.
 #![tactic(auto)]
 
+mod bounds;
+mod cause;
 mod equality;
+mod numbers;
+mod order;
+
+pub use cause::Cause;
