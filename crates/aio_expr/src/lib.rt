@@ -4,6 +4,7 @@
 mod bounds;
 mod cause;
 mod equality;
+mod joins;
 mod numbers;
 mod order;
 
