@@ -1,2 +1,4 @@
 pub mod Same
 pub mod Floors
+pub mod Places
+pub mod InBounds

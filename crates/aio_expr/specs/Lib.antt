@@ -1,3 +1,4 @@
 pub mod Content
 pub mod Gives
 pub mod Rounding
+pub mod Places

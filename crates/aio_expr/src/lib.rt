@@ -4,8 +4,10 @@
 mod bounds;
 mod cause;
 mod equality;
+mod items;
 mod joins;
 mod numbers;
+mod operators;
 mod order;
 
 pub use cause::Cause;
