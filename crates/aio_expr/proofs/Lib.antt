@@ -2,3 +2,4 @@ pub mod Same
 pub mod Floors
 pub mod Places
 pub mod InBounds
+pub mod Decoded

@@ -2,3 +2,5 @@ pub mod Content
 pub mod Gives
 pub mod Rounding
 pub mod Places
+pub mod BindingCode
+pub mod Bindings

@@ -3,7 +3,9 @@
 
 mod bounds;
 mod cause;
+mod env;
 mod equality;
+mod functions;
 mod items;
 mod joins;
 mod numbers;
@@ -11,3 +13,4 @@ mod operators;
 mod order;
 
 pub use cause::Cause;
+pub use env::Env;

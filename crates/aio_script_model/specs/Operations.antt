@@ -175,13 +175,18 @@ indexed (Bytes bytes) (Int index) = found (item_at (map byte_value bytes) index)
 indexed _ _ = Err bad_operand
 
 -- ---- functions
+-- the text that bytes are
+abbrev pub decoded : List ℕ → Answer
+decoded bytes = if is_utf8 bytes then bounded (Text bytes) else Err not_utf8
+
+-- The text of a value is UTF-8 wherever its own texts are.
 abbrev pub applied : Function → Value → Answer
 applied function.Len (Text bytes) = number (pos (length bytes))
 applied function.Len (Bytes bytes) = number (pos (length bytes))
 applied function.Len (Items items) = number (pos (length (list_of items)))
-applied function.Str value = bounded (Text (shown value))
+applied function.Str value = decoded (shown value)
 applied function.Bytes (Text bytes) = bounded (Bytes bytes)
-applied function.Text (Bytes bytes) = if is_utf8 bytes then bounded (Text bytes) else Err not_utf8
+applied function.Text (Bytes bytes) = decoded bytes
 applied function.Kind (Exception fault) = bounded (Text (kind_name (kind_of fault)))
 applied function.Message (Exception fault) = bounded (Text (text_of fault))
 applied function.Partial (Exception fault) = bounded (Bytes (bytes_of fault))
