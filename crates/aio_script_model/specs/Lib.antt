@@ -8,3 +8,15 @@ pub mod Pieces
 pub mod Straight
 pub mod Symbols
 pub mod Tokens
+pub mod Syntax
+pub mod Variables
+pub mod Operations
+pub mod Expressions
+pub mod ExprCode
+pub mod ExprSize
+pub mod Tape
+pub mod Requests
+pub mod Endings
+pub mod Says
+pub mod Blocks
+pub mod Asked
