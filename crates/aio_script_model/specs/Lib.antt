@@ -20,3 +20,16 @@ pub mod Endings
 pub mod Says
 pub mod Blocks
 pub mod Asked
+pub mod Words
+pub mod Known
+pub mod Terms
+pub mod Cutting
+pub mod Levels
+pub mod Forms
+pub mod Places
+pub mod TextLines
+pub mod FirstPass
+pub mod Naming
+pub mod SecondPass
+pub mod Bodies
+pub mod Scripts

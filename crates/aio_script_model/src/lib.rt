@@ -3,15 +3,18 @@
 //! as functions with no body.
 #![tactic(auto)]
 
+mod cause;
 mod examples;
 mod function;
 mod laws;
 mod literal;
 mod operator;
 mod request_name;
+mod reserved_word;
 mod symbol;
 pub mod tapes;
 
+pub use cause::Cause;
 pub use examples::tokens_computed;
 pub use function::Function;
 pub use laws::{
@@ -21,4 +24,5 @@ pub use laws::{
 pub use literal::Literal;
 pub use operator::{Comparison, Operator};
 pub use request_name::RequestName;
+pub use reserved_word::ReservedWord;
 pub use symbol::Symbol;
