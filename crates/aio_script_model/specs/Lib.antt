@@ -33,3 +33,4 @@ pub mod Naming
 pub mod SecondPass
 pub mod Bodies
 pub mod Scripts
+pub mod Canonical
