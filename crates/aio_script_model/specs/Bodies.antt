@@ -1,10 +1,9 @@
 -- Which statements lines spell: a line alone is a statement, and a block is its head, its bodies and its `end`.
 -- Source: the Python language reference, "Compound statements".
 use Rattle.std.specs.Prelude.{ℕ, zero, suc, ◌-◌, Bool, true, false, List, [], ◌∷◌, length, map, Option, Some, None, nat_eq, if◌then◌else◌}
-use Rattle.aio_value_model.specs.declared.kind.Kind.{Kind}
 use Rattle.aio_script_model.specs.Syntax as plain
 use Rattle.aio_script_model.specs.Syntax.{Name, Expr, exprs, Statement, Statements, no_statements, statement_then, Branch, no_branch, branch, Handlers, no_handlers, handler_then}
-use Rattle.aio_script_model.specs.Forms.{Form, Profile, Def, Assign, Yield, YieldFrom, Print, Raise, Return, Pass, If, Else, While, Try, Except, Finally, WithGroup, WithTimeout, End}
+use Rattle.aio_script_model.specs.Forms.{Assign, Yield, YieldFrom, Print, Raise, Return, Pass, If, While, Try, Except, Finally, WithGroup, WithTimeout}
 use Rattle.aio_script_model.specs.Places.{Role, Opens, Begins, Closes, Stands, role_of}
 use Rattle.aio_script_model.specs.SecondPass.{Line}
 
@@ -112,8 +111,10 @@ abbrev pub statements_within : ℕ → List Line → Statements
 statements_within zero lines = no_statements
 statements_within (suc count) [] = no_statements
 statements_within (suc count) (line ∷ lines) =
-    elim (is_head (role_of line)) [ true ↦ block_then (statements_within count) line (cut_from 0 lines)
-      | false ↦ then_statements (simple line) (statements_within count lines) ]
+    elim (is_head (role_of line)) [
+      | true ↦ block_then (statements_within count) line (cut_from 0 lines)
+      | false ↦ then_statements (simple line) (statements_within count lines)
+    ]
 
 -- The statements that lines spell, which fit together.
 unfoldable pub statements_in : List Line → Statements

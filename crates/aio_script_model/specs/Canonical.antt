@@ -1,7 +1,7 @@
 -- The canonical text of a program: no comments and no empty lines, two spaces for each open block, and an operand that is
 -- an operation in parentheses.
 -- Source: PEP 8, "Whitespace in Expressions and Statements", with two spaces for a block.
-use Rattle.std.specs.Prelude.{ℕ, zero, suc, pos, List, [], ◌∷◌, ◌++◌, Option, Some, None, codes, nat_eq, if◌then◌else◌}
+use Rattle.std.specs.Prelude.{ℕ, suc, List, [], ◌∷◌, ◌++◌, Option, Some, None, codes, nat_eq, if◌then◌else◌}
 use Rattle.std.specs.List.{repeat}
 use Rattle.std.specs.Fmt.{decimal, signed_decimal}
 use Rattle.aio_value_model.specs.Escapes.{text_literal, bytes_literal}

@@ -1,11 +1,11 @@
 -- Where a line is cut outside brackets: at operators, at commas.
 -- Source: the Python language reference, "Expressions": what stands in brackets is one operand.
-use Rattle.std.specs.Prelude.{ℕ, zero, suc, ◌-◌, Bool, true, false, List, [], ◌∷◌, Option, Some, None, map, option_map, ◌==◌, if◌then◌else◌}
+use Rattle.std.specs.Prelude.{ℕ, suc, ◌-◌, Bool, true, false, List, [], ◌∷◌, Option, Some, None, map, option_map, ◌==◌, if◌then◌else◌}
 use Rattle.aio_script_model.specs.declared.symbol.Symbol.{Symbol as AnySymbol}
 use Rattle.aio_script_model.specs.declared.symbol.Symbol.TheVariants as symbol
 use Rattle.aio_script_model.specs.declared.reserved_word.ReservedWord.{ReservedWord}
 use Rattle.aio_script_model.specs.declared.reserved_word.ReservedWord.TheVariants as word
-use Rattle.aio_script_model.specs.Words.{Lexeme, Reserved, Named, Number, Texts, Octets, Sign, is_sign}
+use Rattle.aio_script_model.specs.Words.{Lexeme, Reserved, Sign, is_sign}
 
 abbrev pub depth_behind_symbol : ℕ → AnySymbol → ℕ
 depth_behind_symbol depth symbol.LeftParenthesis = suc depth

@@ -1,13 +1,13 @@
 -- The first pass over a text: each line has a form, and stands where it may. The least faulty line counts, with one cause:
 -- its tokens before its form, its form before its nesting, its nesting before its profile.
 -- Source: the Python language reference, "Full grammar specification": a text that no rule fits is refused at a line.
-use Rattle.std.specs.Prelude.{ℕ, suc, ◌+◌, List, [], ◌∷◌, map, Option, Some, None, Result, Ok, Err}
+use Rattle.std.specs.Prelude.{ℕ, ◌+◌, List, [], ◌∷◌, Option, Some, None, Result, Ok, Err}
 use Rattle.aio_script_model.specs.declared.cause.Cause.{Cause}
 use Rattle.aio_script_model.specs.declared.cause.Cause.TheVariants as cause
 use Rattle.aio_script_model.specs.Faults.{TokenFault}
 use Rattle.aio_script_model.specs.Tokens.{Token, tokens_of}
 use Rattle.aio_script_model.specs.Words.{Lexeme, lexemes_of}
-use Rattle.aio_script_model.specs.Forms.{Form, Spelled, form_of}
+use Rattle.aio_script_model.specs.Forms.{Spelled, form_of}
 use Rattle.aio_script_model.specs.Places.{Role, OpenBlock, role_of, open_blocks, cause_behind}
 
 -- why a text is no script: a line, counted from 1, and a cause
@@ -57,9 +57,13 @@ form_before line form (Err fault) = Err fault
 unfoldable pub forms_from : ℕ → List Role → List (List ℕ) → Result (List (Numbered Spelled)) Fault
 forms_from number before [] = ended number (open_blocks before)
 forms_from number before (line ∷ lines) =
-    elim (line_behind before line) [ Err cause ↦ fault_at number cause
-      | Ok form ↦ elim form [ None ↦ forms_from (number + 1) before lines
-          | Some form ↦ form_before number form (forms_from (number + 1) (role_of form ∷ before) lines) ] ]
+    elim (line_behind before line) [
+      | Err cause ↦ fault_at number cause
+      | Ok form ↦ elim form [
+        | None ↦ forms_from (number + 1) before lines
+        | Some form ↦ form_before number form (forms_from (number + 1) (role_of form ∷ before) lines)
+      ]
+    ]
 
 abbrev pub first_pass : List (List ℕ) → Result (List (Numbered Spelled)) Fault
 first_pass lines = forms_from 1 [] lines

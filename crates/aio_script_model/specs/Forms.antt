@@ -1,7 +1,7 @@
 -- The forms of lines, and which tokens spell which form.
 -- Source: the Python language reference, "Simple statements" and "Compound statements", cut to what scripts have; blocks end
 -- by `end`.
-use Rattle.std.specs.Prelude.{ℕ, ℤ, nat_abs, List, [], ◌∷◌, Option, Some, None, option_map, option_and_then, if◌then◌else◌, map}
+use Rattle.std.specs.Prelude.{ℕ, nat_abs, List, [], ◌∷◌, Option, Some, None, option_map, option_and_then, if◌then◌else◌}
 use Rattle.std.specs.Str.{bytes_eq}
 use Rattle.aio_script_model.specs.declared.symbol.Symbol.TheVariants as symbol
 use Rattle.aio_script_model.specs.declared.reserved_word.ReservedWord.{ReservedWord}

@@ -1,7 +1,7 @@
 -- The names that the language itself gives to functions, requests and kinds, with the number of arguments of each.
 -- Source: the library reference, "Built-in Functions", "Coroutines and Tasks", "Streams" and "Built-in Exceptions", cut to
 -- what scripts have.
-use Rattle.std.specs.Prelude.{ℕ, Bool, true, false, ◌||◌, List, [], ◌∷◌, Option, Some, None, find, codes, is_some}
+use Rattle.std.specs.Prelude.{ℕ, Bool, true, false, ◌||◌, List, [], ◌∷◌, Option, find, codes, is_some}
 use Rattle.std.specs.List.{list_any}
 use Rattle.std.specs.Str.{bytes_eq}
 use Rattle.aio_value_model.specs.declared.kind.Kind.{Kind}

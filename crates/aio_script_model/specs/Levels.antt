@@ -1,7 +1,7 @@
 -- Which tokens spell which expression, level by level from the loosest: at each level the tokens are cut at its operators
 -- outside brackets, and what stands between them is of the next level. Equal levels group from the left.
 -- Source: the Python language reference, "Operator precedence".
-use Rattle.std.specs.Prelude.{ℕ, zero, suc, Bool, true, false, ◌&&◌, List, [], ◌∷◌, Option, Some, None, length, take, drop, option_map, option_and_then, if◌then◌else◌, nat_eq}
+use Rattle.std.specs.Prelude.{ℕ, zero, suc, Bool, true, false, List, [], ◌∷◌, Option, Some, None, length, take, drop, option_map, option_and_then, if◌then◌else◌}
 use Rattle.std.specs.Str.{bytes_eq}
 use Rattle.aio_script_model.specs.declared.symbol.Symbol.{Symbol as AnySymbol}
 use Rattle.aio_script_model.specs.declared.symbol.Symbol.TheVariants as symbol
@@ -11,11 +11,11 @@ use Rattle.aio_script_model.specs.declared.operator.Operator.{Operator}
 use Rattle.aio_script_model.specs.declared.operator.Operator.TheVariants as operator
 use Rattle.aio_script_model.specs.declared.operator.Comparison.{Comparison}
 use Rattle.aio_script_model.specs.declared.operator.Comparison.TheVariants as comparison
-use Rattle.aio_script_model.specs.Syntax.{Name, Constant, NoneConstant, TruthConstant, IntConstant, TextConstant, BytesConstant}
+use Rattle.aio_script_model.specs.Syntax.{Name, NoneConstant, TruthConstant, IntConstant, TextConstant, BytesConstant}
 use Rattle.aio_script_model.specs.Words.{Lexeme, Reserved, Named, Number, Texts, Octets, Sign, is_sign}
 use Rattle.aio_script_model.specs.Known.{error_text}
-use Rattle.aio_script_model.specs.Terms.{Term, Or, And, Not, Compare, Calculate, Negate, Index, Constantly, Variable, ListOf, Called, Terms, no_terms, terms}
-use Rattle.aio_script_model.specs.Cutting.{Cutter, Pieces, pieces, parts, before_last}
+use Rattle.aio_script_model.specs.Terms.{Term, Or, And, Not, Compare, Calculate, Negate, Index, Constantly, Variable, ListOf, Called, terms}
+use Rattle.aio_script_model.specs.Cutting.{Cutter, pieces, parts, before_last}
 
 abbrev pub Reading : Type 0 → Type 0
 Reading A = List Lexeme → Option A

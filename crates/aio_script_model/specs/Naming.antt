@@ -1,7 +1,7 @@
 -- What the names of an expression and of a `yield from` mean in their coroutine: with the meaning, or the least cause why
 -- there is none. A name without a meaning comes before a wrong number of arguments.
 -- Source: the Python language reference, "Naming and binding", "Calls"; a script is refused where Python raises at the call.
-use Rattle.std.specs.Prelude.{ℕ, Bool, ◌&&◌, not, List, [], ◌∷◌, length, map, Option, Some, None, Result, Ok, Err, find, nat_eq, if◌then◌else◌, option_map}
+use Rattle.std.specs.Prelude.{ℕ, Bool, ◌&&◌, not, List, [], ◌∷◌, length, Option, Some, None, Result, Ok, Err, find, nat_eq, if◌then◌else◌}
 use Rattle.std.specs.List.{list_any}
 use Rattle.std.specs.Str.{bytes_eq}
 use Rattle.aio_value_model.specs.declared.kind.Kind.{Kind}
@@ -13,7 +13,6 @@ use Rattle.aio_script_model.specs.Syntax as plain
 use Rattle.aio_script_model.specs.Syntax.{Name, Expr, Exprs, exprs, Target}
 use Rattle.aio_script_model.specs.Known.{function_of, error_text, request_of, request_arity, spawn_text, create_text, listen_text, kind_of_name, is_made_by_error, is_taken}
 use Rattle.aio_script_model.specs.Terms.{Term, Or, And, Not, Compare, Calculate, Negate, Index, Constantly, Variable, ListOf, Called, Terms, no_terms, term_then}
-use Rattle.aio_script_model.specs.Levels.{Arguments}
 use Rattle.aio_script_model.specs.Forms.{Goal, Awaited, Asked}
 
 -- a coroutine of the script, by what a call must know of it

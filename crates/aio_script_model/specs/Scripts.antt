@@ -1,10 +1,9 @@
 -- The script of a text, or its first fault.
 -- Source: the Python language reference, "Top-level components".
-use Rattle.std.specs.Prelude.{ℕ, ◌+◌, List, [], ◌∷◌, length, map, Option, Some, None, Result, Ok, Err, nat_le, if◌then◌else◌}
-use Rattle.aio_script_model.specs.declared.cause.Cause.{Cause}
+use Rattle.std.specs.Prelude.{ℕ, ◌+◌, List, [], ◌∷◌, length, map, Option, Some, None, Ok, Err, nat_le, if◌then◌else◌}
 use Rattle.aio_script_model.specs.declared.cause.Cause.TheVariants as cause
 use Rattle.aio_script_model.specs.Syntax.{Coroutine, Program}
-use Rattle.aio_script_model.specs.Forms.{Form, Profile, Spelled}
+use Rattle.aio_script_model.specs.Forms.{Profile, Spelled}
 use Rattle.aio_script_model.specs.TextLines.{text_lines}
 use Rattle.aio_script_model.specs.FirstPass.{Fault, fault_at, Numbered, first_pass}
 use Rattle.aio_script_model.specs.SecondPass.{Line, Part, Parts, parts_of, Judged, second_pass}

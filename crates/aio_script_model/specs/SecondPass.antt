@@ -1,16 +1,15 @@
 -- The second pass over lines that have their forms: what their names mean. The least faulty line counts, and in one line
 -- the least cause; that there is no `main` without parameters is told behind all lines.
 -- Source: the Python language reference, "Naming and binding", "Function definitions".
-use Rattle.std.specs.Prelude.{ℕ, suc, ◌+◌, Bool, true, false, ◌&&◌, ◌||◌, not, List, [], ◌∷◌, ◌++◌, length, map, flat_map, option_to_list, Option, Some, None, Result, Ok, Err, codes, find, nat_eq, nat_le, option_map, if◌then◌else◌}
+use Rattle.std.specs.Prelude.{ℕ, Bool, true, false, ◌&&◌, not, List, [], ◌∷◌, ◌++◌, length, map, flat_map, option_to_list, Option, Some, None, Result, Ok, Err, codes, find, nat_eq, nat_le, if◌then◌else◌}
 use Rattle.std.specs.List.{list_any}
 use Rattle.std.specs.Str.{bytes_eq}
 use Rattle.aio_value_model.specs.declared.kind.Kind.{Kind}
-use Rattle.aio_script_model.specs.declared.cause.Cause.{Cause}
 use Rattle.aio_script_model.specs.declared.cause.Cause.TheVariants as cause
 use Rattle.aio_script_model.specs.Syntax.{Name, Expr, Target}
 use Rattle.aio_script_model.specs.Known.{kind_of_name, is_taken}
 use Rattle.aio_script_model.specs.Terms.{Term}
-use Rattle.aio_script_model.specs.Forms.{Form, Profile, Def, Assign, Yield, YieldFrom, Print, Raise, Return, Pass, If, Else, While, Try, Except, Finally, WithGroup, WithTimeout, End, Goal, Spelled}
+use Rattle.aio_script_model.specs.Forms.{Form, Profile, Def, Assign, Yield, YieldFrom, Print, Raise, Return, Pass, If, Else, While, Try, Except, Finally, WithGroup, WithTimeout, End, Spelled}
 use Rattle.aio_script_model.specs.FirstPass.{Fault, fault_at, Numbered}
 use Rattle.aio_script_model.specs.Naming.{Callee, Scope, Meant, both, meant_map, if_known, if_arity, meaning_of, all_meant, target_of}
 

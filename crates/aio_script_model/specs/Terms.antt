@@ -1,6 +1,6 @@
 -- What tokens spell before any name is looked up: an expression in which calls have any name and any number of arguments.
 -- Source: the Python language reference, "Expressions".
-use Rattle.std.specs.Prelude.{ℕ, zero, suc, max, List, [], ◌∷◌, Option}
+use Rattle.std.specs.Prelude.{ℕ, suc, max, List, [], ◌∷◌, Option}
 use Rattle.aio_script_model.specs.declared.operator.Operator.{Operator}
 use Rattle.aio_script_model.specs.declared.operator.Comparison.{Comparison}
 use Rattle.aio_script_model.specs.Syntax.{Name, Constant}

@@ -2,7 +2,7 @@
 use Rattle.std.specs.Prelude.{ℕ, List, [], ◌∷◌, ◌++◌, codes, map}
 use Rattle.std.specs.List.{repeat}
 use Prim.Native.String.{String}
-use Rattle.aio_script_model.specs.declared.cause.Cause.TheVariants.{Token, Form, Nesting, Name, Arity, TooLong, NoMain, Profile}
+use Rattle.aio_script_model.specs.declared.cause.Cause.TheVariants.{Token, Form, Nesting, Name, Arity, NoMain, Profile}
 use Rattle.aio_script_rows.specs.Rows.{text, Row, refused, accepted, at, in_main}
 
 abbrev pub stored : List Row

@@ -73,4 +73,3 @@ pub fn canonical_texts()
 pub fn texts_read_again()
     ensures { map first_read whole ≡ map read_again whole }
 {}
-
