@@ -12,3 +12,4 @@ pub mod Loops
 pub mod Sound
 pub mod Bodies
 pub mod Ends
+pub mod BodyLemmas

@@ -1,6 +1,6 @@
 -- Which statements lines spell: a line alone is a statement, and a block is its head, its bodies and its `end`.
 -- Source: the Python language reference, "Compound statements".
-use Rattle.std.specs.Prelude.{ℕ, zero, suc, ◌-◌, Bool, true, false, List, [], ◌∷◌, length, map, Option, Some, None, nat_eq, if◌then◌else◌}
+use Rattle.std.specs.Prelude.{ℕ, zero, suc, pred, List, [], ◌∷◌, length, map, Option, Some, None}
 use Rattle.aio_script_model.specs.Syntax as plain
 use Rattle.aio_script_model.specs.Syntax.{Name, Expr, exprs, Statement, Statements, no_statements, statement_then, Branch, no_branch, branch, Handlers, no_handlers, handler_then}
 use Rattle.aio_script_model.specs.Forms.{Assign, Yield, YieldFrom, Print, Raise, Return, Pass, If, While, Try, Except, Finally, WithGroup, WithTimeout}
@@ -29,22 +29,23 @@ with_section line cut =
 abbrev pub depth_behind : ℕ → Role → ℕ
 depth_behind depth (Opens block) = suc depth
 depth_behind depth (Begins section) = depth
-depth_behind depth Closes = depth - 1
+depth_behind depth Closes = pred depth
 depth_behind depth Stands = depth
 
--- the cut at a line, by the cut behind it and what stands behind it
-abbrev pub cut_at : Role → Bool → Line → List Line → Cut → Cut
-cut_at (Begins section) is_own line lines cut = if is_own then with_section line cut else with_line line cut
-cut_at Closes is_own line lines cut =
-    if is_own then record { body = []; sections = []; behind = lines } else with_line line cut
-cut_at _ is_own line lines cut = with_line line cut
+-- The cut at a line, by what stands behind it. Lines of inner blocks are lines of the body.
+abbrev pub cut_at : Role → ℕ → Line → List Line → Cut → Cut
+cut_at (Opens block) depth line lines cut = with_line line cut
+cut_at Stands depth line lines cut = with_line line cut
+cut_at (Begins section) zero line lines cut = with_section line cut
+cut_at (Begins section) (suc depth) line lines cut = with_line line cut
+cut_at Closes zero line lines cut = record { body = []; sections = []; behind = lines }
+cut_at Closes (suc depth) line lines cut = with_line line cut
 
 -- lines inside a block before which so many of its inner blocks are open
 abbrev pub cut_from : ℕ → List Line → Cut
 cut_from depth [] = record { body = []; sections = []; behind = [] }
 cut_from depth (line ∷ lines) =
-    let cut = cut_from (depth_behind depth (role_of line)) lines in
-    cut_at (role_of line) (nat_eq depth 0) line lines cut
+    cut_at (role_of line) depth line lines (cut_from (depth_behind depth (role_of line)) lines)
 
 -- ---- statements
 -- a line that is a statement by itself
@@ -97,25 +98,30 @@ abbrev pub then_statements : Option Statement → Statements → Statements
 then_statements None others = others
 then_statements (Some statement) others = statement_then statement others
 
-abbrev pub is_head : Role → Bool
-is_head (Opens block) = true
-is_head _ = false
+-- sections with what their lines spell
+abbrev pub bodies : (List Line → Statements) → List Section → List Body
+bodies spelled sections = map (λ section. record { head = section.head; body = spelled section.lines }) sections
 
 -- what a head, its bodies and its `end` spell, with what the lines behind spell
 abbrev pub block_then : (List Line → Statements) → Line → Cut → Statements
 block_then spelled line cut =
-    then_statements (block line (spelled cut.body) (map (λ section. record { head = section.head; body = spelled section.lines }) cut.sections)) (spelled cut.behind)
+    then_statements (block line (spelled cut.body) (bodies spelled cut.sections)) (spelled cut.behind)
+
+-- a line by itself, or a head with its block, and what stands behind
+abbrev pub first_then : Role → (List Line → Statements) → Line → List Line → Statements
+first_then (Opens block) spelled line lines = block_then spelled line (cut_from 0 lines)
+first_then _ spelled line lines = then_statements (simple line) (spelled lines)
 
 -- the statements of at most so many lines
 abbrev pub statements_within : ℕ → List Line → Statements
 statements_within zero lines = no_statements
 statements_within (suc count) [] = no_statements
-statements_within (suc count) (line ∷ lines) =
-    elim (is_head (role_of line)) [
-      | true ↦ block_then (statements_within count) line (cut_from 0 lines)
-      | false ↦ then_statements (simple line) (statements_within count lines)
-    ]
+statements_within (suc count) (line ∷ lines) = first_then (role_of line) (statements_within count) line lines
 
 -- The statements that lines spell, which fit together.
 unfoldable pub statements_in : List Line → Statements
 statements_in lines = statements_within (length lines) lines
+
+-- what the lines behind the head of a coroutine spell: those before its `end`
+abbrev pub body_in : List Line → Statements
+body_in lines = statements_in (cut_from 0 lines).body

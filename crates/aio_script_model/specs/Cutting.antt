@@ -1,6 +1,6 @@
 -- Where a line is cut outside brackets: at operators, at commas.
 -- Source: the Python language reference, "Expressions": what stands in brackets is one operand.
-use Rattle.std.specs.Prelude.{ℕ, suc, ◌-◌, Bool, true, false, List, [], ◌∷◌, Option, Some, None, map, option_map, ◌==◌, if◌then◌else◌}
+use Rattle.std.specs.Prelude.{ℕ, zero, suc, pred, Bool, true, false, List, [], ◌∷◌, Option, Some, None, map, option_map, if◌then◌else◌}
 use Rattle.aio_script_model.specs.declared.symbol.Symbol.{Symbol as AnySymbol}
 use Rattle.aio_script_model.specs.declared.symbol.Symbol.TheVariants as symbol
 use Rattle.aio_script_model.specs.declared.reserved_word.ReservedWord.{ReservedWord}
@@ -10,8 +10,8 @@ use Rattle.aio_script_model.specs.Words.{Lexeme, Reserved, Sign, is_sign}
 abbrev pub depth_behind_symbol : ℕ → AnySymbol → ℕ
 depth_behind_symbol depth symbol.LeftParenthesis = suc depth
 depth_behind_symbol depth symbol.LeftBracket = suc depth
-depth_behind_symbol depth symbol.RightParenthesis = depth - 1
-depth_behind_symbol depth symbol.RightBracket = depth - 1
+depth_behind_symbol depth symbol.RightParenthesis = pred depth
+depth_behind_symbol depth symbol.RightBracket = pred depth
 depth_behind_symbol depth _ = depth
 
 -- how many brackets are open behind the lexeme
@@ -49,11 +49,16 @@ abbrev pub with_front : {A : Type 0} → Option A → Lexeme → Pieces A → Pi
 with_front (Some cut) lexeme pieces = record { first = []; others = (cut, pieces.first) ∷ pieces.others }
 with_front None lexeme pieces = record { first = lexeme ∷ pieces.first; others = pieces.others }
 
+-- inside brackets nothing is cut
+abbrev pub cut_outside : {A : Type 0} → ℕ → Cutter A → Bool → Lexeme → Option A
+cut_outside zero cutter behind lexeme = cutter behind lexeme
+cut_outside (suc depth) cutter behind lexeme = None
+
 -- lexemes before which so many brackets are open
 abbrev pub pieces_from : {A : Type 0} → Cutter A → ℕ → Bool → List Lexeme → Pieces A
 pieces_from cutter depth behind [] = record { first = []; others = [] }
 pieces_from cutter depth behind (lexeme ∷ lexemes) =
-    with_front (if depth == 0 then cutter behind lexeme else None) lexeme (pieces_from cutter (depth_behind depth lexeme) (ends_operand lexeme) lexemes)
+    with_front (cut_outside depth cutter behind lexeme) lexeme (pieces_from cutter (depth_behind depth lexeme) (ends_operand lexeme) lexemes)
 
 abbrev pub pieces : {A : Type 0} → Cutter A → List Lexeme → Pieces A
 pieces cutter lexemes = pieces_from cutter 0 false lexemes

@@ -34,3 +34,4 @@ pub mod SecondPass
 pub mod Bodies
 pub mod Scripts
 pub mod Canonical
+pub mod Spells

@@ -7,7 +7,7 @@ use Rattle.aio_script_model.specs.Forms.{Profile, Spelled}
 use Rattle.aio_script_model.specs.TextLines.{text_lines}
 use Rattle.aio_script_model.specs.FirstPass.{Fault, fault_at, Numbered, first_pass}
 use Rattle.aio_script_model.specs.SecondPass.{Line, Part, Parts, parts_of, Judged, second_pass}
-use Rattle.aio_script_model.specs.Bodies.{statements_in}
+use Rattle.aio_script_model.specs.Bodies.{body_in}
 
 -- the longest text, in bytes
 abbrev pub most_bytes : ℕ
@@ -23,7 +23,7 @@ profile_in [] = 1
 profile_in (line ∷ lines) = profile_of line.form (profile_in lines)
 
 abbrev pub coroutine : Part Line → Coroutine
-coroutine part = record { name = part.name; parameters = part.parameters; body = statements_in part.lines }
+coroutine part = record { name = part.name; parameters = part.parameters; body = body_in part.lines }
 
 abbrev pub program : ℕ → List (Part Line) → Program
 program profile parts = record { profile = profile; coroutines = map coroutine parts }

@@ -13,6 +13,7 @@ mod request_name;
 mod reserved_word;
 mod symbol;
 pub mod tapes;
+pub mod texts;
 
 pub use cause::Cause;
 pub use examples::tokens_computed;
