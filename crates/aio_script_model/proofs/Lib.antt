@@ -8,3 +8,8 @@ pub mod LineLemmas
 pub mod SpanLemmas
 pub mod FaultLemmas
 pub mod RangeLemmas
+pub mod Loops
+pub mod Sound
+pub mod Bodies
+pub mod Ends
+pub mod BodyLemmas

@@ -1,6 +1,6 @@
 -- Straight programs: a coroutine `main` alone, whose lines run one after another.
 -- Source: the language reference, "Function definitions"; what a coroutine says after its inputs: PEP 380.
-use Rattle.std.specs.Prelude.{ℕ, ◌-◌, ◌==◌, Bool, ◌&&◌, not, List, [], ◌∷◌, Option, Some, None, codes, drop, take, length, nat_eq, nat_lt, nat_le, slice_index, option_and_then, if◌then◌else◌}
+use Rattle.std.specs.Prelude.{ℕ, ◌-◌, ◌==◌, Bool, ◌&&◌, not, List, [], ◌∷◌, Option, Some, None, codes, drop, take, length, nat_eq, nat_lt, nat_le, slice_index, if◌then◌else◌}
 use Rattle.std.specs.List.{starts_with, list_all}
 use Rattle.std.specs.Str.{bytes_eq}
 use Rattle.std.specs.Option.{option_map}

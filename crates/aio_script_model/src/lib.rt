@@ -1,16 +1,29 @@
-//! What a script's text says: the tokens of a line. Definitions that other crates cite, the enumerations that
-//! definitions and code share, and laws about the definitions as functions with no body.
+//! What a script is: the tokens of a line, which texts spell a script, and what its coroutines say after their inputs.
+//! Definitions that other crates cite, the enumerations that definitions and code share, and laws about the definitions
+//! as functions with no body.
 #![tactic(auto)]
 
+mod cause;
 mod examples;
+mod function;
 mod laws;
 mod literal;
+mod operator;
+mod request_name;
+mod reserved_word;
 mod symbol;
+pub mod tapes;
+pub mod texts;
 
+pub use cause::Cause;
 pub use examples::tokens_computed;
+pub use function::Function;
 pub use laws::{
     a_line_has_one_cut, accepted_lines_are_tokens, refusals_are_first_faults,
     spans_give_the_line_back, values_are_in_range,
 };
 pub use literal::Literal;
+pub use operator::{Comparison, Operator};
+pub use request_name::RequestName;
+pub use reserved_word::ReservedWord;
 pub use symbol::Symbol;

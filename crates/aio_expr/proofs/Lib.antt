@@ -1,0 +1,5 @@
+pub mod Same
+pub mod Floors
+pub mod Places
+pub mod InBounds
+pub mod Decoded

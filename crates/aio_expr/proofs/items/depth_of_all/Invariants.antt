@@ -1,0 +1,7 @@
+use Rattle.std.proofs.Common.{◌≡◌, ◌-◌, ◌^◌, min, take}
+use Rattle.aio_value_model.specs.Value.{values}
+use Rattle.aio_value_model.specs.Depth.{items_depth}
+use Rattle.aio_expr.proofs.items.depth_of_all.Given as goal
+
+abbrev pub invariant-loop-item : goal.invariant-loop-item
+invariant-loop-item l = l.deepest ≡ min (items_depth (values (take l.item-index l.items))) (2 ^ 64 - 1)

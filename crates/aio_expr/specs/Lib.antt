@@ -1,0 +1,6 @@
+pub mod Content
+pub mod Gives
+pub mod Rounding
+pub mod Places
+pub mod BindingCode
+pub mod Bindings

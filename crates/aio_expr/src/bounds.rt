@@ -1,0 +1,23 @@
+//! The bounds of computed values.
+ghost use Rattle.std.specs.Prelude.{◌≡◌};
+ghost use Rattle.aio_script_model.specs.Operations.{bounded};
+ghost use Rattle.aio_expr.specs.Gives.{Gives};
+
+use crate::cause::Cause;
+use aio_base::{Value, depth, weight};
+
+/// The greatest weight of a computed value.
+pub const HEAVIEST: u64 = 1_048_576;
+
+/// The greatest depth of a computed value.
+pub const DEEPEST: u64 = 64;
+
+/// The value, unless it is too heavy or too deep.
+pub fn bounded(value: Value) -> Result<Value, Cause>
+    ensures { Gives (bounded value) result }
+{
+    if weight(&value) > HEAVIEST || depth(&value) > DEEPEST {
+        return Err(Cause::OutOfRange);
+    }
+    Ok(value)
+}

@@ -1,0 +1,94 @@
+//! The functions that expressions call.
+ghost use Rattle.std.specs.Prelude.{◌≡◌, map, pos};
+ghost use Rattle.aio_value_model.specs.Value.{Text, Bytes, Items, Exception, values, members_of};
+ghost use Rattle.aio_value_model.specs.Shown.{shown};
+ghost use Rattle.aio_script_model.specs.Operations.{applied, bounded, decoded, error_made, number};
+ghost use Rattle.aio_expr.specs.Gives.{Gives};
+
+use crate::bounds::bounded;
+use crate::cause::Cause;
+use crate::items::list_of;
+use aio_base::{Exc, Kind, Value, ValueCase, exception, name_of, show};
+use aio_syntax::Function;
+use std::alloc::Global;
+use std::rc::{RcSlice, RcStr};
+use std::str;
+
+/// What a function gives for its argument.
+#[tactic(auto, using(aio_value_model::proofs::Rows::rows))]
+pub fn applied(alloc: Global, function: Function, argument: &Value) -> Result<Value, Cause>
+    ensures { Gives (applied function argument.now) result }
+{
+    match (function, argument.case()) {
+        (Function::Len, ValueCase::Text(text)) => number_of(text.len()),
+        (Function::Len, ValueCase::Bytes(bytes)) => number_of(bytes.len()),
+        (Function::Len, ValueCase::List(list)) => number_of(list.as_ref().items().len()),
+        (Function::Str, _) => shown(alloc, argument),
+        (Function::Bytes, ValueCase::Text(text)) => bytes_value(alloc, text.as_str().as_bytes()),
+        (Function::Text, ValueCase::Bytes(bytes)) => decoded(alloc, bytes.as_slice()),
+        (Function::Kind, ValueCase::Exc(exc)) => text_value(alloc, name_of(exc.kind())),
+        (Function::Message, ValueCase::Exc(exc)) => text_value(alloc, exc.text()),
+        (Function::Partial, ValueCase::Exc(exc)) => bytes_value(alloc, exc.bytes()),
+        (Function::Members, ValueCase::Exc(exc)) => members_of(alloc, exc),
+        _ => Err(Cause::BadOperand),
+    }
+}
+
+fn number_of(len: usize) -> Result<Value, Cause>
+    ensures { Gives (number (pos len)) result }
+{
+    match i64::try_from(len) {
+        Ok(number) => Ok(Value::int(number)),
+        Err(_) => Err(Cause::OutOfRange),
+    }
+}
+
+fn text_value(alloc: Global, text: &str) -> Result<Value, Cause>
+    ensures { Gives (bounded (Text text.now)) result }
+{
+    bounded(Value::text(RcStr::from_str(alloc, text)?))
+}
+
+fn bytes_value(alloc: Global, bytes: &[u8]) -> Result<Value, Cause>
+    ensures { Gives (bounded (Bytes bytes.now)) result }
+{
+    bounded(Value::bytes(RcSlice::from_slice(alloc, bytes)?))
+}
+
+/// The text that bytes are.
+fn decoded(alloc: Global, bytes: &[u8]) -> Result<Value, Cause>
+    ensures { Gives (decoded bytes.now) result }
+{
+    match str::from_utf8(bytes) {
+        Ok(text) => text_value(alloc, text),
+        Err(_) => Err(Cause::NotUtf8),
+    }
+}
+
+fn shown(alloc: Global, value: &Value) -> Result<Value, Cause>
+    ensures { Gives (decoded (shown value.now)) result }
+{
+    let mut text = Vec::new(alloc);
+    show(alloc, value, &mut text)?;
+    decoded(alloc, text.as_slice())
+}
+
+fn members_of(alloc: Global, exc: &Exc) -> Result<Value, Cause>
+    ensures { Gives (bounded (Items (values (map Exception (members_of exc.now))))) result }
+{
+    let mut members = Vec::new(alloc);
+    for member in exc.members() {
+        members.push(Value::exc(member.clone()?))?;
+    }
+    list_of(alloc, members)
+}
+
+/// `error(KIND, t)`.
+pub fn error_made(alloc: Global, kind: Kind, message: &Value) -> Result<Value, Cause>
+    ensures { Gives (error_made kind message.now) result }
+{
+    match message.case() {
+        ValueCase::Text(text) => bounded(Value::exc(exception(alloc, kind, text.as_str())?)),
+        _ => Err(Cause::BadOperand),
+    }
+}

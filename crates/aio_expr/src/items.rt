@@ -1,0 +1,110 @@
+//! Lists, and the items of lists and of bytes.
+ghost use Rattle.std.specs.Prelude.{◌≡◌, ◌-◌, ◌^◌, ◌++◌, min, map, OnOk};
+ghost use Rattle.aio_value_model.specs.Value.{Items, values};
+ghost use Rattle.aio_value_model.specs.Weight.{items_weight};
+ghost use Rattle.aio_value_model.specs.Depth.{items_depth};
+ghost use Rattle.aio_script_model.specs.Operations.{bounded, indexed, found, item_at, byte_value};
+ghost use Rattle.aio_expr.specs.Places.{place_of};
+ghost use Rattle.aio_expr.specs.Gives.{Gives};
+
+use crate::bounds::{DEEPEST, HEAVIEST, bounded};
+use crate::cause::Cause;
+use aio_base::{Value, ValueCase, ValueList, depth, weight};
+use std::alloc::{AllocError, Global};
+use std::rc::Rc;
+
+/// A list of these values.
+pub fn list_of(alloc: Global, items: Vec<Value>) -> Result<Value, Cause>
+    ensures { Gives (bounded (Items (values items.items))) result }
+{
+    bounded(Value::list(Rc::new(alloc, ValueList::of(items))?))
+}
+
+/// The items of both lists in order. They are weighed before the list is made.
+pub fn joined_lists(alloc: Global, front: &[Value], back: &[Value]) -> Result<Value, Cause>
+    ensures { Gives (bounded (Items (values (front.now ++ back.now)))) result }
+{
+    if weight_of_all(front).saturating_add(weight_of_all(back)) >= HEAVIEST {
+        return Err(Cause::OutOfRange);
+    }
+    if depth_of_all(front).max(depth_of_all(back)) >= DEEPEST {
+        return Err(Cause::OutOfRange);
+    }
+    let mut items = Vec::new(alloc);
+    push_copies(&mut items, front)?;
+    push_copies(&mut items, back)?;
+    Ok(Value::list(Rc::new(alloc, ValueList::of(items))?))
+}
+
+fn push_copies(items: &mut Vec<Value>, from: &[Value]) -> Result<(), AllocError>
+    ensures { OnOk result (items.new.items ≡ items.old.items ++ from.now) }
+{
+    for item in from {
+        items.push(item.clone()?)?;
+    }
+    Ok(())
+}
+
+/// The weight of all items, or 18,446,744,073,709,551,615 where it is more.
+fn weight_of_all(items: &[Value]) -> u64
+    ensures { result ≡ min (items_weight (values items.now)) (2 ^ 64 - 1) }
+{
+    let mut total = 0u64;
+    for item in items {
+        total = total.saturating_add(weight(item));
+    }
+    total
+}
+
+/// The depth of the deepest item, or 18,446,744,073,709,551,615 where it is more.
+fn depth_of_all(items: &[Value]) -> u64
+    ensures { result ≡ min (items_depth (values items.now)) (2 ^ 64 - 1) }
+{
+    let mut deepest = 0u64;
+    for item in items {
+        deepest = deepest.max(depth(item));
+    }
+    deepest
+}
+
+/// `x[i]`.
+#[tactic(auto, using(aio_value_model::proofs::Rows::rows))]
+pub fn indexed(sequence: &Value, index: &Value) -> Result<Value, Cause>
+    ensures { Gives (indexed sequence.now index.now) result }
+{
+    match (sequence.case(), index.case()) {
+        (ValueCase::List(list), ValueCase::Int(index)) => item_at(list.as_ref().items(), index),
+        (ValueCase::Bytes(bytes), ValueCase::Int(index)) => byte_at(bytes.as_slice(), index),
+        _ => Err(Cause::BadOperand),
+    }
+}
+
+fn item_at(items: &[Value], index: i64) -> Result<Value, Cause>
+    ensures { Gives (found (item_at items.now index)) result }
+{
+    match place_of(items.len(), index) {
+        Some(place) => bounded(items[place].clone()?),
+        None => Err(Cause::IndexOutOfRange),
+    }
+}
+
+fn byte_at(bytes: &[u8], index: i64) -> Result<Value, Cause>
+    ensures { Gives (found (item_at (map byte_value bytes.now) index)) result }
+{
+    match place_of(bytes.len(), index) {
+        Some(place) => Ok(Value::int(i64::from(bytes[place]))),
+        None => Err(Cause::IndexOutOfRange),
+    }
+}
+
+/// The place of an index in a sequence of this length. A negative index counts from the end.
+fn place_of(len: usize, index: i64) -> Option<usize>
+    ensures { result ≡ place_of len index }
+{
+    if index >= 0 {
+        let place = index as usize;
+        if place < len { Some(place) } else { None }
+    } else {
+        len.checked_sub(index.unsigned_abs() as usize)
+    }
+}

@@ -1,0 +1,16 @@
+//! The values of expressions.
+#![tactic(auto)]
+
+mod bounds;
+mod cause;
+mod env;
+mod equality;
+mod functions;
+mod items;
+mod joins;
+mod numbers;
+mod operators;
+mod order;
+
+pub use cause::Cause;
+pub use env::Env;

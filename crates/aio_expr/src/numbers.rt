@@ -1,0 +1,85 @@
+//! Arithmetic of numbers.
+ghost use Rattle.std.specs.Prelude.{◌≡◌, ◌+ℤ◌, ◌-ℤ◌, ◌*ℤ◌, neg_ℤ, pos, ◌≢◌};
+ghost use Rattle.aio_script_model.specs.Operations.{number, divided, floor_quotient, floor_remainder};
+ghost use Rattle.std.specs.Int.{NotMinOverMinusOne, w64};
+ghost use Rattle.aio_expr.specs.Gives.{Gives};
+ghost use Rattle.aio_expr.specs.Rounding.{rounds_up};
+
+use crate::cause::Cause;
+use aio_base::Value;
+
+pub fn sum(a: i64, b: i64) -> Result<Value, Cause>
+    ensures { Gives (number (a +ℤ b)) result }
+{
+    match a.checked_add(b) {
+        Some(sum) => Ok(Value::int(sum)),
+        None => Err(Cause::OutOfRange),
+    }
+}
+
+pub fn difference(a: i64, b: i64) -> Result<Value, Cause>
+    ensures { Gives (number (a -ℤ b)) result }
+{
+    match a.checked_sub(b) {
+        Some(difference) => Ok(Value::int(difference)),
+        None => Err(Cause::OutOfRange),
+    }
+}
+
+pub fn product(a: i64, b: i64) -> Result<Value, Cause>
+    ensures { Gives (number (a *ℤ b)) result }
+{
+    match a.checked_mul(b) {
+        Some(product) => Ok(Value::int(product)),
+        None => Err(Cause::OutOfRange),
+    }
+}
+
+pub fn negative(a: i64) -> Result<Value, Cause>
+    ensures { Gives (number (neg_ℤ a)) result }
+{
+    match a.checked_neg() {
+        Some(negative) => Ok(Value::int(negative)),
+        None => Err(Cause::OutOfRange),
+    }
+}
+
+/// The quotient, rounded down.
+pub fn quotient(a: i64, b: i64) -> Result<Value, Cause>
+    ensures { Gives (divided floor_quotient a b) result }
+{
+    if b == 0 {
+        return Err(Cause::DivisionByZero);
+    }
+    match a.checked_div(b) {
+        Some(toward_zero) if rounds_up(a, b) => Ok(Value::int(toward_zero - 1)),
+        Some(toward_zero) => Ok(Value::int(toward_zero)),
+        None => Err(Cause::OutOfRange),
+    }
+}
+
+/// What the quotient, rounded down, times the divisor leaves.
+pub fn remainder(a: i64, b: i64) -> Result<Value, Cause>
+    ensures { Gives (divided floor_remainder a b) result }
+{
+    if b == 0 {
+        return Err(Cause::DivisionByZero);
+    }
+    match a.checked_rem(b) {
+        Some(left) if rounds_up(a, b) => Ok(Value::int(left + b)),
+        Some(left) => Ok(Value::int(left)),
+        None => Ok(Value::int(0)),
+    }
+}
+
+/// Whether rounding a quotient toward zero rounds it up: it is below zero and no whole number.
+fn rounds_up(a: i64, b: i64) -> bool
+    requires divisor { b ≢ pos 0 }
+    requires quotient { NotMinOverMinusOne w64 a b }
+    ensures { result ≡ rounds_up a b }
+{
+    if a % b == 0 {
+        return false;
+    }
+    if a < 0 { b > 0 } else { b < 0 }
+}

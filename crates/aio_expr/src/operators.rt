@@ -1,0 +1,145 @@
+//! What the operators give for values.
+ghost use Rattle.std.specs.Prelude.{◌≡◌, IfOk, IfErr};
+ghost use Rattle.aio_script_model.specs.Operations.{sum, difference, product, quotient, remainder, calculated, negative, compared, negation, order};
+ghost use Rattle.aio_expr.specs.declared.cause.Cause.TheVariants.{BadOperand};
+ghost use Rattle.aio_expr.specs.Gives.{Gives};
+
+use crate::cause::Cause;
+use crate::equality::is_equal;
+use crate::items::joined_lists;
+use crate::joins::{joined_bytes, joined_texts, repeated_bytes, repeated_text};
+use crate::numbers;
+use crate::order::order;
+use aio_base::{Value, ValueCase};
+use aio_syntax::{Comparison, Operator};
+use std::alloc::Global;
+use std::cmp::Ordering;
+
+/// An arithmetic operator with two operands.
+pub fn calculated(
+    alloc: Global,
+    operator: Operator,
+    left: &Value,
+    right: &Value,
+) -> Result<Value, Cause>
+    ensures { Gives (calculated operator left.now right.now) result }
+{
+    match operator {
+        Operator::Add => sum(alloc, left, right),
+        Operator::Subtract => difference(left, right),
+        Operator::Multiply => product(alloc, left, right),
+        Operator::FloorDivide => quotient(left, right),
+        Operator::Remainder => remainder(left, right),
+    }
+}
+
+#[tactic(auto, using(aio_value_model::proofs::Rows::rows))]
+fn sum(alloc: Global, left: &Value, right: &Value) -> Result<Value, Cause>
+    ensures { Gives (sum left.now right.now) result }
+{
+    match (left.case(), right.case()) {
+        (ValueCase::Int(a), ValueCase::Int(b)) => numbers::sum(a, b),
+        (ValueCase::Text(a), ValueCase::Text(b)) => joined_texts(alloc, a.as_str(), b.as_str()),
+        (ValueCase::Bytes(a), ValueCase::Bytes(b)) => joined_bytes(
+            alloc,
+            a.as_slice(),
+            b.as_slice(),
+        ),
+        (ValueCase::List(a), ValueCase::List(b)) => joined_lists(
+            alloc,
+            a.as_ref().items(),
+            b.as_ref().items(),
+        ),
+        _ => Err(Cause::BadOperand),
+    }
+}
+
+fn difference(left: &Value, right: &Value) -> Result<Value, Cause>
+    ensures { Gives (difference left.now right.now) result }
+{
+    match (left.case(), right.case()) {
+        (ValueCase::Int(a), ValueCase::Int(b)) => numbers::difference(a, b),
+        _ => Err(Cause::BadOperand),
+    }
+}
+
+fn product(alloc: Global, left: &Value, right: &Value) -> Result<Value, Cause>
+    ensures { Gives (product left.now right.now) result }
+{
+    match (left.case(), right.case()) {
+        (ValueCase::Int(a), ValueCase::Int(b)) => numbers::product(a, b),
+        (ValueCase::Text(text), ValueCase::Int(count)) => repeated_text(
+            alloc,
+            text.as_str(),
+            count,
+        ),
+        (ValueCase::Bytes(bytes), ValueCase::Int(count)) => repeated_bytes(
+            alloc,
+            bytes.as_slice(),
+            count,
+        ),
+        _ => Err(Cause::BadOperand),
+    }
+}
+
+fn quotient(left: &Value, right: &Value) -> Result<Value, Cause>
+    ensures { Gives (quotient left.now right.now) result }
+{
+    match (left.case(), right.case()) {
+        (ValueCase::Int(a), ValueCase::Int(b)) => numbers::quotient(a, b),
+        _ => Err(Cause::BadOperand),
+    }
+}
+
+fn remainder(left: &Value, right: &Value) -> Result<Value, Cause>
+    ensures { Gives (remainder left.now right.now) result }
+{
+    match (left.case(), right.case()) {
+        (ValueCase::Int(a), ValueCase::Int(b)) => numbers::remainder(a, b),
+        _ => Err(Cause::BadOperand),
+    }
+}
+
+/// A unary `-`.
+pub fn negative(value: &Value) -> Result<Value, Cause>
+    ensures { Gives (negative value.now) result }
+{
+    match value.case() {
+        ValueCase::Int(number) => numbers::negative(number),
+        _ => Err(Cause::BadOperand),
+    }
+}
+
+/// `not`.
+pub fn negation(value: &Value) -> Result<Value, Cause>
+    ensures { Gives (negation value.now) result }
+{
+    match value.case() {
+        ValueCase::Bool(truth) => Ok(Value::bool(!truth)),
+        _ => Err(Cause::BadOperand),
+    }
+}
+
+/// A comparison.
+pub fn compared(comparison: Comparison, left: &Value, right: &Value) -> Result<Value, Cause>
+    ensures { Gives (compared comparison left.now right.now) result }
+{
+    match comparison {
+        Comparison::Equal => Ok(Value::bool(is_equal(left, right))),
+        Comparison::NotEqual => Ok(Value::bool(!is_equal(left, right))),
+        Comparison::Less => Ok(Value::bool(ordering_of(left, right)?.is_lt())),
+        Comparison::LessOrEqual => Ok(Value::bool(ordering_of(left, right)?.is_le())),
+        Comparison::Greater => Ok(Value::bool(ordering_of(left, right)?.is_gt())),
+        Comparison::GreaterOrEqual => Ok(Value::bool(ordering_of(left, right)?.is_ge())),
+    }
+}
+
+fn ordering_of(left: &Value, right: &Value) -> Result<Ordering, Cause>
+    ensures ordered { IfOk result (λ ordering. order left.now right.now ≡ Some ordering) }
+    ensures none { IfErr result (λ cause. (cause ≡ BadOperand) × (order left.now right.now ≡ None)) }
+{
+    match order(left, right) {
+        Some(ordering) => Ok(ordering),
+        None => Err(Cause::BadOperand),
+    }
+}

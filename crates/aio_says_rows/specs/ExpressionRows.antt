@@ -1,0 +1,209 @@
+-- Expressions with what they give, worked out by hand.
+use Rattle.std.specs.Prelude.{ℕ, zero, suc, ℤ, pos, negsuc, true, false, List, [], ◌∷◌, Ok, Err, codes}
+use Rattle.std.specs.List.{repeat}
+use Prim.Native.String.{String}
+use Rattle.aio_value_model.specs.declared.kind.Kind.TheVariants.{ValueError, IncompleteReadError, TimeoutError}
+use Rattle.aio_value_model.specs.Value.{Value, Nothing, Truth, Int, Text, Bytes, Items, Exception, exc, no_excs, exc_then, values, Exc, exception_of}
+use Rattle.aio_script_model.specs.declared.function.Function.TheVariants.{Len, Str, Kind, Message, Partial, Members}
+use Rattle.aio_script_model.specs.declared.function.Function.TheVariants as function
+use Rattle.aio_script_model.specs.Expressions.{value_of}
+use Rattle.aio_script_model.specs.Operations.{Answer, bad_operand, out_of_range, division_by_zero, index_out_of_range, not_utf8}
+use Rattle.aio_script_model.specs.Syntax.{Expr, Or, And, Not, Negate, Index, Apply, MakeError}
+use Rattle.aio_script_model.specs.Variables.{Env}
+use Rattle.aio_says_rows.specs.Written.{none, yes, no, int, text, bytes, var, list, ◌+◌, ◌-◌, ◌*◌, ◌//◌, ◌%◌, ◌==◌, ◌!=◌, ◌<◌, ◌<=◌, ◌>◌, ◌>=◌}
+
+pub record Row : Type 0 where
+  pub expr : Expr
+  pub expected : Answer
+
+-- what the variables of the rows hold: an exception with bytes, and one with a member
+abbrev cut_short : Exc
+cut_short = exc IncompleteReadError (codes "cut") (1 ∷ 2 ∷ []) (exc_then (exception_of TimeoutError []) no_excs)
+
+abbrev env : Env
+env = record { name = codes "e"; value = Exception cut_short } ∷ record { name = codes "n"; value = Nothing } ∷ []
+
+abbrev pub found : Row → Answer
+found row = value_of row.expr env
+
+abbrev pub expected : Row → Answer
+expected row = row.expected
+
+infix 6 ◌gives◌
+abbrev ◌gives◌ : Expr → Value → Row
+expr gives value = record { expr = expr; expected = Ok value }
+
+infix 6 ◌raises◌
+abbrev ◌raises◌ : Expr → Exc → Row
+expr raises fault = record { expr = expr; expected = Err fault }
+
+abbrev number : ℤ → Value
+number n = Int n
+
+abbrev string : String → Value
+string s = Text (codes s)
+
+-- the greatest and the least number, and -1
+abbrev greatest : Expr
+greatest = int 9223372036854775807
+
+abbrev least : Expr
+least = Negate greatest - int 1
+
+abbrev minus : ℕ → Expr
+minus n = Negate (int n)
+
+abbrev pub arithmetic : List Row
+arithmetic =
+    (int 1 + int 2 gives Int (pos 3))
+    ∷ (int 1 - int 2 gives Int (negsuc 0))
+    ∷ (minus 7 // int 2 gives Int (negsuc 3))
+    ∷ (minus 7 % int 2 gives Int (pos 1))
+    ∷ (int 7 // minus 2 gives Int (negsuc 3))
+    ∷ (int 7 % minus 2 gives Int (negsuc 0))
+    ∷ (minus 7 // minus 2 gives Int (pos 3))
+    ∷ (minus 7 % minus 2 gives Int (negsuc 0))
+    ∷ (minus 6 // int 2 gives Int (negsuc 2))
+    ∷ (minus 6 % int 2 gives Int (pos 0))
+    ∷ (int 6 % minus 3 gives Int (pos 0))
+    ∷ (int 0 // minus 5 gives Int (pos 0))
+    ∷ (int 2 * int 3 + int 4 * int 5 gives Int (pos 26))
+    ∷ (greatest + int 0 gives Int (pos 9223372036854775807))
+    ∷ (greatest + int 1 raises out_of_range)
+    ∷ (least gives Int (negsuc 9223372036854775807))
+    ∷ (least - int 1 raises out_of_range)
+    ∷ (Negate least raises out_of_range)
+    ∷ (least // minus 1 raises out_of_range)
+    ∷ (least % minus 1 gives Int (pos 0))
+    ∷ (least // int 1 gives Int (negsuc 9223372036854775807))
+    ∷ (greatest * greatest raises out_of_range)
+    ∷ (int 3037000500 * int 3037000500 raises out_of_range)
+    ∷ (int 3037000499 * int 3037000499 gives Int (pos 9223372030926249001))
+    ∷ (int 1 // int 0 raises division_by_zero)
+    ∷ (int 1 % int 0 raises division_by_zero)
+    ∷ (int 1 + text "a" raises bad_operand)
+    ∷ (text "a" - text "a" raises bad_operand)
+    ∷ (Negate yes raises bad_operand)
+    ∷ (yes + int 1 raises bad_operand)
+    ∷ (var "n" + int 1 raises bad_operand)
+    ∷ []
+
+abbrev pub joining : List Row
+joining =
+    (text "ab" + text "c" gives string "abc")
+    ∷ (text "ab" + bytes (99 ∷ []) raises bad_operand)
+    ∷ (bytes (1 ∷ []) + bytes (255 ∷ []) gives Bytes (1 ∷ 255 ∷ []))
+    ∷ (list (int 1 ∷ []) + list (text "a" ∷ []) gives Items (values (Int (pos 1) ∷ string "a" ∷ [])))
+    ∷ (text "ab" * int 3 gives string "ababab")
+    ∷ (text "ab" * minus 3 gives string "")
+    ∷ (bytes (7 ∷ []) * int 2 gives Bytes (7 ∷ 7 ∷ []))
+    ∷ (int 3 * text "ab" raises bad_operand)
+    ∷ (list [] * int 2 raises bad_operand)
+    ∷ (text "ab" * int 524288 raises out_of_range)
+    ∷ (text "ab" * greatest raises out_of_range)
+    ∷ (text "" * int 5 gives string "")
+    ∷ (bytes (1 ∷ []) * int 1048576 raises out_of_range)
+    ∷ (bytes (1 ∷ []) * int 1048575 gives Bytes (repeat 1048575 (1 ∷ [])))
+    ∷ (list (int 1 // int 0 ∷ var "n" ∷ []) raises division_by_zero)
+    ∷ []
+
+abbrev pub comparisons : List Row
+comparisons =
+    (int 1 == int 1 gives Truth true)
+    ∷ (int 1 == yes gives Truth false)
+    ∷ (int 1 != yes gives Truth true)
+    ∷ (text "a" == bytes (97 ∷ []) gives Truth false)
+    ∷ (list (int 1 ∷ []) == list (int 1 ∷ []) gives Truth true)
+    ∷ (list (int 1 ∷ []) == list (yes ∷ []) gives Truth false)
+    ∷ (var "e" == var "e" gives Truth true)
+    ∷ (none == none gives Truth true)
+    ∷ (minus 2 < minus 1 gives Truth true)
+    ∷ (minus 1 < int 0 gives Truth true)
+    ∷ (int 2 <= int 2 gives Truth true)
+    ∷ (int 3 > int 2 gives Truth true)
+    ∷ (int 2 >= int 3 gives Truth false)
+    ∷ (text "ab" < text "b" gives Truth true)
+    ∷ (text "a" < text "ab" gives Truth true)
+    ∷ (text "b" < text "ab" gives Truth false)
+    ∷ (bytes (255 ∷ []) > bytes (1 ∷ 2 ∷ []) gives Truth true)
+    ∷ (text "a" < bytes (98 ∷ []) raises bad_operand)
+    ∷ (none < none raises bad_operand)
+    ∷ (list [] < list [] raises bad_operand)
+    ∷ (yes < no raises bad_operand)
+    ∷ []
+
+abbrev pub truths : List Row
+truths =
+    (Or yes (int 1 // int 0) gives Truth true)
+    ∷ (Or no (int 1 // int 0) raises division_by_zero)
+    ∷ (And no (int 1 // int 0) gives Truth false)
+    ∷ (And yes (int 1 // int 0) raises division_by_zero)
+    ∷ (Or no yes gives Truth true)
+    ∷ (And yes no gives Truth false)
+    ∷ (Or no (int 1) raises bad_operand)
+    ∷ (And yes none raises bad_operand)
+    ∷ (Or (int 1) (int 1 // int 0) raises bad_operand)
+    ∷ (And none yes raises bad_operand)
+    ∷ (Not yes gives Truth false)
+    ∷ (Not (int 0) raises bad_operand)
+    ∷ ((int 1 // int 0) + (int 1 + none) raises division_by_zero)
+    ∷ ((int 1 + none) + (int 1 // int 0) raises bad_operand)
+    ∷ (none + (int 1 // int 0) raises division_by_zero)
+    ∷ []
+
+abbrev three : Expr
+three = list (int 10 ∷ int 20 ∷ int 30 ∷ [])
+
+abbrev pub items : List Row
+items =
+    (Index three (int 0) gives Int (pos 10))
+    ∷ (Index three (int 2) gives Int (pos 30))
+    ∷ (Index three (int 3) raises index_out_of_range)
+    ∷ (Index three (minus 1) gives Int (pos 30))
+    ∷ (Index three (minus 3) gives Int (pos 10))
+    ∷ (Index three (minus 4) raises index_out_of_range)
+    ∷ (Index (bytes (5 ∷ 255 ∷ [])) (int 1) gives Int (pos 255))
+    ∷ (Index (bytes (5 ∷ 255 ∷ [])) (minus 2) gives Int (pos 5))
+    ∷ (Index (bytes []) (int 0) raises index_out_of_range)
+    ∷ (Index (text "a") (int 0) raises bad_operand)
+    ∷ (Index three yes raises bad_operand)
+    ∷ (Index three least raises index_out_of_range)
+    ∷ []
+
+-- a list in lists, so many deep
+abbrev nested : ℕ → Expr
+nested zero = int 1
+nested (suc depth) = list (nested depth ∷ [])
+
+abbrev nested_value : ℕ → Value
+nested_value zero = Int (pos 1)
+nested_value (suc depth) = Items (values (nested_value depth ∷ []))
+
+abbrev pub functions : List Row
+functions =
+    (Apply Len (text "abc") gives Int (pos 3))
+    ∷ (Apply Len (bytes []) gives Int (pos 0))
+    ∷ (Apply Len three gives Int (pos 3))
+    ∷ (Apply Len (int 3) raises bad_operand)
+    ∷ (Apply Str (text "a\"b") gives string "a\"b")
+    ∷ (Apply Str (list (text "a" ∷ none ∷ yes ∷ [])) gives string "[\"a\", None, True]")
+    ∷ (Apply Str (bytes (97 ∷ 10 ∷ 255 ∷ [])) gives string "b\"a\\n\\xff\"")
+    ∷ (Apply Str (var "e") gives string "IncompleteReadError(\"cut\")")
+    ∷ (Apply function.Bytes (text "ab") gives Bytes (97 ∷ 98 ∷ []))
+    ∷ (Apply function.Bytes (bytes []) raises bad_operand)
+    ∷ (Apply function.Text (bytes (97 ∷ 98 ∷ [])) gives string "ab")
+    ∷ (Apply function.Text (bytes (195 ∷ 164 ∷ [])) gives Text (195 ∷ 164 ∷ []))
+    ∷ (Apply function.Text (bytes (195 ∷ [])) raises not_utf8)
+    ∷ (Apply function.Text (bytes (237 ∷ 160 ∷ 128 ∷ [])) raises not_utf8)
+    ∷ (Apply function.Text (text "a") raises bad_operand)
+    ∷ (MakeError ValueError (text "t") gives Exception (exception_of ValueError (codes "t")))
+    ∷ (MakeError ValueError none raises bad_operand)
+    ∷ (Apply Kind (var "e") gives string "IncompleteReadError")
+    ∷ (Apply Message (var "e") gives string "cut")
+    ∷ (Apply Partial (var "e") gives Bytes (1 ∷ 2 ∷ []))
+    ∷ (Apply Members (var "e") gives Items (values (Exception (exception_of TimeoutError []) ∷ [])))
+    ∷ (Apply Kind none raises bad_operand)
+    ∷ (Apply Members (list []) raises bad_operand)
+    ∷ (nested 64 gives nested_value 64)
+    ∷ (nested 65 raises out_of_range)
+    ∷ []

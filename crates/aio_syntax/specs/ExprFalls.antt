@@ -1,0 +1,18 @@
+-- The parts of an expression are smaller than it, and each expression of a list is smaller than the list.
+use Rattle.std.specs.Prelude.{◌+◌, ◌≤◌, max, List, [], ◌∷◌}
+use Rattle.std.proofs.Common.{arith}
+use denote.Param.Weighed.{most}
+use Rattle.aio_script_model.specs.Syntax.{Expr}
+use Rattle.aio_script_model.specs.ExprSize.{expr_size, expr_list_size}
+use Rattle.aio_syntax.specs.declared.expr.Case.{Case}
+use Rattle.aio_syntax.specs.declared.expr.Case.TheVariants as case
+use Rattle.aio_syntax.specs.declared.expr.Expr.TheDeep.{deep-Case}
+use Rattle.aio_syntax.specs.Expr.{expr_of}
+
+pub case_falls : (c : Case) → max (deep-Case c) 0 ≤ expr_size (expr_of c)
+case_falls (case.List items) = omega arith
+case_falls _ = omega arith
+
+pub items_fall : (es : List Expr) → max (most (λ e. expr_size e + 1) es) 0 ≤ expr_list_size es
+items_fall [] = omega arith
+items_fall (e ∷ es) = omega (arith, items_fall es)

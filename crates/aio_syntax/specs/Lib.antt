@@ -1,0 +1,4 @@
+pub mod Constant
+pub mod Expr
+pub mod ExprFalls
+pub mod ExprCase

@@ -1,0 +1,235 @@
+//! Expressions.
+ghost use Rattle.std.specs.Prelude.{◌≡◌};
+ghost use Rattle.std.specs.Rc.{rc_str_bytes};
+ghost use Rattle.aio_script_model.specs.Syntax.{Or, And, Not, Compare, Calculate, Negate, Index, Literal, Variable, ListOf, Apply, MakeError, exprs};
+ghost use Rattle.aio_syntax.specs.Constant.{constant_of};
+ghost use Rattle.aio_syntax.specs.ExprCase.{expr_of_case};
+
+use crate::constant::Constant;
+use aio_script_model::{Comparison, Function, Operator};
+use aio_value_model::Kind;
+use std::marker::Model;
+use std::rc::RcStr;
+
+/// An expression. Contracts see it as plain data.
+#[cycle(expr)]
+#[derive(Drop)]
+pub struct Expr {
+    case: Case,
+}
+
+#[cycle(expr)]
+#[derive(Drop)]
+enum Case {
+    Or(Box<Expr>, Box<Expr>),
+    And(Box<Expr>, Box<Expr>),
+    Not(Box<Expr>),
+    Compare(Comparison, Box<Expr>, Box<Expr>),
+    Calculate(Operator, Box<Expr>, Box<Expr>),
+    Negate(Box<Expr>),
+    Index(Box<Expr>, Box<Expr>),
+    Literal(Constant),
+    Variable(RcStr),
+    List(ExprList),
+    Apply(Function, Box<Expr>),
+    MakeError(Kind, Box<Expr>),
+}
+
+/// Expressions in order. Contracts see them as a list.
+#[cycle(expr)]
+#[derive(Drop)]
+pub struct ExprList {
+    items: Vec<Expr>,
+}
+
+impl Model for Expr {
+    ghost use Rattle.aio_script_model.specs.Syntax as plain;
+    ghost use Rattle.aio_script_model.specs.ExprCode.{coded_expr};
+
+    ghost Value = { plain.Expr };
+
+    ghost coded = { coded_expr };
+
+    ghost use Rattle.aio_script_model.specs.ExprSize.{expr_size};
+    ghost use Rattle.aio_syntax.specs.Expr.{expr_of};
+
+    ghost view = { λ a. expr_of a.case };
+
+    ghost size = { expr_size };
+
+    ghost use Rattle.aio_syntax.specs.ExprFalls.{case_falls};
+
+    ghost size_decreases = { λ a h. case_falls a.case };
+}
+
+impl Model for ExprList {
+    ghost use Rattle.std.specs.Prelude.{List};
+    ghost use Rattle.std.specs.Coded.{coded_list};
+    ghost use Rattle.aio_script_model.specs.Syntax as plain;
+    ghost use Rattle.aio_script_model.specs.ExprCode.{coded_expr};
+
+    ghost Value = { List plain.Expr };
+
+    ghost coded = { coded_list coded_expr };
+
+    ghost use Rattle.aio_script_model.specs.ExprSize.{expr_list_size};
+
+    ghost view = { λ a. a.items.items };
+
+    ghost size = { expr_list_size };
+
+    ghost use Rattle.aio_syntax.specs.ExprFalls.{items_fall};
+
+    ghost size_decreases = { λ a h. items_fall a.items.items };
+}
+
+/// The cases of an expression, with its parts lent.
+#[derive(Clone, Copy)]
+pub enum ExprCase<'a> {
+    Or(&'a Expr, &'a Expr),
+    And(&'a Expr, &'a Expr),
+    Not(&'a Expr),
+    Compare(Comparison, &'a Expr, &'a Expr),
+    Calculate(Operator, &'a Expr, &'a Expr),
+    Negate(&'a Expr),
+    Index(&'a Expr, &'a Expr),
+    Literal(&'a Constant),
+    Variable(&'a RcStr),
+    List(&'a ExprList),
+    Apply(Function, &'a Expr),
+    MakeError(Kind, &'a Expr),
+}
+
+impl Expr {
+    pub fn or(left: Box<Expr>, right: Box<Expr>) -> Expr
+        ensures { result ≡ Or left.value right.value }
+    {
+        Expr {
+            case: Case::Or(left, right),
+        }
+    }
+
+    pub fn and(left: Box<Expr>, right: Box<Expr>) -> Expr
+        ensures { result ≡ And left.value right.value }
+    {
+        Expr {
+            case: Case::And(left, right),
+        }
+    }
+
+    pub fn not(operand: Box<Expr>) -> Expr
+        ensures { result ≡ Not operand.value }
+    {
+        Expr {
+            case: Case::Not(operand),
+        }
+    }
+
+    pub fn compare(comparison: Comparison, left: Box<Expr>, right: Box<Expr>) -> Expr
+        ensures { result ≡ Compare comparison left.value right.value }
+    {
+        Expr {
+            case: Case::Compare(comparison, left, right),
+        }
+    }
+
+    pub fn calculate(operator: Operator, left: Box<Expr>, right: Box<Expr>) -> Expr
+        ensures { result ≡ Calculate operator left.value right.value }
+    {
+        Expr {
+            case: Case::Calculate(operator, left, right),
+        }
+    }
+
+    pub fn negate(operand: Box<Expr>) -> Expr
+        ensures { result ≡ Negate operand.value }
+    {
+        Expr {
+            case: Case::Negate(operand),
+        }
+    }
+
+    pub fn index(sequence: Box<Expr>, index: Box<Expr>) -> Expr
+        ensures { result ≡ Index sequence.value index.value }
+    {
+        Expr {
+            case: Case::Index(sequence, index),
+        }
+    }
+
+    pub fn literal(constant: Constant) -> Expr
+        ensures { result ≡ Literal (constant_of constant) }
+    {
+        Expr {
+            case: Case::Literal(constant),
+        }
+    }
+
+    pub fn variable(name: RcStr) -> Expr
+        ensures { result ≡ Variable (rc_str_bytes name) }
+    {
+        Expr {
+            case: Case::Variable(name),
+        }
+    }
+
+    /// `[a, b]`.
+    pub fn list(items: ExprList) -> Expr
+        ensures { result ≡ ListOf (exprs items) }
+    {
+        Expr {
+            case: Case::List(items),
+        }
+    }
+
+    pub fn apply(function: Function, argument: Box<Expr>) -> Expr
+        ensures { result ≡ Apply function argument.value }
+    {
+        Expr {
+            case: Case::Apply(function, argument),
+        }
+    }
+
+    /// `error(KIND, t)`.
+    pub fn make_error(kind: Kind, message: Box<Expr>) -> Expr
+        ensures { result ≡ MakeError kind message.value }
+    {
+        Expr {
+            case: Case::MakeError(kind, message),
+        }
+    }
+
+    /// The expression's case, with its parts lent.
+    pub fn case(&self) -> ExprCase<'_>
+        ensures { expr_of_case result ≡ self.now }
+    {
+        match &self.case {
+            Case::Or(left, right) => ExprCase::Or(left, right),
+            Case::And(left, right) => ExprCase::And(left, right),
+            Case::Not(operand) => ExprCase::Not(operand),
+            Case::Compare(comparison, left, right) => ExprCase::Compare(*comparison, left, right),
+            Case::Calculate(operator, left, right) => ExprCase::Calculate(*operator, left, right),
+            Case::Negate(operand) => ExprCase::Negate(operand),
+            Case::Index(sequence, index) => ExprCase::Index(sequence, index),
+            Case::Literal(constant) => ExprCase::Literal(constant),
+            Case::Variable(name) => ExprCase::Variable(name),
+            Case::List(items) => ExprCase::List(items),
+            Case::Apply(function, argument) => ExprCase::Apply(*function, argument),
+            Case::MakeError(kind, message) => ExprCase::MakeError(*kind, message),
+        }
+    }
+}
+
+impl ExprList {
+    pub fn of(items: Vec<Expr>) -> ExprList
+        ensures { result ≡ items.items }
+    {
+        ExprList { items }
+    }
+
+    pub fn items(&self) -> &[Expr]
+        ensures { result.now ≡ self.now }
+    {
+        self.items.as_slice()
+    }
+}
