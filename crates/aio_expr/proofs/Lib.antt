@@ -3,3 +3,4 @@ pub mod Floors
 pub mod Places
 pub mod InBounds
 pub mod Decoded
+pub mod Variables

@@ -4,3 +4,4 @@ pub mod Rounding
 pub mod Places
 pub mod BindingCode
 pub mod Bindings
+pub mod Names
