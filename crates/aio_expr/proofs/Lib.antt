@@ -4,3 +4,4 @@ pub mod Places
 pub mod InBounds
 pub mod Decoded
 pub mod Variables
+pub mod Evaluated

@@ -5,6 +5,7 @@ mod bounds;
 mod cause;
 mod env;
 mod equality;
+mod evaluate;
 mod functions;
 mod items;
 mod joins;
