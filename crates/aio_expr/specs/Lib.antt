@@ -5,3 +5,4 @@ pub mod Places
 pub mod BindingCode
 pub mod Bindings
 pub mod Names
+pub mod Raises

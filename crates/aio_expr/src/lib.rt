@@ -12,6 +12,7 @@ mod joins;
 mod numbers;
 mod operators;
 mod order;
+mod value;
 
-pub use cause::Cause;
 pub use env::Env;
+pub use value::{ExprFault, value_of};
