@@ -16,7 +16,7 @@ quotient_is n d k r is below = div-eq_of_lt-le (suc d) (omega (arith, is)) (omeg
 parts : (n d : ℕ) → n ≡ (n / suc d) * suc d + n % suc d
 parts n d = sym (div-add-mod' n (suc d))
 
-below : (n d : ℕ) → n % suc d ≤ d
+pub below : (n d : ℕ) → n % suc d ≤ d
 below n d = omega (arith, mod-lt n (zero-lt-suc d))
 
 up : (a b : ℕ) → a % suc b ≢ 0 → (a + b) / suc b ≡ suc (a / suc b)

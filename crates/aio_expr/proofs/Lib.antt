@@ -5,3 +5,5 @@ pub mod InBounds
 pub mod Decoded
 pub mod Variables
 pub mod Evaluated
+pub mod Orders
+pub mod Remainders

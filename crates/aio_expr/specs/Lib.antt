@@ -6,3 +6,4 @@ pub mod BindingCode
 pub mod Bindings
 pub mod Names
 pub mod Raises
+pub mod Ordered

@@ -9,6 +9,7 @@ mod evaluate;
 mod functions;
 mod items;
 mod joins;
+pub mod laws;
 mod numbers;
 mod operators;
 mod order;
