@@ -2,6 +2,7 @@
 #![tactic(auto)]
 
 mod blob;
+mod equality;
 mod exc;
 mod kinds;
 mod literal;
@@ -15,6 +16,7 @@ mod weigh;
 
 pub use aio_value_model::{Circle, Kind, Place};
 pub use blob::Blob;
+pub use equality::{equal, equal_excs};
 pub use exc::{Exc, ExcList, exception};
 pub use kinds::{kind_matches, name_of};
 pub use literal::{push_bytes_literal, push_escaped, push_text_literal};

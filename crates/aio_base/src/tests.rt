@@ -1,7 +1,7 @@
 // Every kind of value with its text, its weight and its depth, all worked out by hand from the rules of printing and
 // weighing, and every pair of a kind and its ancestor.
 use crate::{
-    Exc, ExcList, Kind, Memory, Value, depth, exception, kind_matches, name_of, show, weight,
+    Exc, ExcList, Kind, Memory, Value, depth, equal, exception, kind_matches, name_of, show, weight,
 };
 use std::alloc::Global;
 use std::rc::{Rc, RcSlice};
@@ -188,32 +188,50 @@ fn push_deep_list(alloc: Global, rows: &mut Vec<Row>) -> Result<(), Memory> {
     push_row(rows, value, shown, 64, 64)
 }
 
-#[test]
-fn values_show_and_weigh(rt: HostRuntime) -> Result<(), Fail> {
-    let alloc = rt.alloc();
+fn all_rows(alloc: Global) -> Result<Vec<Row>, Memory> {
     let mut rows = simple_rows(alloc)?;
     push_texts(alloc, &mut rows)?;
     push_lists(alloc, &mut rows)?;
     push_exceptions(alloc, &mut rows)?;
     push_groups(alloc, &mut rows)?;
     push_deep_list(alloc, &mut rows)?;
-    for row in &rows {
+    Ok(rows)
+}
+
+#[test]
+fn values_show_and_weigh(rt: HostRuntime) -> Result<(), Fail> {
+    let alloc = rt.alloc();
+    for row in &all_rows(alloc)? {
         let mut out = vec![in alloc; b'>']?;
         let copy = row.value.clone()?;
         show(alloc, &copy, &mut out)?;
         assert_eq!(rt;
             &out.as_slice()[1..],
             row.shown.as_bytes(),
-            "the text {}",
+            "text of {}",
             row.shown
         );
-        assert_eq!(rt;
-            weight(&row.value),
-            row.weight,
-            "the weight of {}",
-            row.shown
-        );
-        assert_eq!(rt; depth(&row.value), row.depth, "the depth of {}", row.shown);
+        assert_eq!(rt; weight(&row.value), row.weight, "weight of {}", row.shown);
+        assert_eq!(rt; depth(&row.value), row.depth, "depth of {}", row.shown);
+    }
+    Ok(())
+}
+
+#[test]
+fn values_equal_themselves_alone(rt: HostRuntime) -> Result<(), Fail> {
+    let alloc = rt.alloc();
+    let rows = all_rows(alloc)?;
+    let others = all_rows(alloc)?;
+    for (i, row) in rows.iter().enumerate() {
+        for (j, other) in others.iter().enumerate() {
+            assert_eq!(rt;
+                equal(&row.value, &other.value),
+                i == j,
+                "{} and {}",
+                row.shown,
+                other.shown
+            );
+        }
     }
     Ok(())
 }

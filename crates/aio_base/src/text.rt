@@ -102,11 +102,11 @@ fn push_exc(exc: &Exc, out: &mut Vec<u8>) -> Result<(), Memory>
 fn push_members(members: &[Exc], out: &mut Vec<u8>) -> Result<(), Memory>
     ensures { OnOk result (out.new.items ≡ out.old.items ++ shown_members (excs members.now)) }
 {
-    let mut separator: &[u8] = b"";
+    let mut before: &[u8] = b"";
     for member in members {
-        out.extend_from_slice(separator)?;
+        out.extend_from_slice(before)?;
         push_exc(member, out)?;
-        separator = b", ";
+        before = b", ";
     }
     Ok(())
 }

@@ -12,13 +12,13 @@ use std::rc::{Rc, RcSlice, RcStr};
 
 /// A value of a script. Contracts see it as plain data.
 #[cycle(value)]
-#[derive(Drop)]
+#[derive(Debug, Drop)]
 pub struct Value {
     case: Case,
 }
 
 #[cycle(value)]
-#[derive(Drop)]
+#[derive(Debug, Drop)]
 enum Case {
     Nothing,
     Bool(bool),
@@ -39,7 +39,7 @@ enum Case {
 
 /// A list of values.
 #[cycle(value)]
-#[derive(Drop)]
+#[derive(Debug, Drop)]
 pub struct ValueList {
     items: Vec<Value>,
 }

@@ -1,5 +1,5 @@
 -- Handles and timers. Source: PEP 3156, "Callback Handles"; `base_events.py`, `call_soon`, `call_at`.
-use Rattle.std.specs.Prelude.{ℕ, ◌+◌, ◌==◌, Bool, true, false, not, List, [], ◌∷◌, ◌++◌, map, filter, nat_le, nat_lt, if◌then◌else◌}
+use Rattle.std.specs.Prelude.{ℕ, ◌+◌, ◌==◌, true, false, not, List, [], ◌∷◌, ◌++◌, map, filter, nat_le, nat_lt, if◌then◌else◌}
 use Rattle.aio_value_model.specs.Action.{Action}
 use Rattle.aio_loop_model.specs.Parts.{Handle, Timer, Parts}
 

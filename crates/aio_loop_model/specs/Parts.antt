@@ -20,6 +20,9 @@ pub data FutureKind : Type 0 where
   Plain : FutureKind
   -- a task's own future
   OfTask : (task : ℕ) → FutureKind
+  -- Stands for several futures, its members, which were made before it. `asked` says that a cancel request came to it
+  -- and one of its members answered true.
+  Many : (members : List ℕ) (asked : Bool) → FutureKind
 
 -- a future is pending while it has no outcome; what is called when it is done, in order of registration
 pub record Future : Type 0 where

@@ -1,3 +1,4 @@
+pub mod Growth
 pub mod Program
 pub mod Run
 pub mod State

@@ -1,12 +1,11 @@
--- What the program writes for its words and files, and its status.
-use Rattle.std.specs.Prelude.{◌≡◌, ℕ, ◌^◌, List, [], ◌∷◌, ◌++◌, Option, Some, None, codes, MatchOption}
+-- What the program may write for its words and files, and its status.
+use Rattle.std.specs.Prelude.{◌≡◌, ℕ, ◌^◌, List, [], ◌∷◌, ◌++◌, Option, Some, None, codes, ◌⊎◌}
 use Rattle.aio_script_model.specs.Straight.{Line, straight_of}
 use Rattle.aio_wire_model.specs.Journal.{Entry, entries_of}
-use Rattle.aio_wire_model.specs.Told.{Agrees}
 use Rattle.aio_machine.specs.Run.{Run, run}
 use Rattle.aio_machine.specs.State.{Event}
 use Rattle.aio_machine.specs.Transcript.{line, lines_of_events, transcript, status_of}
-use Rattle.aio_machine.specs.Words.{Command, Replay, command_of}
+use Rattle.aio_machine.specs.Words.{Command, Replay}
 
 -- all that is written, and the exit status
 pub record Output : Type 0 where
@@ -24,27 +23,52 @@ words_refused = record { text = line (codes "! words"); status = 2 }
 abbrev pub script_refused : Output
 script_refused = record { text = line (codes "! script 1 9"); status = 3 }
 
-abbrev pub shelf_fault : List ℕ
-shelf_fault = line (codes "! fault shelf")
-
 -- what is written of a whole run
 abbrev pub output_of : Run → Output
 output_of run = record { text = transcript run; status = status_of run.ending }
 
--- what is written of a run that a fault of the shelf cut short: its lines, and the fault's
+-- what is written of a run that a fault of the shelf cut short: the lines of what happened, and the fault's
 abbrev pub faulted : List Event → Output
-faulted events = record { text = lines_of_events events ++ shelf_fault; status = 9 }
+faulted events = record { text = lines_of_events events ++ line (codes "! fault shelf"); status = 9 }
 
--- A replay, by what its journal says. Where the journal is missing, the first call fails.
-abbrev pub replayed : List Line → Option (List Entry) → Output
-replayed program None = faulted []
-replayed program (Some entries) = output_of (run program entries turn_limit)
+-- What a shelf tells of a file: nothing, that it is missing, or its bytes. A file says a text where that is told, and
+-- any text where nothing is; a missing one says none.
+abbrev pub FileSays : Option (Option (List ℕ)) → List ℕ → Type 0
+FileSays None text = Unit {0}
+FileSays (Some None) text = ⊥
+FileSays (Some (Some held)) text = text ≡ held
 
-abbrev pub replayed_if : Option (List Line) → Option (List Entry) → Output
-replayed_if None journal = script_refused
-replayed_if (Some program) journal = replayed program journal
+-- the entries that a journal says, likewise
+abbrev pub JournalSays : Option (Option (List ℕ)) → List Entry → Type 0
+JournalSays None entries = Unit {0}
+JournalSays (Some None) entries = ⊥
+JournalSays (Some (Some held)) entries = entries ≡ entries_of held
 
--- a replay, by the script's text: where that is missing too, the fault is all that is written
-abbrev pub replay_output : Option (List ℕ) → Option (List Entry) → Output
-replay_output None journal = faulted []
-replay_output (Some text) journal = replayed_if (straight_of text) journal
+-- answers that a journal gave before it failed are the first of its entries; a missing one gave none
+abbrev pub JournalBegins : Option (Option (List ℕ)) → List Entry → Type 0
+JournalBegins None had = Unit {0}
+JournalBegins (Some None) had = had ≡ []
+JournalBegins (Some (Some held)) had = (rest : List Entry) × (had ++ rest ≡ entries_of held)
+
+-- What a program's replay may write: its whole run over what the journal says, or, where the shelf failed, its run over
+-- the answers had so far, and then the fault's line.
+abbrev pub MayRun : List Line → Option (Option (List ℕ)) → Type 0 → Output → Type 0
+MayRun program journal failed output =
+    ((entries : List Entry) × JournalSays journal entries × (output ≡ output_of (run program entries turn_limit)))
+    ⊎ ((had : List Entry) × JournalBegins journal had × failed × (output ≡ faulted (run program had turn_limit).events))
+
+-- by whether the script's text spells a program
+abbrev pub MayRunIf : Option (List Line) → Option (Option (List ℕ)) → Type 0 → Output → Type 0
+MayRunIf None journal failed output = output ≡ script_refused
+MayRunIf (Some program) journal failed output = MayRun program journal failed output
+
+-- A replay: where the shelf failed before the script was read, the fault's line alone.
+abbrev pub MayReplay : Option (Option (List ℕ)) → Option (Option (List ℕ)) → Type 0 → Output → Type 0
+MayReplay script journal failed output =
+    (failed × (output ≡ faulted []))
+    ⊎ ((text : List ℕ) × FileSays script text × MayRunIf (straight_of text) journal failed output)
+
+-- What may be written for words, by what the shelf tells of its files, and whether it failed.
+abbrev pub MayWrite : (List ℕ → Option (Option (List ℕ))) → Type 0 → Option Command → Output → Type 0
+MayWrite files failed None output = output ≡ words_refused
+MayWrite files failed (Some (Replay script journal)) output = MayReplay (files script) (files journal) failed output

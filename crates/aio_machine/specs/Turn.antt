@@ -1,12 +1,13 @@
 -- A turn of the loop. Source: `base_events.py`, `_run_once`.
 use Rattle.std.specs.Prelude.{ℕ, zero, suc, ◌-◌, Bool, true, false, List, [], ◌∷◌, Option, Some, None, length, slice_get, min, max}
-use Rattle.aio_value_model.specs.Action.{Action, Step, Wakeup, SleepDone, MainDone}
+use Rattle.aio_value_model.specs.Action.{Action, Step, Wakeup, SleepDone, MainDone, StepInCircle, GroupDone, Fires}
 use Rattle.aio_value_model.specs.Input.{Input}
 use Rattle.aio_value_model.specs.declared.input.Input.TheVariants.{Send, Throw}
 use Rattle.aio_value_model.specs.Value.{Nothing, Outcome}
 use Rattle.aio_value_model.specs.declared.outcome.Outcome.TheVariants.{Value as Returned}
 use Rattle.aio_wire_model.specs.Call.{Call, Select, Answer, Turn}
 use Rattle.aio_loop_model.specs.Parts.{Parts, Handle, Timer}
+use Rattle.aio_loop_model.specs.Circles.{circle_fault}
 use Rattle.aio_loop_model.specs.Handles.{due}
 use Rattle.aio_loop_model.specs.Futures.{settle}
 use Rattle.aio_machine.specs.State.{State, Called, Got, Ran, with_parts, noted}
@@ -44,6 +45,11 @@ effect (Step task) s = step task (Send Nothing) s
 effect (Wakeup task) s = step task (Send Nothing) s
 effect (SleepDone task future) s = with_parts (settle future (Returned Nothing) s.parts) s
 effect MainDone s = record s { main_done = true }
+-- a task that would wait in a circle is thrown an error in its place
+effect (StepInCircle task circle) s = step task (Throw (circle_fault circle)) s
+-- no program makes groups or timeouts yet
+effect (GroupDone group task) s = s
+effect (Fires timeout) s = s
 
 abbrev pub ran : Bool → Action → State → State
 ran true action s = s

@@ -1,3 +1,7 @@
 //! The reference machine: its state, a task's step, a turn and a run, the transcript of a run, and what the program
 //! writes. Definitions, and laws about them as functions with no body.
 #![tactic(auto)]
+
+mod laws;
+
+pub use laws::what_happened_stays;

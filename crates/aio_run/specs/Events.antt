@@ -8,7 +8,7 @@ use Rattle.aio_run.specs.declared.event.Event.TheVariants.{RanStep, RanMainDone,
 abbrev pub plain_event : Event → plain.Event
 plain_event RanStep = plain.Ran (Step 0)
 plain_event RanMainDone = plain.Ran MainDone
-plain_event (Said text) = plain.Said 0 text
+plain_event (Said task text) = plain.Said task text
 
 abbrev pub plain_events : List Event → List plain.Event
 plain_events events = map plain_event events

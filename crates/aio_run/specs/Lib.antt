@@ -1,4 +1,11 @@
+pub mod Drive
+pub mod Ending
 pub mod Events
 pub mod Journal
+pub mod JournalWire
 pub mod Kernel
+pub mod Outcome
 pub mod Printing
+pub mod Reading
+pub mod Words
+pub mod Writing

@@ -8,6 +8,6 @@ pub enum Event {
     RanStep,
     /// Main's callback ran.
     RanMainDone,
-    /// Main printed a text.
-    Said(Blob),
+    /// A task printed a text.
+    Said { task: u32, text: Blob },
 }

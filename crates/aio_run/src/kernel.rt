@@ -37,7 +37,9 @@ pub struct Kernel {
 impl Kernel {
     /// A run that begins.
     pub fn new(program: Program) -> Kernel
-        ensures { state_of result starting ≡ start (plain_program program) }
+        ensures begins { state_of result starting ≡ start (plain_program program) }
+        ensures program { result.program ≡ program }
+        ensures phase { result.phase ≡ Phase.Started }
     {
         Kernel {
             program,

@@ -1,9 +1,18 @@
 //! The program: what it does for its words, over a shelf, a wire and a sink.
 #![tactic(auto)]
 
+mod driver;
+mod ending;
 mod event;
+mod halt;
 mod journal;
+mod journal_wire;
 mod kernel;
+mod lines;
 mod printing;
+mod program;
+mod reading;
+mod words;
+mod writing;
 
-pub use kernel::Kernel;
+pub use program::aio_main;

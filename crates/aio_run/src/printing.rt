@@ -16,8 +16,8 @@ pub fn print_lines(alloc: Global, lines: &[Line], told: &mut Vec<Event>) -> Resu
 {
     for line in lines {
         let Line::Print(items) = line;
-        let text = shown_all(alloc, items.items())?;
-        told.push(Event::Said(Blob::of(text)))?;
+        let text = Blob::of(shown_all(alloc, items.items())?);
+        told.push(Event::Said { task: 0, text })?;
     }
     Ok(())
 }

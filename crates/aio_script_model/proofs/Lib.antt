@@ -1,3 +1,13 @@
+pub mod PieceLemmas
+pub mod RunLemmas
+pub mod InsideLemmas
+pub mod SymbolLemmas
+pub mod CutLemmas
+pub mod PartLemmas
+pub mod LineLemmas
+pub mod SpanLemmas
+pub mod FaultLemmas
+pub mod RangeLemmas
 pub mod Loops
 pub mod Sound
 pub mod Bodies

@@ -1,4 +1,13 @@
+pub mod Cuts
+pub mod Faults
+pub mod FirstFaults
+pub mod Letters
+pub mod Lines
+pub mod Literals
+pub mod Pieces
 pub mod Straight
+pub mod Symbols
+pub mod Tokens
 pub mod Syntax
 pub mod Variables
 pub mod Operations

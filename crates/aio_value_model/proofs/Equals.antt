@@ -1,12 +1,17 @@
 -- Two values are equal exactly where they are one value.
-use Rattle.std.proofs.Common.{◌≡◌, ℕ, ℤ, eqb, pos, negsuc, Bool, true, false, ◌&&◌, List, [], ◌∷◌, refl, ap, sym}
+use Rattle.std.proofs.Common.{◌≡◌, ℕ, ℤ, Bool, true, false, ◌&&◌, List, [], ◌∷◌, refl, ap, sym, ◌≢◌, length, arith}
 use Rattle.std.proofs.lemmas.Bool.{false≢true, eqb-true, eq-eqb}
+use Rattle.std.proofs.lemmas.Bool.Decides.{Decides-int_eq}
+use Rattle.std.proofs.lemmas.Slice.Eq.{bytes_eq-Decides}
+use Rattle.std.specs.Str.{bytes_eq}
+use Rattle.std.specs.Ordering.{int_eq}
 use denote.Enum.Bare.{same_true, true_same}
 use Rattle.aio_value_model.specs.contracts.kind.Kind.{the_type}
 use Rattle.aio_value_model.specs.declared.kind.Kind.{Kind}
 use Rattle.aio_value_model.specs.Kinds.{same_kind}
-use Rattle.aio_value_model.specs.Value.{Value, Nothing, Truth, Int, Text, Bytes, Items, Fut, Task, Group, Timeout, Conn, Server, Child, Errs, Exception, Values, no_values, value_then, Exc, exc, Excs, no_excs, exc_then}
-use Rattle.aio_value_model.specs.Equality.{equal, same_truth, same_int, same_bytes, same_items, same_exc, same_members}
+use Rattle.aio_value_model.specs.Value.{Value, Nothing, Truth, Int, Text, Bytes, Items, Fut, Task, Group, Timeout, Conn, Server, Child, Errs, Exception, Values, no_values, value_then, Exc, exc, Excs, no_excs, exc_then, values, excs, kind_of, text_of, bytes_of, members_of}
+use Rattle.aio_value_model.proofs.Rows.{excs-excs_of}
+use Rattle.aio_value_model.specs.Equality.{equal, same_truth, same_items, same_exc, same_members}
 
 first_true : (a b : Bool) → (a && b) ≡ true → a ≡ true
 first_true true b e = refl
@@ -21,16 +26,11 @@ truth true b e = sym e
 truth false true e = absurd (false≢true e)
 truth false false e = refl
 
-int : (a b : ℤ) → same_int a b ≡ true → a ≡ b
-int (pos m) (pos n) e = ap pos (eqb-true m n e)
-int (negsuc m) (negsuc n) e = ap negsuc (eqb-true m n e)
-int _ _ e = absurd (false≢true e)
+int : (a b : ℤ) → int_eq a b ≡ true → a ≡ b
+int a b = (Decides-int_eq a b).0
 
-bytes : (a b : List ℕ) → same_bytes a b ≡ true → a ≡ b
-bytes [] [] e = refl
-bytes (b ∷ bs) (c ∷ cs) e =
-    λ i. eqb-true b c (first_true (eqb b c) (same_bytes bs cs) e) i ∷ bytes bs cs (second_true (eqb b c) (same_bytes bs cs) e) i
-bytes _ _ e = absurd (false≢true e)
+bytes : (a b : List ℕ) → bytes_eq a b ≡ true → a ≡ b
+bytes a b = (bytes_eq-Decides a b).0
 
 kind : (k l : Kind) → same_kind k l ≡ true → k ≡ l
 kind k l e = same_true the_type tt k l e
@@ -62,11 +62,11 @@ mutual
 
   one_exc : (v w : Exc) → same_exc v w ≡ true → v ≡ w
   one_exc (exc k t b ms) (exc k' t' b' ms') e =
-      let three = same_kind k k' && same_bytes t t' && same_bytes b b' in
-      let two = same_kind k k' && same_bytes t t' in
+      let three = same_kind k k' && bytes_eq t t' && bytes_eq b b' in
+      let two = same_kind k k' && bytes_eq t t' in
       let front = first_true three (same_members ms ms') e in
-      let start = first_true two (same_bytes b b') front in
-      λ i. exc (kind k k' (first_true (same_kind k k') (same_bytes t t') start) i) (bytes t t' (second_true (same_kind k k') (same_bytes t t') start) i) (bytes b b' (second_true two (same_bytes b b') front) i) (one_members ms ms' (second_true three (same_members ms ms') e) i)
+      let start = first_true two (bytes_eq b b') front in
+      λ i. exc (kind k k' (first_true (same_kind k k') (bytes_eq t t') start) i) (bytes t t' (second_true (same_kind k k') (bytes_eq t t') start) i) (bytes b b' (second_true two (bytes_eq b b') front) i) (one_members ms ms' (second_true three (same_members ms ms') e) i)
 
   one_members : (v w : Excs) → same_members v w ≡ true → v ≡ w
   one_members no_excs no_excs e = refl
@@ -82,21 +82,13 @@ same_truth_again : (b : Bool) → same_truth b b ≡ true
 same_truth_again true = refl
 same_truth_again false = refl
 
-same_int_again : (z : ℤ) → same_int z z ≡ true
-same_int_again (pos n) = eq-eqb n n refl
-same_int_again (negsuc n) = eq-eqb n n refl
-
-same_bytes_again : (bs : List ℕ) → same_bytes bs bs ≡ true
-same_bytes_again [] = refl
-same_bytes_again (b ∷ bs) = both (eqb b b) (same_bytes bs bs) (eq-eqb b b refl) (same_bytes_again bs)
-
 mutual
   pub equal_again : (v : Value) → equal v v ≡ true
   equal_again Nothing = refl
   equal_again (Truth truth) = same_truth_again truth
-  equal_again (Int number) = same_int_again number
-  equal_again (Text bytes) = same_bytes_again bytes
-  equal_again (Bytes bytes) = same_bytes_again bytes
+  equal_again (Int number) = (Decides-int_eq number number).1 refl
+  equal_again (Text bytes) = (bytes_eq-Decides bytes bytes).1 refl
+  equal_again (Bytes bytes) = (bytes_eq-Decides bytes bytes).1 refl
   equal_again (Items items) = same_items_again items
   equal_again (Fut id) = eq-eqb id id refl
   equal_again (Task id) = eq-eqb id id refl
@@ -114,10 +106,33 @@ mutual
 
   same_exc_again : (e : Exc) → same_exc e e ≡ true
   same_exc_again (exc k t b ms) =
-      both (same_kind k k && same_bytes t t && same_bytes b b) (same_members ms ms)
-      (both (same_kind k k && same_bytes t t) (same_bytes b b) (both (same_kind k k) (same_bytes t t) (true_same the_type k k refl) (same_bytes_again t)) (same_bytes_again b))
+      both (same_kind k k && bytes_eq t t && bytes_eq b b) (same_members ms ms)
+      (both (same_kind k k && bytes_eq t t) (bytes_eq b b) (both (same_kind k k) (bytes_eq t t) (true_same the_type k k refl) ((bytes_eq-Decides t t).1 refl)) ((bytes_eq-Decides b b).1 refl))
       (same_members_again ms)
 
   same_members_again : (es : Excs) → same_members es es ≡ true
   same_members_again no_excs = refl
   same_members_again (exc_then e es) = both (same_exc e e) (same_members es es) (same_exc_again e) (same_members_again es)
+
+and-false : (b : Bool) → (b && false) ≡ false
+and-false true = refl
+and-false false = refl
+
+-- lists of other lengths are not equal
+pub same_items-lengths : (vs ws : List Value) → length vs ≢ length ws → same_items (values vs) (values ws) ≡ false
+same_items-lengths [] [] n = absurd (n refl)
+same_items-lengths (v ∷ vs) (w ∷ ws) n =
+    rw (same_items-lengths vs ws (λ e. n (omega (arith, e)))) (and-false (equal v w))
+same_items-lengths [] (w ∷ ws) n = refl
+same_items-lengths (v ∷ vs) [] n = refl
+
+pub same_members-lengths : (es fs : List Exc) → length es ≢ length fs → same_members (excs es) (excs fs) ≡ false
+same_members-lengths [] [] n = absurd (n refl)
+same_members-lengths (e ∷ es) (f ∷ fs) n =
+    rw (same_members-lengths es fs (λ q. n (omega (arith, q)))) (and-false (same_exc e f))
+same_members-lengths [] (f ∷ fs) n = refl
+same_members-lengths (e ∷ es) [] n = refl
+
+-- whether two exceptions are equal, by their parts
+pub same_exc-parts : (a b : Exc) → same_exc a b ≡ (same_kind (kind_of a) (kind_of b) && bytes_eq (text_of a) (text_of b) && bytes_eq (bytes_of a) (bytes_of b) && same_members (excs (members_of a)) (excs (members_of b)))
+same_exc-parts (exc k t b ms) (exc k' t' b' ms') = rw (excs-excs_of ms, excs-excs_of ms') refl

@@ -1,5 +1,5 @@
 -- No printed byte is a newline.
-use Rattle.std.proofs.Common.{◌≡◌, ℕ, zero, suc, ◌+◌, ◌<◌, ◌≤◌, ◌/◌, ◌%◌, Bool, true, false, ◌||◌, List, [], ◌∷◌, ◌++◌, ℤ, pos, negsuc, refl, if◌then◌else◌, ◌==◌, arith}
+use Rattle.std.proofs.Common.{◌≡◌, ℕ, zero, suc, ◌/◌, ◌%◌, Bool, true, false, List, [], ◌∷◌, ◌++◌, ℤ, pos, negsuc, refl, if◌then◌else◌, ◌==◌, arith}
 use Rattle.std.proofs.lemmas.Bool.Decides.{nat_tests}
 use Rattle.std.proofs.lemmas.List.Folds.{list_any-append}
 use lib.Chars.{codes}
@@ -9,7 +9,7 @@ use Rattle.aio_value_model.specs.declared.kind.Kind.TheVariants.{BaseException}
 use Rattle.aio_value_model.specs.declared.place.Place.{Place}
 use Rattle.aio_value_model.specs.declared.place.Place.TheVariants.{Bare, InText, InBytes}
 use Rattle.aio_value_model.specs.Kinds.{kind_name}
-use Rattle.aio_value_model.specs.Escapes.{escaped, escaped_byte, hex_digit, text_literal, bytes_literal}
+use Rattle.aio_value_model.specs.Escapes.{escaped, escaped_byte, text_literal, bytes_literal}
 use Rattle.aio_value_model.specs.Endings.{has_newline}
 use Rattle.aio_value_model.specs.Value.{Value, Nothing, Truth, Int, Text, Bytes, Items, Fut, Task, Group, Timeout, Conn, Server, Child, Errs, Exception, Values, no_values, value_then, Exc, exc, Excs, no_excs, exc_then}
 use Rattle.aio_value_model.specs.Shown.{shown, quoted, quoted_items, more_items, shown_exc, shown_members, more_members, is_group, truth_text}

@@ -1,5 +1,5 @@
 -- No byte of a literal closes it but the last.
-use Rattle.std.proofs.Common.{◌≡◌, ℕ, ◌<◌, ◌≤◌, false, List, [], ◌∷◌, ◌++◌, Some, refl, ap, ◌∙◌, arith, append_assoc}
+use Rattle.std.proofs.Common.{◌≡◌, ℕ, false, List, [], ◌∷◌, ◌++◌, Some, refl, ◌∙◌, arith, append_assoc}
 use Rattle.std.proofs.lemmas.Bool.Decides.{nat_tests}
 use Rattle.aio_value_model.specs.declared.place.Place.TheVariants.{InText, InBytes}
 use Rattle.aio_value_model.specs.Escapes.{escaped, escaped_byte, hex_digit}

@@ -1,6 +1,7 @@
 -- When `==` finds two values equal: they are of one kind of value and have equal content.
 -- Source: the library reference, "Comparisons", cut to the values of scripts.
-use Rattle.std.specs.Prelude.{ℕ, ℤ, pos, negsuc, Bool, true, false, not, ◌&&◌, ◌==◌, List, [], ◌∷◌}
+use Rattle.std.specs.Prelude.{ℕ, ℤ, Bool, true, false, not, ◌&&◌, ◌==◌, List, bytes_eq}
+use Rattle.std.specs.Ordering.{int_eq}
 use Rattle.aio_value_model.specs.Kinds.{same_kind}
 use Rattle.aio_value_model.specs.Value.{Value, Nothing, Truth, Int, Text, Bytes, Items, Fut, Task, Group, Timeout, Conn, Server, Child, Errs, Exception, Values, no_values, value_then, Exc, exc, Excs, no_excs, exc_then}
 
@@ -9,14 +10,10 @@ same_truth true b = b
 same_truth false b = not b
 
 abbrev pub same_int : ℤ → ℤ → Bool
-same_int (pos m) (pos n) = m == n
-same_int (negsuc m) (negsuc n) = m == n
-same_int _ _ = false
+same_int = int_eq
 
 abbrev pub same_bytes : List ℕ → List ℕ → Bool
-same_bytes [] [] = true
-same_bytes (b ∷ bs) (c ∷ cs) = (b == c) && same_bytes bs cs
-same_bytes _ _ = false
+same_bytes = bytes_eq
 
 abbrev mutual
   pub equal : Value → Value → Bool

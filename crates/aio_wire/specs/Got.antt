@@ -1,8 +1,13 @@
 -- What a read may give.
-use Rattle.std.specs.Prelude.{◌≡◌, ℕ, ◌≤◌, List, [], ◌++◌, Option, Some, length, drop, take}
+use Rattle.std.specs.Prelude.{◌≡◌, ℕ, ◌≤◌, List, [], ◌∷◌, ◌++◌, Option, Some, length, drop, take}
 use Rattle.aio_wire_model.specs.Told.{Agrees, Rose}
 use Rattle.aio_wire.specs.declared.source.SourceGot.{SourceGot}
 use Rattle.aio_wire.specs.declared.source.SourceGot.TheVariants.{Bytes, End, Failed}
+
+-- the answer that gives these bytes: the end where there are none
+abbrev pub got_of : List ℕ → SourceGot
+got_of [] = End
+got_of (byte ∷ bytes) = Bytes (byte ∷ bytes)
 
 -- bytes that were read are at least one and at most as many as were asked for
 abbrev pub FitsRead : ℕ → SourceGot → Type 0

@@ -3,14 +3,21 @@
 #![tactic(auto)]
 
 mod call;
-mod memory;
+mod mem_shelf;
+mod mem_sink;
+mod mem_source;
 mod shelf;
 mod sink;
 mod source;
+#[cfg(test)]
+mod tests;
+mod window;
 mod wire;
 
 pub use call::{Answer, Call};
-pub use memory::MemSink;
+pub use mem_shelf::MemShelf;
+pub use mem_sink::MemSink;
+pub use mem_source::MemSource;
 pub use shelf::Shelf;
 pub use sink::{Sink, SinkTook};
 pub use source::{Source, SourceGot};

@@ -34,8 +34,22 @@ pub trait Wire {
     /// The answers that are left, and perhaps a line that is none behind them, where that is told.
     ghost answers: { Self → Option (List Entry) };
 
+    /// That each call fails, where that is told.
+    ghost fails: { Self → Type 0 };
+
+    /// What stays from call to call, as which shelf a journal is read from.
+    ghost keeps: { Self → Self → Type 0 };
+
+    /// Asks one call.
     fn ask(&mut self, alloc: Global, call: &Call) -> Result<Reply, Memory>
         ensures replied { IfOk result (Replied (answers self.old) (answers self.new)) }
         ensures failed { IfOk result (FailedIfRose (faults self.old) (faults self.new)) }
-        ensures later { faults self.old ≤ faults self.new };
+        ensures fails { fails self.old → IfOk result (λ reply. reply ≡ Reply.Failed) }
+        ensures later { faults self.old ≤ faults self.new }
+        ensures keeps { keeps self.old self.new };
+
+    /// Nothing is lost where nothing is asked, and what two calls keep one after another both keep.
+    ghost keeps_same: { (wire : Self) → keeps wire wire };
+
+    ghost keeps_on: { (before between after : Self) → keeps before between → keeps between after → keeps before after };
 }

@@ -14,4 +14,4 @@ decreases-push_members l = excs_size l.members.now
 abbrev pub invariant-push_members-loop-member : goal.invariant-push_members-loop-member
 invariant-push_members-loop-member l =
     (l.out.items ≡ l.initial.out.items ++ shown_members (excs (take l.member-index l.members)))
-    × (l.separator ≡ separator (take l.member-index l.members))
+    × (l.before ≡ separator (take l.member-index l.members))

@@ -1,15 +1,12 @@
-//! The outside in memory.
-ghost use Rattle.std.specs.Prelude.{◌≡◌, ◌≢◌, ℕ, ◌+◌, ◌≤◌, List, [], ◌++◌, Option, Some, None, IfOk, OnErr, OnOk};
+//! A sink in memory.
+ghost use Rattle.std.specs.Prelude.{◌≡◌, ℕ, List, [], ◌++◌, Some, length, IfOk, OnErr, OnOk};
 
-use crate::shelf::Shelf;
 use crate::sink::{Sink, SinkTook};
-use crate::source::{Source, SourceGot};
-use aio_base::{Blob, Memory};
-use indexmap::IndexMap;
+use aio_base::Memory;
 use std::alloc::Global;
 use std::marker::Model;
 
-/// A sink that keeps what it took, all of each piece. It never fails.
+/// A sink that keeps what it took, all of each piece. It never fails. Contracts see the bytes that it took.
 #[derive(Drop)]
 pub struct MemSink {
     bytes: Vec<u8>,
@@ -43,7 +40,11 @@ impl Sink for MemSink {
 
     ghost taken = { λ sink. Some sink };
 
-    fn write(&mut self, _alloc: Global, piece: &[u8]) -> Result<SinkTook, Memory> {
+    fn write(&mut self, _alloc: Global, piece: &[u8]) -> Result<SinkTook, Memory>
+        ensures whole { IfOk result (λ took. took ≡ SinkTook.Took (length piece.now)) }
+        ensures after { OnOk result (self.new ≡ self.old ++ piece.now) }
+        ensures unchanged { OnErr result (self.new ≡ self.old) }
+    {
         self.bytes.extend_from_slice(piece)?;
         Ok(SinkTook::Took(piece.len()))
     }

@@ -1,0 +1,3 @@
+pub mod Token
+pub mod Faults
+pub mod Fronts

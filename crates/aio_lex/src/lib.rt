@@ -1,0 +1,20 @@
+//! The tokens of a line of a script, or the line's first fault.
+#![tactic(auto)]
+
+mod fault;
+mod front;
+mod lexer;
+mod list;
+mod literal;
+mod number;
+mod symbols;
+#[cfg(test)]
+mod tests;
+mod token;
+mod words;
+
+pub use aio_script_model::Symbol;
+pub use fault::LexFault;
+pub use lexer::tokens;
+pub use list::TokenList;
+pub use token::{Span, Token, TokenClass};

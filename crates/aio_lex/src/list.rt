@@ -1,0 +1,33 @@
+use crate::token::Token;
+use std::marker::Model;
+
+/// The tokens of a line in order, which contracts see as a list.
+#[derive(Drop)]
+pub struct TokenList {
+    items: Vec<Token>,
+}
+
+impl Model for TokenList {
+    ghost use Rattle.std.specs.Prelude.{List};
+    ghost use Rattle.aio_script_model.specs.Tokens.{Token as PlainToken};
+
+    ghost Value = { List PlainToken };
+
+    ghost view = { λ list. list.items.items };
+}
+
+impl TokenList {
+    ghost use Rattle.std.specs.Prelude.{◌≡◌};
+
+    pub fn of(items: Vec<Token>) -> Self
+        ensures { result ≡ items.items }
+    {
+        TokenList { items }
+    }
+
+    pub fn items(&self) -> &[Token]
+        ensures { result.now ≡ self.now }
+    {
+        self.items.as_slice()
+    }
+}

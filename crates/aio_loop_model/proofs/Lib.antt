@@ -1,0 +1,16 @@
+pub mod Answering
+pub mod Balancing
+pub mod Beginning
+pub mod CancelNumbers
+pub mod Circling
+pub mod Counting
+pub mod Effects
+pub mod Falling
+pub mod Lookups
+pub mod LoopBalance
+pub mod Numbering
+pub mod Reach
+pub mod Seen
+pub mod StepNumbers
+pub mod Total
+pub mod Trace

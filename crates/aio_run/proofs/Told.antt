@@ -1,0 +1,39 @@
+-- What a journal's wire tells.
+use Rattle.std.proofs.Common.{◌≡◌, ℕ, List, [], ◌∷◌, Option, Some, None, refl, ap, sym, ◌∙◌}
+use Rattle.aio_wire_model.specs.Journal.{Entry, Answered, entries_of}
+use Rattle.aio_wire_model.specs.Told.{Agrees}
+use Rattle.aio_wire.specs.Replied.{Replied}
+use Rattle.aio_wire.specs.Told.{answer_of, refused_of}
+use Rattle.aio_wire.specs.declared.wire.Reply.{Reply}
+use Rattle.aio_wire.specs.declared.wire.Reply.TheVariants.{Got, Over, Bad, Failed}
+use Rattle.aio_run.specs.JournalWire.{RepliesWith, left_of, told_of}
+
+-- what is told outright
+told_outright : {A : Type 0} (a b : A) → Agrees (Some a) b → a ≡ b
+told_outright a b agrees = agrees a refl
+
+pub agrees_outright : {A : Type 0} (a : A) → Agrees (Some a) a
+agrees_outright a held e = cc
+
+agrees_same : {A : Type 0} (told : Option A) (a b : A) → Agrees told a → a ≡ b → Agrees told b
+agrees_same told a b agrees same held e = agrees held e ∙ same
+
+-- the replies of a journal that agrees with what is told
+pub replied_from : (told : Option (List Entry)) (old new : List Entry) (reply : Reply) → Agrees told old → RepliesWith old new reply → Replied told (Some new) reply
+replied_from told old new (Got answer) agrees replies =
+    λ rest left. agrees_same told old (Answered (answer_of answer) ∷ rest) agrees (replies ∙ ap (λ (es : List Entry). Answered (answer_of answer) ∷ es) (told_outright new rest left))
+replied_from told old new Over agrees replies =
+    (agrees_same told old [] agrees replies.1, λ rest left. agrees_same told old rest agrees (sym replies.0 ∙ told_outright new rest left))
+replied_from told old new (Bad fault) agrees replies =
+    ((replies.1, agrees_same told old (refused_of fault ∷ replies.1) agrees replies.2), λ rest left. agrees_same told old rest agrees (sym replies.0 ∙ told_outright new rest left))
+replied_from told old new Failed agrees replies = absurd replies
+
+-- a journal that was just read agrees with what was told of its file
+pub agrees_read : (file : Option (Option (List ℕ))) (text : List ℕ) → Agrees file (Some text) → Agrees (left_of file None) (entries_of text)
+agrees_read None text agrees held e = absurd (cc e)
+agrees_read (Some None) text agrees held e = absurd (let f = agrees None refl in cc)
+agrees_read (Some (Some all)) text agrees held e =
+    let f : Some all ≡ Some text = agrees (Some all) refl in
+    let same : all ≡ text = cc in
+    let g : held ≡ entries_of all = cc in
+    g ∙ ap entries_of same

@@ -1,0 +1,13 @@
+use Rattle.std.proofs.Common.{◌≡◌, ◌≤◌, ◌-◌, ◌^◌, ℕ, List, Option, Some, vec_len}
+use Rattle.aio_run.specs.Reading.{Begins}
+use Rattle.aio_run.proofs.reading.read_file.Given as goal
+
+abbrev pub invariant-loop-text : goal.invariant-loop-text
+invariant-loop-text g l = record {
+  files : g.F.Shelf.file l.shelf ≡ g.F.Shelf.file l.fn.shelf;
+  later : g.F.Shelf.faults l.fn.shelf ≤ g.F.Shelf.faults l.shelf;
+  begins : (held : Option (List ℕ)) → g.F.Shelf.file l.fn.shelf l.name ≡ Some held → Begins held l.text.items;
+}
+
+abbrev pub decreases-loop-text : goal.decreases-loop-text
+decreases-loop-text g l = 2 ^ 64 - vec_len l.text

@@ -1,0 +1,15 @@
+-- Code's endings as the definitions have them.
+use Rattle.std.specs.Prelude.{ℕ}
+use Rattle.aio_value_model.specs.Value.{Nothing}
+use Rattle.aio_value_model.specs.declared.outcome.Outcome.TheVariants.{Value as Returned}
+use Rattle.aio_wire.specs.Told.{call_of}
+use Rattle.aio_machine.specs.Program.{turn_limit}
+use Rattle.aio_machine.specs.Run as plain
+use Rattle.aio_run.specs.declared.ending.Ending.{Ending}
+use Rattle.aio_run.specs.declared.ending.Ending.TheVariants.{Finished, Turns, Over, Bad}
+
+abbrev pub plain_ending : Ending → plain.Ending
+plain_ending Finished = plain.Finished (Returned Nothing)
+plain_ending Turns = plain.Turns turn_limit
+plain_ending (Over call) = plain.Over (call_of call)
+plain_ending (Bad fault) = plain.Bad fault.line fault.cause

@@ -1,0 +1,15 @@
+-- How far a file was read.
+use Rattle.std.specs.Prelude.{◌≡◌, ℕ, ◌≤◌, List, [], Option, Some, None, length, take}
+use Rattle.aio_wire_model.specs.Told.{Rose}
+use Rattle.aio_run.specs.declared.reading.ReadFault.{ReadFault}
+use Rattle.aio_run.specs.declared.reading.ReadFault.TheVariants.{Memory, Failed}
+
+-- reading stops for want of memory, or where the shelf's count of faults rose
+abbrev pub StopsReading : ℕ → ℕ → ReadFault → Type 0
+StopsReading before now Memory = Unit {0}
+StopsReading before now Failed = Rose before now
+
+-- a text is the front of what a file holds; of a missing file nothing was read
+abbrev pub Begins : Option (List ℕ) → List ℕ → Type 0
+Begins None text = text ≡ []
+Begins (Some all) text = text ≡ take (length text) all

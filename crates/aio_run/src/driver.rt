@@ -1,0 +1,87 @@
+//! The one loop that holds kernel, wire and sink.
+ghost use Rattle.std.specs.Prelude.{◌≡◌, ◌≤◌, IfOk, IfErr, OnOk};
+ghost use Rattle.aio_script.specs.Read.{plain_program};
+ghost use Rattle.aio_run.specs.Drive.{Ran, Stopped, StopsInTurn, TurnWritten};
+ghost use Rattle.aio_run.specs.Ending.{plain_ending};
+ghost use Rattle.aio_run.specs.Writing.{StopsWriting};
+ghost use Rattle.aio_machine.specs.Transcript.{line, ending_text, status_of};
+ghost use Rattle.aio_wire_model.specs.Call.{Turn};
+ghost use Rattle.aio_wire.specs.Told.{answer_of};
+ghost use Rattle.aio_wire_model.specs.Told.{grown};
+
+use crate::ending::{Ending, TURN_LIMIT};
+use crate::halt::Halt;
+use crate::kernel::Kernel;
+use crate::lines::lines_of;
+use crate::writing::write_all;
+use aio_script::Program;
+use aio_wire::{Answer, Reply, Sink, Wire};
+use std::alloc::Global;
+
+/// Runs a program over a wire's answers, and writes its transcript to a sink. It answers the exit status.
+pub fn drive<W: Wire, K: Sink>(
+    alloc: Global,
+    program: Program,
+    wire: &mut W,
+    out: &mut K,
+) -> Result<u8, Halt>
+    ensures run { IfOk result (Ran (plain_program program) (W.answers wire.old) (K.taken out.old) (K.taken out.new)) }
+    ensures live { IfOk result (λ _. W.fails wire.old → ⊥) }
+    ensures failing { W.fails wire.old → K.taken out.new ≡ K.taken out.old }
+    ensures stopped { IfErr result (Stopped (plain_program program) (W.answers wire.old) (K.taken out.old) (K.taken out.new)
+        (W.faults wire.old) (W.faults wire.new) (K.faults out.old) (K.faults out.new)) }
+    ensures later { W.faults wire.old ≤ W.faults wire.new }
+    ensures sink { K.faults out.old ≤ K.faults out.new }
+    ensures keeps { W.keeps wire.old wire.new }
+{
+    let mut kernel = Kernel::new(program);
+    for _made in 0..TURN_LIMIT {
+        if kernel.is_over() {
+            return finish(alloc, &Ending::Finished, out);
+        }
+        let call = kernel.call();
+        match wire.ask(alloc, &call)? {
+            Reply::Got(answer) => take_turn(alloc, &mut kernel, answer, out)?,
+            Reply::Over => return finish(alloc, &Ending::Over(call), out),
+            Reply::Bad(fault) => return finish(alloc, &Ending::Bad(fault), out),
+            Reply::Failed => return Err(Halt::Wire),
+        }
+    }
+    if kernel.is_over() {
+        return finish(alloc, &Ending::Finished, out);
+    }
+    finish(alloc, &Ending::Turns, out)
+}
+
+/// A turn whose call has this answer, with its lines written.
+fn take_turn<K: Sink>(alloc: Global, kernel: &mut Kernel, answer: Answer, out: &mut K) -> Result<(), Halt>
+    ensures ok { OnOk result (TurnWritten kernel.old kernel.new (answer_of answer) (K.taken out.old) (K.taken out.new)) }
+    ensures err { IfErr result (StopsInTurn kernel.old (answer_of answer) (K.taken out.old) (K.taken out.new) (K.faults out.old) (K.faults out.new)) }
+    ensures later { K.faults out.old ≤ K.faults out.new }
+{
+    let told = kernel.turn(alloc, time_of(answer))?;
+    let text = lines_of(alloc, told.as_slice())?;
+    write_all(alloc, out, text.as_slice())?;
+    Ok(())
+}
+
+/// The time that an answer tells.
+fn time_of(answer: Answer) -> u64
+    ensures { Turn result ≡ answer_of answer }
+{
+    match answer {
+        Answer::Turn { now } => now,
+    }
+}
+
+/// Writes a run's last line, and answers its status.
+fn finish<K: Sink>(alloc: Global, ending: &Ending, out: &mut K) -> Result<u8, Halt>
+    ensures ok { IfOk result (λ status. (status ≡ status_of (plain_ending ending.now))
+        × (K.taken out.new ≡ grown (K.taken out.old) (line (ending_text (plain_ending ending.now))))) }
+    ensures err { IfErr result (StopsWriting (line (ending_text (plain_ending ending.now))) (K.taken out.old) (K.taken out.new) (K.faults out.old) (K.faults out.new)) }
+    ensures later { K.faults out.old ≤ K.faults out.new }
+{
+    let text = ending.line(alloc)?;
+    write_all(alloc, out, text.as_bytes())?;
+    Ok(ending.status())
+}

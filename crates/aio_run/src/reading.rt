@@ -1,0 +1,53 @@
+//! Reading a shelf's files.
+ghost use Rattle.std.specs.Prelude.{◌≡◌, ◌≤◌, Some, IfOk, IfErr};
+ghost use Rattle.aio_wire_model.specs.Told.{Agrees};
+ghost use Rattle.aio_run.specs.Reading.{StopsReading};
+ghost use Rattle.aio_run.specs.declared.reading.ReadFault.TheVariants.{Memory as OutOfMemory};
+
+use aio_base::Memory;
+use aio_wire::{Shelf, SourceGot};
+use std::alloc::{AllocError, Global};
+
+/// How many bytes one read asks for.
+const CHUNK: usize = 65_536;
+
+/// Why a file could not be read.
+#[derive(Clone, Copy, Debug, PartialEq, Eq)]
+pub enum ReadFault {
+    Memory,
+    /// The shelf failed.
+    Failed,
+}
+
+impl From<Memory> for ReadFault {
+    ghost from_gives = { λ _ fault. fault ≡ OutOfMemory };
+
+    fn from(_cause: Memory) -> ReadFault {
+        ReadFault::Memory
+    }
+}
+
+impl From<AllocError> for ReadFault {
+    ghost from_gives = { λ _ fault. fault ≡ OutOfMemory };
+
+    fn from(_cause: AllocError) -> ReadFault {
+        ReadFault::Memory
+    }
+}
+
+/// All of a file. A missing file is a fault of the shelf. No file changes.
+pub fn read_file<F: Shelf>(alloc: Global, shelf: &mut F, name: &str) -> Result<Vec<u8>, ReadFault>
+    ensures text { IfOk result (λ text. Agrees (F.file shelf.old name.now) (Some text.items)) }
+    ensures fault { IfErr result (StopsReading (F.faults shelf.old) (F.faults shelf.new)) }
+    ensures files { F.file shelf.new ≡ F.file shelf.old }
+    ensures later { F.faults shelf.old ≤ F.faults shelf.new }
+{
+    let mut text = Vec::new(alloc);
+    loop {
+        match shelf.read(alloc, name, text.len() as u64, CHUNK)? {
+            SourceGot::Bytes(bytes) => text.extend_from_slice(bytes.items())?,
+            SourceGot::End => return Ok(text),
+            SourceGot::Failed => return Err(ReadFault::Failed),
+        }
+    }
+}

@@ -1,0 +1,9 @@
+/// The two sorts of literals.
+/// Source: the Python language reference, "String and Bytes literals".
+#[derive(Clone, Copy, Debug, PartialEq, Eq)]
+pub enum Literal {
+    /// `"..."`
+    OfText,
+    /// `b"..."`
+    OfBytes,
+}

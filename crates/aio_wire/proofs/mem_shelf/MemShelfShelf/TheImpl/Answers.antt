@@ -1,0 +1,67 @@
+use Rattle.std.proofs.Common.{◌≡◌, ℕ, ◌≤◌, List, [], ◌++◌, Option, Some, None, length, take, drop, unwrap_or, refl, sym, ap, subst, ◌∙◌, arith}
+use Rattle.std.proofs.Math.Seq.{take-length}
+use Rattle.std.proofs.lemmas.Result.{on_err_weaker}
+use Rattle.aio_wire.specs.Files.{Appends, with_piece}
+use Rattle.aio_wire.specs.Got.{FitsRead, ReadsAt, FailedIfRose}
+use Rattle.aio_wire.specs.Shelved.{Shelved, held, got_at, missed_by, with_appended}
+use Rattle.aio_wire.specs.Took.{FitsWrite, FailedIfRose as WriteFailedIfRose}
+use Rattle.aio_wire.specs.declared.sink.SinkTook.TheVariants.{Took}
+use Rattle.aio_wire.proofs.GivenLemmas.{from_given, from_given_after}
+use Rattle.aio_wire.proofs.GotLemmas.{FitsRead-got_of, ReadsAt-got_of, FailedIfRose-got_of}
+use Rattle.aio_wire.proofs.ShelvedLemmas.{lookup-insert_entry, lookup-insert_entry_other}
+use Rattle.aio_wire.proofs.mem_shelf.MemShelfShelf.TheImpl.Goals as goal
+
+FitsRead-got_at : (file : Option (List ℕ)) (from max : ℕ) → FitsRead max (got_at file from max)
+FitsRead-got_at None from max = tt
+FitsRead-got_at (Some bytes) from max = FitsRead-got_of max (drop from bytes)
+
+ReadsAt-got_at : (file : Option (List ℕ)) (from max : ℕ) → 1 ≤ max → ReadsAt file from (got_at file from max)
+ReadsAt-got_at None from max some = tt
+ReadsAt-got_at (Some bytes) from max some = ReadsAt-got_of bytes from max some
+
+FailedIfRose-got_at : (file : Option (List ℕ)) (from max missed : ℕ) → FailedIfRose missed (missed_by file missed) (got_at file from max)
+FailedIfRose-got_at None from max missed = omega arith
+FailedIfRose-got_at (Some bytes) from max missed = FailedIfRose-got_of missed missed (take max (drop from bytes))
+
+pub read-tells : goal.read-tells
+read-tells c =
+    let before = c.args.self.now in
+    let file = held before c.args.name.now in
+    let given = got_at file c.args.from c.args.max in
+    record {
+      size = from_given c.result given (FitsRead c.args.max) c.ensures.next (FitsRead-got_at file c.args.from c.args.max);
+      bytes = from_given c.result given (λ got. (told : Option (List ℕ)) → Some file ≡ Some told → ReadsAt told c.args.from got) c.ensures.next
+          (λ told is. let same : file ≡ told = cc in subst (λ (f : Option (List ℕ)). ReadsAt f c.args.from given) same (ReadsAt-got_at file c.args.from c.args.max c.requires));
+      failed = from_given c.result given (FailedIfRose before.missed c.new.self.now.missed) c.ensures.next
+          (rw c.ensures.after (FailedIfRose-got_at file c.args.from c.args.max before.missed));
+      later = c.ensures.later;
+      files = λ i name. Some (held (c.ensures.after i) name);
+    }
+
+with_piece-held : (file : Option (List ℕ)) (piece : List ℕ) → Some (Some (unwrap_or file [] ++ piece)) ≡ with_piece (Some file) piece
+with_piece-held None piece = refl
+with_piece-held (Some bytes) piece = refl
+
+-- the files after an append, in the words of every shelf
+Appends-with_appended : (before after : Shelved) (name piece : List ℕ) → after ≡ record before { files = with_appended before.files name piece }
+    → Appends name piece (λ key. Some (held before key)) (λ key. Some (held after key)) (Took (length piece))
+Appends-with_appended before after name piece is = (
+  ap (λ shelf. Some (held shelf name)) is ∙ ap Some (lookup-insert_entry before.files name _)
+      ∙ with_piece-held (held before name) piece ∙ ap (with_piece (Some (held before name))) (sym (take-length piece)),
+  λ other apart. ap (λ shelf. Some (held shelf other)) is ∙ ap Some (lookup-insert_entry_other before.files name _ other apart),
+)
+
+pub append-tells : goal.append-tells
+append-tells c =
+    let before = c.args.self.now in
+    let after = c.new.self.now in
+    let piece = c.args.piece.now in
+    let given = Took (length piece) in
+    record {
+      size = from_given c.result given (FitsWrite piece) c.ensures.whole (omega arith, λ some. some);
+      written = from_given_after c.result given (Appends c.args.name.now piece (λ key. Some (held before key)) (λ key. Some (held after key))) c.ensures.whole c.ensures.after
+          (λ is. Appends-with_appended before after c.args.name.now piece is);
+      failed = from_given c.result given (WriteFailedIfRose before.missed after.missed) c.ensures.whole tt;
+      later = c.ensures.later;
+      err = on_err_weaker c.result (λ same i name. Some (held (same i) name)) c.ensures.unchanged;
+    }
