@@ -1,4 +1,3 @@
-pub mod Same
 pub mod Floors
 pub mod Places
 pub mod InBounds

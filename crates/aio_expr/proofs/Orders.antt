@@ -1,5 +1,5 @@
 -- Comparisons are orders, where the code's orders are.
-use Rattle.std.proofs.Common.{◌≡◌, ◌⊎◌, inl, inr, Bool, true, false, not, Option, Some, None, Ok, Err, refl, ap, sym, ◌∙◌, subst, is_lt, is_le, is_gt, is_ge, Ordering, Less, Equal, Greater}
+use Rattle.std.proofs.Common.{◌≡◌, ◌⊎◌, inl, inr, Bool, true, false, not, Some, Ok, refl, ap, sym, ◌∙◌, is_lt, is_le, is_gt, is_ge, Ordering, Less, Equal, Greater}
 use Rattle.std.proofs.lemmas.Bool.{false≢true}
 use Rattle.std.specs.Ordering.{ordering_reverse}
 use Rattle.std.specs.Cmp.{IsTotalOrder}

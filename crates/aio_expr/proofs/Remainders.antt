@@ -1,11 +1,11 @@
 -- A remainder of a negative divisor is above it, and at most 0.
-use Rattle.std.proofs.Common.{◌≡◌, ◌≢◌, ℕ, zero, suc, ◌%◌, ◌<◌, ◌≤◌, ℤ, pos, negsuc, ◌+ℤ◌, neg_ℤ, ◌<ℤ◌, ◌≤ℤ◌, nat_lt, ◌^◌, Bool, true, false, not, if◌then◌else◌, ◌==◌, Ok, Err, refl, ap, sym, ◌∙◌, subst, arith}
+use Rattle.std.proofs.Common.{◌≡◌, ◌≢◌, ℕ, suc, ◌%◌, ◌≤◌, ℤ, pos, negsuc, ◌+ℤ◌, neg_ℤ, ◌<ℤ◌, ◌≤ℤ◌, Bool, true, false, not, if◌then◌else◌, ◌==◌, Ok, Err, refl, ap, sym, subst, arith}
 use Rattle.std.specs.Result.{result_unwrap_or}
 use Rattle.std.proofs.lemmas.Bool.{eqb-true, eqb-false}
 use Rattle.std.proofs.lemmas.Int.{ints}
 use Rattle.aio_value_model.specs.Value.{Value, Nothing, Int}
-use Rattle.aio_script_model.specs.Operations.{Answer, number, fits, divided, floor_remainder, out_of_range}
-use Rattle.aio_expr.proofs.Floors.{below, remainder_is, divided_is}
+use Rattle.aio_script_model.specs.Operations.{fits, divided, floor_remainder, out_of_range}
+use Rattle.aio_expr.proofs.Floors.{below, remainder_is}
 
 IsBetween : ℕ → ℤ → Type 0
 IsBetween n z = (negsuc n <ℤ z) × (z ≤ℤ pos 0)

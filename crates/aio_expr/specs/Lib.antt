@@ -1,4 +1,3 @@
-pub mod Content
 pub mod Gives
 pub mod Rounding
 pub mod Places

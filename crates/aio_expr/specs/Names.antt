@@ -1,5 +1,5 @@
 -- Where the first variable of a name stands.
-use Rattle.std.specs.Prelude.{◌≡◌, ℕ, ◌<◌, true, false, List, [], ◌∷◌, length, take, slice_index_or, ⊤}
+use Rattle.std.specs.Prelude.{◌≡◌, ℕ, ◌<◌, true, false, [], ◌∷◌, length, take, slice_index_or, ⊤}
 use Rattle.std.specs.Str.{bytes_eq}
 use Rattle.aio_script_model.specs.Syntax.{Name}
 use Rattle.aio_script_model.specs.Variables.{Binding, Env}

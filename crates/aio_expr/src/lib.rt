@@ -4,7 +4,6 @@
 mod bounds;
 mod cause;
 mod env;
-mod equality;
 mod evaluate;
 mod functions;
 mod items;

@@ -1,4 +1,4 @@
-use Rattle.std.proofs.Common.{◌≡◌, true, false, take, length, sym, ◌∙◌, ap, subst, arith, take_all}
+use Rattle.std.proofs.Common.{◌≡◌, true, false, take, sym, ◌∙◌, ap, subst, arith, take_all}
 use Rattle.std.proofs.lemmas.List.{length-map}
 use Rattle.std.specs.Str.{bytes_eq}
 use Rattle.std.specs.Rc.{rc_str_bytes}

@@ -3,7 +3,7 @@ use Rattle.std.proofs.lemmas.List.{take_more}
 use Rattle.aio_script_model.specs.ExprSize.{expr_size, expr_list_size}
 use Rattle.aio_script_model.specs.Expressions.{value_of, values_of}
 use Rattle.aio_script_model.specs.Operations.{compared, calculated, indexed}
-use Rattle.aio_script_model.specs.Syntax.{Expr, exprs}
+use Rattle.aio_script_model.specs.Syntax.{exprs}
 use Rattle.aio_expr.specs.Gives.{Fails, AllFail}
 use Rattle.aio_expr.proofs.Evaluated.{gives-err, if-err, or-fails, and-fails, values_of-push, all-fail, expr_size-item}
 use Rattle.aio_expr.proofs.evaluate.+evaluate.Goals as goal
