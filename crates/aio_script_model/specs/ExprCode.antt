@@ -2,7 +2,7 @@
 -- expressions.
 use base.Stored.{Gv, gnil, gnum, gcons, num, Coded}
 use denote.Enum.Declared.{tag_of}
-use Rattle.std.specs.Prelude.{◌≡◌, ℕ, zero, suc, ℤ, pos, negsuc, Bool, true, false, List, [], ◌∷◌, slice_index_or}
+use Rattle.std.specs.Prelude.{◌≡◌, ℕ, zero, suc, pos, negsuc, true, false, List, [], ◌∷◌, slice_index_or}
 use Rattle.std.proofs.Common.{sym, refl, ap, ◌∙◌}
 use Rattle.aio_value_model.specs.contracts.kind.Kind.{the_type as kind_type}
 use Rattle.aio_value_model.specs.declared.kind.Kind.{Kind}
