@@ -1,5 +1,5 @@
 -- Quotients that are rounded down, beside those whose remainder is not negative.
-use Rattle.std.proofs.Common.{rules, ◌≡◌, ◌≢◌, ◌^◌, Bool, true, false, not, nat_lt, Ok, Err, lt-ltb, eqb-true, eq-eqb, FitsSigned, w64, if◌then◌else◌, ◌==◌, int_div, int_rem, suc-ne-zero, ℕ, zero, suc, ◌+◌, ◌-◌, ◌*◌, ◌/◌, ◌%◌, ◌<◌, ◌≤◌, ℤ, pos, negsuc, ◌+ℤ◌, ◌-ℤ◌, ◌*ℤ◌, neg_ℤ, refl, ap, sym, ◌∙◌, subst, lt_of_le_of_lt, div-le_self, arith}
+use Rattle.std.proofs.Common.{rules, ◌≡◌, ◌≢◌, ◌^◌, Bool, true, false, not, nat_lt, Ok, Err, lt-ltb, eqb-true, eq-eqb, FitsSigned, w64, if◌then◌else◌, ◌==◌, int_div, int_rem, ℕ, zero, suc, ◌+◌, ◌-◌, ◌*◌, ◌/◌, ◌%◌, ◌<◌, ◌≤◌, ℤ, pos, negsuc, ◌+ℤ◌, ◌-ℤ◌, ◌*ℤ◌, neg_ℤ, refl, ap, sym, ◌∙◌, subst, lt_of_le_of_lt, div-le_self, arith}
 use Rattle.std.proofs.Math.Nat.{div-eq_of_lt-le, div-add-mod', mod-lt, zero-lt-suc}
 use Rattle.std.proofs.lemmas.Bool.{false≢true}
 use Rattle.std.proofs.lemmas.Int.{quot-rem, ints}
@@ -16,7 +16,7 @@ quotient_is n d k r is below = div-eq_of_lt-le (suc d) (omega (arith, is)) (omeg
 parts : (n d : ℕ) → n ≡ (n / suc d) * suc d + n % suc d
 parts n d = sym (div-add-mod' n (suc d))
 
-below : (n d : ℕ) → n % suc d ≤ d
+pub below : (n d : ℕ) → n % suc d ≤ d
 below n d = omega (arith, mod-lt n (zero-lt-suc d))
 
 up : (a b : ℕ) → a % suc b ≢ 0 → (a + b) / suc b ≡ suc (a / suc b)

@@ -1,18 +1,30 @@
 -- What code answers for a meaning: the same value or the same exception, but for want of memory.
-use Rattle.std.specs.Prelude.{◌≡◌, Result, Ok, Err, ⊤}
-use Rattle.aio_value_model.specs.Value.{Value}
+use Rattle.std.specs.Prelude.{◌≡◌, List, Option, Some, None, Result, Ok, Err, ⊤}
+use Rattle.aio_value_model.specs.Value.{Value, Exc}
 use Rattle.aio_script_model.specs.Operations.{Answer, bad_operand, out_of_range, division_by_zero, index_out_of_range, not_utf8}
 use Rattle.aio_expr.specs.declared.cause.Cause.{Cause}
 use Rattle.aio_expr.specs.declared.cause.Cause.TheVariants.{BadOperand, OutOfRange, DivisionByZero, IndexOutOfRange, NotUtf8, Memory}
 
--- the cause is that of an exception, or want of memory, which has none
+-- the exception of a cause; want of memory has none
+abbrev pub raised_for : Cause → Option Exc
+raised_for BadOperand = Some bad_operand
+raised_for OutOfRange = Some out_of_range
+raised_for DivisionByZero = Some division_by_zero
+raised_for IndexOutOfRange = Some index_out_of_range
+raised_for NotUtf8 = Some not_utf8
+raised_for Memory = None
+
+abbrev pub IsRaised : {A : Type 0} → Result A Exc → Option Exc → Type 0
+IsRaised answer (Some fault) = answer ≡ Err fault
+IsRaised answer None = ⊤
+
+-- the meaning raises the exception of the cause
 abbrev pub Fails : Answer → Cause → Type 0
-Fails answer BadOperand = answer ≡ Err bad_operand
-Fails answer OutOfRange = answer ≡ Err out_of_range
-Fails answer DivisionByZero = answer ≡ Err division_by_zero
-Fails answer IndexOutOfRange = answer ≡ Err index_out_of_range
-Fails answer NotUtf8 = answer ≡ Err not_utf8
-Fails answer Memory = ⊤
+Fails answer cause = IsRaised answer (raised_for cause)
+
+-- the same of values in order
+abbrev pub AllFail : Result (List Value) Exc → Cause → Type 0
+AllFail answer cause = IsRaised answer (raised_for cause)
 
 abbrev pub Gives : Answer → Result Value Cause → Type 0
 Gives answer (Ok value) = answer ≡ Ok value

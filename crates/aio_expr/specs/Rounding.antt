@@ -1,5 +1,5 @@
 -- Where rounding toward zero rounds up.
-use Rattle.std.specs.Prelude.{ℕ, suc, ◌%◌, ◌==◌, ℤ, pos, negsuc, Bool, false, not}
+use Rattle.std.specs.Prelude.{suc, ◌%◌, ◌==◌, ℤ, pos, negsuc, Bool, false, not}
 
 -- the quotient is below zero and no whole number
 abbrev pub rounds_up : ℤ → ℤ → Bool

@@ -11,7 +11,6 @@ use crate::items::list_of;
 use aio_base::{Exc, Kind, Value, ValueCase, exception, name_of, show};
 use aio_syntax::Function;
 use std::alloc::Global;
-use std::rc::{RcSlice, RcStr};
 use std::str;
 
 /// What a function gives for its argument.
@@ -46,13 +45,13 @@ fn number_of(len: usize) -> Result<Value, Cause>
 fn text_value(alloc: Global, text: &str) -> Result<Value, Cause>
     ensures { Gives (bounded (Text text.now)) result }
 {
-    bounded(Value::text(RcStr::from_str(alloc, text)?))
+    bounded(Value::text_from(alloc, text)?)
 }
 
 fn bytes_value(alloc: Global, bytes: &[u8]) -> Result<Value, Cause>
     ensures { Gives (bounded (Bytes bytes.now)) result }
 {
-    bounded(Value::bytes(RcSlice::from_slice(alloc, bytes)?))
+    bounded(Value::bytes_from(alloc, bytes)?)
 }
 
 /// The text that bytes are.

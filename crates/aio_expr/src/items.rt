@@ -9,15 +9,14 @@ ghost use Rattle.aio_expr.specs.Gives.{Gives};
 
 use crate::bounds::{DEEPEST, HEAVIEST, bounded};
 use crate::cause::Cause;
-use aio_base::{Value, ValueCase, ValueList, depth, weight};
+use aio_base::{Value, ValueCase, depth, weight};
 use std::alloc::{AllocError, Global};
-use std::rc::Rc;
 
 /// A list of these values.
 pub fn list_of(alloc: Global, items: Vec<Value>) -> Result<Value, Cause>
     ensures { Gives (bounded (Items (values items.items))) result }
 {
-    bounded(Value::list(Rc::new(alloc, ValueList::of(items))?))
+    bounded(Value::list_from(alloc, items)?)
 }
 
 /// The items of both lists in order. They are weighed before the list is made.
@@ -33,7 +32,7 @@ pub fn joined_lists(alloc: Global, front: &[Value], back: &[Value]) -> Result<Va
     let mut items = Vec::new(alloc);
     push_copies(&mut items, front)?;
     push_copies(&mut items, back)?;
-    Ok(Value::list(Rc::new(alloc, ValueList::of(items))?))
+    Ok(Value::list_from(alloc, items)?)
 }
 
 fn push_copies(items: &mut Vec<Value>, from: &[Value]) -> Result<(), AllocError>

@@ -4,13 +4,15 @@
 mod bounds;
 mod cause;
 mod env;
-mod equality;
+mod evaluate;
 mod functions;
 mod items;
 mod joins;
+pub mod laws;
 mod numbers;
 mod operators;
 mod order;
+mod value;
 
-pub use cause::Cause;
 pub use env::Env;
+pub use value::{ExprFault, value_of};

@@ -5,12 +5,11 @@ ghost use Rattle.aio_expr.specs.declared.cause.Cause.TheVariants.{BadOperand};
 ghost use Rattle.aio_expr.specs.Gives.{Gives};
 
 use crate::cause::Cause;
-use crate::equality::is_equal;
 use crate::items::joined_lists;
 use crate::joins::{joined_bytes, joined_texts, repeated_bytes, repeated_text};
 use crate::numbers;
 use crate::order::order;
-use aio_base::{Value, ValueCase};
+use aio_base::{Value, ValueCase, equal};
 use aio_syntax::{Comparison, Operator};
 use std::alloc::Global;
 use std::cmp::Ordering;
@@ -125,8 +124,8 @@ pub fn compared(comparison: Comparison, left: &Value, right: &Value) -> Result<V
     ensures { Gives (compared comparison left.now right.now) result }
 {
     match comparison {
-        Comparison::Equal => Ok(Value::bool(is_equal(left, right))),
-        Comparison::NotEqual => Ok(Value::bool(!is_equal(left, right))),
+        Comparison::Equal => Ok(Value::bool(equal(left, right))),
+        Comparison::NotEqual => Ok(Value::bool(!equal(left, right))),
         Comparison::Less => Ok(Value::bool(ordering_of(left, right)?.is_lt())),
         Comparison::LessOrEqual => Ok(Value::bool(ordering_of(left, right)?.is_le())),
         Comparison::Greater => Ok(Value::bool(ordering_of(left, right)?.is_gt())),

@@ -1,6 +1,6 @@
-//! What a script is: the tokens of a line, which texts spell a script, and what its coroutines say after their inputs.
-//! Definitions that other crates cite, the enumerations that definitions and code share, and laws about the definitions
-//! as functions with no body.
+//! What a script is: the tokens of a line, which texts spell a script, the script as plain data, the meaning of
+//! expressions, and what coroutines say after their inputs. Definitions that other crates cite, the enumerations that
+//! definitions and code share, and laws about the definitions as functions with no body.
 #![tactic(auto)]
 
 mod cause;
@@ -12,7 +12,7 @@ mod operator;
 mod request_name;
 mod reserved_word;
 mod symbol;
-pub mod tapes;
+mod tapes;
 pub mod texts;
 
 pub use cause::Cause;
@@ -27,3 +27,7 @@ pub use operator::{Comparison, Operator};
 pub use request_name::RequestName;
 pub use reserved_word::ReservedWord;
 pub use symbol::Symbol;
+pub use tapes::{
+    a_loop_is_its_body_and_then_the_loop, longer_tapes_ask_the_same_first,
+    requests_take_the_inputs_in_order, what_is_over_stays_over,
+};

@@ -1,4 +1,4 @@
-use Rattle.std.proofs.Common.{◌≡◌, sym, ◌∙◌, ap, subst}
+use Rattle.std.proofs.Common.{sym, ◌∙◌, ap, subst}
 use Rattle.aio_value_model.specs.Value.{Text}
 use Rattle.aio_script_model.specs.Operations.{bounded}
 use Rattle.aio_expr.specs.Gives.{Gives}

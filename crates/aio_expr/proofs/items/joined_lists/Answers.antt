@@ -1,7 +1,5 @@
-use Rattle.std.proofs.Common.{rules, ◌≡◌, ◌+◌, ◌++◌, ◌<◌, ◌≤◌, max, ap, ◌∙◌, sym, Ok, arith}
+use Rattle.std.proofs.Common.{rules, ◌≡◌, ◌++◌, ap, ◌∙◌, sym, Ok, arith}
 use Rattle.aio_value_model.specs.Value.{Items, values}
-use Rattle.aio_value_model.specs.Weight.{weight_of}
-use Rattle.aio_value_model.specs.Depth.{depth_of}
 use Rattle.aio_expr.proofs.InBounds.{items_weight-append, items_depth-append, too_heavy, too_deep, in_bounds}
 use Rattle.aio_expr.proofs.items.joined_lists.Goals as goal
 
@@ -16,5 +14,5 @@ returns-then-max-ge-DEEPEST c =
 pub returns : goal.returns
 returns c =
     let joined = Items (values (c.args.front.now ++ c.args.back.now)) in
-    let list : c.list.result ≡ joined = search rules in
+    let list : c.in_ok-list_from.field-0 ≡ joined = search rules in
     in_bounds joined (omega (arith, items_weight-append c.args.front.now c.args.back.now)) (omega (arith, items_depth-append c.args.front.now c.args.back.now)) ∙ ap Ok (sym list)

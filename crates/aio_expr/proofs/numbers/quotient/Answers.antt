@@ -1,4 +1,4 @@
-use Rattle.std.proofs.Common.{◌≡◌, ◌≢◌, true, false, Ok, ℤ, pos, ◌-ℤ◌, FitsSigned, w64, to_z, of_z, to_z-of_z, int_div, sym, ◌∙◌, ap, subst}
+use Rattle.std.proofs.Common.{◌≡◌, ◌≢◌, true, false, Ok, pos, ◌-ℤ◌, FitsSigned, w64, to_z, of_z, to_z-of_z, int_div, sym, ◌∙◌, ap, subst}
 use Rattle.aio_value_model.specs.Value.{Int}
 use Rattle.aio_script_model.specs.Operations.{number, floor_quotient}
 use Rattle.aio_expr.specs.Rounding.{rounds_up}

@@ -1,0 +1,15 @@
+-- What a fault tells of a meaning.
+use Rattle.std.specs.Prelude.{◌≡◌, Option, Some, Err, ⊤}
+use Rattle.aio_value_model.specs.Value.{Exc}
+use Rattle.aio_script_model.specs.Operations.{Answer}
+use Rattle.aio_expr.specs.declared.value.ExprFault.{ExprFault}
+use Rattle.aio_expr.specs.declared.value.ExprFault.TheVariants.{Raised, Memory}
+
+-- the meaning raises this exception; want of memory tells nothing
+abbrev pub Raises : Answer → ExprFault → Type 0
+Raises answer (Raised fault) = answer ≡ Err fault
+Raises answer Memory = ⊤
+
+abbrev pub IsFaultOf : Option Exc → ExprFault → Type 0
+IsFaultOf cause (Raised fault) = cause ≡ Some fault
+IsFaultOf cause Memory = ⊤

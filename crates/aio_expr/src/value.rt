@@ -1,0 +1,54 @@
+//! The value of an expression, or why it has none.
+ghost use Rattle.std.specs.Prelude.{◌≡◌, Ok, Some, IfOk, IfErr};
+ghost use Rattle.aio_value_model.specs.Value.{exception_of};
+ghost use Rattle.aio_script_model.specs.Expressions.{value_of};
+ghost use Rattle.aio_expr.specs.Gives.{raised_for};
+ghost use Rattle.aio_expr.specs.Raises.{Raises, IsFaultOf};
+
+use crate::cause::Cause;
+use crate::env::Env;
+use crate::evaluate::evaluate;
+use aio_base::{Exc, Kind, Memory, Value, exception};
+use aio_syntax::Expr;
+use std::alloc::Global;
+
+/// Why an expression has no value: the exception that it raises, or want of memory.
+#[derive(Drop)]
+pub enum ExprFault {
+    Raised(Exc),
+    Memory,
+}
+
+/// The value of an expression, or the first exception from the left. A value that would be too heavy is not built.
+/// Source: the language reference, "Expressions".
+pub fn value_of(alloc: Global, expr: &Expr, env: &Env) -> Result<Value, ExprFault>
+    ensures value { IfOk result (λ value. value_of expr.now env.now ≡ Ok value) }
+    ensures raised { IfErr result (Raises (value_of expr.now env.now)) }
+{
+    match evaluate(alloc, expr, env) {
+        Ok(value) => Ok(value),
+        Err(cause) => Err(fault_of(alloc, cause)),
+    }
+}
+
+fn fault_of(alloc: Global, cause: Cause) -> ExprFault
+    ensures { IsFaultOf (raised_for cause) result }
+{
+    match cause {
+        Cause::BadOperand => raised(alloc, Kind::TypeError, "bad operand"),
+        Cause::OutOfRange => raised(alloc, Kind::OverflowError, "out of range"),
+        Cause::DivisionByZero => raised(alloc, Kind::ZeroDivisionError, "division by zero"),
+        Cause::IndexOutOfRange => raised(alloc, Kind::IndexError, "index out of range"),
+        Cause::NotUtf8 => raised(alloc, Kind::ValueError, "not UTF-8"),
+        Cause::Memory => ExprFault::Memory,
+    }
+}
+
+fn raised(alloc: Global, kind: Kind, text: &str) -> ExprFault
+    ensures { IsFaultOf (Some (exception_of kind text.now)) result }
+{
+    match exception(alloc, kind, text) {
+        Ok(exc) => ExprFault::Raised(exc),
+        Err(Memory) => ExprFault::Memory,
+    }
+}
