@@ -111,10 +111,10 @@ unfolding run_on
 run_on-most limit made s [] = ends_or-most (stops limit made s) s 1 (ends_at_call s Over) (one-more (call_of s) s.events)
 run_on-most limit made s (Refused line cause ∷ entries) =
     ends_or-most (stops limit made s) s (suc (length entries) + 1) (ends_at_call s (λ call. Bad line cause))
-      (let bound = one-more (call_of s) s.events in Prim.omega arith)
+    (let bound = one-more (call_of s) s.events in Prim.omega arith)
 run_on-most limit made s (Answered answer ∷ entries) =
     ends_or-most (stops limit made s) s (suc (length entries) + 1) (run_on limit (made + 1) (turn answer s) entries)
-      (next-most (turns_in s.events) (turns_in (turn answer s).events) _ (length entries) (turn-one answer s) (run_on-most limit (made + 1) (turn answer s) entries))
+    (next-most (turns_in s.events) (turns_in (turn answer s).events) _ (length entries) (turn-one answer s) (run_on-most limit (made + 1) (turn answer s) entries))
 
 from-nothing : (n m : ℕ) → n ≤ 0 + m → n ≤ m
 from-nothing n m bound = Prim.omega arith

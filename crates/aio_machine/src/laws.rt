@@ -12,12 +12,10 @@ ghost use Rattle.aio_script_model.specs.Straight.{Line};
 pub fn what_happened_stays()
     ensures turn { (answer : Answer) (s : State) → GoesOn s.events (turn answer s).events }
     ensures run { (limit made : ℕ) (s : State) (entries : List Entry) → GoesOn s.events (run_on limit made s entries).events }
-{
-}
+{}
 
 /// Each turn takes an entry, so a run makes at most one turn more than it has entries: the one whose call has no answer.
 pub fn turns_are_bounded()
     ensures one { (answer : Answer) (s : State) → turns_in (turn answer s).events ≡ turns_in s.events + 1 }
     ensures most { (program : List Line) (entries : List Entry) (limit : ℕ) → turns_in (run program entries limit).events ≤ length entries + 1 }
-{
-}
+{}
