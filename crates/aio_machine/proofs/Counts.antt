@@ -1,5 +1,5 @@
 -- How many turns a run makes.
-use Rattle.std.proofs.Common.{◌≡◌, ℕ, ◌+◌, ◌≤◌, zero, suc, Bool, true, false, List, [], ◌∷◌, ◌++◌, Option, Some, None, refl, ap, sym, ◌∙◌, length, arith}
+use Rattle.std.proofs.Common.{◌≡◌, ℕ, ◌+◌, ◌≤◌, zero, suc, Bool, true, false, List, [], ◌∷◌, ◌++◌, Option, Some, None, refl, ◌∙◌, length, arith}
 use Rattle.aio_value_model.specs.Action.{Action, Step, Wakeup, SleepDone, MainDone, StepInCircle, GroupDone, Fires}
 use Rattle.aio_value_model.specs.Input.{Input}
 use Rattle.aio_wire_model.specs.Call.{Call, Answer}

@@ -2,7 +2,7 @@
 use Rattle.std.proofs.Common.{◌≡◌, ℕ, ◌+◌, zero, suc, Bool, true, false, List, [], ◌∷◌, ◌++◌, Option, Some, None, refl, ap, sym, ◌∙◌, append_assoc}
 use Rattle.aio_value_model.specs.Action.{Action, Step, Wakeup, SleepDone, MainDone, StepInCircle, GroupDone, Fires}
 use Rattle.aio_value_model.specs.Input.{Input}
-use Rattle.aio_wire_model.specs.Call.{Call, Answer}
+use Rattle.aio_wire_model.specs.Call.{Answer}
 use Rattle.aio_wire_model.specs.Journal.{Entry, Answered, Refused}
 use Rattle.aio_loop_model.specs.Parts.{Handle}
 use Rattle.aio_script_model.specs.Straight.{Saying, Prints, Returns, Raises, says}

@@ -1,5 +1,5 @@
 -- What the program may write for its words and files, and its status.
-use Rattle.std.specs.Prelude.{◌≡◌, ℕ, ◌^◌, List, [], ◌∷◌, ◌++◌, Option, Some, None, codes, ◌⊎◌}
+use Rattle.std.specs.Prelude.{◌≡◌, ℕ, ◌^◌, List, [], ◌++◌, Option, Some, None, codes, ◌⊎◌}
 use Rattle.aio_script_model.specs.Straight.{Line, straight_of}
 use Rattle.aio_wire_model.specs.Journal.{Entry, entries_of}
 use Rattle.aio_machine.specs.Run.{Run, run}

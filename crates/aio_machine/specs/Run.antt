@@ -1,7 +1,7 @@
 -- A whole run. Source: `base_events.py`, `run_until_complete` and `_run_once`.
 use Rattle.std.specs.Prelude.{ℕ, ◌+◌, Bool, true, false, ◌&&◌, List, [], ◌∷◌, Option, Some, None, slice_get, nat_le, if◌then◌else◌}
 use Rattle.aio_value_model.specs.Value.{Outcome}
-use Rattle.aio_wire_model.specs.Call.{Call, Answer}
+use Rattle.aio_wire_model.specs.Call.{Call}
 use Rattle.aio_wire_model.specs.Journal.{Entry, Answered, Refused}
 use Rattle.aio_script_model.specs.Straight.{Line}
 use Rattle.aio_loop_model.specs.Parts.{Parts, Handle, Timer}

@@ -1,11 +1,11 @@
 -- The machine's state, and how it begins. Source: `runners.py`, `Runner.run`, which starts main's task.
-use Rattle.std.specs.Prelude.{◌≡◌, ℕ, ◌++◌, Bool, true, false, List, [], ◌∷◌, Option, Some, None, slice_get, slice_set, is_some}
+use Rattle.std.specs.Prelude.{ℕ, ◌++◌, Bool, false, List, [], ◌∷◌, Option, Some, None, slice_get, slice_set, is_some}
 use Rattle.std.specs.List.{list_all}
 use Rattle.aio_value_model.specs.Action.{Action, Step, MainDone}
 use Rattle.aio_value_model.specs.Value.{Outcome}
 use Rattle.aio_wire_model.specs.Call.{Call, Answer}
 use Rattle.aio_script_model.specs.Straight.{Line, Tape, Resumed}
-use Rattle.aio_loop_model.specs.Parts.{Parts, Future, FutureKind, OfTask, Task}
+use Rattle.aio_loop_model.specs.Parts.{Parts, Future, OfTask, Task}
 use Rattle.aio_loop_model.specs.Handles.{soon}
 
 -- what happens in a run, in order

@@ -1,12 +1,12 @@
 -- A task's step. Source: `tasks.py`, `Task.__step`.
-use Rattle.std.specs.Prelude.{ℕ, zero, suc, ◌++◌, Bool, true, false, List, [], ◌∷◌, Option, Some, None, slice_get, slice_set}
+use Rattle.std.specs.Prelude.{ℕ, zero, suc, ◌++◌, true, false, List, [], ◌∷◌, Option, Some, None, slice_get, slice_set}
 use Rattle.std.specs.List.{flat_map}
 use Rattle.aio_value_model.specs.Input.{Input}
 use Rattle.aio_value_model.specs.declared.input.Input.TheVariants.{Send}
 use Rattle.aio_value_model.specs.Shown.{shown}
 use Rattle.aio_value_model.specs.Value.{Value, Nothing, Outcome}
 use Rattle.aio_value_model.specs.declared.outcome.Outcome.TheVariants.{Value as Returned, Failed}
-use Rattle.aio_script_model.specs.Straight.{Saying, Prints, Returns, Raises, says, Resumed}
+use Rattle.aio_script_model.specs.Straight.{Saying, Prints, Returns, Raises, says}
 use Rattle.aio_loop_model.specs.Parts.{Parts, Task}
 use Rattle.aio_loop_model.specs.Futures.{settle}
 use Rattle.aio_machine.specs.State.{State, Said, with_parts, noted, tape_of, resumed}

@@ -1,9 +1,8 @@
 -- A turn of the loop. Source: `base_events.py`, `_run_once`.
-use Rattle.std.specs.Prelude.{ℕ, zero, suc, ◌-◌, Bool, true, false, List, [], ◌∷◌, Option, Some, None, length, slice_get, min, max}
+use Rattle.std.specs.Prelude.{ℕ, zero, suc, ◌-◌, Bool, true, false, List, [], ◌∷◌, Option, Some, None, length, min, max}
 use Rattle.aio_value_model.specs.Action.{Action, Step, Wakeup, SleepDone, MainDone, StepInCircle, GroupDone, Fires}
-use Rattle.aio_value_model.specs.Input.{Input}
 use Rattle.aio_value_model.specs.declared.input.Input.TheVariants.{Send, Throw}
-use Rattle.aio_value_model.specs.Value.{Nothing, Outcome}
+use Rattle.aio_value_model.specs.Value.{Nothing}
 use Rattle.aio_value_model.specs.declared.outcome.Outcome.TheVariants.{Value as Returned}
 use Rattle.aio_wire_model.specs.Call.{Call, Select, Answer, Turn}
 use Rattle.aio_loop_model.specs.Parts.{Parts, Handle, Timer}

@@ -1,5 +1,5 @@
 -- Code's programs as the definitions have them, and what reading gives.
-use Rattle.std.specs.Prelude.{◌≡◌, ℕ, List, [], ◌∷◌, Option, Some, None, map}
+use Rattle.std.specs.Prelude.{◌≡◌, ℕ, List, [], ◌∷◌, Option, None, map}
 use Rattle.aio_value_model.specs.Value.{Text}
 use Rattle.aio_script_model.specs.Straight as plain
 use Rattle.aio_script.specs.declared.fault.ScriptFault.{ScriptFault}

@@ -1,5 +1,5 @@
 -- Where the lines of a text are cut.
-use Rattle.std.proofs.Common.{◌≡◌, ℕ, ◌+◌, ◌<◌, List, [], ◌∷◌, length, get_or, take, drop, zero, suc, refl, ap, ◌∙◌, cond, eqb, true, false, arith, add-one}
+use Rattle.std.proofs.Common.{◌≡◌, ℕ, ◌+◌, ◌<◌, List, [], ◌∷◌, length, get_or, take, drop, zero, suc, refl, ap, ◌∙◌, eqb, true, false, arith, add-one}
 use Rattle.std.proofs.lemmas.Bool.Decides.{nat_tests}
 use Rattle.aio_value_model.specs.Lines.{lines_of, fronted}
 

@@ -1,4 +1,4 @@
-use Rattle.std.proofs.Common.{rules, arith, ◌≡◌, ◌++◌, [], ◌∷◌, None, Some, sym, ap, ◌∙◌, map}
+use Rattle.std.proofs.Common.{rules, ◌++◌, [], ◌∷◌, sym, ap, ◌∙◌}
 use Rattle.std.specs.Option.{option_map, option_copied}
 use Rattle.std.proofs.lemmas.List.{map-append}
 use Rattle.aio_value_model.specs.Lines.{lines_of}

@@ -1,7 +1,6 @@
-use Rattle.std.proofs.Common.{rules, arith, ap, ◌∙◌, sym, ◌∷◌, refl}
+use Rattle.std.proofs.Common.{rules, arith}
 use Rattle.std.proofs.lemmas.List.{take_rest}
 use Rattle.std.proofs.Math.Seq.{drop-length}
-use Rattle.aio_value_model.specs.Lines.{lines_of}
 use Rattle.aio_text.proofs.Cuts.{lines_of-cut, lines_of-whole}
 use Rattle.aio_text.proofs.lines.next_line.Goals as goal
 

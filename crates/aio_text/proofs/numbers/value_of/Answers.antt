@@ -1,4 +1,3 @@
-use Rattle.std.proofs.Common.{arith, rules, ◌∙◌, ap, sym}
 use Rattle.aio_text.proofs.Values.{digits_value-take_more}
 use Rattle.aio_text.proofs.numbers.value_of.Goals as goal
 
