@@ -1,5 +1,5 @@
 -- A run under way: what is written, what is left, and each way out.
-use Rattle.std.proofs.Common.{◌≡◌, ℕ, ◌+◌, ◌<◌, ◌≤◌, Bool, true, false, cond, List, [], ◌∷◌, ◌++◌, Option, Some, None, nat_le, refl, ap, sym, ◌∙◌, subst, append_assoc, arith}
+use Rattle.std.proofs.Common.{◌≡◌, ℕ, ◌+◌, ◌<◌, ◌≤◌, true, false, List, [], ◌∷◌, ◌++◌, Option, Some, None, nat_le, refl, ap, sym, ◌∙◌, subst, append_assoc, arith}
 use Rattle.std.proofs.lemmas.Bool.{false≢true}
 use Rattle.std.proofs.lemmas.Bool.Decides.{nat_tests}
 use Rattle.aio_value_model.specs.Value.{Nothing}
@@ -9,11 +9,10 @@ use Rattle.aio_wire_model.specs.Journal.{Entry, Answered, Refused}
 use Rattle.aio_wire_model.specs.Told.{Agrees, grown, Rose}
 use Rattle.aio_script_model.specs.Straight.{Line}
 use Rattle.aio_script.specs.Read.{plain_program}
-use Rattle.aio_machine.specs.Growth.{GoesOn}
 use Rattle.aio_machine.specs.Program.{turn_limit}
 use Rattle.aio_machine.specs.State.{State, Event, Called, start}
 use Rattle.aio_machine.specs.Turn.{turn, call_of}
-use Rattle.aio_machine.specs.Run.{Run, Ending, Over, Bad, Finished, Turns, run, run_on, stops, ends_or, ends_at_call}
+use Rattle.aio_machine.specs.Run.{Run, Ending, Over, Bad, Finished, Turns, run, run_on, stops, ends_at_call}
 use Rattle.aio_machine.specs.Transcript.{line, lines_of_events, ending_text, transcript, status_of}
 use Rattle.aio_machine.proofs.Grows.{run_on-grows}
 use Rattle.aio_run.specs.Drive.{Ran, RanInPart, RanSoFar, Stopped, StopsInTurn, TurnWritten, TurnWrittenInPart}

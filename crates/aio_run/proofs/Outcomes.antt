@@ -1,16 +1,15 @@
 -- From a driven run to what the program may write.
 use Rattle.std.specs.Prelude.{codes}
-use Rattle.std.proofs.Common.{◌≡◌, ℕ, ◌≤◌, List, [], ◌∷◌, ◌++◌, Option, Some, None, refl, ap, sym, ◌∙◌, subst, inl, inr, ◌⊎◌, append_assoc}
+use Rattle.std.proofs.Common.{◌≡◌, ℕ, ◌≤◌, List, [], ◌∷◌, ◌++◌, Option, Some, None, refl, ap, sym, ◌∙◌, subst, inl, inr, append_assoc}
 use Rattle.aio_script_model.specs.Straight.{Line, straight_of}
 use Rattle.aio_wire_model.specs.Journal.{Entry, entries_of}
 use Rattle.aio_wire_model.specs.Told.{Agrees, grown, Rose}
 use Rattle.aio_machine.specs.Program.{Output, output_of, faulted, script_refused, turn_limit, FileSays, JournalSays, JournalBegins, MayRun, MayRunIf, MayReplay}
-use Rattle.aio_machine.specs.Run.{Run, run}
-use Rattle.aio_machine.specs.State.{Event}
+use Rattle.aio_machine.specs.Run.{run}
 use Rattle.aio_machine.specs.Transcript.{line, lines_of_events}
 use Rattle.aio_run.specs.Drive.{Ran, RanInPart, RanSoFar, Stopped}
-use Rattle.aio_run.specs.JournalWire.{left_of, told_of}
-use Rattle.aio_run.specs.Outcome.{WritesWhole, WritesInPart, TakesPart, EndsEarly}
+use Rattle.aio_run.specs.JournalWire.{left_of}
+use Rattle.aio_run.specs.Outcome.{WritesWhole, TakesPart, EndsEarly}
 use Rattle.aio_run.specs.Writing.{TakesFront, StopsWriting}
 use Rattle.aio_run.specs.declared.halt.Halt.{Halt}
 use Rattle.aio_run.specs.declared.halt.Halt.TheVariants.{Memory, Sink, Wire}

@@ -6,7 +6,7 @@ use Rattle.aio_wire.specs.Replied.{Replied}
 use Rattle.aio_wire.specs.Told.{answer_of, refused_of}
 use Rattle.aio_wire.specs.declared.wire.Reply.{Reply}
 use Rattle.aio_wire.specs.declared.wire.Reply.TheVariants.{Got, Over, Bad, Failed}
-use Rattle.aio_run.specs.JournalWire.{RepliesWith, left_of, told_of}
+use Rattle.aio_run.specs.JournalWire.{RepliesWith, left_of}
 
 -- what is told outright
 told_outright : {A : Type 0} (a b : A) → Agrees (Some a) b → a ≡ b

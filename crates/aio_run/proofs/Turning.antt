@@ -1,8 +1,7 @@
 -- The lines of a turn, written whole or in part.
-use Rattle.std.proofs.Common.{◌≡◌, ℕ, List, [], ◌∷◌, ◌++◌, Option, refl, ap, sym, ◌∙◌}
+use Rattle.std.proofs.Common.{◌≡◌, ℕ, List, [], ◌∷◌, ◌++◌, Option, ap, sym, ◌∙◌}
 use Rattle.std.proofs.lemmas.Grind.{flat_map-append}
 use Rattle.aio_wire_model.specs.Call.{Answer}
-use Rattle.aio_wire_model.specs.Told.{grown}
 use Rattle.aio_machine.specs.State.{State, Event, Called, Got}
 use Rattle.aio_machine.specs.Transcript.{line_of, lines_of_events}
 use Rattle.aio_machine.specs.Turn.{turn, call_of}

@@ -1,5 +1,5 @@
 -- The turns of a straight program's run, phase by phase.
-use Rattle.std.proofs.Common.{◌≡◌, ℕ, ◌+◌, ◌<◌, ◌≤◌, zero, suc, max, Bool, true, false, List, [], ◌∷◌, ◌++◌, Some, None, length, map, refl, ap, sym, ◌∙◌, append_assoc, arith}
+use Rattle.std.proofs.Common.{◌≡◌, ℕ, ◌+◌, ◌<◌, ◌≤◌, zero, suc, max, true, false, List, [], ◌∷◌, ◌++◌, length, map, refl, ap, sym, ◌∙◌, append_assoc, arith}
 use Rattle.aio_value_model.specs.Action.{Step, MainDone}
 use Rattle.aio_value_model.specs.Value.{Nothing}
 use Rattle.aio_value_model.specs.declared.input.Input.TheVariants.{Send}
@@ -11,7 +11,7 @@ use Rattle.aio_machine.specs.State.{State, Event, Called, Got, Ran, Said}
 use Rattle.aio_machine.specs.Step.{step_limit, serve, served, end_task, shown_all}
 use Rattle.aio_machine.specs.Turn.{turn, run_handles, call_of}
 use Rattle.aio_run.specs.Kernel.{History, state_in, TurnedIn}
-use Rattle.aio_run.specs.Printing.{saying, said_by}
+use Rattle.aio_run.specs.Printing.{said_by}
 use Rattle.aio_run.specs.declared.kernel.Phase.TheVariants.{Started, Ended, Over}
 
 append-nil : {A : Type 0} (xs : List A) → xs ++ [] ≡ xs

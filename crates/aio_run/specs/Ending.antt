@@ -1,5 +1,4 @@
 -- Code's endings as the definitions have them.
-use Rattle.std.specs.Prelude.{ℕ}
 use Rattle.aio_value_model.specs.Value.{Nothing}
 use Rattle.aio_value_model.specs.declared.outcome.Outcome.TheVariants.{Value as Returned}
 use Rattle.aio_wire.specs.Told.{call_of}

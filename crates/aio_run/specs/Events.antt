@@ -1,5 +1,5 @@
 -- Code's events as the definitions have them.
-use Rattle.std.specs.Prelude.{ℕ, List, map}
+use Rattle.std.specs.Prelude.{List, map}
 use Rattle.aio_value_model.specs.Action.{Step, MainDone}
 use Rattle.aio_machine.specs.State as plain
 use Rattle.aio_run.specs.declared.event.Event.{Event}

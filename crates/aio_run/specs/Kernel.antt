@@ -7,7 +7,7 @@ use Rattle.aio_value_model.specs.declared.outcome.Outcome.TheVariants.{Value as 
 use Rattle.aio_wire_model.specs.Call.{Call, Answer}
 use Rattle.aio_script_model.specs.Straight.{Line, Tape}
 use Rattle.aio_script.specs.Read.{plain_program}
-use Rattle.aio_loop_model.specs.Parts.{Handle, Future, OfTask}
+use Rattle.aio_loop_model.specs.Parts.{Handle, OfTask}
 use Rattle.aio_machine.specs.State.{State, Event, Called, Got}
 use Rattle.aio_machine.specs.Turn.{call_of, turn}
 use Rattle.aio_run.specs.declared.kernel.Phase.{Phase}

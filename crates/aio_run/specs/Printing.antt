@@ -1,5 +1,5 @@
 -- What lines say.
-use Rattle.std.specs.Prelude.{ℕ, List, map}
+use Rattle.std.specs.Prelude.{List, map}
 use Rattle.aio_script_model.specs.Straight.{Line, Print}
 use Rattle.aio_machine.specs.State.{Event, Said}
 use Rattle.aio_machine.specs.Step.{shown_all}

@@ -1,5 +1,5 @@
 -- How far a file was read.
-use Rattle.std.specs.Prelude.{◌≡◌, ℕ, ◌≤◌, List, [], Option, Some, None, length, take}
+use Rattle.std.specs.Prelude.{◌≡◌, ℕ, List, [], Option, Some, None, length, take}
 use Rattle.aio_wire_model.specs.Told.{Rose}
 use Rattle.aio_run.specs.declared.reading.ReadFault.{ReadFault}
 use Rattle.aio_run.specs.declared.reading.ReadFault.TheVariants.{Memory, Failed}

@@ -1,4 +1,4 @@
-use Rattle.std.proofs.Common.{◌≡◌, ◌≤◌, ℕ, List}
+use Rattle.std.proofs.Common.{◌≡◌, ◌≤◌, List}
 use Rattle.aio_wire_model.specs.Journal.{Entry}
 use Rattle.aio_script.specs.Read.{plain_program}
 use Rattle.aio_run.specs.Kernel.{History}

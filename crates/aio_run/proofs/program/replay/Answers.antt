@@ -1,9 +1,9 @@
-use Rattle.std.proofs.Common.{rules, arith, ◌≡◌, ℕ, List, [], Option, Some, None, refl, ap, sym, ◌∙◌, subst, inl, inr}
+use Rattle.std.proofs.Common.{arith, ℕ, List, [], Option, refl, ap, sym, ◌∙◌, inl}
 use Rattle.std.proofs.lemmas.Result.{IfOk-weaker, IfErr-weaker}
 use Rattle.aio_script.specs.Read.{plain_program}
 use Rattle.aio_script_model.specs.Straight.{straight_of}
 use Rattle.aio_wire_model.specs.Told.{Rose}
-use Rattle.aio_machine.specs.Program.{Output, faulted, script_refused, MayRun, MayReplay}
+use Rattle.aio_machine.specs.Program.{faulted, script_refused, MayRun, MayReplay}
 use Rattle.aio_run.proofs.Outcomes.{whole_wider, early_wider, line_early, file_says, replay_by_program, replay_refused, rose_since}
 use Rattle.aio_run.proofs.program.replay.Goals as goal
 

@@ -1,11 +1,8 @@
-use Rattle.std.proofs.Common.{rules, arith, ◌≡◌, ℕ, List, Option, Some, None, refl, ap, sym, ◌∙◌, subst}
+use Rattle.std.proofs.Common.{rules, List, Option, refl, subst}
 use Rattle.std.proofs.lemmas.Result.{IfOk-weaker, IfErr-weaker}
 use Rattle.aio_script.specs.Read.{plain_program}
 use Rattle.aio_wire_model.specs.Journal.{Entry}
-use Rattle.aio_wire_model.specs.Told.{Rose}
 use Rattle.aio_run.specs.Drive.{Ran, Stopped}
-use Rattle.aio_run.specs.JournalWire.{left_of}
-use Rattle.aio_run.specs.declared.halt.Halt.{Halt}
 use Rattle.aio_run.specs.declared.halt.Halt.TheVariants.{Memory, Sink, Wire}
 use Rattle.aio_run.proofs.Outcomes.{told_first, missing_first, whole_from, early_from, fault_from, fault_early, rose_here}
 use Rattle.aio_run.proofs.program.replay_program.Goals as goal

@@ -1,4 +1,4 @@
-use Rattle.std.proofs.Common.{Option, None, refl, subst}
+use Rattle.std.proofs.Common.{Option, refl, subst}
 use Rattle.std.proofs.lemmas.Result.{IfOk-weaker, IfErr-weaker}
 use Rattle.aio_wire_model.specs.Told.{Rose}
 use Rattle.aio_machine.specs.Program.{MayWrite, words_refused}

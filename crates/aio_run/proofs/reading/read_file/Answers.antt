@@ -1,4 +1,4 @@
-use Rattle.std.proofs.Common.{◌++◌, take, rules, arith, ap, ◌∙◌, sym, subst, List, ℕ, Option, length}
+use Rattle.std.proofs.Common.{◌++◌, rules, arith, ap, ◌∙◌, sym, subst, List, ℕ, Option}
 use Rattle.aio_run.specs.Reading.{Begins}
 use Rattle.aio_run.proofs.Files.{begins_more, begins_all}
 use Rattle.aio_run.proofs.reading.read_file.Goals as goal

@@ -1,5 +1,4 @@
-use Rattle.std.proofs.Common.{◌≡◌, ◌≤◌, ◌++◌, ℕ, List, length}
-use Rattle.aio_wire_model.specs.Told.{grown}
+use Rattle.std.proofs.Common.{ℕ, List, length}
 use Rattle.aio_run.proofs.Fronts.{Wrote}
 use Rattle.aio_run.proofs.writing.write_all.Given as goal
 

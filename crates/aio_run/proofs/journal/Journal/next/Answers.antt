@@ -1,4 +1,4 @@
-use Rattle.std.proofs.Common.{◌+◌, ◌-◌, ◌∷◌, refl, ap, sym, ◌∙◌, List, ℕ}
+use Rattle.std.proofs.Common.{◌+◌, ◌∷◌, refl, ap, sym, ◌∙◌, List, ℕ}
 use Rattle.aio_value_model.specs.Lines.{lines_of}
 use Rattle.aio_wire_model.specs.Journal.{Answered, Refused, no_entry, entries_from}
 use Rattle.aio_wire.specs.Told.{answer_of}

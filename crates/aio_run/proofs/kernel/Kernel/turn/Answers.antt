@@ -1,17 +1,17 @@
-use Rattle.std.proofs.Common.{rules, arith, ◌≡◌, ◌++◌, ◌∷◌, [], refl, ap, sym, ◌∙◌, subst, max, length, List}
+use Rattle.std.proofs.Common.{arith, ◌++◌, ◌∷◌, [], refl, ap, sym, ◌∙◌, subst, List}
 use Rattle.std.proofs.lemmas.List.{length-map}
-use Rattle.aio_value_model.specs.Action.{Step, MainDone}
+use Rattle.aio_value_model.specs.Action.{Step}
 use Rattle.aio_wire_model.specs.Call.{Turn}
 use Rattle.aio_script.specs.Read.{plain_program, plain_line, plain_lines}
 use Rattle.aio_script.specs.declared.program.Line.{Line}
 use Rattle.aio_machine.specs.State.{Ran}
-use Rattle.aio_run.specs.Events.{plain_event, plain_events}
+use Rattle.aio_run.specs.Events.{plain_events}
 use Rattle.aio_run.specs.Kernel.{TurnedIn}
 use Rattle.aio_run.specs.Printing.{said_by}
 use Rattle.aio_run.specs.declared.event.Event.{Event}
 use Rattle.aio_run.specs.declared.event.Event.TheVariants.{RanStep, RanMainDone}
 use Rattle.aio_run.specs.declared.kernel.Phase.{Phase}
-use Rattle.aio_run.specs.declared.kernel.Phase.TheVariants.{Started, Ended, Over}
+use Rattle.aio_run.specs.declared.kernel.Phase.TheVariants.{Ended, Over}
 use Rattle.aio_run.proofs.Turns.{turned-started, turned-ended, turned-over}
 use Rattle.aio_run.proofs.kernel.Kernel.turn.Goals as goal
 
