@@ -12,6 +12,8 @@ pub mod laws;
 mod numbers;
 mod operators;
 mod order;
+#[cfg(test)]
+mod tests;
 mod value;
 
 pub use env::Env;
