@@ -1,0 +1,4 @@
+pub mod Cuts
+pub mod Shapes
+pub mod Read
+pub mod Facts
