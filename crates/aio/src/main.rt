@@ -8,11 +8,10 @@ mod output;
 mod tests;
 
 use aio_base::Memory;
-use aio_wire::{Shelf, Sink, Wire};
+use aio_run::aio_main;
 use files::Files;
 use no_wire::NoWire;
 use output::Output;
-use std::alloc::Global;
 use std::env;
 use std::io::ErrorKind;
 use std::process::ExitCode;
@@ -39,19 +38,5 @@ fn words_of<R: Env + AllocGlobal>(rt: &R) -> Result<Vec<String>, Memory> {
         Ok(words) => Ok(words.skip(1).collect(rt.alloc())?),
         Err(error) if error.kind() == ErrorKind::OutOfMemory => Err(Memory),
         Err(_) => Ok(Vec::new(rt.alloc())),
-    }
-}
-
-/// Refuses every list of words.
-fn aio_main<F: Shelf, W: Wire, S: Sink>(
-    alloc: Global,
-    _words: &[String],
-    _files: &mut F,
-    _wire: &mut W,
-    output: &mut S,
-) -> u8 {
-    match output.write(alloc, b"! words\n") {
-        Ok(_) => 2,
-        Err(_) => OUT_OF_MEMORY,
     }
 }

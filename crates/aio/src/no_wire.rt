@@ -24,8 +24,16 @@ impl Wire for NoWire {
 
     ghost answers = { λ _. None };
 
+    ghost fails = { λ _. Unit {0} };
+
+    ghost keeps = { λ _ _. Unit {0} };
+
     fn ask(&mut self, _alloc: Global, _call: &Call) -> Result<Reply, Memory> {
         self.faults = self.faults.saturating_add(1);
         Ok(Reply::Failed)
     }
+
+    ghost keeps_same = { λ _. tt };
+
+    ghost keeps_on = { λ _ _ _ _ _. tt };
 }

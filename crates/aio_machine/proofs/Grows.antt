@@ -88,4 +88,4 @@ run_on-grows limit made s [] = ends_or-grows (stops limit made s) s (ends_at_cal
 run_on-grows limit made s (Refused line cause ∷ entries) = ends_or-grows (stops limit made s) s (ends_at_call s (λ call. Bad line cause)) (goes_on_one s.events _)
 run_on-grows limit made s (Answered answer ∷ entries) =
     ends_or-grows (stops limit made s) s (run_on limit (made + 1) (turn answer s) entries)
-      (goes_on_then s.events (turn answer s).events _ (turn-grows answer s) (run_on-grows limit (made + 1) (turn answer s) entries))
+    (goes_on_then s.events (turn answer s).events _ (turn-grows answer s) (run_on-grows limit (made + 1) (turn answer s) entries))

@@ -4,4 +4,4 @@
 
 mod laws;
 
-pub use laws::what_happened_stays;
+pub use laws::{turns_are_bounded, what_happened_stays};

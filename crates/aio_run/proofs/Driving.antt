@@ -98,19 +98,27 @@ transcript_here program made kernel h past first_told now_told first_taken now_t
     ap (λ (t : List ℕ). t ++ line (ending_text r.ending)) (sym same) ∙ ap transcript (sym (running.on rest ∙ here))
 
 pub whole_run : (program : List Line) (made : ℕ) (kernel : Kernel) (h : History) (past : List Entry) (first_told now_told : Option (List Entry)) (first_taken now_taken : Option (List ℕ)) (running : Running program made kernel h past first_told now_told first_taken now_taken) (rest : List Entry) → Agrees now_told rest → (r : Run) → run_on turn_limit made (state_of kernel h) rest ≡ r → lines_of_events r.events ≡ lines_of_events h.events → (after : Option (List ℕ)) (status : ℕ) → after ≡ grown now_taken (line (ending_text r.ending)) → status ≡ status_of r.ending → Ran program first_told first_taken after status
-whole_run program made kernel h past first_told now_told first_taken now_taken running rest agrees r here same after status took told =
-    (past ++ rest, running.told rest agrees,
-      took ∙ ap (λ (t : Option (List ℕ)). grown t (line (ending_text r.ending))) running.taken ∙ grown-grown first_taken (lines_of_events h.events) (line (ending_text r.ending))
+whole_run program made kernel h past first_told now_told first_taken now_taken running rest agrees r here same after status took told = (
+  past ++ rest,
+  running.told rest agrees,
+  took ∙ ap (λ (t : Option (List ℕ)). grown t (line (ending_text r.ending))) running.taken ∙ grown-grown first_taken (lines_of_events h.events) (line (ending_text r.ending))
       ∙ ap (grown first_taken) (transcript_here program made kernel h past first_told now_told first_taken now_taken running rest r here same),
-      told ∙ ap (λ (x : Run). status_of x.ending) (sym (running.on rest ∙ here)))
+  told ∙ ap (λ (x : Run). status_of x.ending) (sym (running.on rest ∙ here)),
+)
 
 -- a front of the last line
 last_in_part : (program : List Line) (made : ℕ) (kernel : Kernel) (h : History) (past : List Entry) (first_told now_told : Option (List Entry)) (first_taken now_taken : Option (List ℕ)) (running : Running program made kernel h past first_told now_told first_taken now_taken) (rest : List Entry) → Agrees now_told rest → (r : Run) → run_on turn_limit made (state_of kernel h) rest ≡ r → lines_of_events r.events ≡ lines_of_events h.events → (after : Option (List ℕ)) → TakesFront (line (ending_text r.ending)) now_taken after → RanInPart program first_told first_taken after
-last_in_part program made kernel h past first_told now_told first_taken now_taken running rest agrees r here same after front =
-    (past ++ rest, running.told rest agrees, (lines_of_events h.events ++ front.0, front.1,
-      append_assoc (lines_of_events h.events) front.0 front.1 ∙ ap (λ (t : List ℕ). lines_of_events h.events ++ t) front.2
-      ∙ transcript_here program made kernel h past first_told now_told first_taken now_taken running rest r here same,
-      front.3 ∙ ap (λ (t : Option (List ℕ)). grown t front.0) running.taken ∙ grown-grown first_taken (lines_of_events h.events) front.0))
+last_in_part program made kernel h past first_told now_told first_taken now_taken running rest agrees r here same after front = (
+  past ++ rest,
+  running.told rest agrees,
+  (
+    lines_of_events h.events ++ front.0,
+    front.1,
+    append_assoc (lines_of_events h.events) front.0 front.1 ∙ ap (λ (t : List ℕ). lines_of_events h.events ++ t) front.2
+        ∙ transcript_here program made kernel h past first_told now_told first_taken now_taken running rest r here same,
+    front.3 ∙ ap (λ (t : Option (List ℕ)). grown t front.0) running.taken ∙ grown-grown first_taken (lines_of_events h.events) front.0,
+  ),
+)
 
 pub rose_earlier : (first before now : ℕ) → first ≤ before → Rose before now → Rose first now
 rose_earlier first before now earlier rose = omega arith
@@ -127,21 +135,29 @@ pub front_before : (program : List Line) (made : ℕ) (kernel : Kernel) (h : His
 front_before program made kernel h past first_told now_told first_taken now_taken running =
     let (rest, agrees) = agreed now_told in
     let r = run_on turn_limit made (state_of kernel h) rest in
-    let grew = run_on-grows turn_limit made (state_of kernel h) rest in
-    (past ++ rest, running.told rest agrees, (lines_of_events h.events, lines_of_events grew.0 ++ line (ending_text r.ending),
-      sym (append_assoc (lines_of_events h.events) (lines_of_events grew.0) (line (ending_text r.ending)))
-      ∙ ap (λ (t : List ℕ). t ++ line (ending_text r.ending)) (sym (ap lines_of_events grew.1 ∙ lines-append h.events grew.0))
-      ∙ ap transcript (sym (running.on rest)),
-      running.taken))
+    let grew = run_on-grows turn_limit made (state_of kernel h) rest in (
+      past ++ rest,
+      running.told rest agrees,
+      (
+        lines_of_events h.events,
+        lines_of_events grew.0 ++ line (ending_text r.ending),
+        sym (append_assoc (lines_of_events h.events) (lines_of_events grew.0) (line (ending_text r.ending)))
+            ∙ ap (λ (t : List ℕ). t ++ line (ending_text r.ending)) (sym (ap lines_of_events grew.1 ∙ lines-append h.events grew.0))
+            ∙ ap transcript (sym (running.on rest)),
+        running.taken,
+      ),
+    )
 
 -- a wire that fails leaves the run at its next call
 pub wire_failed : (program : List Line) (made : ℕ) (kernel : Kernel) (h : History) (past : List Entry) (first_told now_told : Option (List Entry)) (first_taken now_taken : Option (List ℕ)) (running : Running program made kernel h past first_told now_told first_taken now_taken) → is_over kernel.phase ≡ false → made < turn_limit → RanSoFar program first_told first_taken now_taken
 wire_failed program made kernel h past first_told now_told first_taken now_taken running over left =
     let (rest, agrees) = agreed now_told in
     let none = goes_on (plain_program kernel.program) kernel.time kernel.phase h made over left in
-    let e : run program past turn_limit ≡ ends_at_call (state_of kernel h) Over = ap (λ (es : List Entry). run program es turn_limit) (sym (append-nil past)) ∙ running.on [] ∙ run_on-over turn_limit made (state_of kernel h) none in
-    (past, (rest, running.told rest agrees),
-      running.taken ∙ ap (grown first_taken) (sym (ap (λ (x : Run). lines_of_events x.events) e ∙ lines-called h.events (Called (call_of (state_of kernel h))) refl)))
+    let e : run program past turn_limit ≡ ends_at_call (state_of kernel h) Over = ap (λ (es : List Entry). run program es turn_limit) (sym (append-nil past)) ∙ running.on [] ∙ run_on-over turn_limit made (state_of kernel h) none in (
+      past,
+      (rest, running.told rest agrees),
+      running.taken ∙ ap (grown first_taken) (sym (ap (λ (x : Run). lines_of_events x.events) e ∙ lines-called h.events (Called (call_of (state_of kernel h))) refl)),
+    )
 
 -- one more answer behind those so far
 told_behind : (past : List Entry) (answer : Answer) (rest : List Entry) → past ++ Answered answer ∷ rest ≡ (past ++ Answered answer ∷ []) ++ rest
@@ -151,16 +167,19 @@ told_behind past answer rest = sym (append_assoc past (Answered answer ∷ []) r
 pub turned_on : (program : List Line) (made : ℕ) (old new : Kernel) (h : History) (past : List Entry) (first_told old_told new_told : Option (List Entry)) (first_taken old_taken new_taken : Option (List ℕ)) (answer : Answer) (running : Running program made old h past first_told old_told first_taken old_taken) → is_over old.phase ≡ false → made < turn_limit → ((rest : List Entry) → Agrees new_told rest → Agrees old_told (Answered answer ∷ rest)) → TurnWritten old new answer old_taken new_taken → (after : History) × (had : List Entry) × Running program (made + 1) new after had first_told new_told first_taken new_taken
 turned_on program made old new h past first_told old_told new_told first_taken old_taken new_taken answer running over left got written =
     let (after, fits, led, (text, lines, took)) = written.1 h running.fits in
-    let none = goes_on (plain_program old.program) old.time old.phase h made over left in
-    (after, past ++ Answered answer ∷ [], record {
-      same = ap plain_program written.0 ∙ running.same;
-      fits = fits;
-      told = λ rest agrees. subst (λ (es : List Entry). Agrees first_told es) (told_behind past answer rest) (running.told (Answered answer ∷ rest) (got rest agrees));
-      on = λ rest.
-        ap (λ (es : List Entry). run program es turn_limit) (sym (told_behind past answer rest)) ∙ running.on (Answered answer ∷ rest)
-        ∙ run_on-turn turn_limit made (state_of old h) answer rest none ∙ ap (λ (s : State). run_on turn_limit (made + 1) s rest) led;
-      taken = took ∙ ap (λ (t : Option (List ℕ)). grown t text) running.taken ∙ grown-grown first_taken (lines_of_events h.events) text ∙ ap (grown first_taken) (sym lines);
-    })
+    let none = goes_on (plain_program old.program) old.time old.phase h made over left in (
+      after,
+      past ++ Answered answer ∷ [],
+      record {
+        same = ap plain_program written.0 ∙ running.same;
+        fits = fits;
+        told = λ rest agrees. subst (λ (es : List Entry). Agrees first_told es) (told_behind past answer rest) (running.told (Answered answer ∷ rest) (got rest agrees));
+        on = λ rest.
+            ap (λ (es : List Entry). run program es turn_limit) (sym (told_behind past answer rest)) ∙ running.on (Answered answer ∷ rest)
+            ∙ run_on-turn turn_limit made (state_of old h) answer rest none ∙ ap (λ (s : State). run_on turn_limit (made + 1) s rest) led;
+        taken = took ∙ ap (λ (t : Option (List ℕ)). grown t text) running.taken ∙ grown-grown first_taken (lines_of_events h.events) text ∙ ap (grown first_taken) (sym lines);
+      },
+    )
 
 -- a front of a turn's lines
 turn_in_part : (program : List Line) (made : ℕ) (old : Kernel) (h : History) (past : List Entry) (first_told old_told new_told : Option (List Entry)) (first_taken old_taken new_taken : Option (List ℕ)) (answer : Answer) (running : Running program made old h past first_told old_told first_taken old_taken) → is_over old.phase ≡ false → made < turn_limit → ((rest : List Entry) → Agrees new_told rest → Agrees old_told (Answered answer ∷ rest)) → TurnWrittenInPart old answer old_taken new_taken → RanInPart program first_told first_taken new_taken
@@ -174,10 +193,16 @@ turn_in_part program made old h past first_told old_told new_told first_taken ol
     let last = line (ending_text r.ending) in
     let here : run program (past ++ Answered answer ∷ rest) turn_limit ≡ r = running.on (Answered answer ∷ rest) ∙ run_on-turn turn_limit made (state_of old h) answer rest none in
     let all : lines_of_events r.events ≡ (lines_of_events h.events ++ (front ++ behind)) ++ lines_of_events grew.0 =
-        ap lines_of_events grew.1 ∙ lines-append next.events grew.0 ∙ ap (λ (t : List ℕ). t ++ lines_of_events grew.0) lines in
-    (past ++ Answered answer ∷ rest, running.told (Answered answer ∷ rest) (got rest agrees), (lines_of_events h.events ++ front, behind ++ (lines_of_events grew.0 ++ last),
-      regrouped (lines_of_events h.events) front behind (lines_of_events grew.0) last ∙ ap (λ (t : List ℕ). t ++ last) (sym all) ∙ ap transcript (sym here),
-      took ∙ ap (λ (t : Option (List ℕ)). grown t front) running.taken ∙ grown-grown first_taken (lines_of_events h.events) front))
+    ap lines_of_events grew.1 ∙ lines-append next.events grew.0 ∙ ap (λ (t : List ℕ). t ++ lines_of_events grew.0) lines in (
+      past ++ Answered answer ∷ rest,
+      running.told (Answered answer ∷ rest) (got rest agrees),
+      (
+        lines_of_events h.events ++ front,
+        behind ++ (lines_of_events grew.0 ++ last),
+        regrouped (lines_of_events h.events) front behind (lines_of_events grew.0) last ∙ ap (λ (t : List ℕ). t ++ last) (sym all) ∙ ap transcript (sym here),
+        took ∙ ap (λ (t : Option (List ℕ)). grown t front) running.taken ∙ grown-grown first_taken (lines_of_events h.events) front,
+      ),
+    )
   where
     regrouped : (a b c d e : List ℕ) → (a ++ b) ++ (c ++ (d ++ e)) ≡ ((a ++ (b ++ c)) ++ d) ++ e
     regrouped a b c d e = simp append_assoc
@@ -209,7 +234,9 @@ pub ends_finished : (now_told : Option (List Entry)) (made : ℕ) (kernel : Kern
 ends_finished now_told made kernel h over =
     let (rest, agrees) = agreed now_told in
     record {
-      rest = rest; agrees = agrees; events = h.events;
+      rest = rest;
+      agrees = agrees;
+      events = h.events;
       here = run_on-stops turn_limit made (state_of kernel h) rest (Finished (Returned Nothing)) (ended (plain_program kernel.program) kernel.time kernel.phase h made over);
       same = refl;
     }
@@ -218,7 +245,9 @@ pub ends_turns : (now_told : Option (List Entry)) (made : ℕ) (kernel : Kernel)
 ends_turns now_told made kernel h over none =
     let (rest, agrees) = agreed now_told in
     record {
-      rest = rest; agrees = agrees; events = h.events;
+      rest = rest;
+      agrees = agrees;
+      events = h.events;
       here = run_on-stops turn_limit made (state_of kernel h) rest (Turns turn_limit) (out_of_turns (plain_program kernel.program) kernel.time kernel.phase h made over none);
       same = refl;
     }
@@ -234,7 +263,9 @@ ends_over now_told made kernel h call over left asked none_left =
     let s = state_of kernel h in
     let none = goes_on (plain_program kernel.program) kernel.time kernel.phase h made over left in
     record {
-      rest = []; agrees = none_left; events = h.events ++ Called (call_of s) ∷ [];
+      rest = [];
+      agrees = none_left;
+      events = h.events ++ Called (call_of s) ∷ [];
       here = run_on-over turn_limit made s none ∙ ap (λ (x : Call). record { events = h.events ++ Called (call_of s) ∷ []; ending = Over x }) (call_of-history (plain_program kernel.program) kernel.time kernel.phase h ∙ sym asked);
       same = lines-called h.events (Called (call_of s)) refl;
     }
@@ -244,7 +275,9 @@ ends_bad now_told made kernel h number cause rest over left next =
     let s = state_of kernel h in
     let none = goes_on (plain_program kernel.program) kernel.time kernel.phase h made over left in
     record {
-      rest = Refused number cause ∷ rest; agrees = next; events = h.events ++ Called (call_of s) ∷ [];
+      rest = Refused number cause ∷ rest;
+      agrees = next;
+      events = h.events ++ Called (call_of s) ∷ [];
       here = run_on-bad turn_limit made s number cause rest none;
       same = lines-called h.events (Called (call_of s)) refl;
     }

@@ -28,8 +28,8 @@ pub wrote_more : (done rest text : List ℕ) (old mid new : Option (List ℕ)) (
 wrote_more done rest text old mid new before between now count wrote took later =
     record {
       whole =
-        ap (λ (r : List ℕ). (done ++ take count rest) ++ r) (take_rest rest count)
-        ∙ append_assoc done (take count rest) (drop count rest) ∙ ap (λ (r : List ℕ). done ++ r) (take-append-drop count rest) ∙ wrote.whole;
+          ap (λ (r : List ℕ). (done ++ take count rest) ++ r) (take_rest rest count)
+          ∙ append_assoc done (take count rest) (drop count rest) ∙ ap (λ (r : List ℕ). done ++ r) (take-append-drop count rest) ∙ wrote.whole;
       taken = took ∙ ap (λ (t : Option (List ℕ)). grown t (take count rest)) wrote.taken ∙ grown-grown old done (take count rest);
       later = omega (arith, wrote.later);
     }

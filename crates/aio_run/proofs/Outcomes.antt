@@ -56,17 +56,26 @@ early_from Wire program told failed old new wire_before wire_now before now othe
 -- the fault's line behind what happened
 pub fault_from : (program : List Line) (told : Option (Option (List ℕ))) (failed : Type 0) (old mid new : Option (List ℕ)) (fault_line : List ℕ) → failed → RanSoFar program (left_of told None) old mid → fault_line ≡ line (codes "! fault shelf") → (status : ℕ) → status ≡ 9 → new ≡ grown mid fault_line → WritesWhole (MayRun program told failed) old new status
 fault_from program told failed old mid new fault_line rose ran text status nine took =
-    let events = (run program ran.0 turn_limit).events in
-    (faulted events, inr (ran.0, begins_from told ran.0 ran.1.0 ran.1.1, rose, refl),
+    let events = (run program ran.0 turn_limit).events in (
+      faulted events,
+      inr (ran.0, begins_from told ran.0 ran.1.0 ran.1.1, rose, refl),
       took ∙ ap (λ (t : Option (List ℕ)). grown t fault_line) ran.2 ∙ grown-grown old (lines_of_events events) fault_line ∙ ap (λ (t : List ℕ). grown old (lines_of_events events ++ t)) text,
-      nine)
+      nine,
+    )
 
 fault_in_part : (program : List Line) (told : Option (Option (List ℕ))) (failed : Type 0) (old mid new : Option (List ℕ)) (fault_line : List ℕ) → failed → RanSoFar program (left_of told None) old mid → fault_line ≡ line (codes "! fault shelf") → TakesFront fault_line mid new → TakesPart (MayRun program told failed) old new
 fault_in_part program told failed old mid new fault_line rose ran text front =
     let events = (run program ran.0 turn_limit).events in
-    inr (faulted events, inr (ran.0, begins_from told ran.0 ran.1.0 ran.1.1, rose, refl), (lines_of_events events ++ front.0, front.1,
-      append_assoc (lines_of_events events) front.0 front.1 ∙ ap (λ (t : List ℕ). lines_of_events events ++ t) (front.2 ∙ text),
-      front.3 ∙ ap (λ (t : Option (List ℕ)). grown t front.0) ran.2 ∙ grown-grown old (lines_of_events events) front.0))
+    inr (
+      faulted events,
+      inr (ran.0, begins_from told ran.0 ran.1.0 ran.1.1, rose, refl),
+      (
+        lines_of_events events ++ front.0,
+        front.1,
+        append_assoc (lines_of_events events) front.0 front.1 ∙ ap (λ (t : List ℕ). lines_of_events events ++ t) (front.2 ∙ text),
+        front.3 ∙ ap (λ (t : Option (List ℕ)). grown t front.0) ran.2 ∙ grown-grown old (lines_of_events events) front.0,
+      ),
+    )
 
 pub fault_early : (halt : Halt) (program : List Line) (told : Option (Option (List ℕ))) (failed : Type 0) (old mid new : Option (List ℕ)) (fault_line : List ℕ) (first before now : ℕ) → failed → RanSoFar program (left_of told None) old mid → fault_line ≡ line (codes "! fault shelf") → first ≤ before → StopsWriting fault_line mid new before now halt → EndsEarly (MayRun program told failed) old new first now halt
 fault_early Memory program told failed old mid new fault_line first before now rose ran text earlier stops = fault_in_part program told failed old mid new fault_line rose ran text stops

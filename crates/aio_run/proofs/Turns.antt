@@ -59,7 +59,10 @@ abbrev stepped : List Line → ℕ → ℕ → History → History
 stepped program time now h =
     record {
       tape = (h.tape ++ first ∷ []) ++ answers program;
-      stamp = h.next_stamp; tag = h.next_tag; next_stamp = h.next_stamp + 1; next_tag = h.next_tag + 1;
+      stamp = h.next_stamp;
+      tag = h.next_tag;
+      next_stamp = h.next_stamp + 1;
+      next_tag = h.next_tag + 1;
       events = (called h.events program time now h ++ Ran (Step 0) ∷ []) ++ said_by program;
     }
 
@@ -68,7 +71,7 @@ pub turn-started : (program : List Line) (time now : ℕ) (h : History) → h.ta
 unfolding turn run_handles
 turn-started program time now h fresh few =
     serve-straight step_limit program program (record (state_in program (max time now) Started h).parts { pending = [] }) (h.tape ++ first ∷ []) (called h.events program time now h ++ Ran (Step 0) ∷ [])
-      (λ later. ap (λ (t : Tape). says program ((t ++ first ∷ []) ++ later)) fresh) (omega arith)
+    (λ later. ap (λ (t : Tape). says program ((t ++ first ∷ []) ++ later)) fresh) (omega arith)
 
 -- the history after main's callback
 abbrev finished : List Line → ℕ → ℕ → History → History
@@ -88,15 +91,27 @@ turn-over program time now h = refl
 
 pub turned-started : (program : List Line) (time now later : ℕ) (told : List Event) → later ≡ max time now → length program ≤ 65536 → told ≡ Ran (Step 0) ∷ said_by program → TurnedIn program time Started later Ended (Turn now) told
 turned-started program time now later told on few events =
-    λ h fresh. (stepped program time now h, tt, turn-started program time now h fresh few ∙ ap (λ (t : ℕ). state_in program t Ended (stepped program time now h)) (sym on),
-      simp append_assoc (ap (λ (es : List Event). h.events ++ Called (call_of (state_in program time Started h)) ∷ Got (Turn now) ∷ es) (sym events)))
+    λ h fresh. (
+      stepped program time now h,
+      tt,
+      turn-started program time now h fresh few ∙ ap (λ (t : ℕ). state_in program t Ended (stepped program time now h)) (sym on),
+      simp append_assoc (ap (λ (es : List Event). h.events ++ Called (call_of (state_in program time Started h)) ∷ Got (Turn now) ∷ es) (sym events)),
+    )
 
 pub turned-ended : (program : List Line) (time now later : ℕ) (told : List Event) → later ≡ max time now → told ≡ Ran MainDone ∷ [] → TurnedIn program time Ended later Over (Turn now) told
 turned-ended program time now later told on events =
-    λ h fits. (finished program time now h, tt, turn-ended program time now h ∙ ap (λ (t : ℕ). state_in program t Over (finished program time now h)) (sym on),
-      simp append_assoc (ap (λ (es : List Event). h.events ++ Called (call_of (state_in program time Ended h)) ∷ Got (Turn now) ∷ es) (sym events)))
+    λ h fits. (
+      finished program time now h,
+      tt,
+      turn-ended program time now h ∙ ap (λ (t : ℕ). state_in program t Over (finished program time now h)) (sym on),
+      simp append_assoc (ap (λ (es : List Event). h.events ++ Called (call_of (state_in program time Ended h)) ∷ Got (Turn now) ∷ es) (sym events)),
+    )
 
 pub turned-over : (program : List Line) (time now later : ℕ) (told : List Event) → later ≡ max time now → told ≡ [] → TurnedIn program time Over later Over (Turn now) told
 turned-over program time now later told on events =
-    λ h fits. (idle program time now h, tt, turn-over program time now h ∙ ap (λ (t : ℕ). state_in program t Over (idle program time now h)) (sym on),
-      simp append_assoc (ap (λ (es : List Event). h.events ++ Called (call_of (state_in program time Over h)) ∷ Got (Turn now) ∷ es) (sym events)))
+    λ h fits. (
+      idle program time now h,
+      tt,
+      turn-over program time now h ∙ ap (λ (t : ℕ). state_in program t Over (idle program time now h)) (sym on),
+      simp append_assoc (ap (λ (es : List Event). h.events ++ Called (call_of (state_in program time Over h)) ∷ Got (Turn now) ∷ es) (sym events)),
+    )

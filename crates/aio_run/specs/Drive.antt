@@ -42,8 +42,8 @@ abbrev pub TurnWritten : Kernel → Kernel → Answer → Option (List ℕ) → 
 TurnWritten old new answer taken_before taken_now =
     (new.program ≡ old.program)
     × ((h : History) → Fits old.phase h →
-        (after : History) × Fits new.phase after × (turn answer (state_of old h) ≡ state_of new after)
-        × ((text : List ℕ) × (lines_of_events after.events ≡ lines_of_events h.events ++ text) × (taken_now ≡ grown taken_before text)))
+    (after : History) × Fits new.phase after × (turn answer (state_of old h) ≡ state_of new after)
+    × ((text : List ℕ) × (lines_of_events after.events ≡ lines_of_events h.events ++ text) × (taken_now ≡ grown taken_before text)))
 
 -- a front of a turn's lines was taken
 abbrev pub TurnWrittenInPart : Kernel → Answer → Option (List ℕ) → Option (List ℕ) → Type 0

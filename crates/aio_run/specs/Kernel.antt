@@ -55,8 +55,11 @@ state_in program time phase h =
     record {
       program = program;
       parts = record {
-        time = time; next_stamp = h.next_stamp; next_tag = h.next_tag;
-        pending = pending_in phase h; timers = [];
+        time = time;
+        next_stamp = h.next_stamp;
+        next_tag = h.next_tag;
+        pending = pending_in phase h;
+        timers = [];
         futures = record { kind = OfTask 0; outcome = outcome_in phase; callbacks = callbacks_in phase } ∷ [];
         tasks = record { future = 0; waiter = None; cancels = 0; must_cancel = false } ∷ [];
       };

@@ -54,7 +54,12 @@ pub fn drive<W: Wire, K: Sink>(
 }
 
 /// A turn whose call has this answer, with its lines written.
-fn take_turn<K: Sink>(alloc: Global, kernel: &mut Kernel, answer: Answer, out: &mut K) -> Result<(), Halt>
+fn take_turn<K: Sink>(
+    alloc: Global,
+    kernel: &mut Kernel,
+    answer: Answer,
+    out: &mut K,
+) -> Result<(), Halt>
     ensures ok { OnOk result (TurnWritten kernel.old kernel.new (answer_of answer) (K.taken out.old) (K.taken out.new)) }
     ensures err { IfErr result (StopsInTurn kernel.old (answer_of answer) (K.taken out.old) (K.taken out.new) (K.faults out.old) (K.faults out.new)) }
     ensures later { K.faults out.old ≤ K.faults out.new }

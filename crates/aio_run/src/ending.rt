@@ -31,8 +31,13 @@ impl Ending {
         match self {
             Ending::Finished => String::from_str(alloc, "= returned None\n"),
             Ending::Turns => format!(in alloc; "= turns {TURN_LIMIT}\n"),
-            Ending::Over(Call::Select { wait: None }) => String::from_str(alloc, "! over select none\n"),
-            Ending::Over(Call::Select { wait: Some(wait) }) => format!(in alloc; "! over select {wait}\n"),
+            Ending::Over(Call::Select { wait: None }) => String::from_str(
+                alloc,
+                "! over select none\n",
+            ),
+            Ending::Over(Call::Select { wait: Some(wait) }) => format!(in alloc;
+                "! over select {wait}\n"
+            ),
             Ending::Bad(fault) => refused_line(alloc, fault.line, fault.cause),
         }
     }

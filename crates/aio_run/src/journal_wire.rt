@@ -26,7 +26,11 @@ impl<'a, F, B: Drop> Drop for JournalWire<'a, F, B> {
     fn drop(self)
         ensures { self.exit.0.now ≡ self.entry.shelf.now }
     {
-        let JournalWire { shelf: _, name: _, own: _ } = self;
+        let JournalWire {
+            shelf: _,
+            name: _,
+            own: _,
+        } = self;
     }
 }
 

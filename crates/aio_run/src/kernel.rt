@@ -59,7 +59,11 @@ impl Kernel {
     pub fn call(&self) -> Call
         ensures { plain_call result ≡ waiting self.now }
     {
-        let wait = if self.phase == Phase::Over { None } else { Some(0) };
+        let wait = if self.phase == Phase::Over {
+            None
+        } else {
+            Some(0)
+        };
         Call::Select { wait }
     }
 

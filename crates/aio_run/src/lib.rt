@@ -12,6 +12,8 @@ mod lines;
 mod printing;
 mod program;
 mod reading;
+#[cfg(test)]
+mod tests;
 mod words;
 mod writing;
 

@@ -22,6 +22,7 @@ some_line (byte ∷ bytes) some = by_test (eqb byte 10) (lines_of bytes)
     by_fronted : (lines : List (List ℕ)) → (l : List ℕ) × (ls : List (List ℕ)) × (fronted byte lines ≡ l ∷ ls)
     by_fronted [] = (byte ∷ [], [], refl)
     by_fronted (line ∷ lines) = (byte ∷ line, lines, refl)
+
     by_test : (b : Bool) (lines : List (List ℕ)) → (l : List ℕ) × (ls : List (List ℕ)) × (cond b ([] ∷ lines) (fronted byte lines) ≡ l ∷ ls)
     by_test true lines = ([], lines, refl)
     by_test false lines = by_fronted lines

@@ -56,7 +56,11 @@ fn read_body(alloc: Global, text: &[u8]) -> Result<Option<Vec<Line>>, AllocError
     let mut rest = text;
     while let Some((line, behind)) = next_line(rest) {
         if behind.is_empty() {
-            return Ok(if line == b"end".as_slice() { Some(lines) } else { None });
+            return Ok(if line == b"end".as_slice() {
+                Some(lines)
+            } else {
+                None
+            });
         }
         let Some(text) = printed_text(unindented(line)) else {
             return Ok(None);
@@ -124,6 +128,5 @@ fn as_text(plain: &[u8]) -> &str
 fn are_plain(text: &[u8]) -> bool
     ensures { result ≡ list_all is_plain text.now }
 {
-    text.iter()
-        .all(|byte| *byte >= b' ' && *byte <= b'~' && *byte != b'"' && *byte != b'\\')
+    text.iter().all(|byte| *byte >= b' ' && *byte <= b'~' && *byte != b'"' && *byte != b'\\')
 }

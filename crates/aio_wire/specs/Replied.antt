@@ -1,5 +1,5 @@
 -- What a wire may reply.
-use Rattle.std.specs.Prelude.{◌≡◌, ℕ, List, [], ◌∷◌, Option}
+use Rattle.std.specs.Prelude.{ℕ, List, [], ◌∷◌, Option}
 use Rattle.aio_wire_model.specs.Journal.{Entry, Answered}
 use Rattle.aio_wire_model.specs.Told.{Agrees, Rose}
 use Rattle.aio_wire.specs.Told.{answer_of, refused_of}

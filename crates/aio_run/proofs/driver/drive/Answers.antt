@@ -44,7 +44,7 @@ returns-in_err-take_turn-in-Got-clause-stopped g c =
     let replied = rw c.in-Got.is at c.in_ok-answer.ensures.replied in
     let p = err_from_is_err_and c.from_residual-in_err-take_turn-in-Got.result c.from_residual-in_err-take_turn-in-Got.ensures.1 in
     rw (p.1, p.2) (turn_stops_run c.in_err-take_turn-in-Got.field-0.0 (plain_program c.args.program) l._made l.kernel h past (g.W.Wire.answers c.args.wire.now) (g.W.Wire.answers l.wire) (g.W.Wire.answers c.ask.new.self) (g.K.Sink.taken c.args.out.now) (g.K.Sink.taken l.out) (g.K.Sink.taken c.take_turn.new.out) (answer_of c.in-Got.answer) running (sym c.is_over.ensures ∙ c.if-is_over.false) c.loop-made-test.true replied
-      (g.W.Wire.faults c.args.wire.now) (g.W.Wire.faults c.ask.new.self) (g.K.Sink.faults c.args.out.now) (g.K.Sink.faults l.out) (g.K.Sink.faults c.take_turn.new.out) l.invariant.sink_later c.in_err-take_turn-in-Got.ensures.err)
+    (g.W.Wire.faults c.args.wire.now) (g.W.Wire.faults c.ask.new.self) (g.K.Sink.faults c.args.out.now) (g.K.Sink.faults l.out) (g.K.Sink.faults c.take_turn.new.out) l.invariant.sink_later c.in_err-take_turn-in-Got.ensures.err)
 
 pub returns-in-Over-clause-run : goal.returns-in-Over-clause-run
 returns-in-Over-clause-run g c =
@@ -82,9 +82,10 @@ pub returns-in-Failed-clause-stopped : goal.returns-in-Failed-clause-stopped
 returns-in-Failed-clause-stopped g c =
     let l = c.loop-made in
     let (h, past, running) = l.invariant.running in
-    let failed = rw c.in-Failed.is at c.in_ok-answer.ensures.failed in
-    (wire_failed (plain_program c.args.program) l._made l.kernel h past (g.W.Wire.answers c.args.wire.now) (g.W.Wire.answers l.wire) (g.K.Sink.taken c.args.out.now) (g.K.Sink.taken l.out) running (sym c.is_over.ensures ∙ c.if-is_over.false) c.loop-made-test.true,
-      rose_earlier (g.W.Wire.faults c.args.wire.now) (g.W.Wire.faults l.wire) (g.W.Wire.faults c.ask.new.self) l.invariant.wire_later failed)
+    let failed = rw c.in-Failed.is at c.in_ok-answer.ensures.failed in (
+      wire_failed (plain_program c.args.program) l._made l.kernel h past (g.W.Wire.answers c.args.wire.now) (g.W.Wire.answers l.wire) (g.K.Sink.taken c.args.out.now) (g.K.Sink.taken l.out) running (sym c.is_over.ensures ∙ c.if-is_over.false) c.loop-made-test.true,
+      rose_earlier (g.W.Wire.faults c.args.wire.now) (g.W.Wire.faults l.wire) (g.W.Wire.faults c.ask.new.self) l.invariant.wire_later failed,
+    )
 
 pub loop-made-preserved : goal.loop-made-preserved
 loop-made-preserved g c =

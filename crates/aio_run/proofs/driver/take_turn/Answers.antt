@@ -23,5 +23,5 @@ pub returns-in_err-write_all-clause-err : goal.returns-in_err-write_all-clause-e
 returns-in_err-write_all-clause-err g c =
     let p = err_from_is_err_and c.from_residual-in_err-write_all.result c.from_residual-in_err-write_all.ensures.1 in
     rw (p.1, p.2) (turn_stops c.in_err-write_all.field-0.0 c.args.kernel.now c.turn.new.self (answer_of c.args.answer) (plain_events c.in_ok-told.told.items) c.as_slice-2.result.now
-      (g.K.Sink.taken c.args.out.now) (g.K.Sink.taken c.write_all.new.out) (g.K.Sink.faults c.args.out.now) (g.K.Sink.faults c.write_all.new.out)
-      (subst (λ (a : Answer). Turned c.args.kernel.now c.turn.new.self a (plain_events c.in_ok-told.told.items)) c.time_of.ensures c.in_ok-told.ensures) (c.as_slice-2.ensures.value ∙ c.in_ok-text.ensures ∙ ap (λ (es : List Event). lines_of_events (plain_events es)) c.as_slice.ensures.value) c.in_err-write_all.ensures.err)
+    (g.K.Sink.taken c.args.out.now) (g.K.Sink.taken c.write_all.new.out) (g.K.Sink.faults c.args.out.now) (g.K.Sink.faults c.write_all.new.out)
+    (subst (λ (a : Answer). Turned c.args.kernel.now c.turn.new.self a (plain_events c.in_ok-told.told.items)) c.time_of.ensures c.in_ok-told.ensures) (c.as_slice-2.ensures.value ∙ c.in_ok-text.ensures ∙ ap (λ (es : List Event). lines_of_events (plain_events es)) c.as_slice.ensures.value) c.in_err-write_all.ensures.err)

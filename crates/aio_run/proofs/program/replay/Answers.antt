@@ -15,9 +15,9 @@ returns-in-Ok-read-clause-ok g c =
     let failed = Rose (g.F.Shelf.faults c.read_file.new.shelf) (g.F.Shelf.faults c.replay_program.new.shelf) in
     let failed_all = Rose (g.F.Shelf.faults c.args.shelf.now) (g.F.Shelf.faults c.replay_program.new.shelf) in
     let wider = replay_by_program (plain_program c.in-Ok-read.program) c.in-Ok.text.items script journal later failed failed_all (file_says script c.in-Ok.text.items c.in-Ok.ensures.text)
-      (ap straight_of (sym c.as_slice.ensures.value) ∙ c.in-Ok-read.ensures.program)
-      (ap (λ (f : List ℕ → Option (Option (List ℕ))). f c.args.journal.now) c.read_file.ensures.files)
-      (rose_since (g.F.Shelf.faults c.args.shelf.now) (g.F.Shelf.faults c.read_file.new.shelf) (g.F.Shelf.faults c.replay_program.new.shelf) c.read_file.ensures.later) in
+    (ap straight_of (sym c.as_slice.ensures.value) ∙ c.in-Ok-read.ensures.program)
+    (ap (λ (f : List ℕ → Option (Option (List ℕ))). f c.args.journal.now) c.read_file.ensures.files)
+    (rose_since (g.F.Shelf.faults c.args.shelf.now) (g.F.Shelf.faults c.read_file.new.shelf) (g.F.Shelf.faults c.replay_program.new.shelf) c.read_file.ensures.later) in
     IfOk-weaker c.replay_program.result _ _ (λ status d. whole_wider (MayRun (plain_program c.in-Ok-read.program) later failed) (MayReplay script journal failed_all) (g.K.Sink.taken c.args.out.now) (g.K.Sink.taken c.replay_program.new.out) status wider d) c.replay_program.ensures.ok
 
 pub returns-in-Ok-read-clause-err : goal.returns-in-Ok-read-clause-err
@@ -28,9 +28,9 @@ returns-in-Ok-read-clause-err g c =
     let failed = Rose (g.F.Shelf.faults c.read_file.new.shelf) (g.F.Shelf.faults c.replay_program.new.shelf) in
     let failed_all = Rose (g.F.Shelf.faults c.args.shelf.now) (g.F.Shelf.faults c.replay_program.new.shelf) in
     let wider = replay_by_program (plain_program c.in-Ok-read.program) c.in-Ok.text.items script journal later failed failed_all (file_says script c.in-Ok.text.items c.in-Ok.ensures.text)
-      (ap straight_of (sym c.as_slice.ensures.value) ∙ c.in-Ok-read.ensures.program)
-      (ap (λ (f : List ℕ → Option (Option (List ℕ))). f c.args.journal.now) c.read_file.ensures.files)
-      (rose_since (g.F.Shelf.faults c.args.shelf.now) (g.F.Shelf.faults c.read_file.new.shelf) (g.F.Shelf.faults c.replay_program.new.shelf) c.read_file.ensures.later) in
+    (ap straight_of (sym c.as_slice.ensures.value) ∙ c.in-Ok-read.ensures.program)
+    (ap (λ (f : List ℕ → Option (Option (List ℕ))). f c.args.journal.now) c.read_file.ensures.files)
+    (rose_since (g.F.Shelf.faults c.args.shelf.now) (g.F.Shelf.faults c.read_file.new.shelf) (g.F.Shelf.faults c.replay_program.new.shelf) c.read_file.ensures.later) in
     IfErr-weaker c.replay_program.result _ _ (λ halt d. early_wider halt (MayRun (plain_program c.in-Ok-read.program) later failed) (MayReplay script journal failed_all) (g.K.Sink.taken c.args.out.now) (g.K.Sink.taken c.replay_program.new.out) (g.K.Sink.faults c.args.out.now) (g.K.Sink.faults c.args.out.now) (g.K.Sink.faults c.replay_program.new.out) wider (omega arith) d) c.replay_program.ensures.err
 
 pub returns-in-Err-Refused-clause-ok : goal.returns-in-Err-Refused-clause-ok

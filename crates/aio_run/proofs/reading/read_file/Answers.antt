@@ -8,11 +8,11 @@ loop-text-preserved g c = record {
   files = search rules;
   later = search rules;
   begins = λ held told.
-    let read = rw c.in-Bytes.is at c.in_ok-bytes.ensures.bytes in
-    let text = c.loop-text.text in
-    subst (Begins held) (sym (c.in_ok-extend_from_slice-in-Bytes.ensures.items ∙ ap (λ (b : List ℕ). text.items ++ b) c.items.ensures))
+      let read = rw c.in-Bytes.is at c.in_ok-bytes.ensures.bytes in
+      let text = c.loop-text.text in
+      subst (Begins held) (sym (c.in_ok-extend_from_slice-in-Bytes.ensures.items ∙ ap (λ (b : List ℕ). text.items ++ b) c.items.ensures))
       (begins_more held text.items c.in-Bytes.bytes c.len.result (omega (arith, text.ok.0, c.len.ensures)) (c.loop-text.invariant.begins held told)
-        (read held (ap (λ (f : List ℕ → Option (Option (List ℕ))). f c.args.name.now) c.loop-text.invariant.files ∙ told)));
+      (read held (ap (λ (f : List ℕ → Option (Option (List ℕ))). f c.args.name.now) c.loop-text.invariant.files ∙ told)));
 }
 
 pub returns-in-End-clause-text : goal.returns-in-End-clause-text
@@ -20,4 +20,4 @@ returns-in-End-clause-text g c = λ held told.
     let read = rw c.in-End.is at c.in_ok-bytes.ensures.bytes in
     let text = c.loop-text.text in
     begins_all held text.items c.len.result (omega (arith, text.ok.0, c.len.ensures)) (c.loop-text.invariant.begins held told)
-      (read held (ap (λ (f : List ℕ → Option (Option (List ℕ))). f c.args.name.now) c.loop-text.invariant.files ∙ told))
+    (read held (ap (λ (f : List ℕ → Option (Option (List ℕ))). f c.args.name.now) c.loop-text.invariant.files ∙ told))

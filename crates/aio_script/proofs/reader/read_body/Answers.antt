@@ -10,12 +10,15 @@ use Rattle.aio_script.proofs.reader.read_body.Goals as goal
 pub returns-in_default-printed_text-clause-body : goal.returns-in_default-printed_text-clause-body
 returns-in_default-printed_text-clause-body c =
     sym (body_of-stops (plain_lines c.loop-line.lines.items) c.args.text.now c.loop-line.rest.now c.in-Some.line.now c.in-Some.behind.now c.loop-line.invariant.body c.in-Some.ensures.line (search rules)
-      (ap statement_of (sym c.unindented.ensures) ∙ sym c.printed_text.ensures ∙ ap (λ r. option_map printing (option_copied r)) c.in_default-printed_text.is))
+    (ap statement_of (sym c.unindented.ensures) ∙ sym c.printed_text.ensures ∙ ap (λ r. option_map printing (option_copied r)) c.in_default-printed_text.is))
 
 pub loop-line-preserved : goal.loop-line-preserved
-loop-line-preserved c = record { few = search rules; body =
-    body_of-goes_on (plain_lines c.loop-line.lines.items) c.args.text.now c.loop-line.rest.now c.in-Some.line.now c.in-Some.behind.now (printing c.in-Some-printed_text.text.now) c.loop-line.invariant.body c.in-Some.ensures.line (search rules)
+loop-line-preserved c = record {
+  few = search rules;
+  body =
+      body_of-goes_on (plain_lines c.loop-line.lines.items) c.args.text.now c.loop-line.rest.now c.in-Some.line.now c.in-Some.behind.now (printing c.in-Some-printed_text.text.now) c.loop-line.invariant.body c.in-Some.ensures.line (search rules)
       (ap statement_of (sym c.unindented.ensures) ∙ sym c.printed_text.ensures ∙ ap (λ r. option_map printing (option_copied r)) c.in-Some-printed_text.is)
-    ∙ ap (λ front. with_front front (body_of (lines_of c.in-Some.behind.now)))
+      ∙ ap (λ front. with_front front (body_of (lines_of c.in-Some.behind.now)))
       (ap (λ line. plain_lines c.loop-line.lines.items ++ line ∷ []) (sym c.in_ok-print_line.ensures)
-      ∙ sym (ap plain_lines c.in_ok-push.ensures.items ∙ map-append plain_line c.loop-line.lines.items _)) }
+      ∙ sym (ap plain_lines c.in_ok-push.ensures.items ∙ map-append plain_line c.loop-line.lines.items _));
+}

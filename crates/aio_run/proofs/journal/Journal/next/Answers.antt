@@ -8,15 +8,17 @@ use Rattle.aio_run.proofs.journal.Journal.next.Goals as goal
 
 pub returns-in_default-read_entry : goal.returns-in_default-read_entry
 returns-in_default-read_entry c =
-    let i = c.self.inside in
-    (refl, entries_from (i.line + 1) (lines_of c.in-Some.rest.now),
+    let i = c.self.inside in (
+      refl,
+      entries_from (i.line + 1) (lines_of c.in-Some.rest.now),
       sym c.self.view_is ∙ first_entry i.line i.at i.text.items c.deref.result.now c.in-Some.line.now c.in-Some.rest.now (Refused i.line no_entry) c.deref.ensures.value c.in-Some.ensures.line
-        (c.read_entry.ensures i.line ∙ ap (plain_entry i.line) c.in_default-read_entry.is))
+          (c.read_entry.ensures i.line ∙ ap (plain_entry i.line) c.in_default-read_entry.is),
+    )
 
 pub returns : goal.returns
 returns c =
     let i = c.self.inside in
     sym c.self.view_is ∙ first_entry i.line i.at i.text.items c.deref.result.now c.in-Some.line.now c.in-Some.rest.now (Answered (answer_of c.in-Some-read_entry.answer)) c.deref.ensures.value c.in-Some.ensures.line
-        (c.read_entry.ensures i.line ∙ ap (plain_entry i.line) c.in-Some-read_entry.is)
+    (c.read_entry.ensures i.line ∙ ap (plain_entry i.line) c.in-Some-read_entry.is)
     ∙ ap (λ (rest : List ℕ). Answered (answer_of c.in-Some-read_entry.answer) ∷ entries_from (i.line + 1) (lines_of rest))
-      (rest_behind i.at i.text.items c.deref.result.now c.in-Some.rest.now c.deref.ensures.value c.in-Some.ensures.rest)
+    (rest_behind i.at i.text.items c.deref.result.now c.in-Some.rest.now c.deref.ensures.value c.in-Some.ensures.rest)

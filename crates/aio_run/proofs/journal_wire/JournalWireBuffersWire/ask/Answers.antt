@@ -10,12 +10,12 @@ returns-in-Some-clause-replied g c =
     let file = g.F.Shelf.file c.args.self.now.shelf.now c.args.self.now.name.now in
     let e : Some c.in-Some.journal ≡ c.args.self.now.own.journal = c.in-Some.ensures.value in
     subst (λ (own : Option (List Entry)). Replied (left_of file own) (Some c.next_reply-reply.new.journal) c.next_reply-reply.result) e
-      (replied_from (Some c.in-Some.journal) c.in-Some.journal c.next_reply-reply.new.journal c.next_reply-reply.result (agrees_outright c.in-Some.journal) c.next_reply-reply.ensures)
+    (replied_from (Some c.in-Some.journal) c.in-Some.journal c.next_reply-reply.new.journal c.next_reply-reply.result (agrees_outright c.in-Some.journal) c.next_reply-reply.ensures)
 
 pub returns-in-Ok-clause-replied : goal.returns-in-Ok-clause-replied
 returns-in-Ok-clause-replied g c =
     let file = g.F.Shelf.file c.args.self.now.shelf.now c.args.self.now.name.now in
     let e : None ≡ c.args.self.now.own.journal = c.in-None.ensures.value in
     subst (λ (own : Option (List Entry)). Replied (left_of file own) (Some c.next_reply-reply-in-Ok.new.journal) c.next_reply-reply-in-Ok.result) e
-      (replied_from (left_of file None) c.new-journal.result c.next_reply-reply-in-Ok.new.journal c.next_reply-reply-in-Ok.result
-        (λ held told. agrees_read file c.in-Ok.text.items c.in-Ok.ensures.text held told ∙ sym c.new-journal.ensures) c.next_reply-reply-in-Ok.ensures)
+    (replied_from (left_of file None) c.new-journal.result c.next_reply-reply-in-Ok.new.journal c.next_reply-reply-in-Ok.result
+    (λ held told. agrees_read file c.in-Ok.text.items c.in-Ok.ensures.text held told ∙ sym c.new-journal.ensures) c.next_reply-reply-in-Ok.ensures)

@@ -1,0 +1,206 @@
+//! Whole runs of the program, over files in memory.
+use crate::aio_main;
+use aio_base::Memory;
+use aio_wire::{MemShelf, MemSink, Shelf, Sink};
+use dead_wire::DeadWire;
+use fake_shelf::FakeShelf;
+use fake_sink::FakeSink;
+use std::alloc::Global;
+use std::test::Fail;
+
+mod dead_wire;
+mod fake_shelf;
+mod fake_sink;
+
+const WORDS: [&str; 3] = ["replay", "s", "j"];
+
+const HELLO: &str = "def main()\n  print \"hi\"\nend\n";
+
+const JOURNAL: &str = "turn 0\nturn 0\n";
+
+const WHOLE: &str = "T0 hi\n= returned None\n";
+
+// The status of a run with these words.
+fn status_of<F: Shelf, K: Sink>(
+    alloc: Global,
+    words: &[&str],
+    shelf: &mut F,
+    out: &mut K,
+) -> Result<u8, Memory> {
+    let mut owned = Vec::new(alloc);
+    for word in words {
+        owned.push(String::from_str(alloc, word)?)?;
+    }
+    Ok(aio_main(alloc, &owned, shelf, &mut DeadWire::new(), out))
+}
+
+// A shelf with a script `s` and a journal `j`.
+fn shelf_of(alloc: Global, script: &str, journal: &str) -> Result<MemShelf, Memory> {
+    let mut shelf = MemShelf::new(alloc);
+    shelf.append(alloc, "s", script.as_bytes())?;
+    shelf.append(alloc, "j", journal.as_bytes())?;
+    Ok(shelf)
+}
+
+// Whether a run with these words over a script and a journal ends with this status and writes this.
+fn ends(
+    alloc: Global,
+    words: &[&str],
+    script: &str,
+    journal: &str,
+    want: (u8, &str),
+) -> Result<bool, Memory> {
+    let mut shelf = shelf_of(alloc, script, journal)?;
+    let mut sink = MemSink::new(alloc);
+    let status = status_of(alloc, words, &mut shelf, &mut sink)?;
+    Ok(status == want.0 && sink.taken() == want.1.as_bytes())
+}
+
+// The script, the status, and what is written over two turns.
+type Script = (&'static str, u8, &'static str);
+
+static SCRIPTS: [Script; 14] = [
+    (HELLO, 0, WHOLE),
+    ("def main()\nprint \"hi\"\nend", 0, WHOLE),
+    ("def main()\nend\n", 0, "= returned None\n"),
+    (
+        "def main()\nprint \"\"\n     print \" ~\"\nend\n",
+        0,
+        "T0 \nT0  ~\n= returned None\n",
+    ),
+    ("", 3, "! script 1 9\n"),
+    ("end\n", 3, "! script 1 9\n"),
+    ("def main()\n", 3, "! script 1 9\n"),
+    ("def main()\nprint q\nend\n", 3, "! script 1 9\n"),
+    ("def main()\nprint \"a\\b\"\nend\n", 3, "! script 1 9\n"),
+    ("def main()\nprint \"a\nend\n", 3, "! script 1 9\n"),
+    ("def main()\nprint \"a\"b\"\nend\n", 3, "! script 1 9\n"),
+    ("def main()\nprint \"a\" \nend\n", 3, "! script 1 9\n"),
+    ("def main()\nend\n\n", 3, "! script 1 9\n"),
+    ("def main()\r\nend\n", 3, "! script 1 9\n"),
+];
+
+#[test]
+fn scripts(rt: HostRuntime) -> Result<(), Fail> {
+    for (script, status, text) in SCRIPTS {
+        assert!(rt;
+            ends(rt.alloc(), &WORDS, script, JOURNAL, (status, text))?,
+            "{script}"
+        );
+    }
+    Ok(())
+}
+
+// The journal, the status, and what is written.
+type Journal = (&'static str, u8, &'static str);
+
+static JOURNALS: [Journal; 14] = [
+    ("turn 0\nturn 0", 0, WHOLE),
+    ("turn 0\nturn 0\nturm 0\n", 0, WHOLE),
+    ("turn 3\nturn 007\n", 0, WHOLE),
+    ("turn 9\nturn 1\n", 0, WHOLE),
+    ("turn 9223372036854775807\nturn 0\n", 0, WHOLE),
+    ("", 6, "! over select 0\n"),
+    ("turn 0\n", 6, "T0 hi\n! over select 0\n"),
+    ("turn 0\nturm 0\n", 4, "T0 hi\n! journal 2 9\n"),
+    ("\nturn 0\n", 4, "! journal 1 9\n"),
+    ("turn\n", 4, "! journal 1 9\n"),
+    ("turn 0 \n", 4, "! journal 1 9\n"),
+    ("turn  0\n", 4, "! journal 1 9\n"),
+    ("turn -1\n", 4, "! journal 1 9\n"),
+    ("turn 9223372036854775808\n", 4, "! journal 1 9\n"),
+];
+
+#[test]
+fn journals(rt: HostRuntime) -> Result<(), Fail> {
+    for (journal, status, text) in JOURNALS {
+        assert!(rt;
+            ends(rt.alloc(), &WORDS, HELLO, journal, (status, text))?,
+            "{journal}"
+        );
+    }
+    Ok(())
+}
+
+// Words that are refused.
+static REFUSED: [&[&str]; 13] = [
+    &[],
+    &[""],
+    &["replay"],
+    &["replay", "s"],
+    &["replay", "s", "j", "x"],
+    &["replay", "s", ""],
+    &["replay", "", "j"],
+    &["replay", "-s", "j"],
+    &["replay", "s", "-j"],
+    &["replay", "s", "-"],
+    &["Replay", "s", "j"],
+    &["play", "s", "j"],
+    &["", "replay", "s", "j"],
+];
+
+#[test]
+fn refused_words(rt: HostRuntime) -> Result<(), Fail> {
+    for words in REFUSED {
+        assert!(rt; ends(rt.alloc(), words, HELLO, JOURNAL, (2, "! words\n"))?);
+    }
+    Ok(())
+}
+
+#[test]
+fn missing_files(rt: HostRuntime) -> Result<(), Fail> {
+    let fault = (9, "! fault shelf\n");
+    assert!(rt; ends(rt.alloc(), &["replay", "q", "j"], HELLO, JOURNAL, fault)?);
+    assert!(rt; ends(rt.alloc(), &["replay", "s", "q"], HELLO, JOURNAL, fault)?);
+    assert!(rt;
+        ends(
+            rt.alloc(),
+            &["replay", "s", "q"],
+            "",
+            JOURNAL,
+            (3, "! script 1 9\n")
+        )?
+    );
+    Ok(())
+}
+
+// Whether a run whose shelf fails at a call, from 0, ends with this status and writes this.
+fn ends_on_fake_shelf(alloc: Global, call: usize, want: (u8, &str)) -> Result<bool, Memory> {
+    let mut shelf = FakeShelf::new(shelf_of(alloc, HELLO, JOURNAL)?, call);
+    let mut sink = MemSink::new(alloc);
+    let status = status_of(alloc, &WORDS, &mut shelf, &mut sink)?;
+    Ok(status == want.0 && sink.taken() == want.1.as_bytes())
+}
+
+#[test]
+fn shelf_fails(rt: HostRuntime) -> Result<(), Fail> {
+    for call in 0..4 {
+        assert!(rt;
+            ends_on_fake_shelf(rt.alloc(), call, (9, "! fault shelf\n"))?,
+            "{call}"
+        );
+    }
+    assert!(rt; ends_on_fake_shelf(rt.alloc(), 4, (0, WHOLE))?);
+    Ok(())
+}
+
+// Whether a run whose sink takes one byte a call and fails at a call, from 0, ends with this status and writes this.
+fn ends_on_fake_sink(alloc: Global, call: usize, want: (u8, &[u8])) -> Result<bool, Memory> {
+    let mut shelf = shelf_of(alloc, HELLO, JOURNAL)?;
+    let mut sink = FakeSink::new(alloc, call);
+    let status = status_of(alloc, &WORDS, &mut shelf, &mut sink)?;
+    Ok(status == want.0 && sink.taken() == want.1)
+}
+
+#[test]
+fn sink_fails(rt: HostRuntime) -> Result<(), Fail> {
+    let whole = WHOLE.as_bytes();
+    for call in 0..whole.len() {
+        assert!(rt;
+            ends_on_fake_sink(rt.alloc(), call, (9, &whole[..call]))?,
+            "{call}"
+        );
+    }
+    assert!(rt; ends_on_fake_sink(rt.alloc(), whole.len(), (0, whole))?);
+    Ok(())
+}
