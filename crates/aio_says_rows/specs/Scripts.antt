@@ -7,7 +7,7 @@ use Rattle.aio_script_model.specs.declared.function.Function.TheVariants.{Messag
 use Rattle.aio_script_model.specs.declared.request_name.RequestName.TheVariants.{Sleep}
 use Rattle.aio_script_model.specs.Syntax.{Apply, MakeError, Yield, Raise, Pass, If, statements, branch, Program}
 use Rattle.aio_script_model.specs.Tape.{Resumed}
-use Rattle.aio_says_rows.specs.Written.{none, yes, int, text, var, list, ◌+◌, ◌-◌, ◌//◌, ◌<◌, ◌:=◌, ◌:=from◌, yield_from, call, ask, print, return, when, while, try, try_finally, except, except_as, with_timeout, with_group, def, script}
+use Rattle.aio_says_rows.specs.Written.{none, yes, int, text, var, list, ◌plus◌, ◌less◌, ◌over◌, ◌below◌, ◌:=◌, ◌:=from◌, yield_from, call, ask, print, return, when, while, try, try_finally, except, except_as, with_timeout, with_group, def, script}
 
 -- the first input of a step: none, and an exception
 abbrev pub first : Resumed
@@ -43,9 +43,9 @@ abbrev pub counting : Program
 counting =
     script (def "main" [] (
     "i" := int 0
-    ∷ while (var "i" < int 3) (
+    ∷ while (var "i" below int 3) (
     print (var "i" ∷ [])
-    ∷ "i" := var "i" + int 1
+    ∷ "i" := var "i" plus int 1
     ∷ [])
     ∷ []) ∷ [])
 
@@ -147,7 +147,7 @@ abbrev pub descending : ℕ → Program
 descending k =
     script (def "main" ("n" ∷ "quotient" ∷ []) (
     try (
-    "m" :=from call "main" (var "n" + int 1 ∷ int 8 // (int k - var "n") ∷ [])
+    "m" :=from call "main" (var "n" plus int 1 ∷ int 8 over (int k less var "n") ∷ [])
     ∷ return (var "m")
     ∷ []) (
     except RecursionError (return (var "n") ∷ [])
@@ -242,5 +242,5 @@ abbrev pub spinning : Program
 spinning =
     script (def "main" ("n" ∷ []) (
     "i" := int 0
-    ∷ while (var "i" < var "n") ("i" := var "i" + int 1 ∷ [])
+    ∷ while (var "i" below var "n") ("i" := var "i" plus int 1 ∷ [])
     ∷ []) ∷ [])

@@ -33,49 +33,49 @@ var s = Variable (codes s)
 abbrev pub list : List Expr → Expr
 list items = ListOf (exprs items)
 
-infixl 170 ◌+◌
-abbrev pub ◌+◌ : Expr → Expr → Expr
-a + b = Calculate Add a b
+infixl 170 ◌plus◌
+abbrev pub ◌plus◌ : Expr → Expr → Expr
+a plus b = Calculate Add a b
 
-infixl 170 ◌-◌
-abbrev pub ◌-◌ : Expr → Expr → Expr
-a - b = Calculate Subtract a b
+infixl 170 ◌less◌
+abbrev pub ◌less◌ : Expr → Expr → Expr
+a less b = Calculate Subtract a b
 
-infixl 180 ◌*◌
-abbrev pub ◌*◌ : Expr → Expr → Expr
-a * b = Calculate Multiply a b
+infixl 180 ◌times◌
+abbrev pub ◌times◌ : Expr → Expr → Expr
+a times b = Calculate Multiply a b
 
-infixl 180 ◌//◌
-abbrev pub ◌//◌ : Expr → Expr → Expr
-a // b = Calculate FloorDivide a b
+infixl 180 ◌over◌
+abbrev pub ◌over◌ : Expr → Expr → Expr
+a over b = Calculate FloorDivide a b
 
-infixl 180 ◌%◌
-abbrev pub ◌%◌ : Expr → Expr → Expr
-a % b = Calculate Remainder a b
+infixl 180 ◌modulo◌
+abbrev pub ◌modulo◌ : Expr → Expr → Expr
+a modulo b = Calculate Remainder a b
 
-infix 160 ◌==◌
-abbrev pub ◌==◌ : Expr → Expr → Expr
-a == b = Compare comparison.Equal a b
+infix 160 ◌equals◌
+abbrev pub ◌equals◌ : Expr → Expr → Expr
+a equals b = Compare comparison.Equal a b
 
-infix 160 ◌!=◌
-abbrev pub ◌!=◌ : Expr → Expr → Expr
-a != b = Compare comparison.NotEqual a b
+infix 160 ◌differs◌
+abbrev pub ◌differs◌ : Expr → Expr → Expr
+a differs b = Compare comparison.NotEqual a b
 
-infix 160 ◌<◌
-abbrev pub ◌<◌ : Expr → Expr → Expr
-a < b = Compare comparison.Less a b
+infix 160 ◌below◌
+abbrev pub ◌below◌ : Expr → Expr → Expr
+a below b = Compare comparison.Less a b
 
-infix 160 ◌<=◌
-abbrev pub ◌<=◌ : Expr → Expr → Expr
-a <= b = Compare comparison.LessOrEqual a b
+infix 160 ◌atmost◌
+abbrev pub ◌atmost◌ : Expr → Expr → Expr
+a atmost b = Compare comparison.LessOrEqual a b
 
-infix 160 ◌>◌
-abbrev pub ◌>◌ : Expr → Expr → Expr
-a > b = Compare comparison.Greater a b
+infix 160 ◌above◌
+abbrev pub ◌above◌ : Expr → Expr → Expr
+a above b = Compare comparison.Greater a b
 
-infix 160 ◌>=◌
-abbrev pub ◌>=◌ : Expr → Expr → Expr
-a >= b = Compare comparison.GreaterOrEqual a b
+infix 160 ◌atleast◌
+abbrev pub ◌atleast◌ : Expr → Expr → Expr
+a atleast b = Compare comparison.GreaterOrEqual a b
 
 -- ---- statements
 infix 150 ◌:=◌
