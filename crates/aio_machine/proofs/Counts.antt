@@ -5,10 +5,10 @@ use Rattle.aio_value_model.specs.Input.{Input}
 use Rattle.aio_wire_model.specs.Call.{Call, Answer}
 use Rattle.aio_wire_model.specs.Journal.{Entry, Answered, Refused}
 use Rattle.aio_loop_model.specs.Parts.{Handle}
-use Rattle.aio_script_model.specs.Straight.{Line, Saying, Prints, Returns, Raises, says}
+use Rattle.aio_script_model.specs.Straight.{Line, Saying, Prints, Sleeps, Returns, Raises, says}
 use Rattle.aio_machine.specs.Growth.{turns_in}
 use Rattle.aio_machine.specs.State.{State, Event, Called, Got, Ran, Said, noted, start, tape_of}
-use Rattle.aio_machine.specs.Step.{printed, serve, served, step}
+use Rattle.aio_machine.specs.Step.{printed, put_to_sleep, serve, served, step}
 use Rattle.aio_machine.specs.Turn.{call_of, effect, ran, taken_first, run_first, run_handles, turn, woken}
 use Rattle.aio_machine.specs.Run.{Run, Ending, Over, Bad, run_on, run, ends_or, ends_at_call, stops}
 
@@ -41,10 +41,15 @@ ran-same action s = turns-append s.events (Ran action ∷ []) ∙ plus-nothing (
 said-same : (task : ℕ) (text : List ℕ) (es : List Event) → turns_in (es ++ Said task text ∷ []) ≡ turns_in es
 said-same task text es = turns-append es (Said task text ∷ []) ∙ plus-nothing (turns_in es)
 
+put_to_sleep-same : (delay task : ℕ) (s : State) → Same s (put_to_sleep delay task s)
+put_to_sleep-same zero task s = refl
+put_to_sleep-same (suc delay) task s = refl
+
 served-same : (saying : Saying) (go_on : State → State) (task : ℕ) (s : State) → ((t : State) → Same t (go_on t)) → Same s (served saying go_on task s)
 served-same (Prints items) go_on task s goes =
     let said = printed task items s in
     same-then s said (go_on said) (said-same task _ s.events) (goes said)
+served-same (Sleeps delay) go_on task s goes = put_to_sleep-same delay task s
 served-same (Returns value) go_on task s goes = refl
 served-same (Raises fault) go_on task s goes = refl
 

@@ -5,10 +5,10 @@ use Rattle.aio_value_model.specs.Input.{Input}
 use Rattle.aio_wire_model.specs.Call.{Answer}
 use Rattle.aio_wire_model.specs.Journal.{Entry, Answered, Refused}
 use Rattle.aio_loop_model.specs.Parts.{Handle}
-use Rattle.aio_script_model.specs.Straight.{Saying, Prints, Returns, Raises, says}
+use Rattle.aio_script_model.specs.Straight.{Saying, Prints, Sleeps, Returns, Raises, says}
 use Rattle.aio_machine.specs.Growth.{GoesOn}
 use Rattle.aio_machine.specs.State.{State, Event, Called, Got, Ran, noted, tape_of}
-use Rattle.aio_machine.specs.Step.{printed, serve, served, step}
+use Rattle.aio_machine.specs.Step.{printed, put_to_sleep, serve, served, step}
 use Rattle.aio_machine.specs.Turn.{call_of, effect, ran, taken_first, run_first, run_handles, turn}
 use Rattle.aio_machine.specs.Run.{Run, Ending, Over, Bad, run_on, ends_or, ends_at_call, stops}
 
@@ -31,10 +31,15 @@ Grows s t = GoesOn s.events t.events
 grows_then : (s t u : State) → Grows s t → Grows t u → Grows s u
 grows_then s t u first second = goes_on_then s.events t.events u.events first second
 
+put_to_sleep-grows : (delay task : ℕ) (s : State) → Grows s (put_to_sleep delay task s)
+put_to_sleep-grows zero task s = goes_on_same s.events
+put_to_sleep-grows (suc delay) task s = goes_on_same s.events
+
 served-grows : (saying : Saying) (go_on : State → State) (task : ℕ) (s : State) → ((t : State) → Grows t (go_on t)) → Grows s (served saying go_on task s)
 served-grows (Prints items) go_on task s goes =
     let said = printed task items s in
     grows_then s said (go_on said) (goes_on_one s.events _) (goes said)
+served-grows (Sleeps delay) go_on task s goes = put_to_sleep-grows delay task s
 served-grows (Returns value) go_on task s goes = goes_on_same s.events
 served-grows (Raises fault) go_on task s goes = goes_on_same s.events
 

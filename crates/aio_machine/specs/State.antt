@@ -15,11 +15,13 @@ pub data Event : Type 0 where
   Ran : (action : Action) → Event
   Said : (task : ℕ) (text : List ℕ) → Event
 
--- The tapes are numbered as the tasks are.
+-- The tapes are numbered as the tasks are, and so are the sleeps: of a task that was put to sleep, the tag of the timer's
+-- handle, until it is resumed.
 pub record State : Type 0 where
   pub program : List Line
   pub parts : Parts
   pub tapes : List Tape
+  pub sleeps : List (Option ℕ)
   pub main_done : Bool
   pub events : List Event
 
@@ -43,6 +45,7 @@ start program =
       program = program;
       parts = soon (Step 0) parts_with_main;
       tapes = [] ∷ [];
+      sleeps = None ∷ [];
       main_done = false;
       events = [];
     }
@@ -65,6 +68,17 @@ tape_of task s = tape_at (slice_get s.tapes task)
 -- a state in which a task was resumed
 abbrev pub resumed : ℕ → Resumed → State → State
 resumed task entry s = record s { tapes = slice_set s.tapes task (tape_of task s ++ entry ∷ []) }
+
+abbrev pub handle_at : Option (Option ℕ) → Option ℕ
+handle_at None = None
+handle_at (Some handle) = handle
+
+-- the tag of the handle that a task's sleep keeps
+abbrev pub handle_of : ℕ → State → Option ℕ
+handle_of task s = handle_at (slice_get s.sleeps task)
+
+abbrev pub with_handle : ℕ → Option ℕ → State → State
+with_handle task handle s = record s { sleeps = slice_set s.sleeps task handle }
 
 abbrev pub outcome_at : Option Future → Option Outcome
 outcome_at None = None

@@ -1,15 +1,21 @@
--- A task's step. Source: `tasks.py`, `Task.__step`.
-use Rattle.std.specs.Prelude.{ℕ, zero, suc, ◌++◌, true, false, List, [], ◌∷◌, Option, Some, None, slice_get, slice_set}
+-- A task's step. Source: `tasks.py`, `Task.__step` and `sleep`.
+use Rattle.std.specs.Prelude.{ℕ, zero, suc, ◌+◌, ◌++◌, true, false, List, [], ◌∷◌, Option, Some, None, min, slice_get}
 use Rattle.std.specs.List.{flat_map}
+use Rattle.aio_value_model.specs.Action.{SleepDone}
 use Rattle.aio_value_model.specs.Input.{Input}
 use Rattle.aio_value_model.specs.declared.input.Input.TheVariants.{Send}
+use Rattle.aio_value_model.specs.Number.{most}
 use Rattle.aio_value_model.specs.Shown.{shown}
 use Rattle.aio_value_model.specs.Value.{Value, Nothing, Outcome}
 use Rattle.aio_value_model.specs.declared.outcome.Outcome.TheVariants.{Value as Returned, Failed}
-use Rattle.aio_script_model.specs.Straight.{Saying, Prints, Returns, Raises, says}
+use Rattle.aio_script_model.specs.Straight.{Saying, Prints, Sleeps, Returns, Raises, says}
 use Rattle.aio_loop_model.specs.Parts.{Parts, Task}
-use Rattle.aio_loop_model.specs.Futures.{settle}
-use Rattle.aio_machine.specs.State.{State, Said, with_parts, noted, tape_of, resumed}
+use Rattle.aio_loop_model.specs.Handles.{later}
+use Rattle.aio_loop_model.specs.Futures.{next_future, new_plain, settle}
+use Rattle.aio_loop_model.specs.Tasks.{pause, set_waiter}
+use Rattle.aio_loop_model.specs.Suspend.{wait_on}
+use Rattle.aio_loop_model.specs.Timeouts.{give_up}
+use Rattle.aio_machine.specs.State.{State, Said, with_parts, with_handle, handle_of, noted, tape_of, resumed}
 
 -- values behind the first, each with a space before it
 abbrev pub shown_behind : List Value → List ℕ
@@ -37,9 +43,26 @@ abbrev pub printed : ℕ → List Value → State → State
 printed task items s =
     resumed task (record { input = Send Nothing; fresh = false }) (noted (Said task (shown_all items)) s)
 
--- what a task's saying does: an answer given at once, after which it goes on, or the end of the task
+-- when a delay is over; past the greatest number of a script, at that number
+abbrev pub deadline : (time delay : ℕ) → ℕ
+deadline time delay = min (time + delay) most
+
+-- the task waits on a future of its own, which a timer's handle resolves, and keeps that handle
+abbrev pub sleep_for : ℕ → ℕ → State → State
+sleep_for delay task s =
+    let on = next_future s.parts in
+    with_handle task (Some s.parts.next_tag)
+    (with_parts (wait_on task on (later (deadline s.parts.time delay) (SleepDone task on) (new_plain s.parts))) s)
+
+-- a sleep of 0 is a bare `yield`
+abbrev pub put_to_sleep : ℕ → ℕ → State → State
+put_to_sleep zero task s = with_parts (pause task s.parts) s
+put_to_sleep (suc delay) task s = sleep_for (suc delay) task s
+
+-- what a task's saying does: an answer given at once, after which it goes on, or the end of the step or of the task
 abbrev pub served : Saying → (State → State) → ℕ → State → State
 served (Prints items) go_on task s = go_on (printed task items s)
+served (Sleeps delay) go_on task s = put_to_sleep delay task s
 served (Returns value) go_on task s = end_task task (Returned value) s
 served (Raises fault) go_on task s = end_task task (Failed fault) s
 
@@ -50,13 +73,11 @@ serve zero task s = s
 serve (suc statements) task s =
     served (says s.program (tape_of task s)) (λ next. serve statements task next) task s
 
-abbrev pub waits_for_nothing : Option Task → ℕ → Parts → Parts
-waits_for_nothing None id p = p
-waits_for_nothing (Some task) id p = record p { tasks = slice_set p.tasks id (record task { waiter = None }) }
+-- the task waits no more, and the handle of its sleep is revoked
+abbrev pub awake : ℕ → State → State
+awake task s =
+    with_handle task None (with_parts (give_up (handle_of task s) (set_waiter task None s.parts)) s)
 
--- A step: the waiter is cleared, the input goes to the task's coroutine, and what it says is served.
+-- A step: the task is awake, the input goes to its coroutine, and what it says is served.
 abbrev pub step : ℕ → Input → State → State
-step task input s =
-    serve step_limit task
-    (resumed task (record { input = input; fresh = true })
-    (with_parts (waits_for_nothing (slice_get s.parts.tasks task) task s.parts) s))
+step task input s = serve step_limit task (resumed task (record { input = input; fresh = true }) (awake task s))

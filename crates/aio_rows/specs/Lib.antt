@@ -1,1 +1,2 @@
+pub mod Sleeping
 pub mod Straight

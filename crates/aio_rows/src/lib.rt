@@ -2,4 +2,5 @@
 //! are the equations, and the check computes them.
 #![tactic(auto)]
 
+pub mod sleeping;
 pub mod straight;

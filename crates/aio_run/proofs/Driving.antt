@@ -8,7 +8,7 @@ use Rattle.aio_wire_model.specs.Call.{Call, Answer}
 use Rattle.aio_wire_model.specs.Journal.{Entry, Answered, Refused}
 use Rattle.aio_wire_model.specs.Told.{Agrees, grown, Rose}
 use Rattle.aio_script_model.specs.Straight.{Line}
-use Rattle.aio_script.specs.Read.{plain_program}
+use Rattle.aio_straight.specs.Read.{plain_program}
 use Rattle.aio_machine.specs.Program.{turn_limit}
 use Rattle.aio_machine.specs.State.{State, Event, Called, start}
 use Rattle.aio_machine.specs.Turn.{turn, call_of}
@@ -16,26 +16,26 @@ use Rattle.aio_machine.specs.Run.{Run, Ending, Over, Bad, Finished, Turns, run, 
 use Rattle.aio_machine.specs.Transcript.{line, lines_of_events, ending_text, transcript, status_of}
 use Rattle.aio_machine.proofs.Grows.{run_on-grows}
 use Rattle.aio_run.specs.Drive.{Ran, RanInPart, RanSoFar, Stopped, StopsInTurn, TurnWritten, TurnWrittenInPart}
-use Rattle.aio_run.specs.Kernel.{History, Fits, state_of, state_in, starting, is_over, waiting}
+use Rattle.aio_run.specs.Kernel.{History, Fits, FitsIn, state_of, state_in, starting, is_over, waiting}
 use Rattle.aio_run.specs.Writing.{TakesFront, StopsWriting}
 use Rattle.aio_run.specs.declared.halt.Halt.{Halt}
 use Rattle.aio_run.specs.declared.halt.Halt.TheVariants.{Memory, Sink, Wire}
 use Rattle.aio_run.specs.declared.kernel.Kernel.{Kernel}
-use Rattle.aio_run.specs.declared.kernel.Phase.{Phase}
-use Rattle.aio_run.specs.declared.kernel.Phase.TheVariants.{Started, Ended, Over as PhaseOver}
+use Rattle.aio_run.specs.declared.phase.Phase.{Phase}
+use Rattle.aio_run.specs.declared.phase.Phase.TheVariants.{Ready, Sleeping, Woken, Ended, Over as PhaseOver}
 use Rattle.aio_run.proofs.Fronts.{append-nil, grown-grown, grown-nil}
 use Rattle.aio_run.proofs.Turning.{lines-append}
 
 -- A run of a program in which some turns were made: the history, the answers so far, and what was taken.
 pub record Running (program : List Line) (made : ℕ) (kernel : Kernel) (h : History) (past : List Entry) (first_told now_told : Option (List Entry)) (first_taken now_taken : Option (List ℕ)) : Type 0 where
   pub same : plain_program kernel.program ≡ program
-  pub fits : Fits kernel.phase h
+  pub fits : Fits kernel h
   pub told : (rest : List Entry) → Agrees now_told rest → Agrees first_told (past ++ rest)
   pub on : (rest : List Entry) → run program (past ++ rest) turn_limit ≡ run_on turn_limit made (state_of kernel h) rest
   pub taken : now_taken ≡ grown first_taken (lines_of_events h.events)
 
 -- a run that begins
-pub running_first : (program : List Line) (kernel : Kernel) (told : Option (List Entry)) (taken : Option (List ℕ)) → plain_program kernel.program ≡ program → Fits kernel.phase starting → state_of kernel starting ≡ start program → Running program 0 kernel starting [] told told taken taken
+pub running_first : (program : List Line) (kernel : Kernel) (told : Option (List Entry)) (taken : Option (List ℕ)) → plain_program kernel.program ≡ program → Fits kernel starting → state_of kernel starting ≡ start program → Running program 0 kernel starting [] told told taken taken
 running_first program kernel told taken same fits begins =
     record {
       same = same;
@@ -52,19 +52,25 @@ agreed (Some a) = (a, λ held e. cc)
 
 -- a phase that is not over goes on while turns are left
 goes_on : (program : List Line) (time : ℕ) (phase : Phase) (h : History) (made : ℕ) → is_over phase ≡ false → made < turn_limit → stops turn_limit made (state_in program time phase h) ≡ None
-goes_on program time Started h made over left = let e : nat_le turn_limit made ≡ false = grind (arith, nat_tests) in rw e refl
+goes_on program time Ready h made over left = let e : nat_le turn_limit made ≡ false = grind (arith, nat_tests) in rw e refl
+goes_on program time (Sleeping when) h made over left = let e : nat_le turn_limit made ≡ false = grind (arith, nat_tests) in rw e refl
+goes_on program time Woken h made over left = let e : nat_le turn_limit made ≡ false = grind (arith, nat_tests) in rw e refl
 goes_on program time Ended h made over left = let e : nat_le turn_limit made ≡ false = grind (arith, nat_tests) in rw e refl
 goes_on program time PhaseOver h made over left = absurd (false≢true (sym over))
 
 -- a phase that is over has ended with main's value
 ended : (program : List Line) (time : ℕ) (phase : Phase) (h : History) (made : ℕ) → is_over phase ≡ true → stops turn_limit made (state_in program time phase h) ≡ Some (Finished (Returned Nothing))
-ended program time Started h made over = absurd (false≢true over)
+ended program time Ready h made over = absurd (false≢true over)
+ended program time (Sleeping when) h made over = absurd (false≢true over)
+ended program time Woken h made over = absurd (false≢true over)
 ended program time Ended h made over = absurd (false≢true over)
 ended program time PhaseOver h made over = refl
 
 -- with no turn left
 out_of_turns : (program : List Line) (time : ℕ) (phase : Phase) (h : History) (made : ℕ) → is_over phase ≡ false → turn_limit ≤ made → stops turn_limit made (state_in program time phase h) ≡ Some (Turns turn_limit)
-out_of_turns program time Started h made over none = let e : nat_le turn_limit made ≡ true = grind (arith, nat_tests) in rw e refl
+out_of_turns program time Ready h made over none = let e : nat_le turn_limit made ≡ true = grind (arith, nat_tests) in rw e refl
+out_of_turns program time (Sleeping when) h made over none = let e : nat_le turn_limit made ≡ true = grind (arith, nat_tests) in rw e refl
+out_of_turns program time Woken h made over none = let e : nat_le turn_limit made ≡ true = grind (arith, nat_tests) in rw e refl
 out_of_turns program time Ended h made over none = let e : nat_le turn_limit made ≡ true = grind (arith, nat_tests) in rw e refl
 out_of_turns program time PhaseOver h made over none = absurd (false≢true (sym over))
 
@@ -253,7 +259,9 @@ ends_turns now_told made kernel h over none =
 
 -- the history does not change what is asked
 call_of-history : (program : List Line) (time : ℕ) (phase : Phase) (h : History) → call_of (state_in program time phase h) ≡ call_of (state_in program time phase starting)
-call_of-history program time Started h = refl
+call_of-history program time Ready h = refl
+call_of-history program time (Sleeping when) h = refl
+call_of-history program time Woken h = refl
 call_of-history program time Ended h = refl
 call_of-history program time PhaseOver h = refl
 
@@ -281,7 +289,13 @@ ends_bad now_told made kernel h number cause rest over left next =
       same = lines-called h.events (Called (call_of s)) refl;
     }
 
-pub fits_starting : (phase : Phase) → Fits phase starting
-fits_starting Started = refl
-fits_starting Ended = tt
-fits_starting PhaseOver = tt
+-- a tape of nothing has come to the first line
+pub fits_starting : (program : List Line) (at : ℕ) (phase : Phase) → at ≡ 0 → FitsIn program at phase starting
+fits_starting program at phase first = subst (λ (n : ℕ). FitsIn program n phase starting) (sym first) (by_phase phase)
+  where
+    by_phase : (p : Phase) → FitsIn program 0 p starting
+    by_phase Ready = λ next later. refl
+    by_phase (Sleeping when) = λ next later. refl
+    by_phase Woken = λ next later. refl
+    by_phase Ended = tt
+    by_phase PhaseOver = tt

@@ -2,6 +2,7 @@ pub mod Driving
 pub mod Files
 pub mod Fronts
 pub mod Journals
+pub mod LinesLeft
 pub mod Outcomes
 pub mod Told
 pub mod Turning

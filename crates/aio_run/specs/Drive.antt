@@ -41,14 +41,14 @@ Stopped program told old new wire_before wire_now sink_before sink_now Wire = Ra
 abbrev pub TurnWritten : Kernel → Kernel → Answer → Option (List ℕ) → Option (List ℕ) → Type 0
 TurnWritten old new answer taken_before taken_now =
     (new.program ≡ old.program)
-    × ((h : History) → Fits old.phase h →
-    (after : History) × Fits new.phase after × (turn answer (state_of old h) ≡ state_of new after)
+    × ((h : History) → Fits old h →
+    (after : History) × Fits new after × (turn answer (state_of old h) ≡ state_of new after)
     × ((text : List ℕ) × (lines_of_events after.events ≡ lines_of_events h.events ++ text) × (taken_now ≡ grown taken_before text)))
 
 -- a front of a turn's lines was taken
 abbrev pub TurnWrittenInPart : Kernel → Answer → Option (List ℕ) → Option (List ℕ) → Type 0
 TurnWrittenInPart old answer taken_before taken_now =
-    (h : History) → Fits old.phase h →
+    (h : History) → Fits old h →
     (front : List ℕ) × (rest : List ℕ) × (lines_of_events (turn answer (state_of old h)).events ≡ lines_of_events h.events ++ (front ++ rest))
     × (taken_now ≡ grown taken_before front)
 

@@ -5,7 +5,7 @@ pub mod Journal
 pub mod JournalWire
 pub mod Kernel
 pub mod Outcome
-pub mod Printing
 pub mod Reading
+pub mod Stepping
 pub mod Words
 pub mod Writing

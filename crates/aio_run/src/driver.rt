@@ -1,6 +1,6 @@
 //! The one loop that holds kernel, wire and sink.
 ghost use Rattle.std.specs.Prelude.{◌≡◌, ◌≤◌, IfOk, IfErr, OnOk};
-ghost use Rattle.aio_script.specs.Read.{plain_program};
+ghost use Rattle.aio_straight.specs.Read.{plain_program};
 ghost use Rattle.aio_run.specs.Drive.{Ran, Stopped, StopsInTurn, TurnWritten};
 ghost use Rattle.aio_run.specs.Ending.{plain_ending};
 ghost use Rattle.aio_run.specs.Writing.{StopsWriting};
@@ -14,7 +14,7 @@ use crate::halt::Halt;
 use crate::kernel::Kernel;
 use crate::lines::lines_of;
 use crate::writing::write_all;
-use aio_script::Program;
+use aio_straight::Program;
 use aio_wire::{Answer, Reply, Sink, Wire};
 use std::alloc::Global;
 

@@ -1,35 +1,29 @@
 //! The kernel of a straight program: main's task, step by step. It keeps no history.
-ghost use Rattle.std.specs.Prelude.{◌≡◌, IfOk, map, OnOk};
+ghost use Rattle.std.specs.Prelude.{◌≡◌, ℕ, ◌++◌, IfOk, OnOk, drop};
 ghost use Rattle.aio_wire_model.specs.Call.{Turn};
-ghost use Rattle.aio_script.specs.Read.{plain_program};
+ghost use Rattle.aio_straight.specs.Read.{plain_program};
 ghost use Rattle.aio_machine.specs.State.{start};
-ghost use Rattle.aio_machine.specs.Turn.{call_of};
 ghost use Rattle.aio_run.specs.Kernel.{state_of, starting, waiting, is_over, Turned};
 ghost use Rattle.aio_run.specs.Events.{plain_events};
+ghost use Rattle.aio_run.specs.Stepping.{GoesOnAt, said_by, stop_of};
 ghost use Rattle.aio_wire.specs.Told.{call_of as plain_call};
 
 use crate::event::Event;
-use crate::printing::print_lines;
+use crate::phase::Phase;
+use crate::stepping::{Stop, run_lines};
 use aio_base::Memory;
-use aio_script::Program;
+use aio_straight::Program;
 use aio_wire::Call;
 use std::alloc::Global;
 
-/// Where main's task stands.
-#[derive(Clone, Copy, Debug, PartialEq, Eq)]
-pub enum Phase {
-    /// Its first step is pending.
-    Started,
-    /// It is done, and its callback is pending.
-    Ended,
-    /// Its callback ran.
-    Over,
-}
+/// The longest wait that is asked for, in milliseconds: a day.
+const LONGEST_WAIT: u64 = 86_400_000;
 
-/// A run of a straight program, between two turns.
+/// A run of a straight program, between two turns. `at` is the line that is next, from 0.
 #[derive(Drop)]
 pub struct Kernel {
     pub program: Program,
+    pub at: usize,
     pub time: u64,
     pub phase: Phase,
 }
@@ -39,12 +33,14 @@ impl Kernel {
     pub fn new(program: Program) -> Kernel
         ensures begins { state_of result starting ≡ start (plain_program program) }
         ensures program { result.program ≡ program }
-        ensures phase { result.phase ≡ Phase.Started }
+        ensures first { result.at ≡ 0 }
+        ensures phase { result.phase ≡ Phase.Ready }
     {
         Kernel {
             program,
+            at: 0,
             time: 0,
-            phase: Phase::Started,
+            phase: Phase::Ready,
         }
     }
 
@@ -52,17 +48,17 @@ impl Kernel {
     pub fn is_over(&self) -> bool
         ensures { result ≡ is_over self.now.phase }
     {
-        self.phase == Phase::Over
+        matches!(self.phase, Phase::Over)
     }
 
-    /// What the next turn asks.
+    /// What the next turn asks: it waits for nothing where something is pending, and else for the timer.
     pub fn call(&self) -> Call
         ensures { plain_call result ≡ waiting self.now }
     {
-        let wait = if self.phase == Phase::Over {
-            None
-        } else {
-            Some(0)
+        let wait = match self.phase {
+            Phase::Ready | Phase::Woken | Phase::Ended => Some(0),
+            Phase::Sleeping { when } => Some(when.saturating_sub(self.time).min(LONGEST_WAIT)),
+            Phase::Over => None,
         };
         Call::Select { wait }
     }
@@ -70,15 +66,27 @@ impl Kernel {
     /// A turn whose call is answered by this time in milliseconds: what happens in it. After `Memory` the kernel may
     /// not be used.
     pub fn turn(&mut self, alloc: Global, now: u64) -> Result<Vec<Event>, Memory>
-        ensures { IfOk result (λ told. Turned self.old self.new (Turn now) (plain_events told.items)) }
+        ensures { IfOk result (λ told. Turned self.old self.new (Turn now) told.items) }
     {
         let mut told = Vec::new(alloc);
         self.time = self.time.max(now);
         match self.phase {
-            Phase::Started => {
+            Phase::Ready => {
                 told.push(Event::RanStep)?;
-                print_lines(alloc, self.program.lines.as_slice(), &mut told)?;
-                self.phase = Phase::Ended;
+                self.step(alloc, &mut told)?;
+                Ok(told)
+            }
+            Phase::Sleeping { when } => {
+                if self.time < when {
+                    return Ok(told);
+                }
+                told.push(Event::RanSleepDone)?;
+                self.phase = Phase::Woken;
+                Ok(told)
+            }
+            Phase::Woken => {
+                told.push(Event::RanWakeup)?;
+                self.step(alloc, &mut told)?;
                 Ok(told)
             }
             Phase::Ended => {
@@ -88,5 +96,24 @@ impl Kernel {
             }
             Phase::Over => Ok(told),
         }
+    }
+
+    /// A step of main: from the next line on, up to the first that sleeps.
+    fn step(&mut self, alloc: Global, told: &mut Vec<Event>) -> Result<(), Memory>
+        ensures program { OnOk result (self.new.program ≡ self.old.program) }
+        ensures time { OnOk result (self.new.time ≡ self.old.time) }
+        ensures said { OnOk result ((future : ℕ) → plain_events future told.new.items
+            ≡ plain_events future told.old.items ++ said_by (drop self.old.at (plain_program self.old.program))) }
+        ensures goes_on { OnOk result (GoesOnAt (plain_program self.old.program) self.old.time
+            (stop_of (drop self.old.at (plain_program self.old.program))) self.new.at self.new.phase) }
+    {
+        match run_lines(alloc, self.program.lines.as_slice(), self.at, told)? {
+            Stop::Sleeps { delay, next } => {
+                self.at = next;
+                self.phase = Phase::asleep(delay, self.time);
+            }
+            Stop::Ends => self.phase = Phase::Ended,
+        }
+        Ok(())
     }
 }

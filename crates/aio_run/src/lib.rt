@@ -9,9 +9,10 @@ mod journal;
 mod journal_wire;
 mod kernel;
 mod lines;
-mod printing;
+mod phase;
 mod program;
 mod reading;
+mod stepping;
 #[cfg(test)]
 mod tests;
 mod words;

@@ -1,5 +1,5 @@
 //! The lines of a transcript.
-ghost use Rattle.std.specs.Prelude.{◌≡◌, ◌++◌, IfOk, OnOk};
+ghost use Rattle.std.specs.Prelude.{◌≡◌, ℕ, ◌++◌, IfOk, OnOk};
 ghost use Rattle.aio_machine.specs.Transcript.{lines_of_events, line_of};
 ghost use Rattle.aio_run.specs.Events.{plain_events, plain_event};
 
@@ -9,7 +9,7 @@ use std::alloc::Global;
 
 /// The lines of events, in order.
 pub fn lines_of(alloc: Global, events: &[Event]) -> Result<Vec<u8>, Memory>
-    ensures { IfOk result (λ text. text.items ≡ lines_of_events (plain_events events.now)) }
+    ensures { IfOk result (λ text. (future : ℕ) → text.items ≡ lines_of_events (plain_events future events.now)) }
 {
     let mut text = Vec::new(alloc);
     for event in events {
@@ -20,7 +20,7 @@ pub fn lines_of(alloc: Global, events: &[Event]) -> Result<Vec<u8>, Memory>
 
 /// Appends the line of an event, where it has one.
 fn push_line(alloc: Global, event: &Event, text: &mut Vec<u8>) -> Result<(), Memory>
-    ensures { OnOk result (text.new.items ≡ text.old.items ++ line_of (plain_event event.now)) }
+    ensures { OnOk result ((future : ℕ) → text.new.items ≡ text.old.items ++ line_of (plain_event future event.now)) }
 {
     match event {
         Event::Said { task, text: said } => {
@@ -28,7 +28,7 @@ fn push_line(alloc: Global, event: &Event, text: &mut Vec<u8>) -> Result<(), Mem
             text.extend_from_slice(said.items())?;
             text.push(b'\n')?;
         }
-        Event::RanStep | Event::RanMainDone => {}
+        Event::RanStep | Event::RanWakeup | Event::RanSleepDone | Event::RanMainDone => {}
     }
     Ok(())
 }

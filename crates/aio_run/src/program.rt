@@ -2,7 +2,7 @@
 ghost use Rattle.std.specs.Prelude.{◌≡◌, ◌≢◌, ◌≤◌, None, IfOk, IfErr, map, string_bytes};
 ghost use Rattle.aio_machine.specs.Program.{MayRun, MayReplay, MayWrite};
 ghost use Rattle.aio_machine.specs.Words.{command_of as plain_command_of};
-ghost use Rattle.aio_script.specs.Read.{plain_program};
+ghost use Rattle.aio_straight.specs.Read.{plain_program};
 ghost use Rattle.aio_wire_model.specs.Told.{grown, Rose};
 ghost use Rattle.aio_run.specs.Outcome.{EndsEarly, WritesWhole, TakesPart, ShelfFailed};
 ghost use Rattle.aio_run.specs.Writing.{StopsWriting};
@@ -13,7 +13,7 @@ use crate::journal_wire::JournalWire;
 use crate::reading::{ReadFault, read_file};
 use crate::words::{Command, command_of};
 use crate::writing::write_all;
-use aio_script::{Program, ScriptFault, read};
+use aio_straight::{Program, ScriptFault, read};
 use aio_wire::{Shelf, Sink, Wire};
 use std::alloc::Global;
 

@@ -59,7 +59,7 @@ fn ends(
 // The script, the status, and what is written over two turns.
 type Script = (&'static str, u8, &'static str);
 
-static SCRIPTS: [Script; 14] = [
+static SCRIPTS: [Script; 24] = [
     (HELLO, 0, WHOLE),
     ("def main()\nprint \"hi\"\nend", 0, WHOLE),
     ("def main()\nend\n", 0, "= returned None\n"),
@@ -68,6 +68,32 @@ static SCRIPTS: [Script; 14] = [
         0,
         "T0 \nT0  ~\n= returned None\n",
     ),
+    (
+        "def main()\n pass\nprint 007, \"a, 1\", \"\"\nend\n",
+        0,
+        "T0 7 a, 1 \n= returned None\n",
+    ),
+    (
+        "def main()\nprint 9223372036854775808\nend\n",
+        3,
+        "! script 1 9\n",
+    ),
+    ("def main()\nprint \"a\",7\nend\n", 3, "! script 1 9\n"),
+    ("def main()\nprint \"a\" , 7\nend\n", 3, "! script 1 9\n"),
+    ("def main()\nprint 7,\nend\n", 3, "! script 1 9\n"),
+    ("def main()\nprint\nend\n", 3, "! script 1 9\n"),
+    ("def main()\npass \nend\n", 3, "! script 1 9\n"),
+    (
+        "def main()\nyield from sleep(-1)\nend\n",
+        3,
+        "! script 1 9\n",
+    ),
+    (
+        "def main()\nyield from sleep( 1)\nend\n",
+        3,
+        "! script 1 9\n",
+    ),
+    ("def main()\nyield from sleep()\nend\n", 3, "! script 1 9\n"),
     ("", 3, "! script 1 9\n"),
     ("end\n", 3, "! script 1 9\n"),
     ("def main()\n", 3, "! script 1 9\n"),
@@ -117,6 +143,124 @@ fn journals(rt: HostRuntime) -> Result<(), Fail> {
         assert!(rt;
             ends(rt.alloc(), &WORDS, HELLO, journal, (status, text))?,
             "{journal}"
+        );
+    }
+    Ok(())
+}
+
+const PRINT_AND_SLEEP: &str =
+    "def main()\n  print \"a\", 7\n  yield from sleep(10)\n  print \"b\"\nend\n";
+
+const BARE_YIELD: &str = "def main()\nyield from sleep(0)\nprint 1\nend\n";
+
+const TWO_SLEEPS: &str = "def main()\nyield from sleep(1)\nyield from sleep(1)\nend\n";
+
+const LONGEST_SLEEP: &str = "def main()\nyield from sleep(9223372036854775807)\nend\n";
+
+const DAY_AND_MORE: &str = "def main()\nyield from sleep(86400001)\nend\n";
+
+// A script that sleeps, a journal, the status, and what is written: a journal that is over shows the wait that is asked.
+type Sleep = (&'static str, &'static str, u8, &'static str);
+
+static SLEEPS: [Sleep; 20] = [
+    (
+        PRINT_AND_SLEEP,
+        "turn 0\nturn 4\nturn 10\nturn 10\nturn 10\n",
+        0,
+        "T0 a 7\nT0 b\n= returned None\n",
+    ),
+    (PRINT_AND_SLEEP, "turn 0\n", 6, "T0 a 7\n! over select 10\n"),
+    (
+        PRINT_AND_SLEEP,
+        "turn 0\nturn 4\n",
+        6,
+        "T0 a 7\n! over select 6\n",
+    ),
+    (
+        PRINT_AND_SLEEP,
+        "turn 0\nturn 9\n",
+        6,
+        "T0 a 7\n! over select 1\n",
+    ),
+    (
+        PRINT_AND_SLEEP,
+        "turn 0\nturn 10\n",
+        6,
+        "T0 a 7\n! over select 0\n",
+    ),
+    (BARE_YIELD, "turn 5\n", 6, "! over select 0\n"),
+    (BARE_YIELD, "turn 5\nturn 5\n", 6, "T0 1\n! over select 0\n"),
+    (
+        BARE_YIELD,
+        "turn 5\nturn 5\nturn 5\n",
+        0,
+        "T0 1\n= returned None\n",
+    ),
+    (TWO_SLEEPS, "turn 0\nturn 5\n", 6, "! over select 0\n"),
+    (
+        TWO_SLEEPS,
+        "turn 0\nturn 5\nturn 5\n",
+        6,
+        "! over select 1\n",
+    ),
+    (
+        TWO_SLEEPS,
+        "turn 0\nturn 5\nturn 5\nturn 6\n",
+        6,
+        "! over select 0\n",
+    ),
+    (
+        TWO_SLEEPS,
+        "turn 0\nturn 5\nturn 5\nturn 6\nturn 6\nturn 6\n",
+        0,
+        "= returned None\n",
+    ),
+    (
+        LONGEST_SLEEP,
+        "turn 5\nturn 9223372036854775806\n",
+        6,
+        "! over select 1\n",
+    ),
+    (
+        LONGEST_SLEEP,
+        "turn 5\nturn 9223372036854775807\nturn 0\nturn 0\n",
+        0,
+        "= returned None\n",
+    ),
+    (TWO_SLEEPS, "turn 5\nturn 3\n", 6, "! over select 1\n"),
+    (
+        TWO_SLEEPS,
+        "turn 5\nturn 3\nturn 6\n",
+        6,
+        "! over select 0\n",
+    ),
+    (
+        TWO_SLEEPS,
+        "turn 5\nturn 3\nturn 6\nturn 2\n",
+        6,
+        "! over select 1\n",
+    ),
+    (DAY_AND_MORE, "turn 0\n", 6, "! over select 86400000\n"),
+    (
+        DAY_AND_MORE,
+        "turn 0\nturn 86400000\n",
+        6,
+        "! over select 1\n",
+    ),
+    (
+        DAY_AND_MORE,
+        "turn 0\nturn 0\nturm 0\n",
+        4,
+        "! journal 3 9\n",
+    ),
+];
+
+#[test]
+fn sleeps(rt: HostRuntime) -> Result<(), Fail> {
+    for (script, journal, status, text) in SLEEPS {
+        assert!(rt;
+            ends(rt.alloc(), &WORDS, script, journal, (status, text))?,
+            "{script}{journal}"
         );
     }
     Ok(())

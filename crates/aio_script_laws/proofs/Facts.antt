@@ -117,7 +117,7 @@ error-facts kind w o t e =
     call-facts error_text (Named kind ∷ Sign symbol.Comma ∷ w) (term.Called error_text no_terms (Some kind) (term_then t no_terms)) (λ A cutter d a. inside-next cutter d a (Named kind) (suc d) true (Sign symbol.Comma ∷ w) (inside-next cutter d true (Sign symbol.Comma) (suc d) true w (e.shape.inner A cutter d false))) (λ n h. ap (λ (c : Pieces Lexeme). option_map (λ (arguments : Arguments). term.Called error_text (terms arguments.before) arguments.bare (terms arguments.after)) (arguments_of (term_within n) (Some 0) ((Named kind ∷ []) ∷ c.first ∷ map (λ other. other.1) c.others))) (whole-from at_comma 0 false true w e.shape.commas) ∙ ap (λ found. option_map (λ (arguments : Arguments). term.Called error_text (terms arguments.before) arguments.bare (terms arguments.after)) (option_map (λ (all : List Term). let a : Arguments = record { before = []; bare = Some kind; after = all } in a) (option_and_then (λ y. option_map (λ ys. y ∷ ys) (Some [])) found))) (inner-read n w t e.reads (omega arith)))
 
 -- ---- rows
-abbrev groups : Exprs → List (Lexeme × List Lexeme)
+abbrev pub groups : Exprs → List (Lexeme × List Lexeme)
 groups no_exprs = []
 groups (expr_then first others) = (Sign symbol.Comma, expr_lexemes first) ∷ groups others
 
@@ -129,7 +129,7 @@ row-terms : (row : Exprs) → terms (row_terms row) ≡ terms_from row
 row-terms no_exprs = refl
 row-terms (expr_then first others) = ap (term_then (term_from first)) (row-terms others)
 
-record More (others : Exprs) : Type 1 where
+pub record More (others : Exprs) : Type 1 where
   pub inner : (A : Type 0) (cutter : Cutter A) (d : ℕ) → Passes cutter (suc d) true (suc d) true (more_lexemes others)
   pub cuts : pieces_from at_comma 0 true (more_lexemes others) ≡ (let c : Pieces Lexeme = record { first = []; others = groups others } in c)
   pub reads : (n : ℕ) → suc (length (more_lexemes others)) ≤ n → all_of (term_within n) (map (λ other. other.1) (groups others)) ≡ Some (row_terms others)
@@ -139,7 +139,7 @@ record Row (row : Exprs) : Type 1 where
   pub inner : (A : Type 0) (cutter : Cutter A) (d : ℕ) → Passes cutter (suc d) false (suc d) behind (exprs_lexemes row)
   pub reads : (n : ℕ) → suc (length (exprs_lexemes row)) ≤ n → all_of (term_within n) (parts (exprs_lexemes row)) ≡ Some (row_terms row)
 
-front-pieces : (first others : List Lexeme) (cut : List (Lexeme × List Lexeme)) → Shape first → pieces_from at_comma 0 true others ≡ (let c : Pieces Lexeme = record { first = []; others = cut } in c) → pieces_from at_comma 0 false (first ++ others) ≡ (let c : Pieces Lexeme = record { first = first; others = cut } in c)
+pub front-pieces : (first others : List Lexeme) (cut : List (Lexeme × List Lexeme)) → Shape first → pieces_from at_comma 0 true others ≡ (let c : Pieces Lexeme = record { first = []; others = cut } in c) → pieces_from at_comma 0 false (first ++ others) ≡ (let c : Pieces Lexeme = record { first = first; others = cut } in c)
 front-pieces first others cut s e =
     s.commas others ∙ (ap (in_front first) e ∙ ap (λ (l : List Lexeme). let c : Pieces Lexeme = record { first = l; others = cut } in c) (append-nil first))
 
@@ -147,7 +147,7 @@ front-reads : (n : ℕ) (w : List Lexeme) (t : Term) (slots : List (List Lexeme)
 front-reads n w t slots ts e es =
     ap (option_and_then (λ y. option_map (λ ys. y ∷ ys) (all_of (term_within n) slots))) e ∙ ap (option_map (λ ys. t ∷ ys)) es
 
-parts-front : (x : Lexeme) (xs lexemes : List Lexeme) → lexemes ≡ x ∷ xs → parts lexemes ≡ (let c : Pieces Lexeme = pieces_from at_comma 0 false lexemes in c.first ∷ map (λ other. other.1) c.others)
+pub parts-front : (x : Lexeme) (xs lexemes : List Lexeme) → lexemes ≡ x ∷ xs → parts lexemes ≡ (let c : Pieces Lexeme = pieces_from at_comma 0 false lexemes in c.first ∷ map (λ other. other.1) c.others)
 parts-front x xs lexemes e =
     ap parts e ∙ ap (λ (l : List Lexeme). let c : Pieces Lexeme = pieces_from at_comma 0 false l in c.first ∷ map (λ other. other.1) c.others) (sym e)
 
@@ -226,7 +226,7 @@ index-facts sw so s fs iw io i fi =
     bare-facts (so ++ within_brackets iw) (term.Index s i) (λ n h. index-operand (term_within n) so iw s i (fs.operands n (omega (arith, length-append so (within_brackets iw)))) (inner-read n iw i fi.reads (omega (arith, length-append so (within_brackets iw), length-append iw (Sign symbol.RightBracket ∷ [])))) fi.shape.inner)
 
 mutual
-  facts : (e : Expr) → Facts (expr_lexemes e) (operand_lexemes e (expr_lexemes e)) (term_from e)
+  pub facts : (e : Expr) → Facts (expr_lexemes e) (operand_lexemes e (expr_lexemes e)) (term_from e)
   facts (Or left right) = or-facts _ _ _ (facts left) _ _ _ (facts right)
   facts (And left right) = and-facts _ _ _ (facts left) _ _ _ (facts right)
   facts (Not operand) = not-facts _ _ _ (facts operand)
@@ -244,7 +244,7 @@ mutual
   rows no_exprs = no-row
   rows (expr_then first others) = row-then first others (facts first) (mores others)
 
-  mores : (row : Exprs) → More row
+  pub mores : (row : Exprs) → More row
   mores no_exprs = no-more
   mores (expr_then first others) = more-then first others (facts first) (mores others)
 

@@ -1,6 +1,6 @@
 use Rattle.std.proofs.Common.{arith, [], refl, ap, sym, ◌∙◌}
 use Rattle.std.proofs.lemmas.Result.{err_from_is_err_and, IfOk-weaker, IfErr-weaker}
-use Rattle.aio_script.specs.Read.{plain_program}
+use Rattle.aio_straight.specs.Read.{plain_program}
 use Rattle.aio_wire.specs.Told.{answer_of, call_of as plain_call}
 use Rattle.aio_run.specs.Kernel.{starting}
 use Rattle.aio_run.proofs.Driving.{running_first, fits_starting, ends_run, ends_stops, ends_finished, ends_turns, ends_over, ends_bad, front_before, wire_failed, turned_on, turn_stops_run, rose_earlier}
@@ -8,7 +8,7 @@ use Rattle.aio_run.proofs.driver.drive.Goals as goal
 
 pub loop-made-init : goal.loop-made-init
 loop-made-init g c = record {
-  running = (starting, [], running_first (plain_program c.args.program) c.new-kernel.result (g.W.Wire.answers c.args.wire.now) (g.K.Sink.taken c.args.out.now) (ap plain_program c.new-kernel.ensures.program) (fits_starting c.new-kernel.result.phase) c.new-kernel.ensures.begins);
+  running = (starting, [], running_first (plain_program c.args.program) c.new-kernel.result (g.W.Wire.answers c.args.wire.now) (g.K.Sink.taken c.args.out.now) (ap plain_program c.new-kernel.ensures.program) (fits_starting (plain_program c.new-kernel.result.program) c.new-kernel.result.at c.new-kernel.result.phase c.new-kernel.ensures.first) c.new-kernel.ensures.begins);
   first = λ fails. (fails, refl, c.new-kernel.ensures.phase, refl);
   wire_later = omega arith;
   sink_later = omega arith;

@@ -1,6 +1,6 @@
 use Rattle.std.proofs.Common.{arith, ℕ, List, [], Option, refl, ap, sym, ◌∙◌, inl}
 use Rattle.std.proofs.lemmas.Result.{IfOk-weaker, IfErr-weaker}
-use Rattle.aio_script.specs.Read.{plain_program}
+use Rattle.aio_straight.specs.Read.{plain_program}
 use Rattle.aio_script_model.specs.Straight.{straight_of}
 use Rattle.aio_wire_model.specs.Told.{Rose}
 use Rattle.aio_machine.specs.Program.{faulted, script_refused, MayRun, MayReplay}

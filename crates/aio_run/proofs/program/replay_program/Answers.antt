@@ -1,6 +1,6 @@
 use Rattle.std.proofs.Common.{rules, List, Option, refl, subst}
 use Rattle.std.proofs.lemmas.Result.{IfOk-weaker, IfErr-weaker}
-use Rattle.aio_script.specs.Read.{plain_program}
+use Rattle.aio_straight.specs.Read.{plain_program}
 use Rattle.aio_wire_model.specs.Journal.{Entry}
 use Rattle.aio_run.specs.Drive.{Ran, Stopped}
 use Rattle.aio_run.specs.declared.halt.Halt.TheVariants.{Memory, Sink, Wire}

@@ -1,0 +1,6 @@
+pub mod Stack
+pub mod Nested
+pub mod Passed
+pub mod Parted
+pub mod Judged
+pub mod Bodies

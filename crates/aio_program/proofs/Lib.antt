@@ -1,0 +1,4 @@
+pub mod TryLemmas
+pub mod CutLemmas
+pub mod ReadLemmas
+pub mod BlockLemmas

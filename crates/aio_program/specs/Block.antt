@@ -1,0 +1,66 @@
+-- Blocks that are read, and the statements that they make.
+use Rattle.std.specs.Prelude.{List, [], ◌∷◌, ◌++◌, Option, Some, None, option_to_list, map}
+use Rattle.aio_script_model.specs.Syntax.{Statement, Try, statements, Branch, no_branch, branch, Handlers, handler_then, Handler}
+use Rattle.aio_script_model.specs.SecondPass.{Line}
+use Rattle.aio_script_model.specs.Bodies.{Body, block, handlers_in, finally_in}
+use Rattle.aio_program.specs.declared.block.OpenBlock.{OpenBlock}
+use Rattle.aio_program.specs.declared.block.Place.{Place}
+use Rattle.aio_program.specs.declared.block.Place.TheVariants as place
+use Rattle.aio_program.specs.declared.block.Section.{Section}
+use Rattle.aio_program.specs.declared.block.OpenTry.{OpenTry}
+use Rattle.aio_program.specs.declared.sorted.Head.{Head}
+use Rattle.aio_program.specs.Sorted.{plain_head, plain_begin}
+use Rattle.aio_program.specs.Target.{plain_branch}
+
+abbrev pub plain_section : Section → Body
+plain_section section = record { head = plain_begin section.begin; body = statements section.body }
+
+-- the sections of a block that are over, and the line of the section that is read
+abbrev pub over_at : Head → Place → List Body
+over_at head place.First = []
+over_at head (place.Further body sections begin) =
+    record { head = plain_head head; body = statements body } ∷ map plain_section sections.items
+
+abbrev pub latest_at : Head → Place → Line
+latest_at head place.First = plain_head head
+latest_at head (place.Further body sections begin) = plain_begin begin
+
+abbrev pub over : OpenBlock → List Body
+over block = over_at block.head block.place
+
+abbrev pub latest : OpenBlock → Line
+latest block = latest_at block.head block.place
+
+-- the block that sections are, of which the first has the block's head
+abbrev pub block_of : List Body → Option Statement
+block_of [] = None
+block_of (first ∷ others) = block first.head first.body others
+
+-- statements, and behind them a block
+abbrev pub with_block : List Statement → List Body → List Statement
+with_block outer sections = outer ++ option_to_list (block_of sections)
+
+-- ---- the sections of a `try`
+-- clauses in front of others
+abbrev pub handlers_before : List Handler → Handlers → Handlers
+handlers_before [] others = others
+handlers_before (first ∷ more) others = handler_then first.kind first.name first.body (handlers_before more others)
+
+-- the first of two sections, if it is there
+abbrev pub first_branch : Branch → Branch → Branch
+first_branch no_branch second = second
+first_branch (branch body) second = branch body
+
+abbrev pub first_list : Option (List Statement) → List Statement → Option (List Statement)
+first_list None second = Some second
+first_list (Some first) second = Some first
+
+-- a `try` with the sections behind those that were read
+abbrev pub try_with : OpenTry → List Body → Statement
+try_with begun others =
+    Try (statements begun.body) (handlers_before begun.handlers.items (handlers_in others)) (first_branch (plain_branch begun.finally) (finally_in others))
+
+-- the same with a clause between
+abbrev pub try_with_handler : OpenTry → Handler → List Body → Statement
+try_with_handler begun next others =
+    Try (statements begun.body) (handlers_before begun.handlers.items (handler_then next.kind next.name next.body (handlers_in others))) (first_branch (plain_branch begun.finally) (finally_in others))

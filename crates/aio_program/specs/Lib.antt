@@ -1,0 +1,10 @@
+pub mod Target
+pub mod StatementSize
+pub mod StatementCode
+pub mod Statement
+pub mod StatementFalls
+pub mod StatementCase
+pub mod Line
+pub mod Sorted
+pub mod Block
+pub mod Body
