@@ -6,3 +6,5 @@ pub mod Step
 pub mod Transcript
 pub mod Turn
 pub mod Words
+pub mod Causes
+pub mod StraightScripts
