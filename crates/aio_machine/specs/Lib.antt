@@ -6,5 +6,3 @@ pub mod Step
 pub mod Transcript
 pub mod Turn
 pub mod Words
-pub mod Causes
-pub mod StraightScripts

@@ -7,4 +7,3 @@ pub mod Outcomes
 pub mod Told
 pub mod Turning
 pub mod Turns
-pub mod TextFronts

@@ -9,4 +9,3 @@ pub mod Reading
 pub mod Stepping
 pub mod Words
 pub mod Writing
-pub mod Script

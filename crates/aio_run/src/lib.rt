@@ -1,7 +1,6 @@
 //! The program: what it does for its words, over a shelf, a wire and a sink.
 #![tactic(auto)]
 
-mod checking;
 mod driver;
 mod ending;
 mod event;
@@ -13,8 +12,6 @@ mod lines;
 mod phase;
 mod program;
 mod reading;
-mod replaying;
-mod script;
 mod stepping;
 #[cfg(test)]
 mod tests;

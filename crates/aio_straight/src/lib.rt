@@ -1,10 +1,13 @@
-//! Straight programs among the scripts that were read: those that run so far.
+//! The reader of scripts.
 #![tactic(auto)]
 
-mod line;
+mod ending;
+mod fault;
+mod items;
 mod program;
-mod reading;
+mod reader;
+mod statement;
 
-pub use line::Line;
-pub use program::Program;
-pub use reading::straight;
+pub use fault::ScriptFault;
+pub use program::{Line, Program};
+pub use reader::read;

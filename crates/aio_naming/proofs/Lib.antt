@@ -1,6 +1,0 @@
-pub mod Names
-pub mod Meanings
-pub mod Targets
-pub mod Judged
-pub mod Heads
-pub mod Parting
