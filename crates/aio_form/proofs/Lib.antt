@@ -1,0 +1,10 @@
+pub mod BlockLemmas
+pub mod PlaceLemmas
+pub mod LastLemmas
+pub mod PartLemmas
+pub mod TermLemmas
+pub mod FormLemmas
+pub mod AsLemmas
+pub mod ReadLemmas
+pub mod LineLemmas
+pub mod PassLemmas

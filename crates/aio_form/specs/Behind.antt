@@ -1,0 +1,15 @@
+-- The roles of lines that were read.
+-- Source: the definition of the first pass (aio_script_model, specs/FirstPass.antt).
+use Rattle.std.specs.Prelude.{List, ◌∷◌, Option, Some, None, map, reverse}
+use Rattle.aio_script_model.specs.Forms.{Spelled}
+use Rattle.aio_script_model.specs.Places.{Role, role_of}
+use Rattle.aio_script_model.specs.FirstPass.{Numbered}
+
+-- the roles of lines, the latest first
+abbrev pub roles_of : List (Numbered Spelled) → List Role
+roles_of forms = reverse (map (λ numbered. role_of numbered.form) forms)
+
+-- the roles behind one more line, which may have no form
+abbrev pub roles_behind : Option Spelled → List Role → List Role
+roles_behind None roles = roles
+roles_behind (Some form) roles = role_of form ∷ roles

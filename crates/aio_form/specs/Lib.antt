@@ -1,0 +1,10 @@
+pub mod Spelled
+pub mod Blocks
+pub mod Placed
+pub mod Fronts
+pub mod Parts
+pub mod Fitting
+pub mod Unplaced
+pub mod Lines
+pub mod Faults
+pub mod Behind

@@ -1,0 +1,23 @@
+//! The forms of lines, and the first pass over the text of a script: each line has a form, and stands where it may.
+#![tactic(auto)]
+
+mod block;
+mod fault;
+mod forms;
+mod fronts;
+mod goal;
+mod parts;
+mod pass;
+mod places;
+mod spelled;
+mod standing;
+mod terms;
+#[cfg(test)]
+mod tests;
+mod text;
+
+pub use aio_script_model::Cause;
+pub use aio_term::{Operand, Term};
+pub use fault::FormFault;
+pub use pass::first_pass;
+pub use spelled::{Arguments, Goal, NumberedForm, Spelled};

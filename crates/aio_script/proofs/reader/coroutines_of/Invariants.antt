@@ -1,0 +1,7 @@
+use Rattle.std.proofs.Common.{◌≡◌, map}
+use Rattle.aio_program.specs.Line.{plain_part}
+use Rattle.aio_script_model.specs.Scripts.{coroutine}
+use Rattle.aio_script.proofs.reader.coroutines_of.Given as goal
+
+abbrev pub invariant-loop-part : goal.invariant-loop-part
+invariant-loop-part l = l.coroutines.items ≡ map (λ part. coroutine (plain_part part)) l.yielded

@@ -1,0 +1,16 @@
+-- What a comma makes of the innermost bracket, and how far the expression before it has come once it closes.
+-- Source: the definition of where an expression ends (aio_term_model, specs/Ends.antt).
+use Rattle.std.specs.Prelude.{Option, None, option_map, if◌then◌else◌}
+use Rattle.aio_script_model.specs.Words.{Lexeme, is_sign}
+use Rattle.aio_term_model.specs.Reader.{Open, Progress, BehindOperand}
+use Rattle.aio_term_model.specs.Ends.{parted, closing, whole}
+
+abbrev pub parted_open : Open → Progress → Option Open
+parted_open innermost progress =
+    option_map (λ bracket. record innermost { bracket = bracket }) (parted innermost.bracket progress)
+
+abbrev pub closed : Lexeme → Progress → Open → Option Progress
+closed lexeme progress innermost =
+    if is_sign (closing innermost.bracket) lexeme
+    then option_map (λ operand. BehindOperand innermost.loose innermost.tight operand) (whole innermost.bracket progress)
+    else None

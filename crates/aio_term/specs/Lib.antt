@@ -1,0 +1,15 @@
+pub mod Lexeme
+pub mod Term
+pub mod TermCode
+pub mod TermSize
+pub mod TermFalls
+pub mod TermCase
+pub mod Operand
+pub mod Pending
+pub mod PendingLeft
+pub mod PendingCode
+pub mod Reader
+pub mod ReaderCode
+pub mod Closed
+pub mod Infix
+pub mod Next
