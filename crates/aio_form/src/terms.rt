@@ -13,7 +13,8 @@ ghost use Rattle.aio_form.specs.Parts.{plain_part};
 
 use crate::fronts::bare_name;
 use crate::spelled::Arguments;
-use aio_term::{Lexeme, Operand, Term, read_term};
+use aio_term::{Lexeme, Operand, Term};
+use aio_term_reader::read_term;
 use std::alloc::{AllocError, Global};
 use std::rc::RcStr;
 

@@ -5,11 +5,3 @@ pub mod TermSize
 pub mod TermFalls
 pub mod TermCase
 pub mod Operand
-pub mod Pending
-pub mod PendingLeft
-pub mod PendingCode
-pub mod Reader
-pub mod ReaderCode
-pub mod Closed
-pub mod Infix
-pub mod Next

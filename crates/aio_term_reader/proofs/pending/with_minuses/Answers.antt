@@ -1,6 +1,6 @@
 use Rattle.std.proofs.Common.{sym, ◌∙◌}
-use Rattle.aio_term.proofs.Counts.{with_minuses-one_less}
-use Rattle.aio_term.proofs.pending.with_minuses.Goals as goal
+use Rattle.aio_term_reader.proofs.Counts.{with_minuses-one_less}
+use Rattle.aio_term_reader.proofs.pending.with_minuses.Goals as goal
 
 pub loop-count-preserved : goal.loop-count-preserved
 loop-count-preserved c =

@@ -2,8 +2,8 @@
 -- Source: the definition of how an expression is read (aio_term_model, specs/Feeding.antt).
 use Rattle.std.specs.Prelude.{List, ◌∷◌, Option, None, option_and_then, reverse}
 use Rattle.aio_term_model.specs.Reader.{Open, Progress, State, reading}
-use Rattle.aio_term.specs.declared.reader.Next.{Next}
-use Rattle.aio_term.specs.declared.reader.Next.TheVariants.{Goes, Opens, Fails}
+use Rattle.aio_term_reader.specs.declared.reader.Next.{Next}
+use Rattle.aio_term_reader.specs.declared.reader.Next.TheVariants.{Goes, Opens, Fails}
 
 abbrev pub applied : Next → List Open → State
 applied (Goes progress) opened = reading progress opened

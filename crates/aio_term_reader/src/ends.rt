@@ -8,15 +8,13 @@ ghost use Rattle.aio_term_model.specs.Pending.{disjunction_of};
 ghost use Rattle.aio_term_model.specs.Reader.{Items, Arguments, BehindOperand};
 ghost use Rattle.aio_term_model.specs.Ends.{ended, parted, at_comma, filled, empty, with_kind, whole, closing, at_closing};
 ghost use Rattle.aio_term.specs.Operand.{plain_operand};
-ghost use Rattle.aio_term.specs.Closed.{parted_open, closed};
-ghost use Rattle.aio_term.specs.Next.{come};
-ghost use Rattle.aio_term.specs.Reader.{plain_bracket};
+ghost use Rattle.aio_term_reader.specs.Closed.{parted_open, closed};
+ghost use Rattle.aio_term_reader.specs.Next.{come};
+ghost use Rattle.aio_term_reader.specs.Reader.{plain_bracket};
 
-use crate::operand::{Join, Operand, all_that_fit, capped, joined};
 use crate::pending::{Loose, Tight, disjunction_of, no_loose};
 use crate::reader::{Bracket, Open, Place, Progress, at, before};
-use crate::term::{Term, TermList};
-use aio_lex::Symbol;
+use aio_term::{Join, Operand, Symbol, Term, TermList, all_that_fit, capped, joined};
 use std::alloc::{AllocError, Global};
 use std::rc::RcStr;
 

@@ -2,7 +2,7 @@ use Rattle.std.proofs.Common.{◌≡◌, map, take, reverse, fold}
 use Rattle.aio_term_model.specs.Reader.{reading, start}
 use Rattle.aio_term_model.specs.Feeding.{feed}
 use Rattle.aio_term.specs.Lexeme.{plain_lexeme}
-use Rattle.aio_term.proofs.read.read_term.Given as goal
+use Rattle.aio_term_reader.proofs.read.read_term.Given as goal
 
 abbrev pub invariant-loop-lexeme : goal.invariant-loop-lexeme
 invariant-loop-lexeme l =

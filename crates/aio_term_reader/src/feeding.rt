@@ -9,21 +9,16 @@ ghost use Rattle.aio_term_model.specs.Reader.{Open as OpenBracket, Arguments, At
 ghost use Rattle.aio_term_model.specs.Feeding.{opening, at_operand, at_not, infix_of, behind_infix, at_symbol, behind_operand, first_argument, behind_name, at_kind, fed_within, fed};
 ghost use Rattle.aio_term.specs.Lexeme.{plain_lexeme};
 ghost use Rattle.aio_term.specs.Operand.{plain_operand};
-ghost use Rattle.aio_term.specs.Infix.{plain_infix};
-ghost use Rattle.aio_term.specs.Next.{applied, come};
+ghost use Rattle.aio_term_reader.specs.Infix.{plain_infix};
+ghost use Rattle.aio_term_reader.specs.Next.{applied, come};
 
 use crate::ends::{at_closing, at_comma, named};
-use crate::lexeme::Lexeme;
-use crate::operand::Operand;
 use crate::pending::{
     Loose, Tight, behind_and, behind_compared, behind_minus, behind_not, behind_or, behind_product,
     behind_sum, no_loose, no_tight,
 };
 use crate::reader::{Bracket, Next, Open, Place, Progress, at, goes, opens};
-use crate::term::Term;
-use aio_lex::Symbol;
-use aio_script_model::{Comparison, Operator, ReservedWord};
-use aio_syntax::Constant;
+use aio_term::{Comparison, Constant, Lexeme, Operand, Operator, ReservedWord, Symbol, Term};
 use std::alloc::{AllocError, Global};
 use std::rc::RcStr;
 

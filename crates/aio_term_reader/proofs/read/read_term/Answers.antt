@@ -5,9 +5,9 @@ use Rattle.aio_term_model.specs.Operands.{capped}
 use Rattle.aio_term_model.specs.Feeding.{fed, finished}
 use Rattle.aio_term.specs.Lexeme.{plain_lexeme}
 use Rattle.aio_term.specs.Operand.{plain_operand}
-use Rattle.aio_term.specs.Next.{come}
-use Rattle.aio_term.proofs.Loop.{state_behind, fed-more, failed, ended-read}
-use Rattle.aio_term.proofs.read.read_term.Goals as goal
+use Rattle.aio_term_reader.specs.Next.{come}
+use Rattle.aio_term_reader.proofs.Loop.{state_behind, fed-more, failed, ended-read}
+use Rattle.aio_term_reader.proofs.read.read_term.Goals as goal
 
 pub returns-in-None : goal.returns-in-None
 returns-in-None c =

@@ -6,7 +6,7 @@ use Rattle.aio_script_model.specs.Syntax.{Name}
 use Rattle.aio_term_model.specs.Operands.{Operand, TooHigh}
 use Rattle.aio_term_model.specs.Pending.{Loose, Tight, no_loose, no_tight}
 use Rattle.aio_term_model.specs.Reader.{Bracket, Group, Item, Items, Arguments, Open, Progress, Start, AtNot, AtOperand, BehindName, BehindOperand, AtKind, BehindKind, Reader}
-use Rattle.aio_term.specs.PendingCode.{coded_operand, coded_loose, coded_tight}
+use Rattle.aio_term_reader.specs.PendingCode.{coded_operand, coded_loose, coded_tight}
 
 abbrev coded_name : Coded Name
 coded_name = coded_list coded_ℕ

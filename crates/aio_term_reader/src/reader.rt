@@ -2,11 +2,11 @@
 ghost use Rattle.std.specs.Prelude.{◌≡◌, List};
 ghost use Rattle.aio_term_model.specs.Reader.{Open as OpenBracket, reading};
 ghost use Rattle.aio_term_model.specs.Feeding.{opening};
-ghost use Rattle.aio_term.specs.Next.{applied};
-ghost use Rattle.aio_term.specs.Reader.{plain_bracket, plain_progress};
+ghost use Rattle.aio_term_reader.specs.Next.{applied};
+ghost use Rattle.aio_term_reader.specs.Reader.{plain_bracket, plain_progress};
 
-use crate::operand::Operand;
 use crate::pending::{Loose, Tight};
+use aio_term::Operand;
 use std::marker::Model;
 use std::rc::RcStr;
 
@@ -32,13 +32,13 @@ pub struct Open {
 
 impl Model for Open {
     ghost use Rattle.aio_term_model.specs.Reader as plain;
-    ghost use Rattle.aio_term.specs.ReaderCode.{coded_open};
+    ghost use Rattle.aio_term_reader.specs.ReaderCode.{coded_open};
 
     ghost Value = { plain.Open };
 
     ghost coded = { coded_open };
 
-    ghost use Rattle.aio_term.specs.Reader.{plain_bracket};
+    ghost use Rattle.aio_term_reader.specs.Reader.{plain_bracket};
 
     ghost view = { λ a. record { bracket = plain_bracket a.bracket; loose = a.loose; tight = a.tight } };
 }
@@ -67,13 +67,13 @@ pub enum Place {
 
 impl Model for Progress {
     ghost use Rattle.aio_term_model.specs.Reader as plain;
-    ghost use Rattle.aio_term.specs.ReaderCode.{coded_progress};
+    ghost use Rattle.aio_term_reader.specs.ReaderCode.{coded_progress};
 
     ghost Value = { plain.Progress };
 
     ghost coded = { coded_progress };
 
-    ghost use Rattle.aio_term.specs.Reader.{plain_progress};
+    ghost use Rattle.aio_term_reader.specs.Reader.{plain_progress};
 
     ghost view = { λ a. plain_progress a.place };
 }

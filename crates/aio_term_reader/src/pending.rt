@@ -3,10 +3,9 @@ ghost use Rattle.std.specs.Prelude.{◌≡◌, IfOk, option_map, suc};
 ghost use Rattle.aio_term_model.specs.Pending.{no_loose, no_tight, with_nots, with_minuses, calculated, compared, and_of, or_of, product_of, sum_of, comparison_of, conjunction_of, disjunction_of, behind_product, behind_sum, behind_comparison, behind_and, behind_or};
 ghost use Rattle.aio_term_model.specs.Feeding.{behind_compared};
 ghost use Rattle.aio_term.specs.Operand.{plain_operand};
-ghost use Rattle.aio_term.specs.PendingLeft.{plain_left};
+ghost use Rattle.aio_term_reader.specs.PendingLeft.{plain_left};
 
-use crate::operand::{Join, Operand, denied, joined, negated};
-use aio_script_model::{Comparison, Operator};
+use aio_term::{Comparison, Join, Operand, Operator, denied, joined, negated};
 use std::alloc::{AllocError, Global};
 use std::marker::Model;
 
@@ -31,26 +30,26 @@ pub struct Tight {
 
 impl Model for Loose {
     ghost use Rattle.aio_term_model.specs.Pending as plain;
-    ghost use Rattle.aio_term.specs.PendingCode.{coded_loose};
+    ghost use Rattle.aio_term_reader.specs.PendingCode.{coded_loose};
 
     ghost Value = { plain.Loose };
 
     ghost coded = { coded_loose };
 
-    ghost use Rattle.aio_term.specs.Pending.{plain_loose};
+    ghost use Rattle.aio_term_reader.specs.Pending.{plain_loose};
 
     ghost view = { plain_loose };
 }
 
 impl Model for Tight {
     ghost use Rattle.aio_term_model.specs.Pending as plain;
-    ghost use Rattle.aio_term.specs.PendingCode.{coded_tight};
+    ghost use Rattle.aio_term_reader.specs.PendingCode.{coded_tight};
 
     ghost Value = { plain.Tight };
 
     ghost coded = { coded_tight };
 
-    ghost use Rattle.aio_term.specs.Pending.{plain_tight};
+    ghost use Rattle.aio_term_reader.specs.Pending.{plain_tight};
 
     ghost view = { plain_tight };
 }

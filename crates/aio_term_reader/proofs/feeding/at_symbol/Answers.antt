@@ -3,9 +3,9 @@ use Rattle.std.proofs.lemmas.Result.{IfOk-weaker}
 use Rattle.aio_term_model.specs.Reader.{Open as OpenBracket, AtOperand, reading}
 use Rattle.aio_term_model.specs.Feeding.{infix_of, behind_infix, at_symbol}
 use Rattle.aio_term.specs.Operand.{plain_operand}
-use Rattle.aio_term.specs.Next.{applied}
-use Rattle.aio_term.proofs.Others.{at_symbol-other}
-use Rattle.aio_term.proofs.feeding.at_symbol.Goals as goal
+use Rattle.aio_term_reader.specs.Next.{applied}
+use Rattle.aio_term_reader.proofs.Others.{at_symbol-other}
+use Rattle.aio_term_reader.proofs.feeding.at_symbol.Goals as goal
 
 pub returns-in_default : goal.returns-in_default
 returns-in_default c =

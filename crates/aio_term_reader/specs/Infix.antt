@@ -1,8 +1,8 @@
 -- An operator between operands, by its level, seen as plain data.
 -- Source: the definition of how an expression is read (aio_term_model, specs/Feeding.antt).
 use Rattle.aio_term_model.specs.Feeding as plain
-use Rattle.aio_term.specs.declared.feeding.Infix.{Infix}
-use Rattle.aio_term.specs.declared.feeding.Infix.TheVariants.{Compares, Adds, Multiplies}
+use Rattle.aio_term_reader.specs.declared.feeding.Infix.{Infix}
+use Rattle.aio_term_reader.specs.declared.feeding.Infix.TheVariants.{Compares, Adds, Multiplies}
 
 abbrev pub plain_infix : Infix → plain.Infix
 plain_infix (Compares comparison) = plain.Compares comparison

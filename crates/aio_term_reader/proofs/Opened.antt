@@ -7,7 +7,7 @@ use Rattle.aio_term_model.specs.Operands.{Operand}
 use Rattle.aio_term_model.specs.Pending.{no_loose}
 use Rattle.aio_term_model.specs.Reader.{Bracket, Open, Progress, AtNot, BehindOperand, reading}
 use Rattle.aio_term_model.specs.Ends.{parted, at_comma, closing, whole, at_closing}
-use Rattle.aio_term.specs.Closed.{parted_open, closed}
+use Rattle.aio_term_reader.specs.Closed.{parted_open, closed}
 
 pub reverse-push : {A : Type 0} (xs : List A) (last : A) → reverse (xs ++ last ∷ []) ≡ last ∷ reverse xs
 reverse-push xs last = reverse-append xs (last ∷ [])

@@ -8,9 +8,8 @@ ghost use Rattle.aio_term.specs.Operand.{plain_operand};
 
 use crate::ends::ended;
 use crate::feeding::fed;
-use crate::lexeme::Lexeme;
-use crate::operand::Operand;
 use crate::reader::{Open, Place, Progress, at};
+use aio_term::{Lexeme, Operand};
 use std::alloc::{AllocError, Global};
 
 /// The expression that the lexemes spell, or that it is too high; `None` where they spell none. Each lexeme is looked at

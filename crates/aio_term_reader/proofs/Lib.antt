@@ -1,0 +1,4 @@
+pub mod Counts
+pub mod Opened
+pub mod Others
+pub mod Loop
