@@ -6,7 +6,6 @@ use Rattle.std.specs.List.{repeat}
 use lib.Chars.{codes}
 use Rattle.aio_value_model.proofs.Joined.{separator}
 use Rattle.aio_script_model.specs.Syntax.{Name, Expr, exprs, Statement, statements, Handler, handlers, Coroutine}
-use Rattle.aio_script_model.specs.ExprSize.{expr_size, expr_list_size}
 use Rattle.aio_program.specs.StatementSize.{statement_size, statement_list_size, handler_size, handler_list_size}
 use Rattle.aio_script_model.specs.Canonical.{expr_text, exprs_text, more_text, statement_text, statements_text, handlers_text, more_names, names_text, coroutine_text, coroutines_text}
 
@@ -46,11 +45,6 @@ repeat-push zero xs = append-nil xs
 repeat-push (suc n) xs = ap (λ r. xs ++ r) (repeat-push n xs) ∙ sym (append_assoc xs (repeat n xs) xs)
 
 -- ---- sizes
-pub expr_size-item : (es : List Expr) (i : ℕ) (e : Expr) → i < length es → e ≡ slice_index_or es i e → expr_size e < expr_list_size es
-expr_size-item [] i e h is = absurd (omega arith)
-expr_size-item (f ∷ es) zero e h is = omega (arith, ap expr_size is)
-expr_size-item (f ∷ es) (suc i) e h is = omega (arith, expr_size-item es i e (omega arith) is)
-
 pub statement_size-item : (ss : List Statement) (i : ℕ) (s : Statement) → i < length ss → s ≡ slice_index_or ss i s → statement_size s < statement_list_size ss
 statement_size-item [] i s h is = absurd (omega arith)
 statement_size-item (r ∷ ss) zero s h is = omega (arith, ap statement_size is)

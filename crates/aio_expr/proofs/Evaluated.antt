@@ -4,7 +4,6 @@ use Rattle.std.specs.Result.{result_unwrap_or}
 use Rattle.aio_value_model.specs.Value.{Value, Truth, Exc}
 use Rattle.aio_script_model.specs.Operations.{Answer, truth}
 use Rattle.aio_script_model.specs.Expressions.{value_of, values_of, of_one, either, both, in_order}
-use Rattle.aio_script_model.specs.ExprSize.{expr_size, expr_list_size}
 use Rattle.aio_script_model.specs.Syntax.{Expr, Or, And, exprs}
 use Rattle.aio_script_model.specs.Variables.{Env}
 use Rattle.aio_expr.specs.declared.cause.Cause.{Cause}
@@ -70,8 +69,3 @@ all-fail (first ∷ items) (suc at) item env found cause inside is front fails =
     raised-along (values_of (exprs items) env) (values_of (exprs (first ∷ items)) env) (raised_for cause)
     (λ f e. ap₂ in_order front_parts.2 e)
     (all-fail items at item env front_parts.1 cause (omega (arith, inside)) is front_parts.3 fails)
-
-pub expr_size-item : (items : List Expr) (at : ℕ) (item : Expr) → at < length items → item ≡ slice_index_or items at item → expr_size item < expr_list_size items
-expr_size-item [] at item inside is = absurd (omega arith)
-expr_size-item (first ∷ items) zero item inside is = omega (arith, ap expr_size is)
-expr_size-item (first ∷ items) (suc at) item inside is = omega (arith, expr_size-item items at item (omega arith) is)

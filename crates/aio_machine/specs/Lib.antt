@@ -6,3 +6,4 @@ pub mod Step
 pub mod Transcript
 pub mod Turn
 pub mod Words
+pub mod StraightScripts

@@ -1,11 +1,19 @@
 -- What the program may write for its words and files, and its status.
-use Rattle.std.specs.Prelude.{◌≡◌, ℕ, ◌^◌, List, [], ◌++◌, Option, Some, None, codes, ◌⊎◌}
-use Rattle.aio_script_model.specs.Straight.{Line, straight_of}
+use Rattle.std.specs.Prelude.{◌≡◌, ℕ, ◌^◌, List, [], ◌++◌, Option, Some, None, Ok, Err, codes, ◌⊎◌}
+use Rattle.std.specs.Fmt.{decimal}
+use Rattle.aio_script_model.specs.Canonical.{canonical}
+use Rattle.aio_script_model.specs.Causes.{cause_number}
+use Rattle.aio_script_model.specs.FirstPass.{Fault}
+use Rattle.aio_script_model.specs.Scripts.{script_of}
+use Rattle.aio_script_model.specs.SecondPass.{Judged}
+use Rattle.aio_script_model.specs.Straight.{Line}
+use Rattle.aio_script_model.specs.Syntax.{Program}
 use Rattle.aio_wire_model.specs.Journal.{Entry, entries_of}
 use Rattle.aio_machine.specs.Run.{Run, run}
 use Rattle.aio_machine.specs.State.{Event}
+use Rattle.aio_machine.specs.StraightScripts.{straight_of}
 use Rattle.aio_machine.specs.Transcript.{line, lines_of_events, transcript, status_of}
-use Rattle.aio_machine.specs.Words.{Command, Replay}
+use Rattle.aio_machine.specs.Words.{Command, Check, Replay}
 
 -- all that is written, and the exit status
 pub record Output : Type 0 where
@@ -19,9 +27,14 @@ turn_limit = 2 ^ 40
 abbrev pub words_refused : Output
 words_refused = record { text = line (codes "! words"); status = 2 }
 
--- a text that is no script so far: line 1, cause 9
-abbrev pub script_refused : Output
-script_refused = record { text = line (codes "! script 1 9"); status = 3 }
+-- a text that is no script, by its first fault
+abbrev pub script_refused : Fault → Output
+script_refused fault =
+    record { text = line (codes "! script " ++ decimal fault.line ++ codes " " ++ decimal (cause_number fault.cause)); status = 3 }
+
+-- a script that doesn't run so far: line 1, cause 9
+abbrev pub not_run : Output
+not_run = record { text = line (codes "! script 1 9"); status = 3 }
 
 -- what is written of a whole run
 abbrev pub output_of : Run → Output
@@ -57,18 +70,34 @@ MayRun program journal failed output =
     ((entries : List Entry) × JournalSays journal entries × (output ≡ output_of (run program entries turn_limit)))
     ⊎ ((had : List Entry) × JournalBegins journal had × failed × (output ≡ faulted (run program had turn_limit).events))
 
--- by whether the script's text spells a program
+-- A script's replay, by whether it is a straight program: others don't run so far.
 abbrev pub MayRunIf : Option (List Line) → Option (Option (List ℕ)) → Type 0 → Output → Type 0
-MayRunIf None journal failed output = output ≡ script_refused
+MayRunIf None journal failed output = output ≡ not_run
 MayRunIf (Some program) journal failed output = MayRun program journal failed output
+
+-- by what the text of the script spells
+abbrev pub MayRunScript : Judged Program → Option (Option (List ℕ)) → Type 0 → Output → Type 0
+MayRunScript (Err fault) journal failed output = output ≡ script_refused fault
+MayRunScript (Ok script) journal failed output = MayRunIf (straight_of script) journal failed output
 
 -- A replay: where the shelf failed before the script was read, the fault's line alone.
 abbrev pub MayReplay : Option (Option (List ℕ)) → Option (Option (List ℕ)) → Type 0 → Output → Type 0
 MayReplay script journal failed output =
     (failed × (output ≡ faulted []))
-    ⊎ ((text : List ℕ) × FileSays script text × MayRunIf (straight_of text) journal failed output)
+    ⊎ ((text : List ℕ) × FileSays script text × MayRunScript (script_of text) journal failed output)
+
+-- the canonical text of a script, or why it is none
+abbrev pub checked : Judged Program → Output
+checked (Ok script) = record { text = canonical script; status = 0 }
+checked (Err fault) = script_refused fault
+
+-- A check: where the shelf failed, the fault's line alone.
+abbrev pub MayCheck : Option (Option (List ℕ)) → Type 0 → Output → Type 0
+MayCheck script failed output =
+    (failed × (output ≡ faulted [])) ⊎ ((text : List ℕ) × FileSays script text × (output ≡ checked (script_of text)))
 
 -- What may be written for words, by what the shelf tells of its files, and whether it failed.
 abbrev pub MayWrite : (List ℕ → Option (Option (List ℕ))) → Type 0 → Option Command → Output → Type 0
 MayWrite files failed None output = output ≡ words_refused
+MayWrite files failed (Some (Check script)) output = MayCheck (files script) failed output
 MayWrite files failed (Some (Replay script journal)) output = MayReplay (files script) (files journal) failed output

@@ -66,8 +66,8 @@ served (Sleeps delay) go_on task s = put_to_sleep delay task s
 served (Returns value) go_on task s = end_task task (Returned value) s
 served (Raises fault) go_on task s = end_task task (Failed fault) s
 
--- A task says on until its step ends. Each answer is that of a statement of the step, of which there are at most
--- so many.
+-- A task says on until its step ends, at most so often. Each saying that is answered at once is a statement of the
+-- step's.
 unfoldable pub serve : ℕ → ℕ → State → State
 serve zero task s = s
 serve (suc statements) task s =
@@ -80,4 +80,4 @@ awake task s =
 
 -- A step: the task is awake, the input goes to its coroutine, and what it says is served.
 abbrev pub step : ℕ → Input → State → State
-step task input s = serve step_limit task (resumed task (record { input = input; fresh = true }) (awake task s))
+step task input s = serve (suc step_limit) task (resumed task (record { input = input; fresh = true }) (awake task s))

@@ -3,35 +3,37 @@ ghost use Rattle.std.specs.Prelude.{◌≡◌, ◌-◌, [], ◌∷◌, Some, Non
 ghost use Rattle.aio_value_model.specs.declared.outcome.Outcome.TheVariants.{Value as Returned};
 ghost use Rattle.aio_value_model.specs.Number.{most};
 ghost use Rattle.aio_value_model.specs.Value.{Nothing, Text, Int};
-ghost use Rattle.aio_script_model.specs.Straight.{Pass, Print, Sleep, straight_of, statement_of};
+ghost use Rattle.aio_script_model.specs.Straight.{Pass, Print, Sleep};
 ghost use Rattle.aio_wire_model.specs.Call.{Select};
 ghost use Rattle.aio_machine.specs.Run.{Finished, Over, run};
+ghost use Rattle.aio_rows.specs.Reading.{line_read, lines_read};
 ghost use Rattle.aio_rows.specs.Straight.{turn_at};
 ghost use Rattle.aio_rows.specs.Sleeping.{bare_yield, bare_yield_events, longest_sleep, longest_sleep_events, print_and_sleep, print_and_sleep_cut, print_and_sleep_events, print_and_sleep_text, time_back_events, two_sleeps, two_sleeps_events};
 
-#[tactic(auto, unfolding(aio_script_model::specs::Straight::straight_of))]
+#[tactic(auto, unfolding(aio_script_model::specs::Tokens::tokens_of, aio_script_model::specs::Pieces::piece_at, aio_script_model::specs::Tokens::piece_tokens, aio_script_model::specs::Levels::term_of, aio_script_model::specs::Forms::form_of, aio_script_model::specs::FirstPass::forms_from, aio_script_model::specs::SecondPass::second_pass, aio_script_model::specs::Bodies::statements_in, aio_script_model::specs::Scripts::script_of))]
 /// The script that prints two items and sleeps.
 pub fn reads_print_and_sleep()
-    ensures { straight_of print_and_sleep_text ≡ Some print_and_sleep }
+    ensures { lines_read print_and_sleep_text ≡ Some print_and_sleep }
 {}
 
-/// Lines that are statements, and lines that are none.
+#[tactic(auto, unfolding(aio_script_model::specs::Tokens::tokens_of, aio_script_model::specs::Pieces::piece_at, aio_script_model::specs::Tokens::piece_tokens, aio_script_model::specs::Levels::term_of, aio_script_model::specs::Forms::form_of, aio_script_model::specs::FirstPass::forms_from, aio_script_model::specs::SecondPass::second_pass, aio_script_model::specs::Bodies::statements_in, aio_script_model::specs::Scripts::script_of))]
+/// Lines of `main` that run so far, and lines that don't.
 pub fn reads_lines()
-    ensures pass { statement_of (codes "pass") ≡ Some Pass }
-    ensures passed { statement_of (codes "pass ") ≡ None }
-    ensures print { statement_of (codes "print") ≡ None }
-    ensures commas_in_texts { statement_of (codes "print \"a, 1\", 02") ≡ Some (Print (Text (codes "a, 1") ∷ Int (pos 2) ∷ [])) }
-    ensures no_space { statement_of (codes "print 1,2") ≡ None }
-    ensures two_spaces { statement_of (codes "print 1,  2") ≡ None }
-    ensures space_before { statement_of (codes "print 1 , 2") ≡ None }
-    ensures no_item { statement_of (codes "print 1, ") ≡ None }
-    ensures greatest { statement_of (codes "print 9223372036854775807") ≡ Some (Print (Int (pos most) ∷ [])) }
-    ensures greater { statement_of (codes "print 9223372036854775808") ≡ None }
-    ensures sleep { statement_of (codes "yield from sleep(10)") ≡ Some (Sleep 10) }
-    ensures no_delay { statement_of (codes "yield from sleep()") ≡ None }
-    ensures open { statement_of (codes "yield from sleep(1") ≡ None }
-    ensures closed_twice { statement_of (codes "yield from sleep(1))") ≡ None }
-    ensures spaced_delay { statement_of (codes "yield from sleep( 1)") ≡ None }
+    ensures pass { line_read (codes "pass") ≡ Some (Pass ∷ []) }
+    ensures print { line_read (codes "print") ≡ None }
+    ensures commas_in_texts { line_read (codes "print \"a, 1\",02") ≡ Some (Print (Text (codes "a, 1") ∷ Int (pos 2) ∷ []) ∷ []) }
+    ensures greatest { line_read (codes "print 9223372036854775807") ≡ Some (Print (Int (pos most) ∷ []) ∷ []) }
+    ensures greater { line_read (codes "print 9223372036854775808") ≡ None }
+    ensures sum { line_read (codes "print 1 + 2") ≡ None }
+    ensures list { line_read (codes "print [1]") ≡ None }
+    ensures bytes { line_read (codes "print b\"a\"") ≡ None }
+    ensures truth { line_read (codes "print True") ≡ None }
+    ensures sleep { line_read (codes "yield from sleep( 10 )") ≡ Some (Sleep 10 ∷ []) }
+    ensures negative { line_read (codes "yield from sleep(-1)") ≡ None }
+    ensures text { line_read (codes "yield from sleep(\"1\")") ≡ None }
+    ensures assigned { line_read (codes "x = yield from sleep(1)") ≡ None }
+    ensures time { line_read (codes "yield from time()") ≡ None }
+    ensures block { line_read (codes "if True\nend") ≡ None }
 {}
 
 #[tactic(auto, unfolding(aio_machine::specs::Run::run_on, aio_machine::specs::Turn::turn, aio_machine::specs::Turn::run_handles, aio_machine::specs::Step::serve))]

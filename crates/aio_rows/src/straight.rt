@@ -2,20 +2,21 @@
 ghost use Rattle.std.specs.Prelude.{◌≡◌, [], ◌∷◌, Some, None, codes};
 ghost use Rattle.aio_value_model.specs.declared.outcome.Outcome.TheVariants.{Value as Returned};
 ghost use Rattle.aio_value_model.specs.Value.{Nothing};
-ghost use Rattle.aio_script_model.specs.Straight.{straight_of};
 ghost use Rattle.aio_wire_model.specs.Call.{Select};
 ghost use Rattle.aio_wire_model.specs.Journal.{Refused, entries_of};
 ghost use Rattle.aio_machine.specs.State.{Called};
 ghost use Rattle.aio_machine.specs.Run.{Finished, Over, Bad, Turns, run};
 ghost use Rattle.aio_machine.specs.Transcript.{status_of};
+ghost use Rattle.aio_rows.specs.Reading.{lines_read};
 ghost use Rattle.aio_rows.specs.Straight.{hello, hello_text, first_turn, second_turn, turn_at};
 
-#[tactic(auto, unfolding(aio_script_model::specs::Straight::straight_of))]
+#[tactic(auto, unfolding(aio_script_model::specs::Tokens::tokens_of, aio_script_model::specs::Pieces::piece_at, aio_script_model::specs::Tokens::piece_tokens, aio_script_model::specs::Levels::term_of, aio_script_model::specs::Forms::form_of, aio_script_model::specs::FirstPass::forms_from, aio_script_model::specs::SecondPass::second_pass, aio_script_model::specs::Bodies::statements_in, aio_script_model::specs::Scripts::script_of))]
 /// The script that prints a text, and what is no such script.
 pub fn reads_scripts()
-    ensures hello { straight_of hello_text ≡ Some hello }
-    ensures other { straight_of (codes "def main()\n  print q\nend\n") ≡ None }
-    ensures empty { straight_of [] ≡ None }
+    ensures hello { lines_read hello_text ≡ Some hello }
+    ensures other { lines_read (codes "def main()\n  print q\nend\n") ≡ None }
+    ensures empty { lines_read [] ≡ None }
+    ensures two { lines_read (codes "def main()\nend\ndef other()\nend\n") ≡ None }
 {}
 
 /// Lines of a journal, and one that is no entry.

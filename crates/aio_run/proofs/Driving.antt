@@ -8,7 +8,7 @@ use Rattle.aio_wire_model.specs.Call.{Call, Answer}
 use Rattle.aio_wire_model.specs.Journal.{Entry, Answered, Refused}
 use Rattle.aio_wire_model.specs.Told.{Agrees, grown, Rose}
 use Rattle.aio_script_model.specs.Straight.{Line}
-use Rattle.aio_straight.specs.Read.{plain_program}
+use Rattle.aio_straight.specs.Lines.{plain_program}
 use Rattle.aio_machine.specs.Program.{turn_limit}
 use Rattle.aio_machine.specs.State.{State, Event, Called, start}
 use Rattle.aio_machine.specs.Turn.{turn, call_of}

@@ -1,5 +1,5 @@
 -- A file that is read piece by piece.
-use Rattle.std.proofs.Common.{◌≡◌, ℕ, ◌+◌, ◌≤◌, List, ◌++◌, Option, Some, None, length, take, drop, ap, sym, ◌∙◌, length-append, arith}
+use Rattle.std.proofs.Common.{◌≡◌, refl, ℕ, ◌+◌, ◌≤◌, List, ◌++◌, Option, Some, None, length, take, drop, ap, sym, ◌∙◌, length-append, arith}
 use Rattle.std.proofs.Math.Seq.{take-add}
 use Rattle.std.proofs.lemmas.List.{take_all}
 use Rattle.aio_wire.specs.Got.{ReadsAt}
@@ -26,3 +26,15 @@ begins_all (Some all) text from at begins read =
     let same : all ≡ read.0 = let e = read.1 in cc in
     let short : length all ≤ length text = omega (arith, ap (λ (a : List ℕ). length a) same, read.2) in
     ap (λ (a : List ℕ). Some a) (sym (begins ∙ take_all (length text) all short))
+
+-- where the end comes within the bound, all is the front
+pub front_all : (limit : ℕ) (held : Option (List ℕ)) (text : List ℕ) → length text ≤ limit → held ≡ Some text → (all : List ℕ) × (held ≡ Some all) × (text ≡ take limit all)
+front_all limit held text short whole = (text, whole, sym (take_all limit text short))
+
+-- a front as long as the bound is the front
+pub front_full : (limit : ℕ) (held : Option (List ℕ)) (text : List ℕ) → 1 ≤ limit → limit ≤ length text → length text ≤ limit → Begins held text → (all : List ℕ) × (held ≡ Some all) × (text ≡ take limit all)
+front_full limit None text some long short begins =
+    absurd (omega (arith, some, long, ap (λ (t : List ℕ). length t) begins))
+front_full limit (Some all) text some long short begins =
+    let same : length text ≡ limit = omega (arith, long, short) in
+    (all, refl, begins ∙ ap (λ (n : ℕ). take n all) same)

@@ -7,3 +7,4 @@ pub mod Outcomes
 pub mod Told
 pub mod Turning
 pub mod Turns
+pub mod TextFronts

@@ -4,8 +4,8 @@ use Rattle.std.proofs.lemmas.List.{drop-map, drop_all}
 use Rattle.aio_script_model.specs.Straight as plain
 use Rattle.aio_script_model.specs.Straight.{Pass, Print, Sleep}
 use Rattle.aio_machine.specs.State.{Event}
-use Rattle.aio_straight.specs.Read.{plain_line, plain_lines}
-use Rattle.aio_straight.specs.declared.program.Line.{Line}
+use Rattle.aio_straight.specs.Lines.{plain_line, plain_lines}
+use Rattle.aio_straight.specs.declared.line.Line.{Line}
 use Rattle.aio_run.specs.Stepping.{Sleeps, delay_of, said_by, saying, stop_of}
 
 -- a line and those behind it

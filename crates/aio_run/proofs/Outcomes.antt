@@ -1,20 +1,32 @@
 -- From a driven run to what the program may write.
 use Rattle.std.specs.Prelude.{codes}
 use Rattle.std.proofs.Common.{◌≡◌, ℕ, ◌≤◌, List, [], ◌∷◌, ◌++◌, Option, Some, None, refl, ap, sym, ◌∙◌, subst, inl, inr, append_assoc}
-use Rattle.aio_script_model.specs.Straight.{Line, straight_of}
+use Rattle.aio_script_model.specs.declared.cause.Cause.{Cause}
+use Rattle.aio_script_model.specs.Canonical.{canonical}
+use Rattle.aio_script_model.specs.Causes.{cause_number}
+use Rattle.aio_script_model.specs.Scripts.{script_of}
+use Rattle.aio_script_model.specs.SecondPass.{Judged}
+use Rattle.aio_script_model.specs.Straight.{Line}
+use Rattle.aio_machine.specs.StraightScripts.{straight_of}
+use Rattle.aio_script_model.specs.Syntax.{Program}
 use Rattle.aio_wire_model.specs.Journal.{Entry, entries_of}
 use Rattle.aio_wire_model.specs.Told.{Agrees, grown, Rose}
-use Rattle.aio_machine.specs.Program.{Output, output_of, faulted, script_refused, turn_limit, FileSays, JournalSays, JournalBegins, MayRun, MayRunIf, MayReplay}
+use Rattle.aio_machine.specs.Program.{Output, output_of, faulted, script_refused, turn_limit, FileSays, JournalSays, JournalBegins, MayRun, MayRunIf, MayRunScript, MayReplay, MayCheck, checked}
 use Rattle.aio_machine.specs.Run.{run}
 use Rattle.aio_machine.specs.Transcript.{line, lines_of_events}
 use Rattle.aio_run.specs.Drive.{Ran, RanInPart, RanSoFar, Stopped}
 use Rattle.aio_run.specs.JournalWire.{left_of}
 use Rattle.aio_run.specs.Outcome.{WritesWhole, TakesPart, EndsEarly}
+use Rattle.aio_run.specs.Reading.{IsFront}
+use Rattle.aio_run.specs.Script.{SpellsScript, IsMissing, Tells, refusal_text}
+use Rattle.aio_run.specs.declared.script.NoScript.{NoScript}
+use Rattle.aio_run.specs.declared.script.NoScript.TheVariants.{Refused, Failed, Memory as NoMemory}
 use Rattle.aio_run.specs.Writing.{TakesFront, StopsWriting}
 use Rattle.aio_run.specs.declared.halt.Halt.{Halt}
 use Rattle.aio_run.specs.declared.halt.Halt.TheVariants.{Memory, Sink, Wire}
 use Rattle.aio_run.proofs.Driving.{rose_earlier}
 use Rattle.aio_run.proofs.Fronts.{grown-grown}
+use Rattle.aio_run.proofs.TextFronts.{spells_alike}
 
 -- what is told outright
 outright : {A : Type 0} (a b : A) → Agrees (Some a) b → b ≡ a
@@ -114,22 +126,48 @@ line_early Memory may output text old new before now allowed same stops = inr (o
 line_early Sink may output text old new before now allowed same stops = (inr (output, allowed, (stops.0.0, stops.0.1, stops.0.2 ∙ same, stops.0.3)), stops.1)
 line_early Wire may output text old new before now allowed same stops = absurd stops
 
--- a text that a shelf's file was read as
-pub file_says : (told : Option (Option (List ℕ))) (text : List ℕ) → Agrees told (Some text) → FileSays told text
-file_says None text agrees = tt
-file_says (Some None) text agrees = absurd (let e = agrees None refl in cc)
-file_says (Some (Some held)) text agrees = let e : Some held ≡ Some text = agrees (Some held) refl in cc
+-- ---- scripts
+says_all : (held : Option (List ℕ)) (all : List ℕ) → held ≡ Some all → FileSays (Some held) all
+says_all None all is = absurd (cc is)
+says_all (Some text) all is = let e : all ≡ text = cc is in e
 
--- a program's replay is one of its script's
-pub replay_by_program : (program : List Line) (text : List ℕ) (script journal journal_later : Option (Option (List ℕ))) (failed failed_all : Type 0) → FileSays script text → straight_of text ≡ Some program → journal_later ≡ journal → (failed → failed_all) → (output : Output) → MayRun program journal_later failed output → MayReplay script journal failed_all output
-replay_by_program program text script journal journal_later failed failed_all says spelled same fails output (inl whole) =
-    inr (text, says, subst (λ (p : Option (List Line)). MayRunIf p journal failed_all output) (sym spelled) (subst (λ (j : Option (Option (List ℕ))). MayRun program j failed_all output) same (inl whole)))
-replay_by_program program text script journal journal_later failed failed_all says spelled same fails output (inr cut) =
-    inr (text, says, subst (λ (p : Option (List Line)). MayRunIf p journal failed_all output) (sym spelled) (subst (λ (j : Option (Option (List ℕ))). MayRun program j failed_all output) same (inr (cut.0, cut.1, fails cut.2, cut.3))))
+pub front_says : (told : Option (Option (List ℕ))) (front : List ℕ) → IsFront 1048577 told front → (text : List ℕ) × FileSays told text × (script_of front ≡ script_of text)
+front_says None front is = (front, tt, refl)
+front_says (Some held) front is =
+    let found = is held refl in
+    (found.0, says_all held found.0 found.1, ap script_of found.2 ∙ spells_alike found.0)
+
+-- a script's replay, by the rules for its text
+run_if_wider : (found : Option (List Line)) (later journal : Option (Option (List ℕ))) (failed failed_all : Type 0) → later ≡ journal → (failed → failed_all) → (output : Output) → MayRunIf found later failed output → MayRunIf found journal failed_all output
+run_if_wider None later journal failed failed_all same fails output may = may
+run_if_wider (Some program) later journal failed failed_all same fails output (inl whole) =
+    subst (λ (j : Option (Option (List ℕ))). MayRun program j failed_all output) same (inl whole)
+run_if_wider (Some program) later journal failed failed_all same fails output (inr cut) =
+    subst (λ (j : Option (Option (List ℕ))). MayRun program j failed_all output) same (inr (cut.0, cut.1, fails cut.2, cut.3))
+
+pub replay_by_script : (script : Program) (told journal later : Option (Option (List ℕ))) (failed failed_all : Type 0) → SpellsScript told script → later ≡ journal → (failed → failed_all) → (output : Output) → MayRunIf (straight_of script) later failed output → MayReplay told journal failed_all output
+replay_by_script script told journal later failed failed_all spells same fails output may =
+    inr (spells.0, spells.1, subst (λ (p : Judged Program). MayRunScript p journal failed_all output) (sym spells.2) (run_if_wider (straight_of script) later journal failed failed_all same fails output may))
+
+refused_as : (number cause : ℕ) (why : Cause) (output : Output) → cause ≡ cause_number why → Tells (Refused number cause) output → output ≡ script_refused (record { line = number; cause = why })
+refused_as number cause why output same tells =
+    tells ∙ ap (λ (n : ℕ). record { text = line (refusal_text number n); status = 3 }) same
+
+pub replay_without : (none : NoScript) (told journal : Option (Option (List ℕ))) (failed : Type 0) (before now : ℕ) → IsMissing told before now none → (Rose before now → failed) → (output : Output) → Tells none output → MayReplay told journal failed output
+replay_without (Refused number cause) told journal failed before now missing fails output tells =
+    inr (missing.0, missing.2, subst (λ (p : Judged Program). MayRunScript p journal failed output) (sym missing.3) (refused_as number cause missing.1 output missing.4 tells))
+replay_without Failed told journal failed before now missing fails output tells = inl (fails missing, tells)
+replay_without NoMemory told journal failed before now missing fails output tells = absurd tells
+
+pub check_by_script : (script : Program) (told : Option (Option (List ℕ))) (failed : Type 0) → SpellsScript told script → MayCheck told failed (record { text = canonical script; status = 0 })
+check_by_script script told failed spells =
+    inr (spells.0, spells.1, subst (λ (p : Judged Program). record { text = canonical script; status = 0 } ≡ checked p) (sym spells.2) refl)
+
+pub check_without : (none : NoScript) (told : Option (Option (List ℕ))) (failed : Type 0) (before now : ℕ) → IsMissing told before now none → (Rose before now → failed) → (output : Output) → Tells none output → MayCheck told failed output
+check_without (Refused number cause) told failed before now missing fails output tells =
+    inr (missing.0, missing.2, subst (λ (p : Judged Program). output ≡ checked p) (sym missing.3) (refused_as number cause missing.1 output missing.4 tells))
+check_without Failed told failed before now missing fails output tells = inl (fails missing, tells)
+check_without NoMemory told failed before now missing fails output tells = absurd tells
 
 pub rose_since : (first before now : ℕ) → first ≤ before → Rose before now → Rose first now
 rose_since first before now earlier rose = rose_earlier first before now earlier rose
-
--- a text that is no script is refused
-pub replay_refused : (text : List ℕ) (script journal : Option (Option (List ℕ))) (failed : Type 0) → FileSays script text → straight_of text ≡ None → MayReplay script journal failed script_refused
-replay_refused text script journal failed says spelled = inr (text, says, subst (λ (p : Option (List Line)). MayRunIf p journal failed script_refused) (sym spelled) refl)

@@ -3,7 +3,7 @@ use Rattle.std.proofs.Common.{◌≡◌, ℕ, ◌+◌, ◌<◌, ◌≤◌, List,
 use Rattle.std.proofs.lemmas.Grind.{flat_map-append}
 use Rattle.std.proofs.lemmas.List.{map-append, take_all, take_more}
 use Rattle.aio_wire_model.specs.Call.{Answer}
-use Rattle.aio_straight.specs.Read.{plain_program}
+use Rattle.aio_straight.specs.Lines.{plain_program}
 use Rattle.aio_straight.specs.declared.program.Program.{Program}
 use Rattle.aio_machine.specs.State.{State, Event, Called, Got}
 use Rattle.aio_machine.specs.Transcript.{line_of, lines_of_events}

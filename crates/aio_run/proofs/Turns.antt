@@ -103,14 +103,14 @@ abbrev first : Resumed
 first = record { input = Send Nothing; fresh = true }
 
 -- a step of main leads to the next stop
-step-main : (program : List Line) (at time : ℕ) (h : History) (events : List Event) → ComesTo program at h.tape → length program ≤ 65536 → (last : Tape) × WaitsAt program last (stop_of (drop at program)) × (step 0 (Send Nothing) (about program time h events) ≡ stopped (stop_of (drop at program)) (mid program (running time h None) last (events ++ said_by (drop at program))))
+step-main : (program : List Line) (at time : ℕ) (h : History) (events : List Event) → ComesTo program at h.tape → length program ≤ 100000 → (last : Tape) × WaitsAt program last (stop_of (drop at program)) × (step 0 (Send Nothing) (about program time h events) ≡ stopped (stop_of (drop at program)) (mid program (running time h None) last (events ++ said_by (drop at program))))
 step-main program at time h events comes few =
-    let short : length (drop at program) < step_limit = omega (arith, length-drop at program) in
+    let short : length (drop at program) < suc step_limit = omega (arith, length-drop at program) in
     let stands : Stands program (h.tape ++ first ∷ []) (drop at program) = λ later. ap (says program) (append_assoc h.tape (first ∷ []) later) ∙ comes first later in
-    let (last, waits, led) = serve-main step_limit program (drop at program) (running time h None) (h.tape ++ first ∷ []) events stands short in (
+    let (last, waits, led) = serve-main (suc step_limit) program (drop at program) (running time h None) (h.tape ++ first ∷ []) events stands short in (
       last,
       waits,
-      ap (λ (p : Parts). serve step_limit 0 (mid program p (h.tape ++ first ∷ []) events)) (given_up h.handle time h) ∙ led,
+      ap (λ (p : Parts). serve (suc step_limit) 0 (mid program p (h.tape ++ first ∷ []) events)) (given_up h.handle time h) ∙ led,
     )
 
 -- the history after a step that appended a handle
@@ -203,7 +203,7 @@ unfolding turn run_handles
 turn-woken program time now h = refl
 
 -- a turn in which main makes a step, from a phase in which it is about to
-stepped : (program : List Line) (at time now next : ℕ) (phase end : Phase) (action : Action) (told : List code.Event) → ((h : History) → FitsIn program at phase h → ComesTo program at h.tape) → ((h : History) → turn (Turn now) (state_in program time phase h) ≡ step 0 (Send Nothing) (about program (max time now) h (called program time now phase h ++ Ran action ∷ []))) → length program ≤ 65536 → ((future : ℕ) → plain_events future told ≡ Ran action ∷ said_by (drop at program)) → GoesOnAt program (max time now) (stop_of (drop at program)) next end → TurnedIn program at time phase next (max time now) end (Turn now) told
+stepped : (program : List Line) (at time now next : ℕ) (phase end : Phase) (action : Action) (told : List code.Event) → ((h : History) → FitsIn program at phase h → ComesTo program at h.tape) → ((h : History) → turn (Turn now) (state_in program time phase h) ≡ step 0 (Send Nothing) (about program (max time now) h (called program time now phase h ++ Ran action ∷ []))) → length program ≤ 100000 → ((future : ℕ) → plain_events future told ≡ Ran action ∷ said_by (drop at program)) → GoesOnAt program (max time now) (stop_of (drop at program)) next end → TurnedIn program at time phase next (max time now) end (Turn now) told
 stepped program at time now next phase end action told comes turned few said on =
     λ h fits.
     let events = called program time now phase h ++ Ran action ∷ [] in
@@ -218,11 +218,11 @@ stepped program at time now next phase end action told comes turned few said on 
 abbrev At : List Line → (at time : ℕ) → Phase → (next : ℕ) → Phase → ℕ → List code.Event → (later : ℕ) → Type 0
 At program at time phase next end now told later = GoesOnAt program later (stop_of (drop at program)) next end → TurnedIn program at time phase next later end (Turn now) told
 
-pub turned-ready : (program : List Line) (at time now next later : ℕ) (end : Phase) (told : List code.Event) → later ≡ max time now → length program ≤ 65536 → ((future : ℕ) → plain_events future told ≡ Ran (Step 0) ∷ said_by (drop at program)) → GoesOnAt program later (stop_of (drop at program)) next end → TurnedIn program at time Ready next later end (Turn now) told
+pub turned-ready : (program : List Line) (at time now next later : ℕ) (end : Phase) (told : List code.Event) → later ≡ max time now → length program ≤ 100000 → ((future : ℕ) → plain_events future told ≡ Ran (Step 0) ∷ said_by (drop at program)) → GoesOnAt program later (stop_of (drop at program)) next end → TurnedIn program at time Ready next later end (Turn now) told
 turned-ready program at time now next later end told on few said =
     subst (At program at time Ready next end now told) (sym on) (stepped program at time now next Ready end (Step 0) told (λ h fits. fits) (turn-ready program time now) few said)
 
-pub turned-woken : (program : List Line) (at time now next later : ℕ) (end : Phase) (told : List code.Event) → later ≡ max time now → length program ≤ 65536 → ((future : ℕ) → plain_events future told ≡ Ran (Wakeup 0) ∷ said_by (drop at program)) → GoesOnAt program later (stop_of (drop at program)) next end → TurnedIn program at time Woken next later end (Turn now) told
+pub turned-woken : (program : List Line) (at time now next later : ℕ) (end : Phase) (told : List code.Event) → later ≡ max time now → length program ≤ 100000 → ((future : ℕ) → plain_events future told ≡ Ran (Wakeup 0) ∷ said_by (drop at program)) → GoesOnAt program later (stop_of (drop at program)) next end → TurnedIn program at time Woken next later end (Turn now) told
 turned-woken program at time now next later end told on few said =
     subst (At program at time Woken next end now told) (sym on) (stepped program at time now next Woken end (Wakeup 0) told (λ h fits. fits) (turn-woken program time now) few said)
 

@@ -6,7 +6,7 @@ use Rattle.aio_value_model.specs.Value.{Nothing}
 use Rattle.aio_value_model.specs.declared.outcome.Outcome.TheVariants.{Value as Returned}
 use Rattle.aio_wire_model.specs.Call.{Call, Answer}
 use Rattle.aio_script_model.specs.Straight.{Line, Tape, Resumed, after, says, says_on}
-use Rattle.aio_straight.specs.Read.{plain_program}
+use Rattle.aio_straight.specs.Lines.{plain_program}
 use Rattle.aio_loop_model.specs.Parts.{Handle, Timer, Future, Plain, OfTask}
 use Rattle.aio_machine.specs.State.{State, Event, Called, Got}
 use Rattle.aio_machine.specs.Turn.{call_of, turn}

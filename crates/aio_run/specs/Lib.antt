@@ -9,3 +9,4 @@ pub mod Reading
 pub mod Stepping
 pub mod Words
 pub mod Writing
+pub mod Script

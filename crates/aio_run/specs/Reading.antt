@@ -13,3 +13,8 @@ StopsReading before now Failed = Rose before now
 abbrev pub Begins : Option (List ℕ) → List ℕ → Type 0
 Begins None text = text ≡ []
 Begins (Some all) text = text ≡ take (length text) all
+
+-- the text is the first bytes of a file, at most so many, where the file is told
+abbrev pub IsFront : (limit : ℕ) → Option (Option (List ℕ)) → List ℕ → Type 0
+IsFront limit told text =
+    (held : Option (List ℕ)) → told ≡ Some held → (all : List ℕ) × (held ≡ Some all) × (text ≡ take limit all)

@@ -1,6 +1,6 @@
 //! The one loop that holds kernel, wire and sink.
 ghost use Rattle.std.specs.Prelude.{◌≡◌, ◌≤◌, IfOk, IfErr, OnOk};
-ghost use Rattle.aio_straight.specs.Read.{plain_program};
+ghost use Rattle.aio_straight.specs.Lines.{plain_program};
 ghost use Rattle.aio_run.specs.Drive.{Ran, Stopped, StopsInTurn, TurnWritten};
 ghost use Rattle.aio_run.specs.Ending.{plain_ending};
 ghost use Rattle.aio_run.specs.Writing.{StopsWriting};

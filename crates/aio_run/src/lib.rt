@@ -1,6 +1,7 @@
 //! The program: what it does for its words, over a shelf, a wire and a sink.
 #![tactic(auto)]
 
+mod checking;
 mod driver;
 mod ending;
 mod event;
@@ -12,6 +13,8 @@ mod lines;
 mod phase;
 mod program;
 mod reading;
+mod replaying;
+mod script;
 mod stepping;
 #[cfg(test)]
 mod tests;

@@ -1,7 +1,7 @@
 //! Reading a shelf's files.
 ghost use Rattle.std.specs.Prelude.{◌≡◌, ◌≤◌, Some, IfOk, IfErr};
 ghost use Rattle.aio_wire_model.specs.Told.{Agrees};
-ghost use Rattle.aio_run.specs.Reading.{StopsReading};
+ghost use Rattle.aio_run.specs.Reading.{IsFront, StopsReading};
 ghost use Rattle.aio_run.specs.declared.reading.ReadFault.TheVariants.{Memory as OutOfMemory};
 
 use aio_base::Memory;
@@ -50,4 +50,30 @@ pub fn read_file<F: Shelf>(alloc: Global, shelf: &mut F, name: &str) -> Result<V
             SourceGot::Failed => return Err(ReadFault::Failed),
         }
     }
+}
+
+/// A file's first bytes, at most `limit`, and all of them where it has no more. A missing file is a fault of the shelf.
+/// No file changes.
+pub fn read_front<F: Shelf>(
+    alloc: Global,
+    shelf: &mut F,
+    name: &str,
+    limit: usize,
+) -> Result<Vec<u8>, ReadFault>
+    requires some { 1 ≤ limit }
+    ensures text { IfOk result (λ text. IsFront limit (F.file shelf.old name.now) text.items) }
+    ensures fault { IfErr result (StopsReading (F.faults shelf.old) (F.faults shelf.new)) }
+    ensures files { F.file shelf.new ≡ F.file shelf.old }
+    ensures later { F.faults shelf.old ≤ F.faults shelf.new }
+{
+    let mut text = Vec::new(alloc);
+    while text.len() < limit {
+        let asked = CHUNK.min(limit - text.len());
+        match shelf.read(alloc, name, text.len() as u64, asked)? {
+            SourceGot::Bytes(bytes) => text.extend_from_slice(bytes.items())?,
+            SourceGot::End => return Ok(text),
+            SourceGot::Failed => return Err(ReadFault::Failed),
+        }
+    }
+    Ok(text)
 }

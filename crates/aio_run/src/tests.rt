@@ -8,6 +8,7 @@ use fake_sink::FakeSink;
 use std::alloc::Global;
 use std::test::Fail;
 
+mod checks;
 mod dead_wire;
 mod fake_shelf;
 mod fake_sink;
@@ -59,7 +60,7 @@ fn ends(
 // The script, the status, and what is written over two turns.
 type Script = (&'static str, u8, &'static str);
 
-static SCRIPTS: [Script; 24] = [
+static SCRIPTS: [Script; 29] = [
     (HELLO, 0, WHOLE),
     ("def main()\nprint \"hi\"\nend", 0, WHOLE),
     ("def main()\nend\n", 0, "= returned None\n"),
@@ -74,36 +75,57 @@ static SCRIPTS: [Script; 24] = [
         "T0 7 a, 1 \n= returned None\n",
     ),
     (
-        "def main()\nprint 9223372036854775808\nend\n",
+        "def main()\nprint \"a\",7\nend\n",
+        0,
+        "T0 a 7\n= returned None\n",
+    ),
+    (
+        "profile 1\r\ndef main( ) # main\r\n\r\nprint(\"a\") , 9223372036854775807 \r\n end\r\n\n",
+        0,
+        "T0 a 9223372036854775807\n= returned None\n",
+    ),
+    (
+        "def main()\nprint \"a\\x41\\\"\\\\\"\nend\n",
+        0,
+        "T0 aA\"\\\\\n= returned None\n",
+    ),
+    (
+        "def main()\nyield from sleep( 1)\nend\n",
+        6,
+        "! over select 1\n",
+    ),
+    ("def main()\nprint -1\nend\n", 3, "! script 1 9\n"),
+    ("def main()\nprint b\"a\"\nend\n", 3, "! script 1 9\n"),
+    ("def main()\nx = 1\nend\n", 3, "! script 1 9\n"),
+    ("def main()\nyield\nend\n", 3, "! script 1 9\n"),
+    (
+        "def main()\nx = yield from sleep(1)\nend\n",
         3,
         "! script 1 9\n",
     ),
-    ("def main()\nprint \"a\",7\nend\n", 3, "! script 1 9\n"),
-    ("def main()\nprint \"a\" , 7\nend\n", 3, "! script 1 9\n"),
-    ("def main()\nprint 7,\nend\n", 3, "! script 1 9\n"),
-    ("def main()\nprint\nend\n", 3, "! script 1 9\n"),
-    ("def main()\npass \nend\n", 3, "! script 1 9\n"),
     (
         "def main()\nyield from sleep(-1)\nend\n",
         3,
         "! script 1 9\n",
     ),
+    ("def f()\nend\ndef main()\nend\n", 3, "! script 1 9\n"),
     (
-        "def main()\nyield from sleep( 1)\nend\n",
+        "def main()\nprint 9223372036854775808\nend\n",
         3,
-        "! script 1 9\n",
+        "! script 2 1\n",
     ),
-    ("def main()\nyield from sleep()\nend\n", 3, "! script 1 9\n"),
-    ("", 3, "! script 1 9\n"),
-    ("end\n", 3, "! script 1 9\n"),
-    ("def main()\n", 3, "! script 1 9\n"),
-    ("def main()\nprint q\nend\n", 3, "! script 1 9\n"),
-    ("def main()\nprint \"a\\b\"\nend\n", 3, "! script 1 9\n"),
-    ("def main()\nprint \"a\nend\n", 3, "! script 1 9\n"),
-    ("def main()\nprint \"a\"b\"\nend\n", 3, "! script 1 9\n"),
-    ("def main()\nprint \"a\" \nend\n", 3, "! script 1 9\n"),
-    ("def main()\nend\n\n", 3, "! script 1 9\n"),
-    ("def main()\r\nend\n", 3, "! script 1 9\n"),
+    ("def main()\nprint 7,\nend\n", 3, "! script 2 2\n"),
+    ("def main()\nprint\nend\n", 3, "! script 2 2\n"),
+    ("def main()\nyield from sleep()\nend\n", 3, "! script 2 5\n"),
+    ("", 3, "! script 1 7\n"),
+    ("end\n", 3, "! script 1 3\n"),
+    ("def main()\n", 3, "! script 2 3\n"),
+    ("def main()\nif True\nend\n", 3, "! script 4 3\n"),
+    ("def main()\nprint q\nend\n", 3, "! script 2 4\n"),
+    ("def main()\nprint \"a\\b\"\nend\n", 3, "! script 2 1\n"),
+    ("def main()\nprint \"a\nend\n", 3, "! script 2 1\n"),
+    ("def main()\nprint \"a\"b\"\nend\n", 3, "! script 2 1\n"),
+    ("profile 3\ndef main()\nend\n", 3, "! script 1 8\n"),
 ];
 
 #[test]
@@ -267,7 +289,7 @@ fn sleeps(rt: HostRuntime) -> Result<(), Fail> {
 }
 
 // Words that are refused.
-static REFUSED: [&[&str]; 13] = [
+static REFUSED: [&[&str]; 17] = [
     &[],
     &[""],
     &["replay"],
@@ -281,6 +303,10 @@ static REFUSED: [&[&str]; 13] = [
     &["Replay", "s", "j"],
     &["play", "s", "j"],
     &["", "replay", "s", "j"],
+    &["check"],
+    &["check", ""],
+    &["check", "-x"],
+    &["check", "s", "j"],
 ];
 
 #[test]
@@ -302,17 +328,22 @@ fn missing_files(rt: HostRuntime) -> Result<(), Fail> {
             &["replay", "s", "q"],
             "",
             JOURNAL,
-            (3, "! script 1 9\n")
+            (3, "! script 1 7\n")
         )?
     );
     Ok(())
 }
 
 // Whether a run whose shelf fails at a call, from 0, ends with this status and writes this.
-fn ends_on_fake_shelf(alloc: Global, call: usize, want: (u8, &str)) -> Result<bool, Memory> {
+fn ends_on_fake_shelf(
+    alloc: Global,
+    words: &[&str],
+    call: usize,
+    want: (u8, &str),
+) -> Result<bool, Memory> {
     let mut shelf = FakeShelf::new(shelf_of(alloc, HELLO, JOURNAL)?, call);
     let mut sink = MemSink::new(alloc);
-    let status = status_of(alloc, &WORDS, &mut shelf, &mut sink)?;
+    let status = status_of(alloc, words, &mut shelf, &mut sink)?;
     Ok(status == want.0 && sink.taken() == want.1.as_bytes())
 }
 
@@ -320,19 +351,24 @@ fn ends_on_fake_shelf(alloc: Global, call: usize, want: (u8, &str)) -> Result<bo
 fn shelf_fails(rt: HostRuntime) -> Result<(), Fail> {
     for call in 0..4 {
         assert!(rt;
-            ends_on_fake_shelf(rt.alloc(), call, (9, "! fault shelf\n"))?,
+            ends_on_fake_shelf(rt.alloc(), &WORDS, call, (9, "! fault shelf\n"))?,
             "{call}"
         );
     }
-    assert!(rt; ends_on_fake_shelf(rt.alloc(), 4, (0, WHOLE))?);
+    assert!(rt; ends_on_fake_shelf(rt.alloc(), &WORDS, 4, (0, WHOLE))?);
     Ok(())
 }
 
 // Whether a run whose sink takes one byte a call and fails at a call, from 0, ends with this status and writes this.
-fn ends_on_fake_sink(alloc: Global, call: usize, want: (u8, &[u8])) -> Result<bool, Memory> {
+fn ends_on_fake_sink(
+    alloc: Global,
+    words: &[&str],
+    call: usize,
+    want: (u8, &[u8]),
+) -> Result<bool, Memory> {
     let mut shelf = shelf_of(alloc, HELLO, JOURNAL)?;
     let mut sink = FakeSink::new(alloc, call);
-    let status = status_of(alloc, &WORDS, &mut shelf, &mut sink)?;
+    let status = status_of(alloc, words, &mut shelf, &mut sink)?;
     Ok(status == want.0 && sink.taken() == want.1)
 }
 
@@ -341,10 +377,10 @@ fn sink_fails(rt: HostRuntime) -> Result<(), Fail> {
     let whole = WHOLE.as_bytes();
     for call in 0..whole.len() {
         assert!(rt;
-            ends_on_fake_sink(rt.alloc(), call, (9, &whole[..call]))?,
+            ends_on_fake_sink(rt.alloc(), &WORDS, call, (9, &whole[..call]))?,
             "{call}"
         );
     }
-    assert!(rt; ends_on_fake_sink(rt.alloc(), whole.len(), (0, whole))?);
+    assert!(rt; ends_on_fake_sink(rt.alloc(), &WORDS, whole.len(), (0, whole))?);
     Ok(())
 }

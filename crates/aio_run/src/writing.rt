@@ -1,5 +1,5 @@
 //! Writing to a sink.
-ghost use Rattle.std.specs.Prelude.{◌≡◌, ◌≤◌, OnOk, IfErr};
+ghost use Rattle.std.specs.Prelude.{◌≡◌, ◌≤◌, OnOk, IfOk, IfErr};
 ghost use Rattle.aio_wire_model.specs.Told.{grown};
 ghost use Rattle.aio_run.specs.Writing.{StopsWriting};
 
@@ -21,4 +21,23 @@ pub fn write_all<K: Sink>(alloc: Global, out: &mut K, text: &[u8]) -> Result<(),
         }
     }
     Ok(())
+}
+
+/// Writes a text, and answers this status.
+pub fn tell<K: Sink>(alloc: Global, text: &[u8], status: u8, out: &mut K) -> Result<u8, Halt>
+    ensures ok { IfOk result (λ told. (told ≡ status) × (K.taken out.new ≡ grown (K.taken out.old) text.now)) }
+    ensures err { IfErr result (StopsWriting text.now (K.taken out.old) (K.taken out.new) (K.faults out.old) (K.faults out.new)) }
+    ensures later { K.faults out.old ≤ K.faults out.new }
+{
+    write_all(alloc, out, text)?;
+    Ok(status)
+}
+
+/// The same of a line.
+pub fn say<K: Sink>(alloc: Global, line: &str, status: u8, out: &mut K) -> Result<u8, Halt>
+    ensures ok { IfOk result (λ told. (told ≡ status) × (K.taken out.new ≡ grown (K.taken out.old) line.now)) }
+    ensures err { IfErr result (StopsWriting line.now (K.taken out.old) (K.taken out.new) (K.faults out.old) (K.faults out.new)) }
+    ensures later { K.faults out.old ≤ K.faults out.new }
+{
+    tell(alloc, line.as_bytes(), status, out)
 }

@@ -1,7 +1,7 @@
 -- Why the code refuses a text, by the definition's first fault.
-use Rattle.std.specs.Prelude.{◌≡◌, ℕ, ⊤}
+use Rattle.std.specs.Prelude.{◌≡◌, ⊤}
 use Rattle.aio_script_model.specs.declared.cause.Cause.{Cause}
-use Rattle.aio_script_model.specs.declared.cause.Cause.TheVariants as cause
+use Rattle.aio_script_model.specs.Causes.{cause_number}
 use Rattle.aio_script_model.specs.FirstPass.{fault_at}
 use Rattle.aio_script_model.specs.SecondPass.{Judged}
 use Rattle.aio_form.specs.declared.fault.FormFault.{FormFault}
@@ -10,17 +10,6 @@ use Rattle.aio_naming.specs.declared.fault.NameFault.{NameFault}
 use Rattle.aio_naming.specs.declared.fault.NameFault.TheVariants as name
 use Rattle.aio_script.specs.declared.fault.ScriptFault.{ScriptFault}
 use Rattle.aio_script.specs.declared.fault.ScriptFault.TheVariants.{Refused, Memory}
-
--- the numbers by which causes are told
-abbrev pub cause_number : Cause → ℕ
-cause_number cause.Token = 1
-cause_number cause.Form = 2
-cause_number cause.Nesting = 3
-cause_number cause.Name = 4
-cause_number cause.Arity = 5
-cause_number cause.TooLong = 6
-cause_number cause.NoMain = 7
-cause_number cause.Profile = 8
 
 -- this very fault is the first, unless memory was refused
 abbrev pub IsFaultOf : {A : Type 0} → Judged A → ScriptFault → Type 0

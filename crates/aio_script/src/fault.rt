@@ -1,7 +1,8 @@
 //! Why a text is no script.
 ghost use Rattle.std.specs.Prelude.{◌≡◌};
 ghost use Rattle.aio_script.specs.declared.fault.ScriptFault.TheVariants.{Memory};
-ghost use Rattle.aio_script.specs.Fault.{cause_number, of_form, of_name};
+ghost use Rattle.aio_script_model.specs.Causes.{cause_number};
+ghost use Rattle.aio_script.specs.Fault.{of_form, of_name};
 
 use aio_form::FormFault;
 use aio_naming::NameFault;

@@ -13,3 +13,4 @@ pub mod Sound
 pub mod Bodies
 pub mod Ends
 pub mod BodyLemmas
+pub mod Sizes

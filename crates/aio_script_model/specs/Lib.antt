@@ -29,6 +29,7 @@ pub mod Forms
 pub mod Places
 pub mod TextLines
 pub mod FirstPass
+pub mod Causes
 pub mod Naming
 pub mod SecondPass
 pub mod Bodies

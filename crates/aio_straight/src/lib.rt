@@ -1,13 +1,10 @@
-//! The reader of scripts.
+//! Straight programs among the scripts that were read: those that run so far.
 #![tactic(auto)]
 
-mod ending;
-mod fault;
-mod items;
+mod line;
 mod program;
-mod reader;
-mod statement;
+mod reading;
 
-pub use fault::ScriptFault;
-pub use program::{Line, Program};
-pub use reader::read;
+pub use line::Line;
+pub use program::Program;
+pub use reading::straight;

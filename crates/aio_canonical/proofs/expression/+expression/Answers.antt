@@ -3,7 +3,8 @@ use Rattle.std.proofs.Common.{rules, ◌≡◌, ◌+◌, ◌*◌, ◌<◌, ◌++
 use Rattle.std.proofs.lemmas.List.{take_more}
 use Rattle.aio_script_model.specs.ExprSize.{expr_size, expr_list_size}
 use Rattle.aio_value_model.proofs.Joined.{separator-push}
-use Rattle.aio_canonical.proofs.Joined.{expr_size-item, exprs_text-push}
+use Rattle.aio_script_model.proofs.Sizes.{expr_size-item}
+use Rattle.aio_canonical.proofs.Joined.{exprs_text-push}
 use Rattle.aio_canonical.proofs.expression.+expression.Goals as goal
 
 pub push_exprs-push_expr-requires : goal.push_exprs-push_expr-requires

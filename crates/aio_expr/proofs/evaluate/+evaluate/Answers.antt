@@ -5,7 +5,8 @@ use Rattle.aio_script_model.specs.Expressions.{value_of, values_of}
 use Rattle.aio_script_model.specs.Operations.{compared, calculated, indexed}
 use Rattle.aio_script_model.specs.Syntax.{exprs}
 use Rattle.aio_expr.specs.Gives.{Fails, AllFail}
-use Rattle.aio_expr.proofs.Evaluated.{gives-err, if-err, or-fails, and-fails, values_of-push, all-fail, expr_size-item}
+use Rattle.aio_expr.proofs.Evaluated.{gives-err, if-err, or-fails, and-fails, values_of-push, all-fail}
+use Rattle.aio_script_model.proofs.Sizes.{expr_size-item}
 use Rattle.aio_expr.proofs.evaluate.+evaluate.Goals as goal
 
 pub evaluate-returns-in_err-decided-in-Or : goal.evaluate-returns-in_err-decided-in-Or

@@ -1,6 +1,6 @@
 use Rattle.std.proofs.Common.{◌≡◌, ◌≤◌, List}
 use Rattle.aio_wire_model.specs.Journal.{Entry}
-use Rattle.aio_straight.specs.Read.{plain_program}
+use Rattle.aio_straight.specs.Lines.{plain_program}
 use Rattle.aio_run.specs.Kernel.{History}
 use Rattle.aio_run.specs.declared.phase.Phase.TheVariants.{Ready}
 use Rattle.aio_run.proofs.Driving.{Running}

@@ -1,5 +1,5 @@
 use Rattle.std.proofs.Common.{◌∙◌, sym, ap}
-use Rattle.aio_straight.specs.Read.{plain_line, plain_lines}
+use Rattle.aio_straight.specs.Lines.{plain_line, plain_lines}
 use Rattle.aio_run.specs.Stepping.{stop_of}
 use Rattle.aio_run.proofs.LinesLeft.{none_left, plain_lines-from, stop_of-goes_on, stop_of-stops, told_on, told_to_end, told_to_stop}
 use Rattle.aio_run.proofs.stepping.run_lines.Goals as goal

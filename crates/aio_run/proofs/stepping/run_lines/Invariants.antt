@@ -1,5 +1,5 @@
 use Rattle.std.proofs.Common.{◌≡◌, ℕ, ◌++◌, drop}
-use Rattle.aio_straight.specs.Read.{plain_lines}
+use Rattle.aio_straight.specs.Lines.{plain_lines}
 use Rattle.aio_run.specs.Events.{plain_events}
 use Rattle.aio_run.specs.Stepping.{said_by, stop_of}
 use Rattle.aio_run.proofs.stepping.run_lines.Given as goal

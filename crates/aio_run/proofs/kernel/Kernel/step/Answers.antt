@@ -1,6 +1,6 @@
 use Rattle.std.proofs.Common.{◌∙◌, ◌++◌, ap, drop, List}
-use Rattle.aio_straight.specs.Read.{plain_lines}
-use Rattle.aio_straight.specs.declared.program.Line.{Line}
+use Rattle.aio_straight.specs.Lines.{plain_lines}
+use Rattle.aio_straight.specs.declared.line.Line.{Line}
 use Rattle.aio_run.specs.Events.{plain_events}
 use Rattle.aio_run.specs.Stepping.{said_by}
 use Rattle.aio_run.proofs.kernel.Kernel.step.Goals as goal

@@ -1,7 +1,7 @@
 use Rattle.std.proofs.Common.{◌≡◌, ◌≤◌, ℕ, length, arith, ◌++◌, ◌∷◌, [], refl, ap, sym, ◌∙◌, subst, drop, List}
 use Rattle.std.proofs.lemmas.List.{length-map}
 use Rattle.aio_wire_model.specs.Call.{Turn}
-use Rattle.aio_straight.specs.Read.{plain_program, plain_line}
+use Rattle.aio_straight.specs.Lines.{plain_program, plain_line}
 use Rattle.aio_run.specs.Events.{plain_events}
 use Rattle.aio_run.specs.Kernel.{TurnedIn}
 use Rattle.aio_run.specs.Stepping.{GoesOnAt, said_by, stop_of}
@@ -23,7 +23,7 @@ returns-in_ok-step-in-Ready c =
     let told = c.step.new.told.items in
     let done = c.in_ok-step-in-Ready.ensures in
     let program = plain_program k.program in
-    let few : length program ≤ 65536 = omega (arith, length-map k.program.lines.items plain_line, k.program.lines.ok.0, k.program.few) in (
+    let few : length program ≤ 100000 = omega (arith, length-map k.program.lines.items plain_line, k.program.lines.ok.0, k.program.few) in (
       done.program,
       subst (λ (p : Phase). TurnedIn program k.at k.time p new.at new.time new.phase (Turn c.args.now) told) (sym c.in-Ready.is)
           (turned-ready program k.at k.time c.args.now new.at new.time new.phase told (done.time ∙ c.max-self.ensures) few
@@ -38,7 +38,7 @@ returns-in_ok-step-in-Woken c =
     let told = c.step-in-Woken.new.told.items in
     let done = c.in_ok-step-in-Woken.ensures in
     let program = plain_program k.program in
-    let few : length program ≤ 65536 = omega (arith, length-map k.program.lines.items plain_line, k.program.lines.ok.0, k.program.few) in (
+    let few : length program ≤ 100000 = omega (arith, length-map k.program.lines.items plain_line, k.program.lines.ok.0, k.program.few) in (
       done.program,
       subst (λ (p : Phase). TurnedIn program k.at k.time p new.at new.time new.phase (Turn c.args.now) told) (sym c.in-Woken.is)
           (turned-woken program k.at k.time c.args.now new.at new.time new.phase told (done.time ∙ c.max-self.ensures) few

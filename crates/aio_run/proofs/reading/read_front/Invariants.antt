@@ -1,0 +1,14 @@
+use Rattle.std.proofs.Common.{◌≡◌, ◌≤◌, ◌-◌, ℕ, List, Option, Some, vec_len}
+use Rattle.aio_run.specs.Reading.{Begins}
+use Rattle.aio_run.proofs.reading.read_front.Given as goal
+
+abbrev pub invariant-loop-alloc : goal.invariant-loop-alloc
+invariant-loop-alloc g l = record {
+  files : g.F.Shelf.file l.shelf ≡ g.F.Shelf.file l.fn.shelf;
+  later : g.F.Shelf.faults l.fn.shelf ≤ g.F.Shelf.faults l.shelf;
+  begins : (held : Option (List ℕ)) → g.F.Shelf.file l.fn.shelf l.name ≡ Some held → Begins held l.text.items;
+  within : vec_len l.text ≤ l.limit;
+}
+
+abbrev pub decreases-loop-alloc : goal.decreases-loop-alloc
+decreases-loop-alloc g l = l.limit - vec_len l.text

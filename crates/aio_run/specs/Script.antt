@@ -1,0 +1,37 @@
+-- What was read of a script, or why there is none, by what the shelf tells of its file.
+use Rattle.std.specs.Prelude.{◌≡◌, ℕ, List, [], ◌++◌, Option, Ok, ⊤, codes}
+use Rattle.std.specs.Fmt.{decimal}
+use Rattle.aio_script_model.specs.declared.cause.Cause.{Cause}
+use Rattle.aio_script_model.specs.Causes.{cause_number}
+use Rattle.aio_script_model.specs.FirstPass.{fault_at}
+use Rattle.aio_script_model.specs.Scripts.{script_of}
+use Rattle.aio_script_model.specs.Syntax.{Program}
+use Rattle.aio_wire_model.specs.Told.{Rose}
+use Rattle.aio_machine.specs.Program.{Output, FileSays, faulted}
+use Rattle.aio_machine.specs.Transcript.{line}
+use Rattle.aio_run.specs.declared.script.NoScript.{NoScript}
+use Rattle.aio_run.specs.declared.script.NoScript.TheVariants.{Refused, Failed, Memory}
+
+-- the file says a text that spells this script
+abbrev pub SpellsScript : Option (Option (List ℕ)) → Program → Type 0
+SpellsScript told script = (text : List ℕ) × FileSays told text × (script_of text ≡ Ok script)
+
+-- the file says a text with this first fault
+abbrev pub HasFault : Option (Option (List ℕ)) → ℕ → ℕ → Type 0
+HasFault told number cause =
+    (text : List ℕ) × (why : Cause) × FileSays told text × (script_of text ≡ fault_at number why) × (cause ≡ cause_number why)
+
+-- There is no script: its text is refused, the shelf's count of faults rose, or memory was refused.
+abbrev pub IsMissing : Option (Option (List ℕ)) → ℕ → ℕ → NoScript → Type 0
+IsMissing told before now (Refused number cause) = HasFault told number cause
+IsMissing told before now Failed = Rose before now
+IsMissing told before now Memory = ⊤
+
+abbrev pub refusal_text : ℕ → ℕ → List ℕ
+refusal_text number cause = codes "! script " ++ decimal number ++ codes " " ++ decimal cause
+
+-- what is written where there is no script
+abbrev pub Tells : NoScript → Output → Type 0
+Tells (Refused number cause) output = output ≡ record { text = line (refusal_text number cause); status = 3 }
+Tells Failed output = output ≡ faulted []
+Tells Memory output = ⊥

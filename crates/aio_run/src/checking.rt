@@ -1,0 +1,36 @@
+//! Checking a script.
+ghost use Rattle.std.specs.Prelude.{◌≡◌, IfOk, IfErr};
+ghost use Rattle.aio_machine.specs.Program.{MayCheck};
+ghost use Rattle.aio_wire_model.specs.Told.{Rose};
+ghost use Rattle.aio_run.specs.Outcome.{EndsEarly, WritesWhole};
+
+use crate::halt::Halt;
+use crate::script::{read_script, refuse};
+use crate::writing::tell;
+use aio_script::print;
+use aio_wire::{Shelf, Sink};
+use std::alloc::Global;
+
+/// Writes the canonical text of a script, or why it is none.
+pub fn check<F: Shelf, K: Sink>(
+    alloc: Global,
+    script: &str,
+    shelf: &mut F,
+    out: &mut K,
+) -> Result<u8, Halt>
+    ensures ok { IfOk result (WritesWhole
+        (MayCheck (F.file shelf.old script.now) (Rose (F.faults shelf.old) (F.faults shelf.new)))
+        (K.taken out.old) (K.taken out.new)) }
+    ensures err { IfErr result (EndsEarly
+        (MayCheck (F.file shelf.old script.now) (Rose (F.faults shelf.old) (F.faults shelf.new)))
+        (K.taken out.old) (K.taken out.new) (K.faults out.old) (K.faults out.new)) }
+    ensures files { F.file shelf.new ≡ F.file shelf.old }
+{
+    match read_script(alloc, script, shelf) {
+        Ok(script) => {
+            let text = print(alloc, &script)?;
+            tell(alloc, text.as_slice(), 0, out)
+        }
+        Err(none) => refuse(alloc, none, out),
+    }
+}

@@ -1,0 +1,90 @@
+//! Replaying a script over a journal.
+ghost use Rattle.std.specs.Prelude.{◌≡◌, ◌≤◌, IfOk, IfErr};
+ghost use Rattle.aio_machine.specs.Program.{MayRun, MayRunIf, MayReplay};
+ghost use Rattle.aio_machine.specs.StraightScripts.{straight_of};
+ghost use Rattle.aio_straight.specs.Lines.{plain_program};
+ghost use Rattle.aio_wire_model.specs.Told.{Rose};
+ghost use Rattle.aio_run.specs.Outcome.{EndsEarly, WritesWhole};
+
+use crate::driver::drive;
+use crate::halt::Halt;
+use crate::journal_wire::JournalWire;
+use crate::script::{read_script, refuse};
+use crate::writing::say;
+use aio_script::Program as Script;
+use aio_straight::{Program, straight};
+use aio_wire::{Shelf, Sink};
+use std::alloc::Global;
+
+/// Replays a script over a journal.
+pub fn replay<F: Shelf, K: Sink>(
+    alloc: Global,
+    script: &str,
+    journal: &str,
+    shelf: &mut F,
+    out: &mut K,
+) -> Result<u8, Halt>
+    ensures ok { IfOk result (WritesWhole
+        (MayReplay (F.file shelf.old script.now) (F.file shelf.old journal.now) (Rose (F.faults shelf.old) (F.faults shelf.new)))
+        (K.taken out.old) (K.taken out.new)) }
+    ensures err { IfErr result (EndsEarly
+        (MayReplay (F.file shelf.old script.now) (F.file shelf.old journal.now) (Rose (F.faults shelf.old) (F.faults shelf.new)))
+        (K.taken out.old) (K.taken out.new) (K.faults out.old) (K.faults out.new)) }
+    ensures files { F.file shelf.new ≡ F.file shelf.old }
+{
+    match read_script(alloc, script, shelf) {
+        Ok(script) => replay_script(alloc, &script, journal, shelf, out),
+        Err(none) => refuse(alloc, none, out),
+    }
+}
+
+/// Replays a script that was read, if it is a straight program.
+fn replay_script<F: Shelf, K: Sink>(
+    alloc: Global,
+    script: &Script,
+    journal: &str,
+    shelf: &mut F,
+    out: &mut K,
+) -> Result<u8, Halt>
+    ensures ok { IfOk result (WritesWhole
+        (MayRunIf (straight_of script.now) (F.file shelf.old journal.now) (Rose (F.faults shelf.old) (F.faults shelf.new)))
+        (K.taken out.old) (K.taken out.new)) }
+    ensures err { IfErr result (EndsEarly
+        (MayRunIf (straight_of script.now) (F.file shelf.old journal.now) (Rose (F.faults shelf.old) (F.faults shelf.new)))
+        (K.taken out.old) (K.taken out.new) (K.faults out.old) (K.faults out.new)) }
+    ensures files { F.file shelf.new ≡ F.file shelf.old }
+    ensures later { F.faults shelf.old ≤ F.faults shelf.new }
+{
+    match straight(alloc, script)? {
+        Some(program) => replay_program(alloc, program, journal, shelf, out),
+        None => say(alloc, "! script 1 9\n", 3, out),
+    }
+}
+
+/// Replays a program over a journal.
+fn replay_program<F: Shelf, K: Sink>(
+    alloc: Global,
+    program: Program,
+    journal: &str,
+    shelf: &mut F,
+    out: &mut K,
+) -> Result<u8, Halt>
+    ensures ok { IfOk result (WritesWhole
+        (MayRun (plain_program program) (F.file shelf.old journal.now) (Rose (F.faults shelf.old) (F.faults shelf.new)))
+        (K.taken out.old) (K.taken out.new)) }
+    ensures err { IfErr result (EndsEarly
+        (MayRun (plain_program program) (F.file shelf.old journal.now) (Rose (F.faults shelf.old) (F.faults shelf.new)))
+        (K.taken out.old) (K.taken out.new) (K.faults out.old) (K.faults out.new)) }
+    ensures files { F.file shelf.new ≡ F.file shelf.old }
+    ensures later { F.faults shelf.old ≤ F.faults shelf.new }
+{
+    let mut wire = JournalWire::new(shelf, journal);
+    match drive(alloc, program, &mut wire, out) {
+        Ok(status) => Ok(status),
+        Err(halt) => match halt {
+            Halt::Wire => say(alloc, "! fault shelf\n", 9, out),
+            Halt::Memory => Err(Halt::Memory),
+            Halt::Sink => Err(Halt::Sink),
+        },
+    }
+}

@@ -1,0 +1,66 @@
+//! A script of the shelf, or why there is none.
+ghost use Rattle.std.specs.Prelude.{◌≡◌, ◌≤◌, IfOk, IfErr, string_bytes};
+ghost use Rattle.aio_machine.specs.Program.{FileSays};
+ghost use Rattle.aio_machine.specs.Transcript.{line};
+ghost use Rattle.aio_run.specs.Outcome.{EndsEarly, WritesWhole};
+ghost use Rattle.aio_run.specs.Script.{SpellsScript, IsMissing, Tells, refusal_text};
+
+use crate::halt::Halt;
+use crate::reading::{ReadFault, read_front};
+use crate::writing::say;
+use aio_script::{Program, ScriptFault, read};
+use aio_wire::{Shelf, Sink};
+use std::alloc::{AllocError, Global};
+
+/// How much of a script is read: a byte more than the longest text has.
+const FRONT: usize = 1_048_577;
+
+/// Why there is no script.
+#[derive(Clone, Copy, Debug, PartialEq, Eq)]
+pub enum NoScript {
+    /// The text has its first fault at this line, and of this cause.
+    Refused { line: u64, cause: u8 },
+    /// The shelf failed.
+    Failed,
+    Memory,
+}
+
+/// Reads a script of the shelf. Of a text that is too long it holds a byte more than the longest has.
+pub fn read_script<F: Shelf>(alloc: Global, name: &str, shelf: &mut F) -> Result<Program, NoScript>
+    ensures script { IfOk result (SpellsScript (F.file shelf.old name.now)) }
+    ensures none { IfErr result (IsMissing (F.file shelf.old name.now) (F.faults shelf.old) (F.faults shelf.new)) }
+    ensures files { F.file shelf.new ≡ F.file shelf.old }
+    ensures later { F.faults shelf.old ≤ F.faults shelf.new }
+{
+    match read_front(alloc, shelf, name, FRONT) {
+        Ok(text) => match read(alloc, text.as_slice()) {
+            Ok(script) => Ok(script),
+            Err(ScriptFault::Refused { line, cause }) => Err(NoScript::Refused { line, cause }),
+            Err(ScriptFault::Memory) => Err(NoScript::Memory),
+        },
+        Err(ReadFault::Failed) => Err(NoScript::Failed),
+        Err(ReadFault::Memory) => Err(NoScript::Memory),
+    }
+}
+
+/// Writes why there is no script.
+pub fn refuse<K: Sink>(alloc: Global, none: NoScript, out: &mut K) -> Result<u8, Halt>
+    ensures ok { IfOk result (WritesWhole (Tells none) (K.taken out.old) (K.taken out.new)) }
+    ensures err { IfErr result (EndsEarly (Tells none) (K.taken out.old) (K.taken out.new) (K.faults out.old) (K.faults out.new)) }
+    ensures later { K.faults out.old ≤ K.faults out.new }
+{
+    match none {
+        NoScript::Refused { line, cause } => {
+            let text = refusal(alloc, line, cause)?;
+            say(alloc, text.as_str(), 3, out)
+        }
+        NoScript::Failed => say(alloc, "! fault shelf\n", 9, out),
+        NoScript::Memory => Err(Halt::Memory),
+    }
+}
+
+fn refusal(alloc: Global, number: u64, cause: u8) -> Result<String, AllocError>
+    ensures { IfOk result (λ text. string_bytes text ≡ line (refusal_text number cause)) }
+{
+    format!(in alloc; "! script {number} {cause}\n")
+}
