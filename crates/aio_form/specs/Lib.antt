@@ -1,4 +1,3 @@
-pub mod Spelled
 pub mod Blocks
 pub mod Placed
 pub mod Fronts

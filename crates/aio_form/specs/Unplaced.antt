@@ -5,7 +5,7 @@ use Rattle.aio_script_model.specs.Forms as plain
 use Rattle.aio_script_model.specs.Places.{height_of_form}
 use Rattle.aio_form.specs.declared.forms.Unplaced.{Unplaced}
 use Rattle.aio_form.specs.declared.standing.Standing.{Standing}
-use Rattle.aio_form.specs.Spelled.{plain_spelled}
+use Rattle.aio_spelled.specs.Spelled.{plain_spelled}
 use Rattle.aio_form.specs.Fitting.{fitting}
 use Rattle.aio_form.specs.Placed.{standing_of}
 

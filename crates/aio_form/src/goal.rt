@@ -4,13 +4,13 @@ ghost use Rattle.std.specs.Rc.{rc_str_bytes};
 ghost use Rattle.aio_script_model.specs.Forms.{coroutine_place, goal_of};
 ghost use Rattle.aio_script_model.specs.Places.{height_of_goal};
 ghost use Rattle.aio_term.specs.Lexeme.{plain_lexeme};
-ghost use Rattle.aio_form.specs.Spelled.{plain_goal};
+ghost use Rattle.aio_spelled.specs.Spelled.{plain_goal};
 ghost use Rattle.aio_form.specs.Fitting.{fitting};
 
 use crate::fronts::{behind_name, in_parentheses};
 use crate::parts::parts;
-use crate::spelled::Goal;
 use crate::terms::arguments_of;
+use aio_spelled::Goal;
 use aio_term::Lexeme;
 use std::alloc::{AllocError, Global};
 use std::rc::RcStr;

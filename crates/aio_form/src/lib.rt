@@ -9,7 +9,6 @@ mod goal;
 mod parts;
 mod pass;
 mod places;
-mod spelled;
 mod standing;
 mod terms;
 #[cfg(test)]
@@ -17,7 +16,7 @@ mod tests;
 mod text;
 
 pub use aio_script_model::Cause;
+pub use aio_spelled::{Arguments, Goal, NumberedForm, Spelled};
 pub use aio_term::{Operand, Term};
 pub use fault::FormFault;
 pub use pass::first_pass;
-pub use spelled::{Arguments, Goal, NumberedForm, Spelled};

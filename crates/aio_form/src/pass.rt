@@ -5,7 +5,7 @@ ghost use Rattle.aio_script_model.specs.Places.{Role as PlainRole, role_of, caus
 ghost use Rattle.aio_script_model.specs.TextLines.{text_lines};
 ghost use Rattle.aio_script_model.specs.Tokens.{tokens_of};
 ghost use Rattle.aio_script_model.specs.FirstPass.{line_behind, first_pass};
-ghost use Rattle.aio_form.specs.Spelled.{plain_spelled, plain_numbered};
+ghost use Rattle.aio_spelled.specs.Spelled.{plain_spelled, plain_numbered};
 ghost use Rattle.aio_form.specs.Placed.{IsBehind};
 ghost use Rattle.aio_form.specs.Unplaced.{plain_unplaced, unplaced_of};
 ghost use Rattle.aio_form.specs.Faults.{IsFaultOf, IsCauseOf, IsCauseIn};
@@ -15,10 +15,10 @@ use crate::block::role_of;
 use crate::fault::{FormFault, LineFault};
 use crate::forms::{Unplaced, form_of};
 use crate::places::Places;
-use crate::spelled::{NumberedForm, Spelled};
 use crate::text::next_text_line;
 use aio_lex::{LexFault, TokenList, tokens};
 use aio_script_model::Cause;
+use aio_spelled::{NumberedForm, Spelled};
 use aio_term::lexemes;
 use std::alloc::Global;
 

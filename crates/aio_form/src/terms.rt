@@ -7,12 +7,12 @@ ghost use Rattle.aio_script_model.specs.Places.{heights};
 ghost use Rattle.aio_term_model.specs.Operands.{that_fits};
 ghost use Rattle.aio_term.specs.Lexeme.{plain_lexeme};
 ghost use Rattle.aio_term.specs.Operand.{plain_operand};
-ghost use Rattle.aio_form.specs.Spelled.{plain_arguments};
+ghost use Rattle.aio_spelled.specs.Spelled.{plain_arguments};
 ghost use Rattle.aio_form.specs.Fitting.{fitting, height_of_arguments};
 ghost use Rattle.aio_form.specs.Parts.{plain_part};
 
 use crate::fronts::bare_name;
-use crate::spelled::Arguments;
+use aio_spelled::Arguments;
 use aio_term::{Lexeme, Operand, Term};
 use aio_term_reader::read_term;
 use std::alloc::{AllocError, Global};

@@ -19,8 +19,8 @@ use Rattle.aio_script_model.specs.Naming.{Callee}
 use Rattle.aio_script_model.specs.Forms.{Spelled}
 use Rattle.aio_script_model.specs.FirstPass.{Numbered}
 use Rattle.aio_script_model.specs.SecondPass.{bound_by, callee}
-use Rattle.aio_form.specs.declared.spelled.NumberedForm.{NumberedForm}
-use Rattle.aio_form.specs.Spelled.{plain_spelled, plain_numbered}
+use Rattle.aio_spelled.specs.declared.spelled.NumberedForm.{NumberedForm}
+use Rattle.aio_spelled.specs.Spelled.{plain_spelled, plain_numbered}
 use Rattle.aio_naming.specs.declared.part.Part.{Part}
 use Rattle.aio_naming.specs.Parts.{plain_parts}
 use Rattle.aio_naming.specs.Scope.{Holds, FindsFirst, with_arity}

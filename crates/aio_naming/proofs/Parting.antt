@@ -6,8 +6,8 @@ use Rattle.aio_script_model.specs.Forms.{Spelled}
 use Rattle.aio_script_model.specs.FirstPass.{Numbered}
 use Rattle.aio_script_model.specs.SecondPass as plain
 use Rattle.aio_script_model.specs.SecondPass.{Parts, before_parts, parts_of}
-use Rattle.aio_form.specs.declared.spelled.NumberedForm.{NumberedForm}
-use Rattle.aio_form.specs.Spelled.{plain_spelled, plain_numbered}
+use Rattle.aio_spelled.specs.declared.spelled.NumberedForm.{NumberedForm}
+use Rattle.aio_spelled.specs.Spelled.{plain_spelled, plain_numbered}
 use Rattle.aio_naming.specs.declared.part.Part.{Part}
 use Rattle.aio_naming.specs.Parts.{plain_part, plain_parts}
 use Rattle.aio_naming.proofs.Names.{drop-before}

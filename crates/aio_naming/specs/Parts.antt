@@ -5,7 +5,7 @@ use Rattle.std.specs.Rc.{rc_str_bytes}
 use Rattle.aio_script_model.specs.Forms.{Spelled}
 use Rattle.aio_script_model.specs.FirstPass.{Numbered}
 use Rattle.aio_script_model.specs.SecondPass as plain
-use Rattle.aio_form.specs.Spelled.{plain_numbered}
+use Rattle.aio_spelled.specs.Spelled.{plain_numbered}
 use Rattle.aio_naming.specs.declared.part.Part.{Part}
 
 abbrev pub plain_part : Part → plain.Part (Numbered Spelled)

@@ -4,10 +4,10 @@ ghost use Rattle.aio_script_model.specs.Forms.{Spelled as PlainSpelled};
 ghost use Rattle.aio_script_model.specs.FirstPass.{Numbered};
 ghost use Rattle.aio_script_model.specs.SecondPass.{Part as PlainPart, Parts, before_parts, parts_of};
 ghost use Rattle.aio_script_model.specs.Scripts.{profile_in};
-ghost use Rattle.aio_form.specs.Spelled.{plain_spelled, plain_numbered};
+ghost use Rattle.aio_spelled.specs.Spelled.{plain_spelled, plain_numbered};
 ghost use Rattle.aio_naming.specs.Parts.{plain_part, plain_parts, lines_before};
 
-use aio_form::{NumberedForm, Spelled};
+use aio_spelled::{NumberedForm, Spelled};
 use std::alloc::{AllocError, Global};
 use std::rc::RcStr;
 

@@ -5,14 +5,14 @@ ghost use Rattle.std.specs.Rc.{rc_str_bytes};
 ghost use Rattle.aio_script_model.specs.Syntax.{Name};
 ghost use Rattle.aio_script_model.specs.Naming.{is_variable, callee_of};
 ghost use Rattle.aio_script_model.specs.SecondPass.{bound_by, variables_in};
-ghost use Rattle.aio_form.specs.Spelled.{plain_spelled};
+ghost use Rattle.aio_spelled.specs.Spelled.{plain_spelled};
 ghost use Rattle.aio_naming.specs.Parts.{plain_part};
 ghost use Rattle.aio_naming.specs.Scope.{Holds, with_arity};
 
 use crate::callees::Callees;
 use crate::known::is_taken;
 use crate::part::Part;
-use aio_form::Spelled;
+use aio_spelled::Spelled;
 use std::alloc::{AllocError, Global};
 use std::collections::BTreeSet;
 use std::marker::Model;

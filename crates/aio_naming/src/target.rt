@@ -5,7 +5,7 @@ ghost use Rattle.aio_script_model.specs.Syntax.{Exprs, exprs, Target as PlainTar
 ghost use Rattle.aio_script_model.specs.Known.{request_of};
 ghost use Rattle.aio_script_model.specs.Naming.{both, if_known, if_arity, is_variable, all_meant, counted, missing, callee_of, passed};
 ghost use Rattle.aio_script_model.specs.Naming.{request_target, spawn_target, create_by, create_target, listen_by, listen_target, called_target, target_of};
-ghost use Rattle.aio_form.specs.Spelled.{plain_goal};
+ghost use Rattle.aio_spelled.specs.Spelled.{plain_goal};
 ghost use Rattle.aio_program.specs.Target.{plain_target};
 ghost use Rattle.aio_naming.specs.Gives.{Gives, Fails};
 
@@ -14,9 +14,9 @@ use crate::fault::MeaningFault;
 use crate::known::{request_arity, request_of};
 use crate::meaning::{all_meant, one_argument};
 use crate::scope::Scope;
-use aio_form::{Arguments, Goal};
 use aio_program::Target;
 use aio_script_model::{Cause, RequestName};
+use aio_spelled::{Arguments, Goal};
 use aio_syntax::ExprList;
 use aio_term::Term;
 use std::alloc::Global;

@@ -1,8 +1,8 @@
 // Scripts by the forms of their lines, and what the second pass tells of them, all worked out by hand from the rules.
 use crate::known::{function_of, is_taken, kind_of_name, request_arity, request_of};
 use crate::{profile_of, second_pass};
-use aio_form::{Arguments, Goal, NumberedForm, Spelled};
 use aio_script_model::{Function, RequestName};
+use aio_spelled::{Arguments, Goal, NumberedForm, Spelled};
 use aio_syntax::Constant;
 use aio_term::{Term, TermList};
 use aio_value_model::Kind;

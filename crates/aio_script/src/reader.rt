@@ -1,6 +1,6 @@
 //! From a text to the program that it spells.
 ghost use Rattle.std.specs.Prelude.{◌≡◌, Ok, IfOk, IfErr, map};
-ghost use Rattle.aio_form.specs.Spelled.{plain_numbered};
+ghost use Rattle.aio_spelled.specs.Spelled.{plain_numbered};
 ghost use Rattle.aio_program.specs.Line.{plain_part};
 ghost use Rattle.aio_script.specs.Fault.{IsFaultOf};
 ghost use Rattle.aio_script_model.specs.Scripts.{coroutine, script_of, script_of_parts};
@@ -8,10 +8,11 @@ ghost use Rattle.aio_script_model.specs.SecondPass.{parts_of};
 
 use crate::fault::{ScriptFault, cause_number};
 use crate::lines::line_count;
-use aio_form::{NumberedForm, first_pass};
+use aio_form::first_pass;
 use aio_naming::{profile_of, second_pass};
 use aio_program::{Coroutine, NamedPart, Program, body_of};
 use aio_script_model::Cause;
+use aio_spelled::NumberedForm;
 use std::alloc::{AllocError, Global};
 
 /// The longest text of a script, in bytes.

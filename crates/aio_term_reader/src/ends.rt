@@ -13,7 +13,7 @@ ghost use Rattle.aio_term_reader.specs.Next.{come};
 ghost use Rattle.aio_term_reader.specs.Reader.{plain_bracket};
 
 use crate::pending::{Loose, Tight, disjunction_of, no_loose};
-use crate::reader::{Bracket, Open, Place, Progress, at, before};
+use crate::reader::{Bracket, Open, Place, Progress, at, before, forget, forget_loose};
 use aio_term::{Join, Operand, Symbol, Term, TermList, all_that_fit, capped, joined};
 use std::alloc::{AllocError, Global};
 use std::rc::RcStr;
@@ -24,8 +24,14 @@ pub fn ended(alloc: Global, progress: Progress) -> Result<Option<Operand>, Alloc
 {
     match progress.place() {
         Place::Start => Ok(None),
-        Place::AtNot(_loose) => Ok(None),
-        Place::AtOperand(_loose, _tight) => Ok(None),
+        Place::AtNot(loose) => {
+            forget_loose(loose);
+            Ok(None)
+        }
+        Place::AtOperand(loose, tight) => {
+            forget(loose, tight);
+            Ok(None)
+        }
         Place::BehindName(loose, tight, name) => ended_by(alloc, loose, tight, named(name)),
         Place::BehindOperand(loose, tight, operand) => ended_by(alloc, loose, tight, operand),
         Place::AtKind => Ok(None),
@@ -104,8 +110,14 @@ fn parted_arguments(
 {
     match progress.place() {
         Place::Start => Ok(None),
-        Place::AtNot(_loose) => Ok(None),
-        Place::AtOperand(_loose, _tight) => Ok(None),
+        Place::AtNot(loose) => {
+            forget_loose(loose);
+            Ok(None)
+        }
+        Place::AtOperand(loose, tight) => {
+            forget(loose, tight);
+            Ok(None)
+        }
         Place::BehindName(loose, tight, argument) => with_argument(
             alloc,
             name,
@@ -186,9 +198,16 @@ fn parted_open(
     ensures { IfOk result (λ behind. behind ≡ parted_open innermost progress) }
 {
     let (bracket, loose, tight) = innermost.parts();
-    match parted(alloc, bracket, progress)? {
-        Some(bracket) => Ok(Some(before(bracket, loose, tight))),
-        None => Ok(None),
+    match parted(alloc, bracket, progress) {
+        Ok(Some(bracket)) => Ok(Some(before(bracket, loose, tight))),
+        Ok(None) => {
+            forget(loose, tight);
+            Ok(None)
+        }
+        Err(refused) => {
+            forget(loose, tight);
+            Err(refused)
+        }
     }
 }
 
@@ -324,8 +343,14 @@ fn whole(alloc: Global, bracket: Bracket, progress: Progress) -> Result<Option<O
 {
     match progress.place() {
         Place::Start => empty(alloc, bracket),
-        Place::AtNot(_loose) => Ok(unfinished(bracket)),
-        Place::AtOperand(_loose, _tight) => Ok(unfinished(bracket)),
+        Place::AtNot(loose) => {
+            forget_loose(loose);
+            Ok(unfinished(bracket))
+        }
+        Place::AtOperand(loose, tight) => {
+            forget(loose, tight);
+            Ok(unfinished(bracket))
+        }
         Place::BehindName(loose, tight, name) => filled_by(
             alloc,
             bracket,
@@ -408,8 +433,15 @@ fn closed_by(
     ensures { IfOk result (λ reached. reached ≡ option_map (λ operand. BehindOperand innermost.loose innermost.tight operand) (whole innermost.bracket progress)) }
 {
     let (bracket, loose, tight) = innermost.parts();
-    match whole(alloc, bracket, progress)? {
-        Some(operand) => Ok(Some(at(Place::BehindOperand(loose, tight, operand)))),
-        None => Ok(None),
+    match whole(alloc, bracket, progress) {
+        Ok(Some(operand)) => Ok(Some(at(Place::BehindOperand(loose, tight, operand)))),
+        Ok(None) => {
+            forget(loose, tight);
+            Ok(None)
+        }
+        Err(refused) => {
+            forget(loose, tight);
+            Err(refused)
+        }
     }
 }

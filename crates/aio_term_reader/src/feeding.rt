@@ -17,7 +17,9 @@ use crate::pending::{
     Loose, Tight, behind_and, behind_compared, behind_minus, behind_not, behind_or, behind_product,
     behind_sum, no_loose, no_tight,
 };
-use crate::reader::{Bracket, Next, Open, Place, Progress, at, goes, opens};
+use crate::reader::{
+    Bracket, Next, Open, Place, Progress, at, forget, forget_loose, forget_operand, goes, opens,
+};
 use aio_term::{Comparison, Constant, Lexeme, Operand, Operator, ReservedWord, Symbol, Term};
 use std::alloc::{AllocError, Global};
 use std::rc::RcStr;
@@ -68,16 +70,28 @@ fn at_operand(
 fn behind_new_name(loose: Loose, tight: Tight, name: &RcStr) -> Result<Next, AllocError>
     ensures { IfOk result (λ next. (opened : List OpenBracket) → applied next opened ≡ reading (BehindName loose tight (rc_str_bytes name.now)) opened) }
 {
-    let name = name.clone()?;
-    Ok(goes(Place::BehindName(loose, tight, name)))
+    match name.clone() {
+        Ok(name) => Ok(goes(Place::BehindName(loose, tight, name))),
+        Err(refused) => {
+            forget(loose, tight);
+            Err(refused)
+        }
+    }
 }
 
 fn behind_atom(loose: Loose, tight: Tight, lexeme: &Lexeme) -> Result<Next, AllocError>
     ensures { IfOk result (λ next. (opened : List OpenBracket) → applied next opened ≡ option_and_then (λ term. reading (BehindOperand loose tight (Fits term)) opened) (atom (plain_lexeme lexeme.now))) }
 {
-    match atom(lexeme)? {
-        Some(term) => Ok(goes(Place::BehindOperand(loose, tight, Operand::Fits(term)))),
-        None => Ok(Next::Fails),
+    match atom(lexeme) {
+        Ok(Some(term)) => Ok(goes(Place::BehindOperand(loose, tight, Operand::Fits(term)))),
+        Ok(None) => {
+            forget(loose, tight);
+            Ok(Next::Fails)
+        }
+        Err(refused) => {
+            forget(loose, tight);
+            Err(refused)
+        }
     }
 }
 
@@ -98,15 +112,23 @@ fn at_operand_sign(
             tight,
             at(Place::Start),
         )),
-        _ => Ok(Next::Fails),
+        _ => {
+            forget(loose, tight);
+            Ok(Next::Fails)
+        }
     }
 }
 
 fn minus(loose: Loose, tight: Tight) -> Result<Next, AllocError>
     ensures { IfOk result (λ next. (opened : List OpenBracket) → applied next opened ≡ reading (AtOperand loose (record tight { minuses = suc tight.minuses })) opened) }
 {
-    let tight = behind_minus(tight)?;
-    Ok(goes(Place::AtOperand(loose, tight)))
+    match behind_minus(tight) {
+        Ok(tight) => Ok(goes(Place::AtOperand(loose, tight))),
+        Err(refused) => {
+            forget_loose(loose);
+            Err(refused)
+        }
+    }
 }
 
 /// Where `not` may stand too.
@@ -127,6 +149,15 @@ fn denial(loose: Loose) -> Result<Next, AllocError>
 }
 
 // ---- behind an operand
+
+/// It is no expression: what is pending is let go.
+fn fails(loose: Loose, tight: Tight, operand: Operand) -> Next
+    ensures { (opened : List OpenBracket) → applied result opened ≡ None }
+{
+    forget(loose, tight);
+    forget_operand(operand);
+    Next::Fails
+}
 
 /// An operator between operands, by its level.
 #[derive(Clone, Copy)]
@@ -179,9 +210,16 @@ fn infixed(
 ) -> Result<Next, AllocError>
     ensures { IfOk result (λ next. (opened : List OpenBracket) → applied next opened ≡ option_and_then (λ pending. reading (AtOperand loose pending) opened) (behind_infix tight (plain_operand operand) (plain_infix operator))) }
 {
-    match behind_infix(alloc, tight, operand, operator)? {
-        Some(pending) => Ok(goes(Place::AtOperand(loose, pending))),
-        None => Ok(Next::Fails),
+    match behind_infix(alloc, tight, operand, operator) {
+        Ok(Some(pending)) => Ok(goes(Place::AtOperand(loose, pending))),
+        Ok(None) => {
+            forget_loose(loose);
+            Ok(Next::Fails)
+        }
+        Err(refused) => {
+            forget_loose(loose);
+            Err(refused)
+        }
     }
 }
 
@@ -195,7 +233,7 @@ fn infixed_by(
     ensures { IfOk result (λ next. (opened : List OpenBracket) → applied next opened ≡ option_and_then (λ pending. reading (AtOperand loose pending) opened) (option_and_then (behind_infix tight (plain_operand operand)) (infix_of symbol))) }
 {
     match infix_of(symbol) {
-        None => Ok(Next::Fails),
+        None => Ok(fails(loose, tight, operand)),
         Some(operator) => infixed(alloc, loose, tight, operand, operator),
     }
 }
@@ -227,9 +265,9 @@ fn behind_operand(
     match lexeme {
         Lexeme::Reserved(word) => at_word(alloc, loose, tight, operand, *word),
         Lexeme::Sign(symbol) => at_symbol(alloc, loose, tight, operand, *symbol),
-        Lexeme::Named(_) | Lexeme::Number(_) | Lexeme::Texts(_) | Lexeme::Octets(_) => Ok(
-            Next::Fails,
-        ),
+        Lexeme::Named(_) | Lexeme::Number(_) | Lexeme::Texts(_) | Lexeme::Octets(_) => Ok(fails(
+            loose, tight, operand,
+        )),
     }
 }
 
@@ -245,7 +283,7 @@ fn at_word(
     match word {
         ReservedWord::Or => disjunction(alloc, loose, tight, operand),
         ReservedWord::And => conjunction(alloc, loose, tight, operand),
-        _ => Ok(Next::Fails),
+        _ => Ok(fails(loose, tight, operand)),
     }
 }
 

@@ -181,10 +181,10 @@ pub fn forget(loose: Loose, tight: Tight) {
     forget_tight(tight);
 }
 
-fn forget_loose(_loose: Loose) {}
+pub fn forget_loose(_loose: Loose) {}
 
 fn forget_tight(_tight: Tight) {}
 
 fn forget_bracket(_bracket: Bracket) {}
 
-fn forget_operand(_operand: Operand) {}
+pub fn forget_operand(_operand: Operand) {}

@@ -1,5 +1,5 @@
 use Rattle.std.proofs.Common.{option_map, sym, ◌∙◌}
-use Rattle.aio_form.specs.Spelled.{plain_spelled}
+use Rattle.aio_spelled.specs.Spelled.{plain_spelled}
 use Rattle.aio_form.proofs.ReadLemmas.{return-read}
 use Rattle.aio_form.proofs.forms.return_form.Goals as goal
 

@@ -1,7 +1,7 @@
 use Rattle.std.proofs.Common.{option_map, map, ap, sym, ◌∙◌}
 use Rattle.std.specs.Rc.{rc_str_bytes}
 use Rattle.aio_term.specs.Lexeme.{plain_lexeme}
-use Rattle.aio_form.specs.Spelled.{plain_goal, plain_spelled}
+use Rattle.aio_spelled.specs.Spelled.{plain_goal, plain_spelled}
 use Rattle.aio_form.proofs.ReadLemmas.{yield_from-read}
 use Rattle.aio_form.proofs.forms.yield_from.Goals as goal
 

@@ -2,7 +2,7 @@
 use Rattle.std.proofs.Common.{◌≡◌, ◌+◌, ◌≤◌, length, map}
 use Rattle.aio_script_model.specs.TextLines.{text_lines}
 use Rattle.aio_script_model.specs.FirstPass.{first_pass, forms_from}
-use Rattle.aio_form.specs.Spelled.{plain_numbered}
+use Rattle.aio_spelled.specs.Spelled.{plain_numbered}
 use Rattle.aio_form.specs.Placed.{IsBehind}
 use Rattle.aio_form.specs.Behind.{roles_of}
 use Rattle.aio_form.proofs.PassLemmas.{before_all}

@@ -1,6 +1,6 @@
 use Rattle.std.proofs.Common.{◌≡◌, ◌+◌, ◌-◌, ◌≤◌, length, ◌∷◌, take, drop, map, reverse, ap, sym, ◌∙◌, arith}
 use Rattle.std.specs.Prelude.{slice_range}
-use Rattle.aio_form.specs.Spelled.{plain_numbered}
+use Rattle.aio_spelled.specs.Spelled.{plain_numbered}
 use Rattle.aio_naming.specs.Parts.{plain_part, plain_parts}
 use Rattle.aio_naming.proofs.Parting.{parts_in, range-before, parts-before, parts-headed, plain_parts-reverse}
 use Rattle.aio_naming.proofs.part.parts_of.Goals as goal

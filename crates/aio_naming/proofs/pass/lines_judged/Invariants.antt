@@ -1,6 +1,6 @@
 use Rattle.std.proofs.Common.{◌≡◌, drop, map}
 use Rattle.aio_script_model.specs.SecondPass.{lines_judged}
-use Rattle.aio_form.specs.Spelled.{plain_numbered}
+use Rattle.aio_spelled.specs.Spelled.{plain_numbered}
 use Rattle.aio_program.specs.Line.{plain_line}
 use Rattle.aio_naming.proofs.Judged.{after}
 use Rattle.aio_naming.proofs.pass.lines_judged.Given as goal

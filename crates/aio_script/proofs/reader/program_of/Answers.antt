@@ -1,5 +1,5 @@
 use Rattle.std.proofs.Common.{map}
-use Rattle.aio_form.specs.Spelled.{plain_numbered}
+use Rattle.aio_spelled.specs.Spelled.{plain_numbered}
 use Rattle.aio_script_model.specs.SecondPass.{parts_of}
 use Rattle.aio_script.proofs.Reading.{from_parts}
 use Rattle.aio_script.proofs.reader.program_of.Goals as goal

@@ -1,7 +1,7 @@
 use Rattle.std.proofs.Common.{arith, ◌+◌, ◌∙◌, ap, map, ℕ, List, sym, subst}
 use Rattle.std.proofs.lemmas.Result.{IfErr-weaker, IfOk-weaker}
-use Rattle.aio_form.specs.Spelled.{plain_numbered}
-use Rattle.aio_form.specs.declared.spelled.NumberedForm.{NumberedForm}
+use Rattle.aio_spelled.specs.Spelled.{plain_numbered}
+use Rattle.aio_spelled.specs.declared.spelled.NumberedForm.{NumberedForm}
 use Rattle.aio_script_model.specs.declared.cause.Cause.TheVariants.{TooLong}
 use Rattle.aio_script_model.specs.Scripts.{script_of_parts}
 use Rattle.aio_script_model.specs.SecondPass.{Judged, parts_of}

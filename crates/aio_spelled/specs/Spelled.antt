@@ -5,12 +5,12 @@ use Rattle.std.specs.Rc.{rc_str_bytes}
 use Rattle.aio_script_model.specs.Levels as levels
 use Rattle.aio_script_model.specs.Forms as plain
 use Rattle.aio_script_model.specs.FirstPass.{Numbered}
-use Rattle.aio_form.specs.declared.spelled.Arguments.{Arguments}
-use Rattle.aio_form.specs.declared.spelled.Goal.{Goal}
-use Rattle.aio_form.specs.declared.spelled.Goal.TheVariants.{Awaited, Asked}
-use Rattle.aio_form.specs.declared.spelled.Spelled.{Spelled}
-use Rattle.aio_form.specs.declared.spelled.Spelled.TheVariants.{Profile, Def, Assign, Yield, YieldFrom, Print, Raise, Return, Pass, If, Else, While, Try, Except, Finally, WithGroup, WithTimeout, End}
-use Rattle.aio_form.specs.declared.spelled.NumberedForm.{NumberedForm}
+use Rattle.aio_spelled.specs.declared.spelled.Arguments.{Arguments}
+use Rattle.aio_spelled.specs.declared.spelled.Goal.{Goal}
+use Rattle.aio_spelled.specs.declared.spelled.Goal.TheVariants.{Awaited, Asked}
+use Rattle.aio_spelled.specs.declared.spelled.Spelled.{Spelled}
+use Rattle.aio_spelled.specs.declared.spelled.Spelled.TheVariants.{Profile, Def, Assign, Yield, YieldFrom, Print, Raise, Return, Pass, If, Else, While, Try, Except, Finally, WithGroup, WithTimeout, End}
+use Rattle.aio_spelled.specs.declared.spelled.NumberedForm.{NumberedForm}
 
 abbrev pub plain_arguments : Arguments → levels.Arguments
 plain_arguments arguments =
