@@ -5,8 +5,8 @@ use Rattle.std.specs.declared.rc.RcStr.{RcStr}
 use Rattle.std.specs.declared.rc.RcSlice.{RcSlice}
 use Rattle.std.specs.declared.alloc.Global.{Global}
 use Rattle.std.specs.Rc.{rc_str_bytes, rc_slice_items}
-use Rattle.aio_value_model.specs.declared.kind.Kind.{Kind}
-use Rattle.aio_value_model.specs.Value.{Exc, exc, Excs, no_excs, excs}
+use Rattle.model_value.specs.declared.kind.Kind.{Kind}
+use Rattle.model_value.specs.Value.{Exc, exc, Excs, no_excs, excs}
 
 abbrev pub text_held : Option (RcStr Global) → List ℕ
 text_held None = []

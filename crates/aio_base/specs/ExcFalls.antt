@@ -6,10 +6,10 @@ use Rattle.std.specs.declared.rc.RcSlice.{RcSlice}
 use Rattle.std.specs.declared.alloc.Global.{Global}
 use Rattle.std.proofs.Common.{arith}
 use denote.Param.Weighed.{most}
-use Rattle.aio_value_model.specs.declared.kind.Kind.{Kind}
-use Rattle.aio_value_model.specs.Value.{Exc}
+use Rattle.model_value.specs.declared.kind.Kind.{Kind}
+use Rattle.model_value.specs.Value.{Exc}
 use Rattle.aio_base.specs.declared.exc.Exc.TheDeep.{deep-Exc}
-use Rattle.aio_value_model.specs.Size.{exc_size, excs_size}
+use Rattle.aio_base.specs.Size.{exc_size, excs_size}
 use Rattle.aio_base.specs.Exc.{exc_of}
 
 pub members_fall : (kind : Kind) (text : Option (RcStr Global)) (bytes : Option (RcSlice ℕ Global)) (members : Option (Rc (List Exc) Global)) → deep-Exc (record { kind = kind; text = text; bytes = bytes; members = members }) ≤ exc_size (exc_of kind text bytes members)

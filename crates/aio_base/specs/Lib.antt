@@ -3,3 +3,5 @@ pub mod ExcFalls
 pub mod Value
 pub mod ValueFalls
 pub mod ValueCase
+pub mod Code
+pub mod Size

@@ -1,6 +1,6 @@
 -- The value that a case, with what it lends, stands for.
 use Rattle.std.specs.Rc.{rc_str_bytes, rc_slice_items}
-use Rattle.aio_value_model.specs.Value.{Value, Nothing, Truth, Int, Text, Bytes, Items, Fut, Task, Group, Timeout, Conn, Server, Child, Errs, Exception, values}
+use Rattle.model_value.specs.Value.{Value, Nothing, Truth, Int, Text, Bytes, Items, Fut, Task, Group, Timeout, Conn, Server, Child, Errs, Exception, values}
 use Rattle.aio_base.specs.declared.value.ValueCase.{ValueCase}
 use Rattle.aio_base.specs.declared.value.ValueCase.TheVariants as case
 

@@ -2,11 +2,11 @@
 use Rattle.std.specs.Prelude.{◌+◌, ◌≤◌, max, List, [], ◌∷◌}
 use Rattle.std.proofs.Common.{arith}
 use denote.Param.Weighed.{most}
-use Rattle.aio_value_model.specs.Value.{Value}
+use Rattle.model_value.specs.Value.{Value}
 use Rattle.aio_base.specs.declared.value.Case.{Case}
 use Rattle.aio_base.specs.declared.value.Case.TheVariants as case
 use Rattle.aio_base.specs.declared.value.Value.TheDeep.{deep-Case}
-use Rattle.aio_value_model.specs.Size.{value_size, list_size}
+use Rattle.aio_base.specs.Size.{value_size, list_size}
 use Rattle.aio_base.specs.Value.{value_of}
 
 pub case_falls : (c : Case) → max (deep-Case c) 0 ≤ value_size (value_of c)

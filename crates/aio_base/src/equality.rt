@@ -1,8 +1,8 @@
 //! When `==` finds two values equal.
 ghost use Rattle.std.specs.Prelude.{◌≡◌, ◌&&◌, bytes_eq};
-ghost use Rattle.aio_value_model.specs.Kinds.{same_kind};
-ghost use Rattle.aio_value_model.specs.Value.{values, excs, kind_of, text_of, bytes_of};
-ghost use Rattle.aio_value_model.specs.Equality.{equal, same_items, same_exc, same_members};
+ghost use Rattle.model_value.specs.Kinds.{same_kind};
+ghost use Rattle.model_value.specs.Value.{values, excs, kind_of, text_of, bytes_of};
+ghost use Rattle.model_value.specs.Equality.{equal, same_items, same_exc, same_members};
 
 use crate::exc::Exc;
 use crate::value::{Value, ValueCase};

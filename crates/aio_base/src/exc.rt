@@ -1,10 +1,10 @@
 //! The exceptions of scripts.
 ghost use Rattle.std.specs.Prelude.{◌≡◌, [], IfOk};
-ghost use Rattle.aio_value_model.specs.Value.{kind_of, text_of, bytes_of, members_of, with_bytes, with_members, exception_of};
 ghost use Rattle.std.specs.Rc.{rc_slice_items};
+ghost use Rattle.model_value.specs.Value.{kind_of, text_of, bytes_of, members_of, with_bytes, with_members, exception_of};
 
 use crate::memory::Memory;
-use aio_value_model::Kind;
+use model_value::Kind;
 use std::alloc::{AllocError, Global};
 use std::marker::Model;
 use std::rc::{Rc, RcSlice, RcStr};
@@ -28,14 +28,14 @@ pub struct ExcList {
 }
 
 impl Model for Exc {
-    ghost use Rattle.aio_value_model.specs.Value as plain;
-    ghost use Rattle.aio_value_model.specs.Code.{coded_exc};
+    ghost use Rattle.model_value.specs.Value as plain;
+    ghost use Rattle.aio_base.specs.Code.{coded_exc};
 
     ghost Value = { plain.Exc };
 
     ghost coded = { coded_exc };
 
-    ghost use Rattle.aio_value_model.specs.Size.{exc_size};
+    ghost use Rattle.aio_base.specs.Size.{exc_size};
     ghost use Rattle.aio_base.specs.Exc.{exc_of};
 
     ghost view = { λ a. exc_of a.kind a.text a.bytes a.members };
@@ -50,14 +50,14 @@ impl Model for Exc {
 impl Model for ExcList {
     ghost use Rattle.std.specs.Prelude.{List};
     ghost use Rattle.std.specs.Coded.{coded_list};
-    ghost use Rattle.aio_value_model.specs.Value as plain;
-    ghost use Rattle.aio_value_model.specs.Code.{coded_exc};
+    ghost use Rattle.model_value.specs.Value as plain;
+    ghost use Rattle.aio_base.specs.Code.{coded_exc};
 
     ghost Value = { List plain.Exc };
 
     ghost coded = { coded_list coded_exc };
 
-    ghost use Rattle.aio_value_model.specs.Size.{excs_size};
+    ghost use Rattle.aio_base.specs.Size.{excs_size};
 
     ghost view = { λ a. a.items.items };
 
@@ -105,7 +105,7 @@ impl Exc {
         }
     }
 
-    #[tactic(auto, using(aio_value_model::proofs::Rows::rows))]
+    #[tactic(auto, using(law_value::proofs::Rows::rows))]
     pub fn members(&self) -> &[Exc]
         ensures { result.now ≡ members_of self.now }
     {

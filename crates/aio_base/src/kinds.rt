@@ -1,11 +1,11 @@
 //! The tree of kinds, and the kinds' names.
 ghost use Rattle.std.specs.Prelude.{◌≡◌, [], ◌∷◌};
 ghost use Rattle.std.specs.Option.{option_map_or};
-ghost use Rattle.aio_value_model.specs.Kinds.{lineage, kind_name, matches};
-ghost use Rattle.aio_value_model.specs.Value.{kind_of};
+ghost use Rattle.model_value.specs.Kinds.{lineage, kind_name, matches};
+ghost use Rattle.model_value.specs.Value.{kind_of};
 
 use crate::exc::Exc;
-use aio_value_model::Kind;
+use model_value::Kind;
 
 /// Whether `except kind` takes this exception: `kind` is the exception's kind or one of its ancestors.
 pub fn kind_matches(kind: Kind, exc: &Exc) -> bool

@@ -14,7 +14,7 @@ mod text;
 mod value;
 mod weigh;
 
-pub use aio_value_model::{Circle, Kind, Place};
+pub use model_value::{Circle, Kind, Place};
 pub use blob::Blob;
 pub use equality::{equal, equal_excs};
 pub use exc::{Exc, ExcList, exception};

@@ -1,9 +1,9 @@
 //! The text of literals, and of texts that are printed without quotes.
 ghost use Rattle.std.specs.Prelude.{◌≡◌, ◌++◌, ◌<◌, OnOk, IfSome};
-ghost use Rattle.aio_value_model.specs.Escapes.{escaped, escaped_byte, hex_digit, hex_escape, text_literal, bytes_literal};
+ghost use Rattle.model_value.specs.Escapes.{escaped, escaped_byte, hex_digit, hex_escape, text_literal, bytes_literal};
 
 use crate::memory::Memory;
-use aio_value_model::Place;
+use model_value::Place;
 
 /// Appends `"..."`. On `Memory` a front of it may stand there.
 pub fn push_text_literal(text: &str, out: &mut Vec<u8>) -> Result<(), Memory>

@@ -1,7 +1,7 @@
 //! How deep values nest.
 ghost use Rattle.std.specs.Prelude.{◌≡◌, ◌-◌, ◌^◌, min};
-ghost use Rattle.aio_value_model.specs.Value.{values, excs};
-ghost use Rattle.aio_value_model.specs.Depth.{depth_of, items_depth, exc_depth, members_depth};
+ghost use Rattle.model_value.specs.Value.{values, excs};
+ghost use Rattle.model_value.specs.Depth.{depth_of, items_depth, exc_depth, members_depth};
 
 use crate::exc::Exc;
 use crate::value::{Value, ValueCase};

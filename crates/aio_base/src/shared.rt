@@ -5,16 +5,16 @@ use crate::exc::Exc;
 use crate::value::{Value, ValueList};
 
 /// What a coroutine is resumed with.
-pub type Input = aio_value_model::Input<Value, Exc>;
+pub type Input = model_value::Input<Value, Exc>;
 
 /// How a future ends.
-pub type Outcome = aio_value_model::Outcome<Value, Exc>;
+pub type Outcome = model_value::Outcome<Value, Exc>;
 
 /// What a coroutine asks of the loop.
-pub type Request = aio_value_model::Request<Value, ValueList, Exc>;
+pub type Request = model_value::Request<Value, ValueList, Exc>;
 
 /// What a handle runs.
-pub type Action = aio_value_model::Action<Blob>;
+pub type Action = model_value::Action<Blob>;
 
 /// What a child or one of its pipes tells.
-pub type ChildItem = aio_value_model::ChildItem<Blob>;
+pub type ChildItem = model_value::ChildItem<Blob>;

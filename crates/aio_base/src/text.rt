@@ -1,14 +1,14 @@
 //! The text of values, as `print` and `str` give it.
 ghost use Rattle.std.specs.Prelude.{◌≡◌, ◌++◌, OnOk, OnErr};
-ghost use Rattle.aio_value_model.specs.Value.{values, excs};
-ghost use Rattle.aio_value_model.specs.Shown.{shown, shown_exc, shown_members, quoted, quoted_items, id_text};
+ghost use Rattle.model_value.specs.Value.{values, excs};
+ghost use Rattle.model_value.specs.Shown.{shown, shown_exc, shown_members, quoted, quoted_items, id_text};
 
 use crate::exc::Exc;
 use crate::kinds::name_of;
 use crate::literal::{push_bytes_literal, push_escaped, push_text_literal};
 use crate::memory::Memory;
 use crate::value::{Value, ValueCase};
-use aio_value_model::{Kind, Place};
+use model_value::{Kind, Place};
 use std::alloc::Global;
 
 /// Appends the value's text. Values nest at most as deep as scripts may build them, which is 64.

@@ -1,7 +1,7 @@
 //! The values of scripts.
 ghost use Rattle.std.specs.Prelude.{◌≡◌, IfOk};
 ghost use Rattle.std.specs.Rc.{rc_str_bytes, rc_slice_items};
-ghost use Rattle.aio_value_model.specs.Value.{Nothing, Truth, Int, Text, Bytes, Items, Fut, Task, Group, Timeout, Conn, Server, Child, Errs, Exception, values};
+ghost use Rattle.model_value.specs.Value.{Nothing, Truth, Int, Text, Bytes, Items, Fut, Task, Group, Timeout, Conn, Server, Child, Errs, Exception, values};
 ghost use Rattle.aio_base.specs.ValueCase.{value_of_case};
 
 use crate::exc::Exc;
@@ -45,14 +45,14 @@ pub struct ValueList {
 }
 
 impl Model for Value {
-    ghost use Rattle.aio_value_model.specs.Value as plain;
-    ghost use Rattle.aio_value_model.specs.Code.{coded_value};
+    ghost use Rattle.model_value.specs.Value as plain;
+    ghost use Rattle.aio_base.specs.Code.{coded_value};
 
     ghost Value = { plain.Value };
 
     ghost coded = { coded_value };
 
-    ghost use Rattle.aio_value_model.specs.Size.{value_size};
+    ghost use Rattle.aio_base.specs.Size.{value_size};
     ghost use Rattle.aio_base.specs.Value.{value_of};
 
     ghost view = { λ a. value_of a.case };
@@ -67,14 +67,14 @@ impl Model for Value {
 impl Model for ValueList {
     ghost use Rattle.std.specs.Prelude.{List};
     ghost use Rattle.std.specs.Coded.{coded_list};
-    ghost use Rattle.aio_value_model.specs.Value as plain;
-    ghost use Rattle.aio_value_model.specs.Code.{coded_value};
+    ghost use Rattle.model_value.specs.Value as plain;
+    ghost use Rattle.aio_base.specs.Code.{coded_value};
 
     ghost Value = { List plain.Value };
 
     ghost coded = { coded_list coded_value };
 
-    ghost use Rattle.aio_value_model.specs.Size.{list_size};
+    ghost use Rattle.aio_base.specs.Size.{list_size};
 
     ghost view = { λ a. a.items.items };
 

@@ -1,7 +1,7 @@
 //! How much values weigh.
 ghost use Rattle.std.specs.Prelude.{◌≡◌, ◌-◌, ◌^◌, min};
-ghost use Rattle.aio_value_model.specs.Value.{values, excs};
-ghost use Rattle.aio_value_model.specs.Weight.{weight_of, items_weight, exc_weight, members_weight};
+ghost use Rattle.model_value.specs.Value.{values, excs};
+ghost use Rattle.model_value.specs.Weight.{weight_of, items_weight, exc_weight, members_weight};
 
 use crate::exc::Exc;
 use crate::value::{Value, ValueCase};

@@ -4,10 +4,10 @@ use Rattle.std.specs.Prelude.{slice_index_or}
 use Rattle.std.proofs.lemmas.List.{append-nil}
 use Rattle.std.specs.List.{repeat}
 use lib.Chars.{codes}
-use Rattle.aio_value_model.proofs.Joined.{separator}
-use Rattle.aio_script_model.specs.Syntax.{Name, Expr, exprs, Statement, statements, Handler, handlers, Coroutine}
+use Rattle.model_tree.specs.Syntax.{Name, Expr, exprs, Statement, statements, Handler, handlers, Coroutine}
+use Rattle.model_text.specs.Canonical.{expr_text, exprs_text, more_text, statement_text, statements_text, handlers_text, more_names, names_text, coroutine_text, coroutines_text}
+use Rattle.law_value.proofs.Joined.{separator}
 use Rattle.aio_program.specs.StatementSize.{statement_size, statement_list_size, handler_size, handler_list_size}
-use Rattle.aio_script_model.specs.Canonical.{expr_text, exprs_text, more_text, statement_text, statements_text, handlers_text, more_names, names_text, coroutine_text, coroutines_text}
 
 -- ---- texts
 pub more_text-push : (es : List Expr) (e : Expr) → more_text (exprs (es ++ e ∷ [])) ≡ more_text (exprs es) ++ (codes ", " ++ expr_text e)

@@ -1,8 +1,8 @@
 -- A statement's text is its first line and its sections.
 use Rattle.std.proofs.Common.{◌≡◌, ℕ, sym, ◌++◌, append_assoc}
 use Rattle.std.proofs.lemmas.List.{append-nil}
-use Rattle.aio_script_model.specs.Syntax.{Statement, Assign, Yield, YieldFrom, Print, Raise, Return, Pass, If, While, Try, With}
-use Rattle.aio_script_model.specs.Canonical.{statement_text, line_in}
+use Rattle.model_tree.specs.Syntax.{Statement, Assign, Yield, YieldFrom, Print, Raise, Return, Pass, If, While, Try, With}
+use Rattle.model_text.specs.Canonical.{statement_text, line_in}
 use Rattle.aio_canonical.specs.FirstLine.{head_text, sections_text}
 
 pub statement_text-parts : (statement : Statement) (blocks : ℕ) → statement_text statement blocks ≡ line_in blocks (head_text statement) ++ sections_text statement blocks

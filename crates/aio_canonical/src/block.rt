@@ -1,8 +1,8 @@
 //! The text of statements inside so many blocks. Each call appends it, and on `Memory` leaves a front of it.
 ghost use Rattle.std.specs.Prelude.{◌≡◌, ◌<◌, ◌≤◌, suc, [], ◌∷◌, ◌++◌, length, OnOk, option_copied, codes};
 ghost use Rattle.std.specs.List.{repeat};
-ghost use Rattle.aio_script_model.specs.Syntax.{statements, handlers};
-ghost use Rattle.aio_script_model.specs.Canonical.{line_in, statement_text, statements_text, branch_text, handlers_text};
+ghost use Rattle.model_tree.specs.Syntax.{statements, handlers};
+ghost use Rattle.model_text.specs.Canonical.{line_in, statement_text, statements_text, branch_text, handlers_text};
 ghost use Rattle.aio_program.specs.Target.{plain_branch};
 ghost use Rattle.aio_canonical.specs.FirstLine.{sections_text};
 

@@ -1,6 +1,6 @@
 //! The text of constants.
 ghost use Rattle.std.specs.Prelude.{◌≡◌, ◌++◌, OnOk};
-ghost use Rattle.aio_script_model.specs.Canonical.{constant_text};
+ghost use Rattle.model_text.specs.Canonical.{constant_text};
 ghost use Rattle.aio_syntax.specs.Constant.{constant_of};
 
 use aio_base::{Memory, push_bytes_literal, push_text_literal};

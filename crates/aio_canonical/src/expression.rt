@@ -1,7 +1,7 @@
 //! The text of expressions. Each call appends it, and on `Memory` leaves a front of it.
 ghost use Rattle.std.specs.Prelude.{◌≡◌, List, ℕ, ◌++◌, OnOk, if◌then◌else◌};
-ghost use Rattle.aio_script_model.specs.Canonical.{expr_text, exprs_text, more_text, as_operand, in_parentheses};
-ghost use Rattle.aio_script_model.specs.Syntax.{MakeError, exprs};
+ghost use Rattle.model_tree.specs.Syntax.{MakeError, exprs};
+ghost use Rattle.model_text.specs.Canonical.{expr_text, exprs_text, more_text, as_operand, in_parentheses};
 
 use crate::constant::push_constant;
 use crate::words::{name_of_function, push_name, text_of_comparison, text_of_operator};

@@ -1,7 +1,7 @@
 //! The text of coroutines and programs.
 ghost use Rattle.std.specs.Prelude.{◌≡◌, ◌++◌, map, OnOk, IfOk};
 ghost use Rattle.std.specs.Rc.{rc_str_bytes};
-ghost use Rattle.aio_script_model.specs.Canonical.{names_text, coroutine_text, coroutines_text, profile_text, canonical};
+ghost use Rattle.model_text.specs.Canonical.{names_text, coroutine_text, coroutines_text, profile_text, canonical};
 
 use crate::block::{push_line, push_section};
 use crate::words::push_name;

@@ -1,7 +1,7 @@
 //! The text of targets and managers. Each call appends it, and on `Memory` leaves a front of it.
 ghost use Rattle.std.specs.Prelude.{◌≡◌, ◌++◌, OnOk};
-ghost use Rattle.aio_script_model.specs.Canonical.{target_text, manager_text, exprs_text, in_parentheses};
-ghost use Rattle.aio_script_model.specs.Syntax.{exprs};
+ghost use Rattle.model_tree.specs.Syntax.{exprs};
+ghost use Rattle.model_text.specs.Canonical.{target_text, manager_text, exprs_text, in_parentheses};
 ghost use Rattle.aio_program.specs.Target.{plain_target, plain_manager};
 
 use crate::expression::{push_expr, push_exprs, push_more};

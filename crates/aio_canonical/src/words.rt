@@ -1,11 +1,11 @@
 //! How the canonical text writes names and operators.
 ghost use Rattle.std.specs.Prelude.{◌≡◌, ◌++◌, OnOk};
 ghost use Rattle.std.specs.Rc.{rc_str_bytes};
-ghost use Rattle.aio_script_model.specs.Canonical.{operator_text, comparison_text};
-ghost use Rattle.aio_script_model.specs.Known.{function_text, request_text};
+ghost use Rattle.model_tree.specs.Known.{function_text, request_text};
+ghost use Rattle.model_text.specs.Canonical.{operator_text, comparison_text};
 
 use aio_base::Memory;
-use aio_script_model::{Comparison, Function, Operator, RequestName};
+use model_tree::{Comparison, Function, Operator, RequestName};
 use std::rc::RcStr;
 
 /// Appends the name.

@@ -3,11 +3,11 @@ use Rattle.std.proofs.Common.{◌≡◌, ℕ, Bool, true, false, if◌then◌els
 use Rattle.std.specs.Str.{is_utf8}
 use Rattle.std.proofs.lemmas.Str.{is_utf8-from_IsUtf8, IsUtf8-from_is_utf8}
 use Rattle.std.specs.Result.{result_unwrap_or}
-use Rattle.aio_value_model.specs.Value.{Value, Text, Bytes}
-use Rattle.aio_value_model.specs.Weight.{weight_of}
-use Rattle.aio_value_model.specs.Depth.{depth_of}
-use Rattle.aio_script_model.specs.declared.function.Function.TheVariants as function
-use Rattle.aio_script_model.specs.Operations.{bounded, decoded, applied, heaviest, deepest, not_utf8, out_of_range}
+use Rattle.model_value.specs.Value.{Value, Text, Bytes}
+use Rattle.model_value.specs.Weight.{weight_of}
+use Rattle.model_value.specs.Depth.{depth_of}
+use Rattle.model_tree.specs.declared.function.Function.TheVariants as function
+use Rattle.model_says.specs.Operations.{bounded, decoded, applied, heaviest, deepest, not_utf8, out_of_range}
 
 by_test : (bytes : List ℕ) (test : Bool) → is_utf8 bytes ≡ test → decoded bytes ≡ (if test then bounded (Text bytes) else Err not_utf8)
 by_test bytes test e = ap (λ b. if b then bounded (Text bytes) else Err not_utf8) e

@@ -1,11 +1,11 @@
 -- Where an expression fails, what it stands in fails likewise; values of expressions in order.
 use Rattle.std.proofs.Common.{◌≡◌, ℕ, zero, suc, ◌<◌, List, [], ◌∷◌, ◌++◌, length, take, slice_index_or, Option, Some, None, Result, Ok, Err, IsErrAnd, IfErr, refl, ap, ap₂, sym, ◌∙◌, subst, arith}
 use Rattle.std.specs.Result.{result_unwrap_or}
-use Rattle.aio_value_model.specs.Value.{Value, Truth, Exc}
-use Rattle.aio_script_model.specs.Operations.{Answer, truth}
-use Rattle.aio_script_model.specs.Expressions.{value_of, values_of, of_one, either, both, in_order}
-use Rattle.aio_script_model.specs.Syntax.{Expr, Or, And, exprs}
-use Rattle.aio_script_model.specs.Variables.{Env}
+use Rattle.model_value.specs.Value.{Value, Truth, Exc}
+use Rattle.model_tree.specs.Syntax.{Expr, Or, And, exprs}
+use Rattle.model_says.specs.Operations.{Answer, truth}
+use Rattle.model_says.specs.Expressions.{value_of, values_of, of_one, either, both, in_order}
+use Rattle.model_says.specs.Variables.{Env}
 use Rattle.aio_expr.specs.declared.cause.Cause.{Cause}
 use Rattle.aio_expr.specs.Gives.{raised_for, IsRaised, Fails, AllFail, Gives}
 

@@ -5,9 +5,9 @@ use Rattle.std.proofs.lemmas.Bool.{false≢true}
 use Rattle.std.proofs.lemmas.Int.{quot-rem, ints}
 use lib.IntN.{pred_ℤ-*ℤ, -ℤ_one}
 use lib.Signed.{mag_rem}
+use Rattle.model_value.specs.Value.{Int}
+use Rattle.model_says.specs.Operations.{number, out_of_range, divided, floor_quotient, floor_remainder}
 use Rattle.aio_expr.specs.Rounding.{rounds_up}
-use Rattle.aio_script_model.specs.Operations.{number, out_of_range, divided, floor_quotient, floor_remainder}
-use Rattle.aio_value_model.specs.Value.{Int}
 
 -- the quotient of n is k, where n is k times the divisor and a rest below it
 quotient_is : (n d k r : ℕ) → n ≡ k * suc d + r → r ≤ d → n / suc d ≡ k

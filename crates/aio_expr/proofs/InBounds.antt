@@ -1,10 +1,10 @@
 -- What joined lists weigh, and how deep they are; when a value is in bounds.
 use Rattle.std.proofs.Common.{◌≡◌, ℕ, ◌+◌, ◌<◌, ◌≤◌, max, Bool, true, false, nat_le, ◌&&◌, if◌then◌else◌, List, [], ◌∷◌, ◌++◌, Ok, Err, refl, ap, ap₂, sym, arith}
 use Rattle.std.proofs.lemmas.Bool.{false≢true, lt-leb, le-leb}
-use Rattle.aio_value_model.specs.Value.{Value, values}
-use Rattle.aio_value_model.specs.Weight.{weight_of, items_weight}
-use Rattle.aio_value_model.specs.Depth.{depth_of, items_depth}
-use Rattle.aio_script_model.specs.Operations.{bounded, heaviest, deepest, out_of_range}
+use Rattle.model_value.specs.Value.{Value, values}
+use Rattle.model_value.specs.Weight.{weight_of, items_weight}
+use Rattle.model_value.specs.Depth.{depth_of, items_depth}
+use Rattle.model_says.specs.Operations.{bounded, heaviest, deepest, out_of_range}
 
 pub items_weight-append : (xs ys : List Value) → items_weight (values (xs ++ ys)) ≡ items_weight (values xs) + items_weight (values ys)
 items_weight-append [] ys = omega arith

@@ -3,9 +3,9 @@ use Rattle.std.proofs.Common.{◌≡◌, ◌⊎◌, inl, inr, Bool, true, false,
 use Rattle.std.proofs.lemmas.Bool.{false≢true}
 use Rattle.std.specs.Ordering.{ordering_reverse}
 use Rattle.std.specs.Cmp.{IsTotalOrder}
-use Rattle.aio_value_model.specs.Value.{Value, Truth}
-use Rattle.aio_script_model.specs.Operations.{Answer, order, ordered, negation}
-use Rattle.aio_script_model.specs.Expressions.{of_one}
+use Rattle.model_value.specs.Value.{Value, Truth}
+use Rattle.model_says.specs.Operations.{Answer, order, ordered, negation}
+use Rattle.model_says.specs.Expressions.{of_one}
 use Rattle.aio_expr.specs.Ordered.{IsBelow, IsOrdered}
 
 abbrev truth_in : Answer → Bool

@@ -3,9 +3,9 @@ use Rattle.std.proofs.Common.{◌≡◌, ℕ, suc, ◌-◌, ℤ, pos, negsuc, Bo
 use Rattle.std.proofs.lemmas.Bool.{ltb-true, ltb-false}
 use Rattle.std.proofs.lemmas.List.{get_or-reverse, length-reverse}
 use Rattle.std.proofs.lemmas.Option.{slice_get-get_or, slice_get_past}
-use Rattle.aio_script_model.specs.Operations.{item_at, found, indexed}
-use Rattle.aio_value_model.specs.Value.{Value, Int, Items, values}
-use Rattle.aio_value_model.proofs.Rows.{list_of-values}
+use Rattle.model_value.specs.Value.{Value, Int, Items, values}
+use Rattle.model_says.specs.Operations.{item_at, found, indexed}
+use Rattle.law_value.proofs.Rows.{list_of-values}
 use Rattle.aio_expr.specs.Places.{place_of}
 
 some-none : {A B : Type 0} (x : A) → Some x ≡ None → B

@@ -3,8 +3,8 @@ use Rattle.std.proofs.Common.{◌≡◌, ◌≢◌, ℕ, suc, ◌%◌, ◌≤◌
 use Rattle.std.specs.Result.{result_unwrap_or}
 use Rattle.std.proofs.lemmas.Bool.{eqb-true, eqb-false}
 use Rattle.std.proofs.lemmas.Int.{ints}
-use Rattle.aio_value_model.specs.Value.{Value, Nothing, Int}
-use Rattle.aio_script_model.specs.Operations.{fits, divided, floor_remainder, out_of_range}
+use Rattle.model_value.specs.Value.{Value, Nothing, Int}
+use Rattle.model_says.specs.Operations.{fits, divided, floor_remainder, out_of_range}
 use Rattle.aio_expr.proofs.Floors.{below, remainder_is}
 
 IsBetween : ℕ → ℤ → Type 0

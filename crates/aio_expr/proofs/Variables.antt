@@ -1,13 +1,13 @@
 -- What a variable holds, and what an assignment makes of the variables, by the place of the name.
 use Rattle.std.proofs.Common.{◌≡◌, ℕ, zero, suc, ◌<◌, Bool, true, false, if◌then◌else◌, List, [], ◌∷◌, ◌++◌, ◌+◌, length, take, set, slice_index_or, refl, ap, sym, ◌∙◌, arith}
 use Rattle.std.specs.Str.{bytes_eq}
-use Rattle.aio_value_model.specs.Value.{Value, Nothing}
-use Rattle.aio_script_model.specs.Syntax.{Name}
-use Rattle.aio_script_model.specs.Variables.{Binding, Env, held, assigned}
+use Rattle.std.proofs.lemmas.List.{take_more, length-map, get_or-map}
+use Rattle.model_value.specs.Value.{Value, Nothing}
+use Rattle.model_tree.specs.Syntax.{Name}
+use Rattle.model_says.specs.Variables.{Binding, Env, held, assigned}
 use Rattle.aio_expr.specs.declared.env.Binding.{Binding as CodeBinding}
 use Rattle.aio_expr.specs.Bindings.{plain_binding, plain_bindings, set_value}
 use Rattle.aio_expr.specs.Names.{IsUnknown, IsFirst}
-use Rattle.std.proofs.lemmas.List.{take_more, length-map, get_or-map}
 
 by_test : {A : Type 0} (test answer : Bool) (x y : A) → test ≡ answer → (if test then x else y) ≡ (if answer then x else y)
 by_test test answer x y e = ap (λ b. if b then x else y) e

@@ -1,9 +1,9 @@
 -- Variables as a tree of numbers, and back.
 use Rattle.std.specs.Prelude.{ℕ, List, refl}
 use Rattle.std.specs.Coded.{Coded, code_by, coded×, coded_ℕ, coded_list}
-use Rattle.aio_value_model.specs.Code.{coded_value}
-use Rattle.aio_value_model.specs.Value.{Value}
-use Rattle.aio_script_model.specs.Variables.{Binding}
+use Rattle.model_value.specs.Value.{Value}
+use Rattle.model_says.specs.Variables.{Binding}
+use Rattle.aio_base.specs.Code.{coded_value}
 
 abbrev pub coded_binding : Coded Binding
 coded_binding =

@@ -1,8 +1,8 @@
 -- Variables of the code as plain data.
 use Rattle.std.specs.Prelude.{ℕ, zero, suc, List, [], ◌∷◌, map}
 use Rattle.std.specs.Rc.{rc_str_bytes}
-use Rattle.aio_value_model.specs.Value.{Value}
-use Rattle.aio_script_model.specs.Variables as variables
+use Rattle.model_value.specs.Value.{Value}
+use Rattle.model_says.specs.Variables as variables
 use Rattle.aio_expr.specs.declared.env.Binding.{Binding}
 
 abbrev pub plain_binding : Binding → variables.Binding

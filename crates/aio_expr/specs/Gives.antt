@@ -1,7 +1,7 @@
 -- What code answers for a meaning: the same value or the same exception, but for want of memory.
 use Rattle.std.specs.Prelude.{◌≡◌, List, Option, Some, None, Result, Ok, Err, ⊤}
-use Rattle.aio_value_model.specs.Value.{Value, Exc}
-use Rattle.aio_script_model.specs.Operations.{Answer, bad_operand, out_of_range, division_by_zero, index_out_of_range, not_utf8}
+use Rattle.model_value.specs.Value.{Value, Exc}
+use Rattle.model_says.specs.Operations.{Answer, bad_operand, out_of_range, division_by_zero, index_out_of_range, not_utf8}
 use Rattle.aio_expr.specs.declared.cause.Cause.{Cause}
 use Rattle.aio_expr.specs.declared.cause.Cause.TheVariants.{BadOperand, OutOfRange, DivisionByZero, IndexOutOfRange, NotUtf8, Memory}
 

@@ -1,8 +1,8 @@
 -- Where the first variable of a name stands.
 use Rattle.std.specs.Prelude.{◌≡◌, ℕ, ◌<◌, true, false, [], ◌∷◌, length, take, slice_index_or, ⊤}
 use Rattle.std.specs.Str.{bytes_eq}
-use Rattle.aio_script_model.specs.Syntax.{Name}
-use Rattle.aio_script_model.specs.Variables.{Binding, Env}
+use Rattle.model_tree.specs.Syntax.{Name}
+use Rattle.model_says.specs.Variables.{Binding, Env}
 
 -- no variable has the name
 abbrev pub IsUnknown : Env → Name → Type 0

@@ -1,9 +1,9 @@
 -- When comparisons order values.
 use Rattle.std.specs.Prelude.{◌≡◌, ◌⊎◌, true, Ok}
-use Rattle.aio_value_model.specs.Value.{Value, Truth}
-use Rattle.aio_script_model.specs.declared.operator.Comparison.TheVariants as comparison
-use Rattle.aio_script_model.specs.Expressions.{of_one}
-use Rattle.aio_script_model.specs.Operations.{compared, negation}
+use Rattle.model_value.specs.Value.{Value, Truth}
+use Rattle.model_tree.specs.declared.operator.Comparison.TheVariants as comparison
+use Rattle.model_says.specs.Expressions.{of_one}
+use Rattle.model_says.specs.Operations.{compared, negation}
 
 -- `v < w` is True
 abbrev pub IsBelow : Value → Value → Type 0

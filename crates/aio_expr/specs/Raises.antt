@@ -1,7 +1,7 @@
 -- What a fault tells of a meaning.
 use Rattle.std.specs.Prelude.{◌≡◌, Option, Some, Err, ⊤}
-use Rattle.aio_value_model.specs.Value.{Exc}
-use Rattle.aio_script_model.specs.Operations.{Answer}
+use Rattle.model_value.specs.Value.{Exc}
+use Rattle.model_says.specs.Operations.{Answer}
 use Rattle.aio_expr.specs.declared.value.ExprFault.{ExprFault}
 use Rattle.aio_expr.specs.declared.value.ExprFault.TheVariants.{Raised, Memory}
 

@@ -1,6 +1,6 @@
 //! The bounds of computed values.
 ghost use Rattle.std.specs.Prelude.{◌≡◌};
-ghost use Rattle.aio_script_model.specs.Operations.{bounded};
+ghost use Rattle.model_says.specs.Operations.{bounded};
 ghost use Rattle.aio_expr.specs.Gives.{Gives};
 
 use crate::cause::Cause;

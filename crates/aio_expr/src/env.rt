@@ -1,7 +1,7 @@
 //! The variables of a coroutine.
 ghost use Rattle.std.specs.Prelude.{◌≡◌, ◌<◌, length, ◌++◌, ◌∷◌, [], IfOk, IfSome, IfNone, OnOk, OnErr};
 ghost use Rattle.std.specs.Rc.{rc_str_bytes};
-ghost use Rattle.aio_script_model.specs.Variables.{held, assigned};
+ghost use Rattle.model_says.specs.Variables.{held, assigned};
 ghost use Rattle.aio_expr.specs.Names.{IsFirst, IsUnknown};
 ghost use Rattle.aio_expr.specs.Bindings.{plain_bindings, set_value};
 
@@ -26,7 +26,7 @@ pub struct Env {
 
 impl Model for Env {
     ghost use Rattle.std.specs.Prelude.{List};
-    ghost use Rattle.aio_script_model.specs.Variables as variables;
+    ghost use Rattle.model_says.specs.Variables as variables;
     ghost use Rattle.aio_expr.specs.BindingCode.{coded_env};
 
     ghost Value = { List variables.Binding };

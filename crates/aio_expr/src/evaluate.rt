@@ -1,9 +1,9 @@
 //! The evaluation of expressions.
 ghost use Rattle.std.specs.Prelude.{◌≡◌, Ok, IfOk, IfErr};
-ghost use Rattle.aio_value_model.specs.Value.{Value, Truth};
-ghost use Rattle.aio_script_model.specs.Operations.{Answer, truth};
-ghost use Rattle.aio_script_model.specs.Expressions.{value_of, values_of, constant_value, of_one, of_two};
-ghost use Rattle.aio_script_model.specs.Syntax.{exprs};
+ghost use Rattle.model_value.specs.Value.{Value, Truth};
+ghost use Rattle.model_tree.specs.Syntax.{exprs};
+ghost use Rattle.model_says.specs.Operations.{Answer, truth};
+ghost use Rattle.model_says.specs.Expressions.{value_of, values_of, constant_value, of_one, of_two};
 ghost use Rattle.aio_syntax.specs.Constant.{constant_of};
 ghost use Rattle.aio_expr.specs.Gives.{Gives, Fails, AllFail};
 

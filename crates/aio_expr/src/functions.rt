@@ -1,8 +1,8 @@
 //! The functions that expressions call.
 ghost use Rattle.std.specs.Prelude.{◌≡◌, map, pos};
-ghost use Rattle.aio_value_model.specs.Value.{Text, Bytes, Items, Exception, values, members_of};
-ghost use Rattle.aio_value_model.specs.Shown.{shown};
-ghost use Rattle.aio_script_model.specs.Operations.{applied, bounded, decoded, error_made, number};
+ghost use Rattle.model_value.specs.Value.{Text, Bytes, Items, Exception, values, members_of};
+ghost use Rattle.model_value.specs.Shown.{shown};
+ghost use Rattle.model_says.specs.Operations.{applied, bounded, decoded, error_made, number};
 ghost use Rattle.aio_expr.specs.Gives.{Gives};
 
 use crate::bounds::bounded;
@@ -14,7 +14,7 @@ use std::alloc::Global;
 use std::str;
 
 /// What a function gives for its argument.
-#[tactic(auto, using(aio_value_model::proofs::Rows::rows))]
+#[tactic(auto, using(law_value::proofs::Rows::rows))]
 pub fn applied(alloc: Global, function: Function, argument: &Value) -> Result<Value, Cause>
     ensures { Gives (applied function argument.now) result }
 {

@@ -1,9 +1,9 @@
 //! Lists, and the items of lists and of bytes.
 ghost use Rattle.std.specs.Prelude.{◌≡◌, ◌-◌, ◌^◌, ◌++◌, min, map, OnOk};
-ghost use Rattle.aio_value_model.specs.Value.{Items, values};
-ghost use Rattle.aio_value_model.specs.Weight.{items_weight};
-ghost use Rattle.aio_value_model.specs.Depth.{items_depth};
-ghost use Rattle.aio_script_model.specs.Operations.{bounded, indexed, found, item_at, byte_value};
+ghost use Rattle.model_value.specs.Value.{Items, values};
+ghost use Rattle.model_value.specs.Weight.{items_weight};
+ghost use Rattle.model_value.specs.Depth.{items_depth};
+ghost use Rattle.model_says.specs.Operations.{bounded, indexed, found, item_at, byte_value};
 ghost use Rattle.aio_expr.specs.Places.{place_of};
 ghost use Rattle.aio_expr.specs.Gives.{Gives};
 
@@ -67,7 +67,7 @@ fn depth_of_all(items: &[Value]) -> u64
 }
 
 /// `x[i]`.
-#[tactic(auto, using(aio_value_model::proofs::Rows::rows))]
+#[tactic(auto, using(law_value::proofs::Rows::rows))]
 pub fn indexed(sequence: &Value, index: &Value) -> Result<Value, Cause>
     ensures { Gives (indexed sequence.now index.now) result }
 {

@@ -1,8 +1,8 @@
 //! Laws of expressions. Each function has no body: its clauses are the law.
 ghost use Rattle.std.specs.Prelude.{◌≡◌, ℕ, ℤ, pos, ◌+ℤ◌, ◌*ℤ◌, ◌<ℤ◌, ◌≤ℤ◌, List, Ok, IsUtf8};
-ghost use Rattle.aio_value_model.specs.Value.{Value, Int, Text, Bytes};
-ghost use Rattle.aio_script_model.specs.Operations.{quotient, remainder, applied};
-ghost use Rattle.aio_script_model.specs.declared.function.Function.TheVariants as function;
+ghost use Rattle.model_value.specs.Value.{Value, Int, Text, Bytes};
+ghost use Rattle.model_tree.specs.declared.function.Function.TheVariants as function;
+ghost use Rattle.model_says.specs.Operations.{quotient, remainder, applied};
 ghost use Rattle.aio_expr.specs.Ordered.{IsOrdered};
 
 /// `(a // b) * b + a % b` is a, where both are defined. What is left has the divisor's sign, or is 0, and is nearer to 0

@@ -1,7 +1,7 @@
 //! Arithmetic of numbers.
 ghost use Rattle.std.specs.Prelude.{◌≡◌, ◌+ℤ◌, ◌-ℤ◌, ◌*ℤ◌, neg_ℤ, pos, ◌≢◌};
-ghost use Rattle.aio_script_model.specs.Operations.{number, divided, floor_quotient, floor_remainder};
 ghost use Rattle.std.specs.Int.{NotMinOverMinusOne, w64};
+ghost use Rattle.model_says.specs.Operations.{number, divided, floor_quotient, floor_remainder};
 ghost use Rattle.aio_expr.specs.Gives.{Gives};
 ghost use Rattle.aio_expr.specs.Rounding.{rounds_up};
 

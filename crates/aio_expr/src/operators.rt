@@ -1,6 +1,6 @@
 //! What the operators give for values.
 ghost use Rattle.std.specs.Prelude.{◌≡◌, IfOk, IfErr};
-ghost use Rattle.aio_script_model.specs.Operations.{sum, difference, product, quotient, remainder, calculated, negative, compared, negation, order};
+ghost use Rattle.model_says.specs.Operations.{sum, difference, product, quotient, remainder, calculated, negative, compared, negation, order};
 ghost use Rattle.aio_expr.specs.declared.cause.Cause.TheVariants.{BadOperand};
 ghost use Rattle.aio_expr.specs.Gives.{Gives};
 
@@ -32,7 +32,7 @@ pub fn calculated(
     }
 }
 
-#[tactic(auto, using(aio_value_model::proofs::Rows::rows))]
+#[tactic(auto, using(law_value::proofs::Rows::rows))]
 fn sum(alloc: Global, left: &Value, right: &Value) -> Result<Value, Cause>
     ensures { Gives (sum left.now right.now) result }
 {

@@ -1,6 +1,6 @@
 //! The orders of numbers, texts and bytes.
 ghost use Rattle.std.specs.Prelude.{◌≡◌};
-ghost use Rattle.aio_script_model.specs.Operations.{order};
+ghost use Rattle.model_says.specs.Operations.{order};
 
 use aio_base::{Value, ValueCase};
 use std::cmp::Ordering;

@@ -1,7 +1,7 @@
 //! The value of an expression, or why it has none.
 ghost use Rattle.std.specs.Prelude.{◌≡◌, Ok, Some, IfOk, IfErr};
-ghost use Rattle.aio_value_model.specs.Value.{exception_of};
-ghost use Rattle.aio_script_model.specs.Expressions.{value_of};
+ghost use Rattle.model_value.specs.Value.{exception_of};
+ghost use Rattle.model_says.specs.Expressions.{value_of};
 ghost use Rattle.aio_expr.specs.Gives.{raised_for};
 ghost use Rattle.aio_expr.specs.Raises.{Raises, IsFaultOf};
 

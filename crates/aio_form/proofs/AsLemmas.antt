@@ -1,11 +1,11 @@
 -- What stands before `) as NAME` at the end.
 use Rattle.std.proofs.Common.{◌≡◌, ℕ, ◌+◌, ◌≤◌, ◌<◌, List, [], ◌∷◌, ◌++◌, Option, Some, None, option_map, length, map, take, drop, refl, sym, ap, ◌∙◌, arith}
 use Rattle.std.proofs.lemmas.List.{take-append-drop, length-drop, length-map, map-append}
-use Rattle.aio_script_model.specs.declared.symbol.Symbol.TheVariants as symbol
-use Rattle.aio_script_model.specs.declared.reserved_word.ReservedWord.TheVariants as word
-use Rattle.aio_script_model.specs.Syntax.{Name}
-use Rattle.aio_script_model.specs.Words.{Lexeme, Reserved, Named, Sign}
-use Rattle.aio_script_model.specs.Forms.{before_as, closed_as}
+use Rattle.model_tree.specs.Syntax.{Name}
+use Rattle.model_text.specs.declared.symbol.Symbol.TheVariants as symbol
+use Rattle.model_text.specs.declared.reserved_word.ReservedWord.TheVariants as word
+use Rattle.model_text.specs.Words.{Lexeme, Reserved, Named, Sign}
+use Rattle.model_text.specs.Forms.{before_as, closed_as}
 use Rattle.aio_term.specs.declared.lexeme.Lexeme as code
 use Rattle.aio_term.specs.Lexeme.{plain_lexeme}
 use Rattle.aio_form.specs.Fronts.{closing_name}

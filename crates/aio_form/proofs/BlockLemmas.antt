@@ -1,7 +1,7 @@
 -- The open blocks behind one more line.
 use Rattle.std.proofs.Common.{◌≡◌, ℕ, zero, suc, List, [], ◌∷◌, ◌++◌, ◌-◌, drop, refl, ap, ◌∙◌, sym, append_assoc, arith}
 use Rattle.std.proofs.Math.Dec.{eqb-suc-zero}
-use Rattle.aio_script_model.specs.Places.{OpenBlock, Block, Section, Role, Opens, Begins, Closes, Stands, open_before, open_blocks}
+use Rattle.model_text.specs.Places.{OpenBlock, Block, Section, Role, Opens, Begins, Closes, Stands, open_before, open_blocks}
 
 -- sections that begin in the innermost block before those that have begun
 abbrev pub begun : List Section → List OpenBlock → List OpenBlock

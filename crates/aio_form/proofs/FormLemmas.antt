@@ -1,10 +1,10 @@
 -- The definitions of forms, by what their lexemes begin with.
 use Rattle.std.proofs.Common.{◌≡◌, List, [], ◌∷◌, Option, Some, None, option_map, option_and_then, refl, ap, ◌∙◌}
-use Rattle.aio_script_model.specs.declared.symbol.Symbol.TheVariants as symbol
-use Rattle.aio_script_model.specs.declared.reserved_word.ReservedWord.TheVariants as word
-use Rattle.aio_script_model.specs.Syntax.{Name}
-use Rattle.aio_script_model.specs.Words.{Lexeme, Reserved, Named, Sign}
-use Rattle.aio_script_model.specs.Forms.{Assign, YieldFrom, WithGroup, with_term, yield_from, goal_of, assigned_form, name_form, with_form}
+use Rattle.model_tree.specs.Syntax.{Name}
+use Rattle.model_text.specs.declared.symbol.Symbol.TheVariants as symbol
+use Rattle.model_text.specs.declared.reserved_word.ReservedWord.TheVariants as word
+use Rattle.model_text.specs.Words.{Lexeme, Reserved, Named, Sign}
+use Rattle.model_text.specs.Forms.{Assign, YieldFrom, WithGroup, with_term, yield_from, goal_of, assigned_form, name_form, with_form}
 use Rattle.aio_form.specs.Fronts.{behind_sign, behind_word, as_name, timeout_form}
 
 -- `from TARGET`

@@ -1,10 +1,10 @@
 -- What stands before the last lexeme.
 use Rattle.std.proofs.Common.{◌≡◌, Bool, true, false, List, [], ◌∷◌, ◌++◌, Some, None, option_map, cond, map, refl, sym, ap, ◌∙◌}
 use Rattle.std.proofs.lemmas.List.{map-append}
-use Rattle.aio_script_model.specs.declared.symbol.Symbol.{Symbol}
-use Rattle.aio_script_model.specs.Words as plain
-use Rattle.aio_script_model.specs.Words.{is_sign}
-use Rattle.aio_script_model.specs.Cutting.{before_last}
+use Rattle.model_text.specs.declared.symbol.Symbol.{Symbol}
+use Rattle.model_text.specs.Words as plain
+use Rattle.model_text.specs.Words.{is_sign}
+use Rattle.model_text.specs.Cutting.{before_last}
 use Rattle.aio_term.specs.declared.lexeme.Lexeme.{Lexeme}
 use Rattle.aio_term.specs.Lexeme.{plain_lexeme}
 

@@ -2,8 +2,8 @@
 use Rattle.std.proofs.Common.{◌≡◌, ℕ, suc, ◌+◌, ◌<◌, ◌≤◌, ◌&&◌, Bool, true, false, cond, eqb, List, [], ◌∷◌, ◌++◌, length, drop, slice_index, refl, sym, ap, ◌∙◌, subst, arith}
 use Rattle.std.proofs.lemmas.Bool.Decides.{nat_tests}
 use Rattle.std.proofs.lemmas.Bool.{false≢true}
-use Rattle.aio_value_model.specs.Lines.{lines_of, fronted}
-use Rattle.aio_script_model.specs.TextLines.{text_lines}
+use Rattle.model_value.specs.Lines.{lines_of, fronted}
+use Rattle.model_text.specs.TextLines.{text_lines}
 use Rattle.aio_form.specs.Lines.{without_return}
 
 -- where the first line of a text ends

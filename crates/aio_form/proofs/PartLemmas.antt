@@ -3,10 +3,10 @@ use Rattle.std.proofs.Common.{◌≡◌, ℕ, zero, suc, pred, ◌+◌, ◌-◌,
 use Rattle.std.proofs.Math.Dec.{eqb-suc-zero}
 use Rattle.std.proofs.lemmas.Bool.{false≢true}
 use Rattle.std.proofs.lemmas.List.{drop_more, take_more, map-append, length-drop, get_or-drop}
-use Rattle.aio_script_model.specs.declared.symbol.Symbol.TheVariants as symbol
-use Rattle.aio_script_model.specs.Words as plain
-use Rattle.aio_script_model.specs.Words.{is_sign}
-use Rattle.aio_script_model.specs.Cutting.{Cutter, Pieces, pieces_from, cut_outside, with_front, depth_behind, ends_operand}
+use Rattle.model_text.specs.declared.symbol.Symbol.TheVariants as symbol
+use Rattle.model_text.specs.Words as plain
+use Rattle.model_text.specs.Words.{is_sign}
+use Rattle.model_text.specs.Cutting.{Cutter, Pieces, pieces_from, cut_outside, with_front, depth_behind, ends_operand}
 use Rattle.aio_term.specs.declared.lexeme.Lexeme.{Lexeme}
 use Rattle.aio_term.specs.Lexeme.{plain_lexeme}
 

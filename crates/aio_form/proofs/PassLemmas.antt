@@ -2,13 +2,13 @@
 use Rattle.std.proofs.Common.{◌≡◌, ℕ, ◌+◌, ◌==◌, true, false, List, [], ◌∷◌, ◌++◌, length, Option, Some, None, option_map, Result, Ok, Err, map, reverse, refl, sym, ap, ◌∙◌, append_assoc, append-nil}
 use Rattle.std.proofs.lemmas.Bool.{false≢true}
 use Rattle.std.proofs.lemmas.List.{reverse-append, map-append}
-use Rattle.aio_script_model.specs.declared.cause.Cause.{Cause}
-use Rattle.aio_script_model.specs.declared.cause.Cause.TheVariants as cause
-use Rattle.aio_script_model.specs.Tokens.{Token, tokens_of}
-use Rattle.aio_script_model.specs.Words.{lexemes_of}
-use Rattle.aio_script_model.specs.Forms.{Spelled, form_of}
-use Rattle.aio_script_model.specs.Places.{Role, OpenBlock, role_of, open_blocks, is_outside, cause_behind}
-use Rattle.aio_script_model.specs.FirstPass.{Fault, Numbered, placed, form_behind_lines, lexemes_behind, tokens_behind, line_behind, forms_from, form_before, fault_at, ended}
+use Rattle.model_text.specs.declared.cause.Cause.{Cause}
+use Rattle.model_text.specs.declared.cause.Cause.TheVariants as cause
+use Rattle.model_text.specs.Tokens.{Token, tokens_of}
+use Rattle.model_text.specs.Words.{lexemes_of}
+use Rattle.model_text.specs.Forms.{Spelled, form_of}
+use Rattle.model_text.specs.Places.{Role, OpenBlock, role_of, open_blocks, is_outside, cause_behind}
+use Rattle.model_text.specs.FirstPass.{Fault, Numbered, placed, form_behind_lines, lexemes_behind, tokens_behind, line_behind, forms_from, form_before, fault_at, ended}
 use Rattle.aio_term.specs.declared.lexeme.Lexeme as code
 use Rattle.aio_term.specs.Lexeme.{plain_lexeme}
 use Rattle.aio_form.specs.declared.fault.LineFault.{LineFault}

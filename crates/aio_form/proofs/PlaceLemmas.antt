@@ -5,9 +5,9 @@ use Rattle.std.proofs.lemmas.List.{take_more, take_all, reverse-append, map-appe
 use Rattle.std.proofs.lemmas.Option.{slice_get_within, slice_get-get_or}
 use Rattle.std.proofs.lemmas.Bool.{false≢true}
 use Rattle.std.proofs.lemmas.List.Folds.{list_any-append}
-use Rattle.aio_script_model.specs.Places as plain
-use Rattle.aio_script_model.specs.Places.{begins, closes, fits, is_finally, is_outside, may_stand, open_blocks}
-use Rattle.aio_script_model.specs.Forms.{Spelled, Profile, Def, Return, Else, Except, Finally, End}
+use Rattle.model_text.specs.Places as plain
+use Rattle.model_text.specs.Places.{begins, closes, fits, is_finally, is_outside, may_stand, open_blocks}
+use Rattle.model_text.specs.Forms.{Spelled, Profile, Def, Return, Else, Except, Finally, End}
 use Rattle.aio_form.specs.declared.block.Section.{Section}
 use Rattle.aio_form.specs.declared.standing.Standing.{Standing}
 use Rattle.aio_form.specs.declared.standing.Standing.TheVariants as standing

@@ -1,14 +1,14 @@
 -- Forms that were read, of which only what isn't too high is kept.
 use Rattle.std.proofs.Common.{◌≡◌, ℕ, ◌==◌, Bool, true, false, cond, List, [], ◌∷◌, Option, Some, None, option_map, option_and_then, length, map, nat_le, refl, sym, ap, ◌∙◌, arith}
 use Rattle.std.proofs.lemmas.Bool.{false≢true}
-use Rattle.aio_script_model.specs.declared.reserved_word.ReservedWord.TheVariants as word
-use Rattle.aio_script_model.specs.declared.symbol.Symbol.TheVariants as symbol
-use Rattle.aio_script_model.specs.Syntax.{Name}
-use Rattle.aio_script_model.specs.Words.{Lexeme}
-use Rattle.aio_script_model.specs.Terms.{Term, height}
-use Rattle.aio_script_model.specs.Levels.{term_of}
-use Rattle.aio_script_model.specs.Forms.{Spelled, Goal, YieldFrom, Return, Assign, with_term, yield_from, name_form, assigned_form, return_form, goal_of}
-use Rattle.aio_script_model.specs.Places.{most_height, height_of_goal, height_of_form}
+use Rattle.model_tree.specs.Syntax.{Name}
+use Rattle.model_text.specs.declared.reserved_word.ReservedWord.TheVariants as word
+use Rattle.model_text.specs.declared.symbol.Symbol.TheVariants as symbol
+use Rattle.model_text.specs.Words.{Lexeme}
+use Rattle.model_text.specs.Terms.{Term, height}
+use Rattle.model_text.specs.Levels.{term_of}
+use Rattle.model_text.specs.Forms.{Spelled, Goal, YieldFrom, Return, Assign, with_term, yield_from, name_form, assigned_form, return_form, goal_of}
+use Rattle.model_text.specs.Places.{most_height, height_of_goal, height_of_form}
 use Rattle.aio_term.specs.declared.lexeme.Lexeme as code
 use Rattle.aio_term.specs.Lexeme.{plain_lexeme}
 use Rattle.aio_form.specs.declared.standing.Standing.TheVariants as standing

@@ -4,12 +4,12 @@ use Rattle.std.proofs.lemmas.Bool.Decides.{nat_tests}
 use Rattle.std.proofs.lemmas.List.{take_more, take-append-drop, drop_more, map-append}
 use Rattle.std.proofs.lemmas.List.Sums.{fold_push}
 use denote.Bor.{Bor}
-use Rattle.aio_script_model.specs.Words as plain
-use Rattle.aio_script_model.specs.Terms.{Term, height}
-use Rattle.aio_script_model.specs.Levels.{all_of, term_of}
-use Rattle.aio_script_model.specs.Places.{most_height, heights}
+use Rattle.model_text.specs.Words as plain
+use Rattle.model_text.specs.Terms.{Term, height}
+use Rattle.model_text.specs.Levels.{all_of, term_of}
+use Rattle.model_text.specs.Places.{most_height, heights}
+use Rattle.law_reading.specs.Operands.{Operand, Fits, TooHigh, capped, that_fits}
 use Rattle.aio_term.specs.declared.lexeme.Lexeme.{Lexeme}
-use Rattle.aio_term_model.specs.Operands.{Operand, Fits, TooHigh, capped, that_fits}
 use Rattle.aio_form.specs.Parts.{plain_part}
 use Rattle.aio_form.specs.Fitting.{fitting}
 

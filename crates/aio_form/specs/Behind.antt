@@ -1,9 +1,9 @@
 -- The roles of lines that were read.
--- Source: the definition of the first pass (aio_script_model, specs/FirstPass.antt).
+-- Source: the definition of the first pass (model_text, specs/FirstPass.antt).
 use Rattle.std.specs.Prelude.{List, ◌∷◌, Option, Some, None, map, reverse}
-use Rattle.aio_script_model.specs.Forms.{Spelled}
-use Rattle.aio_script_model.specs.Places.{Role, role_of}
-use Rattle.aio_script_model.specs.FirstPass.{Numbered}
+use Rattle.model_text.specs.Forms.{Spelled}
+use Rattle.model_text.specs.Places.{Role, role_of}
+use Rattle.model_text.specs.FirstPass.{Numbered}
 
 -- the roles of lines, the latest first
 abbrev pub roles_of : List (Numbered Spelled) → List Role

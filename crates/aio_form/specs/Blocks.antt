@@ -1,7 +1,7 @@
 -- Open blocks as the code keeps them: of the sections that have begun in a block, the latest.
--- Source: the definition of places (aio_script_model, specs/Places.antt).
+-- Source: the definition of places (model_text, specs/Places.antt).
 use Rattle.std.specs.Prelude.{Bool, true, false, List, [], ◌∷◌, Option, Some, None, option_map}
-use Rattle.aio_script_model.specs.Places as plain
+use Rattle.model_text.specs.Places as plain
 use Rattle.aio_form.specs.declared.block.Block.{Block}
 use Rattle.aio_form.specs.declared.block.Block.TheVariants as block
 use Rattle.aio_form.specs.declared.block.Section.{Section}

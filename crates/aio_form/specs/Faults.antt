@@ -1,7 +1,7 @@
 -- A fault of the code against a fault of the definition: want of memory is none.
 use Rattle.std.specs.Prelude.{◌≡◌, ℕ, Option, Some, Result, Err}
-use Rattle.aio_script_model.specs.declared.cause.Cause.{Cause}
-use Rattle.aio_script_model.specs.FirstPass.{Fault}
+use Rattle.model_text.specs.declared.cause.Cause.{Cause}
+use Rattle.model_text.specs.FirstPass.{Fault}
 use Rattle.aio_form.specs.declared.fault.FormFault.{FormFault}
 use Rattle.aio_form.specs.declared.fault.FormFault.TheVariants.{Refused, Memory}
 use Rattle.aio_form.specs.declared.fault.LineFault.{LineFault}

@@ -1,8 +1,8 @@
 -- What is kept of what was read: only what isn't too high.
--- Source: the definition of where lines may stand (aio_script_model, specs/Places.antt), which refuses what is higher.
+-- Source: the definition of where lines may stand (model_text, specs/Places.antt), which refuses what is higher.
 use Rattle.std.specs.Prelude.{ℕ, max, Option, Some, None, nat_le, if◌then◌else◌}
-use Rattle.aio_script_model.specs.Levels.{Arguments}
-use Rattle.aio_script_model.specs.Places.{most_height, heights}
+use Rattle.model_text.specs.Levels.{Arguments}
+use Rattle.model_text.specs.Places.{most_height, heights}
 
 -- it, where its height is at most the greatest
 abbrev pub fitting : {A : Type 0} → (A → ℕ) → A → Option A

@@ -1,17 +1,17 @@
 -- Lexemes that begin so, by what stands behind.
--- Source: the definition of forms (aio_script_model, specs/Forms.antt), whose cases begin so.
+-- Source: the definition of forms (model_text, specs/Forms.antt), whose cases begin so.
 use Rattle.std.specs.Prelude.{Bool, false, List, [], ◌∷◌, Option, Some, None, option_map, option_and_then, if◌then◌else◌}
 use denote.Enum.Bare.{sameb}
-use Rattle.aio_script_model.specs.contracts.reserved_word.ReservedWord.{the_type}
-use Rattle.aio_script_model.specs.declared.reserved_word.ReservedWord.{ReservedWord}
-use Rattle.aio_script_model.specs.declared.symbol.Symbol.{Symbol}
-use Rattle.aio_script_model.specs.declared.symbol.Symbol.TheVariants as symbol
-use Rattle.aio_script_model.specs.declared.reserved_word.ReservedWord.TheVariants as word
-use Rattle.aio_script_model.specs.Cutting.{before_last}
-use Rattle.aio_script_model.specs.Forms.{Spelled, WithTimeout, before_as}
-use Rattle.aio_script_model.specs.Levels.{bare_name, term_of}
-use Rattle.aio_script_model.specs.Syntax.{Name}
-use Rattle.aio_script_model.specs.Words.{Lexeme, Reserved, Named, is_sign}
+use Rattle.model_tree.specs.Syntax.{Name}
+use Rattle.model_text.specs.contracts.reserved_word.ReservedWord.{the_type}
+use Rattle.model_text.specs.declared.reserved_word.ReservedWord.{ReservedWord}
+use Rattle.model_text.specs.declared.symbol.Symbol.{Symbol}
+use Rattle.model_text.specs.declared.symbol.Symbol.TheVariants as symbol
+use Rattle.model_text.specs.declared.reserved_word.ReservedWord.TheVariants as word
+use Rattle.model_text.specs.Cutting.{before_last}
+use Rattle.model_text.specs.Forms.{Spelled, WithTimeout, before_as}
+use Rattle.model_text.specs.Levels.{bare_name, term_of}
+use Rattle.model_text.specs.Words.{Lexeme, Reserved, Named, is_sign}
 
 -- the lexeme is this reserved word
 abbrev pub is_word : ReservedWord → Lexeme → Bool

@@ -1,8 +1,8 @@
 -- What is kept of the lines before a line, and where the form of a line may stand.
--- Source: the definition of places (aio_script_model, specs/Places.antt).
+-- Source: the definition of places (model_text, specs/Places.antt).
 use Rattle.std.specs.Prelude.{◌≡◌, List, map, reverse, length, nat_eq}
-use Rattle.aio_script_model.specs.Forms.{Spelled, Profile, Def, Return, Else, Except, Finally, End}
-use Rattle.aio_script_model.specs.Places.{Role, open_blocks}
+use Rattle.model_text.specs.Forms.{Spelled, Profile, Def, Return, Else, Except, Finally, End}
+use Rattle.model_text.specs.Places.{Role, open_blocks}
 use Rattle.aio_form.specs.declared.places.Places.{Places}
 use Rattle.aio_form.specs.declared.standing.Standing.{Standing}
 use Rattle.aio_form.specs.declared.standing.Standing.TheVariants as standing

@@ -1,11 +1,11 @@
 -- A form before its place is looked at: the form, if no expression of it is too high, and where it may stand.
--- Source: the definitions of forms and of places (aio_script_model, specs/Forms.antt, specs/Places.antt).
+-- Source: the definitions of forms and of places (model_text, specs/Forms.antt, specs/Places.antt).
 use Rattle.std.specs.Prelude.{◌≡◌, Option, Result, IfOk, option_map}
-use Rattle.aio_script_model.specs.Forms as plain
-use Rattle.aio_script_model.specs.Places.{height_of_form}
+use Rattle.model_text.specs.Forms as plain
+use Rattle.model_text.specs.Places.{height_of_form}
+use Rattle.aio_spelled.specs.Spelled.{plain_spelled}
 use Rattle.aio_form.specs.declared.forms.Unplaced.{Unplaced}
 use Rattle.aio_form.specs.declared.standing.Standing.{Standing}
-use Rattle.aio_spelled.specs.Spelled.{plain_spelled}
 use Rattle.aio_form.specs.Fitting.{fitting}
 use Rattle.aio_form.specs.Placed.{standing_of}
 

@@ -1,8 +1,8 @@
 //! Blocks of lines, and what a line is to the blocks around it.
 ghost use Rattle.std.specs.Prelude.{◌≡◌, List};
-ghost use Rattle.aio_script_model.specs.Places.{Section as PlainSection, role_of, begins, closes};
-ghost use Rattle.aio_form.specs.Blocks.{plain_block, plain_section, plain_role, plain_open, latest_of, is_in_finally};
+ghost use Rattle.model_text.specs.Places.{Section as PlainSection, role_of, begins, closes};
 ghost use Rattle.aio_spelled.specs.Spelled.{plain_spelled};
+ghost use Rattle.aio_form.specs.Blocks.{plain_block, plain_section, plain_role, plain_open, latest_of, is_in_finally};
 
 use aio_spelled::Spelled;
 

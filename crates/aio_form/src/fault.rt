@@ -1,5 +1,5 @@
 //! Why a text is refused.
-use aio_script_model::Cause;
+use model_text::Cause;
 use std::alloc::{AllocError, AllocFailed};
 use thiserror::Error;
 

@@ -1,8 +1,8 @@
 //! The forms of lines.
 ghost use Rattle.std.specs.Prelude.{◌≡◌, Some, option_map, map};
 ghost use Rattle.std.specs.Rc.{rc_str_bytes};
-ghost use Rattle.aio_script_model.specs.Forms.{alone, with_term, profile_form, def_form, yield_from, yield_form, assigned_form, name_form, print_form, return_form, except_form, with_form, form_behind, form_of, Assign, YieldFrom, Raise, Return, If, While, WithGroup};
-ghost use Rattle.aio_script_model.specs.Places.{height_of_form};
+ghost use Rattle.model_text.specs.Forms.{alone, with_term, profile_form, def_form, yield_from, yield_form, assigned_form, name_form, print_form, return_form, except_form, with_form, form_behind, form_of, Assign, YieldFrom, Raise, Return, If, While, WithGroup};
+ghost use Rattle.model_text.specs.Places.{height_of_form};
 ghost use Rattle.aio_term.specs.Lexeme.{plain_lexeme};
 ghost use Rattle.aio_spelled.specs.Spelled.{plain_spelled, plain_goal};
 ghost use Rattle.aio_form.specs.Fronts.{as_name, timeout_parts, timeout_form};
@@ -28,7 +28,7 @@ pub struct Unplaced {
 }
 
 /// The form of a line, which has lexemes.
-#[tactic(auto, unfolding(aio_script_model::specs::Forms::form_of))]
+#[tactic(auto, unfolding(model_text::specs::Forms::form_of))]
 pub fn form_of(alloc: Global, lexemes: &[Lexeme]) -> Result<Option<Unplaced>, AllocError>
     ensures { Reads result (form_of (map plain_lexeme lexemes.now)) }
 {

@@ -1,10 +1,10 @@
 //! What lexemes begin or end with.
 ghost use Rattle.std.specs.Prelude.{◌≡◌, option_map, map};
 ghost use Rattle.std.specs.Rc.{rc_str_bytes};
-ghost use Rattle.aio_script_model.specs.Words.{is_sign};
-ghost use Rattle.aio_script_model.specs.Cutting.{before_last};
-ghost use Rattle.aio_script_model.specs.Levels.{bare_name};
-ghost use Rattle.aio_script_model.specs.Forms.{before_as};
+ghost use Rattle.model_text.specs.Words.{is_sign};
+ghost use Rattle.model_text.specs.Cutting.{before_last};
+ghost use Rattle.model_text.specs.Levels.{bare_name};
+ghost use Rattle.model_text.specs.Forms.{before_as};
 ghost use Rattle.aio_term.specs.Lexeme.{plain_lexeme};
 ghost use Rattle.aio_form.specs.Fronts.{is_word, name_in, behind_sign, behind_word, behind_name, in_parentheses, as_name, closing_name};
 

@@ -1,8 +1,8 @@
 //! What `yield from` names.
 ghost use Rattle.std.specs.Prelude.{◌≡◌, option_map, map, IfOk};
 ghost use Rattle.std.specs.Rc.{rc_str_bytes};
-ghost use Rattle.aio_script_model.specs.Forms.{coroutine_place, goal_of};
-ghost use Rattle.aio_script_model.specs.Places.{height_of_goal};
+ghost use Rattle.model_text.specs.Forms.{coroutine_place, goal_of};
+ghost use Rattle.model_text.specs.Places.{height_of_goal};
 ghost use Rattle.aio_term.specs.Lexeme.{plain_lexeme};
 ghost use Rattle.aio_spelled.specs.Spelled.{plain_goal};
 ghost use Rattle.aio_form.specs.Fitting.{fitting};

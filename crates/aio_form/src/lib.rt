@@ -15,7 +15,7 @@ mod terms;
 mod tests;
 mod text;
 
-pub use aio_script_model::Cause;
+pub use model_text::Cause;
 pub use aio_spelled::{Arguments, Goal, NumberedForm, Spelled};
 pub use aio_term::{Operand, Term};
 pub use fault::FormFault;

@@ -1,8 +1,8 @@
 //! What stands between commas.
 ghost use Rattle.std.specs.Prelude.{◌≡◌, ◌+◌, ◌^◌, ◌<◌, ◌&&◌, nat_eq, map, IfOk};
-ghost use Rattle.aio_script_model.specs.declared.symbol.Symbol.TheVariants as symbol;
-ghost use Rattle.aio_script_model.specs.Words.{is_sign};
-ghost use Rattle.aio_script_model.specs.Cutting.{depth_behind, parts};
+ghost use Rattle.model_text.specs.declared.symbol.Symbol.TheVariants as symbol;
+ghost use Rattle.model_text.specs.Words.{is_sign};
+ghost use Rattle.model_text.specs.Cutting.{depth_behind, parts};
 ghost use Rattle.aio_term.specs.Lexeme.{plain_lexeme};
 ghost use Rattle.aio_form.specs.Parts.{plain_part};
 

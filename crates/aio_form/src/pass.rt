@@ -1,10 +1,10 @@
 //! The first pass over a text.
 ghost use Rattle.std.specs.Prelude.{◌≡◌, List, ◌∷◌, Ok, Some, None, IfOk, IfErr, map, option_map, length};
-ghost use Rattle.aio_script_model.specs.Forms.{Spelled as PlainSpelled};
-ghost use Rattle.aio_script_model.specs.Places.{Role as PlainRole, role_of, cause_behind, is_profile};
-ghost use Rattle.aio_script_model.specs.TextLines.{text_lines};
-ghost use Rattle.aio_script_model.specs.Tokens.{tokens_of};
-ghost use Rattle.aio_script_model.specs.FirstPass.{line_behind, first_pass};
+ghost use Rattle.model_text.specs.Forms.{Spelled as PlainSpelled};
+ghost use Rattle.model_text.specs.Places.{Role as PlainRole, role_of, cause_behind, is_profile};
+ghost use Rattle.model_text.specs.TextLines.{text_lines};
+ghost use Rattle.model_text.specs.Tokens.{tokens_of};
+ghost use Rattle.model_text.specs.FirstPass.{line_behind, first_pass};
 ghost use Rattle.aio_spelled.specs.Spelled.{plain_spelled, plain_numbered};
 ghost use Rattle.aio_form.specs.Placed.{IsBehind};
 ghost use Rattle.aio_form.specs.Unplaced.{plain_unplaced, unplaced_of};
@@ -17,7 +17,7 @@ use crate::forms::{Unplaced, form_of};
 use crate::places::Places;
 use crate::text::next_text_line;
 use aio_lex::{LexFault, TokenList, tokens};
-use aio_script_model::Cause;
+use model_text::Cause;
 use aio_spelled::{NumberedForm, Spelled};
 use aio_term::lexemes;
 use std::alloc::Global;

@@ -1,8 +1,8 @@
 //! Where a line may stand, by the lines before it.
 ghost use Rattle.std.specs.Prelude.{◌≡◌, List, [], ◌∷◌, nat_eq, length, OnOk};
 ghost use Rattle.std.specs.List.{list_any};
-ghost use Rattle.aio_script_model.specs.Forms.{Spelled as PlainSpelled};
-ghost use Rattle.aio_script_model.specs.Places.{Role as PlainRole, open_blocks, may_stand, fits, is_outside};
+ghost use Rattle.model_text.specs.Forms.{Spelled as PlainSpelled};
+ghost use Rattle.model_text.specs.Places.{Role as PlainRole, open_blocks, may_stand, fits, is_outside};
 ghost use Rattle.aio_form.specs.Blocks.{plain_role, plain_open, is_in_finally};
 ghost use Rattle.aio_form.specs.Placed.{IsBehind, standing_of};
 

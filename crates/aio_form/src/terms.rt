@@ -1,10 +1,10 @@
 //! The expressions of a line. In place of what is too high stands nothing.
 ghost use Rattle.std.specs.Prelude.{◌≡◌, List, [], ◌∷◌, ◌++◌, option_map, option_and_then, map, IfOk};
 ghost use Rattle.std.specs.Rc.{rc_str_bytes};
-ghost use Rattle.aio_script_model.specs.Terms.{Term as PlainTerm, height};
-ghost use Rattle.aio_script_model.specs.Levels.{term_of, all_of, bare_name, from_bare, arguments_of};
-ghost use Rattle.aio_script_model.specs.Places.{heights};
-ghost use Rattle.aio_term_model.specs.Operands.{that_fits};
+ghost use Rattle.model_text.specs.Terms.{Term as PlainTerm, height};
+ghost use Rattle.model_text.specs.Levels.{term_of, all_of, bare_name, from_bare, arguments_of};
+ghost use Rattle.model_text.specs.Places.{heights};
+ghost use Rattle.law_reading.specs.Operands.{that_fits};
 ghost use Rattle.aio_term.specs.Lexeme.{plain_lexeme};
 ghost use Rattle.aio_term.specs.Operand.{plain_operand};
 ghost use Rattle.aio_spelled.specs.Spelled.{plain_arguments};

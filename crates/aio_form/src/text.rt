@@ -1,6 +1,6 @@
 //! The lines of a script's text.
 ghost use Rattle.std.specs.Prelude.{◌≡◌, ◌<◌, ◌↔◌, [], ◌∷◌, length, IsNone, IfSome};
-ghost use Rattle.aio_script_model.specs.TextLines.{text_lines};
+ghost use Rattle.model_text.specs.TextLines.{text_lines};
 ghost use Rattle.aio_form.specs.Lines.{without_return};
 
 use aio_text::next_line;

@@ -6,13 +6,13 @@ use Rattle.std.proofs.lemmas.Str.{IsUtf8-from_ascii}
 use Rattle.std.proofs.lemmas.Str.Ascii.{IsAscii-nil, IsAscii-cons}
 use Rattle.std.proofs.lemmas.Bool.{and_parts}
 use Rattle.std.proofs.lemmas.Bool.Decides.{nat_tests}
-use Rattle.aio_script_model.specs.Letters.{is_word}
-use Rattle.aio_script_model.specs.declared.literal.Literal.{Literal}
-use Rattle.aio_script_model.specs.declared.literal.Literal.TheVariants.{OfText}
-use Rattle.aio_script_model.specs.Literals.{parts_of, literal_bytes}
-use Rattle.aio_script_model.proofs.RunLemmas.{run_of}
-use Rattle.aio_script_model.proofs.PartLemmas.{Says-literal_bytes}
-use Rattle.aio_script_model.proofs.RangeLemmas.{says_small}
+use Rattle.model_text.specs.Letters.{is_word}
+use Rattle.model_text.specs.declared.literal.Literal.{Literal}
+use Rattle.model_text.specs.declared.literal.Literal.TheVariants.{OfText}
+use Rattle.model_text.specs.Literals.{parts_of, literal_bytes}
+use Rattle.law_tokens.proofs.RunLemmas.{run_of}
+use Rattle.law_tokens.proofs.PartLemmas.{Says-literal_bytes}
+use Rattle.law_tokens.proofs.RangeLemmas.{says_small}
 
 pub IsAscii-below : (bytes : List ℕ) → AllByRecursion (λ byte. byte < 128) bytes → IsAscii bytes
 IsAscii-below [] all = IsAscii-nil

@@ -3,12 +3,12 @@ use Rattle.std.proofs.Common.{◌≡◌, ℕ, ◌<◌, true, false, ◌&&◌, Li
 use Rattle.std.specs.List.{take_while}
 use Rattle.std.specs.Char.{is_ascii_digit}
 use Rattle.std.proofs.lemmas.Bool.{eq-eqb}
-use Rattle.aio_script_model.specs.declared.literal.Literal.TheVariants.{OfText, OfBytes}
-use Rattle.aio_script_model.specs.Letters.{is_word, is_space, is_hash, is_quote}
-use Rattle.aio_script_model.specs.Symbols.{symbol_at}
-use Rattle.aio_script_model.specs.Literals.{inside_of}
-use Rattle.aio_script_model.specs.Pieces.{Blank, Comment, Word, Numeral, literal_at, punctuation_at}
-use Rattle.aio_script_model.proofs.PieceLemmas.{piece_at-space, piece_at-hash, piece_at-quote, piece_at-b, piece_at-digit, piece_at-word, piece_at-other}
+use Rattle.model_text.specs.declared.literal.Literal.TheVariants.{OfText, OfBytes}
+use Rattle.model_text.specs.Letters.{is_word, is_space, is_hash, is_quote}
+use Rattle.model_text.specs.Symbols.{symbol_at}
+use Rattle.model_text.specs.Literals.{inside_of}
+use Rattle.model_text.specs.Pieces.{Blank, Comment, Word, Numeral, literal_at, punctuation_at}
+use Rattle.law_tokens.proofs.PieceLemmas.{piece_at-space, piece_at-hash, piece_at-quote, piece_at-b, piece_at-digit, piece_at-word, piece_at-other}
 use Rattle.aio_lex.specs.Fronts.{first_piece}
 
 pub first-space : (rest : List ℕ) → 0 < length rest → get_or rest 0 0 ≡ 32 → first_piece rest ≡ Blank

@@ -5,7 +5,7 @@ use Rattle.std.specs.Char.{is_ascii_digit}
 use Rattle.std.proofs.lemmas.List.{take-append-drop}
 use Rattle.std.proofs.lemmas.List.Sums.{fold-append, fold_more}
 use Rattle.std.proofs.lemmas.Bool.{and_right, le-ltb}
-use Rattle.aio_script_model.specs.Tokens.{number_of, is_number}
+use Rattle.model_text.specs.Tokens.{number_of, is_number}
 
 abbrev with_digit : ℕ → ℕ → ℕ
 with_digit number digit = 10 * number + (digit - 48)

@@ -2,10 +2,10 @@
 use Rattle.std.proofs.Common.{◌≡◌, ℕ, ◌+◌, ◌-◌, ◌<◌, ◌≤◌, List, [], ◌∷◌, ◌++◌, length, take, drop, refl, sym, ap, ◌∙◌, arith, Some, Result, Ok, Err, append_assoc}
 use Rattle.std.proofs.lemmas.List.{length-drop, drop-drop}
 use Rattle.std.proofs.Math.Seq.{take-length}
-use Rattle.aio_script_model.specs.declared.literal.Literal.{Literal}
-use Rattle.aio_script_model.specs.Faults.{TokenFault, both_or_fault}
-use Rattle.aio_script_model.specs.Literals.{parts_of, part_value, literal_bytes}
-use Rattle.aio_script_model.proofs.PartLemmas.{parts_of-cons, length-part_at}
+use Rattle.model_text.specs.declared.literal.Literal.{Literal}
+use Rattle.model_text.specs.Faults.{TokenFault, both_or_fault}
+use Rattle.model_text.specs.Literals.{parts_of, part_value, literal_bytes}
+use Rattle.law_tokens.proofs.PartLemmas.{parts_of-cons, length-part_at}
 use Rattle.aio_lex.specs.Fronts.{first_part}
 
 -- the rest of a slice from a place on

@@ -1,11 +1,11 @@
 -- One more piece of a line.
 use Rattle.std.proofs.Common.{◌≡◌, ℕ, ◌+◌, ◌-◌, ◌<◌, ◌≤◌, List, [], ◌∷◌, ◌++◌, length, take, drop, refl, sym, ap, ◌∙◌, arith, Result, Ok}
 use Rattle.std.proofs.lemmas.List.{length-drop, drop-drop}
-use Rattle.aio_script_model.specs.Faults.{TokenFault, both_or_fault}
-use Rattle.aio_script_model.specs.Pieces.{piece_at, piece_text, pieces_of}
-use Rattle.aio_script_model.specs.Tokens.{Token, piece_tokens, tokens_in, tokens_of}
-use Rattle.aio_script_model.proofs.CutLemmas.{pieces_of-cons, length-piece_at}
-use Rattle.aio_script_model.proofs.PartLemmas.{nothing_and}
+use Rattle.model_text.specs.Faults.{TokenFault, both_or_fault}
+use Rattle.model_text.specs.Pieces.{piece_at, piece_text, pieces_of}
+use Rattle.model_text.specs.Tokens.{Token, piece_tokens, tokens_in, tokens_of}
+use Rattle.law_tokens.proofs.CutLemmas.{pieces_of-cons, length-piece_at}
+use Rattle.law_tokens.proofs.PartLemmas.{nothing_and}
 use Rattle.aio_lex.specs.Fronts.{first_piece}
 use Rattle.aio_lex.proofs.SaidLemmas.{slice_rest, both_both}
 

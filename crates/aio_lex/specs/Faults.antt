@@ -1,6 +1,6 @@
 -- A fault of the code against a fault of the definition: want of memory is none.
 use Rattle.std.specs.Prelude.{◌≡◌, Result, Ok, Err}
-use Rattle.aio_script_model.specs.Faults as model
+use Rattle.model_text.specs.Faults as model
 use Rattle.aio_lex.specs.declared.fault.LexFault.{LexFault}
 use Rattle.aio_lex.specs.declared.fault.LexFault.TheVariants.{BadByte, BadNumber, OpenText, Memory}
 

@@ -1,8 +1,8 @@
 -- What stands at the front of bytes, by the definition's pieces and parts.
 use Rattle.std.specs.Prelude.{◌≡◌, ℕ, List, [], ◌∷◌, length, Result, Ok, Err, option_to_list}
-use Rattle.aio_script_model.specs.Literals.{part_at}
-use Rattle.aio_script_model.specs.Pieces.{Piece, Blank, piece_at, piece_text}
-use Rattle.aio_script_model.specs.Tokens.{piece_tokens}
+use Rattle.model_text.specs.Literals.{part_at}
+use Rattle.model_text.specs.Pieces.{Piece, Blank, piece_at, piece_text}
+use Rattle.model_text.specs.Tokens.{piece_tokens}
 use Rattle.aio_lex.specs.declared.fault.LexFault.{LexFault}
 use Rattle.aio_lex.specs.declared.front.Front.{Front}
 use Rattle.aio_lex.specs.Faults.{IsFaultOf}

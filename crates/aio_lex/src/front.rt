@@ -1,10 +1,10 @@
 //! What stands at the front of what is left of a line.
 
 ghost use Rattle.std.specs.Prelude.{◌≡◌, ◌<◌, ◌≤◌, ◌+◌, ◌^◌, false, length, slice_index, drop, IsTrue, take_while, IfOk, IsAscii, string_bytes, Some};
-ghost use Rattle.aio_script_model.specs.Letters.{is_word, is_quote};
-ghost use Rattle.aio_script_model.specs.Symbols.{symbol_at};
-ghost use Rattle.aio_script_model.specs.Literals.{inside_of};
-ghost use Rattle.aio_script_model.specs.Pieces.{Comment, Word, Numeral, literal_at, punctuation_at};
+ghost use Rattle.model_text.specs.Letters.{is_word, is_quote};
+ghost use Rattle.model_text.specs.Symbols.{symbol_at};
+ghost use Rattle.model_text.specs.Literals.{inside_of};
+ghost use Rattle.model_text.specs.Pieces.{Comment, Word, Numeral, literal_at, punctuation_at};
 ghost use Rattle.aio_lex.specs.Token.{plain_content};
 ghost use Rattle.aio_lex.specs.Fronts.{FrontIs, first_piece};
 
@@ -14,7 +14,7 @@ use crate::number::number;
 use crate::symbols::{symbol, symbol_len};
 use crate::token::{Content, Span, Token};
 use crate::words::{bad_place, is_word, word_len};
-use aio_script_model::Literal;
+use model_text::Literal;
 use std::alloc::{AllocError, Global};
 
 /// A token or none, and how many bytes it takes.
@@ -43,7 +43,7 @@ impl Front {
     }
 }
 
-#[tactic(auto, unfolding(aio_script_model::specs::Tokens::piece_tokens))]
+#[tactic(auto, unfolding(model_text::specs::Tokens::piece_tokens))]
 fn comment(text: &[u8], column: usize) -> Result<Front, LexFault>
     requires { column + length text.now < 2 ^ 64 }
     ensures { FrontIs column (Comment text.now) result }
@@ -64,7 +64,7 @@ fn ascii_text(alloc: Global, bytes: &[u8]) -> Result<String, AllocError>
     String::from_str(alloc, str::from_utf8(bytes).unwrap())
 }
 
-#[tactic(auto, unfolding(aio_script_model::specs::Tokens::piece_tokens))]
+#[tactic(auto, unfolding(model_text::specs::Tokens::piece_tokens))]
 fn word(alloc: Global, rest: &[u8], column: usize) -> Result<Front, LexFault>
     requires { column + length rest.now < 2 ^ 64 }
     ensures { FrontIs column (Word (take_while is_word rest.now)) result }
@@ -74,7 +74,7 @@ fn word(alloc: Global, rest: &[u8], column: usize) -> Result<Front, LexFault>
     Ok(Front::token(Content::Name(name), column, len))
 }
 
-#[tactic(auto, unfolding(aio_script_model::specs::Tokens::piece_tokens))]
+#[tactic(auto, unfolding(model_text::specs::Tokens::piece_tokens))]
 fn numeral(rest: &[u8], column: usize) -> Result<Front, LexFault>
     requires { column + length rest.now < 2 ^ 64 }
     ensures { FrontIs column (Numeral (take_while is_word rest.now)) result }
@@ -87,7 +87,7 @@ fn numeral(rest: &[u8], column: usize) -> Result<Front, LexFault>
 }
 
 /// A literal, by the bytes behind its opening quote.
-#[tactic(auto, unfolding(aio_script_model::specs::Tokens::piece_tokens))]
+#[tactic(auto, unfolding(model_text::specs::Tokens::piece_tokens))]
 fn literal(alloc: Global, literal: Literal, bytes: &[u8], column: usize) -> Result<Front, LexFault>
     requires { column + 2 + length bytes.now < 2 ^ 64 }
     ensures { FrontIs column (literal_at literal bytes.now (inside_of false bytes.now)) result }
@@ -107,7 +107,7 @@ fn literal(alloc: Global, literal: Literal, bytes: &[u8], column: usize) -> Resu
     Ok(Front::token(content, column, opening + place + 1))
 }
 
-#[tactic(auto, unfolding(aio_script_model::specs::Tokens::piece_tokens))]
+#[tactic(auto, unfolding(model_text::specs::Tokens::piece_tokens))]
 fn punctuation(rest: &[u8], column: usize) -> Result<Front, LexFault>
     requires some { 0 < length rest.now }
     requires fits { column + length rest.now < 2 ^ 64 }

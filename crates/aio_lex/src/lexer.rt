@@ -1,5 +1,5 @@
 ghost use Rattle.std.specs.Prelude.{◌≡◌, Ok, IfOk, IfErr};
-ghost use Rattle.aio_script_model.specs.Tokens.{tokens_of};
+ghost use Rattle.model_text.specs.Tokens.{tokens_of};
 ghost use Rattle.aio_lex.specs.Faults.{IsFaultOf};
 
 use crate::fault::LexFault;

@@ -13,7 +13,7 @@ mod tests;
 mod token;
 mod words;
 
-pub use aio_script_model::Symbol;
+pub use model_text::Symbol;
 pub use fault::LexFault;
 pub use lexer::tokens;
 pub use list::TokenList;

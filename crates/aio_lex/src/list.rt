@@ -9,7 +9,7 @@ pub struct TokenList {
 
 impl Model for TokenList {
     ghost use Rattle.std.specs.Prelude.{List};
-    ghost use Rattle.aio_script_model.specs.Tokens.{Token as PlainToken};
+    ghost use Rattle.model_text.specs.Tokens.{Token as PlainToken};
 
     ghost Value = { List PlainToken };
 

@@ -2,13 +2,13 @@
 
 ghost use Rattle.std.specs.Prelude.{◌≡◌, ◌<◌, ◌≤◌, ◌+◌, ◌^◌, true, false, length, take, Some, None, MatchOption};
 ghost use Rattle.std.specs.Char.{is_ascii_hexdigit, digit_value};
-ghost use Rattle.aio_script_model.specs.Literals.{limit, inside_of, escape_value, hexadecimal_value, value_below, part_value, parts_of, literal_bytes};
+ghost use Rattle.model_text.specs.Literals.{limit, inside_of, escape_value, hexadecimal_value, value_below, part_value, parts_of, literal_bytes};
 ghost use Rattle.aio_lex.specs.Faults.{Gives};
 ghost use Rattle.aio_lex.specs.Fronts.{first_part};
 
 use crate::fault::LexFault;
 use crate::words::is_allowed;
-use aio_script_model::Literal;
+use model_text::Literal;
 use std::alloc::Global;
 
 /// Where the closing quote stands, by the bytes behind the opening one.

@@ -1,5 +1,5 @@
 ghost use Rattle.std.specs.Prelude.{◌≡◌, true, false, pos, MatchOption};
-ghost use Rattle.aio_script_model.specs.Tokens.{is_number, number_of};
+ghost use Rattle.model_text.specs.Tokens.{is_number, number_of};
 
 /// The number that a text of decimal digits writes; nothing where it has another byte or the number is too great.
 pub fn number(text: &[u8]) -> Option<i64>

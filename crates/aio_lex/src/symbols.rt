@@ -1,7 +1,7 @@
 ghost use Rattle.std.specs.Prelude.{◌≡◌, length};
-ghost use Rattle.aio_script_model.specs.Symbols.{symbol_text, symbol_at};
+ghost use Rattle.model_text.specs.Symbols.{symbol_text, symbol_at};
 
-use aio_script_model::Symbol;
+use model_text::Symbol;
 
 /// The longest symbol at the front of the bytes.
 pub fn symbol(bytes: &[u8]) -> Option<Symbol>

@@ -1,4 +1,4 @@
-use aio_script_model::Symbol;
+use model_text::Symbol;
 use std::marker::Model;
 
 /// What a token is, with its value.
@@ -40,7 +40,7 @@ pub struct Token {
 }
 
 impl Model for Token {
-    ghost use Rattle.aio_script_model.specs.Tokens.{Token as PlainToken};
+    ghost use Rattle.model_text.specs.Tokens.{Token as PlainToken};
 
     ghost Value = { PlainToken };
 

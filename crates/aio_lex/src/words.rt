@@ -2,7 +2,7 @@
 
 ghost use Rattle.std.specs.Prelude.{◌≡◌, not, position};
 ghost use Rattle.std.specs.List.{prefix_len};
-ghost use Rattle.aio_script_model.specs.Letters.{is_word, is_allowed};
+ghost use Rattle.model_text.specs.Letters.{is_word, is_allowed};
 
 /// Whether a byte belongs to a name or a number.
 pub fn is_word(byte: u8) -> bool

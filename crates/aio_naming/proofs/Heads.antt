@@ -7,10 +7,10 @@ use Rattle.std.specs.Str.{bytes_eq}
 use Rattle.std.specs.BTreeSet as sorted
 use denote.Ref.{Bor}
 use Rattle.std.proofs.lemmas.List.Folds.{list_any-append}
-use Rattle.aio_script_model.specs.declared.cause.Cause.TheVariants as cause
-use Rattle.aio_script_model.specs.Syntax.{Name}
-use Rattle.aio_script_model.specs.Naming.{both, if_known, if_arity}
-use Rattle.aio_script_model.specs.SecondPass.{are_fresh}
+use Rattle.model_tree.specs.Syntax.{Name}
+use Rattle.model_text.specs.declared.cause.Cause.TheVariants as cause
+use Rattle.model_text.specs.Naming.{both, if_known, if_arity}
+use Rattle.model_text.specs.SecondPass.{are_fresh}
 use Rattle.aio_naming.specs.Scope.{Holds, is_free}
 use Rattle.aio_naming.proofs.Names.{drop-before}
 

@@ -2,12 +2,12 @@
 use Rattle.std.proofs.Common.{◌≡◌, ℕ, ◌+◌, ◌<◌, Bool, true, false, if◌then◌else◌, List, [], ◌∷◌, ◌++◌, length, drop, map, find, slice_index_or, Result, Ok, Err, IsErrAnd, refl, ap, ap₂, sym, ◌∙◌, subst}
 use Rattle.std.specs.Str.{bytes_eq}
 use Rattle.std.proofs.lemmas.List.{append_assoc, drop_more, map-append}
-use Rattle.aio_script_model.specs.declared.cause.Cause.TheVariants as cause
-use Rattle.aio_script_model.specs.Syntax.{Name}
-use Rattle.aio_script_model.specs.Forms.{Spelled}
-use Rattle.aio_script_model.specs.FirstPass.{Numbered, fault_at}
-use Rattle.aio_script_model.specs.Naming.{Meant, Callee}
-use Rattle.aio_script_model.specs.SecondPass.{Line, Part, Judged, judged_at, in_turn, part_judged, parts_judged, callee, main_text, is_main, main_judged, second_pass}
+use Rattle.model_tree.specs.Syntax.{Name}
+use Rattle.model_text.specs.declared.cause.Cause.TheVariants as cause
+use Rattle.model_text.specs.Forms.{Spelled}
+use Rattle.model_text.specs.FirstPass.{Numbered, fault_at}
+use Rattle.model_text.specs.Naming.{Meant, Callee}
+use Rattle.model_text.specs.SecondPass.{Line, Part, Judged, judged_at, in_turn, part_judged, parts_judged, callee, main_text, is_main, main_judged, second_pass}
 use Rattle.aio_program.specs.declared.line.NamedPart.{NamedPart}
 use Rattle.aio_program.specs.Line.{plain_part as plain_named_part}
 use Rattle.aio_naming.specs.declared.fault.MeaningFault.{MeaningFault}

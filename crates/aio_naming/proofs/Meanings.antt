@@ -1,19 +1,19 @@
 -- Both meanings of a line; expressions in order.
 use Rattle.std.proofs.Common.{◌≡◌, ◌≢◌, true, if◌then◌else◌, ℕ, zero, suc, ◌+◌, ◌<◌, List, [], ◌∷◌, ◌++◌, length, take, slice_index_or, Option, Some, Result, Ok, Err, IsErrAnd, IfErr, refl, ap, ap₂, sym, ◌∙◌, subst, arith}
 use Rattle.std.proofs.lemmas.List.{take_more, length-append}
-use Rattle.aio_script_model.specs.declared.cause.Cause.{Cause}
-use Rattle.aio_script_model.specs.declared.cause.Cause.TheVariants as cause
-use Rattle.aio_value_model.specs.declared.kind.Kind.{Kind}
 use Rattle.std.specs.Prelude.{option_map}
 use Rattle.std.specs.declared.rc.RcStr.{RcStr}
 use Rattle.std.specs.Rc.{rc_str_bytes}
 use Rattle.std.proofs.Common.{Global}
-use Rattle.aio_script_model.specs.declared.function.Function.{Function}
-use Rattle.aio_script_model.specs.Syntax.{Name, Expr, MakeError, Apply, ListOf, exprs}
-use Rattle.aio_script_model.specs.Known.{is_made_by_error, function_of, kind_of_name}
-use Rattle.aio_script_model.specs.Terms as term
-use Rattle.aio_script_model.specs.Terms.{Term, Called, terms}
-use Rattle.aio_script_model.specs.Naming.{Meant, Scope, lesser, both, meaning_of, meanings_of, all_meant, one_argument, error_of, error_call, function_call, meant_map}
+use Rattle.model_value.specs.declared.kind.Kind.{Kind}
+use Rattle.model_tree.specs.declared.function.Function.{Function}
+use Rattle.model_tree.specs.Syntax.{Name, Expr, MakeError, Apply, ListOf, exprs}
+use Rattle.model_tree.specs.Known.{is_made_by_error, function_of, kind_of_name}
+use Rattle.model_text.specs.declared.cause.Cause.{Cause}
+use Rattle.model_text.specs.declared.cause.Cause.TheVariants as cause
+use Rattle.model_text.specs.Terms as term
+use Rattle.model_text.specs.Terms.{Term, Called, terms}
+use Rattle.model_text.specs.Naming.{Meant, Scope, lesser, both, meaning_of, meanings_of, all_meant, one_argument, error_of, error_call, function_call, meant_map}
 use Rattle.aio_term.specs.TermSize.{term_size, term_list_size}
 use Rattle.aio_naming.specs.declared.fault.MeaningFault.{MeaningFault}
 use Rattle.aio_naming.specs.declared.fault.MeaningFault.TheVariants.{Refused, Memory}

@@ -14,11 +14,11 @@ use Rattle.std.proofs.lemmas.Grind.{flat_map-append}
 use Rattle.std.proofs.lemmas.List.Folds.{list_any-append}
 use Rattle.std.proofs.lemmas.Map.Text.{is_eq-slice_cmp, btree_map_updates_str}
 use Rattle.std.proofs.lemmas.Slice.Eq.{bytes_eq-Decides}
-use Rattle.aio_script_model.specs.Syntax.{Name}
-use Rattle.aio_script_model.specs.Naming.{Callee}
-use Rattle.aio_script_model.specs.Forms.{Spelled}
-use Rattle.aio_script_model.specs.FirstPass.{Numbered}
-use Rattle.aio_script_model.specs.SecondPass.{bound_by, callee}
+use Rattle.model_tree.specs.Syntax.{Name}
+use Rattle.model_text.specs.Naming.{Callee}
+use Rattle.model_text.specs.Forms.{Spelled}
+use Rattle.model_text.specs.FirstPass.{Numbered}
+use Rattle.model_text.specs.SecondPass.{bound_by, callee}
 use Rattle.aio_spelled.specs.declared.spelled.NumberedForm.{NumberedForm}
 use Rattle.aio_spelled.specs.Spelled.{plain_spelled, plain_numbered}
 use Rattle.aio_naming.specs.declared.part.Part.{Part}

@@ -2,10 +2,10 @@
 use Rattle.std.proofs.Common.{◌≡◌, ℕ, ◌-◌, ◌<◌, ◌≤◌, suc, List, [], ◌∷◌, ◌++◌, length, take, drop, map, reverse, slice_index_or, ap, ap₂, sym, ◌∙◌, arith}
 use Rattle.std.specs.Prelude.{slice_range}
 use Rattle.std.proofs.lemmas.List.{reverse-append}
-use Rattle.aio_script_model.specs.Forms.{Spelled}
-use Rattle.aio_script_model.specs.FirstPass.{Numbered}
-use Rattle.aio_script_model.specs.SecondPass as plain
-use Rattle.aio_script_model.specs.SecondPass.{Parts, before_parts, parts_of}
+use Rattle.model_text.specs.Forms.{Spelled}
+use Rattle.model_text.specs.FirstPass.{Numbered}
+use Rattle.model_text.specs.SecondPass as plain
+use Rattle.model_text.specs.SecondPass.{Parts, before_parts, parts_of}
 use Rattle.aio_spelled.specs.declared.spelled.NumberedForm.{NumberedForm}
 use Rattle.aio_spelled.specs.Spelled.{plain_spelled, plain_numbered}
 use Rattle.aio_naming.specs.declared.part.Part.{Part}

@@ -1,9 +1,9 @@
 -- What a `yield from` hands over to, by what code finds of its parts.
 use Rattle.std.proofs.Common.{◌≡◌, ℕ, Bool, true, false, if◌then◌else◌, List, length, Option, Some, None, Result, Ok, Err, IfOk, IfErr, nat_eq, refl, ap, sym, ◌∙◌, subst}
 use Rattle.std.specs.Str.{bytes_eq}
-use Rattle.aio_script_model.specs.Syntax.{Name, Expr, Exprs, exprs, Target, Call, CreateTask, ListenAt}
-use Rattle.aio_script_model.specs.Known.{spawn_text, create_text, listen_text}
-use Rattle.aio_script_model.specs.Naming.{Meant, Scope, meant_map, both, if_arity, one_argument, counted, callee_of, passed, create_by, listen_by, called_target}
+use Rattle.model_tree.specs.Syntax.{Name, Expr, Exprs, exprs, Target, Call, CreateTask, ListenAt}
+use Rattle.model_tree.specs.Known.{spawn_text, create_text, listen_text}
+use Rattle.model_text.specs.Naming.{Meant, Scope, meant_map, both, if_arity, one_argument, counted, callee_of, passed, create_by, listen_by, called_target}
 use Rattle.aio_naming.specs.declared.fault.MeaningFault.{MeaningFault}
 use Rattle.aio_naming.specs.Gives.{Fails, Gives, both_found}
 use Rattle.aio_naming.specs.Scope.{with_arity}

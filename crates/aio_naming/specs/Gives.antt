@@ -1,7 +1,7 @@
 -- What code answers for what a name means: the same meaning or the same cause, but for want of memory.
--- Source: `Naming` of aio_script_model, whose answers the code gives.
+-- Source: `Naming` of model_text, whose answers the code gives.
 use Rattle.std.specs.Prelude.{◌≡◌, ⊤, Result, Ok, Err}
-use Rattle.aio_script_model.specs.Naming.{Meant, lesser}
+use Rattle.model_text.specs.Naming.{Meant, lesser}
 use Rattle.aio_naming.specs.declared.fault.MeaningFault.{MeaningFault}
 use Rattle.aio_naming.specs.declared.fault.MeaningFault.TheVariants.{Refused, Memory}
 

@@ -1,8 +1,8 @@
 -- What code answers for the second pass: the same meanings or the same first fault, but for want of memory.
--- Source: `SecondPass` of aio_script_model, whose answers the code gives.
+-- Source: `SecondPass` of model_text, whose answers the code gives.
 use Rattle.std.specs.Prelude.{◌≡◌, ℕ, ⊤, Result, Ok, Err}
-use Rattle.aio_script_model.specs.FirstPass.{fault_at}
-use Rattle.aio_script_model.specs.SecondPass.{Judged}
+use Rattle.model_text.specs.FirstPass.{fault_at}
+use Rattle.model_text.specs.SecondPass.{Judged}
 use Rattle.aio_naming.specs.declared.fault.MeaningFault.{MeaningFault}
 use Rattle.aio_naming.specs.declared.fault.MeaningFault.TheVariants as meaning
 use Rattle.aio_naming.specs.declared.fault.NameFault.{NameFault}

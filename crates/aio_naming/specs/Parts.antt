@@ -1,10 +1,10 @@
 -- Coroutines whose lines are lent, seen as plain data.
--- Source: the definition of parts (aio_script_model, specs/SecondPass.antt).
+-- Source: the definition of parts (model_text, specs/SecondPass.antt).
 use Rattle.std.specs.Prelude.{List, map}
 use Rattle.std.specs.Rc.{rc_str_bytes}
-use Rattle.aio_script_model.specs.Forms.{Spelled}
-use Rattle.aio_script_model.specs.FirstPass.{Numbered}
-use Rattle.aio_script_model.specs.SecondPass as plain
+use Rattle.model_text.specs.Forms.{Spelled}
+use Rattle.model_text.specs.FirstPass.{Numbered}
+use Rattle.model_text.specs.SecondPass as plain
 use Rattle.aio_spelled.specs.Spelled.{plain_numbered}
 use Rattle.aio_naming.specs.declared.part.Part.{Part}
 

@@ -1,5 +1,5 @@
 -- How the names of a coroutine are looked up: the names that it binds in a set, and the coroutines in a map.
--- Source: the definition of scopes (aio_script_model, specs/Naming.antt).
+-- Source: the definition of scopes (model_text, specs/Naming.antt).
 use Rattle.std.specs.Prelude.{◌≡◌, ℕ, Bool, ◌&&◌, not, List, option_map, find}
 use Rattle.std.specs.List.{list_any}
 use Rattle.std.specs.Ordering.{nat_cmp}
@@ -8,9 +8,9 @@ use Rattle.std.specs.Cmp.Lexicographic.{slice_cmp}
 use Rattle.std.specs.BTreeMap as tree
 use Rattle.std.specs.BTreeSet as sorted
 use denote.Ref.{Bor}
-use Rattle.aio_script_model.specs.Syntax.{Name}
-use Rattle.aio_script_model.specs.Known.{is_taken}
-use Rattle.aio_script_model.specs.Naming.{Callee}
+use Rattle.model_tree.specs.Syntax.{Name}
+use Rattle.model_tree.specs.Known.{is_taken}
+use Rattle.model_text.specs.Naming.{Callee}
 
 -- the set has exactly the names of the list
 abbrev pub Holds : sorted.BTreeSet (Bor (List ℕ)) → List Name → Type 0

@@ -1,10 +1,10 @@
 //! Two meanings of one line: the least cause counts.
 ghost use Rattle.std.specs.Prelude.{◌≡◌};
-ghost use Rattle.aio_script_model.specs.Naming.{lesser, if_arity};
+ghost use Rattle.model_text.specs.Naming.{lesser, if_arity};
 ghost use Rattle.aio_naming.specs.Gives.{Gives, lesser_fault, both_found};
 
 use crate::fault::MeaningFault;
-use aio_script_model::Cause;
+use model_text::Cause;
 
 fn lesser(cause: Cause, other: Cause) -> Cause
     ensures { result ≡ lesser cause other }

@@ -1,7 +1,7 @@
 //! The coroutines of a script, by what a call must know of them.
 ghost use Rattle.std.specs.Prelude.{◌≡◌, IfOk, map, find, option_map};
 ghost use Rattle.std.specs.Str.{bytes_eq};
-ghost use Rattle.aio_script_model.specs.SecondPass.{callee};
+ghost use Rattle.model_text.specs.SecondPass.{callee};
 ghost use Rattle.aio_naming.specs.Parts.{plain_part, plain_parts};
 ghost use Rattle.aio_naming.specs.Scope.{FindsFirst, with_arity};
 
@@ -20,11 +20,11 @@ pub struct Callees<'a, 'f> {
 
 impl<'a, 'f> Model for Callees<'a, 'f> {
     ghost use Rattle.std.specs.Prelude.{List, map};
-    ghost use Rattle.aio_script_model.specs.Naming.{Callee};
+    ghost use Rattle.model_text.specs.Naming.{Callee};
 
     ghost Value = { List Callee };
 
-    ghost use Rattle.aio_script_model.specs.SecondPass.{callee};
+    ghost use Rattle.model_text.specs.SecondPass.{callee};
     ghost use Rattle.aio_naming.specs.Parts.{plain_parts};
     ghost use Rattle.aio_naming.specs.Scope.{FindsFirst};
 

@@ -3,7 +3,7 @@ ghost use Rattle.std.specs.Prelude.{◌≡◌};
 ghost use Rattle.aio_naming.specs.declared.fault.MeaningFault.TheVariants as meaning;
 ghost use Rattle.aio_naming.specs.declared.fault.NameFault.TheVariants as name;
 
-use aio_script_model::Cause;
+use model_text::Cause;
 use std::alloc::{AllocError, AllocFailed};
 use thiserror::Error;
 

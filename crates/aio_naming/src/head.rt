@@ -1,8 +1,8 @@
 //! The heads of coroutines.
 ghost use Rattle.std.specs.Prelude.{◌≡◌, ◌&&◌, ◌∷◌, List, map, IfOk, OnOk};
 ghost use Rattle.std.specs.Rc.{rc_str_bytes};
-ghost use Rattle.aio_script_model.specs.Syntax.{Name};
-ghost use Rattle.aio_script_model.specs.SecondPass.{are_fresh, head_meant};
+ghost use Rattle.model_tree.specs.Syntax.{Name};
+ghost use Rattle.model_text.specs.SecondPass.{are_fresh, head_meant};
 ghost use Rattle.aio_naming.specs.Gives.{Gives};
 ghost use Rattle.aio_naming.specs.Parts.{plain_part};
 ghost use Rattle.aio_naming.specs.Scope.{Holds, is_free};
@@ -11,7 +11,7 @@ use crate::fault::MeaningFault;
 use crate::known::is_taken;
 use crate::part::Part;
 use crate::scope::bind;
-use aio_script_model::Cause;
+use model_text::Cause;
 use std::alloc::{AllocError, Global};
 use std::collections::BTreeSet;
 use std::rc::RcStr;

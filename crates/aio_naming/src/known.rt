@@ -2,12 +2,12 @@
 ghost use Rattle.std.specs.Prelude.{◌≡◌, [], ◌∷◌};
 ghost use Rattle.std.specs.List.{list_any};
 ghost use Rattle.std.specs.Str.{bytes_eq};
-ghost use Rattle.aio_script_model.specs.Known.{function_text, function_of, request_text, request_of, request_arity, kind_of_name};
-ghost use Rattle.aio_script_model.specs.Known.{is_made_by_error, is_taken, error_text, spawn_text, create_text, listen_text};
+ghost use Rattle.model_tree.specs.Known.{function_text, function_of, request_text, request_of, request_arity, kind_of_name};
+ghost use Rattle.model_tree.specs.Known.{is_made_by_error, is_taken, error_text, spawn_text, create_text, listen_text};
 
 use aio_base::name_of;
-use aio_script_model::{Function, RequestName};
-use aio_value_model::Kind;
+use model_tree::{Function, RequestName};
+use model_value::Kind;
 
 const FUNCTIONS: [Function; 8] = [
     Function::Len,

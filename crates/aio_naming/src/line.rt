@@ -1,10 +1,10 @@
 //! What a line means.
 ghost use Rattle.std.specs.Prelude.{◌≡◌, IfOk, map, option_map};
 ghost use Rattle.std.specs.Rc.{rc_str_bytes};
-ghost use Rattle.aio_script_model.specs.Forms as form;
-ghost use Rattle.aio_script_model.specs.Known.{kind_of_name};
-ghost use Rattle.aio_script_model.specs.Naming.{both, meaning_of, all_meant, target_of};
-ghost use Rattle.aio_script_model.specs.SecondPass.{free, free_or_none, kind_meant, value_meant, line_meant};
+ghost use Rattle.model_tree.specs.Known.{kind_of_name};
+ghost use Rattle.model_text.specs.Forms as form;
+ghost use Rattle.model_text.specs.Naming.{both, meaning_of, all_meant, target_of};
+ghost use Rattle.model_text.specs.SecondPass.{free, free_or_none, kind_meant, value_meant, line_meant};
 ghost use Rattle.aio_spelled.specs.Spelled.{plain_goal, plain_spelled};
 ghost use Rattle.aio_program.specs.Line.{plain_line};
 ghost use Rattle.aio_program.specs.Target.{plain_name};
@@ -17,11 +17,11 @@ use crate::meaning::{all_meant, meaning_of};
 use crate::scope::Scope;
 use crate::target::target_of;
 use aio_program::Line;
-use aio_script_model::Cause;
+use model_text::Cause;
 use aio_spelled::{Goal, Spelled};
 use aio_syntax::{Expr, ExprList};
 use aio_term::Term;
-use aio_value_model::Kind;
+use model_value::Kind;
 use std::alloc::{AllocError, Global};
 use std::rc::RcStr;
 

@@ -1,9 +1,9 @@
 //! What the names of an expression mean.
 ghost use Rattle.std.specs.Prelude.{◌≡◌, ◌++◌, [], ◌∷◌, List, Ok, IfOk, IfErr, option_map};
 ghost use Rattle.std.specs.Rc.{rc_str_bytes};
-ghost use Rattle.aio_script_model.specs.Syntax.{Expr, Variable};
-ghost use Rattle.aio_script_model.specs.Known.{function_of, kind_of_name};
-ghost use Rattle.aio_script_model.specs.Naming.{Meant, both, if_known, is_variable, meaning_of, all_meant, one_argument, error_of, error_call, function_call};
+ghost use Rattle.model_tree.specs.Syntax.{Expr, Variable};
+ghost use Rattle.model_tree.specs.Known.{function_of, kind_of_name};
+ghost use Rattle.model_text.specs.Naming.{Meant, both, if_known, is_variable, meaning_of, all_meant, one_argument, error_of, error_call, function_call};
 ghost use Rattle.aio_syntax.specs.Constant.{constant_of};
 ghost use Rattle.aio_naming.specs.Gives.{Gives, Fails};
 
@@ -11,7 +11,7 @@ use crate::both::both;
 use crate::fault::MeaningFault;
 use crate::known::{function_of, is_made_by_error, kind_of_name};
 use crate::scope::Scope;
-use aio_script_model::Cause;
+use model_text::Cause;
 use aio_syntax::{Constant, Expr, ExprList};
 use aio_term::{Term, TermCase};
 use std::alloc::{AllocError, Global};

@@ -1,9 +1,9 @@
 //! The lines of each coroutine.
 ghost use Rattle.std.specs.Prelude.{◌≡◌, [], ◌∷◌, List, map, IfOk, IfSome, IfNone};
-ghost use Rattle.aio_script_model.specs.Forms.{Spelled as PlainSpelled};
-ghost use Rattle.aio_script_model.specs.FirstPass.{Numbered};
-ghost use Rattle.aio_script_model.specs.SecondPass.{Part as PlainPart, Parts, before_parts, parts_of};
-ghost use Rattle.aio_script_model.specs.Scripts.{profile_in};
+ghost use Rattle.model_text.specs.Forms.{Spelled as PlainSpelled};
+ghost use Rattle.model_text.specs.FirstPass.{Numbered};
+ghost use Rattle.model_text.specs.SecondPass.{Part as PlainPart, Parts, before_parts, parts_of};
+ghost use Rattle.model_text.specs.Scripts.{profile_in};
 ghost use Rattle.aio_spelled.specs.Spelled.{plain_spelled, plain_numbered};
 ghost use Rattle.aio_naming.specs.Parts.{plain_part, plain_parts, lines_before};
 

@@ -1,8 +1,8 @@
 //! The second pass: what the names of a script mean.
 ghost use Rattle.std.specs.Prelude.{◌≡◌, [], List, map, find};
 ghost use Rattle.std.specs.Str.{bytes_eq};
-ghost use Rattle.aio_script_model.specs.Syntax.{Name};
-ghost use Rattle.aio_script_model.specs.SecondPass.{parts_of, is_main, main_text, lines_judged, part_judged, parts_judged, second_pass};
+ghost use Rattle.model_tree.specs.Syntax.{Name};
+ghost use Rattle.model_text.specs.SecondPass.{parts_of, is_main, main_text, lines_judged, part_judged, parts_judged, second_pass};
 ghost use Rattle.aio_spelled.specs.Spelled.{plain_numbered};
 ghost use Rattle.aio_program.specs.Line.{plain_line, plain_part as plain_named_part};
 ghost use Rattle.aio_naming.specs.Judges.{Judges, found_at};
@@ -16,7 +16,7 @@ use crate::line::{line_meant, shared_names};
 use crate::part::{Part, parts_of};
 use crate::scope::{Scope, bind};
 use aio_program::{Line, NamedPart};
-use aio_script_model::Cause;
+use model_text::Cause;
 use aio_spelled::NumberedForm;
 use std::alloc::Global;
 use std::collections::BTreeSet;

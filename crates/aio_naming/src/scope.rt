@@ -2,9 +2,9 @@
 ghost use Rattle.std.specs.Prelude.{◌≡◌, ◌++◌, [], ◌∷◌, List, IfOk, OnOk, map, option_map, option_to_list};
 ghost use Rattle.std.specs.Option.{option_copied};
 ghost use Rattle.std.specs.Rc.{rc_str_bytes};
-ghost use Rattle.aio_script_model.specs.Syntax.{Name};
-ghost use Rattle.aio_script_model.specs.Naming.{is_variable, callee_of};
-ghost use Rattle.aio_script_model.specs.SecondPass.{bound_by, variables_in};
+ghost use Rattle.model_tree.specs.Syntax.{Name};
+ghost use Rattle.model_text.specs.Naming.{is_variable, callee_of};
+ghost use Rattle.model_text.specs.SecondPass.{bound_by, variables_in};
 ghost use Rattle.aio_spelled.specs.Spelled.{plain_spelled};
 ghost use Rattle.aio_naming.specs.Parts.{plain_part};
 ghost use Rattle.aio_naming.specs.Scope.{Holds, with_arity};
@@ -27,11 +27,11 @@ pub struct Scope<'a, 'f> {
 }
 
 impl<'a, 'f> Model for Scope<'a, 'f> {
-    ghost use Rattle.aio_script_model.specs.Naming as plain;
+    ghost use Rattle.model_text.specs.Naming as plain;
 
     ghost Value = { plain.Scope };
 
-    ghost use Rattle.aio_script_model.specs.SecondPass.{variables_in};
+    ghost use Rattle.model_text.specs.SecondPass.{variables_in};
     ghost use Rattle.aio_naming.specs.Parts.{plain_part};
     ghost use Rattle.aio_naming.specs.Scope.{Holds};
 

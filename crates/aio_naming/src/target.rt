@@ -1,10 +1,10 @@
 //! What a `yield from` hands over to.
 ghost use Rattle.std.specs.Prelude.{◌≡◌, List, Ok, IfOk, IfErr, nat_eq, option_map};
 ghost use Rattle.std.specs.Rc.{rc_str_bytes};
-ghost use Rattle.aio_script_model.specs.Syntax.{Exprs, exprs, Target as PlainTarget, Await, Call};
-ghost use Rattle.aio_script_model.specs.Known.{request_of};
-ghost use Rattle.aio_script_model.specs.Naming.{both, if_known, if_arity, is_variable, all_meant, counted, missing, callee_of, passed};
-ghost use Rattle.aio_script_model.specs.Naming.{request_target, spawn_target, create_by, create_target, listen_by, listen_target, called_target, target_of};
+ghost use Rattle.model_tree.specs.Syntax.{Exprs, exprs, Target as PlainTarget, Await, Call};
+ghost use Rattle.model_tree.specs.Known.{request_of};
+ghost use Rattle.model_text.specs.Naming.{both, if_known, if_arity, is_variable, all_meant, counted, missing, callee_of, passed};
+ghost use Rattle.model_text.specs.Naming.{request_target, spawn_target, create_by, create_target, listen_by, listen_target, called_target, target_of};
 ghost use Rattle.aio_spelled.specs.Spelled.{plain_goal};
 ghost use Rattle.aio_program.specs.Target.{plain_target};
 ghost use Rattle.aio_naming.specs.Gives.{Gives, Fails};
@@ -15,7 +15,8 @@ use crate::known::{request_arity, request_of};
 use crate::meaning::{all_meant, one_argument};
 use crate::scope::Scope;
 use aio_program::Target;
-use aio_script_model::{Cause, RequestName};
+use model_text::Cause;
+use model_tree::RequestName;
 use aio_spelled::{Arguments, Goal};
 use aio_syntax::ExprList;
 use aio_term::Term;

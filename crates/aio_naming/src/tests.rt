@@ -1,11 +1,11 @@
 // Scripts by the forms of their lines, and what the second pass tells of them, all worked out by hand from the rules.
 use crate::known::{function_of, is_taken, kind_of_name, request_arity, request_of};
 use crate::{profile_of, second_pass};
-use aio_script_model::{Function, RequestName};
+use model_tree::{Function, RequestName};
 use aio_spelled::{Arguments, Goal, NumberedForm, Spelled};
 use aio_syntax::Constant;
 use aio_term::{Term, TermList};
-use aio_value_model::Kind;
+use model_value::Kind;
 use std::alloc::{AllocError, Global};
 use std::rc::RcStr;
 use std::test::Fail;

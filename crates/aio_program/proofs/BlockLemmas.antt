@@ -1,10 +1,10 @@
 -- What a line makes of blocks that are open, by its role.
 use Rattle.std.proofs.Common.{◌≡◌, List, [], ◌∷◌, ◌++◌, Option, Some, None, option_to_list, refl, sym, ap, ◌∙◌, append_assoc}
-use Rattle.aio_script_model.specs.Syntax.{Statement, Statements, no_statements, statement_then, statements}
-use Rattle.aio_script_model.specs.Places.{Role, Opens, Begins, Closes, Stands, Block, role_of}
-use Rattle.aio_script_model.specs.Places as places
-use Rattle.aio_script_model.specs.SecondPass.{Line}
-use Rattle.aio_script_model.specs.Bodies.{Cut, cut_from, simple, Body, bodies, block, then_statements, block_then, statements_in, body_in}
+use Rattle.model_tree.specs.Syntax.{Statement, Statements, no_statements, statement_then, statements}
+use Rattle.model_text.specs.Places.{Role, Opens, Begins, Closes, Stands, Block, role_of}
+use Rattle.model_text.specs.Places as places
+use Rattle.model_text.specs.SecondPass.{Line}
+use Rattle.model_text.specs.Bodies.{Cut, cut_from, simple, Body, bodies, block, then_statements, block_then, statements_in, body_in}
 use Rattle.aio_program.specs.declared.block.OpenBlock.{OpenBlock}
 use Rattle.aio_program.specs.declared.sorted.Head.{Head}
 use Rattle.aio_program.specs.declared.sorted.Head.TheVariants as head

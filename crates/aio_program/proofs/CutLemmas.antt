@@ -1,9 +1,9 @@
 -- What a cut at each role of a line is, how a block's cut goes on behind the block inside it, and that it has no more lines.
 use Rattle.std.proofs.Common.{◌≡◌, ℕ, zero, suc, ◌≤◌, List, [], ◌∷◌, length, refl, ap, ◌∙◌, arith}
-use Rattle.aio_script_model.specs.Places.{Role, Opens, Begins, Closes, Stands, Block, role_of}
-use Rattle.aio_script_model.specs.Places as places
-use Rattle.aio_script_model.specs.SecondPass.{Line}
-use Rattle.aio_script_model.specs.Bodies.{Section, Cut, with_line, with_section, depth_behind, cut_at, cut_from}
+use Rattle.model_text.specs.Places.{Role, Opens, Begins, Closes, Stands, Block, role_of}
+use Rattle.model_text.specs.Places as places
+use Rattle.model_text.specs.SecondPass.{Line}
+use Rattle.model_text.specs.Bodies.{Section, Cut, with_line, with_section, depth_behind, cut_at, cut_from}
 
 -- ---- a cut by the role of its first line
 by_role : (line : Line) (role : Role) → role_of line ≡ role → (depth : ℕ) (lines : List Line) → cut_from depth (line ∷ lines) ≡ cut_at role depth line lines (cut_from (depth_behind depth role) lines)

@@ -1,9 +1,9 @@
 -- What lines spell, by the role of the first line, however many statements are allowed.
 use Rattle.std.proofs.Common.{◌≡◌, ℕ, zero, suc, ◌≤◌, List, [], ◌∷◌, length, refl, ap, ◌∙◌, arith}
-use Rattle.aio_script_model.specs.Syntax.{Statements, no_statements}
-use Rattle.aio_script_model.specs.Places.{Role, Opens, Stands, Block, role_of}
-use Rattle.aio_script_model.specs.SecondPass.{Line}
-use Rattle.aio_script_model.specs.Bodies.{Section, cut_from, simple, bodies, block, then_statements, block_then, first_then, statements_within, statements_in}
+use Rattle.model_tree.specs.Syntax.{Statements, no_statements}
+use Rattle.model_text.specs.Places.{Role, Opens, Stands, Block, role_of}
+use Rattle.model_text.specs.SecondPass.{Line}
+use Rattle.model_text.specs.Bodies.{Section, cut_from, simple, bodies, block, then_statements, block_then, first_then, statements_within, statements_in}
 use Rattle.aio_program.proofs.CutLemmas.{AllWithin, IsWithin, is_within}
 
 bodies_same : (p q : List Line → Statements) (count : ℕ) (sections : List Section) → AllWithin count sections → ((lines : List Line) → length lines ≤ count → p lines ≡ q lines) → bodies p sections ≡ bodies q sections

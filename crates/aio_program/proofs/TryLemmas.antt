@@ -1,6 +1,6 @@
 -- The clauses of a `try`, and what is left of an iterator without an item.
 use Rattle.std.proofs.Common.{◌≡◌, List, [], ◌∷◌, ◌++◌, length, refl, ap, arith}
-use Rattle.aio_script_model.specs.Syntax.{Try, statements, Handlers, no_handlers, handler_then, Handler, handlers, Branch, no_branch, branch}
+use Rattle.model_tree.specs.Syntax.{Try, statements, Handlers, no_handlers, handler_then, Handler, handlers, Branch, no_branch, branch}
 use Rattle.aio_program.specs.declared.block.OpenTry.{OpenTry}
 use Rattle.aio_program.specs.Target.{plain_branch}
 use Rattle.aio_program.specs.Block.{handlers_before, first_branch, try_with}

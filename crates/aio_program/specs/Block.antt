@@ -1,8 +1,8 @@
 -- Blocks that are read, and the statements that they make.
 use Rattle.std.specs.Prelude.{List, [], ◌∷◌, ◌++◌, Option, Some, None, option_to_list, map}
-use Rattle.aio_script_model.specs.Syntax.{Statement, Try, statements, Branch, no_branch, branch, Handlers, handler_then, Handler}
-use Rattle.aio_script_model.specs.SecondPass.{Line}
-use Rattle.aio_script_model.specs.Bodies.{Body, block, handlers_in, finally_in}
+use Rattle.model_tree.specs.Syntax.{Statement, Try, statements, Branch, no_branch, branch, Handlers, handler_then, Handler}
+use Rattle.model_text.specs.SecondPass.{Line}
+use Rattle.model_text.specs.Bodies.{Body, block, handlers_in, finally_in}
 use Rattle.aio_program.specs.declared.block.OpenBlock.{OpenBlock}
 use Rattle.aio_program.specs.declared.block.Place.{Place}
 use Rattle.aio_program.specs.declared.block.Place.TheVariants as place

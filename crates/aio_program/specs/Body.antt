@@ -1,8 +1,8 @@
 -- What was read of a body: blocks that are open, with what stands in them, and what the lines behind make of these.
 use Rattle.std.specs.Prelude.{List, [], ◌∷◌, ◌++◌}
-use Rattle.aio_script_model.specs.Syntax.{Statement, Statements, statement_then, statements}
-use Rattle.aio_script_model.specs.SecondPass.{Line}
-use Rattle.aio_script_model.specs.Bodies.{Body, Cut, cut_from, bodies, statements_in}
+use Rattle.model_tree.specs.Syntax.{Statement, Statements, statement_then, statements}
+use Rattle.model_text.specs.SecondPass.{Line}
+use Rattle.model_text.specs.Bodies.{Body, Cut, cut_from, bodies, statements_in}
 use Rattle.aio_program.specs.declared.block.OpenBlock.{OpenBlock}
 use Rattle.aio_program.specs.declared.body.OpenBody.{OpenBody}
 use Rattle.aio_program.specs.declared.body.Step.{Step}

@@ -1,9 +1,9 @@
 -- Lines and parts of the code as plain data.
 use Rattle.std.specs.Prelude.{map}
 use Rattle.std.specs.Rc.{rc_str_bytes}
-use Rattle.aio_script_model.specs.Forms as form
-use Rattle.aio_script_model.specs.SecondPass as plain
-use Rattle.aio_script_model.specs.SecondPass.{Part}
+use Rattle.model_text.specs.Forms as form
+use Rattle.model_text.specs.SecondPass as plain
+use Rattle.model_text.specs.SecondPass.{Part}
 use Rattle.aio_program.specs.declared.line.Line.{Line}
 use Rattle.aio_program.specs.declared.line.Line.TheVariants as line
 use Rattle.aio_program.specs.declared.line.NamedPart.{NamedPart}

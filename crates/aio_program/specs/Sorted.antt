@@ -1,11 +1,11 @@
 -- Lines by what they are to the blocks around them.
 use Rattle.std.specs.Prelude.{◌≡◌, map}
 use Rattle.std.specs.Rc.{rc_str_bytes}
-use Rattle.aio_script_model.specs.Forms as form
-use Rattle.aio_script_model.specs.Places as places
-use Rattle.aio_script_model.specs.Places.{role_of}
-use Rattle.aio_script_model.specs.SecondPass.{Line}
-use Rattle.aio_script_model.specs.Bodies.{simple}
+use Rattle.model_text.specs.Forms as form
+use Rattle.model_text.specs.Places as places
+use Rattle.model_text.specs.Places.{role_of}
+use Rattle.model_text.specs.SecondPass.{Line}
+use Rattle.model_text.specs.Bodies.{simple}
 use Rattle.aio_program.specs.declared.sorted.Sorted.{Sorted}
 use Rattle.aio_program.specs.declared.sorted.Sorted.TheVariants as sorted
 use Rattle.aio_program.specs.declared.sorted.Head.{Head}

@@ -1,6 +1,6 @@
 -- How a statement of the code is seen as plain data.
 use Rattle.std.specs.Rc.{rc_str_bytes}
-use Rattle.aio_script_model.specs.Syntax.{Statement, Assign, Yield, YieldFrom, Print, Raise, Return, Pass, If, While, Try, With, exprs, statements, handlers}
+use Rattle.model_tree.specs.Syntax.{Statement, Assign, Yield, YieldFrom, Print, Raise, Return, Pass, If, While, Try, With, exprs, statements, handlers}
 use Rattle.aio_program.specs.declared.statement.Case.{Case}
 use Rattle.aio_program.specs.declared.statement.Case.TheVariants as case
 use Rattle.aio_program.specs.Target.{plain_name, plain_target, plain_manager, plain_branch}

@@ -1,7 +1,7 @@
 -- The statement that a case, with the parts that it lends, stands for.
 use Rattle.std.specs.Option.{option_copied}
 use Rattle.std.specs.Rc.{rc_str_bytes}
-use Rattle.aio_script_model.specs.Syntax.{Statement, Assign, Yield, YieldFrom, Print, Raise, Return, Pass, If, While, Try, With, exprs, statements, handlers}
+use Rattle.model_tree.specs.Syntax.{Statement, Assign, Yield, YieldFrom, Print, Raise, Return, Pass, If, While, Try, With, exprs, statements, handlers}
 use Rattle.aio_program.specs.declared.statement.StatementCase.{StatementCase}
 use Rattle.aio_program.specs.declared.statement.StatementCase.TheVariants as case
 use Rattle.aio_program.specs.Target.{plain_name, plain_target, plain_manager, plain_branch}

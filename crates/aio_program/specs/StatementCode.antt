@@ -4,17 +4,17 @@ use denote.Enum.Declared.{tag_of}
 use Rattle.std.specs.Prelude.{◌≡◌, ℕ, pos, nat_abs, true, false, List, [], Option, Some, None, slice_index_or}
 use Rattle.std.proofs.Common.{refl, ap}
 use Rattle.std.specs.Coded.{Coded, code_by, coded×, coded_ℕ, coded_list}
-use Rattle.aio_script_model.specs.contracts.request_name.RequestName.{the_type as request_type}
-use Rattle.aio_script_model.specs.declared.request_name.RequestName.{RequestName}
-use Rattle.aio_script_model.specs.declared.request_name.RequestName.TheVariants.{MakeFuture}
-use Rattle.aio_script_model.specs.declared.operator.Operator.TheVariants.{Add}
-use Rattle.aio_script_model.specs.declared.operator.Comparison.TheVariants.{Equal}
-use Rattle.aio_script_model.specs.declared.function.Function.TheVariants.{Len}
-use Rattle.aio_value_model.specs.declared.kind.Kind.TheVariants.{BaseException}
-use Rattle.aio_script_model.specs.Known.{requests}
-use Rattle.aio_script_model.specs.Syntax as plain
-use Rattle.aio_script_model.specs.Syntax.{Name, NoneConstant, TruthConstant, IntConstant, Expr, Or, And, Not, Compare, Calculate, Negate, Index, Literal, Variable, ListOf, Apply, MakeError, Exprs, no_exprs, expr_then, Target, Await, Call, Ask, SpawnTask, CreateTask, ListenAt, Manager, GroupBlock, TimeoutBlock, Statement, Statements, no_statements, statement_then, Branch, no_branch, branch, Handlers, no_handlers, handler_then, Handler, Coroutine, Program}
-use Rattle.aio_script_model.specs.ExprCode.{coded_expr}
+use Rattle.model_value.specs.declared.kind.Kind.TheVariants.{BaseException}
+use Rattle.model_tree.specs.contracts.request_name.RequestName.{the_type as request_type}
+use Rattle.model_tree.specs.declared.request_name.RequestName.{RequestName}
+use Rattle.model_tree.specs.declared.request_name.RequestName.TheVariants.{MakeFuture}
+use Rattle.model_tree.specs.declared.operator.Operator.TheVariants.{Add}
+use Rattle.model_tree.specs.declared.operator.Comparison.TheVariants.{Equal}
+use Rattle.model_tree.specs.declared.function.Function.TheVariants.{Len}
+use Rattle.model_tree.specs.Known.{requests}
+use Rattle.model_tree.specs.Syntax as plain
+use Rattle.model_tree.specs.Syntax.{Name, NoneConstant, TruthConstant, IntConstant, Expr, Or, And, Not, Compare, Calculate, Negate, Index, Literal, Variable, ListOf, Apply, MakeError, Exprs, no_exprs, expr_then, Target, Await, Call, Ask, SpawnTask, CreateTask, ListenAt, Manager, GroupBlock, TimeoutBlock, Statement, Statements, no_statements, statement_then, Branch, no_branch, branch, Handlers, no_handlers, handler_then, Handler, Coroutine, Program}
+use Rattle.aio_syntax.specs.ExprCode.{coded_expr}
 
 -- ---- what stands in a statement beside its parts
 abbrev request_expr : RequestName → Expr

@@ -4,8 +4,8 @@ use Rattle.std.proofs.Common.{arith}
 use denote.Param.Weighed.{most}
 use Rattle.std.specs.declared.rc.RcStr.{RcStr}
 use Rattle.std.specs.declared.alloc.Global.{Global}
-use Rattle.aio_value_model.specs.declared.kind.Kind.{Kind}
-use Rattle.aio_script_model.specs.Syntax.{Statement, Handler}
+use Rattle.model_value.specs.declared.kind.Kind.{Kind}
+use Rattle.model_tree.specs.Syntax.{Statement, Handler}
 use Rattle.aio_program.specs.StatementSize.{statement_size, statement_list_size, handler_size, handler_list_size}
 use Rattle.aio_program.specs.declared.statement.Case.{Case}
 use Rattle.aio_program.specs.declared.statement.Case.TheVariants as case

@@ -3,8 +3,8 @@ use Rattle.std.specs.Prelude.{List, Option, Some, None, option_map}
 use Rattle.std.specs.declared.rc.RcStr.{RcStr}
 use Rattle.std.specs.declared.alloc.Global.{Global}
 use Rattle.std.specs.Rc.{rc_str_bytes}
-use Rattle.aio_script_model.specs.Syntax as plain
-use Rattle.aio_script_model.specs.Syntax.{Name, exprs, statements, Branch, no_branch, branch}
+use Rattle.model_tree.specs.Syntax as plain
+use Rattle.model_tree.specs.Syntax.{Name, exprs, statements, Branch, no_branch, branch}
 use Rattle.aio_program.specs.declared.target.Target.{Target}
 use Rattle.aio_program.specs.declared.target.Target.TheVariants as target
 use Rattle.aio_program.specs.declared.target.Manager.{Manager}

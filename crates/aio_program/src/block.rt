@@ -1,7 +1,7 @@
 //! Blocks that are read, and the statements that they make.
 ghost use Rattle.std.specs.Prelude.{◌≡◌, IfOk, List, [], ◌∷◌, ◌++◌, map};
-ghost use Rattle.aio_script_model.specs.Syntax.{Try, statements};
-ghost use Rattle.aio_script_model.specs.Bodies.{Body, block, branch_in, handlers_in, finally_in};
+ghost use Rattle.model_tree.specs.Syntax.{Try, statements};
+ghost use Rattle.model_text.specs.Bodies.{Body, block, branch_in, handlers_in, finally_in};
 ghost use Rattle.aio_program.specs.Sorted.{plain_head, plain_begin};
 ghost use Rattle.aio_program.specs.Target.{plain_branch};
 ghost use Rattle.aio_program.specs.Block.{plain_section, over, over_at, latest, latest_at, with_block, first_list, try_with, try_with_handler};

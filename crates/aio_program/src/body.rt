@@ -1,10 +1,10 @@
 //! The statements that the lines of a coroutine spell.
 ghost use Rattle.std.specs.Prelude.{◌≡◌, [], ◌∷◌, List, Option, IfOk, map};
-ghost use Rattle.aio_script_model.specs.Forms.{End};
-ghost use Rattle.aio_script_model.specs.SecondPass as plain;
-ghost use Rattle.aio_script_model.specs.Places.{role_of, Stands};
-ghost use Rattle.aio_script_model.specs.Syntax.{statements};
-ghost use Rattle.aio_script_model.specs.Bodies.{body_in, simple};
+ghost use Rattle.model_tree.specs.Syntax.{statements};
+ghost use Rattle.model_text.specs.Forms.{End};
+ghost use Rattle.model_text.specs.SecondPass as plain;
+ghost use Rattle.model_text.specs.Places.{role_of, Stands};
+ghost use Rattle.model_text.specs.Bodies.{body_in, simple};
 ghost use Rattle.aio_program.specs.Line.{plain_line};
 ghost use Rattle.aio_program.specs.Sorted.{plain_head, plain_begin};
 ghost use Rattle.aio_program.specs.Body.{body_with, step_with};

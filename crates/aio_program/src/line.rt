@@ -1,7 +1,7 @@
 //! Lines whose names have their meanings, and the lines of a coroutine.
 use crate::target::Target;
 use aio_syntax::{Expr, ExprList};
-use aio_value_model::Kind;
+use model_value::Kind;
 use std::rc::RcStr;
 
 /// A line of a script by its form.

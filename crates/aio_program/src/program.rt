@@ -1,7 +1,7 @@
 //! Coroutines and programs.
 ghost use Rattle.std.specs.Prelude.{◌≡◌, map};
 ghost use Rattle.std.specs.Rc.{rc_str_bytes};
-ghost use Rattle.aio_script_model.specs.Syntax.{statements};
+ghost use Rattle.model_tree.specs.Syntax.{statements};
 
 use crate::statement::StatementList;
 use std::marker::Model;
@@ -18,7 +18,7 @@ pub struct Coroutine {
 impl Model for Coroutine {
     ghost use Rattle.std.specs.Prelude.{map};
     ghost use Rattle.std.specs.Rc.{rc_str_bytes};
-    ghost use Rattle.aio_script_model.specs.Syntax as plain;
+    ghost use Rattle.model_tree.specs.Syntax as plain;
     ghost use Rattle.aio_program.specs.StatementCode.{coded_coroutine};
 
     ghost Value = { plain.Coroutine };
@@ -36,7 +36,7 @@ pub struct Program {
 }
 
 impl Model for Program {
-    ghost use Rattle.aio_script_model.specs.Syntax as plain;
+    ghost use Rattle.model_tree.specs.Syntax as plain;
     ghost use Rattle.aio_program.specs.StatementCode.{coded_program};
 
     ghost Value = { plain.Program };

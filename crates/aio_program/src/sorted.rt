@@ -5,7 +5,7 @@ ghost use Rattle.aio_program.specs.Sorted.{IsSorted};
 use crate::line::Line;
 use crate::statement::Statement;
 use aio_syntax::Expr;
-use aio_value_model::Kind;
+use model_value::Kind;
 use std::rc::RcStr;
 
 /// A line by what it is to the blocks around it.

@@ -1,13 +1,13 @@
 //! Statements.
 ghost use Rattle.std.specs.Prelude.{◌≡◌, List, option_map, option_copied};
 ghost use Rattle.std.specs.Rc.{rc_str_bytes};
-ghost use Rattle.aio_script_model.specs.Syntax.{Assign, Yield, YieldFrom, Print, Raise, Return, Pass, If, While, Try, With, exprs, statements, handlers};
+ghost use Rattle.model_tree.specs.Syntax.{Assign, Yield, YieldFrom, Print, Raise, Return, Pass, If, While, Try, With, exprs, statements, handlers};
 ghost use Rattle.aio_program.specs.Target.{plain_target, plain_manager, plain_branch, plain_name};
 ghost use Rattle.aio_program.specs.StatementCase.{statement_of_case};
 
 use crate::target::{Manager, Target};
 use aio_syntax::{Expr, ExprList};
-use aio_value_model::Kind;
+use model_value::Kind;
 use std::marker::Model;
 use std::rc::RcStr;
 
@@ -54,7 +54,7 @@ pub struct Handler {
 }
 
 impl Model for Statement {
-    ghost use Rattle.aio_script_model.specs.Syntax as plain;
+    ghost use Rattle.model_tree.specs.Syntax as plain;
     ghost use Rattle.aio_program.specs.StatementCode.{coded_statement};
 
     ghost Value = { plain.Statement };
@@ -76,7 +76,7 @@ impl Model for Statement {
 impl Model for StatementList {
     ghost use Rattle.std.specs.Prelude.{List};
     ghost use Rattle.std.specs.Coded.{coded_list};
-    ghost use Rattle.aio_script_model.specs.Syntax as plain;
+    ghost use Rattle.model_tree.specs.Syntax as plain;
     ghost use Rattle.aio_program.specs.StatementCode.{coded_statement};
 
     ghost Value = { List plain.Statement };
@@ -95,7 +95,7 @@ impl Model for StatementList {
 }
 
 impl Model for Handler {
-    ghost use Rattle.aio_script_model.specs.Syntax as plain;
+    ghost use Rattle.model_tree.specs.Syntax as plain;
     ghost use Rattle.aio_program.specs.StatementCode.{coded_handler};
 
     ghost Value = { plain.Handler };

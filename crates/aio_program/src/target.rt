@@ -1,5 +1,5 @@
 //! What `yield from` hands over to, and what `with` enters.
-use aio_script_model::RequestName;
+use model_tree::RequestName;
 use aio_syntax::{Expr, ExprList};
 use std::rc::RcStr;
 

@@ -1,7 +1,7 @@
 -- A text that is handed over bit by bit.
 use Rattle.std.proofs.Common.{◌≡◌, ℕ, ◌≤◌, ◌-◌, List, [], ◌∷◌, ◌++◌, Option, Some, None, length, take, drop, refl, ap, sym, ◌∙◌, append_assoc, arith}
 use Rattle.std.proofs.lemmas.List.{take_rest, take-append-drop}
-use Rattle.aio_wire_model.specs.Told.{grown}
+use Rattle.model_wire.specs.Told.{grown}
 
 -- so much was written of a text, and so much is left
 pub record Wrote (done rest text : List ℕ) (old new : Option (List ℕ)) (before now : ℕ) : Type 0 where

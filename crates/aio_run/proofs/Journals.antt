@@ -1,8 +1,8 @@
 -- A journal's first entry, and what is left behind it.
 use Rattle.std.proofs.Common.{◌≡◌, ℕ, ◌+◌, ◌-◌, List, ◌∷◌, length, take, drop, ap, sym, ◌∙◌}
 use Rattle.std.proofs.lemmas.List.{take_rest, drop-drop}
-use Rattle.aio_value_model.specs.Lines.{lines_of}
-use Rattle.aio_wire_model.specs.Journal.{Entry, entry_of, entries_from}
+use Rattle.model_value.specs.Lines.{lines_of}
+use Rattle.model_wire.specs.Journal.{Entry, entry_of, entries_from}
 
 -- the first line's entry stands in front of those of the lines behind it
 pub first_entry : (number at : ℕ) (text whole line rest : List ℕ) (e : Entry) → whole ≡ text → lines_of (take (length whole - at) (drop at whole)) ≡ line ∷ lines_of rest → entry_of number line ≡ e → entries_from number (lines_of (drop at text)) ≡ e ∷ entries_from (number + 1) (lines_of rest)

@@ -1,19 +1,19 @@
 -- From a driven run to what the program may write.
 use Rattle.std.specs.Prelude.{codes}
 use Rattle.std.proofs.Common.{◌≡◌, ℕ, ◌≤◌, List, [], ◌∷◌, ◌++◌, Option, Some, None, refl, ap, sym, ◌∙◌, subst, inl, inr, append_assoc}
-use Rattle.aio_script_model.specs.declared.cause.Cause.{Cause}
-use Rattle.aio_script_model.specs.Canonical.{canonical}
-use Rattle.aio_script_model.specs.Causes.{cause_number}
-use Rattle.aio_script_model.specs.Scripts.{script_of}
-use Rattle.aio_script_model.specs.SecondPass.{Judged}
-use Rattle.aio_script_model.specs.Straight.{Line}
-use Rattle.aio_machine.specs.StraightScripts.{straight_of}
-use Rattle.aio_script_model.specs.Syntax.{Program}
-use Rattle.aio_wire_model.specs.Journal.{Entry, entries_of}
-use Rattle.aio_wire_model.specs.Told.{Agrees, grown, Rose}
-use Rattle.aio_machine.specs.Program.{Output, output_of, faulted, script_refused, turn_limit, FileSays, JournalSays, JournalBegins, MayRun, MayRunIf, MayRunScript, MayReplay, MayCheck, checked}
-use Rattle.aio_machine.specs.Run.{run}
-use Rattle.aio_machine.specs.Transcript.{line, lines_of_events}
+use Rattle.model_tree.specs.Syntax.{Program}
+use Rattle.model_text.specs.declared.cause.Cause.{Cause}
+use Rattle.model_text.specs.Canonical.{canonical}
+use Rattle.model_text.specs.Causes.{cause_number}
+use Rattle.model_text.specs.Scripts.{script_of}
+use Rattle.model_text.specs.SecondPass.{Judged}
+use Rattle.model_says.specs.Straight.{Line}
+use Rattle.model_wire.specs.Journal.{Entry, entries_of}
+use Rattle.model_wire.specs.Told.{Agrees, grown, Rose}
+use Rattle.model_machine.specs.StraightScripts.{straight_of}
+use Rattle.model_machine.specs.Program.{Output, output_of, faulted, script_refused, turn_limit, FileSays, JournalSays, JournalBegins, MayRun, MayRunIf, MayRunScript, MayReplay, MayCheck, checked}
+use Rattle.model_machine.specs.Run.{run}
+use Rattle.model_machine.specs.Transcript.{line, lines_of_events}
 use Rattle.aio_run.specs.Drive.{Ran, RanInPart, RanSoFar, Stopped}
 use Rattle.aio_run.specs.JournalWire.{left_of}
 use Rattle.aio_run.specs.Outcome.{WritesWhole, TakesPart, EndsEarly}

@@ -3,10 +3,10 @@ use Rattle.std.proofs.Common.{◌≡◌, ℕ, ◌<◌, Bool, true, false, nat_le
 use Rattle.std.proofs.lemmas.Bool.{leb-true, leb-false, lt-leb}
 use Rattle.std.proofs.lemmas.List.{take_all, length-take}
 use Rattle.std.specs.Prelude.{if◌then◌else◌}
-use Rattle.aio_script_model.specs.declared.cause.Cause.TheVariants.{TooLong}
-use Rattle.aio_script_model.specs.FirstPass.{fault_at}
-use Rattle.aio_script_model.specs.TextLines.{text_lines}
-use Rattle.aio_script_model.specs.Scripts.{most_bytes, script_of, script_of_lines}
+use Rattle.model_text.specs.declared.cause.Cause.TheVariants.{TooLong}
+use Rattle.model_text.specs.FirstPass.{fault_at}
+use Rattle.model_text.specs.TextLines.{text_lines}
+use Rattle.model_text.specs.Scripts.{most_bytes, script_of, script_of_lines}
 
 too_long : (text : List ℕ) → most_bytes < length text → script_of text ≡ fault_at 1 TooLong
 unfolding script_of

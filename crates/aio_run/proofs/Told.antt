@@ -1,7 +1,7 @@
 -- What a journal's wire tells.
 use Rattle.std.proofs.Common.{◌≡◌, ℕ, List, [], ◌∷◌, Option, Some, None, refl, ap, sym, ◌∙◌}
-use Rattle.aio_wire_model.specs.Journal.{Entry, Answered, entries_of}
-use Rattle.aio_wire_model.specs.Told.{Agrees}
+use Rattle.model_wire.specs.Journal.{Entry, Answered, entries_of}
+use Rattle.model_wire.specs.Told.{Agrees}
 use Rattle.aio_wire.specs.Replied.{Replied}
 use Rattle.aio_wire.specs.Told.{answer_of, refused_of}
 use Rattle.aio_wire.specs.declared.wire.Reply.{Reply}

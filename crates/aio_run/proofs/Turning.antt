@@ -2,18 +2,18 @@
 use Rattle.std.proofs.Common.{◌≡◌, ℕ, ◌+◌, ◌<◌, ◌≤◌, List, [], ◌∷◌, ◌++◌, Option, append-nil, ap, get_or, length, subst, sym, take, ◌∙◌}
 use Rattle.std.proofs.lemmas.Grind.{flat_map-append}
 use Rattle.std.proofs.lemmas.List.{map-append, take_all, take_more}
-use Rattle.aio_wire_model.specs.Call.{Answer}
+use Rattle.model_wire.specs.Call.{Answer}
+use Rattle.model_wire.specs.Told.{grown}
+use Rattle.model_machine.specs.State.{State, Event, Called, Got}
+use Rattle.model_machine.specs.Transcript.{line_of, lines_of_events}
+use Rattle.model_machine.specs.Turn.{turn, call_of}
+use Rattle.law_machine.proofs.Grows.{turn-grows}
 use Rattle.aio_straight.specs.Lines.{plain_program}
 use Rattle.aio_straight.specs.declared.program.Program.{Program}
-use Rattle.aio_machine.specs.State.{State, Event, Called, Got}
-use Rattle.aio_machine.specs.Transcript.{line_of, lines_of_events}
-use Rattle.aio_machine.specs.Turn.{turn, call_of}
-use Rattle.aio_machine.proofs.Grows.{turn-grows}
 use Rattle.aio_run.specs.Drive.{TurnWritten, TurnWrittenInPart, StopsInTurn}
 use Rattle.aio_run.specs.Events.{plain_event, plain_events}
 use Rattle.aio_run.specs.Kernel.{History, Fits, FitsIn, Turned, sleep_future, state_in, state_of}
 use Rattle.aio_run.specs.declared.event.Event as code
-use Rattle.aio_wire_model.specs.Told.{grown}
 use Rattle.aio_run.specs.Writing.{TakesFront, StopsWriting}
 use Rattle.aio_run.specs.declared.halt.Halt.{Halt}
 use Rattle.aio_run.specs.declared.halt.Halt.TheVariants.{Memory, Sink, Wire}

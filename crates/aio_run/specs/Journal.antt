@@ -1,6 +1,6 @@
 -- A journal's next entry.
 use Rattle.std.specs.Prelude.{◌≡◌, ℕ, List, [], ◌∷◌, Option, Some, None}
-use Rattle.aio_wire_model.specs.Journal as plain
+use Rattle.model_wire.specs.Journal as plain
 use Rattle.aio_wire.specs.Told.{answer_of, refused_of}
 use Rattle.aio_wire.specs.declared.call.Answer as code
 use Rattle.aio_run.specs.declared.journal.NextEntry.{NextEntry}

@@ -1,6 +1,6 @@
 -- What a journal's wire tells of the answers that are left.
 use Rattle.std.specs.Prelude.{◌≡◌, ℕ, List, [], ◌∷◌, Option, Some, None}
-use Rattle.aio_wire_model.specs.Journal.{Entry, Answered, entries_of}
+use Rattle.model_wire.specs.Journal.{Entry, Answered, entries_of}
 use Rattle.aio_wire.specs.Told.{answer_of, refused_of}
 use Rattle.aio_wire.specs.declared.wire.Reply.{Reply}
 use Rattle.aio_wire.specs.declared.wire.Reply.TheVariants.{Got, Over, Bad, Failed}

@@ -1,6 +1,6 @@
 -- How far a file was read.
 use Rattle.std.specs.Prelude.{◌≡◌, ℕ, List, [], Option, Some, None, length, take}
-use Rattle.aio_wire_model.specs.Told.{Rose}
+use Rattle.model_wire.specs.Told.{Rose}
 use Rattle.aio_run.specs.declared.reading.ReadFault.{ReadFault}
 use Rattle.aio_run.specs.declared.reading.ReadFault.TheVariants.{Memory, Failed}
 

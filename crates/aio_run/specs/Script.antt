@@ -1,14 +1,14 @@
 -- What was read of a script, or why there is none, by what the shelf tells of its file.
 use Rattle.std.specs.Prelude.{◌≡◌, ℕ, List, [], ◌++◌, Option, Ok, ⊤, codes}
 use Rattle.std.specs.Fmt.{decimal}
-use Rattle.aio_script_model.specs.declared.cause.Cause.{Cause}
-use Rattle.aio_script_model.specs.Causes.{cause_number}
-use Rattle.aio_script_model.specs.FirstPass.{fault_at}
-use Rattle.aio_script_model.specs.Scripts.{script_of}
-use Rattle.aio_script_model.specs.Syntax.{Program}
-use Rattle.aio_wire_model.specs.Told.{Rose}
-use Rattle.aio_machine.specs.Program.{Output, FileSays, faulted}
-use Rattle.aio_machine.specs.Transcript.{line}
+use Rattle.model_tree.specs.Syntax.{Program}
+use Rattle.model_text.specs.declared.cause.Cause.{Cause}
+use Rattle.model_text.specs.Causes.{cause_number}
+use Rattle.model_text.specs.FirstPass.{fault_at}
+use Rattle.model_text.specs.Scripts.{script_of}
+use Rattle.model_wire.specs.Told.{Rose}
+use Rattle.model_machine.specs.Program.{Output, FileSays, faulted}
+use Rattle.model_machine.specs.Transcript.{line}
 use Rattle.aio_run.specs.declared.script.NoScript.{NoScript}
 use Rattle.aio_run.specs.declared.script.NoScript.TheVariants.{Refused, Failed, Memory}
 

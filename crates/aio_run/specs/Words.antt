@@ -1,5 +1,5 @@
 -- Code's commands as the definitions have them.
-use Rattle.aio_machine.specs.Words as plain
+use Rattle.model_machine.specs.Words as plain
 use Rattle.aio_run.specs.declared.words.Command.{Command}
 use Rattle.aio_run.specs.declared.words.Command.TheVariants.{Check, Replay}
 

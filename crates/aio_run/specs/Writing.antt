@@ -1,6 +1,6 @@
 -- What a sink has where writing stopped.
 use Rattle.std.specs.Prelude.{◌≡◌, ℕ, List, ◌++◌, Option}
-use Rattle.aio_wire_model.specs.Told.{grown, Rose}
+use Rattle.model_wire.specs.Told.{grown, Rose}
 use Rattle.aio_run.specs.declared.halt.Halt.{Halt}
 use Rattle.aio_run.specs.declared.halt.Halt.TheVariants.{Memory, Sink, Wire}
 

@@ -1,13 +1,13 @@
 //! The one loop that holds kernel, wire and sink.
 ghost use Rattle.std.specs.Prelude.{◌≡◌, ◌≤◌, IfOk, IfErr, OnOk};
+ghost use Rattle.model_wire.specs.Call.{Turn};
+ghost use Rattle.model_wire.specs.Told.{grown};
+ghost use Rattle.model_machine.specs.Transcript.{line, ending_text, status_of};
+ghost use Rattle.aio_wire.specs.Told.{answer_of};
 ghost use Rattle.aio_straight.specs.Lines.{plain_program};
 ghost use Rattle.aio_run.specs.Drive.{Ran, Stopped, StopsInTurn, TurnWritten};
 ghost use Rattle.aio_run.specs.Ending.{plain_ending};
 ghost use Rattle.aio_run.specs.Writing.{StopsWriting};
-ghost use Rattle.aio_machine.specs.Transcript.{line, ending_text, status_of};
-ghost use Rattle.aio_wire_model.specs.Call.{Turn};
-ghost use Rattle.aio_wire.specs.Told.{answer_of};
-ghost use Rattle.aio_wire_model.specs.Told.{grown};
 
 use crate::ending::{Ending, TURN_LIMIT};
 use crate::halt::Halt;

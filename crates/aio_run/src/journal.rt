@@ -1,6 +1,6 @@
 //! A journal's text, line by line.
 ghost use Rattle.std.specs.Prelude.{◌≡◌, ℕ};
-ghost use Rattle.aio_wire_model.specs.Journal.{entries_of, entry_of};
+ghost use Rattle.model_wire.specs.Journal.{entries_of, entry_of};
 ghost use Rattle.aio_run.specs.Journal.{plain_entry, NextIs};
 
 use aio_text::{next_line, number};
@@ -18,8 +18,8 @@ pub struct Journal {
 
 impl Model for Journal {
     ghost use Rattle.std.specs.Prelude.{List, drop, length, ◌≤◌, ◌+◌};
-    ghost use Rattle.aio_value_model.specs.Lines.{lines_of};
-    ghost use Rattle.aio_wire_model.specs.Journal.{Entry, entries_from};
+    ghost use Rattle.model_value.specs.Lines.{lines_of};
+    ghost use Rattle.model_wire.specs.Journal.{Entry, entries_from};
 
     ghost Value = { List Entry };
 

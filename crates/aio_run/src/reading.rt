@@ -1,6 +1,6 @@
 //! Reading a shelf's files.
 ghost use Rattle.std.specs.Prelude.{◌≡◌, ◌≤◌, Some, IfOk, IfErr};
-ghost use Rattle.aio_wire_model.specs.Told.{Agrees};
+ghost use Rattle.model_wire.specs.Told.{Agrees};
 ghost use Rattle.aio_run.specs.Reading.{IsFront, StopsReading};
 ghost use Rattle.aio_run.specs.declared.reading.ReadFault.TheVariants.{Memory as OutOfMemory};
 

@@ -1,7 +1,7 @@
 //! The words behind the program's name.
 ghost use Rattle.std.specs.Prelude.{◌≡◌, [], ◌∷◌, map, string_bytes};
 ghost use Rattle.std.specs.Option.{option_map};
-ghost use Rattle.aio_machine.specs.Words.{command_of as plain_command_of, is_name};
+ghost use Rattle.model_machine.specs.Words.{command_of as plain_command_of, is_name};
 ghost use Rattle.aio_run.specs.Words.{plain_command};
 
 /// What the words ask for.

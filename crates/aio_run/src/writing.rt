@@ -1,6 +1,6 @@
 //! Writing to a sink.
 ghost use Rattle.std.specs.Prelude.{◌≡◌, ◌≤◌, OnOk, IfOk, IfErr};
-ghost use Rattle.aio_wire_model.specs.Told.{grown};
+ghost use Rattle.model_wire.specs.Told.{grown};
 ghost use Rattle.aio_run.specs.Writing.{StopsWriting};
 
 use crate::halt::Halt;

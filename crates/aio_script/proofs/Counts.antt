@@ -2,8 +2,8 @@
 use Rattle.std.proofs.Common.{◌≡◌, refl, ap, ◌∙◌, sym, subst, ℕ, suc, Bool, true, false, ◌&&◌, List, [], ◌∷◌, length, arith}
 use Rattle.std.proofs.lemmas.Bool.{false≢true, eqb-true}
 use Rattle.std.specs.Prelude.{◌==◌, if◌then◌else◌, slice_index}
-use Rattle.aio_value_model.specs.Lines.{fronted, lines_of}
-use Rattle.aio_script_model.specs.TextLines.{without_returns}
+use Rattle.model_value.specs.Lines.{fronted, lines_of}
+use Rattle.model_text.specs.TextLines.{without_returns}
 
 fronted-alike : (byte other : ℕ) (lines others : List (List ℕ)) → length lines ≡ length others → length (fronted byte lines) ≡ length (fronted other others)
 fronted-alike byte other [] [] e = refl

@@ -2,14 +2,14 @@
 use Rattle.std.proofs.Common.{◌≡◌, refl, ap, ap₂, ◌∙◌, sym, ℕ, ◌+◌, ◌<◌, ◌≤◌, List, [], ◌∷◌, Ok, Err, map, length}
 use Rattle.std.proofs.lemmas.Bool.{le-leb, lt-leb}
 use Rattle.std.specs.Prelude.{if◌then◌else◌}
-use Rattle.aio_value_model.specs.Lines.{lines_of}
-use Rattle.aio_script_model.specs.declared.cause.Cause.TheVariants.{TooLong}
-use Rattle.aio_script_model.specs.FirstPass.{Fault, fault_at, Numbered, first_pass}
-use Rattle.aio_script_model.specs.Forms.{Spelled}
-use Rattle.aio_script_model.specs.Scripts.{most_bytes, coroutine, judged_program, profile_in, script_of, script_of_lines, script_of_forms, script_of_parts}
-use Rattle.aio_script_model.specs.SecondPass.{Parts, parts_of, second_pass}
-use Rattle.aio_script_model.specs.Syntax.{Coroutine, Program}
-use Rattle.aio_script_model.specs.TextLines.{text_lines}
+use Rattle.model_value.specs.Lines.{lines_of}
+use Rattle.model_tree.specs.Syntax.{Coroutine, Program}
+use Rattle.model_text.specs.declared.cause.Cause.TheVariants.{TooLong}
+use Rattle.model_text.specs.FirstPass.{Fault, fault_at, Numbered, first_pass}
+use Rattle.model_text.specs.Forms.{Spelled}
+use Rattle.model_text.specs.Scripts.{most_bytes, coroutine, judged_program, profile_in, script_of, script_of_lines, script_of_forms, script_of_parts}
+use Rattle.model_text.specs.SecondPass.{Parts, parts_of, second_pass}
+use Rattle.model_text.specs.TextLines.{text_lines}
 use Rattle.aio_program.specs.Line.{plain_part}
 use Rattle.aio_program.specs.declared.line.NamedPart.{NamedPart}
 use Rattle.aio_script.proofs.Counts.{counts-alike}

@@ -1,9 +1,9 @@
 -- Why the code refuses a text, by the definition's first fault.
 use Rattle.std.specs.Prelude.{◌≡◌, ⊤}
-use Rattle.aio_script_model.specs.declared.cause.Cause.{Cause}
-use Rattle.aio_script_model.specs.Causes.{cause_number}
-use Rattle.aio_script_model.specs.FirstPass.{fault_at}
-use Rattle.aio_script_model.specs.SecondPass.{Judged}
+use Rattle.model_text.specs.declared.cause.Cause.{Cause}
+use Rattle.model_text.specs.Causes.{cause_number}
+use Rattle.model_text.specs.FirstPass.{fault_at}
+use Rattle.model_text.specs.SecondPass.{Judged}
 use Rattle.aio_form.specs.declared.fault.FormFault.{FormFault}
 use Rattle.aio_form.specs.declared.fault.FormFault.TheVariants as form
 use Rattle.aio_naming.specs.declared.fault.NameFault.{NameFault}

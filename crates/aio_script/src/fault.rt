@@ -1,12 +1,12 @@
 //! Why a text is no script.
 ghost use Rattle.std.specs.Prelude.{◌≡◌};
+ghost use Rattle.model_text.specs.Causes.{cause_number};
 ghost use Rattle.aio_script.specs.declared.fault.ScriptFault.TheVariants.{Memory};
-ghost use Rattle.aio_script_model.specs.Causes.{cause_number};
 ghost use Rattle.aio_script.specs.Fault.{of_form, of_name};
 
 use aio_form::FormFault;
 use aio_naming::NameFault;
-use aio_script_model::Cause;
+use model_text::Cause;
 use std::alloc::{AllocError, AllocFailed};
 use thiserror::Error;
 

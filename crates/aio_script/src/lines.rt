@@ -1,6 +1,6 @@
 //! How many lines a text has.
 ghost use Rattle.std.specs.Prelude.{◌≡◌, ◌≤◌, length};
-ghost use Rattle.aio_value_model.specs.Lines.{lines_of};
+ghost use Rattle.model_value.specs.Lines.{lines_of};
 
 use aio_text::next_line;
 

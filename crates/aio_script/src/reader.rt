@@ -1,24 +1,24 @@
 //! From a text to the program that it spells.
 ghost use Rattle.std.specs.Prelude.{◌≡◌, Ok, IfOk, IfErr, map};
+ghost use Rattle.model_text.specs.Scripts.{coroutine, script_of, script_of_parts};
+ghost use Rattle.model_text.specs.SecondPass.{parts_of};
 ghost use Rattle.aio_spelled.specs.Spelled.{plain_numbered};
 ghost use Rattle.aio_program.specs.Line.{plain_part};
 ghost use Rattle.aio_script.specs.Fault.{IsFaultOf};
-ghost use Rattle.aio_script_model.specs.Scripts.{coroutine, script_of, script_of_parts};
-ghost use Rattle.aio_script_model.specs.SecondPass.{parts_of};
 
 use crate::fault::{ScriptFault, cause_number};
 use crate::lines::line_count;
 use aio_form::first_pass;
 use aio_naming::{profile_of, second_pass};
 use aio_program::{Coroutine, NamedPart, Program, body_of};
-use aio_script_model::Cause;
+use model_text::Cause;
 use aio_spelled::NumberedForm;
 use std::alloc::{AllocError, Global};
 
 /// The longest text of a script, in bytes.
 const LONGEST: usize = 1_048_576;
 
-#[tactic(auto, unfolding(aio_script_model::specs::Scripts::script_of))]
+#[tactic(auto, unfolding(model_text::specs::Scripts::script_of))]
 /// The program that a text spells, or the text's first fault. A first pass reads the form of each line and where it
 /// stands, a second what names mean; docs/LANGUAGE.md tells both. Source: the language reference, "Top-level components".
 pub fn read(alloc: Global, text: &[u8]) -> Result<Program, ScriptFault>

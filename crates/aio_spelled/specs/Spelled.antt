@@ -1,10 +1,10 @@
 -- Forms of the code, seen as plain data.
--- Source: the definition of forms (aio_script_model, specs/Forms.antt).
+-- Source: the definition of forms (model_text, specs/Forms.antt).
 use Rattle.std.specs.Prelude.{map, option_map}
 use Rattle.std.specs.Rc.{rc_str_bytes}
-use Rattle.aio_script_model.specs.Levels as levels
-use Rattle.aio_script_model.specs.Forms as plain
-use Rattle.aio_script_model.specs.FirstPass.{Numbered}
+use Rattle.model_text.specs.Levels as levels
+use Rattle.model_text.specs.Forms as plain
+use Rattle.model_text.specs.FirstPass.{Numbered}
 use Rattle.aio_spelled.specs.declared.spelled.Arguments.{Arguments}
 use Rattle.aio_spelled.specs.declared.spelled.Goal.{Goal}
 use Rattle.aio_spelled.specs.declared.spelled.Goal.TheVariants.{Awaited, Asked}

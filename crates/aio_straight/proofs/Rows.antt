@@ -3,9 +3,9 @@ use Rattle.std.proofs.Common.{◌≡◌, refl, ap, Bool, ◌≤◌, ◌<◌, tru
 use Rattle.std.proofs.lemmas.Bool.{le-leb, lt-leb}
 use Rattle.std.proofs.lemmas.List.{length-map}
 use Rattle.std.specs.Prelude.{if◌then◌else◌}
-use Rattle.aio_script_model.specs.Straight as plain
-use Rattle.aio_machine.specs.StraightScripts.{few_lines}
-use Rattle.aio_script_model.specs.Syntax.{Expr, exprs, exprs_of, Statement, statements, statements_of}
+use Rattle.model_tree.specs.Syntax.{Expr, exprs, exprs_of, Statement, statements, statements_of}
+use Rattle.model_says.specs.Straight as plain
+use Rattle.model_machine.specs.StraightScripts.{few_lines}
 use Rattle.aio_straight.specs.declared.line.Line.{Line}
 use Rattle.aio_straight.specs.Lines.{plain_line}
 

@@ -1,7 +1,7 @@
 -- A constant of the code as plain data.
 use Rattle.std.specs.Rc.{rc_str_bytes, rc_slice_items}
-use Rattle.aio_script_model.specs.Syntax as plain
-use Rattle.aio_script_model.specs.Syntax.{NoneConstant, TruthConstant, IntConstant, TextConstant, BytesConstant}
+use Rattle.model_tree.specs.Syntax as plain
+use Rattle.model_tree.specs.Syntax.{NoneConstant, TruthConstant, IntConstant, TextConstant, BytesConstant}
 use Rattle.aio_syntax.specs.declared.constant.Constant.{Constant}
 use Rattle.aio_syntax.specs.declared.constant.Constant.TheVariants as constant
 

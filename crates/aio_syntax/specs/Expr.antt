@@ -1,6 +1,6 @@
 -- How an expression of the code is seen as plain data.
 use Rattle.std.specs.Rc.{rc_str_bytes}
-use Rattle.aio_script_model.specs.Syntax.{Expr, Or, And, Not, Compare, Calculate, Negate, Index, Literal, Variable, ListOf, Apply, MakeError, exprs}
+use Rattle.model_tree.specs.Syntax.{Expr, Or, And, Not, Compare, Calculate, Negate, Index, Literal, Variable, ListOf, Apply, MakeError, exprs}
 use Rattle.aio_syntax.specs.declared.expr.Case.{Case}
 use Rattle.aio_syntax.specs.declared.expr.Case.TheVariants as case
 use Rattle.aio_syntax.specs.Constant.{constant_of}

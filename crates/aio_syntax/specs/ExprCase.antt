@@ -1,6 +1,6 @@
 -- The expression that a case, with the parts that it lends, stands for.
 use Rattle.std.specs.Rc.{rc_str_bytes}
-use Rattle.aio_script_model.specs.Syntax.{Expr, Or, And, Not, Compare, Calculate, Negate, Index, Literal, Variable, ListOf, Apply, MakeError, exprs}
+use Rattle.model_tree.specs.Syntax.{Expr, Or, And, Not, Compare, Calculate, Negate, Index, Literal, Variable, ListOf, Apply, MakeError, exprs}
 use Rattle.aio_syntax.specs.declared.expr.ExprCase.{ExprCase}
 use Rattle.aio_syntax.specs.declared.expr.ExprCase.TheVariants as case
 use Rattle.aio_syntax.specs.Constant.{constant_of}

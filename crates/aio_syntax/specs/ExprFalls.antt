@@ -2,8 +2,8 @@
 use Rattle.std.specs.Prelude.{◌+◌, ◌≤◌, max, List, [], ◌∷◌}
 use Rattle.std.proofs.Common.{arith}
 use denote.Param.Weighed.{most}
-use Rattle.aio_script_model.specs.Syntax.{Expr}
-use Rattle.aio_script_model.specs.ExprSize.{expr_size, expr_list_size}
+use Rattle.model_tree.specs.Syntax.{Expr}
+use Rattle.aio_syntax.specs.ExprSize.{expr_size, expr_list_size}
 use Rattle.aio_syntax.specs.declared.expr.Case.{Case}
 use Rattle.aio_syntax.specs.declared.expr.Case.TheVariants as case
 use Rattle.aio_syntax.specs.declared.expr.Expr.TheDeep.{deep-Case}

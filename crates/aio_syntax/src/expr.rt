@@ -1,13 +1,13 @@
 //! Expressions.
 ghost use Rattle.std.specs.Prelude.{◌≡◌};
 ghost use Rattle.std.specs.Rc.{rc_str_bytes};
-ghost use Rattle.aio_script_model.specs.Syntax.{Or, And, Not, Compare, Calculate, Negate, Index, Literal, Variable, ListOf, Apply, MakeError, exprs};
+ghost use Rattle.model_tree.specs.Syntax.{Or, And, Not, Compare, Calculate, Negate, Index, Literal, Variable, ListOf, Apply, MakeError, exprs};
 ghost use Rattle.aio_syntax.specs.Constant.{constant_of};
 ghost use Rattle.aio_syntax.specs.ExprCase.{expr_of_case};
 
 use crate::constant::Constant;
-use aio_script_model::{Comparison, Function, Operator};
-use aio_value_model::Kind;
+use model_tree::{Comparison, Function, Operator};
+use model_value::Kind;
 use std::marker::Model;
 use std::rc::RcStr;
 
@@ -43,14 +43,14 @@ pub struct ExprList {
 }
 
 impl Model for Expr {
-    ghost use Rattle.aio_script_model.specs.Syntax as plain;
-    ghost use Rattle.aio_script_model.specs.ExprCode.{coded_expr};
+    ghost use Rattle.model_tree.specs.Syntax as plain;
+    ghost use Rattle.aio_syntax.specs.ExprCode.{coded_expr};
 
     ghost Value = { plain.Expr };
 
     ghost coded = { coded_expr };
 
-    ghost use Rattle.aio_script_model.specs.ExprSize.{expr_size};
+    ghost use Rattle.aio_syntax.specs.ExprSize.{expr_size};
     ghost use Rattle.aio_syntax.specs.Expr.{expr_of};
 
     ghost view = { λ a. expr_of a.case };
@@ -65,14 +65,14 @@ impl Model for Expr {
 impl Model for ExprList {
     ghost use Rattle.std.specs.Prelude.{List};
     ghost use Rattle.std.specs.Coded.{coded_list};
-    ghost use Rattle.aio_script_model.specs.Syntax as plain;
-    ghost use Rattle.aio_script_model.specs.ExprCode.{coded_expr};
+    ghost use Rattle.model_tree.specs.Syntax as plain;
+    ghost use Rattle.aio_syntax.specs.ExprCode.{coded_expr};
 
     ghost Value = { List plain.Expr };
 
     ghost coded = { coded_list coded_expr };
 
-    ghost use Rattle.aio_script_model.specs.ExprSize.{expr_list_size};
+    ghost use Rattle.aio_syntax.specs.ExprSize.{expr_list_size};
 
     ghost view = { λ a. a.items.items };
 

@@ -4,7 +4,7 @@
 mod constant;
 mod expr;
 
-pub use aio_script_model::{Comparison, Function, Operator, RequestName};
-pub use aio_value_model::Kind;
+pub use model_tree::{Comparison, Function, Operator, RequestName};
+pub use model_value::Kind;
 pub use constant::Constant;
 pub use expr::{Expr, ExprCase, ExprList};

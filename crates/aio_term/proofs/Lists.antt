@@ -1,6 +1,6 @@
 -- All values of a list whose last item stands behind the others.
 use Rattle.std.proofs.Common.{◌≡◌, List, [], ◌∷◌, ◌++◌, Option, Some, None, option_map, option_and_then, refl, ap, ◌∙◌}
-use Rattle.aio_script_model.specs.Levels.{all_of}
+use Rattle.model_text.specs.Levels.{all_of}
 use Rattle.aio_term.specs.Operand.{with_last}
 
 one : {B : Type 0} (last : Option B) → option_and_then (λ y. Some (y ∷ [])) last ≡ option_map (λ y. y ∷ []) last

@@ -1,7 +1,7 @@
 -- What a lexeme of the code is, seen as plain data.
--- Source: the definition of lexemes (aio_script_model, specs/Words.antt).
+-- Source: the definition of lexemes (model_text, specs/Words.antt).
 use Rattle.std.specs.Rc.{rc_str_bytes, rc_slice_items}
-use Rattle.aio_script_model.specs.Words as plain
+use Rattle.model_text.specs.Words as plain
 use Rattle.aio_term.specs.declared.lexeme.Lexeme.{Lexeme}
 use Rattle.aio_term.specs.declared.lexeme.Lexeme.TheVariants.{Reserved, Named, Number, Texts, Octets, Sign}
 

@@ -1,8 +1,8 @@
 -- The expression that a case, with the parts that it lends, stands for.
--- Source: the definition of expressions whose names are not looked up (aio_script_model, specs/Terms.antt).
+-- Source: the definition of expressions whose names are not looked up (model_text, specs/Terms.antt).
 use Rattle.std.specs.Prelude.{option_map}
 use Rattle.std.specs.Rc.{rc_str_bytes}
-use Rattle.aio_script_model.specs.Terms.{Term, Or, And, Not, Compare, Calculate, Negate, Index, Constantly, Variable, ListOf, Called, terms}
+use Rattle.model_text.specs.Terms.{Term, Or, And, Not, Compare, Calculate, Negate, Index, Constantly, Variable, ListOf, Called, terms}
 use Rattle.aio_syntax.specs.Constant.{constant_of}
 use Rattle.aio_term.specs.declared.term.TermCase.{TermCase}
 use Rattle.aio_term.specs.declared.term.TermCase.TheVariants as case

@@ -1,15 +1,15 @@
 -- An expression whose names are not looked up as one whose names are, and back: any of those would do that no other becomes,
 -- so a call becomes a function's with all its parts. By it proofs tell expressions apart, and types of code may be seen as
 -- expressions.
--- Source: the code of expressions (aio_script_model, specs/ExprCode.antt).
+-- Source: the code of expressions (aio_syntax, specs/ExprCode.antt).
 use Rattle.std.specs.Prelude.{◌≡◌, Option, Some, None}
 use Rattle.std.proofs.Common.{refl, ap}
 use Rattle.std.specs.Coded.{Coded, code_by}
-use Rattle.aio_script_model.specs.declared.function.Function.TheVariants as function
-use Rattle.aio_script_model.specs.Syntax as syntax
-use Rattle.aio_script_model.specs.Syntax.{Name, NoneConstant}
-use Rattle.aio_script_model.specs.ExprCode.{coded_expr}
-use Rattle.aio_script_model.specs.Terms.{Term, Or, And, Not, Compare, Calculate, Negate, Index, Constantly, Variable, ListOf, Called, Terms, no_terms, term_then}
+use Rattle.model_tree.specs.declared.function.Function.TheVariants as function
+use Rattle.model_tree.specs.Syntax as syntax
+use Rattle.model_tree.specs.Syntax.{Name, NoneConstant}
+use Rattle.model_text.specs.Terms.{Term, Or, And, Not, Compare, Calculate, Negate, Index, Constantly, Variable, ListOf, Called, Terms, no_terms, term_then}
+use Rattle.aio_syntax.specs.ExprCode.{coded_expr}
 
 abbrev bare_expr : Option Name → syntax.Expr
 bare_expr (Some name) = syntax.Variable name

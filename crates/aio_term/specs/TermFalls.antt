@@ -1,9 +1,9 @@
 -- The parts of an expression are smaller than it, and each expression of a list is smaller than the list.
--- Source: the definition of expressions whose names are not looked up (aio_script_model, specs/Terms.antt).
+-- Source: the definition of expressions whose names are not looked up (model_text, specs/Terms.antt).
 use Rattle.std.specs.Prelude.{◌+◌, ◌≤◌, max, List, [], ◌∷◌}
 use Rattle.std.proofs.Common.{arith}
 use denote.Param.Weighed.{most}
-use Rattle.aio_script_model.specs.Terms.{Term}
+use Rattle.model_text.specs.Terms.{Term}
 use Rattle.aio_term.specs.TermSize.{term_size, term_list_size}
 use Rattle.aio_term.specs.declared.term.Case.{Case}
 use Rattle.aio_term.specs.declared.term.Case.TheVariants as case

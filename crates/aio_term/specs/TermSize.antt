@@ -1,7 +1,7 @@
 -- How many expressions stand inside an expression: what falls in each recursion over expressions.
--- Source: the definition of expressions whose names are not looked up (aio_script_model, specs/Terms.antt).
+-- Source: the definition of expressions whose names are not looked up (model_text, specs/Terms.antt).
 use Rattle.std.specs.Prelude.{ℕ, ◌+◌, List}
-use Rattle.aio_script_model.specs.Terms.{Term, Or, And, Not, Compare, Calculate, Negate, Index, ListOf, Called, Terms, no_terms, term_then, terms}
+use Rattle.model_text.specs.Terms.{Term, Or, And, Not, Compare, Calculate, Negate, Index, ListOf, Called, Terms, no_terms, term_then, terms}
 
 abbrev mutual
   pub term_size : Term → ℕ

@@ -1,12 +1,12 @@
 //! Tokens without their columns.
 ghost use Rattle.std.specs.Prelude.{◌≡◌, IfOk, map};
-ghost use Rattle.aio_script_model.specs.Tokens.{Name as PlainName};
-ghost use Rattle.aio_script_model.specs.Words.{reserved_of, reserved_text, lexeme_of, lexemes_of};
+ghost use Rattle.model_text.specs.Tokens.{Name as PlainName};
+ghost use Rattle.model_text.specs.Words.{reserved_of, reserved_text, lexeme_of, lexemes_of};
 ghost use Rattle.aio_lex.specs.Token.{plain_class};
 ghost use Rattle.aio_term.specs.Lexeme.{plain_lexeme};
 
 use aio_lex::{Symbol, TokenClass, TokenList};
-use aio_script_model::ReservedWord;
+use model_text::ReservedWord;
 use std::alloc::{AllocError, Global};
 use std::rc::{RcSlice, RcStr};
 

@@ -6,7 +6,8 @@ mod operand;
 mod term;
 
 pub use aio_lex::Symbol;
-pub use aio_script_model::{Comparison, Operator, ReservedWord};
+pub use model_text::ReservedWord;
+pub use model_tree::{Comparison, Operator};
 pub use aio_syntax::Constant;
 pub use lexeme::{Lexeme, lexemes};
 pub use operand::{Join, Operand, all_that_fit, capped, denied, joined, negated};

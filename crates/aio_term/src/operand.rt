@@ -1,12 +1,12 @@
 //! What was read, kept only where it isn't too high.
 ghost use Rattle.std.specs.Prelude.{◌≡◌, IfOk, map, option_map};
-ghost use Rattle.aio_script_model.specs.Terms.{Not, Negate};
-ghost use Rattle.aio_term_model.specs.Operands.{capped, of_one, of_two, that_fits};
-ghost use Rattle.aio_script_model.specs.Levels.{all_of};
+ghost use Rattle.model_text.specs.Terms.{Not, Negate};
+ghost use Rattle.model_text.specs.Levels.{all_of};
+ghost use Rattle.law_reading.specs.Operands.{capped, of_one, of_two, that_fits};
 ghost use Rattle.aio_term.specs.Operand.{plain_operand, build_of, with_last};
 
 use crate::term::Term;
-use aio_script_model::{Comparison, Operator};
+use model_tree::{Comparison, Operator};
 use std::alloc::{AllocError, Global};
 
 /// What was read: an expression at most 32 high, or that it is higher. So no tree is ever deep.

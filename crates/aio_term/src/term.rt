@@ -1,11 +1,11 @@
 //! Expressions before any name is looked up.
 ghost use Rattle.std.specs.Prelude.{◌≡◌, min, max, suc, option_map};
 ghost use Rattle.std.specs.Rc.{rc_str_bytes};
-ghost use Rattle.aio_script_model.specs.Terms.{Or, And, Not, Compare, Calculate, Negate, Index, Constantly, Variable, ListOf, Called, terms, height, height_of_all};
+ghost use Rattle.model_text.specs.Terms.{Or, And, Not, Compare, Calculate, Negate, Index, Constantly, Variable, ListOf, Called, terms, height, height_of_all};
 ghost use Rattle.aio_syntax.specs.Constant.{constant_of};
 ghost use Rattle.aio_term.specs.TermCase.{term_of_case};
 
-use aio_script_model::{Comparison, Operator};
+use model_tree::{Comparison, Operator};
 use aio_syntax::Constant;
 use std::marker::Model;
 use std::rc::RcStr;
@@ -44,8 +44,8 @@ pub struct TermList {
 
 impl Model for Term {
     ghost use Rattle.std.specs.Prelude.{◌≡◌, min};
-    ghost use Rattle.aio_script_model.specs.Terms as plain;
-    ghost use Rattle.aio_script_model.specs.Terms.{height};
+    ghost use Rattle.model_text.specs.Terms as plain;
+    ghost use Rattle.model_text.specs.Terms.{height};
     ghost use Rattle.aio_term.specs.TermCode.{coded_term};
 
     ghost Value = { plain.Term };
@@ -69,8 +69,8 @@ impl Model for Term {
 impl Model for TermList {
     ghost use Rattle.std.specs.Prelude.{◌≡◌, min, List};
     ghost use Rattle.std.specs.Coded.{coded_list};
-    ghost use Rattle.aio_script_model.specs.Terms as plain;
-    ghost use Rattle.aio_script_model.specs.Terms.{terms, height_of_all};
+    ghost use Rattle.model_text.specs.Terms as plain;
+    ghost use Rattle.model_text.specs.Terms.{terms, height_of_all};
     ghost use Rattle.aio_term.specs.TermCode.{coded_term};
 
     ghost Value = { List plain.Term };

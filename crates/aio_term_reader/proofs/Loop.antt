@@ -2,12 +2,12 @@
 use Rattle.std.proofs.Common.{◌≡◌, ℕ, ◌+◌, ◌<◌, ◌≤◌, List, [], ◌∷◌, None, option_map, length, map, take, drop, get_or, fold, refl, sym, ap, ◌∙◌}
 use Rattle.std.proofs.lemmas.List.{map-append, take-append-drop, take_all, map_more}
 use Rattle.std.proofs.lemmas.List.Sums.{fold-append}
-use Rattle.aio_script_model.specs.Words as plain
-use Rattle.aio_script_model.specs.Levels.{term_of}
-use Rattle.aio_term_model.specs.Operands.{capped}
-use Rattle.aio_term_model.specs.Reader.{Open, Progress, State, reading, start}
-use Rattle.aio_term_model.specs.Feeding.{fed, feed, finished, finish}
-use Rattle.aio_term_model.proofs.Read.{read-is}
+use Rattle.model_text.specs.Words as plain
+use Rattle.model_text.specs.Levels.{term_of}
+use Rattle.law_reading.specs.Operands.{capped}
+use Rattle.law_reading.specs.Reader.{Open, Progress, State, reading, start}
+use Rattle.law_reading.specs.Feeding.{fed, feed, finished, finish}
+use Rattle.law_terms.proofs.Read.{read-is}
 use Rattle.aio_term.specs.declared.lexeme.Lexeme.{Lexeme}
 use Rattle.aio_term.specs.Lexeme.{plain_lexeme}
 

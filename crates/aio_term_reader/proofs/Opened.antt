@@ -2,11 +2,11 @@
 use Rattle.std.proofs.Common.{◌≡◌, Bool, true, false, List, [], ◌∷◌, ◌++◌, Option, Some, None, option_map, option_and_then, reverse, refl}
 use Rattle.std.specs.Prelude.{if◌then◌else◌}
 use Rattle.std.proofs.lemmas.List.{reverse-append}
-use Rattle.aio_script_model.specs.Words.{Lexeme, is_sign}
-use Rattle.aio_term_model.specs.Operands.{Operand}
-use Rattle.aio_term_model.specs.Pending.{no_loose}
-use Rattle.aio_term_model.specs.Reader.{Bracket, Open, Progress, AtNot, BehindOperand, reading}
-use Rattle.aio_term_model.specs.Ends.{parted, at_comma, closing, whole, at_closing}
+use Rattle.model_text.specs.Words.{Lexeme, is_sign}
+use Rattle.law_reading.specs.Operands.{Operand}
+use Rattle.law_reading.specs.Pending.{no_loose}
+use Rattle.law_reading.specs.Reader.{Bracket, Open, Progress, AtNot, BehindOperand, reading}
+use Rattle.law_reading.specs.Ends.{parted, at_comma, closing, whole, at_closing}
 use Rattle.aio_term_reader.specs.Closed.{parted_open, closed}
 
 pub reverse-push : {A : Type 0} (xs : List A) (last : A) → reverse (xs ++ last ∷ []) ≡ last ∷ reverse xs

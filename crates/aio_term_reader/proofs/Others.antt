@@ -1,11 +1,11 @@
 -- What a lexeme makes of an expression, where it is none of those that a definition names.
 use Rattle.std.proofs.Common.{◌≡◌, List, option_and_then, refl}
-use Rattle.aio_script_model.specs.declared.symbol.Symbol.{Symbol as AnySymbol}
-use Rattle.aio_script_model.specs.declared.symbol.Symbol.TheVariants as symbol
-use Rattle.aio_term_model.specs.Operands.{Operand}
-use Rattle.aio_term_model.specs.Pending.{Loose, Tight}
-use Rattle.aio_term_model.specs.Reader.{Open, AtOperand, reading}
-use Rattle.aio_term_model.specs.Feeding.{infix_of, behind_infix, at_symbol}
+use Rattle.model_text.specs.declared.symbol.Symbol.{Symbol as AnySymbol}
+use Rattle.model_text.specs.declared.symbol.Symbol.TheVariants as symbol
+use Rattle.law_reading.specs.Operands.{Operand}
+use Rattle.law_reading.specs.Pending.{Loose, Tight}
+use Rattle.law_reading.specs.Reader.{Open, AtOperand, reading}
+use Rattle.law_reading.specs.Feeding.{infix_of, behind_infix, at_symbol}
 
 pub at_symbol-other : (s : AnySymbol) (loose : Loose) (tight : Tight) (operand : Operand) (opened : List Open) → (s ≡ symbol.LeftBracket → ⊥) → option_and_then (λ pending. reading (AtOperand loose pending) opened) (option_and_then (behind_infix tight operand) (infix_of s)) ≡ at_symbol loose tight operand opened s
 at_symbol-other symbol.LeftBracket loose tight operand opened differs = absurd (differs refl)

@@ -1,9 +1,9 @@
 -- What a comma makes of the innermost bracket, and how far the expression before it has come once it closes.
--- Source: the definition of where an expression ends (aio_term_model, specs/Ends.antt).
+-- Source: the definition of where an expression ends (law_reading, specs/Ends.antt).
 use Rattle.std.specs.Prelude.{Option, None, option_map, if◌then◌else◌}
-use Rattle.aio_script_model.specs.Words.{Lexeme, is_sign}
-use Rattle.aio_term_model.specs.Reader.{Open, Progress, BehindOperand}
-use Rattle.aio_term_model.specs.Ends.{parted, closing, whole}
+use Rattle.model_text.specs.Words.{Lexeme, is_sign}
+use Rattle.law_reading.specs.Reader.{Open, Progress, BehindOperand}
+use Rattle.law_reading.specs.Ends.{parted, closing, whole}
 
 abbrev pub parted_open : Open → Progress → Option Open
 parted_open innermost progress =

@@ -1,7 +1,7 @@
 -- What one lexeme makes of the innermost expression, whatever brackets are open around it.
--- Source: the definition of how an expression is read (aio_term_model, specs/Feeding.antt).
+-- Source: the definition of how an expression is read (law_reading, specs/Feeding.antt).
 use Rattle.std.specs.Prelude.{List, ◌∷◌, Option, None, option_and_then, reverse}
-use Rattle.aio_term_model.specs.Reader.{Open, Progress, State, reading}
+use Rattle.law_reading.specs.Reader.{Open, Progress, State, reading}
 use Rattle.aio_term_reader.specs.declared.reader.Next.{Next}
 use Rattle.aio_term_reader.specs.declared.reader.Next.TheVariants.{Goes, Opens, Fails}
 

@@ -1,10 +1,10 @@
 -- Operators that still want their right operand, seen as plain data.
--- Source: the definition of what is pending (aio_term_model, specs/Pending.antt).
+-- Source: the definition of what is pending (law_reading, specs/Pending.antt).
 use Rattle.std.specs.Prelude.{option_map}
-use Rattle.aio_term_model.specs.Pending as plain
+use Rattle.law_reading.specs.Pending as plain
+use Rattle.aio_term.specs.Operand.{plain_operand}
 use Rattle.aio_term_reader.specs.declared.pending.Loose.TheInside.{Inside as LooseInside}
 use Rattle.aio_term_reader.specs.declared.pending.Tight.TheInside.{Inside as TightInside}
-use Rattle.aio_term.specs.Operand.{plain_operand}
 use Rattle.aio_term_reader.specs.PendingLeft.{plain_left}
 
 abbrev pub plain_loose : LooseInside → plain.Loose

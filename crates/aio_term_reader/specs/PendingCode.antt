@@ -1,17 +1,17 @@
 -- What is pending as plain values that have codes. By it types of code may be seen as what is pending.
--- Source: the definition of what is pending (aio_term_model, specs/Pending.antt).
+-- Source: the definition of what is pending (law_reading, specs/Pending.antt).
 use denote.Enum.Declared.{tag_of}
 use Rattle.std.specs.Prelude.{◌≡◌, ℕ, [], ◌∷◌, Option, Some, None, slice_index_or, refl}
 use Rattle.std.specs.Coded.{Coded, code_by, coded_ℕ, coded×, coded_option}
-use Rattle.aio_script_model.specs.contracts.operator.Operator.{the_type as operator_type}
-use Rattle.aio_script_model.specs.declared.operator.Operator.{Operator}
-use Rattle.aio_script_model.specs.declared.operator.Operator.TheVariants.{Add, Subtract, Multiply, FloorDivide, Remainder}
-use Rattle.aio_script_model.specs.contracts.operator.Comparison.{the_type as comparison_type}
-use Rattle.aio_script_model.specs.declared.operator.Comparison.{Comparison}
-use Rattle.aio_script_model.specs.declared.operator.Comparison.TheVariants as comparison
-use Rattle.aio_script_model.specs.Terms.{Term}
-use Rattle.aio_term_model.specs.Operands.{Operand, Fits, TooHigh, that_fits}
-use Rattle.aio_term_model.specs.Pending.{Loose, Tight}
+use Rattle.model_tree.specs.contracts.operator.Operator.{the_type as operator_type}
+use Rattle.model_tree.specs.declared.operator.Operator.{Operator}
+use Rattle.model_tree.specs.declared.operator.Operator.TheVariants.{Add, Subtract, Multiply, FloorDivide, Remainder}
+use Rattle.model_tree.specs.contracts.operator.Comparison.{the_type as comparison_type}
+use Rattle.model_tree.specs.declared.operator.Comparison.{Comparison}
+use Rattle.model_tree.specs.declared.operator.Comparison.TheVariants as comparison
+use Rattle.model_text.specs.Terms.{Term}
+use Rattle.law_reading.specs.Operands.{Operand, Fits, TooHigh, that_fits}
+use Rattle.law_reading.specs.Pending.{Loose, Tight}
 use Rattle.aio_term.specs.TermCode.{coded_term}
 
 abbrev operator_from : ℕ → Operator

@@ -1,13 +1,13 @@
 -- What a reader of an expression knows behind some lexemes, seen as plain data. The code has the innermost bracket last.
--- Source: the definition of a reader (aio_term_model, specs/Reader.antt).
+-- Source: the definition of a reader (law_reading, specs/Reader.antt).
 use Rattle.std.specs.Prelude.{map, option_map}
 use Rattle.std.specs.Rc.{rc_str_bytes}
-use Rattle.aio_term_model.specs.Reader as plain
+use Rattle.law_reading.specs.Reader as plain
+use Rattle.aio_term.specs.Operand.{plain_operand}
 use Rattle.aio_term_reader.specs.declared.reader.Bracket.{Bracket}
 use Rattle.aio_term_reader.specs.declared.reader.Bracket.TheVariants.{Group, Item, Items, Arguments}
 use Rattle.aio_term_reader.specs.declared.reader.Place.{Place}
 use Rattle.aio_term_reader.specs.declared.reader.Place.TheVariants.{Start, AtNot, AtOperand, BehindName, BehindOperand, AtKind, BehindKind}
-use Rattle.aio_term.specs.Operand.{plain_operand}
 
 abbrev pub plain_bracket : Bracket → plain.Bracket
 plain_bracket Group = plain.Group

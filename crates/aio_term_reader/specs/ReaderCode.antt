@@ -1,11 +1,11 @@
 -- What a reader of an expression knows as plain values that have codes. By it types of code may be seen as what a reader knows.
--- Source: the definition of a reader (aio_term_model, specs/Reader.antt).
+-- Source: the definition of a reader (law_reading, specs/Reader.antt).
 use Rattle.std.specs.Prelude.{◌≡◌, ℕ, List, [], ◌∷◌, Option, None, slice_index_or, refl}
 use Rattle.std.specs.Coded.{Coded, code_by, coded_ℕ, coded×, coded_list, coded_option}
-use Rattle.aio_script_model.specs.Syntax.{Name}
-use Rattle.aio_term_model.specs.Operands.{Operand, TooHigh}
-use Rattle.aio_term_model.specs.Pending.{Loose, Tight, no_loose, no_tight}
-use Rattle.aio_term_model.specs.Reader.{Bracket, Group, Item, Items, Arguments, Open, Progress, Start, AtNot, AtOperand, BehindName, BehindOperand, AtKind, BehindKind, Reader}
+use Rattle.model_tree.specs.Syntax.{Name}
+use Rattle.law_reading.specs.Operands.{Operand, TooHigh}
+use Rattle.law_reading.specs.Pending.{Loose, Tight, no_loose, no_tight}
+use Rattle.law_reading.specs.Reader.{Bracket, Group, Item, Items, Arguments, Open, Progress, Start, AtNot, AtOperand, BehindName, BehindOperand, AtKind, BehindKind, Reader}
 use Rattle.aio_term_reader.specs.PendingCode.{coded_operand, coded_loose, coded_tight}
 
 abbrev coded_name : Coded Name

@@ -1,12 +1,12 @@
 //! Where an expression ends, at a comma, a closing bracket or the end, and what its bracket makes of it.
 ghost use Rattle.std.specs.Prelude.{◌≡◌, IfOk, None, Some, map, option_map, [], ◌∷◌, ◌++◌, reverse};
 ghost use Rattle.std.specs.Rc.{rc_str_bytes};
-ghost use Rattle.aio_script_model.specs.Words.{Sign};
-ghost use Rattle.aio_term_model.specs.Operands.{Fits, list_of, call, call_of};
-ghost use Rattle.aio_script_model.specs.Terms.{Variable};
-ghost use Rattle.aio_term_model.specs.Pending.{disjunction_of};
-ghost use Rattle.aio_term_model.specs.Reader.{Items, Arguments, BehindOperand};
-ghost use Rattle.aio_term_model.specs.Ends.{ended, parted, at_comma, filled, empty, with_kind, whole, closing, at_closing};
+ghost use Rattle.model_text.specs.Words.{Sign};
+ghost use Rattle.model_text.specs.Terms.{Variable};
+ghost use Rattle.law_reading.specs.Operands.{Fits, list_of, call, call_of};
+ghost use Rattle.law_reading.specs.Pending.{disjunction_of};
+ghost use Rattle.law_reading.specs.Reader.{Items, Arguments, BehindOperand};
+ghost use Rattle.law_reading.specs.Ends.{ended, parted, at_comma, filled, empty, with_kind, whole, closing, at_closing};
 ghost use Rattle.aio_term.specs.Operand.{plain_operand};
 ghost use Rattle.aio_term_reader.specs.Closed.{parted_open, closed};
 ghost use Rattle.aio_term_reader.specs.Next.{come};

@@ -1,12 +1,12 @@
 //! What a reader knows behind one lexeme more.
 ghost use Rattle.std.specs.Prelude.{◌≡◌, List, IfOk, [], None, suc, option_map, option_and_then, reverse};
 ghost use Rattle.std.specs.Rc.{rc_str_bytes};
-ghost use Rattle.aio_script_model.specs.Levels.{atom, constant_of_word};
-ghost use Rattle.aio_script_model.specs.Words.{Reserved, Sign};
-ghost use Rattle.aio_term_model.specs.Operands.{Fits};
-ghost use Rattle.aio_term_model.specs.Pending.{behind_and, behind_or};
-ghost use Rattle.aio_term_model.specs.Reader.{Open as OpenBracket, Arguments, AtNot, AtOperand, BehindName, BehindOperand, reading};
-ghost use Rattle.aio_term_model.specs.Feeding.{opening, at_operand, at_not, infix_of, behind_infix, at_symbol, behind_operand, first_argument, behind_name, at_kind, fed_within, fed};
+ghost use Rattle.model_text.specs.Levels.{atom, constant_of_word};
+ghost use Rattle.model_text.specs.Words.{Reserved, Sign};
+ghost use Rattle.law_reading.specs.Operands.{Fits};
+ghost use Rattle.law_reading.specs.Pending.{behind_and, behind_or};
+ghost use Rattle.law_reading.specs.Reader.{Open as OpenBracket, Arguments, AtNot, AtOperand, BehindName, BehindOperand, reading};
+ghost use Rattle.law_reading.specs.Feeding.{opening, at_operand, at_not, infix_of, behind_infix, at_symbol, behind_operand, first_argument, behind_name, at_kind, fed_within, fed};
 ghost use Rattle.aio_term.specs.Lexeme.{plain_lexeme};
 ghost use Rattle.aio_term.specs.Operand.{plain_operand};
 ghost use Rattle.aio_term_reader.specs.Infix.{plain_infix};

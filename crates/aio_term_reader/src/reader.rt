@@ -1,7 +1,7 @@
 //! What a reader of an expression knows behind some lexemes: what is pending, in each bracket that is open.
 ghost use Rattle.std.specs.Prelude.{◌≡◌, List};
-ghost use Rattle.aio_term_model.specs.Reader.{Open as OpenBracket, reading};
-ghost use Rattle.aio_term_model.specs.Feeding.{opening};
+ghost use Rattle.law_reading.specs.Reader.{Open as OpenBracket, reading};
+ghost use Rattle.law_reading.specs.Feeding.{opening};
 ghost use Rattle.aio_term_reader.specs.Next.{applied};
 ghost use Rattle.aio_term_reader.specs.Reader.{plain_bracket, plain_progress};
 
@@ -31,7 +31,7 @@ pub struct Open {
 }
 
 impl Model for Open {
-    ghost use Rattle.aio_term_model.specs.Reader as plain;
+    ghost use Rattle.law_reading.specs.Reader as plain;
     ghost use Rattle.aio_term_reader.specs.ReaderCode.{coded_open};
 
     ghost Value = { plain.Open };
@@ -66,7 +66,7 @@ pub enum Place {
 }
 
 impl Model for Progress {
-    ghost use Rattle.aio_term_model.specs.Reader as plain;
+    ghost use Rattle.law_reading.specs.Reader as plain;
     ghost use Rattle.aio_term_reader.specs.ReaderCode.{coded_progress};
 
     ghost Value = { plain.Progress };

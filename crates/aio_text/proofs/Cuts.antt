@@ -1,7 +1,7 @@
 -- Where the lines of a text are cut.
 use Rattle.std.proofs.Common.{◌≡◌, ℕ, ◌+◌, ◌<◌, List, [], ◌∷◌, length, get_or, take, drop, zero, suc, refl, ap, ◌∙◌, eqb, true, false, arith, add-one}
 use Rattle.std.proofs.lemmas.Bool.Decides.{nat_tests}
-use Rattle.aio_value_model.specs.Lines.{lines_of, fronted}
+use Rattle.model_value.specs.Lines.{lines_of, fronted}
 
 -- a byte that is no newline goes to the front of the first line
 lines_of-other : (byte : ℕ) (bytes : List ℕ) → (byte ≡ 10 → ⊥) → lines_of (byte ∷ bytes) ≡ fronted byte (lines_of bytes)

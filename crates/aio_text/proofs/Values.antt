@@ -1,7 +1,7 @@
 -- What digits stand for, one digit after another.
 use Rattle.std.proofs.Common.{◌≡◌, ℕ, ◌+◌, ◌-◌, ◌*◌, ◌<◌, List, length, get_or, take, ap, ◌∙◌, sym, arith, min}
 use Rattle.std.proofs.lemmas.List.Sums.{fold_more}
-use Rattle.aio_value_model.specs.Number.{digits_value}
+use Rattle.model_value.specs.Number.{digits_value}
 
 pub capped : (value digit over : ℕ) → min (10 * min value over + digit) over ≡ min (10 * value + digit) over
 capped value digit over = omega arith

@@ -1,6 +1,6 @@
 //! The lines of a text.
 ghost use Rattle.std.specs.Prelude.{◌≡◌, ◌-◌, ◌<◌, [], ◌∷◌, ◌↔◌, drop, length, IsNone, IfSome};
-ghost use Rattle.aio_value_model.specs.Lines.{lines_of};
+ghost use Rattle.model_value.specs.Lines.{lines_of};
 
 /// The first line of a text without its newline, and what follows it; nothing where the text is empty. The last line
 /// may lack its newline. It reads the line alone.

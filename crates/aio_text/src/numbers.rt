@@ -1,7 +1,7 @@
 //! Numbers in decimal digits.
 ghost use Rattle.std.specs.Prelude.{◌≡◌, ◌+◌, ◌-◌, ◌*◌, ◌≤◌, min};
 ghost use Rattle.std.specs.List.{list_all};
-ghost use Rattle.aio_value_model.specs.Number.{number_of, digits_value, is_digit};
+ghost use Rattle.model_value.specs.Number.{number_of, digits_value, is_digit};
 
 /// The greatest number of a script or a journal.
 const MOST: u64 = 0x7FFF_FFFF_FFFF_FFFF;

@@ -4,8 +4,8 @@ use Rattle.std.proofs.lemmas.Slice.Eq.{bytes_eq-Decides}
 use Rattle.std.specs.Map.{lookup, set_value}
 use Rattle.std.specs.Str.{bytes_eq}
 use Rattle.std.specs.String.{string_eq}
-use Rattle.indexmap.specs.IndexMap.{insert_entry}
 use Rattle.aio_wire.specs.Shelved.{files_of, with_appended}
+use Rattle.indexmap.specs.IndexMap.{insert_entry}
 
 abbrev Entry : Type 0
 Entry = String Global × Vec ℕ Global

@@ -1,6 +1,6 @@
 -- What a read may give.
 use Rattle.std.specs.Prelude.{◌≡◌, ℕ, ◌≤◌, List, [], ◌∷◌, ◌++◌, Option, Some, length, drop, take}
-use Rattle.aio_wire_model.specs.Told.{Agrees, Rose}
+use Rattle.model_wire.specs.Told.{Agrees, Rose}
 use Rattle.aio_wire.specs.declared.source.SourceGot.{SourceGot}
 use Rattle.aio_wire.specs.declared.source.SourceGot.TheVariants.{Bytes, End, Failed}
 

@@ -1,7 +1,7 @@
 -- What a wire may reply.
 use Rattle.std.specs.Prelude.{ℕ, List, [], ◌∷◌, Option}
-use Rattle.aio_wire_model.specs.Journal.{Entry, Answered}
-use Rattle.aio_wire_model.specs.Told.{Agrees, Rose}
+use Rattle.model_wire.specs.Journal.{Entry, Answered}
+use Rattle.model_wire.specs.Told.{Agrees, Rose}
 use Rattle.aio_wire.specs.Told.{answer_of, refused_of}
 use Rattle.aio_wire.specs.declared.wire.Reply.{Reply}
 use Rattle.aio_wire.specs.declared.wire.Reply.TheVariants.{Got, Over, Bad, Failed}

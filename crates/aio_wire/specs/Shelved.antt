@@ -6,10 +6,10 @@ use Rattle.std.specs.String.{string_bytes}
 use Rattle.std.specs.declared.alloc.Global.{Global}
 use Rattle.std.specs.declared.string.String.{String}
 use Rattle.std.specs.declared.vec.Vec.{Vec}
-use Rattle.indexmap.specs.IndexMap.{insert_entry}
 use Rattle.aio_wire.specs.Got.{got_of}
 use Rattle.aio_wire.specs.declared.source.SourceGot.{SourceGot}
 use Rattle.aio_wire.specs.declared.source.SourceGot.TheVariants.{Failed}
+use Rattle.indexmap.specs.IndexMap.{insert_entry}
 
 -- The names with their bytes, in the order in which the files were made, and how often a missing file was read.
 pub record Shelved : Type 0 where

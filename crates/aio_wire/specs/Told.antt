@@ -1,6 +1,6 @@
 -- Code's calls and answers, as the definitions have them.
-use Rattle.aio_wire_model.specs.Call as plain
-use Rattle.aio_wire_model.specs.Journal.{Entry, Refused}
+use Rattle.model_wire.specs.Call as plain
+use Rattle.model_wire.specs.Journal.{Entry, Refused}
 use Rattle.aio_wire.specs.declared.call.Call.{Call}
 use Rattle.aio_wire.specs.declared.call.Call.TheVariants.{Select}
 use Rattle.aio_wire.specs.declared.call.Answer.{Answer}

@@ -1,6 +1,6 @@
 -- What a write may answer.
 use Rattle.std.specs.Prelude.{◌≡◌, ℕ, ◌≤◌, ◌<◌, List, Option, length, take}
-use Rattle.aio_wire_model.specs.Told.{grown, Rose}
+use Rattle.model_wire.specs.Told.{grown, Rose}
 use Rattle.aio_wire.specs.declared.sink.SinkTook.{SinkTook}
 use Rattle.aio_wire.specs.declared.sink.SinkTook.TheVariants.{Took, Failed}
 

@@ -1,6 +1,6 @@
 //! Files by name.
 ghost use Rattle.std.specs.Prelude.{◌≡◌, ◌≢◌, ℕ, ◌≤◌, List, Option, Some, None, IfOk, OnErr};
-ghost use Rattle.aio_wire_model.specs.Told.{Agrees};
+ghost use Rattle.model_wire.specs.Told.{Agrees};
 ghost use Rattle.aio_wire.specs.Got.{FitsRead, ReadsAt, FailedIfRose};
 ghost use Rattle.aio_wire.specs.Took.{FitsWrite, FailedIfRose as WriteFailedIfRose};
 ghost use Rattle.aio_wire.specs.Files.{Appends};

@@ -1,6 +1,6 @@
 //! Where bytes come from.
 ghost use Rattle.std.specs.Prelude.{◌≡◌, ℕ, ◌≤◌, List, Option, IfOk, IfErr, OnErr, IsOk};
-ghost use Rattle.aio_wire_model.specs.Told.{Agrees};
+ghost use Rattle.model_wire.specs.Told.{Agrees};
 ghost use Rattle.aio_wire.specs.Got.{FitsRead, ReadLeaves, FailedIfRose};
 
 use aio_base::{Blob, Memory};

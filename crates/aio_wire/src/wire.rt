@@ -1,6 +1,6 @@
 //! What answers the loop's calls.
 ghost use Rattle.std.specs.Prelude.{◌≡◌, ℕ, ◌≤◌, List, Option, IfOk};
-ghost use Rattle.aio_wire_model.specs.Journal.{Entry};
+ghost use Rattle.model_wire.specs.Journal.{Entry};
 ghost use Rattle.aio_wire.specs.Replied.{Replied, FailedIfRose};
 
 use crate::call::{Answer, Call};

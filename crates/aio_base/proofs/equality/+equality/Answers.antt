@@ -1,8 +1,8 @@
 -- Each item is smaller than its list; lists of other lengths are not equal.
 use Rattle.std.proofs.Common.{rules, ◌<◌, sym}
-use Rattle.aio_value_model.specs.Size.{value_size, list_size}
-use Rattle.aio_value_model.proofs.Sizes.{value_size-item}
-use Rattle.aio_value_model.proofs.Equals.{same_items-lengths}
+use Rattle.law_value.proofs.Equals.{same_items-lengths}
+use Rattle.aio_base.specs.Size.{value_size, list_size}
+use Rattle.aio_base.proofs.Sizes.{value_size-item}
 use Rattle.aio_base.proofs.equality.+equality.Goals as goal
 
 pub all_equal-returns-then-a-b : goal.all_equal-returns-then-a-b

@@ -1,7 +1,7 @@
 use Rattle.std.proofs.Common.{◌≡◌, length, drop}
-use Rattle.aio_value_model.specs.Value.{values}
-use Rattle.aio_value_model.specs.Equality.{same_items}
-use Rattle.aio_value_model.specs.Size.{value_size, list_size}
+use Rattle.model_value.specs.Value.{values}
+use Rattle.model_value.specs.Equality.{same_items}
+use Rattle.aio_base.specs.Size.{value_size, list_size}
 use Rattle.aio_base.proofs.equality.+equality.Given as goal
 
 abbrev pub decreases-equal : goal.decreases-equal

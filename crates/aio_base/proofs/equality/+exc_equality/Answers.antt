@@ -2,11 +2,11 @@
 -- not equal.
 use Rattle.std.proofs.Common.{rules, ◌≡◌, ◌<◌, true, ◌&&◌, sym, ◌∙◌}
 use Rattle.std.specs.Str.{bytes_eq}
-use Rattle.aio_value_model.specs.Kinds.{same_kind}
-use Rattle.aio_value_model.specs.Value.{kind_of, text_of, bytes_of}
-use Rattle.aio_value_model.specs.Size.{exc_size, excs_size}
-use Rattle.aio_value_model.proofs.Sizes.{exc_size-member, excs_size-members}
-use Rattle.aio_value_model.proofs.Equals.{same_members-lengths, same_exc-parts}
+use Rattle.model_value.specs.Kinds.{same_kind}
+use Rattle.model_value.specs.Value.{kind_of, text_of, bytes_of}
+use Rattle.law_value.proofs.Equals.{same_members-lengths, same_exc-parts}
+use Rattle.aio_base.specs.Size.{exc_size, excs_size}
+use Rattle.aio_base.proofs.Sizes.{exc_size-member, excs_size-members}
 use Rattle.aio_base.proofs.equality.+exc_equality.Goals as goal
 
 pub all_excs_equal-returns-then-a-b : goal.all_excs_equal-returns-then-a-b

@@ -1,7 +1,7 @@
 use Rattle.std.proofs.Common.{◌≡◌, length, drop}
-use Rattle.aio_value_model.specs.Value.{excs}
-use Rattle.aio_value_model.specs.Equality.{same_members}
-use Rattle.aio_value_model.specs.Size.{exc_size, excs_size}
+use Rattle.model_value.specs.Value.{excs}
+use Rattle.model_value.specs.Equality.{same_members}
+use Rattle.aio_base.specs.Size.{exc_size, excs_size}
 use Rattle.aio_base.proofs.equality.+exc_equality.Given as goal
 
 abbrev pub decreases-equal_excs : goal.decreases-equal_excs

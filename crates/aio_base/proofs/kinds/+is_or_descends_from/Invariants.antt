@@ -1,5 +1,5 @@
 use Rattle.std.proofs.Common.{length}
-use Rattle.aio_value_model.specs.Kinds.{lineage}
+use Rattle.model_value.specs.Kinds.{lineage}
 use Rattle.aio_base.proofs.kinds.+is_or_descends_from.Given as goal
 
 abbrev pub decreases-is_or_descends_from : goal.decreases-is_or_descends_from

@@ -1,5 +1,5 @@
 use Rattle.std.proofs.Common.{◌≡◌, ◌++◌, take}
-use Rattle.aio_value_model.specs.Escapes.{escaped}
+use Rattle.model_value.specs.Escapes.{escaped}
 use Rattle.aio_base.proofs.literal.push_escaped.Given as goal
 
 abbrev pub invariant-loop-byte : goal.invariant-loop-byte

@@ -1,11 +1,11 @@
 -- Each item is smaller than the list, and the depth so far becomes the item's where that is greater.
 use Rattle.std.proofs.Common.{rules, ◌≡◌, ◌+◌, ◌<◌, ◌++◌, [], ◌∷◌, take, ap, sym, ◌∙◌, max, arith}
 use Rattle.std.proofs.lemmas.List.{take_more}
-use Rattle.aio_value_model.specs.Value.{values}
-use Rattle.aio_value_model.specs.Depth.{depth_of, items_depth}
-use Rattle.aio_value_model.specs.Size.{value_size, list_size}
-use Rattle.aio_value_model.proofs.Sizes.{value_size-item}
-use Rattle.aio_value_model.proofs.Depths.{items_depth-push}
+use Rattle.model_value.specs.Value.{values}
+use Rattle.model_value.specs.Depth.{depth_of, items_depth}
+use Rattle.law_value.proofs.Depths.{items_depth-push}
+use Rattle.aio_base.specs.Size.{value_size, list_size}
+use Rattle.aio_base.proofs.Sizes.{value_size-item}
 use Rattle.aio_base.proofs.nesting.+depth.Goals as goal
 
 pub depth_of_all-depth-requires : goal.depth_of_all-depth-requires

@@ -1,7 +1,7 @@
 use Rattle.std.proofs.Common.{◌≡◌, ◌-◌, ◌^◌, min, take}
-use Rattle.aio_value_model.specs.Value.{values}
-use Rattle.aio_value_model.specs.Depth.{items_depth}
-use Rattle.aio_value_model.specs.Size.{value_size, list_size}
+use Rattle.model_value.specs.Value.{values}
+use Rattle.model_value.specs.Depth.{items_depth}
+use Rattle.aio_base.specs.Size.{value_size, list_size}
 use Rattle.aio_base.proofs.nesting.+depth.Given as goal
 
 abbrev pub decreases-depth : goal.decreases-depth

@@ -2,11 +2,11 @@
 -- the member's where that is greater.
 use Rattle.std.proofs.Common.{rules, ◌≡◌, ◌+◌, ◌<◌, ◌++◌, [], ◌∷◌, take, ap, sym, ◌∙◌, max, arith}
 use Rattle.std.proofs.lemmas.List.{take_more}
-use Rattle.aio_value_model.specs.Value.{excs}
-use Rattle.aio_value_model.specs.Depth.{exc_depth, members_depth}
-use Rattle.aio_value_model.specs.Size.{exc_size, excs_size}
-use Rattle.aio_value_model.proofs.Sizes.{exc_size-member, excs_size-members}
-use Rattle.aio_value_model.proofs.Depths.{members_depth-push, exc_depth-parts}
+use Rattle.model_value.specs.Value.{excs}
+use Rattle.model_value.specs.Depth.{exc_depth, members_depth}
+use Rattle.law_value.proofs.Depths.{members_depth-push, exc_depth-parts}
+use Rattle.aio_base.specs.Size.{exc_size, excs_size}
+use Rattle.aio_base.proofs.Sizes.{exc_size-member, excs_size-members}
 use Rattle.aio_base.proofs.nesting.+exc_depth.Goals as goal
 
 pub depth_of_exc-depth_of_members-requires : goal.depth_of_exc-depth_of_members-requires

@@ -1,7 +1,7 @@
 use Rattle.std.proofs.Common.{◌≡◌, ◌-◌, ◌^◌, min, take}
-use Rattle.aio_value_model.specs.Value.{excs}
-use Rattle.aio_value_model.specs.Depth.{members_depth}
-use Rattle.aio_value_model.specs.Size.{exc_size, excs_size}
+use Rattle.model_value.specs.Value.{excs}
+use Rattle.model_value.specs.Depth.{members_depth}
+use Rattle.aio_base.specs.Size.{exc_size, excs_size}
 use Rattle.aio_base.proofs.nesting.+exc_depth.Given as goal
 
 abbrev pub decreases-depth_of_exc : goal.decreases-depth_of_exc

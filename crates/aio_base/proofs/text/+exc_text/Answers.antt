@@ -3,13 +3,13 @@
 use Rattle.std.proofs.Common.{rules, ◌≡◌, ◌+◌, ◌<◌, true, false, ◌++◌, [], ◌∷◌, take, ap, sym, ◌∙◌, append_assoc}
 use Rattle.std.proofs.lemmas.List.{take_more}
 use lib.Chars.{codes}
-use Rattle.aio_value_model.specs.Kinds.{kind_name}
-use Rattle.aio_value_model.specs.Escapes.{text_literal}
-use Rattle.aio_value_model.specs.Value.{kind_of, text_of}
-use Rattle.aio_value_model.specs.Shown.{is_group}
-use Rattle.aio_value_model.specs.Size.{exc_size, excs_size}
-use Rattle.aio_value_model.proofs.Sizes.{exc_size-member, excs_size-members}
-use Rattle.aio_value_model.proofs.Joined.{separator-push, shown_members-push, shown_exc-parts}
+use Rattle.model_value.specs.Kinds.{kind_name}
+use Rattle.model_value.specs.Escapes.{text_literal}
+use Rattle.model_value.specs.Value.{kind_of, text_of}
+use Rattle.model_value.specs.Shown.{is_group}
+use Rattle.law_value.proofs.Joined.{separator-push, shown_members-push, shown_exc-parts}
+use Rattle.aio_base.specs.Size.{exc_size, excs_size}
+use Rattle.aio_base.proofs.Sizes.{exc_size-member, excs_size-members}
 use Rattle.aio_base.proofs.text.+exc_text.Goals as goal
 use Rattle.aio_base.proofs.text.+exc_text.Goals.{push_exc-then-eq+in_ok-extend_from_slice-2+in_ok-push_members+in_ok-push-2, push_exc-else-eq}
 

@@ -1,8 +1,8 @@
 use Rattle.std.proofs.Common.{◌≡◌, ◌++◌, take}
-use Rattle.aio_value_model.specs.Value.{excs}
-use Rattle.aio_value_model.specs.Shown.{shown_members}
-use Rattle.aio_value_model.specs.Size.{exc_size, excs_size}
-use Rattle.aio_value_model.proofs.Joined.{separator}
+use Rattle.model_value.specs.Value.{excs}
+use Rattle.model_value.specs.Shown.{shown_members}
+use Rattle.law_value.proofs.Joined.{separator}
+use Rattle.aio_base.specs.Size.{exc_size, excs_size}
 use Rattle.aio_base.proofs.text.+exc_text.Given as goal
 
 abbrev pub decreases-push_exc : goal.decreases-push_exc

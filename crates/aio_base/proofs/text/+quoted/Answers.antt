@@ -1,9 +1,9 @@
 -- Each item is smaller than the list, and the text so far grows by what stands before the item and by the item's.
 use Rattle.std.proofs.Common.{rules, ◌≡◌, ◌+◌, ◌<◌, ◌++◌, [], ◌∷◌, take, ap, sym, ◌∙◌, append_assoc}
 use Rattle.std.proofs.lemmas.List.{take_more}
-use Rattle.aio_value_model.specs.Size.{value_size, list_size}
-use Rattle.aio_value_model.proofs.Sizes.{value_size-item}
-use Rattle.aio_value_model.proofs.Joined.{separator-push, quoted_items-push}
+use Rattle.law_value.proofs.Joined.{separator-push, quoted_items-push}
+use Rattle.aio_base.specs.Size.{value_size, list_size}
+use Rattle.aio_base.proofs.Sizes.{value_size-item}
 use Rattle.aio_base.proofs.text.+quoted.Goals as goal
 
 pub push_items-push_quoted-requires : goal.push_items-push_quoted-requires

@@ -1,8 +1,8 @@
 use Rattle.std.proofs.Common.{◌≡◌, ◌++◌, take}
-use Rattle.aio_value_model.specs.Value.{values}
-use Rattle.aio_value_model.specs.Shown.{quoted_items}
-use Rattle.aio_value_model.specs.Size.{value_size, list_size}
-use Rattle.aio_value_model.proofs.Joined.{separator}
+use Rattle.model_value.specs.Value.{values}
+use Rattle.model_value.specs.Shown.{quoted_items}
+use Rattle.law_value.proofs.Joined.{separator}
+use Rattle.aio_base.specs.Size.{value_size, list_size}
 use Rattle.aio_base.proofs.text.+quoted.Given as goal
 
 abbrev pub decreases-push_quoted : goal.decreases-push_quoted

@@ -2,11 +2,11 @@
 -- member's weight, up to the cap.
 use Rattle.std.proofs.Common.{rules, ◌≡◌, ◌+◌, ◌<◌, ◌++◌, [], ◌∷◌, length, take, ap, sym, ◌∙◌, arith}
 use Rattle.std.proofs.lemmas.List.{take_more}
-use Rattle.aio_value_model.specs.Value.{excs}
-use Rattle.aio_value_model.specs.Weight.{exc_weight, members_weight}
-use Rattle.aio_value_model.specs.Size.{exc_size, excs_size}
-use Rattle.aio_value_model.proofs.Sizes.{exc_size-member, excs_size-members}
-use Rattle.aio_value_model.proofs.Weights.{members_weight-push, exc_weight-parts}
+use Rattle.model_value.specs.Value.{excs}
+use Rattle.model_value.specs.Weight.{exc_weight, members_weight}
+use Rattle.law_value.proofs.Weights.{members_weight-push, exc_weight-parts}
+use Rattle.aio_base.specs.Size.{exc_size, excs_size}
+use Rattle.aio_base.proofs.Sizes.{exc_size-member, excs_size-members}
 use Rattle.aio_base.proofs.weigh.+exc_weight.Goals as goal
 
 pub weight_of_exc-weight_of_members-requires : goal.weight_of_exc-weight_of_members-requires

@@ -1,7 +1,7 @@
 use Rattle.std.proofs.Common.{◌≡◌, ◌-◌, ◌^◌, min, take}
-use Rattle.aio_value_model.specs.Value.{excs}
-use Rattle.aio_value_model.specs.Weight.{members_weight}
-use Rattle.aio_value_model.specs.Size.{exc_size, excs_size}
+use Rattle.model_value.specs.Value.{excs}
+use Rattle.model_value.specs.Weight.{members_weight}
+use Rattle.aio_base.specs.Size.{exc_size, excs_size}
 use Rattle.aio_base.proofs.weigh.+exc_weight.Given as goal
 
 abbrev pub decreases-weight_of_exc : goal.decreases-weight_of_exc

@@ -1,11 +1,11 @@
 -- Each item is smaller than the list, and the total so far grows by the item's weight, up to the cap.
 use Rattle.std.proofs.Common.{rules, ◌≡◌, ◌+◌, ◌<◌, ◌++◌, [], ◌∷◌, take, ap, sym, ◌∙◌, arith}
 use Rattle.std.proofs.lemmas.List.{take_more}
-use Rattle.aio_value_model.specs.Value.{values}
-use Rattle.aio_value_model.specs.Weight.{weight_of, items_weight}
-use Rattle.aio_value_model.specs.Size.{value_size, list_size}
-use Rattle.aio_value_model.proofs.Sizes.{value_size-item}
-use Rattle.aio_value_model.proofs.Weights.{items_weight-push}
+use Rattle.model_value.specs.Value.{values}
+use Rattle.model_value.specs.Weight.{weight_of, items_weight}
+use Rattle.law_value.proofs.Weights.{items_weight-push}
+use Rattle.aio_base.specs.Size.{value_size, list_size}
+use Rattle.aio_base.proofs.Sizes.{value_size-item}
 use Rattle.aio_base.proofs.weigh.+weight.Goals as goal
 
 pub weight_of_all-weight-requires : goal.weight_of_all-weight-requires

@@ -1,8 +1,8 @@
 -- Each statement is smaller than its list, and the text so far grows by the statement's; clauses likewise.
 use Rattle.std.proofs.Common.{rules, ◌≡◌, ℕ, ◌+◌, ◌*◌, ◌<◌, ◌≤◌, ◌++◌, [], ◌∷◌, length, length-append, take, ap, sym, ◌∙◌, append_assoc, arith}
 use Rattle.std.proofs.lemmas.List.{take_more}
-use Rattle.aio_script_model.specs.Syntax.{statements, handlers}
-use Rattle.aio_script_model.specs.Canonical.{statement_text, statements_text, handlers_text}
+use Rattle.model_tree.specs.Syntax.{statements, handlers}
+use Rattle.model_text.specs.Canonical.{statement_text, statements_text, handlers_text}
 use Rattle.aio_program.specs.StatementSize.{statement_size, statement_list_size, handler_size, handler_list_size}
 use Rattle.aio_canonical.proofs.Joined.{statement_size-item, handler_size-item, statements_text-push, handlers_text-push}
 use Rattle.aio_canonical.proofs.block.+block.Goals as goal

@@ -1,7 +1,7 @@
 use Rattle.std.proofs.Common.{◌≡◌, ◌+◌, ◌*◌, ◌++◌, take}
 use Rattle.std.specs.Option.{option_copied}
-use Rattle.aio_script_model.specs.Syntax.{statements, handlers}
-use Rattle.aio_script_model.specs.Canonical.{statements_text, handlers_text}
+use Rattle.model_tree.specs.Syntax.{statements, handlers}
+use Rattle.model_text.specs.Canonical.{statements_text, handlers_text}
 use Rattle.aio_program.specs.StatementSize.{statement_size, statement_list_size, branch_size, handler_size, handler_list_size}
 use Rattle.aio_program.specs.Target.{plain_branch}
 use Rattle.aio_canonical.proofs.block.+block.Given as goal

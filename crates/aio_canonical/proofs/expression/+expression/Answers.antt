@@ -1,9 +1,9 @@
 -- Each item is smaller than the list, and the text so far grows by what stands before the item and by the item's.
 use Rattle.std.proofs.Common.{rules, ◌≡◌, ◌+◌, ◌*◌, ◌<◌, ◌++◌, [], ◌∷◌, take, ap, sym, ◌∙◌, append_assoc, arith}
 use Rattle.std.proofs.lemmas.List.{take_more}
-use Rattle.aio_script_model.specs.ExprSize.{expr_size, expr_list_size}
-use Rattle.aio_value_model.proofs.Joined.{separator-push}
-use Rattle.aio_script_model.proofs.Sizes.{expr_size-item}
+use Rattle.law_value.proofs.Joined.{separator-push}
+use Rattle.aio_syntax.specs.ExprSize.{expr_size, expr_list_size}
+use Rattle.aio_syntax.proofs.Sizes.{expr_size-item}
 use Rattle.aio_canonical.proofs.Joined.{exprs_text-push}
 use Rattle.aio_canonical.proofs.expression.+expression.Goals as goal
 

@@ -1,8 +1,8 @@
 use Rattle.std.proofs.Common.{◌≡◌, ◌+◌, ◌*◌, ◌++◌, take}
-use Rattle.aio_value_model.proofs.Joined.{separator}
-use Rattle.aio_script_model.specs.Syntax.{exprs}
-use Rattle.aio_script_model.specs.ExprSize.{expr_size, expr_list_size}
-use Rattle.aio_script_model.specs.Canonical.{exprs_text}
+use Rattle.model_tree.specs.Syntax.{exprs}
+use Rattle.model_text.specs.Canonical.{exprs_text}
+use Rattle.law_value.proofs.Joined.{separator}
+use Rattle.aio_syntax.specs.ExprSize.{expr_size, expr_list_size}
 use Rattle.aio_canonical.proofs.expression.+expression.Given as goal
 
 abbrev pub decreases-push_expr : goal.decreases-push_expr

@@ -1,6 +1,6 @@
 use Rattle.std.proofs.Common.{◌≡◌, ◌++◌, take}
-use Rattle.aio_script_model.specs.Syntax.{exprs}
-use Rattle.aio_script_model.specs.Canonical.{more_text}
+use Rattle.model_tree.specs.Syntax.{exprs}
+use Rattle.model_text.specs.Canonical.{more_text}
 use Rattle.aio_canonical.proofs.expression.push_more.Given as goal
 
 abbrev pub invariant-loop-item : goal.invariant-loop-item

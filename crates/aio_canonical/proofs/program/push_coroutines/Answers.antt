@@ -1,6 +1,6 @@
 use Rattle.std.proofs.Common.{◌≡◌, ◌+◌, ◌++◌, [], ◌∷◌, take, ap, sym, ◌∙◌, append_assoc}
 use Rattle.std.proofs.lemmas.List.{take_more}
-use Rattle.aio_script_model.specs.Canonical.{coroutine_text, coroutines_text}
+use Rattle.model_text.specs.Canonical.{coroutine_text, coroutines_text}
 use Rattle.aio_canonical.proofs.Joined.{coroutines_text-push}
 use Rattle.aio_canonical.proofs.program.push_coroutines.Goals as goal
 

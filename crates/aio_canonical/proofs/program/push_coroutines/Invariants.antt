@@ -1,5 +1,5 @@
 use Rattle.std.proofs.Common.{◌≡◌, ◌++◌, take}
-use Rattle.aio_script_model.specs.Canonical.{coroutines_text}
+use Rattle.model_text.specs.Canonical.{coroutines_text}
 use Rattle.aio_canonical.proofs.program.push_coroutines.Given as goal
 
 abbrev pub invariant-loop-coroutine : goal.invariant-loop-coroutine

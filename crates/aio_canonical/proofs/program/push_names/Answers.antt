@@ -1,7 +1,7 @@
 use Rattle.std.proofs.Common.{◌≡◌, ◌+◌, ◌++◌, [], ◌∷◌, take, ap, sym, ◌∙◌, append_assoc}
 use Rattle.std.specs.Rc.{rc_str_bytes}
 use Rattle.std.proofs.lemmas.List.{take_more}
-use Rattle.aio_value_model.proofs.Joined.{separator-push}
+use Rattle.law_value.proofs.Joined.{separator-push}
 use Rattle.aio_canonical.proofs.Joined.{names_text-push}
 use Rattle.aio_canonical.proofs.program.push_names.Goals as goal
 

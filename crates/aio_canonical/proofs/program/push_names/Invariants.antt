@@ -1,7 +1,7 @@
 use Rattle.std.proofs.Common.{◌≡◌, ◌++◌, map, take}
 use Rattle.std.specs.Rc.{rc_str_bytes}
-use Rattle.aio_value_model.proofs.Joined.{separator}
-use Rattle.aio_script_model.specs.Canonical.{names_text}
+use Rattle.model_text.specs.Canonical.{names_text}
+use Rattle.law_value.proofs.Joined.{separator}
 use Rattle.aio_canonical.proofs.program.push_names.Given as goal
 
 abbrev pub invariant-loop-name : goal.invariant-loop-name

@@ -1,5 +1,5 @@
 use Rattle.std.proofs.Common.{append_assoc}
-use Rattle.aio_script_model.specs.Canonical.{canonical}
+use Rattle.model_text.specs.Canonical.{canonical}
 use Rattle.aio_canonical.proofs.program.push_program.Goals as goal
 
 pub returns : goal.returns

@@ -1,6 +1,6 @@
 use Rattle.std.proofs.Common.{[], ap, sym, ◌∙◌}
-use Rattle.aio_value_model.specs.Value.{Nothing}
-use Rattle.aio_script_model.specs.Variables.{Binding}
+use Rattle.model_value.specs.Value.{Nothing}
+use Rattle.model_says.specs.Variables.{Binding}
 use Rattle.aio_expr.specs.Bindings.{plain_bindings}
 use Rattle.aio_expr.proofs.Variables.{assigned-first, assigned-unknown, plain-set}
 use Rattle.aio_expr.proofs.env.assign_in.Goals as goal

@@ -1,12 +1,12 @@
 use Rattle.std.proofs.Common.{rules, ◌≡◌, ◌+◌, ◌*◌, ◌<◌, ◌++◌, [], ◌∷◌, take, Ok, sym, ◌∙◌, ap, subst, arith}
 use Rattle.std.proofs.lemmas.List.{take_more}
-use Rattle.aio_script_model.specs.ExprSize.{expr_size, expr_list_size}
-use Rattle.aio_script_model.specs.Expressions.{value_of, values_of}
-use Rattle.aio_script_model.specs.Operations.{compared, calculated, indexed}
-use Rattle.aio_script_model.specs.Syntax.{exprs}
+use Rattle.model_tree.specs.Syntax.{exprs}
+use Rattle.model_says.specs.Expressions.{value_of, values_of}
+use Rattle.model_says.specs.Operations.{compared, calculated, indexed}
+use Rattle.aio_syntax.specs.ExprSize.{expr_size, expr_list_size}
+use Rattle.aio_syntax.proofs.Sizes.{expr_size-item}
 use Rattle.aio_expr.specs.Gives.{Fails, AllFail}
 use Rattle.aio_expr.proofs.Evaluated.{gives-err, if-err, or-fails, and-fails, values_of-push, all-fail}
-use Rattle.aio_script_model.proofs.Sizes.{expr_size-item}
 use Rattle.aio_expr.proofs.evaluate.+evaluate.Goals as goal
 
 pub evaluate-returns-in_err-decided-in-Or : goal.evaluate-returns-in_err-decided-in-Or

@@ -1,7 +1,7 @@
 use Rattle.std.proofs.Common.{◌≡◌, ◌+◌, ◌*◌, take, Ok}
-use Rattle.aio_script_model.specs.Expressions.{values_of}
-use Rattle.aio_script_model.specs.ExprSize.{expr_size, expr_list_size}
-use Rattle.aio_script_model.specs.Syntax.{exprs}
+use Rattle.model_tree.specs.Syntax.{exprs}
+use Rattle.model_says.specs.Expressions.{values_of}
+use Rattle.aio_syntax.specs.ExprSize.{expr_size, expr_list_size}
 use Rattle.aio_expr.proofs.evaluate.+evaluate.Given as goal
 
 abbrev pub decreases-evaluate : goal.decreases-evaluate

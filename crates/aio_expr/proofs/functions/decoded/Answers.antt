@@ -1,6 +1,6 @@
 use Rattle.std.proofs.Common.{sym, ◌∙◌, ap, subst}
-use Rattle.aio_value_model.specs.Value.{Text}
-use Rattle.aio_script_model.specs.Operations.{bounded}
+use Rattle.model_value.specs.Value.{Text}
+use Rattle.model_says.specs.Operations.{bounded}
 use Rattle.aio_expr.specs.Gives.{Gives}
 use Rattle.aio_expr.proofs.Decoded.{decoded-utf8, decoded-other}
 use Rattle.aio_expr.proofs.functions.decoded.Goals as goal

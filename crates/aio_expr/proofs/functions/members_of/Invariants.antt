@@ -1,5 +1,5 @@
 use Rattle.std.proofs.Common.{◌≡◌, map, take}
-use Rattle.aio_value_model.specs.Value.{Exception}
+use Rattle.model_value.specs.Value.{Exception}
 use Rattle.aio_expr.proofs.functions.members_of.Given as goal
 
 abbrev pub invariant-loop-member : goal.invariant-loop-member

@@ -1,8 +1,8 @@
 use Rattle.std.proofs.Common.{Ok, Some, map, w64, to_z-of_z, sym, ◌∙◌, ap, FitsSigned}
 use Rattle.std.proofs.lemmas.List.{length-map}
 use Rattle.std.proofs.Math.ListN.{get_or-map}
-use Rattle.aio_value_model.specs.Value.{Int}
-use Rattle.aio_script_model.specs.Operations.{found, byte_value}
+use Rattle.model_value.specs.Value.{Int}
+use Rattle.model_says.specs.Operations.{found, byte_value}
 use Rattle.aio_expr.specs.Places.{place_of}
 use Rattle.aio_expr.proofs.Places.{item_at-some, item_at-none}
 use Rattle.aio_expr.proofs.items.byte_at.Goals as goal

@@ -1,8 +1,8 @@
 use Rattle.std.proofs.Common.{◌≡◌, ◌+◌, ◌++◌, [], ◌∷◌, take, ap, sym, ◌∙◌, max, arith}
 use Rattle.std.proofs.lemmas.List.{take_more}
-use Rattle.aio_value_model.specs.Value.{values}
-use Rattle.aio_value_model.specs.Depth.{depth_of, items_depth}
-use Rattle.aio_value_model.proofs.Depths.{items_depth-push}
+use Rattle.model_value.specs.Value.{values}
+use Rattle.model_value.specs.Depth.{depth_of, items_depth}
+use Rattle.law_value.proofs.Depths.{items_depth-push}
 use Rattle.aio_expr.proofs.items.depth_of_all.Goals as goal
 
 pub loop-item-preserved : goal.loop-item-preserved

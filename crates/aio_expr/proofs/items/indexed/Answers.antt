@@ -1,5 +1,5 @@
 use Rattle.std.proofs.Common.{rules, FitsSigned, w64, to_z-of_z, sym, ◌∙◌, ap₂, subst}
-use Rattle.aio_script_model.specs.Operations.{found, item_at}
+use Rattle.model_says.specs.Operations.{found, item_at}
 use Rattle.aio_expr.specs.Gives.{Gives}
 use Rattle.aio_expr.proofs.Places.{indexed-list}
 use Rattle.aio_expr.proofs.items.indexed.Goals as goal

@@ -1,5 +1,5 @@
 use Rattle.std.proofs.Common.{◌≡◌, to_z-of_z, sym, ◌∙◌, ap, subst}
-use Rattle.aio_script_model.specs.Operations.{bounded, found}
+use Rattle.model_says.specs.Operations.{bounded, found}
 use Rattle.aio_expr.specs.Gives.{Gives}
 use Rattle.aio_expr.proofs.Places.{item_at-some, item_at-none}
 use Rattle.aio_expr.proofs.items.item_at.Goals as goal

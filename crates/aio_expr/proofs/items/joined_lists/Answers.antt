@@ -1,5 +1,5 @@
 use Rattle.std.proofs.Common.{rules, ◌≡◌, ◌++◌, ap, ◌∙◌, sym, Ok, arith}
-use Rattle.aio_value_model.specs.Value.{Items, values}
+use Rattle.model_value.specs.Value.{Items, values}
 use Rattle.aio_expr.proofs.InBounds.{items_weight-append, items_depth-append, too_heavy, too_deep, in_bounds}
 use Rattle.aio_expr.proofs.items.joined_lists.Goals as goal
 

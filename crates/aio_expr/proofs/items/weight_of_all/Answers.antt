@@ -1,8 +1,8 @@
 use Rattle.std.proofs.Common.{◌≡◌, ◌+◌, ◌++◌, [], ◌∷◌, take, ap, sym, ◌∙◌, arith}
 use Rattle.std.proofs.lemmas.List.{take_more}
-use Rattle.aio_value_model.specs.Value.{values}
-use Rattle.aio_value_model.specs.Weight.{weight_of, items_weight}
-use Rattle.aio_value_model.proofs.Weights.{items_weight-push}
+use Rattle.model_value.specs.Value.{values}
+use Rattle.model_value.specs.Weight.{weight_of, items_weight}
+use Rattle.law_value.proofs.Weights.{items_weight-push}
 use Rattle.aio_expr.proofs.items.weight_of_all.Goals as goal
 
 pub loop-item-preserved : goal.loop-item-preserved

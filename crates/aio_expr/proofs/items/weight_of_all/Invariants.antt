@@ -1,6 +1,6 @@
 use Rattle.std.proofs.Common.{◌≡◌, ◌-◌, ◌^◌, min, take}
-use Rattle.aio_value_model.specs.Value.{values}
-use Rattle.aio_value_model.specs.Weight.{items_weight}
+use Rattle.model_value.specs.Value.{values}
+use Rattle.model_value.specs.Weight.{items_weight}
 use Rattle.aio_expr.proofs.items.weight_of_all.Given as goal
 
 abbrev pub invariant-loop-item : goal.invariant-loop-item

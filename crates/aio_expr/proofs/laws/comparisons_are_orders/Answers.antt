@@ -1,7 +1,7 @@
 use Rattle.std.proofs.Common.{nat_cmp, refl}
 use Rattle.std.specs.Cmp.Lexicographic.{slice_cmp, nat_list_cmp_total}
 use Rattle.std.specs.FinMap.{slice_cmp-IsAntisymmetric, nat_cmp-IsAntisymmetric}
-use Rattle.aio_value_model.specs.Value.{Text, Bytes}
+use Rattle.model_value.specs.Value.{Text, Bytes}
 use Rattle.aio_expr.proofs.Orders.{is_ordered}
 use Rattle.aio_expr.proofs.laws.comparisons_are_orders.Goals as goal
 

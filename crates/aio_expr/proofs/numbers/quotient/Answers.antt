@@ -1,6 +1,6 @@
 use Rattle.std.proofs.Common.{◌≡◌, ◌≢◌, true, false, Ok, pos, ◌-ℤ◌, FitsSigned, w64, to_z, of_z, to_z-of_z, int_div, sym, ◌∙◌, ap, subst}
-use Rattle.aio_value_model.specs.Value.{Int}
-use Rattle.aio_script_model.specs.Operations.{number, floor_quotient}
+use Rattle.model_value.specs.Value.{Int}
+use Rattle.model_says.specs.Operations.{number, floor_quotient}
 use Rattle.aio_expr.specs.Rounding.{rounds_up}
 use Rattle.aio_expr.proofs.Floors.{divided_is, number_is, floor_up, floor_stays, lower_fits}
 use Rattle.aio_expr.proofs.numbers.quotient.Goals as goal

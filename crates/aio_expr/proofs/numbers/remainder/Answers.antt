@@ -1,6 +1,6 @@
 use Rattle.std.proofs.Common.{◌≡◌, ◌≢◌, true, false, Ok, pos, ◌+ℤ◌, FitsSigned, w64, to_z, of_z, to_z-of_z, int_rem, sym, ◌∙◌, ap, ap₂, subst}
-use Rattle.aio_value_model.specs.Value.{Int}
-use Rattle.aio_script_model.specs.Operations.{number, floor_remainder}
+use Rattle.model_value.specs.Value.{Int}
+use Rattle.model_says.specs.Operations.{number, floor_remainder}
 use Rattle.aio_expr.specs.Rounding.{rounds_up}
 use Rattle.aio_expr.proofs.Floors.{divided_is, number_is, remainder_up, remainder_stays, lifted_fits, int_rem-fits}
 use Rattle.aio_expr.proofs.numbers.remainder.Goals as goal

@@ -1,6 +1,6 @@
 use Rattle.std.proofs.Common.{map, ap, sym, ◌∙◌, subst}
 use Rattle.std.specs.Rc.{rc_str_bytes}
-use Rattle.aio_script_model.specs.Forms.{Assign, with_term}
+use Rattle.model_text.specs.Forms.{Assign, with_term}
 use Rattle.aio_term.specs.Lexeme.{plain_lexeme}
 use Rattle.aio_form.specs.Unplaced.{Reads}
 use Rattle.aio_form.proofs.ReadLemmas.{name-assigns}

@@ -1,6 +1,6 @@
 use Rattle.std.proofs.Common.{◌++◌, ◌-◌, ◌+◌, ◌≤◌, map, take, drop, sym, ap, ◌∙◌, arith}
 use Rattle.std.proofs.lemmas.List.{map-append}
-use Rattle.aio_script_model.specs.Cutting.{depth_behind}
+use Rattle.model_text.specs.Cutting.{depth_behind}
 use Rattle.aio_term.specs.Lexeme.{plain_lexeme}
 use Rattle.aio_form.specs.Parts.{plain_part}
 use Rattle.aio_form.proofs.PartLemmas.{slots, fronted, part_ends, part_goes_on, part_ended, depth_behind-le}

@@ -1,7 +1,7 @@
 use Rattle.std.proofs.Common.{◌≡◌, ◌+◌, ◌≤◌, ◌∷◌, [], length, option_map, map, refl, ap, sym, ◌∙◌, subst, arith}
 use Rattle.std.proofs.lemmas.List.{map-append}
-use Rattle.aio_script_model.specs.TextLines.{text_lines}
-use Rattle.aio_script_model.specs.FirstPass.{first_pass, forms_from}
+use Rattle.model_text.specs.TextLines.{text_lines}
+use Rattle.model_text.specs.FirstPass.{first_pass, forms_from}
 use Rattle.aio_spelled.specs.Spelled.{plain_spelled, plain_numbered}
 use Rattle.aio_form.specs.Placed.{IsBehind}
 use Rattle.aio_form.specs.Behind.{roles_of}

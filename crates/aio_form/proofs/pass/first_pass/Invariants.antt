@@ -1,7 +1,7 @@
 -- The forms so far, and then those of the rest, are the text's.
 use Rattle.std.proofs.Common.{◌≡◌, ◌+◌, ◌≤◌, length, map}
-use Rattle.aio_script_model.specs.TextLines.{text_lines}
-use Rattle.aio_script_model.specs.FirstPass.{first_pass, forms_from}
+use Rattle.model_text.specs.TextLines.{text_lines}
+use Rattle.model_text.specs.FirstPass.{first_pass, forms_from}
 use Rattle.aio_spelled.specs.Spelled.{plain_numbered}
 use Rattle.aio_form.specs.Placed.{IsBehind}
 use Rattle.aio_form.specs.Behind.{roles_of}

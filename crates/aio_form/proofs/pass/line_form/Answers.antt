@@ -1,9 +1,9 @@
 use Rattle.std.proofs.Common.{◌==◌, ◌∷◌, option_map, map, ap, sym, ◌∙◌, subst}
-use Rattle.aio_script_model.specs.Forms.{form_of}
-use Rattle.aio_script_model.specs.Places.{role_of}
+use Rattle.model_text.specs.Forms.{form_of}
+use Rattle.model_text.specs.Places.{role_of}
 use Rattle.aio_term.specs.Lexeme.{plain_lexeme}
-use Rattle.aio_form.specs.Placed.{IsBehind}
 use Rattle.aio_spelled.specs.Spelled.{plain_spelled}
+use Rattle.aio_form.specs.Placed.{IsBehind}
 use Rattle.aio_form.specs.Unplaced.{plain_unplaced, unplaced_of}
 use Rattle.aio_form.proofs.PassLemmas.{line-read, read_of}
 use Rattle.aio_form.proofs.pass.line_form.Goals as goal

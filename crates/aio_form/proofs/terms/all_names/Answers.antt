@@ -1,7 +1,7 @@
 use Rattle.std.proofs.Common.{◌∷◌, [], ◌++◌, Some, map, sym, ap, ◌∙◌}
 use Rattle.std.specs.Rc.{rc_str_bytes}
 use Rattle.std.proofs.lemmas.List.{map-append}
-use Rattle.aio_script_model.specs.Levels.{bare_name}
+use Rattle.model_text.specs.Levels.{bare_name}
 use Rattle.aio_form.proofs.TermLemmas.{read_more, read_stops}
 use Rattle.aio_form.proofs.terms.all_names.Goals as goal
 

@@ -1,6 +1,6 @@
 use Rattle.std.proofs.Common.{◌≡◌, Some, map, take}
 use Rattle.std.specs.Rc.{rc_str_bytes}
-use Rattle.aio_script_model.specs.Levels.{all_of, bare_name}
+use Rattle.model_text.specs.Levels.{all_of, bare_name}
 use Rattle.aio_form.specs.Parts.{plain_part}
 use Rattle.aio_form.proofs.terms.all_names.Given as goal
 

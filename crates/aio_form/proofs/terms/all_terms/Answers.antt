@@ -1,5 +1,5 @@
 use Rattle.std.proofs.Common.{option_map, sym, ap, ◌∙◌, Some}
-use Rattle.aio_script_model.specs.Places.{heights}
+use Rattle.model_text.specs.Places.{heights}
 use Rattle.aio_form.specs.Fitting.{fitting}
 use Rattle.aio_form.proofs.TermLemmas.{terms_more, terms_stop}
 use Rattle.aio_form.proofs.terms.all_terms.Goals as goal

@@ -1,6 +1,6 @@
 use Rattle.std.proofs.Common.{◌≡◌, Some, option_map, map, take}
-use Rattle.aio_script_model.specs.Levels.{all_of, term_of}
-use Rattle.aio_script_model.specs.Places.{heights}
+use Rattle.model_text.specs.Levels.{all_of, term_of}
+use Rattle.model_text.specs.Places.{heights}
 use Rattle.aio_form.specs.Parts.{plain_part}
 use Rattle.aio_form.specs.Fitting.{fitting}
 use Rattle.aio_form.proofs.terms.all_terms.Given as goal

@@ -1,5 +1,5 @@
 use Rattle.std.proofs.Common.{◌≡◌, List, [], ◌∷◌, Some, option_map, map, length, refl, ap, ◌∙◌, arith}
-use Rattle.aio_script_model.specs.Levels.{from_bare, term_of}
+use Rattle.model_text.specs.Levels.{from_bare, term_of}
 use Rattle.aio_form.specs.Fitting.{fitting, height_of_arguments}
 use Rattle.aio_form.specs.Parts.{plain_part}
 use Rattle.aio_form.proofs.terms.from_bare.Goals as goal

@@ -1,5 +1,5 @@
 use Rattle.std.proofs.Common.{Some, map, option_map, ap, sym, ◌∙◌}
-use Rattle.aio_script_model.specs.Levels.{term_of}
+use Rattle.model_text.specs.Levels.{term_of}
 use Rattle.aio_term.specs.Lexeme.{plain_lexeme}
 use Rattle.aio_term.specs.Operand.{plain_operand}
 use Rattle.aio_form.proofs.TermLemmas.{one_kept, none_kept}

@@ -1,7 +1,7 @@
 use Rattle.std.proofs.Common.{◌∷◌, ◌+◌, length, ap, sym, ◌∙◌, arith}
 use Rattle.std.proofs.lemmas.List.{take_rest, drop_all}
-use Rattle.aio_value_model.specs.Lines.{lines_of}
-use Rattle.aio_script_model.specs.TextLines.{text_lines}
+use Rattle.model_value.specs.Lines.{lines_of}
+use Rattle.model_text.specs.TextLines.{text_lines}
 use Rattle.aio_form.proofs.LineLemmas.{first_cut}
 use Rattle.aio_form.proofs.text.next_text_line.Goals as goal
 

@@ -3,8 +3,8 @@ use Rattle.std.proofs.Common.{◌≡◌, Bool, true, false, ◌&&◌, eqb, get_o
 use Rattle.std.specs.Char.{is_ascii_digit}
 use Rattle.std.proofs.lemmas.Bool.{and_left, and_right}
 use Rattle.std.proofs.lemmas.Bool.Decides.{nat_tests}
-use Rattle.aio_script_model.specs.Letters.{is_space, is_hash, is_quote}
-use Rattle.aio_script_model.specs.Tokens.{piece_tokens}
+use Rattle.model_text.specs.Letters.{is_space, is_hash, is_quote}
+use Rattle.model_text.specs.Tokens.{piece_tokens}
 use Rattle.aio_lex.proofs.SaidLemmas.{slice_rest}
 use Rattle.aio_lex.proofs.FrontLemmas.{first-space, first-hash, first-quote, first-b, first-digit, first-word, first-other}
 use Rattle.aio_lex.proofs.front.read_front.Goals as goal

@@ -1,8 +1,8 @@
 -- The tokens so far, and then those of the rest, are the line's.
 use Rattle.std.proofs.Common.{◌≡◌, ◌+◌, ◌-◌, ◌≤◌, length, drop, Ok}
-use Rattle.aio_script_model.specs.Faults.{both_or_fault}
-use Rattle.aio_script_model.specs.Pieces.{pieces_of}
-use Rattle.aio_script_model.specs.Tokens.{tokens_in, tokens_of}
+use Rattle.model_text.specs.Faults.{both_or_fault}
+use Rattle.model_text.specs.Pieces.{pieces_of}
+use Rattle.model_text.specs.Tokens.{tokens_in, tokens_of}
 use Rattle.aio_lex.proofs.lexer.tokens.Given as goal
 
 abbrev pub invariant-loop-at : goal.invariant-loop-at

@@ -1,7 +1,7 @@
 -- What the bytes read so far and the rest have inside is what all have.
 use Rattle.std.proofs.Common.{◌≡◌, ◌++◌, false, take, drop}
 use Rattle.std.specs.Option.{option_map}
-use Rattle.aio_script_model.specs.Literals.{inside_of}
+use Rattle.model_text.specs.Literals.{inside_of}
 use Rattle.aio_lex.proofs.literal.closing.Given as goal
 
 abbrev pub invariant-loop-place : goal.invariant-loop-place

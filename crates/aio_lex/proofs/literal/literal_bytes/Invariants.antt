@@ -1,7 +1,7 @@
 -- What the parts so far say, and then those of the rest, is what all say.
 use Rattle.std.proofs.Common.{◌≡◌, ◌+◌, ◌-◌, ◌≤◌, length, drop, Ok}
-use Rattle.aio_script_model.specs.Faults.{both_or_fault}
-use Rattle.aio_script_model.specs.Literals.{parts_of, literal_bytes}
+use Rattle.model_text.specs.Faults.{both_or_fault}
+use Rattle.model_text.specs.Literals.{parts_of, literal_bytes}
 use Rattle.aio_lex.proofs.literal.literal_bytes.Given as goal
 
 abbrev pub invariant-loop-at : goal.invariant-loop-at

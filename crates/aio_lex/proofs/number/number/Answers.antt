@@ -1,6 +1,6 @@
 -- Where the number outgrows 64 bits, it is too great.
 use Rattle.std.proofs.Common.{◌+◌, ◌-◌, ◌*◌, ◌^◌, ◌≤◌, take, get_or, arith}
-use Rattle.aio_script_model.specs.Tokens.{number_of}
+use Rattle.model_text.specs.Tokens.{number_of}
 use Rattle.aio_lex.proofs.NumberLemmas.{too_great}
 use Rattle.aio_lex.proofs.number.number.Goals as goal
 

@@ -2,7 +2,7 @@
 use Rattle.std.proofs.Common.{◌≡◌, true, take}
 use Rattle.std.specs.List.{list_all}
 use Rattle.std.specs.Char.{is_ascii_digit}
-use Rattle.aio_script_model.specs.Tokens.{number_of}
+use Rattle.model_text.specs.Tokens.{number_of}
 use Rattle.aio_lex.proofs.number.number.Given as goal
 
 abbrev pub invariant-loop-digit : goal.invariant-loop-digit

@@ -1,5 +1,5 @@
 use Rattle.std.proofs.Common.{drop, length, map, subst, arith}
-use Rattle.aio_script_model.specs.SecondPass.{callee}
+use Rattle.model_text.specs.SecondPass.{callee}
 use Rattle.aio_naming.specs.Parts.{plain_parts}
 use Rattle.aio_naming.specs.Scope.{FindsFirst}
 use Rattle.aio_naming.proofs.Names.{FindsFirst-insert, callees-before}

@@ -1,6 +1,6 @@
 use Rattle.std.proofs.Common.{rules, ◌≡◌, ◌-◌, true, false, ◌&&◌, drop, map, ap, ap₂, sym, ◌∙◌, subst, arith}
 use Rattle.std.specs.Rc.{rc_str_bytes}
-use Rattle.aio_script_model.specs.SecondPass.{are_fresh}
+use Rattle.model_text.specs.SecondPass.{are_fresh}
 use Rattle.aio_naming.specs.Scope.{Holds}
 use Rattle.aio_naming.proofs.Names.{drop-before}
 use Rattle.aio_naming.proofs.Heads.{stale-behind, are_fresh-before}

@@ -1,6 +1,6 @@
 use Rattle.std.proofs.Common.{◌≡◌, ◌≤◌, true, drop, length, map}
 use Rattle.std.specs.Rc.{rc_str_bytes}
-use Rattle.aio_script_model.specs.SecondPass.{are_fresh}
+use Rattle.model_text.specs.SecondPass.{are_fresh}
 use Rattle.aio_naming.specs.Scope.{Holds}
 use Rattle.aio_naming.proofs.head.are_fresh.Given as goal
 

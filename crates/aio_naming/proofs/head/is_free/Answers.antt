@@ -2,7 +2,7 @@ use Rattle.std.proofs.Common.{rules, ◌≡◌, false, ◌&&◌, not, ap, sym, �
 use Rattle.std.specs.List.{list_any}
 use Rattle.std.specs.Rc.{rc_str_bytes}
 use Rattle.std.specs.Str.{bytes_eq}
-use Rattle.aio_script_model.specs.Known.{is_taken}
+use Rattle.model_tree.specs.Known.{is_taken}
 use Rattle.aio_naming.proofs.head.is_free.Goals as goal
 
 pub returns-then-not-is_taken : goal.returns-then-not-is_taken

@@ -1,5 +1,5 @@
 use Rattle.std.proofs.Common.{subst, sym}
-use Rattle.aio_script_model.specs.SecondPass.{line_meant}
+use Rattle.model_text.specs.SecondPass.{line_meant}
 use Rattle.aio_spelled.specs.Spelled.{plain_spelled}
 use Rattle.aio_program.specs.Line.{plain_line}
 use Rattle.aio_naming.specs.Gives.{Gives}

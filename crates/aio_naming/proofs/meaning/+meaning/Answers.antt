@@ -1,8 +1,8 @@
 use Rattle.std.proofs.Common.{rules, ◌*◌, ◌<◌, take, Ok, option_map, subst, ap, sym, ◌∙◌, arith}
 use Rattle.std.specs.Rc.{rc_str_bytes}
-use Rattle.aio_script_model.specs.Syntax.{Or, And, Compare, Calculate, Index, ListOf, exprs}
-use Rattle.aio_script_model.specs.Known.{kind_of_name, function_of}
-use Rattle.aio_script_model.specs.Naming.{all_meant, meaning_of, error_of, function_call}
+use Rattle.model_tree.specs.Syntax.{Or, And, Compare, Calculate, Index, ListOf, exprs}
+use Rattle.model_tree.specs.Known.{kind_of_name, function_of}
+use Rattle.model_text.specs.Naming.{all_meant, meaning_of, error_of, function_call}
 use Rattle.aio_term.specs.TermSize.{term_size, term_list_size}
 use Rattle.aio_naming.specs.Gives.{Gives, Fails}
 use Rattle.aio_naming.proofs.Meanings.{all_meant-more, term_size-item, gives-err, error-fails, gives-error_call, function-fails, list-fails, list-is, gives-call}

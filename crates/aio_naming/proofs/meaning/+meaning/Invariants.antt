@@ -1,5 +1,5 @@
 use Rattle.std.proofs.Common.{◌+◌, ◌*◌, take}
-use Rattle.aio_script_model.specs.Naming.{all_meant}
+use Rattle.model_text.specs.Naming.{all_meant}
 use Rattle.aio_term.specs.TermSize.{term_size, term_list_size}
 use Rattle.aio_naming.specs.Gives.{Gives}
 use Rattle.aio_naming.proofs.meaning.+meaning.Given as goal

@@ -1,5 +1,5 @@
 use Rattle.std.proofs.Common.{◌++◌, [], ◌∷◌, subst, sym}
-use Rattle.aio_script_model.specs.Naming.{both}
+use Rattle.model_text.specs.Naming.{both}
 use Rattle.aio_naming.specs.Gives.{Gives}
 use Rattle.aio_naming.proofs.Meanings.{gives-both, gives-err}
 use Rattle.aio_naming.proofs.meaning.pushed.Goals as goal

@@ -1,6 +1,6 @@
 use Rattle.std.proofs.Common.{◌≡◌, ◌≤◌, drop, length, map, reverse}
 use Rattle.std.specs.Prelude.{slice_range}
-use Rattle.aio_script_model.specs.SecondPass.{parts_of}
+use Rattle.model_text.specs.SecondPass.{parts_of}
 use Rattle.aio_spelled.specs.Spelled.{plain_numbered}
 use Rattle.aio_naming.specs.Parts.{plain_parts}
 use Rattle.aio_naming.proofs.part.parts_of.Given as goal

@@ -1,6 +1,6 @@
 use Rattle.std.proofs.Common.{◌≡◌, drop, map}
-use Rattle.aio_script_model.specs.Scripts.{profile_in}
-use Rattle.aio_script_model.specs.SecondPass.{parts_of}
+use Rattle.model_text.specs.Scripts.{profile_in}
+use Rattle.model_text.specs.SecondPass.{parts_of}
 use Rattle.aio_spelled.specs.Spelled.{plain_numbered}
 use Rattle.aio_naming.proofs.part.profile_of.Given as goal
 

@@ -1,5 +1,5 @@
 use Rattle.std.proofs.Common.{◌≡◌, drop, map}
-use Rattle.aio_script_model.specs.SecondPass.{lines_judged}
+use Rattle.model_text.specs.SecondPass.{lines_judged}
 use Rattle.aio_spelled.specs.Spelled.{plain_numbered}
 use Rattle.aio_program.specs.Line.{plain_line}
 use Rattle.aio_naming.proofs.Judged.{after}

@@ -1,6 +1,6 @@
 use Rattle.std.proofs.Common.{[], ◌∷◌, map}
 use Rattle.std.specs.Rc.{rc_str_bytes}
-use Rattle.aio_script_model.specs.SecondPass.{parts_judged}
+use Rattle.model_text.specs.SecondPass.{parts_judged}
 use Rattle.aio_program.specs.Line.{plain_part as plain_named_part}
 use Rattle.aio_naming.specs.Parts.{plain_parts}
 use Rattle.aio_naming.proofs.Heads.{Holds-first}

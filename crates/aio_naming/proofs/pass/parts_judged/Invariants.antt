@@ -1,6 +1,6 @@
 use Rattle.std.proofs.Common.{◌≡◌, List, [], drop, map}
-use Rattle.aio_script_model.specs.Syntax.{Name}
-use Rattle.aio_script_model.specs.SecondPass.{parts_judged}
+use Rattle.model_tree.specs.Syntax.{Name}
+use Rattle.model_text.specs.SecondPass.{parts_judged}
 use Rattle.aio_program.specs.Line.{plain_part}
 use Rattle.aio_naming.specs.Parts.{plain_parts}
 use Rattle.aio_naming.specs.Scope.{Holds}

@@ -1,6 +1,6 @@
 use Rattle.std.proofs.Common.{[], map, find, ap, ap₂, sym, ◌∙◌, subst}
 use Rattle.std.specs.Str.{bytes_eq}
-use Rattle.aio_script_model.specs.SecondPass.{callee, is_main, main_text, parts_of, parts_judged, second_pass}
+use Rattle.model_text.specs.SecondPass.{callee, is_main, main_text, parts_of, parts_judged, second_pass}
 use Rattle.aio_spelled.specs.Spelled.{plain_numbered}
 use Rattle.aio_program.specs.Line.{plain_part as plain_named_part}
 use Rattle.aio_naming.specs.Judges.{FailsAt}

@@ -1,7 +1,7 @@
 use Rattle.std.proofs.Common.{◌++◌, take, map}
 use Rattle.std.specs.List.{flat_map}
 use Rattle.std.specs.Rc.{rc_str_bytes}
-use Rattle.aio_script_model.specs.SecondPass.{bound_by}
+use Rattle.model_text.specs.SecondPass.{bound_by}
 use Rattle.aio_spelled.specs.Spelled.{plain_numbered}
 use Rattle.aio_naming.specs.Scope.{Holds}
 use Rattle.aio_naming.proofs.scope.names_bound.Given as goal

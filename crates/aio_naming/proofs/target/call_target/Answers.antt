@@ -1,7 +1,7 @@
 use Rattle.std.proofs.Common.{Ok, ap, sym, ◌∙◌}
 use Rattle.std.specs.Rc.{rc_str_bytes}
-use Rattle.aio_script_model.specs.Syntax.{Call, exprs}
-use Rattle.aio_script_model.specs.Naming.{all_meant, callee_of, passed}
+use Rattle.model_tree.specs.Syntax.{Call, exprs}
+use Rattle.model_text.specs.Naming.{all_meant, callee_of, passed}
 use Rattle.aio_program.specs.Target.{plain_target}
 use Rattle.aio_naming.proofs.Meanings.{gives-err}
 use Rattle.aio_naming.proofs.target.call_target.Goals as goal

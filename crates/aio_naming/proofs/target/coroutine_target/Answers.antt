@@ -1,9 +1,9 @@
 use Rattle.std.proofs.Common.{◌≡◌, false, option_map, ap, sym, ◌∙◌, subst}
 use Rattle.std.specs.Str.{bytes_eq}
 use Rattle.std.specs.Rc.{rc_str_bytes}
-use Rattle.aio_script_model.specs.Syntax.{Call}
-use Rattle.aio_script_model.specs.Known.{spawn_text, create_text, listen_text}
-use Rattle.aio_script_model.specs.Naming.{all_meant, callee_of, passed}
+use Rattle.model_tree.specs.Syntax.{Call}
+use Rattle.model_tree.specs.Known.{spawn_text, create_text, listen_text}
+use Rattle.model_text.specs.Naming.{all_meant, callee_of, passed}
 use Rattle.aio_program.specs.Target.{plain_target}
 use Rattle.aio_naming.specs.Gives.{Gives}
 use Rattle.aio_naming.proofs.Targets.{called-other}

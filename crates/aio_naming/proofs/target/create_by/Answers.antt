@@ -1,7 +1,7 @@
 use Rattle.std.proofs.Common.{Ok, subst, ap, sym, ◌∙◌}
 use Rattle.std.specs.Rc.{rc_str_bytes}
-use Rattle.aio_script_model.specs.Syntax.{CreateTask, exprs}
-use Rattle.aio_script_model.specs.Naming.{all_meant, callee_of, create_by}
+use Rattle.model_tree.specs.Syntax.{CreateTask, exprs}
+use Rattle.model_text.specs.Naming.{all_meant, callee_of, create_by}
 use Rattle.aio_program.specs.Target.{plain_target}
 use Rattle.aio_naming.specs.Gives.{Gives}
 use Rattle.aio_naming.proofs.Meanings.{gives-err}

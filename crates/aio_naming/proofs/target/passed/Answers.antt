@@ -1,6 +1,6 @@
 use Rattle.std.specs.Rc.{rc_str_bytes}
-use Rattle.aio_script_model.specs.Syntax.{Exprs, Target}
-use Rattle.aio_script_model.specs.Naming.{all_meant, callee_of, passed}
+use Rattle.model_tree.specs.Syntax.{Exprs, Target}
+use Rattle.model_text.specs.Naming.{all_meant, callee_of, passed}
 use Rattle.aio_naming.specs.Gives.{Fails}
 use Rattle.aio_naming.proofs.Meanings.{if-err}
 use Rattle.aio_naming.proofs.Targets.{callee-known, passed-fails}

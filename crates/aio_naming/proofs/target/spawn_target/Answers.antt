@@ -1,7 +1,7 @@
 use Rattle.std.proofs.Common.{Ok, option_map, ap, sym, ◌∙◌, subst}
 use Rattle.std.specs.Rc.{rc_str_bytes}
-use Rattle.aio_script_model.specs.Syntax.{SpawnTask, exprs}
-use Rattle.aio_script_model.specs.Naming.{all_meant, spawn_target}
+use Rattle.model_tree.specs.Syntax.{SpawnTask, exprs}
+use Rattle.model_text.specs.Naming.{all_meant, spawn_target}
 use Rattle.aio_program.specs.Target.{plain_target}
 use Rattle.aio_naming.specs.Gives.{Fails}
 use Rattle.aio_naming.proofs.Meanings.{gives-err}

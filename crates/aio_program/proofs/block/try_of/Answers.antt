@@ -1,7 +1,7 @@
 use Rattle.std.proofs.Common.{◌≡◌, List, [], map, sym, ap, ◌∙◌}
 use Rattle.std.specs.Vec.Iter.{into_iter_items}
-use Rattle.aio_script_model.specs.Syntax.{Try, statements, Handler}
-use Rattle.aio_script_model.specs.Bodies.{Body, handlers_in, finally_in}
+use Rattle.model_tree.specs.Syntax.{Try, statements, Handler}
+use Rattle.model_text.specs.Bodies.{Body, handlers_in, finally_in}
 use Rattle.aio_program.specs.declared.block.Section.{Section}
 use Rattle.aio_program.specs.Block.{plain_section, handlers_before, try_with}
 use Rattle.aio_program.proofs.TryLemmas.{try_with-nothing, nothing_left}

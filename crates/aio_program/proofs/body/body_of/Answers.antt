@@ -1,9 +1,9 @@
 use Rattle.std.proofs.Common.{◌≡◌, List, [], ◌∷◌, map, sym, ap, ◌∙◌}
 use Rattle.std.proofs.lemmas.Result.{IfOk-weaker}
 use Rattle.std.specs.Vec.Iter.{into_iter_items}
-use Rattle.aio_script_model.specs.Syntax.{Statement, statements}
-use Rattle.aio_script_model.specs.SecondPass as plain
-use Rattle.aio_script_model.specs.Bodies.{body_in}
+use Rattle.model_tree.specs.Syntax.{Statement, statements}
+use Rattle.model_text.specs.SecondPass as plain
+use Rattle.model_text.specs.Bodies.{body_in}
 use Rattle.aio_program.specs.declared.line.Line.{Line}
 use Rattle.aio_program.specs.declared.body.Step.{Step}
 use Rattle.aio_program.specs.Line.{plain_line}

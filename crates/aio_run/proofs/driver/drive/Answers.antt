@@ -1,7 +1,7 @@
 use Rattle.std.proofs.Common.{arith, [], refl, ap, sym, ◌∙◌}
 use Rattle.std.proofs.lemmas.Result.{err_from_is_err_and, IfOk-weaker, IfErr-weaker}
-use Rattle.aio_straight.specs.Lines.{plain_program}
 use Rattle.aio_wire.specs.Told.{answer_of, call_of as plain_call}
+use Rattle.aio_straight.specs.Lines.{plain_program}
 use Rattle.aio_run.specs.Kernel.{starting}
 use Rattle.aio_run.proofs.Driving.{running_first, fits_starting, ends_run, ends_stops, ends_finished, ends_turns, ends_over, ends_bad, front_before, wire_failed, turned_on, turn_stops_run, rose_earlier}
 use Rattle.aio_run.proofs.driver.drive.Goals as goal

@@ -1,5 +1,5 @@
 use Rattle.std.proofs.Common.{◌≡◌, ◌≤◌, List}
-use Rattle.aio_wire_model.specs.Journal.{Entry}
+use Rattle.model_wire.specs.Journal.{Entry}
 use Rattle.aio_straight.specs.Lines.{plain_program}
 use Rattle.aio_run.specs.Kernel.{History}
 use Rattle.aio_run.specs.declared.phase.Phase.TheVariants.{Ready}

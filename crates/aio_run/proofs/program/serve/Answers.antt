@@ -1,8 +1,8 @@
 use Rattle.std.proofs.Common.{Option, refl, subst}
 use Rattle.std.proofs.lemmas.Result.{IfOk-weaker, IfErr-weaker}
-use Rattle.aio_wire_model.specs.Told.{Rose}
-use Rattle.aio_machine.specs.Program.{MayWrite, words_refused}
-use Rattle.aio_machine.specs.Words.{Command}
+use Rattle.model_wire.specs.Told.{Rose}
+use Rattle.model_machine.specs.Program.{MayWrite, words_refused}
+use Rattle.model_machine.specs.Words.{Command}
 use Rattle.aio_run.proofs.Outcomes.{line_early}
 use Rattle.aio_run.proofs.program.serve.Goals as goal
 

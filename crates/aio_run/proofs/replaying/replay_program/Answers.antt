@@ -1,7 +1,7 @@
 use Rattle.std.proofs.Common.{rules, List, Option, refl, subst}
 use Rattle.std.proofs.lemmas.Result.{IfOk-weaker, IfErr-weaker}
+use Rattle.model_wire.specs.Journal.{Entry}
 use Rattle.aio_straight.specs.Lines.{plain_program}
-use Rattle.aio_wire_model.specs.Journal.{Entry}
 use Rattle.aio_run.specs.Drive.{Ran, Stopped}
 use Rattle.aio_run.specs.declared.halt.Halt.TheVariants.{Memory, Sink, Wire}
 use Rattle.aio_run.proofs.Outcomes.{told_first, missing_first, whole_from, early_from, fault_from, fault_early, rose_here}

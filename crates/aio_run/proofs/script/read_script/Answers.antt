@@ -1,5 +1,5 @@
 use Rattle.std.proofs.Common.{ap, sym, ◌∙◌}
-use Rattle.aio_script_model.specs.Scripts.{script_of}
+use Rattle.model_text.specs.Scripts.{script_of}
 use Rattle.aio_run.proofs.Outcomes.{front_says}
 use Rattle.aio_run.proofs.script.read_script.Goals as goal
 

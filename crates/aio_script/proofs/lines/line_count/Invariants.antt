@@ -1,5 +1,5 @@
 use Rattle.std.proofs.Common.{◌≡◌, ◌+◌, ◌≤◌, length}
-use Rattle.aio_value_model.specs.Lines.{lines_of}
+use Rattle.model_value.specs.Lines.{lines_of}
 use Rattle.aio_script.proofs.lines.line_count.Given as goal
 
 abbrev pub invariant-loop-behind : goal.invariant-loop-behind

@@ -1,6 +1,6 @@
 use Rattle.std.proofs.Common.{◌≡◌, map}
+use Rattle.model_text.specs.Scripts.{coroutine}
 use Rattle.aio_program.specs.Line.{plain_part}
-use Rattle.aio_script_model.specs.Scripts.{coroutine}
 use Rattle.aio_script.proofs.reader.coroutines_of.Given as goal
 
 abbrev pub invariant-loop-part : goal.invariant-loop-part

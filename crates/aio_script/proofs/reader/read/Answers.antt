@@ -1,11 +1,11 @@
 use Rattle.std.proofs.Common.{arith, ◌+◌, ◌∙◌, ap, map, ℕ, List, sym, subst}
 use Rattle.std.proofs.lemmas.Result.{IfErr-weaker, IfOk-weaker}
+use Rattle.model_tree.specs.Syntax.{Program}
+use Rattle.model_text.specs.declared.cause.Cause.TheVariants.{TooLong}
+use Rattle.model_text.specs.Scripts.{script_of_parts}
+use Rattle.model_text.specs.SecondPass.{Judged, parts_of}
 use Rattle.aio_spelled.specs.Spelled.{plain_numbered}
 use Rattle.aio_spelled.specs.declared.spelled.NumberedForm.{NumberedForm}
-use Rattle.aio_script_model.specs.declared.cause.Cause.TheVariants.{TooLong}
-use Rattle.aio_script_model.specs.Scripts.{script_of_parts}
-use Rattle.aio_script_model.specs.SecondPass.{Judged, parts_of}
-use Rattle.aio_script_model.specs.Syntax.{Program}
 use Rattle.aio_script.specs.Fault.{IsFaultOf}
 use Rattle.aio_script.proofs.Reading.{too_long, from_forms}
 use Rattle.aio_script.proofs.reader.read.Goals as goal

@@ -1,5 +1,5 @@
 use Rattle.std.proofs.Common.{◌≡◌, map, take}
-use Rattle.aio_script_model.specs.Words.{lexemes_of}
+use Rattle.model_text.specs.Words.{lexemes_of}
 use Rattle.aio_term.specs.Lexeme.{plain_lexeme}
 use Rattle.aio_term.proofs.lexeme.lexemes.Given as goal
 

@@ -1,7 +1,7 @@
 use Rattle.std.proofs.Common.{map, [], ◌∷◌, sym, ap, ◌∙◌}
 use Rattle.std.proofs.lemmas.List.{map-append}
-use Rattle.aio_script_model.specs.Levels.{all_of}
-use Rattle.aio_term_model.specs.Operands.{that_fits}
+use Rattle.model_text.specs.Levels.{all_of}
+use Rattle.law_reading.specs.Operands.{that_fits}
 use Rattle.aio_term.specs.Operand.{plain_operand, with_last}
 use Rattle.aio_term.proofs.Lists.{all_of-append_one}
 use Rattle.aio_term.proofs.operand.all_that_fit.Goals as goal

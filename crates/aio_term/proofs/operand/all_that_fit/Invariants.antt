@@ -1,6 +1,6 @@
 use Rattle.std.proofs.Common.{◌≡◌, map, option_map}
-use Rattle.aio_script_model.specs.Levels.{all_of}
-use Rattle.aio_term_model.specs.Operands.{that_fits}
+use Rattle.model_text.specs.Levels.{all_of}
+use Rattle.law_reading.specs.Operands.{that_fits}
 use Rattle.aio_term.specs.Operand.{plain_operand}
 use Rattle.aio_term.proofs.operand.all_that_fit.Given as goal
 

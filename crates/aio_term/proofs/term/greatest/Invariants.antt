@@ -1,5 +1,5 @@
 use Rattle.std.proofs.Common.{◌≡◌, min, max, drop}
-use Rattle.aio_script_model.specs.Terms.{terms, height_of_all}
+use Rattle.model_text.specs.Terms.{terms, height_of_all}
 use Rattle.aio_term.proofs.term.greatest.Given as goal
 
 abbrev pub invariant-loop-item : goal.invariant-loop-item

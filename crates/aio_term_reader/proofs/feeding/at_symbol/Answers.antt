@@ -1,7 +1,7 @@
 use Rattle.std.proofs.Common.{◌≡◌, List, option_and_then, ◌∙◌}
 use Rattle.std.proofs.lemmas.Result.{IfOk-weaker}
-use Rattle.aio_term_model.specs.Reader.{Open as OpenBracket, AtOperand, reading}
-use Rattle.aio_term_model.specs.Feeding.{infix_of, behind_infix, at_symbol}
+use Rattle.law_reading.specs.Reader.{Open as OpenBracket, AtOperand, reading}
+use Rattle.law_reading.specs.Feeding.{infix_of, behind_infix, at_symbol}
 use Rattle.aio_term.specs.Operand.{plain_operand}
 use Rattle.aio_term_reader.specs.Next.{applied}
 use Rattle.aio_term_reader.proofs.Others.{at_symbol-other}

@@ -1,5 +1,5 @@
 use Rattle.std.proofs.Common.{◌≡◌, ◌-◌}
-use Rattle.aio_term_model.specs.Pending.{with_minuses}
+use Rattle.law_reading.specs.Pending.{with_minuses}
 use Rattle.aio_term.specs.Operand.{plain_operand}
 use Rattle.aio_term_reader.proofs.pending.with_minuses.Given as goal
 

@@ -1,8 +1,8 @@
 use Rattle.std.proofs.Common.{◌≡◌, ◌+◌, map, option_map, reverse, get_or, sym, ap, ◌∙◌, arith}
 use Rattle.std.proofs.lemmas.Result.{IfOk-weaker}
-use Rattle.aio_script_model.specs.Levels.{term_of}
-use Rattle.aio_term_model.specs.Operands.{capped}
-use Rattle.aio_term_model.specs.Feeding.{fed, finished}
+use Rattle.model_text.specs.Levels.{term_of}
+use Rattle.law_reading.specs.Operands.{capped}
+use Rattle.law_reading.specs.Feeding.{fed, finished}
 use Rattle.aio_term.specs.Lexeme.{plain_lexeme}
 use Rattle.aio_term.specs.Operand.{plain_operand}
 use Rattle.aio_term_reader.specs.Next.{come}

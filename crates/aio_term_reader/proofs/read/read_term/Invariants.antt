@@ -1,6 +1,6 @@
 use Rattle.std.proofs.Common.{◌≡◌, map, take, reverse, fold}
-use Rattle.aio_term_model.specs.Reader.{reading, start}
-use Rattle.aio_term_model.specs.Feeding.{feed}
+use Rattle.law_reading.specs.Reader.{reading, start}
+use Rattle.law_reading.specs.Feeding.{feed}
 use Rattle.aio_term.specs.Lexeme.{plain_lexeme}
 use Rattle.aio_term_reader.proofs.read.read_term.Given as goal
 

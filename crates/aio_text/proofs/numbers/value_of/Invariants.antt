@@ -1,5 +1,5 @@
 use Rattle.std.proofs.Common.{◌≡◌, take, min}
-use Rattle.aio_value_model.specs.Number.{digits_value}
+use Rattle.model_value.specs.Number.{digits_value}
 use Rattle.aio_text.proofs.numbers.value_of.Given as goal
 
 abbrev pub invariant-loop-digit : goal.invariant-loop-digit

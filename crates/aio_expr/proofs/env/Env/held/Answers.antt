@@ -1,6 +1,6 @@
 use Rattle.std.proofs.Common.{◌≡◌, ◌<◌, length, slice_index_or, ap, sym, ◌∙◌, arith}
 use Rattle.std.proofs.lemmas.List.{length-map}
-use Rattle.aio_script_model.specs.Variables.{held}
+use Rattle.model_says.specs.Variables.{held}
 use Rattle.aio_expr.specs.Bindings.{plain_binding, plain_bindings}
 use Rattle.aio_expr.proofs.Variables.{held-first, held-unknown, plain-at}
 use Rattle.aio_expr.proofs.env.Env.held.Goals as goal

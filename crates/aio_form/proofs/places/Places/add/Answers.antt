@@ -1,6 +1,6 @@
 use Rattle.std.proofs.Common.{◌≡◌, ◌∷◌, ◌+◌, ◌-◌, ◌<◌, length, map, reverse, take, vec_len, refl, ap, sym, ◌∙◌, arith, rules}
 use Rattle.std.proofs.Math.Dec.{eqb-suc-zero}
-use Rattle.aio_script_model.specs.Places.{open_blocks}
+use Rattle.model_text.specs.Places.{open_blocks}
 use Rattle.aio_form.specs.Blocks.{kept, plain_open, plain_role, plain_section}
 use Rattle.aio_form.proofs.PlaceLemmas.{last_split, set_last, section_begins, no_section_begins, block_closes}
 use Rattle.aio_form.proofs.places.Places.add.Goals as goal

@@ -1,5 +1,5 @@
 use Rattle.std.proofs.Common.{◌≡◌, ◌∷◌, [], ◌++◌, ◌-◌, length, map, reverse, take, ap, sym, ◌∙◌}
-use Rattle.aio_script_model.specs.Places.{open_blocks, fits}
+use Rattle.model_text.specs.Places.{open_blocks, fits}
 use Rattle.aio_form.specs.Blocks.{plain_open, plain_role, plain_section}
 use Rattle.aio_form.proofs.PlaceLemmas.{last_read, section_fits, end_fits}
 use Rattle.aio_form.proofs.places.Places.fits.Goals as goal

@@ -1,5 +1,5 @@
 use Rattle.std.proofs.Common.{length, nat_eq, sym, ◌∙◌}
-use Rattle.aio_script_model.specs.Places.{open_blocks}
+use Rattle.model_text.specs.Places.{open_blocks}
 use Rattle.aio_form.proofs.PlaceLemmas.{outside_finally}
 use Rattle.aio_form.proofs.places.Places.may_stand.Goals as goal
 

@@ -1,6 +1,6 @@
 use Rattle.std.proofs.Common.{ap, ◌∙◌}
-use Rattle.aio_script_model.specs.Syntax.{Try, statements, Handlers}
-use Rattle.aio_script_model.specs.Bodies.{handlers_in, finally_in}
+use Rattle.model_tree.specs.Syntax.{Try, statements, Handlers}
+use Rattle.model_text.specs.Bodies.{handlers_in, finally_in}
 use Rattle.aio_program.specs.Target.{plain_branch}
 use Rattle.aio_program.specs.Block.{handlers_before, first_branch}
 use Rattle.aio_program.proofs.TryLemmas.{handlers_before-append}

@@ -1,6 +1,6 @@
 use Rattle.std.proofs.Common.{◌≡◌, List, ◌∷◌, ◌∙◌}
 use Rattle.std.proofs.lemmas.Result.{IfOk-weaker}
-use Rattle.aio_script_model.specs.Bodies.{Body}
+use Rattle.model_text.specs.Bodies.{Body}
 use Rattle.aio_program.specs.Block.{plain_section, try_with, try_with_handler}
 use Rattle.aio_program.proofs.block.OpenTry.with_section.Goals as goal
 

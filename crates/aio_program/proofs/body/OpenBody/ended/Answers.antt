@@ -1,5 +1,5 @@
 use Rattle.std.proofs.Common.{◌≡◌, List, [], sym, ap, ◌∙◌, arith}
-use Rattle.aio_script_model.specs.Syntax.{Statement, statements}
+use Rattle.model_tree.specs.Syntax.{Statement, statements}
 use Rattle.aio_program.specs.declared.block.OpenBlock.{OpenBlock}
 use Rattle.aio_program.specs.Block.{over, latest}
 use Rattle.aio_program.specs.Body.{Rest, rest, around_all}

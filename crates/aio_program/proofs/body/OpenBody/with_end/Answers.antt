@@ -1,6 +1,6 @@
 use Rattle.std.proofs.Common.{◌≡◌, List, [], ◌∷◌, refl, sym, ap, ◌∙◌, arith}
-use Rattle.aio_script_model.specs.Forms.{End}
-use Rattle.aio_script_model.specs.Syntax.{Statement}
+use Rattle.model_tree.specs.Syntax.{Statement}
+use Rattle.model_text.specs.Forms.{End}
 use Rattle.aio_program.specs.declared.block.OpenBlock.{OpenBlock}
 use Rattle.aio_program.specs.Block.{over, latest}
 use Rattle.aio_program.specs.Body.{Rest, rest, around_all}

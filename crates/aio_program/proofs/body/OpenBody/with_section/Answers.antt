@@ -1,6 +1,6 @@
 use Rattle.std.proofs.Common.{◌≡◌, List, [], ◌∷◌, ◌++◌, sym, ap, ◌∙◌, arith}
-use Rattle.aio_script_model.specs.Syntax.{statements}
-use Rattle.aio_script_model.specs.Bodies.{Body}
+use Rattle.model_tree.specs.Syntax.{statements}
+use Rattle.model_text.specs.Bodies.{Body}
 use Rattle.aio_program.specs.declared.block.OpenBlock.{OpenBlock}
 use Rattle.aio_program.specs.Sorted.{plain_begin}
 use Rattle.aio_program.specs.Block.{over, latest}

@@ -1,6 +1,6 @@
 use Rattle.std.proofs.Common.{◌+◌, ◌∷◌, refl, ap, sym, ◌∙◌, List, ℕ}
-use Rattle.aio_value_model.specs.Lines.{lines_of}
-use Rattle.aio_wire_model.specs.Journal.{Answered, Refused, no_entry, entries_from}
+use Rattle.model_value.specs.Lines.{lines_of}
+use Rattle.model_wire.specs.Journal.{Answered, Refused, no_entry, entries_from}
 use Rattle.aio_wire.specs.Told.{answer_of}
 use Rattle.aio_run.specs.Journal.{plain_entry}
 use Rattle.aio_run.proofs.Journals.{first_entry, rest_behind}

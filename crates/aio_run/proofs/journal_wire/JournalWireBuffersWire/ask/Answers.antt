@@ -1,5 +1,5 @@
 use Rattle.std.proofs.Common.{◌≡◌, None, Some, sym, ◌∙◌, subst, Option, List}
-use Rattle.aio_wire_model.specs.Journal.{Entry}
+use Rattle.model_wire.specs.Journal.{Entry}
 use Rattle.aio_wire.specs.Replied.{Replied}
 use Rattle.aio_run.specs.JournalWire.{left_of}
 use Rattle.aio_run.proofs.Told.{agrees_outright, agrees_read, replied_from}

@@ -1,6 +1,6 @@
 use Rattle.std.proofs.Common.{◌≡◌, ◌≤◌, ℕ, length, arith, ◌++◌, ◌∷◌, [], refl, ap, sym, ◌∙◌, subst, drop, List}
 use Rattle.std.proofs.lemmas.List.{length-map}
-use Rattle.aio_wire_model.specs.Call.{Turn}
+use Rattle.model_wire.specs.Call.{Turn}
 use Rattle.aio_straight.specs.Lines.{plain_program, plain_line}
 use Rattle.aio_run.specs.Events.{plain_events}
 use Rattle.aio_run.specs.Kernel.{TurnedIn}

@@ -1,9 +1,0 @@
--- The end of a run. Source: `runners.py`, `_cancel_all_tasks`.
-use Rattle.std.specs.List.{range_with_len}
-use Rattle.aio_loop_model.specs.Tasks.{next_task}
-use Rattle.aio_loop_model.specs.Ledger.{ByEnd, request_each}
-use Rattle.aio_loop_model.specs.Loop.{Loop, book}
-
--- main is done: each task that lives is cancelled, in order of creation
-abbrev pub cancel_everything : Loop → Loop
-cancel_everything l = book (request_each ByEnd (range_with_len 0 (next_task l.parts))) l

@@ -1,4 +1,0 @@
-pub mod Lexemes
-pub mod Known
-pub mod LineTexts
-pub mod WellWritten

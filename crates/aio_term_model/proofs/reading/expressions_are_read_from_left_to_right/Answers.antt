@@ -1,5 +1,0 @@
-use Rattle.aio_term_model.proofs.Read.{read-is}
-use Rattle.aio_term_model.proofs.reading.expressions_are_read_from_left_to_right.Goals as goal
-
-pub returns : goal.returns
-returns c = read-is

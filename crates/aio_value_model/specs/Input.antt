@@ -1,8 +1,0 @@
--- What a coroutine is resumed with: a value that is sent, or an exception that is thrown at the place where it waits.
--- Its cases are those of the enumeration.
--- Source: PEP 342, `send` and `throw` of a generator.
-use Rattle.aio_value_model.specs.Value.{Value, Exc}
-use Rattle.aio_value_model.specs.declared.input.Input as input
-
-abbrev pub Input : Type 0
-Input = input.Input Value Exc

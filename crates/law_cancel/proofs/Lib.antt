@@ -1,0 +1,9 @@
+pub mod Answering
+pub mod Circling
+pub mod Counting
+pub mod Effects
+pub mod Lookups
+pub mod Reach
+pub mod Seen
+pub mod Total
+pub mod Trace

@@ -1,0 +1,5 @@
+pub mod Cuts
+pub mod Shapes
+pub mod Read
+pub mod Facts
+pub mod Meanings

@@ -1,0 +1,4 @@
+//! Laws of the canonical texts of expressions.
+#![tactic(auto)]
+
+pub mod canonical;

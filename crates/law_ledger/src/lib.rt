@@ -1,0 +1,4 @@
+//! Laws of the ledger of cancel requests.
+#![tactic(auto)]
+
+pub mod ledgers;

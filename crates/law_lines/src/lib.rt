@@ -1,0 +1,4 @@
+//! Laws of the canonical texts of lines.
+#![tactic(auto)]
+
+pub mod lines;

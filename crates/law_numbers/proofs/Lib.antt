@@ -1,0 +1,4 @@
+pub mod CancelNumbers
+pub mod Falling
+pub mod Numbering
+pub mod StepNumbers

@@ -1,0 +1,4 @@
+//! Laws of the numbers of handles, timers and futures: each is given once.
+#![tactic(auto)]
+
+pub mod numbers;

@@ -1,0 +1,11 @@
+pub mod Options
+pub mod Capping
+pub mod Levels
+pub mod Fresh
+pub mod Moves
+pub mod Passes
+pub mod Meaning
+pub mod Operators
+pub mod Beginnings
+pub mod Rows
+pub mod Openings

@@ -1,0 +1,4 @@
+pub mod Loops
+pub mod Sound
+pub mod Bodies
+pub mod Ends

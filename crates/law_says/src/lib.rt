@@ -1,0 +1,9 @@
+//! Laws of what coroutines say after their inputs.
+#![tactic(auto)]
+
+mod tapes;
+
+pub use tapes::{
+    a_loop_is_its_body_and_then_the_loop, longer_tapes_ask_the_same_first,
+    requests_take_the_inputs_in_order, what_is_over_stays_over,
+};

@@ -1,0 +1,4 @@
+//! Laws of sound states.
+#![tactic(auto)]
+
+pub mod soundness;

@@ -1,0 +1,4 @@
+//! Laws of texts and the scripts that they spell.
+#![tactic(auto)]
+
+pub mod texts;

@@ -1,0 +1,7 @@
+pub mod Rows
+pub mod Joined
+pub mod Weights
+pub mod Depths
+pub mod Quotes
+pub mod Newlines
+pub mod Equals

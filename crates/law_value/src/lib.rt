@@ -1,0 +1,4 @@
+//! Laws of values and of their printed text.
+#![tactic(auto)]
+
+pub mod laws;

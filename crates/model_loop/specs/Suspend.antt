@@ -1,0 +1,33 @@
+-- A task's step ends with the await of a future that isn't done. Source: `tasks.py`, `__step_run_and_handle_result`.
+use Rattle.std.specs.Prelude.{ℕ, Bool, true, false, Option, Some, None, if◌then◌else◌}
+use Rattle.model_value.specs.Action.{Circle, StepInCircle, Wakeup}
+use Rattle.model_loop.specs.Parts.{Parts}
+use Rattle.model_loop.specs.Handles.{soon}
+use Rattle.model_loop.specs.Futures.{register}
+use Rattle.model_loop.specs.Tasks.{set_waiter, unmark, is_marked}
+use Rattle.model_loop.specs.Cancel.{cancel}
+use Rattle.model_loop.specs.Circles.{circle}
+use Rattle.model_loop.specs.Ledger.{Booked, unbooked, request, ByWait}
+
+-- the task is woken when the future is done
+abbrev pub wait_on : ℕ → ℕ → Parts → Parts
+wait_on task on p = set_waiter task (Some on) (register on (Wakeup task) p)
+
+-- A task that asked for its own cancel, or was asked by what it ran, cancels what it waits for; where that can't be
+-- cancelled, the cancel goes on waiting for the next step:
+--
+--     cancel(me)
+--     yield from sleep(10)
+abbrev pub cancel_wait : Bool → ℕ → ℕ → Parts → Booked
+cancel_wait false task on p = unbooked p
+cancel_wait true task on p =
+    let asked = request (ByWait task) on p in
+    record asked { parts = if (cancel on p).answer then unmark task asked.parts else asked.parts }
+
+abbrev pub suspend_unless : Option Circle → ℕ → ℕ → Parts → Booked
+suspend_unless (Some circle) task on p = unbooked (soon (StepInCircle task circle) p)
+suspend_unless None task on p = cancel_wait (is_marked p task) task on (wait_on task on p)
+
+-- A task awaits a pending future. An await in a circle is refused by a step that throws.
+abbrev pub suspend : ℕ → ℕ → Parts → Booked
+suspend task on p = suspend_unless (circle p task on) task on p

@@ -1,0 +1,134 @@
+-- Timeouts. Source: the library reference, "Timeouts"; `timeouts.py`, `Timeout.__aenter__`, `reschedule`, `_on_timeout`,
+-- `__aexit__`.
+use Rattle.std.specs.Prelude.{ℕ, ℤ, pos, negsuc, ◌+ℤ◌, Bool, true, false, ◌&&◌, List, [], ◌∷◌, ◌++◌, Option, Some, None, codes, length, nat_le, option_map, slice_index_or, slice_set, if◌then◌else◌}
+use Rattle.std.specs.Option.{option_map_or}
+use Rattle.model_value.specs.declared.kind.Kind.TheVariants.{RuntimeError, TimeoutError}
+use Rattle.model_value.specs.Action.{Fires}
+use Rattle.model_value.specs.Value.{Exc, exception_of}
+use Rattle.model_loop.specs.Parts.{Parts}
+use Rattle.model_loop.specs.Handles.{soon, later, revoke}
+use Rattle.model_loop.specs.Tasks.{cancelling, future_of, is_cancelled, uncancel}
+use Rattle.model_loop.specs.Ledger.{ByTimeout, request, uncancel_by}
+use Rattle.model_loop.specs.Loop.{TimeoutState, Created, Active, Expiring, Expired, Finished, Timeout, Loop, in_parts, book}
+
+-- what stands for a timeout of a number that none has
+abbrev pub no_timeout : Timeout
+no_timeout = record { state = Finished; task = 0; stored = 0; tag = None }
+
+abbrev pub timeout_of : Loop → ℕ → Timeout
+timeout_of l id = slice_index_or l.timeouts id no_timeout
+
+abbrev pub set_timeout : ℕ → Timeout → Loop → Loop
+set_timeout id timeout l = record l { timeouts = slice_set l.timeouts id timeout }
+
+-- a handle is given up, if there is one
+abbrev pub give_up : Option ℕ → Parts → Parts
+give_up None p = p
+give_up (Some tag) p = revoke tag p
+
+abbrev pub without_handle : ℕ → Loop → Loop
+without_handle id l =
+    let timeout = timeout_of l id in
+    set_timeout id (record timeout { tag = None }) (in_parts (give_up timeout.tag) l)
+
+-- A deadline that isn't later than the time is over soon.
+abbrev pub fires_at : ℕ → ℤ → Parts → Parts
+fires_at id (negsuc before) p = soon (Fires id) p
+fires_at id (pos when) p = if nat_le when p.time then soon (Fires id) p else later when (Fires id) p
+
+abbrev pub with_deadline : ℕ → Option ℤ → Loop → Loop
+with_deadline id None l = l
+with_deadline id (Some when) l =
+    set_timeout id (record (timeout_of l id) { tag = Some l.parts.next_tag }) (in_parts (fires_at id when) l)
+
+-- the old handle is given up, and a new one waits for the deadline, if there is one
+abbrev pub schedule : ℕ → Option ℤ → Loop → Loop
+schedule id when l = with_deadline id when (without_handle id l)
+
+-- the number of the timeout that is made next
+abbrev pub next_timeout : Loop → ℕ
+next_timeout l = length l.timeouts
+
+-- an active timeout of a task, which keeps how many cancels the task counts
+abbrev pub make_timeout : ℕ → Loop → Loop
+make_timeout task l =
+    record l {
+      timeouts = l.timeouts ++ record { state = Active; task = task; stored = cancelling l.parts task; tag = None } ∷ [];
+    }
+
+-- the deadline after a delay, which may be negative; with no delay there is none
+abbrev pub deadline_after : (time : ℕ) → Option ℤ → Option ℤ
+deadline_after time delay = option_map (λ milliseconds. pos time +ℤ milliseconds) delay
+
+-- a task enters a block whose time is over after a delay, or never
+abbrev pub enter_timeout : ℕ → Option ℤ → Loop → Loop
+enter_timeout task delay l = schedule (next_timeout l) (deadline_after l.parts.time delay) (make_timeout task l)
+
+abbrev pub is_active : TimeoutState → Bool
+is_active Active = true
+is_active _ = false
+
+abbrev pub reschedule_where : Bool → ℕ → Option ℤ → Loop → Loop
+reschedule_where true id when l = schedule id when l
+reschedule_where false id when l = l
+
+-- a new deadline, or none; refused unless the timeout is active
+abbrev pub reschedule : ℕ → Option ℤ → Loop → Loop
+reschedule id when l = reschedule_where (is_active (timeout_of l id).state) id when l
+
+abbrev pub state_name : TimeoutState → List ℕ
+state_name Created = codes "created"
+state_name Active = codes "active"
+state_name Expiring = codes "expiring"
+state_name Expired = codes "expired"
+state_name Finished = codes "finished"
+
+-- what a reschedule raises that is refused
+abbrev pub reschedule_fault : TimeoutState → Exc
+reschedule_fault state = exception_of RuntimeError (codes "Cannot change state of " ++ state_name state ++ codes " Timeout")
+
+-- the deadline has come: the task's cancel is asked for, once
+abbrev pub fire : ℕ → Loop → Loop
+fire id l =
+    let timeout = timeout_of l id in
+    set_timeout id (record timeout { state = Expiring; tag = None })
+    (book (request (ByTimeout id) (future_of l.parts timeout.task)) l)
+
+abbrev pub leave_from : TimeoutState → ℕ → Loop → Loop
+leave_from Expiring id l =
+    let timeout = timeout_of l id in
+    set_timeout id (record timeout { state = Expired }) (book (uncancel_by (ByTimeout id) timeout.task) l)
+leave_from _ id l = set_timeout id (record (timeout_of l id) { state = Finished }) l
+
+-- the block is left, and a timeout whose time was over takes its cancel back
+abbrev pub exit_timeout : ℕ → Loop → Loop
+exit_timeout id l = leave_from (timeout_of l id).state id (without_handle id l)
+
+abbrev pub is_expiring : TimeoutState → Bool
+is_expiring Expiring = true
+is_expiring _ = false
+
+-- Whether an exit, before it is made, raises TimeoutError in place of the exception with which the block ends. Not where
+-- somebody else asked for the task's cancel too: of two nested timeouts whose time is over in one turn the outer one
+-- raises, once the inner one has passed its CancelledError on.
+--
+--     with timeout(10) as outer
+--       with timeout(10) as inner
+--         yield from sleep(100)
+--       end
+--     end
+abbrev pub times_out : Option Exc → ℕ → Loop → Bool
+times_out raised id l =
+    let timeout = timeout_of l id in
+    is_expiring timeout.state && nat_le (cancelling (uncancel timeout.task l.parts) timeout.task) timeout.stored
+    && option_map_or is_cancelled raised false
+
+-- what is then raised
+abbrev pub timeout_fault : Exc
+timeout_fault = exception_of TimeoutError []
+
+-- `expired()`
+abbrev pub has_expired : TimeoutState → Bool
+has_expired Expiring = true
+has_expired Expired = true
+has_expired _ = false

@@ -1,0 +1,10 @@
+pub mod Straight
+pub mod Variables
+pub mod Operations
+pub mod Expressions
+pub mod Tape
+pub mod Requests
+pub mod Endings
+pub mod Says
+pub mod Blocks
+pub mod Asked

@@ -1,0 +1,12 @@
+pub mod Action
+pub mod Depth
+pub mod Equality
+pub mod Escapes
+pub mod Input
+pub mod Kinds
+pub mod Lines
+pub mod Number
+pub mod Request
+pub mod Shown
+pub mod Value
+pub mod Weight

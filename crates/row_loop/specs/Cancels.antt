@@ -1,0 +1,111 @@
+-- States before and after a cancel request.
+use Rattle.std.specs.Prelude.{ℕ, Bool, true, false, [], ◌∷◌}
+use Rattle.model_value.specs.Number.{most}
+use Rattle.model_value.specs.Action.{Wakeup}
+use Rattle.model_loop.specs.Parts.{Plain, OfTask, Many, Parts}
+use Rattle.row_loop.specs.Made.{waiting, cancelled, resolved, waits, waits_marked, free, free_marked, handle, parts_of}
+
+-- ---- task 0 awaits task 1, which awaits task 2, which waits for future 3
+abbrev pub chain : Parts
+chain =
+    parts_of
+    (waiting (OfTask 0) [] ∷ waiting (OfTask 1) (Wakeup 0 ∷ []) ∷ waiting (OfTask 2) (Wakeup 1 ∷ []) ∷ waiting Plain (Wakeup 2 ∷ []) ∷ [])
+    (waits 0 1 0 ∷ waits 1 2 0 ∷ waits 2 3 0 ∷ [])
+    [] 5
+
+-- each counts, the future is cancelled, and its waiter is woken
+abbrev pub chain_cancelled : Parts
+chain_cancelled =
+    parts_of
+    (waiting (OfTask 0) [] ∷ waiting (OfTask 1) (Wakeup 0 ∷ []) ∷ waiting (OfTask 2) (Wakeup 1 ∷ []) ∷ cancelled Plain ∷ [])
+    (waits 0 1 1 ∷ waits 1 2 1 ∷ waits 2 3 1 ∷ [])
+    (handle 5 5 (Wakeup 2) ∷ []) 6
+
+-- The future is done and task 2 wasn't stepped yet: a second request counts again and marks task 2 alone.
+abbrev pub chain_cancelled_twice : Parts
+chain_cancelled_twice =
+    parts_of
+    (waiting (OfTask 0) [] ∷ waiting (OfTask 1) (Wakeup 0 ∷ []) ∷ waiting (OfTask 2) (Wakeup 1 ∷ []) ∷ cancelled Plain ∷ [])
+    (waits 0 1 2 ∷ waits 1 2 2 ∷ waits_marked 2 3 2 ∷ [])
+    (handle 5 5 (Wakeup 2) ∷ []) 6
+
+-- a request to the future that is waited for reaches no task
+abbrev pub chain_cut : Parts
+chain_cut =
+    parts_of
+    (waiting (OfTask 0) [] ∷ waiting (OfTask 1) (Wakeup 0 ∷ []) ∷ waiting (OfTask 2) (Wakeup 1 ∷ []) ∷ cancelled Plain ∷ [])
+    (waits 0 1 0 ∷ waits 1 2 0 ∷ waits 2 3 0 ∷ [])
+    (handle 5 5 (Wakeup 2) ∷ []) 6
+
+-- ---- future 2 stands for future 0, which is done, and future 1
+abbrev pub one_of_two : Parts
+one_of_two = parts_of (resolved Plain ∷ waiting Plain [] ∷ waiting (Many (0 ∷ 1 ∷ []) false) [] ∷ []) [] [] 0
+
+abbrev pub one_of_two_cancelled : Parts
+one_of_two_cancelled = parts_of (resolved Plain ∷ cancelled Plain ∷ waiting (Many (0 ∷ 1 ∷ []) true) [] ∷ []) [] [] 0
+
+-- ---- future 3 stands for the tasks 0 and 1, which both wait for future 2
+abbrev pub two_on_one : Parts
+two_on_one =
+    parts_of
+    (waiting (OfTask 0) [] ∷ waiting (OfTask 1) [] ∷ waiting Plain (Wakeup 0 ∷ Wakeup 1 ∷ []) ∷ waiting (Many (0 ∷ 1 ∷ []) false) [] ∷ [])
+    (waits 0 2 0 ∷ waits 1 2 0 ∷ [])
+    [] 4
+
+-- the cancel of task 0 ends the future, so task 1 can only be marked
+abbrev pub two_on_one_cancelled : Parts
+two_on_one_cancelled =
+    parts_of
+    (waiting (OfTask 0) [] ∷ waiting (OfTask 1) [] ∷ cancelled Plain ∷ waiting (Many (0 ∷ 1 ∷ []) true) [] ∷ [])
+    (waits 0 2 1 ∷ waits_marked 1 2 1 ∷ [])
+    (handle 4 4 (Wakeup 0) ∷ handle 5 5 (Wakeup 1) ∷ []) 6
+
+-- ---- future 3 stands twice for task 0, directly and through future 2
+abbrev pub twice_to_one : Parts
+twice_to_one =
+    parts_of
+    (waiting (OfTask 0) [] ∷ waiting Plain (Wakeup 0 ∷ []) ∷ waiting (Many (0 ∷ []) false) [] ∷ waiting (Many (2 ∷ 0 ∷ []) false) [] ∷ [])
+    (waits 0 1 0 ∷ [])
+    [] 2
+
+-- task 0 counts one request once
+abbrev pub twice_to_one_cancelled : Parts
+twice_to_one_cancelled =
+    parts_of
+    (waiting (OfTask 0) [] ∷ cancelled Plain ∷ waiting (Many (0 ∷ []) true) [] ∷ waiting (Many (2 ∷ 0 ∷ []) true) [] ∷ [])
+    (waits 0 1 1 ∷ [])
+    (handle 2 2 (Wakeup 0) ∷ []) 3
+
+-- ---- the tasks 0 and 1 await each other, which no run comes to
+abbrev pub circle_of_two : ℕ → Parts
+circle_of_two count =
+    parts_of (waiting (OfTask 0) (Wakeup 1 ∷ []) ∷ waiting (OfTask 1) (Wakeup 0 ∷ []) ∷ []) (waits 0 1 count ∷ waits 1 0 count ∷ []) [] 2
+
+-- ---- task 0 waits for future 2, which stands for task 1, which waits for future 2 too
+abbrev pub circle_through_many : Bool → ℕ → Parts
+circle_through_many asked count =
+    parts_of
+    (waiting (OfTask 0) [] ∷ waiting (OfTask 1) [] ∷ waiting (Many (1 ∷ []) asked) (Wakeup 0 ∷ Wakeup 1 ∷ []) ∷ [])
+    (waits 0 2 count ∷ waits 1 2 count ∷ [])
+    [] 3
+
+-- ---- task 0 waits for nothing: it is running, or its step is pending
+abbrev pub free_task : Parts
+free_task = parts_of (waiting (OfTask 0) [] ∷ []) (free 0 0 ∷ []) [] 1
+
+abbrev pub free_task_cancelled : Parts
+free_task_cancelled = parts_of (waiting (OfTask 0) [] ∷ []) (free_marked 0 1 ∷ []) [] 1
+
+-- ---- a count that is as great as it can be
+abbrev pub full_count : Parts
+full_count = parts_of (waiting (OfTask 0) [] ∷ []) (free 0 most ∷ []) [] 1
+
+abbrev pub full_count_cancelled : Parts
+full_count_cancelled = parts_of (waiting (OfTask 0) [] ∷ []) (free_marked 0 most ∷ []) [] 1
+
+-- ---- future 2 stands for futures that are all done
+abbrev pub all_done : Parts
+all_done =
+    parts_of
+    (resolved Plain ∷ cancelled Plain ∷ waiting (Many (0 ∷ 1 ∷ []) false) [] ∷ waiting (Many [] false) [] ∷ waiting (Many (2 ∷ 3 ∷ []) false) [] ∷ [])
+    [] [] 0

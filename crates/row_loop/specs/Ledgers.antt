@@ -1,0 +1,33 @@
+-- Three tasks and what a run's end does to them. Task 0 is done, task 1 waits for future 3, and task 2 awaits task 1.
+use Rattle.std.specs.Prelude.{[], ◌∷◌}
+use Rattle.model_value.specs.Action.{Wakeup}
+use Rattle.model_loop.specs.Parts.{Plain, OfTask}
+use Rattle.model_loop.specs.Ledger.{Asked, Raised, ByEnd}
+use Rattle.model_loop.specs.Loop.{Loop}
+use Rattle.row_loop.specs.Made.{waiting, cancelled, resolved, waits, waits_marked, free, handle, parts_of}
+
+abbrev pub main_done : Loop
+main_done =
+    record {
+      parts = parts_of
+          (resolved (OfTask 0) ∷ waiting (OfTask 1) (Wakeup 2 ∷ []) ∷ waiting (OfTask 2) [] ∷ waiting Plain (Wakeup 1 ∷ []) ∷ [])
+          (free 0 0 ∷ waits 1 3 0 ∷ waits 2 1 0 ∷ [])
+          [] 5;
+      timeouts = [];
+      groups = [];
+      ledger = [];
+    }
+
+-- Task 1 is asked first. Task 2's request goes on to task 1, whose future 3 is done by then: it is marked, and it is counted
+-- again.
+abbrev pub all_cancelled : Loop
+all_cancelled =
+    record {
+      parts = parts_of
+          (resolved (OfTask 0) ∷ waiting (OfTask 1) (Wakeup 2 ∷ []) ∷ waiting (OfTask 2) [] ∷ cancelled Plain ∷ [])
+          (free 0 0 ∷ waits_marked 1 3 2 ∷ waits 2 1 1 ∷ [])
+          (handle 5 5 (Wakeup 1) ∷ []) 6;
+      timeouts = [];
+      groups = [];
+      ledger = Asked ByEnd ∷ Raised 1 ByEnd ∷ Asked ByEnd ∷ Raised 2 ByEnd ∷ Raised 1 ByEnd ∷ [];
+    }

@@ -1,0 +1,72 @@
+//! Cancel requests.
+ghost use Rattle.std.specs.Prelude.{◌≡◌, [], ◌∷◌, true, false};
+ghost use Rattle.model_value.specs.declared.input.Input.TheVariants.{Throw};
+ghost use Rattle.model_loop.specs.Cancel.{cancel, cancel_with, answers};
+ghost use Rattle.model_loop.specs.Tasks.{begin_step, first_input, cancelled_error};
+ghost use Rattle.model_loop.specs.Spent.{is_spent};
+ghost use Rattle.model_loop.specs.Circles.{leads};
+ghost use Rattle.row_loop.specs.Steps.{sleeping, woken_at_once, woken_and_marked, begun};
+ghost use Rattle.row_loop.specs.Cancels.{chain, chain_cancelled, chain_cancelled_twice, chain_cut, one_of_two, one_of_two_cancelled, two_on_one, two_on_one_cancelled, twice_to_one, twice_to_one_cancelled, circle_of_two, circle_through_many, free_task, free_task_cancelled, full_count, full_count_cancelled, all_done};
+
+/// A request goes down a chain of three tasks, each of which counts it.
+pub fn down_a_chain()
+    ensures first { cancel 0 chain ≡ answers true (0 ∷ 1 ∷ 2 ∷ []) chain_cancelled }
+    ensures second { cancel 0 chain_cancelled ≡ answers true (0 ∷ 1 ∷ 2 ∷ []) chain_cancelled_twice }
+    ensures at_its_end { cancel 3 chain ≡ answers true [] chain_cut }
+    ensures leads { leads chain 0 3 ≡ true }
+    ensures not_back { leads chain 3 0 ≡ false }
+{}
+
+/// One member is done, so the other is cancelled; then there is none left to cancel.
+pub fn one_member_done()
+    ensures first { cancel 2 one_of_two ≡ answers true [] one_of_two_cancelled }
+    ensures second { cancel 2 one_of_two_cancelled ≡ answers false [] one_of_two_cancelled }
+    ensures reachable { is_spent one_of_two 2 ≡ false }
+    ensures spent { is_spent one_of_two_cancelled 2 ≡ true }
+{}
+
+/// A future that stands for no other that can be cancelled is spent, whether it stands for some or none.
+pub fn no_member_left()
+    ensures all_done { cancel 2 all_done ≡ answers false [] all_done }
+    ensures none { cancel 3 all_done ≡ answers false [] all_done }
+    ensures nested { cancel 4 all_done ≡ answers false [] all_done }
+    ensures done { cancel 0 all_done ≡ answers false [] all_done }
+    ensures no_future { cancel 9 all_done ≡ answers false [] all_done }
+    ensures spent { is_spent all_done 4 ≡ true }
+{}
+
+/// Two requests come before the task's step: the first ends what it waits for, the second marks it, and one throw of
+/// CancelledError uses both up.
+pub fn two_before_one_step()
+    ensures first { cancel 0 sleeping ≡ answers true (0 ∷ []) (woken_at_once 1) }
+    ensures second { cancel 0 (woken_at_once 1) ≡ answers true (0 ∷ []) (woken_and_marked 2) }
+    ensures step { begin_step 0 (woken_and_marked 2) ≡ begun 2 }
+    ensures input { first_input (woken_and_marked 2) 0 (Throw cancelled_error) ≡ Throw cancelled_error }
+{}
+
+/// Two members wait for one future: the second finds it done, and is marked.
+pub fn two_tasks_on_one_future()
+    ensures { cancel 3 two_on_one ≡ answers true (0 ∷ 1 ∷ []) two_on_one_cancelled }
+{}
+
+/// A task that a request comes to twice counts it once.
+pub fn a_task_reached_twice()
+    ensures { cancel 3 twice_to_one ≡ answers true (0 ∷ []) twice_to_one_cancelled }
+{}
+
+/// A request goes round a circle once and answers true; nobody is marked, since each was told to go on.
+pub fn round_a_circle()
+    ensures of_two { cancel 0 (circle_of_two 0) ≡ answers true (0 ∷ 1 ∷ []) (circle_of_two 1) }
+    ensures from_the_other_side { cancel 1 (circle_of_two 4) ≡ answers true (1 ∷ 0 ∷ []) (circle_of_two 5) }
+    ensures through_many { cancel 0 (circle_through_many false 0) ≡ answers true (0 ∷ 1 ∷ []) (circle_through_many true 1) }
+    ensures already_seen { cancel_with 0 (0 ∷ []) (circle_of_two 0) ≡ answers true (0 ∷ []) (circle_of_two 0) }
+    ensures leads_back { leads (circle_of_two 0) 0 0 ≡ true }
+    ensures leads_round { leads (circle_through_many false 0) 2 2 ≡ true }
+    ensures not_back { leads (circle_through_many false 0) 2 0 ≡ false }
+{}
+
+/// A task that waits for nothing is marked, and a count at its greatest stays.
+pub fn a_task_that_waits_for_nothing()
+    ensures marked { cancel 0 free_task ≡ answers true (0 ∷ []) free_task_cancelled }
+    ensures at_the_greatest { cancel 0 full_count ≡ answers true (0 ∷ []) full_count_cancelled }
+{}

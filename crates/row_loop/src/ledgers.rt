@@ -1,0 +1,31 @@
+//! What the ledger books.
+ghost use Rattle.std.specs.Prelude.{◌≡◌, [], ◌∷◌, true, false};
+ghost use Rattle.model_loop.specs.Ending.{cancel_everything};
+ghost use Rattle.model_loop.specs.Ledger.{ByScript, ByTimeout, ByGroup, Asked, Raised, Took, request, uncancel_by};
+ghost use Rattle.row_loop.specs.Cancels.{chain, chain_cancelled, all_done, full_count, full_count_cancelled};
+ghost use Rattle.row_loop.specs.Steps.{running_marked};
+ghost use Rattle.row_loop.specs.Ledgers.{main_done, all_cancelled};
+
+/// A request is booked with each count that it raises, in the order in which it comes to the tasks.
+pub fn books_requests()
+    ensures chain { request (ByScript 7) 0 chain
+        ≡ record {
+          parts = chain_cancelled;
+          entries = Asked (ByScript 7) ∷ Raised 0 (ByScript 7) ∷ Raised 1 (ByScript 7) ∷ Raised 2 (ByScript 7) ∷ [];
+        } }
+    ensures refused { request (ByScript 7) 4 all_done ≡ record { parts = all_done; entries = Asked (ByScript 7) ∷ [] } }
+    ensures at_the_greatest { request (ByGroup 0) 0 full_count ≡ record { parts = full_count_cancelled; entries = Asked (ByGroup 0) ∷ [] } }
+{}
+
+/// An `uncancel` is booked, with whether the count fell.
+pub fn books_what_is_taken_back()
+    ensures lowers { uncancel_by (ByScript 0) 0 (running_marked 2)
+        ≡ record { parts = running_marked 1; entries = Took 0 (ByScript 0) true ∷ [] } }
+    ensures at_none { uncancel_by (ByTimeout 3) 0 (running_marked 0)
+        ≡ record { parts = running_marked 0; entries = Took 0 (ByTimeout 3) false ∷ [] } }
+{}
+
+/// At the end of a run each task that lives is cancelled by a request of its own.
+pub fn cancels_everything()
+    ensures { cancel_everything main_done ≡ all_cancelled }
+{}

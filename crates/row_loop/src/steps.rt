@@ -1,0 +1,71 @@
+//! The parts of a task's step.
+ghost use Rattle.std.specs.Prelude.{◌≡◌, [], ◌∷◌, true, false, Some, None, codes};
+ghost use Rattle.model_value.specs.declared.input.Input.TheVariants.{Send, Throw};
+ghost use Rattle.model_value.specs.declared.kind.Kind.TheVariants.{CancelledError, RuntimeError};
+ghost use Rattle.model_value.specs.declared.outcome.Outcome.TheVariants.{Value as Returned, Failed, Cancelled};
+ghost use Rattle.model_value.specs.Action.{Step, StepInCircle, Itself, ItsWaiter};
+ghost use Rattle.model_value.specs.Value.{Nothing, Truth, exception_of};
+ghost use Rattle.model_loop.specs.Handles.{due, revoke};
+ghost use Rattle.model_loop.specs.Tasks.{spawn, pause, begin_step, first_input, cancelled_error, return_value, raise_fault, uncancel, cancelling};
+ghost use Rattle.model_loop.specs.Circles.{circle, circle_fault};
+ghost use Rattle.model_loop.specs.Ledger.{Asked, Raised, ByWait, unbooked};
+ghost use Rattle.model_loop.specs.Suspend.{suspend};
+ghost use Rattle.row_loop.specs.Made.{handle, value_error};
+ghost use Rattle.row_loop.specs.Steps.{nothing_made, one_task, two_tasks, running, running_marked, sleeping, woken_at_once, running_over_none, waits_for_none, begun, woken_and_marked, paused, ended_as, ended_marked_as, ended_counted_as, awaited, three_timers, two_due, two_revoked};
+
+/// Tasks and their futures are numbered in order of making.
+pub fn makes_tasks()
+    ensures one { spawn nothing_made ≡ one_task }
+    ensures two { spawn one_task ≡ two_tasks }
+{}
+
+/// A task that isn't marked waits; one that is marked cancels what it waits for, and keeps its mark where it can't.
+pub fn suspends()
+    ensures unmarked { suspend 0 1 running ≡ unbooked sleeping }
+    ensures marked { suspend 0 1 (running_marked 1)
+        ≡ record { parts = woken_at_once 1; entries = Asked (ByWait 0) ∷ [] } }
+    ensures over_none { suspend 0 1 running_over_none
+        ≡ record { parts = waits_for_none; entries = Asked (ByWait 0) ∷ [] } }
+{}
+
+/// An await of the task itself or of what waits for it is refused by a step that throws.
+pub fn refuses_circles()
+    ensures itself { suspend 0 0 running ≡ unbooked (paused (StepInCircle 0 Itself)) }
+    ensures its_waiter { suspend 0 1 (awaited [] 2) ≡ unbooked (awaited (handle 2 2 (StepInCircle 0 ItsWaiter) ∷ []) 3) }
+    ensures through_many { circle (awaited [] 2) 0 3 ≡ Some ItsWaiter }
+    ensures elsewhere { circle (awaited [] 2) 0 2 ≡ None }
+    ensures itself_text { circle_fault Itself ≡ exception_of RuntimeError (codes "Task cannot await on itself") }
+{}
+
+/// A step takes the mark away and throws CancelledError, but for an input that throws one already.
+pub fn begins_steps()
+    ensures parts { begin_step 0 (woken_and_marked 2) ≡ begun 2 }
+    ensures sent { first_input (woken_and_marked 2) 0 (Send Nothing) ≡ Throw cancelled_error }
+    ensures thrown { first_input (woken_and_marked 2) 0 (Throw (value_error (codes "a"))) ≡ Throw cancelled_error }
+    ensures cancelled { first_input (woken_and_marked 2) 0 (Throw (exception_of CancelledError (codes "a")))
+        ≡ Throw (exception_of CancelledError (codes "a")) }
+    ensures unmarked { first_input running 0 (Send (Truth true)) ≡ Send (Truth true) }
+{}
+
+/// What a step ends with.
+pub fn ends_steps()
+    ensures pauses { pause 0 running ≡ paused (Step 0) }
+    ensures returns { return_value 0 (Truth true) running ≡ ended_as (Returned (Truth true)) }
+    ensures returns_marked { return_value 0 (Truth true) (running_marked 1) ≡ ended_counted_as Cancelled }
+    ensures raises { raise_fault 0 (value_error (codes "a")) running ≡ ended_as (Failed (value_error (codes "a"))) }
+    ensures raises_cancelled { raise_fault 0 (exception_of CancelledError (codes "a")) running ≡ ended_as Cancelled }
+    ensures raises_marked { raise_fault 0 (value_error (codes "a")) (running_marked 1) ≡ ended_marked_as (Failed (value_error (codes "a"))) }
+{}
+
+/// `uncancel` lowers a positive count, and leaves the mark.
+pub fn uncancels()
+    ensures lowers { uncancel 0 (running_marked 2) ≡ running_marked 1 }
+    ensures at_none { uncancel 0 (running_marked 0) ≡ running_marked 0 }
+    ensures count { cancelling (running_marked 2) 0 ≡ 2 }
+{}
+
+/// Timers fall due by deadline; a timer that is revoked is gone, and a pending handle keeps its place.
+pub fn timers_fall_due()
+    ensures due { due three_timers ≡ two_due }
+    ensures revoked { revoke 1 (revoke 2 two_due) ≡ two_revoked }
+{}
