@@ -1,0 +1,28 @@
+//! How many rows there were, and how many came out otherwise.
+use crate::row::{Outcome, Row};
+use std::alloc::Global;
+use std::io;
+
+#[derive(Clone, Copy)]
+pub struct Tally {
+    pub rows: u64,
+    pub differ: u64,
+}
+
+impl Tally {
+    pub fn new() -> Tally {
+        Tally { rows: 0, differ: 0 }
+    }
+
+    /// Runs a row, counts it, and prints a line where it came out otherwise.
+    pub fn run<R: Print>(&mut self, rt: &R, alloc: Global, mut row: Row) -> io::Result<()> {
+        self.rows = self.rows.saturating_add(1);
+        match row.run(alloc) {
+            Outcome::Right => return Ok(()),
+            Outcome::OtherStatus(status) => println!(rt; "{}: ended with status {status}", row.name)?,
+            Outcome::OtherText(at) => println!(rt; "{}: wrote something else from byte {at} on", row.name)?,
+        }
+        self.differ = self.differ.saturating_add(1);
+        Ok(())
+    }
+}
