@@ -6,8 +6,8 @@ use Rattle.law_reading.specs.Reader as plain
 use Rattle.script_term.specs.Operand.{plain_operand}
 use Rattle.script_term_reader.specs.declared.reader.Bracket.{Bracket}
 use Rattle.script_term_reader.specs.declared.reader.Bracket.TheVariants.{Group, Item, Items, Arguments}
-use Rattle.script_term_reader.specs.declared.reader.Place.{Place}
-use Rattle.script_term_reader.specs.declared.reader.Place.TheVariants.{Start, AtNot, AtOperand, BehindName, BehindOperand, AtKind, BehindKind}
+use Rattle.script_term_reader.specs.declared.reader.Position.{Position}
+use Rattle.script_term_reader.specs.declared.reader.Position.TheVariants.{Start, AtNot, AtOperand, BehindName, BehindOperand, AtKind, BehindKind}
 
 abbrev pub plain_bracket : Bracket → plain.Bracket
 plain_bracket Group = plain.Group
@@ -16,7 +16,7 @@ plain_bracket (Items items) = plain.Items (map plain_operand items.items)
 plain_bracket (Arguments name bare arguments) =
     plain.Arguments (rc_str_bytes name) (option_map rc_str_bytes bare) (map plain_operand arguments.items)
 
-abbrev pub plain_progress : Place → plain.Progress
+abbrev pub plain_progress : Position → plain.Progress
 plain_progress Start = plain.Start
 plain_progress (AtNot loose) = plain.AtNot loose
 plain_progress (AtOperand loose tight) = plain.AtOperand loose tight

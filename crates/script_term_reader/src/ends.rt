@@ -13,7 +13,7 @@ ghost use Rattle.script_term_reader.specs.Next.{come};
 ghost use Rattle.script_term_reader.specs.Reader.{plain_bracket};
 
 use crate::pending::{Loose, Tight, disjunction_of, no_loose};
-use crate::reader::{Bracket, Open, Place, Progress, at, before, forget, forget_loose};
+use crate::reader::{Bracket, Open, Position, Progress, at, before, forget, forget_loose};
 use script_term::{Join, Operand, Symbol, Term, TermList, all_that_fit, capped, joined};
 use std::alloc::{AllocError, Global};
 use std::rc::RcStr;
@@ -23,19 +23,19 @@ pub fn ended(alloc: Global, progress: Progress) -> Result<Option<Operand>, Alloc
     ensures { IfOk result (λ operand. option_map plain_operand operand ≡ ended progress) }
 {
     match progress.place() {
-        Place::Start => Ok(None),
-        Place::AtNot(loose) => {
+        Position::Start => Ok(None),
+        Position::AtNot(loose) => {
             forget_loose(loose);
             Ok(None)
         }
-        Place::AtOperand(loose, tight) => {
+        Position::AtOperand(loose, tight) => {
             forget(loose, tight);
             Ok(None)
         }
-        Place::BehindName(loose, tight, name) => ended_by(alloc, loose, tight, named(name)),
-        Place::BehindOperand(loose, tight, operand) => ended_by(alloc, loose, tight, operand),
-        Place::AtKind => Ok(None),
-        Place::BehindKind(_kind) => Ok(None),
+        Position::BehindName(loose, tight, name) => ended_by(alloc, loose, tight, named(name)),
+        Position::BehindOperand(loose, tight, operand) => ended_by(alloc, loose, tight, operand),
+        Position::AtKind => Ok(None),
+        Position::BehindKind(_kind) => Ok(None),
     }
 }
 
@@ -109,16 +109,16 @@ fn parted_arguments(
     ensures { IfOk result (λ behind. option_map plain_bracket behind ≡ parted (Arguments (rc_str_bytes name) (option_map rc_str_bytes bare) (map plain_operand arguments.items)) progress) }
 {
     match progress.place() {
-        Place::Start => Ok(None),
-        Place::AtNot(loose) => {
+        Position::Start => Ok(None),
+        Position::AtNot(loose) => {
             forget_loose(loose);
             Ok(None)
         }
-        Place::AtOperand(loose, tight) => {
+        Position::AtOperand(loose, tight) => {
             forget(loose, tight);
             Ok(None)
         }
-        Place::BehindName(loose, tight, argument) => with_argument(
+        Position::BehindName(loose, tight, argument) => with_argument(
             alloc,
             name,
             bare,
@@ -127,11 +127,11 @@ fn parted_arguments(
             tight,
             named(argument),
         ),
-        Place::BehindOperand(loose, tight, argument) => with_argument(
+        Position::BehindOperand(loose, tight, argument) => with_argument(
             alloc, name, bare, arguments, loose, tight, argument,
         ),
-        Place::AtKind => Ok(None),
-        Place::BehindKind(kind) => Ok(Some(Bracket::Arguments(name, Some(kind), Vec::new(alloc)))),
+        Position::AtKind => Ok(None),
+        Position::BehindKind(kind) => Ok(Some(Bracket::Arguments(name, Some(kind), Vec::new(alloc)))),
     }
 }
 
@@ -184,7 +184,7 @@ fn comma_within(
     match parted_open(alloc, innermost, progress)? {
         Some(innermost) => {
             opened.push(innermost)?;
-            Ok(Some(at(Place::AtNot(no_loose()))))
+            Ok(Some(at(Position::AtNot(no_loose()))))
         }
         None => Ok(None),
     }
@@ -342,27 +342,27 @@ fn whole(alloc: Global, bracket: Bracket, progress: Progress) -> Result<Option<O
     ensures { IfOk result (λ operand. option_map plain_operand operand ≡ whole (plain_bracket bracket) progress) }
 {
     match progress.place() {
-        Place::Start => empty(alloc, bracket),
-        Place::AtNot(loose) => {
+        Position::Start => empty(alloc, bracket),
+        Position::AtNot(loose) => {
             forget_loose(loose);
             Ok(unfinished(bracket))
         }
-        Place::AtOperand(loose, tight) => {
+        Position::AtOperand(loose, tight) => {
             forget(loose, tight);
             Ok(unfinished(bracket))
         }
-        Place::BehindName(loose, tight, name) => filled_by(
+        Position::BehindName(loose, tight, name) => filled_by(
             alloc,
             bracket,
             loose,
             tight,
             named(name),
         ),
-        Place::BehindOperand(loose, tight, operand) => filled_by(
+        Position::BehindOperand(loose, tight, operand) => filled_by(
             alloc, bracket, loose, tight, operand,
         ),
-        Place::AtKind => with_kind(alloc, None, bracket),
-        Place::BehindKind(kind) => with_kind(alloc, Some(kind), bracket),
+        Position::AtKind => with_kind(alloc, None, bracket),
+        Position::BehindKind(kind) => with_kind(alloc, Some(kind), bracket),
     }
 }
 
@@ -434,7 +434,7 @@ fn closed_by(
 {
     let (bracket, loose, tight) = innermost.parts();
     match whole(alloc, bracket, progress) {
-        Ok(Some(operand)) => Ok(Some(at(Place::BehindOperand(loose, tight, operand)))),
+        Ok(Some(operand)) => Ok(Some(at(Position::BehindOperand(loose, tight, operand)))),
         Ok(None) => {
             forget(loose, tight);
             Ok(None)

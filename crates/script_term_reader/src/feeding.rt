@@ -18,7 +18,7 @@ use crate::pending::{
     behind_sum, no_loose, no_tight,
 };
 use crate::reader::{
-    Bracket, Next, Open, Place, Progress, at, forget, forget_loose, forget_operand, goes, opens,
+    Bracket, Next, Open, Position, Progress, at, forget, forget_loose, forget_operand, goes, opens,
 };
 use script_term::{Comparison, Constant, Lexeme, Operand, Operator, ReservedWord, Symbol, Term};
 use std::alloc::{AllocError, Global};
@@ -71,7 +71,7 @@ fn behind_new_name(loose: Loose, tight: Tight, name: &RcStr) -> Result<Next, All
     ensures { IfOk result (λ next. (opened : List OpenBracket) → applied next opened ≡ reading (BehindName loose tight (rc_str_bytes name.now)) opened) }
 {
     match name.clone() {
-        Ok(name) => Ok(goes(Place::BehindName(loose, tight, name))),
+        Ok(name) => Ok(goes(Position::BehindName(loose, tight, name))),
         Err(refused) => {
             forget(loose, tight);
             Err(refused)
@@ -83,7 +83,7 @@ fn behind_atom(loose: Loose, tight: Tight, lexeme: &Lexeme) -> Result<Next, Allo
     ensures { IfOk result (λ next. (opened : List OpenBracket) → applied next opened ≡ option_and_then (λ term. reading (BehindOperand loose tight (Fits term)) opened) (atom (plain_lexeme lexeme.now))) }
 {
     match atom(lexeme) {
-        Ok(Some(term)) => Ok(goes(Place::BehindOperand(loose, tight, Operand::Fits(term)))),
+        Ok(Some(term)) => Ok(goes(Position::BehindOperand(loose, tight, Operand::Fits(term)))),
         Ok(None) => {
             forget(loose, tight);
             Ok(Next::Fails)
@@ -105,12 +105,12 @@ fn at_operand_sign(
 {
     match symbol {
         Symbol::Minus => minus(loose, tight),
-        Symbol::LeftParenthesis => Ok(opens(Bracket::Group, loose, tight, at(Place::Start))),
+        Symbol::LeftParenthesis => Ok(opens(Bracket::Group, loose, tight, at(Position::Start))),
         Symbol::LeftBracket => Ok(opens(
             Bracket::Items(Vec::new(alloc)),
             loose,
             tight,
-            at(Place::Start),
+            at(Position::Start),
         )),
         _ => {
             forget(loose, tight);
@@ -123,7 +123,7 @@ fn minus(loose: Loose, tight: Tight) -> Result<Next, AllocError>
     ensures { IfOk result (λ next. (opened : List OpenBracket) → applied next opened ≡ reading (AtOperand loose (record tight { minuses = suc tight.minuses })) opened) }
 {
     match behind_minus(tight) {
-        Ok(tight) => Ok(goes(Place::AtOperand(loose, tight))),
+        Ok(tight) => Ok(goes(Position::AtOperand(loose, tight))),
         Err(refused) => {
             forget_loose(loose);
             Err(refused)
@@ -145,7 +145,7 @@ fn denial(loose: Loose) -> Result<Next, AllocError>
     ensures { IfOk result (λ next. (opened : List OpenBracket) → applied next opened ≡ reading (AtNot (record loose { nots = suc loose.nots })) opened) }
 {
     let loose = behind_not(loose)?;
-    Ok(goes(Place::AtNot(loose)))
+    Ok(goes(Position::AtNot(loose)))
 }
 
 // ---- behind an operand
@@ -211,7 +211,7 @@ fn infixed(
     ensures { IfOk result (λ next. (opened : List OpenBracket) → applied next opened ≡ option_and_then (λ pending. reading (AtOperand loose pending) opened) (behind_infix tight (plain_operand operand) (plain_infix operator))) }
 {
     match behind_infix(alloc, tight, operand, operator) {
-        Ok(Some(pending)) => Ok(goes(Place::AtOperand(loose, pending))),
+        Ok(Some(pending)) => Ok(goes(Position::AtOperand(loose, pending))),
         Ok(None) => {
             forget_loose(loose);
             Ok(Next::Fails)
@@ -248,7 +248,7 @@ fn at_symbol(
     ensures { IfOk result (λ next. (opened : List OpenBracket) → applied next opened ≡ at_symbol loose tight (plain_operand operand) opened symbol) }
 {
     match symbol {
-        Symbol::LeftBracket => Ok(opens(Bracket::Item(operand), loose, tight, at(Place::Start))),
+        Symbol::LeftBracket => Ok(opens(Bracket::Item(operand), loose, tight, at(Position::Start))),
         _ => infixed_by(alloc, loose, tight, operand, symbol),
     }
 }
@@ -296,7 +296,7 @@ fn disjunction(
     ensures { IfOk result (λ next. (opened : List OpenBracket) → applied next opened ≡ reading (AtNot (behind_or loose tight (plain_operand operand))) opened) }
 {
     let loose = behind_or(alloc, loose, tight, operand)?;
-    Ok(goes(Place::AtNot(loose)))
+    Ok(goes(Position::AtNot(loose)))
 }
 
 fn conjunction(
@@ -308,7 +308,7 @@ fn conjunction(
     ensures { IfOk result (λ next. (opened : List OpenBracket) → applied next opened ≡ reading (AtNot (behind_and loose tight (plain_operand operand))) opened) }
 {
     let loose = behind_and(alloc, loose, tight, operand)?;
-    Ok(goes(Place::AtNot(loose)))
+    Ok(goes(Position::AtNot(loose)))
 }
 
 /// What may stand as the first argument of a call: a bare name in `error(KIND, t)`.
@@ -316,9 +316,9 @@ fn first_argument(name: &str) -> Progress
     ensures { result ≡ first_argument name.now }
 {
     if name == "error" {
-        at(Place::AtKind)
+        at(Position::AtKind)
     } else {
-        at(Place::Start)
+        at(Position::Start)
     }
 }
 
@@ -355,7 +355,7 @@ fn at_kind(lexeme: &Lexeme) -> Result<Next, AllocError>
     match lexeme {
         Lexeme::Named(kind) => {
             let kind = kind.clone()?;
-            Ok(goes(Place::BehindKind(kind)))
+            Ok(goes(Position::BehindKind(kind)))
         }
         _ => Ok(Next::Fails),
     }
@@ -367,15 +367,15 @@ fn fed_within(alloc: Global, progress: Progress, lexeme: &Lexeme) -> Result<Next
     ensures { IfOk result (λ next. (opened : List OpenBracket) → applied next opened ≡ fed_within progress opened (plain_lexeme lexeme.now)) }
 {
     match progress.place() {
-        Place::Start => at_not(alloc, no_loose(), lexeme),
-        Place::AtNot(loose) => at_not(alloc, loose, lexeme),
-        Place::AtOperand(loose, tight) => at_operand(alloc, loose, tight, lexeme),
-        Place::BehindName(loose, tight, name) => behind_name(alloc, loose, tight, name, lexeme),
-        Place::BehindOperand(loose, tight, operand) => behind_operand(
+        Position::Start => at_not(alloc, no_loose(), lexeme),
+        Position::AtNot(loose) => at_not(alloc, loose, lexeme),
+        Position::AtOperand(loose, tight) => at_operand(alloc, loose, tight, lexeme),
+        Position::BehindName(loose, tight, name) => behind_name(alloc, loose, tight, name, lexeme),
+        Position::BehindOperand(loose, tight, operand) => behind_operand(
             alloc, loose, tight, operand, lexeme,
         ),
-        Place::AtKind => at_kind(lexeme),
-        Place::BehindKind(_kind) => Ok(Next::Fails),
+        Position::AtKind => at_kind(lexeme),
+        Position::BehindKind(_kind) => Ok(Next::Fails),
     }
 }
 

@@ -8,7 +8,7 @@ ghost use Rattle.script_term.specs.Operand.{plain_operand};
 
 use crate::ends::ended;
 use crate::feeding::fed;
-use crate::reader::{Open, Place, Progress, at};
+use crate::reader::{Open, Position, Progress, at};
 use script_term::{Lexeme, Operand};
 use std::alloc::{AllocError, Global};
 
@@ -17,7 +17,7 @@ use std::alloc::{AllocError, Global};
 pub fn read_term(alloc: Global, lexemes: &[Lexeme]) -> Result<Option<Operand>, AllocError>
     ensures { IfOk result (λ read. option_map plain_operand read ≡ option_map capped (term_of (map plain_lexeme lexemes.now))) }
 {
-    let mut progress = at(Place::Start);
+    let mut progress = at(Position::Start);
     let mut opened = Vec::new(alloc);
     for lexeme in lexemes {
         match fed(alloc, progress, &mut opened, lexeme)? {

@@ -45,11 +45,11 @@ impl Model for Open {
 
 /// How far the expression has come that is read in the innermost bracket.
 pub struct Progress {
-    pub place: Place,
+    pub place: Position,
 }
 
 #[derive(Drop)]
-pub enum Place {
+pub enum Position {
     /// Nothing stands behind the bracket.
     Start,
     /// Behind a comma, `or`, `and` or `not`: an operand or `not` may stand.
@@ -90,14 +90,14 @@ pub enum Next {
 }
 
 /// How far an expression has come.
-pub fn at(place: Place) -> Progress
+pub fn at(place: Position) -> Progress
     ensures { result ≡ plain_progress place }
 {
     Progress { place }
 }
 
 /// The expression goes on.
-pub fn goes(place: Place) -> Next
+pub fn goes(place: Position) -> Next
     ensures { (opened : List OpenBracket) → applied result opened ≡ reading (plain_progress place) opened }
 {
     Next::Goes(at(place))
@@ -139,16 +139,16 @@ impl Drop for Progress {
     fn drop(self) {
         let Progress { place } = self;
         match place {
-            Place::Start => {}
-            Place::AtNot(loose) => forget_loose(loose),
-            Place::AtOperand(loose, tight) => forget(loose, tight),
-            Place::BehindName(loose, tight, _name) => forget(loose, tight),
-            Place::BehindOperand(loose, tight, operand) => {
+            Position::Start => {}
+            Position::AtNot(loose) => forget_loose(loose),
+            Position::AtOperand(loose, tight) => forget(loose, tight),
+            Position::BehindName(loose, tight, _name) => forget(loose, tight),
+            Position::BehindOperand(loose, tight, operand) => {
                 forget_operand(operand);
                 forget(loose, tight);
             }
-            Place::AtKind => {}
-            Place::BehindKind(_kind) => {}
+            Position::AtKind => {}
+            Position::BehindKind(_kind) => {}
         }
     }
 }
@@ -167,7 +167,7 @@ impl Open {
 }
 
 impl Progress {
-    pub fn place(self) -> Place
+    pub fn place(self) -> Position
         ensures { self ≡ plain_progress result }
     {
         let Progress { place } = self;

@@ -1,7 +1,8 @@
 //! The lines of a file of rows.
 
 /// What a line says.
-pub enum Line<'a> {
+#[derive(Clone, Copy)]
+pub enum RowLine<'a> {
     /// `row NAME`: a row begins.
     Row(&'a str),
     /// `word WORD`: the program's next word.
@@ -21,24 +22,24 @@ pub enum Line<'a> {
 }
 
 /// What a line of a file of rows says.
-pub fn line_of(bytes: &[u8]) -> Line<'_> {
+pub fn line_of(bytes: &[u8]) -> RowLine<'_> {
     match bytes {
-        [b'|', text @ ..] => Line::Text(text),
-        [b':', text @ ..] => Line::End(text),
+        [b'|', text @ ..] => RowLine::Text(text),
+        [b':', text @ ..] => RowLine::End(text),
         _ => match str::from_utf8(bytes) {
             Ok(words) => head_of(words),
-            Err(_) => Line::Comment,
+            Err(_) => RowLine::Comment,
         },
     }
 }
 
-fn head_of(words: &str) -> Line<'_> {
+fn head_of(words: &str) -> RowLine<'_> {
     match words.split_once(' ') {
-        Some(("row", name)) => Line::Row(name),
-        Some(("word", word)) => Line::Word(word),
-        Some(("file", name)) => Line::File(name),
-        Some(("status", number)) => Line::Status(number),
-        _ if words == "written" => Line::Written,
-        _ => Line::Comment,
+        Some(("row", name)) => RowLine::Row(name),
+        Some(("word", word)) => RowLine::Word(word),
+        Some(("file", name)) => RowLine::File(name),
+        Some(("status", number)) => RowLine::Status(number),
+        _ if words == "written" => RowLine::Written,
+        _ => RowLine::Comment,
     }
 }

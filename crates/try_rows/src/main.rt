@@ -5,28 +5,29 @@
 mod dead_wire;
 mod line;
 mod row;
+mod stopped;
 mod tally;
 
-use aio_base::Memory;
 use aio_text::next_line;
-use line::{Line, line_of};
+use line::{RowLine, line_of};
 use row::Row;
 use std::alloc::Global;
 use std::process::ExitCode;
 use std::rt::{Env, Files};
-use std::{env, fs, io};
+use std::{env, fs};
+use stopped::Stopped;
 use tally::Tally;
 
 fn main(rt: HostRuntime) -> ExitCode {
     match run_files(&rt, rt.alloc()) {
         Ok(tally) if tally.differ == 0 => ExitCode::SUCCESS,
         Ok(_) => ExitCode::FAILURE,
-        Err(_) => ExitCode::from(2),
+        Err(Stopped) => ExitCode::from(2),
     }
 }
 
 /// Runs the rows of each file that the words name, and prints what came of them.
-fn run_files<R: Env + Files + Print + AllocGlobal>(rt: &R, alloc: Global) -> io::Result<Tally> {
+fn run_files<R: Env + Files + Print + AllocGlobal>(rt: &R, alloc: Global) -> Result<Tally, Stopped> {
     let mut tally = Tally::new();
     for path in env::args(rt)?.skip(1) {
         let text = fs::read(rt, path.as_str())?;
@@ -42,7 +43,7 @@ fn run_rows<R: Print>(
     alloc: Global,
     text: &[u8],
     tally: &mut Tally,
-) -> io::Result<()> {
+) -> Result<(), Stopped> {
     let mut row: Option<Row> = None;
     let mut rest = text;
     for _ in 0..u64::MAX {
@@ -51,7 +52,7 @@ fn run_rows<R: Print>(
         };
         rest = more;
         match (line_of(bytes), &mut row) {
-            (Line::Row(name), _) => {
+            (RowLine::Row(name), _) => {
                 if let Some(whole) = row.replace(Row::new(alloc, name)?) {
                     tally.run(rt, alloc, whole)?;
                 }

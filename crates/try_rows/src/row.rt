@@ -1,13 +1,14 @@
 //! A row: words, files, and what must come of them.
 use crate::dead_wire::DeadWire;
-use crate::line::Line;
+use crate::line::RowLine;
 use aio_base::Memory;
 use aio_run::aio_main;
 use aio_wire::{MemShelf, MemSink, Shelf};
-use std::alloc::{AllocError, Global};
+use std::alloc::Global;
 
 /// Which text a line adds to.
-enum Place {
+#[derive(Clone, Copy)]
+enum Into {
     Nowhere,
     File,
     Written,
@@ -20,13 +21,14 @@ pub struct Row {
     words: Vec<String>,
     shelf: MemShelf,
     file: String,
-    place: Place,
+    into: Into,
     written: Vec<u8>,
     status: Vec<u8>,
 }
 
 /// What came of a row.
-pub enum Outcome {
+#[derive(Clone, Copy)]
+pub enum Verdict {
     Right,
     /// It ended with this status.
     OtherStatus(u8),
@@ -36,57 +38,63 @@ pub enum Outcome {
 
 impl Row {
     /// A row without words, files or text, which must end with status 0.
-    pub fn new(alloc: Global, name: &str) -> Result<Row, AllocError> {
+    pub fn new(alloc: Global, name: &str) -> Result<Row, Memory> {
         Ok(Row {
             name: String::from_str(alloc, name)?,
             words: Vec::new(alloc),
             shelf: MemShelf::new(alloc),
             file: String::new(alloc),
-            place: Place::Nowhere,
+            into: Into::Nowhere,
             written: Vec::new(alloc),
             status: Vec::new(alloc),
         })
     }
 
     /// Takes a line of the row.
-    pub fn add(&mut self, alloc: Global, line: &Line<'_>) -> Result<(), AllocError> {
+    pub fn add(&mut self, alloc: Global, line: &RowLine<'_>) -> Result<(), Memory> {
         match line {
-            Line::Word(word) => self.words.push(String::from_str(alloc, word)?),
-            Line::Status(number) => {
+            RowLine::Word(word) => {
+                self.words.push(String::from_str(alloc, word)?)?;
+                Ok(())
+            }
+            RowLine::Status(number) => {
                 self.status = Vec::from_slice(alloc, number.as_bytes())?;
                 Ok(())
             }
-            Line::File(name) => {
+            RowLine::File(name) => {
                 self.file = String::from_str(alloc, name)?;
-                self.place = Place::File;
+                self.into = Into::File;
                 self.add_text(alloc, b"")
             }
-            Line::Written => {
-                self.place = Place::Written;
+            RowLine::Written => {
+                self.into = Into::Written;
                 Ok(())
             }
-            Line::Text(text) => {
+            RowLine::Text(text) => {
                 self.add_text(alloc, text)?;
                 self.add_text(alloc, b"\n")
             }
-            Line::End(text) => self.add_text(alloc, text),
-            Line::Row(_) | Line::Comment => Ok(()),
+            RowLine::End(text) => self.add_text(alloc, text),
+            RowLine::Row(_) | RowLine::Comment => Ok(()),
         }
     }
 
-    fn add_text(&mut self, alloc: Global, text: &[u8]) -> Result<(), AllocError> {
-        match self.place {
-            Place::Nowhere => Ok(()),
-            Place::Written => self.written.extend_from_slice(text),
-            Place::File => match self.shelf.append(alloc, self.file.as_str(), text) {
-                Ok(_) => Ok(()),
-                Err(Memory) => Err(AllocError),
-            },
+    fn add_text(&mut self, alloc: Global, text: &[u8]) -> Result<(), Memory> {
+        match self.into {
+            Into::Nowhere => Ok(()),
+            Into::Written => {
+                self.written.extend_from_slice(text)?;
+                Ok(())
+            }
+            Into::File => {
+                self.shelf.append(alloc, self.file.as_str(), text)?;
+                Ok(())
+            }
         }
     }
 
     /// Runs the program over the row's words and files.
-    pub fn run(&mut self, alloc: Global) -> Outcome {
+    pub fn run(&mut self, alloc: Global) -> Verdict {
         let mut out = MemSink::new(alloc);
         let status = aio_main(
             alloc,
@@ -96,11 +104,11 @@ impl Row {
             &mut out,
         );
         if aio_text::number(&self.status) != Some(u64::from(status)) {
-            return Outcome::OtherStatus(status);
+            return Verdict::OtherStatus(status);
         }
         match first_difference(out.taken(), &self.written) {
-            Some(at) => Outcome::OtherText(at),
-            None => Outcome::Right,
+            Some(at) => Verdict::OtherText(at),
+            None => Verdict::Right,
         }
     }
 }

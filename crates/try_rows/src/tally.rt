@@ -1,7 +1,7 @@
 //! How many rows there were, and how many came out otherwise.
-use crate::row::{Outcome, Row};
+use crate::row::{Verdict, Row};
+use crate::stopped::Stopped;
 use std::alloc::Global;
-use std::io;
 
 #[derive(Clone, Copy)]
 pub struct Tally {
@@ -15,12 +15,12 @@ impl Tally {
     }
 
     /// Runs a row, counts it, and prints a line where it came out otherwise.
-    pub fn run<R: Print>(&mut self, rt: &R, alloc: Global, mut row: Row) -> io::Result<()> {
+    pub fn run<R: Print>(&mut self, rt: &R, alloc: Global, mut row: Row) -> Result<(), Stopped> {
         self.rows = self.rows.saturating_add(1);
         match row.run(alloc) {
-            Outcome::Right => return Ok(()),
-            Outcome::OtherStatus(status) => println!(rt; "{}: ended with status {status}", row.name)?,
-            Outcome::OtherText(at) => println!(rt; "{}: wrote something else from byte {at} on", row.name)?,
+            Verdict::Right => return Ok(()),
+            Verdict::OtherStatus(status) => println!(rt; "{}: ended with status {status}", row.name)?,
+            Verdict::OtherText(at) => println!(rt; "{}: wrote something else from byte {at} on", row.name)?,
         }
         self.differ = self.differ.saturating_add(1);
         Ok(())
