@@ -5,7 +5,9 @@ use Rattle.std.specs.List.{list_any}
 use Rattle.std.specs.Option.{option_map_or, option_to_list}
 use Rattle.std.proofs.lemmas.Bool.{cases_eq, eqb-true, eq-eqb, or_cases}
 use Rattle.model_value.specs.declared.outcome.Outcome.TheVariants.{Cancelled}
-use Rattle.model_value.specs.Action.{Action, Circle, Itself, ItsWaiter, StepInCircle, Wakeup}
+use Rattle.model_value.specs.Action.{Action, Circle}
+use Rattle.model_value.specs.declared.action.Action.TheVariants.{StepInCircle, Wakeup}
+use Rattle.model_value.specs.declared.action.Circle.TheVariants.{Itself, ItsWaiter}
 use Rattle.model_value.specs.Value.{Outcome}
 use Rattle.model_loop.specs.Parts.{FutureKind, Plain, OfTask, Many, Future, Task, Parts}
 use Rattle.model_loop.specs.Handles.{soon}

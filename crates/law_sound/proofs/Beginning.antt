@@ -3,7 +3,7 @@ use Rattle.std.proofs.Common.{◌≡◌, ◌≢◌, ℕ, zero, suc, ◌+◌, ◌
 use Rattle.std.proofs.lemmas.Bool.{ne_eqb}
 use Rattle.std.proofs.lemmas.List.Elements.{All-nil}
 use Rattle.std.proofs.lemmas.Option.{same_Some}
-use Rattle.model_value.specs.Action.{MainDone}
+use Rattle.model_value.specs.declared.action.Action.TheVariants.{MainDone}
 use Rattle.model_loop.specs.Parts.{OfTask, Future, Task}
 use Rattle.model_loop.specs.Futures.{is_pending}
 use Rattle.model_loop.specs.Tasks.{cancelling, lives, waiter_of}
@@ -126,6 +126,7 @@ first_sound = record {
   timeouts = λ id. record { at_most_one = omega arith; tagged = λ tag h. absurd (omega arith) };
   groups = λ id. record {
     children_done = λ task e h. absurd (cc);
+    none_left = λ e. absurd (cc);
     errors_at_end = λ e. absurd (cc);
     errors_before = λ e. refl;
     made_once = λ task. omega arith;

@@ -1,8 +1,9 @@
 -- A group ends after its children. Once its exit has ended, all tasks that were made in it are done, and its errors are the
 -- exceptions of those that failed, each once, in the order in which the group was told, and last the body's.
-use Rattle.std.specs.Prelude.{◌≡◌, ℕ, ◌+◌, ◌≤◌, Bool, true, false, not, ◌&&◌, ◌==◌, List, ◌++◌}
+use Rattle.std.specs.Prelude.{◌≡◌, ℕ, ◌+◌, ◌≤◌, Bool, true, false, not, ◌&&◌, ◌==◌, List, [], ◌++◌}
 use Rattle.std.specs.List.{count_by, filter_map, sum_by}
-use Rattle.model_value.specs.Action.{Action, GroupDone}
+use Rattle.model_value.specs.Action.{Action}
+use Rattle.model_value.specs.declared.action.Action.TheVariants.{GroupDone}
 use Rattle.model_value.specs.Value.{Exc}
 use Rattle.model_loop.specs.Parts.{Handle, Future, Parts}
 use Rattle.model_loop.specs.Loop.{Group}
@@ -29,6 +30,8 @@ tellings p group task =
 -- Group `id`, which was told of the tasks `told`, in this order, that they are done.
 pub record EndsAfterChildren (p : Parts) (id : ℕ) (told : List ℕ) (group : Group) : Type 0 where
   pub children_done : (task : ℕ) → group.ended ≡ true → 1 ≤ occurrences task group.made → lives p task ≡ false
+  -- and none is left of which it would be told
+  pub none_left : group.ended ≡ true → group.children ≡ []
   pub errors_at_end : group.ended ≡ true → group.errors ≡ failures p told ++ body_failure group.body
   pub errors_before : group.ended ≡ false → group.errors ≡ failures p told
   -- each task was made in it once; it is a child, or the group was told of it, and then it is done

@@ -2,7 +2,8 @@
 -- state it has none.
 use Rattle.std.specs.Prelude.{◌≡◌, ℕ, ◌+◌, ◌≤◌, ◌<◌, Bool, false, not, ◌&&◌, ◌==◌, Some}
 use Rattle.std.specs.List.{count_by}
-use Rattle.model_value.specs.Action.{Action, Fires}
+use Rattle.model_value.specs.Action.{Action}
+use Rattle.model_value.specs.declared.action.Action.TheVariants.{Fires}
 use Rattle.model_loop.specs.Parts.{Handle, Timer, Parts}
 use Rattle.model_loop.specs.Loop.{Timeout}
 use Rattle.model_loop.specs.Timeouts.{is_active}

@@ -2,7 +2,8 @@
 -- registered on what it waits for; while it is running it has neither. A task that is done has none either.
 use Rattle.std.specs.Prelude.{◌≡◌, ℕ, ◌+◌, ◌<◌, Bool, true, false, not, ◌&&◌, ◌==◌, List, [], Option, Some, None, slice_get}
 use Rattle.std.specs.List.{count_by, sum_by}
-use Rattle.model_value.specs.Action.{Action, Step, StepInCircle, Wakeup, SleepDone, GroupDone, Fires, MainDone}
+use Rattle.model_value.specs.Action.{Action}
+use Rattle.model_value.specs.declared.action.Action.TheVariants.{Step, StepInCircle, Wakeup}
 use Rattle.model_loop.specs.Parts.{Handle, Timer, Future, Parts}
 use Rattle.model_loop.specs.Futures.{is_pending}
 use Rattle.model_loop.specs.Tasks.{lives, waiter_of}
@@ -12,10 +13,7 @@ abbrev pub steps : ℕ → Action → Bool
 steps task (Step other) = other == task
 steps task (StepInCircle other circle) = other == task
 steps task (Wakeup other) = other == task
-steps task (SleepDone other future) = false
-steps task (GroupDone group other) = false
-steps task (Fires timeout) = false
-steps task MainDone = false
+steps task _ = false
 
 -- how many of these pending handles step the task; a dead one does nothing
 abbrev pub steps_among : ℕ → List Handle → ℕ
