@@ -8,10 +8,10 @@ ghost use Rattle.aio_script.specs.Fault.{IsFaultOf};
 
 use crate::fault::{ScriptFault, cause_number};
 use crate::lines::line_count;
-use script_form::first_pass;
-use script_naming::{profile_of, second_pass};
 use aio_program::{Coroutine, NamedPart, Program, body_of};
 use model_text::Cause;
+use script_form::first_pass;
+use script_naming::{profile_of, second_pass};
 use script_term::NumberedForm;
 use std::alloc::{AllocError, Global};
 

@@ -4,7 +4,7 @@
 mod constant;
 mod expr;
 
-pub use model_tree::{Comparison, Function, Operator, RequestName};
-pub use model_value::Kind;
 pub use constant::Constant;
 pub use expr::{Expr, ExprCase, ExprList};
+pub use model_tree::{Comparison, Function, Operator, RequestName};
+pub use model_value::Kind;

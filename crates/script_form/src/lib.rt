@@ -15,7 +15,7 @@ mod terms;
 mod tests;
 mod text;
 
-pub use model_text::Cause;
-pub use script_term::{Arguments, Goal, NumberedForm, Operand, Spelled, Term};
 pub use fault::FormFault;
+pub use model_text::Cause;
 pub use pass::first_pass;
+pub use script_term::{Arguments, Goal, NumberedForm, Operand, Spelled, Term};

@@ -17,10 +17,10 @@ use crate::meaning::{all_meant, meaning_of};
 use crate::scope::Scope;
 use crate::target::target_of;
 use aio_program::Line;
-use model_text::Cause;
-use script_term::{Goal, Spelled, Term};
 use aio_syntax::{Expr, ExprList};
+use model_text::Cause;
 use model_value::Kind;
+use script_term::{Goal, Spelled, Term};
 use std::alloc::{AllocError, Global};
 use std::rc::RcStr;
 

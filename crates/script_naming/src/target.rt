@@ -15,10 +15,10 @@ use crate::known::{request_arity, request_of};
 use crate::meaning::{all_meant, one_argument};
 use crate::scope::Scope;
 use aio_program::Target;
+use aio_syntax::ExprList;
 use model_text::Cause;
 use model_tree::RequestName;
 use script_term::{Arguments, Goal, Term};
-use aio_syntax::ExprList;
 use std::alloc::Global;
 use std::rc::RcStr;
 

@@ -1,10 +1,10 @@
 // Scripts by the forms of their lines, and what the second pass tells of them, all worked out by hand from the rules.
 use crate::known::{function_of, is_taken, kind_of_name, request_arity, request_of};
 use crate::{profile_of, second_pass};
-use model_tree::{Function, RequestName};
-use script_term::{Arguments, Goal, NumberedForm, Spelled, Term, TermList};
 use aio_syntax::Constant;
+use model_tree::{Function, RequestName};
 use model_value::Kind;
+use script_term::{Arguments, Goal, NumberedForm, Spelled, Term, TermList};
 use std::alloc::{AllocError, Global};
 use std::rc::RcStr;
 use std::test::Fail;

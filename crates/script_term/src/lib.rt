@@ -7,10 +7,10 @@ mod spelled;
 mod term;
 
 pub use aio_lex::Symbol;
-pub use model_text::ReservedWord;
-pub use model_tree::{Comparison, Operator};
 pub use aio_syntax::Constant;
 pub use lexeme::{Lexeme, lexemes};
+pub use model_text::ReservedWord;
+pub use model_tree::{Comparison, Operator};
 pub use operand::{Join, Operand, all_that_fit, capped, denied, joined, negated};
 pub use spelled::{Arguments, Goal, NumberedForm, Spelled};
 pub use term::{Term, TermCase, TermList};

@@ -5,8 +5,8 @@ ghost use Rattle.model_text.specs.Terms.{Or, And, Not, Compare, Calculate, Negat
 ghost use Rattle.aio_syntax.specs.Constant.{constant_of};
 ghost use Rattle.script_term.specs.TermCase.{term_of_case};
 
-use model_tree::{Comparison, Operator};
 use aio_syntax::Constant;
+use model_tree::{Comparison, Operator};
 use std::marker::Model;
 use std::rc::RcStr;
 

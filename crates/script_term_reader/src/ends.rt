@@ -131,7 +131,11 @@ fn parted_arguments(
             alloc, name, bare, arguments, loose, tight, argument,
         ),
         Position::AtKind => Ok(None),
-        Position::BehindKind(kind) => Ok(Some(Bracket::Arguments(name, Some(kind), Vec::new(alloc)))),
+        Position::BehindKind(kind) => Ok(Some(Bracket::Arguments(
+            name,
+            Some(kind),
+            Vec::new(alloc),
+        ))),
     }
 }
 

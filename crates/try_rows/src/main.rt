@@ -27,7 +27,10 @@ fn main(rt: HostRuntime) -> ExitCode {
 }
 
 /// Runs the rows of each file that the words name, and prints what came of them.
-fn run_files<R: Env + Files + Print + AllocGlobal>(rt: &R, alloc: Global) -> Result<Tally, Stopped> {
+fn run_files<R: Env + Files + Print + AllocGlobal>(
+    rt: &R,
+    alloc: Global,
+) -> Result<Tally, Stopped> {
     let mut tally = Tally::new();
     for path in env::args(rt)?.skip(1) {
         let text = fs::read(rt, path.as_str())?;

@@ -1,5 +1,5 @@
 //! How many rows there were, and how many came out otherwise.
-use crate::row::{Verdict, Row};
+use crate::row::{Row, Verdict};
 use crate::stopped::Stopped;
 use std::alloc::Global;
 
@@ -19,8 +19,14 @@ impl Tally {
         self.rows = self.rows.saturating_add(1);
         match row.run(alloc) {
             Verdict::Right => return Ok(()),
-            Verdict::OtherStatus(status) => println!(rt; "{}: ended with status {status}", row.name)?,
-            Verdict::OtherText(at) => println!(rt; "{}: wrote something else from byte {at} on", row.name)?,
+            Verdict::OtherStatus(status) => println!(rt;
+                "{}: ended with status {status}",
+                row.name
+            )?,
+            Verdict::OtherText(at) => println!(rt;
+                "{}: wrote something else from byte {at} on",
+                row.name
+            )?,
         }
         self.differ = self.differ.saturating_add(1);
         Ok(())
