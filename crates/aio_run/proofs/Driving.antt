@@ -4,16 +4,16 @@ use Rattle.std.proofs.lemmas.Bool.{false≢true}
 use Rattle.std.proofs.lemmas.Bool.Decides.{nat_tests}
 use Rattle.model_value.specs.Value.{Nothing}
 use Rattle.model_value.specs.declared.outcome.Outcome.TheVariants.{Value as Returned}
-use Rattle.model_says.specs.Straight.{Line}
+use Rattle.model_straight.specs.Straight.{Line}
 use Rattle.model_wire.specs.Call.{Call, Answer}
 use Rattle.model_wire.specs.Journal.{Entry, Answered, Refused}
 use Rattle.model_wire.specs.Told.{Agrees, grown, Rose}
-use Rattle.model_machine.specs.Program.{turn_limit}
-use Rattle.model_machine.specs.State.{State, Event, Called, start}
-use Rattle.model_machine.specs.Turn.{turn, call_of}
-use Rattle.model_machine.specs.Run.{Run, Ending, Over, Bad, Finished, Turns, run, run_on, stops, ends_at_call}
-use Rattle.model_machine.specs.Transcript.{line, lines_of_events, ending_text, transcript, status_of}
-use Rattle.law_machine.proofs.Grows.{run_on-grows}
+use Rattle.model_straight.specs.Program.{turn_limit}
+use Rattle.model_straight.specs.State.{State, Event, Called, start}
+use Rattle.model_straight.specs.Turn.{turn, call_of}
+use Rattle.model_straight.specs.Run.{Run, Ending, Over, Bad, Finished, Turns, run, run_on, stops, ends_at_call}
+use Rattle.model_straight.specs.Transcript.{line, lines_of_events, ending_text, transcript, status_of}
+use Rattle.law_straight.proofs.Grows.{run_on-grows}
 use Rattle.aio_straight.specs.Lines.{plain_program}
 use Rattle.aio_run.specs.Drive.{Ran, RanInPart, RanSoFar, Stopped, StopsInTurn, TurnWritten, TurnWrittenInPart}
 use Rattle.aio_run.specs.Kernel.{History, Fits, FitsIn, state_of, state_in, starting, is_over, waiting}

@@ -1,9 +1,9 @@
 -- The lines of a program from one on.
 use Rattle.std.proofs.Common.{◌≡◌, ℕ, suc, ◌+◌, ◌<◌, ◌≤◌, List, [], ◌∷◌, ◌++◌, Some, None, length, get_or, drop, refl, ap, ◌∙◌, sym, append_assoc, append-nil, add-one, drop-cons}
 use Rattle.std.proofs.lemmas.List.{drop-map, drop_all}
-use Rattle.model_says.specs.Straight as plain
-use Rattle.model_says.specs.Straight.{Pass, Print, Sleep}
-use Rattle.model_machine.specs.State.{Event}
+use Rattle.model_straight.specs.Straight as plain
+use Rattle.model_straight.specs.Straight.{Pass, Print, Sleep}
+use Rattle.model_straight.specs.State.{Event}
 use Rattle.aio_straight.specs.Lines.{plain_line, plain_lines}
 use Rattle.aio_straight.specs.declared.line.Line.{Line}
 use Rattle.aio_run.specs.Stepping.{Sleeps, delay_of, said_by, saying, stop_of}

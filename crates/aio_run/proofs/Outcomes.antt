@@ -7,13 +7,13 @@ use Rattle.model_text.specs.Canonical.{canonical}
 use Rattle.model_text.specs.Causes.{cause_number}
 use Rattle.model_text.specs.Scripts.{script_of}
 use Rattle.model_text.specs.SecondPass.{Judged}
-use Rattle.model_says.specs.Straight.{Line}
+use Rattle.model_straight.specs.Straight.{Line}
 use Rattle.model_wire.specs.Journal.{Entry, entries_of}
 use Rattle.model_wire.specs.Told.{Agrees, grown, Rose}
-use Rattle.model_machine.specs.StraightScripts.{straight_of}
-use Rattle.model_machine.specs.Program.{Output, output_of, faulted, script_refused, turn_limit, FileSays, JournalSays, JournalBegins, MayRun, MayRunIf, MayRunScript, MayReplay, MayCheck, checked}
-use Rattle.model_machine.specs.Run.{run}
-use Rattle.model_machine.specs.Transcript.{line, lines_of_events}
+use Rattle.model_straight.specs.StraightScripts.{straight_of}
+use Rattle.model_straight.specs.Program.{Output, output_of, faulted, script_refused, turn_limit, FileSays, JournalSays, JournalBegins, MayRun, MayRunIf, MayRunScript, MayReplay, MayCheck, checked}
+use Rattle.model_straight.specs.Run.{run}
+use Rattle.model_straight.specs.Transcript.{line, lines_of_events}
 use Rattle.aio_run.specs.Drive.{Ran, RanInPart, RanSoFar, Stopped}
 use Rattle.aio_run.specs.JournalWire.{left_of}
 use Rattle.aio_run.specs.Outcome.{WritesWhole, TakesPart, EndsEarly}

@@ -4,10 +4,10 @@ use Rattle.std.proofs.lemmas.Grind.{flat_map-append}
 use Rattle.std.proofs.lemmas.List.{map-append, take_all, take_more}
 use Rattle.model_wire.specs.Call.{Answer}
 use Rattle.model_wire.specs.Told.{grown}
-use Rattle.model_machine.specs.State.{State, Event, Called, Got}
-use Rattle.model_machine.specs.Transcript.{line_of, lines_of_events}
-use Rattle.model_machine.specs.Turn.{turn, call_of}
-use Rattle.law_machine.proofs.Grows.{turn-grows}
+use Rattle.model_straight.specs.State.{State, Event, Called, Got}
+use Rattle.model_straight.specs.Transcript.{line_of, lines_of_events}
+use Rattle.model_straight.specs.Turn.{turn, call_of}
+use Rattle.law_straight.proofs.Grows.{turn-grows}
 use Rattle.aio_straight.specs.Lines.{plain_program}
 use Rattle.aio_straight.specs.declared.program.Program.{Program}
 use Rattle.aio_run.specs.Drive.{TurnWritten, TurnWrittenInPart, StopsInTurn}

@@ -2,20 +2,21 @@
 use Rattle.std.proofs.Common.{◌≡◌, ℕ, ◌+◌, ◌<◌, ◌≤◌, zero, suc, max, Bool, true, false, nat_le, nat_lt, List, [], ◌∷◌, ◌++◌, Option, Some, None, length, drop, cond, refl, ap, sym, subst, ◌∙◌, append_assoc, append-nil, length-drop, arith}
 use Rattle.std.proofs.lemmas.Bool.Decides.{nat_tests}
 use Rattle.std.proofs.Math.Seq.{set-append_seam}
-use Rattle.model_value.specs.Action.{Action, Step, Wakeup, SleepDone, MainDone}
+use Rattle.model_value.specs.Action.{Action}
+use Rattle.model_value.specs.declared.action.Action.TheVariants.{Step, Wakeup, SleepDone, MainDone}
 use Rattle.model_value.specs.Value.{Nothing}
 use Rattle.model_value.specs.declared.input.Input.TheVariants.{Send}
 use Rattle.model_value.specs.declared.outcome.Outcome.TheVariants.{Value as Returned}
-use Rattle.model_says.specs.Straight.{Line, Pass, Print, Sleep, Tape, Resumed, Saying, after, says, says_on}
+use Rattle.model_straight.specs.Straight.{Line, Pass, Print, Sleep, Tape, Resumed, Saying, after, says, says_on}
 use Rattle.model_wire.specs.Call.{Turn}
 use Rattle.model_loop.specs.Parts.{Parts, Future, Plain, Timer}
 use Rattle.model_loop.specs.Handles.{due, fall_due, by_deadline, later as schedule}
 use Rattle.model_loop.specs.Futures.{registered, settled, new_plain}
 use Rattle.model_loop.specs.Tasks.{set_waiter}
 use Rattle.model_loop.specs.Timeouts.{give_up}
-use Rattle.model_machine.specs.State.{State, Event, Called, Got, Ran, Said, with_handle, with_parts}
-use Rattle.model_machine.specs.Step.{deadline, step, step_limit, serve, served, end_task, put_to_sleep, shown_all}
-use Rattle.model_machine.specs.Turn.{turn, run_handles, run_pending, call_of}
+use Rattle.model_straight.specs.State.{State, Event, Called, Got, Ran, Said, with_handle, with_parts}
+use Rattle.model_straight.specs.Step.{deadline, step, step_limit, serve, served, end_task, put_to_sleep, shown_all}
+use Rattle.model_straight.specs.Turn.{turn, run_handles, run_pending, call_of}
 use Rattle.law_cancel.proofs.Lookups.{get-push_last}
 use Rattle.aio_run.specs.Events.{plain_events}
 use Rattle.aio_run.specs.Kernel.{History, ComesTo, FitsIn, TurnedIn, pending_main, pending_sleep, sleep_future, state_in}

@@ -1,13 +1,13 @@
 -- What driving a run leaves.
 use Rattle.std.specs.Prelude.{◌≡◌, ℕ, List, ◌++◌, Option}
-use Rattle.model_says.specs.Straight.{Line}
+use Rattle.model_straight.specs.Straight.{Line}
 use Rattle.model_wire.specs.Journal.{Entry}
 use Rattle.model_wire.specs.Told.{Agrees, grown, Rose}
 use Rattle.model_wire.specs.Call.{Answer}
-use Rattle.model_machine.specs.Program.{turn_limit}
-use Rattle.model_machine.specs.Run.{run}
-use Rattle.model_machine.specs.Transcript.{transcript, lines_of_events, status_of}
-use Rattle.model_machine.specs.Turn.{turn}
+use Rattle.model_straight.specs.Program.{turn_limit}
+use Rattle.model_straight.specs.Run.{run}
+use Rattle.model_straight.specs.Transcript.{transcript, lines_of_events, status_of}
+use Rattle.model_straight.specs.Turn.{turn}
 use Rattle.aio_run.specs.Kernel.{History, Fits, state_of}
 use Rattle.aio_run.specs.declared.kernel.Kernel.{Kernel}
 use Rattle.aio_run.specs.Writing.{TakesFront}

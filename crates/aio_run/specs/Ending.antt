@@ -1,8 +1,8 @@
 -- Code's endings as the definitions have them.
 use Rattle.model_value.specs.Value.{Nothing}
 use Rattle.model_value.specs.declared.outcome.Outcome.TheVariants.{Value as Returned}
-use Rattle.model_machine.specs.Program.{turn_limit}
-use Rattle.model_machine.specs.Run as plain
+use Rattle.model_straight.specs.Program.{turn_limit}
+use Rattle.model_straight.specs.Run as plain
 use Rattle.aio_wire.specs.Told.{call_of}
 use Rattle.aio_run.specs.declared.ending.Ending.{Ending}
 use Rattle.aio_run.specs.declared.ending.Ending.TheVariants.{Finished, Turns, Over, Bad}

@@ -1,7 +1,7 @@
 -- Code's events as the definitions have them. Code does not keep the number of a sleep's future, which the history has.
 use Rattle.std.specs.Prelude.{ℕ, List, map}
-use Rattle.model_value.specs.Action.{Step, Wakeup, SleepDone, MainDone}
-use Rattle.model_machine.specs.State as plain
+use Rattle.model_value.specs.declared.action.Action.TheVariants.{Step, Wakeup, SleepDone, MainDone}
+use Rattle.model_straight.specs.State as plain
 use Rattle.aio_run.specs.declared.event.Event.{Event}
 use Rattle.aio_run.specs.declared.event.Event.TheVariants.{RanStep, RanWakeup, RanSleepDone, RanMainDone, Said}
 

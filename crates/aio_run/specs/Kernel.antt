@@ -1,14 +1,15 @@
 -- How a kernel stands for a state of the machine. What it does not keep is the history: the tape, the sleeps that are
 -- over, the numbers of its handles and the events.
 use Rattle.std.specs.Prelude.{◌≡◌, ℕ, suc, ◌++◌, Bool, true, false, List, [], ◌∷◌, Option, Some, None, drop, length}
-use Rattle.model_value.specs.Action.{Action, Step, Wakeup, SleepDone, MainDone}
+use Rattle.model_value.specs.Action.{Action}
+use Rattle.model_value.specs.declared.action.Action.TheVariants.{Step, Wakeup, SleepDone, MainDone}
 use Rattle.model_value.specs.Value.{Nothing}
 use Rattle.model_value.specs.declared.outcome.Outcome.TheVariants.{Value as Returned}
-use Rattle.model_says.specs.Straight.{Line, Tape, Resumed, after, says, says_on}
+use Rattle.model_straight.specs.Straight.{Line, Tape, Resumed, after, says, says_on}
 use Rattle.model_wire.specs.Call.{Call, Answer}
 use Rattle.model_loop.specs.Parts.{Handle, Timer, Future, Plain, OfTask}
-use Rattle.model_machine.specs.State.{State, Event, Called, Got}
-use Rattle.model_machine.specs.Turn.{call_of, turn}
+use Rattle.model_straight.specs.State.{State, Event, Called, Got}
+use Rattle.model_straight.specs.Turn.{call_of, turn}
 use Rattle.aio_straight.specs.Lines.{plain_program}
 use Rattle.aio_run.specs.Events.{plain_events}
 use Rattle.aio_run.specs.declared.event.Event as code

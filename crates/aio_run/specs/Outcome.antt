@@ -1,7 +1,7 @@
 -- How the program ends, by what it may write.
 use Rattle.std.specs.Prelude.{◌≡◌, ℕ, List, Option, ◌⊎◌}
 use Rattle.model_wire.specs.Told.{grown, Rose}
-use Rattle.model_machine.specs.Program.{Output}
+use Rattle.model_straight.specs.Program.{Output}
 use Rattle.aio_run.specs.Writing.{TakesFront}
 use Rattle.aio_run.specs.declared.halt.Halt.{Halt}
 use Rattle.aio_run.specs.declared.halt.Halt.TheVariants.{Memory, Sink, Wire}

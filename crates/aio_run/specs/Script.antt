@@ -7,8 +7,8 @@ use Rattle.model_text.specs.Causes.{cause_number}
 use Rattle.model_text.specs.FirstPass.{fault_at}
 use Rattle.model_text.specs.Scripts.{script_of}
 use Rattle.model_wire.specs.Told.{Rose}
-use Rattle.model_machine.specs.Program.{Output, FileSays, faulted}
-use Rattle.model_machine.specs.Transcript.{line}
+use Rattle.model_straight.specs.Program.{Output, FileSays, faulted}
+use Rattle.model_straight.specs.Transcript.{line}
 use Rattle.aio_run.specs.declared.script.NoScript.{NoScript}
 use Rattle.aio_run.specs.declared.script.NoScript.TheVariants.{Refused, Failed, Memory}
 

@@ -1,9 +1,9 @@
 -- A step of main: what it says, and where it stops.
 use Rattle.std.specs.Prelude.{◌≡◌, ℕ, zero, suc, List, [], ◌∷◌, Option, Some, None, drop}
-use Rattle.model_says.specs.Straight as plain
-use Rattle.model_says.specs.Straight.{Pass, Print, Sleep}
-use Rattle.model_machine.specs.State.{Event, Said}
-use Rattle.model_machine.specs.Step.{deadline, shown_all}
+use Rattle.model_straight.specs.Straight as plain
+use Rattle.model_straight.specs.Straight.{Pass, Print, Sleep}
+use Rattle.model_straight.specs.State.{Event, Said}
+use Rattle.model_straight.specs.Step.{deadline, shown_all}
 use Rattle.aio_run.specs.declared.phase.Phase.{Phase}
 use Rattle.aio_run.specs.declared.phase.Phase.TheVariants.{Ready, Sleeping, Ended}
 use Rattle.aio_run.specs.declared.stepping.Stop as code

@@ -1,7 +1,7 @@
 //! Checking a script.
 ghost use Rattle.std.specs.Prelude.{◌≡◌, IfOk, IfErr};
 ghost use Rattle.model_wire.specs.Told.{Rose};
-ghost use Rattle.model_machine.specs.Program.{MayCheck};
+ghost use Rattle.model_straight.specs.Program.{MayCheck};
 ghost use Rattle.aio_run.specs.Outcome.{EndsEarly, WritesWhole};
 
 use crate::halt::Halt;

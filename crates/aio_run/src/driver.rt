@@ -2,7 +2,7 @@
 ghost use Rattle.std.specs.Prelude.{◌≡◌, ◌≤◌, IfOk, IfErr, OnOk};
 ghost use Rattle.model_wire.specs.Call.{Turn};
 ghost use Rattle.model_wire.specs.Told.{grown};
-ghost use Rattle.model_machine.specs.Transcript.{line, ending_text, status_of};
+ghost use Rattle.model_straight.specs.Transcript.{line, ending_text, status_of};
 ghost use Rattle.aio_wire.specs.Told.{answer_of};
 ghost use Rattle.aio_straight.specs.Lines.{plain_program};
 ghost use Rattle.aio_run.specs.Drive.{Ran, Stopped, StopsInTurn, TurnWritten};

@@ -1,7 +1,7 @@
 //! How a run ends.
 ghost use Rattle.std.specs.Prelude.{◌≡◌, IfOk, string_bytes};
-ghost use Rattle.model_machine.specs.Transcript.{line, ending_text, status_of};
-ghost use Rattle.model_machine.specs.Run.{Bad};
+ghost use Rattle.model_straight.specs.Transcript.{line, ending_text, status_of};
+ghost use Rattle.model_straight.specs.Run.{Bad};
 ghost use Rattle.aio_run.specs.Ending.{plain_ending};
 
 use aio_wire::{Call, JournalFault};

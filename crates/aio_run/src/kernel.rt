@@ -1,7 +1,7 @@
 //! The kernel of a straight program: main's task, step by step. It keeps no history.
 ghost use Rattle.std.specs.Prelude.{◌≡◌, ℕ, ◌++◌, IfOk, OnOk, drop};
 ghost use Rattle.model_wire.specs.Call.{Turn};
-ghost use Rattle.model_machine.specs.State.{start};
+ghost use Rattle.model_straight.specs.State.{start};
 ghost use Rattle.aio_wire.specs.Told.{call_of as plain_call};
 ghost use Rattle.aio_straight.specs.Lines.{plain_program};
 ghost use Rattle.aio_run.specs.Kernel.{state_of, starting, waiting, is_over, Turned};

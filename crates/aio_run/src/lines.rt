@@ -1,6 +1,6 @@
 //! The lines of a transcript.
 ghost use Rattle.std.specs.Prelude.{◌≡◌, ℕ, ◌++◌, IfOk, OnOk};
-ghost use Rattle.model_machine.specs.Transcript.{lines_of_events, line_of};
+ghost use Rattle.model_straight.specs.Transcript.{lines_of_events, line_of};
 ghost use Rattle.aio_run.specs.Events.{plain_events, plain_event};
 
 use crate::event::Event;

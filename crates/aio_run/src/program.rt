@@ -1,7 +1,7 @@
 //! What the program does for its words.
 ghost use Rattle.std.specs.Prelude.{◌≡◌, ◌≢◌, ◌≤◌, None, IfOk, IfErr, map, string_bytes};
 ghost use Rattle.model_wire.specs.Told.{Rose};
-ghost use Rattle.model_machine.specs.Program.{MayWrite};
+ghost use Rattle.model_straight.specs.Program.{MayWrite};
 ghost use Rattle.model_machine.specs.Words.{command_of as plain_command_of};
 ghost use Rattle.aio_run.specs.Outcome.{EndsEarly, WritesWhole, TakesPart, ShelfFailed};
 

@@ -1,8 +1,8 @@
 //! Replaying a script over a journal.
 ghost use Rattle.std.specs.Prelude.{◌≡◌, ◌≤◌, IfOk, IfErr};
 ghost use Rattle.model_wire.specs.Told.{Rose};
-ghost use Rattle.model_machine.specs.Program.{MayRun, MayRunIf, MayReplay};
-ghost use Rattle.model_machine.specs.StraightScripts.{straight_of};
+ghost use Rattle.model_straight.specs.Program.{MayRun, MayRunIf, MayReplay};
+ghost use Rattle.model_straight.specs.StraightScripts.{straight_of};
 ghost use Rattle.aio_straight.specs.Lines.{plain_program};
 ghost use Rattle.aio_run.specs.Outcome.{EndsEarly, WritesWhole};
 

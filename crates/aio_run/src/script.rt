@@ -1,7 +1,7 @@
 //! A script of the shelf, or why there is none.
 ghost use Rattle.std.specs.Prelude.{◌≡◌, ◌≤◌, IfOk, IfErr, string_bytes};
-ghost use Rattle.model_machine.specs.Program.{FileSays};
-ghost use Rattle.model_machine.specs.Transcript.{line};
+ghost use Rattle.model_straight.specs.Program.{FileSays};
+ghost use Rattle.model_straight.specs.Transcript.{line};
 ghost use Rattle.aio_run.specs.Outcome.{EndsEarly, WritesWhole};
 ghost use Rattle.aio_run.specs.Script.{SpellsScript, IsMissing, Tells, refusal_text};
 

@@ -1,6 +1,6 @@
 //! A step of main.
 ghost use Rattle.std.specs.Prelude.{◌≡◌, ℕ, ◌++◌, IfOk, OnOk, drop};
-ghost use Rattle.model_machine.specs.Step.{shown_all, shown_behind};
+ghost use Rattle.model_straight.specs.Step.{shown_all, shown_behind};
 ghost use Rattle.aio_straight.specs.Lines.{plain_line, plain_lines};
 ghost use Rattle.aio_run.specs.Events.{plain_events};
 ghost use Rattle.aio_run.specs.Stepping.{delay_of, plain_stop, said_by, saying, stop_of};

@@ -4,8 +4,8 @@ use Rattle.std.proofs.lemmas.Bool.{le-leb, lt-leb}
 use Rattle.std.proofs.lemmas.List.{length-map}
 use Rattle.std.specs.Prelude.{if◌then◌else◌}
 use Rattle.model_tree.specs.Syntax.{Expr, exprs, exprs_of, Statement, statements, statements_of}
-use Rattle.model_says.specs.Straight as plain
-use Rattle.model_machine.specs.StraightScripts.{few_lines}
+use Rattle.model_straight.specs.Straight as plain
+use Rattle.model_straight.specs.StraightScripts.{few_lines}
 use Rattle.aio_straight.specs.declared.line.Line.{Line}
 use Rattle.aio_straight.specs.Lines.{plain_line}
 

@@ -1,6 +1,6 @@
 -- The code's straight programs as the definitions have them.
 use Rattle.std.specs.Prelude.{List, map}
-use Rattle.model_says.specs.Straight as plain
+use Rattle.model_straight.specs.Straight as plain
 use Rattle.aio_straight.specs.declared.line.Line.{Line}
 use Rattle.aio_straight.specs.declared.line.Line.TheVariants.{Pass, Print, Sleep}
 use Rattle.aio_straight.specs.declared.program.Program.{Program}

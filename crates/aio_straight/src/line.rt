@@ -1,8 +1,8 @@
 //! Statements of a straight program.
 ghost use Rattle.std.specs.Prelude.{◌≡◌, ◌∷◌, [], Some, None, IfOk, option_map, slice_index};
 ghost use Rattle.model_text.specs.Levels.{all_of};
-ghost use Rattle.model_says.specs.Straight.{Print};
-ghost use Rattle.model_machine.specs.StraightScripts.{literal_value, sleep_for, sleep_with, sleep_line, straight_line};
+ghost use Rattle.model_straight.specs.Straight.{Print};
+ghost use Rattle.model_straight.specs.StraightScripts.{literal_value, sleep_for, sleep_with, sleep_line, straight_line};
 ghost use Rattle.aio_program.specs.Target.{plain_target};
 ghost use Rattle.aio_straight.specs.Lines.{plain_line};
 

@@ -1,7 +1,7 @@
 //! From a script that was read to its straight program.
 ghost use Rattle.std.specs.Prelude.{◌≡◌, IfOk, option_map};
 ghost use Rattle.model_text.specs.Levels.{all_of};
-ghost use Rattle.model_machine.specs.StraightScripts.{straight_of, straight_body, straight_line, few_lines};
+ghost use Rattle.model_straight.specs.StraightScripts.{straight_of, straight_body, straight_line, few_lines};
 ghost use Rattle.aio_straight.specs.Lines.{plain_lines, plain_program};
 
 use crate::line::{Line, line_of};

@@ -5,12 +5,13 @@ use Rattle.std.specs.List.{count_by}
 use Rattle.std.proofs.lemmas.Bool.{cases_eq, cases_Bool, eq-eqb, ne_eqb, ltb-false, ltb-true}
 use Rattle.std.proofs.lemmas.List.Sums.{sum_by-cons, sum_by-append}
 use Rattle.model_value.specs.Number.{most}
-use Rattle.model_value.specs.Action.{Circle, Wakeup}
+use Rattle.model_value.specs.Action.{Circle}
+use Rattle.model_value.specs.declared.action.Action.TheVariants.{Wakeup}
 use Rattle.model_loop.specs.Parts.{Task, Parts}
 use Rattle.model_loop.specs.Tasks.{cancelling, one_more, uncancel, future_of, lives, is_marked, unmark}
 use Rattle.model_loop.specs.Numbered.{occurrences}
 use Rattle.model_loop.specs.Cancel.{has_seen, cancel}
-use Rattle.model_loop.specs.Ledger.{Origin, LedgerEntry, Asked, Raised, Took, raised_among, request, request_where, request_each, uncancel_by, ByWait}
+use Rattle.model_loop.specs.Ledger.{Origin, LedgerEntry, Asked, Raised, Took, raised_among, ask_cancel, request_where, request_each, uncancel_by, ByWait}
 use Rattle.model_loop.specs.Futures.{register}
 use Rattle.model_loop.specs.Circles.{circle}
 use Rattle.model_loop.specs.Suspend.{wait_on, cancel_wait, suspend_unless, suspend}
@@ -88,7 +89,7 @@ seen-occurs (x ∷ xs) task h = rw occurrences-cons (go (nat_eq task x) h (seen-
     go false k ih = let i = ih k in omega arith
 
 -- ---- one request
-pub request_balances : (by : Origin) (id : ℕ) (p : Parts) → Balances p (request by id p)
+pub request_balances : (by : Origin) (id : ℕ) (p : Parts) → Balances p (ask_cancel by id p)
 request_balances by id p task =
     rw (lowers_none, raises_some, count) (go (cases_Bool (has_seen seen task)) (cases_Bool (nat_lt (cancelling p task) most)))
   where
@@ -193,7 +194,7 @@ suspend_balances task on p u = at (circle p task on)
     marked : (b : Bool) → cancelling (cancel_wait b task on (wait_on task on p)).parts u + count_by (lowers u) (cancel_wait b task on (wait_on task on p)).entries ≡ cancelling p u + count_by (raises u) (cancel_wait b task on (wait_on task on p)).entries
     marked false = ap (λ n. n + 0) kept
     marked true =
-        let asked = request (ByWait task) on (wait_on task on p) in
+        let asked = ask_cancel (ByWait task) on (wait_on task on p) in
         let k = unmark_if-count (cancel on (wait_on task on p)).answer task asked.parts u in
         ap (λ n. n + count_by (lowers u) asked.entries) k
         ∙ request_balances (ByWait task) on (wait_on task on p) u

@@ -1,20 +1,20 @@
 -- Timeouts, groups and the end of a run keep counts the ledger's balance.
-use Rattle.std.proofs.Common.{◌≡◌, ℕ, ◌+◌, ◌⊎◌, ℤ, pos, negsuc, Bool, true, false, cond, not, ◌||◌, ◌==◌, List, [], ◌∷◌, ◌++◌, Option, Some, None, length, nat_le, slice_get, refl, ap, ◌∙◌, inl, inr, arith, is_some, ◌&&◌}
+use Rattle.std.proofs.Common.{◌≡◌, ℕ, ◌+◌, ◌⊎◌, ℤ, Bool, true, false, cond, not, ◌||◌, ◌==◌, List, [], ◌∷◌, ◌++◌, Option, Some, None, length, nat_le, option_map, slice_get, refl, ap, ◌∙◌, inl, inr, arith, is_some, ◌&&◌}
 use Rattle.std.specs.List.{count_by, range_with_len}
 use Rattle.std.proofs.lemmas.Bool.{cases_eq}
 use Rattle.std.proofs.lemmas.Option.{slice_get_past}
 use Rattle.model_value.specs.declared.input.Input.TheVariants.{Send, Throw}
 use Rattle.model_value.specs.declared.outcome.Outcome.TheVariants.{Value as Returned}
-use Rattle.model_value.specs.Action.{GroupDone, Fires}
+use Rattle.model_value.specs.declared.action.Action.TheVariants.{GroupDone, Fires}
 use Rattle.model_value.specs.Input.{Input}
 use Rattle.model_value.specs.Value.{Nothing, Exc}
 use Rattle.model_loop.specs.Parts.{Task, Parts}
-use Rattle.model_loop.specs.Handles.{soon, later}
+use Rattle.model_loop.specs.Handles.{deadline, soon, later}
 use Rattle.model_loop.specs.Futures.{next_future}
 use Rattle.model_loop.specs.Tasks.{cancelling, next_task, spawn, future_of}
-use Rattle.model_loop.specs.Ledger.{Began, Booked, ByTimeout, ByGroup, ByAbort, ByEnd, request, request_each, uncancel_by}
+use Rattle.model_loop.specs.Ledger.{Began, Booked, ByTimeout, ByGroup, ByAbort, ByEnd, ask_cancel, request_each, uncancel_by}
 use Rattle.model_loop.specs.Loop.{TimeoutState, Created, Active, Expiring, Expired, Finished, Loop, in_parts, book}
-use Rattle.model_loop.specs.Timeouts.{timeout_of, give_up, without_handle, fires_at, with_deadline, schedule, next_timeout, make_timeout, deadline_after, enter_timeout, is_active, reschedule_where, reschedule, fire, leave_from, exit_timeout}
+use Rattle.model_loop.specs.Timeouts.{timeout_of, give_up, without_handle, fires_at, with_deadline, schedule, next_timeout, make_timeout, enter_timeout, moment, is_active, reschedule_where, reschedule, fire, leave_from, exit_timeout}
 use Rattle.model_loop.specs.Groups.{group_of, set_group, Refusal, refusal, with_child, create_unless, create, abort, abort_where, failure_of, without_child, wake_if_last, wake_exit, request_parent, abort_and_request_unless, blame, child_done, end_exit, wait_or_end_with, wait_or_end, begin_exit, take_back_where, take_back, abort_if_raised, exit_begin, keep_and_abort_unless, hear, exit_woken}
 use Rattle.model_loop.specs.Ending.{cancel_everything}
 use Rattle.model_loop.specs.Balance.{raises, lowers, Balances, TasksBalance}
@@ -43,44 +43,43 @@ give_up_counts : (tag : Option ℕ) (p : Parts) → KeepsCounts (give_up tag) p
 give_up_counts None p task = refl
 give_up_counts (Some tag) p task = refl
 
-fires_at_counts : (id : ℕ) (when : ℤ) (p : Parts) → KeepsCounts (fires_at id when) p
-fires_at_counts id (negsuc n) p task = refl
-fires_at_counts id (pos when) p task =
+fires_at_counts : (id when : ℕ) (p : Parts) → KeepsCounts (fires_at id when) p
+fires_at_counts id when p task =
     elim (nat_le when p.time) as (λ b. cancelling (cond b (soon (Fires id) p) (later when (Fires id) p)) task ≡ cancelling p task) [ true ↦ refl | false ↦ refl ]
 
-schedule_keeps : (id : ℕ) (when : Option ℤ) (l : Loop) → TasksBalance l → TasksBalance (schedule id when l)
+schedule_keeps : (id : ℕ) (when : Option ℕ) (l : Loop) → TasksBalance l → TasksBalance (schedule id when l)
 schedule_keeps id when l is = at when (in_parts_keeps (give_up tag) l (give_up_counts tag l.parts) is)
   where
     tag : Option ℕ
     tag = (timeout_of l id).tag
 
-    at : (when : Option ℤ) → TasksBalance (in_parts (give_up tag) l) → TasksBalance (with_deadline id when (without_handle id l))
+    at : (when : Option ℕ) → TasksBalance (in_parts (give_up tag) l) → TasksBalance (with_deadline id when (without_handle id l))
     at None h = h
     at (Some when) h = in_parts_keeps (fires_at id when) (without_handle id l) (fires_at_counts id when (without_handle id l).parts) h
 
 pub enter_timeout_keeps : (task : ℕ) (delay : Option ℤ) (l : Loop) → TasksBalance l → TasksBalance (enter_timeout task delay l)
 enter_timeout_keeps task delay l is =
-    schedule_keeps (next_timeout l) (deadline_after l.parts.time delay) (make_timeout task l) is
+    schedule_keeps (next_timeout l) (option_map (deadline l.parts.time) delay) (make_timeout task l) is
 
 pub reschedule_keeps : (id : ℕ) (when : Option ℤ) (l : Loop) → TasksBalance l → TasksBalance (reschedule id when l)
 reschedule_keeps id when l is = at (is_active (timeout_of l id).state)
   where
     at : (b : Bool) → TasksBalance (reschedule_where b id when l)
-    at true = schedule_keeps id when l is
+    at true = schedule_keeps id (option_map moment when) l is
     at false = is
 
 pub fire_keeps : (id : ℕ) (l : Loop) → TasksBalance l → TasksBalance (fire id l)
 fire_keeps id l is =
     let on = future_of l.parts (timeout_of l id).task in
-    book_keeps (request (ByTimeout id) on) l (request_balances (ByTimeout id) on l.parts) is
+    book_keeps (ask_cancel (ByTimeout id) on) l (request_balances (ByTimeout id) on l.parts) is
 
-pub exit_timeout_keeps : (id : ℕ) (l : Loop) → TasksBalance l → TasksBalance (exit_timeout id l)
-exit_timeout_keeps id l is = at (timeout_of l id).state (in_parts_keeps (give_up tag) l (give_up_counts tag l.parts) is)
+pub exit_timeout_keeps : (raised : Option Exc) (id : ℕ) (l : Loop) → TasksBalance l → TasksBalance (exit_timeout raised id l).loop
+exit_timeout_keeps raised id l is = at (timeout_of l id).state (in_parts_keeps (give_up tag) l (give_up_counts tag l.parts) is)
   where
     tag : Option ℕ
     tag = (timeout_of l id).tag
 
-    at : (state : TimeoutState) → TasksBalance (without_handle id l) → TasksBalance (leave_from state id (without_handle id l))
+    at : (state : TimeoutState) → TasksBalance (without_handle id l) → TasksBalance (leave_from state raised id (without_handle id l)).loop
     at Created h = h
     at Active h = h
     at Expiring h =
@@ -125,7 +124,7 @@ wake_counts (c ∷ children) future p task = refl
 request_parent_keeps : (id : ℕ) (l : Loop) → TasksBalance l → TasksBalance (request_parent id l)
 request_parent_keeps id l is =
     let on = future_of l.parts (group_of l id).parent in
-    book_keeps (request (ByGroup id) on) l (request_balances (ByGroup id) on l.parts) is
+    book_keeps (ask_cancel (ByGroup id) on) l (request_balances (ByGroup id) on l.parts) is
 
 blame_keeps : (o : Option Exc) (id : ℕ) (l : Loop) → TasksBalance l → TasksBalance (blame o id l)
 blame_keeps None id l is = is

@@ -13,7 +13,7 @@ ghost use Rattle.model_loop.specs.Balance.{Balances, TasksBalance};
 
 /// What is booked of a step is what its counts change by.
 pub fn steps_balance()
-    ensures request { (by : Origin) (id : ℕ) (p : Parts) → Balances p (request by id p) }
+    ensures request { (by : Origin) (id : ℕ) (p : Parts) → Balances p (request by id p).booked }
     ensures request_each { (by : Origin) (tasks : List ℕ) (p : Parts) → Balances p (request_each by tasks p) }
     ensures uncancel { (by : Origin) (task : ℕ) (p : Parts) → Balances p (uncancel_by by task p) }
     ensures suspend { (task on : ℕ) (p : Parts) → Balances p (suspend task on p) }
@@ -25,7 +25,8 @@ pub fn timeouts_keep_balance()
         → TasksBalance l → TasksBalance (enter_timeout task delay l) }
     ensures reschedule { (id : ℕ) (when : Option ℤ) (l : Loop) → TasksBalance l → TasksBalance (reschedule id when l) }
     ensures fire { (id : ℕ) (l : Loop) → TasksBalance l → TasksBalance (fire id l) }
-    ensures exit { (id : ℕ) (l : Loop) → TasksBalance l → TasksBalance (exit_timeout id l) }
+    ensures exit { (raised : Option Exc) (id : ℕ) (l : Loop)
+        → TasksBalance l → TasksBalance (exit_timeout raised id l).loop }
 {}
 
 /// So do groups, and the end of a run.

@@ -1,10 +1,12 @@
 -- The parts of a step keep what is numbered.
-use Rattle.std.proofs.Common.{ℕ, Bool, true, false, cond, Option, Some, None}
-use Rattle.model_value.specs.Action.{Circle, Step, StepInCircle, Wakeup}
+use Rattle.std.proofs.Common.{ℕ, Bool, true, false, cond, Option, Some, None, Result, Ok, Err}
+use Rattle.model_value.specs.Action.{Circle}
+use Rattle.model_value.specs.declared.action.Action.TheVariants.{Step, StepInCircle, Wakeup}
+use Rattle.model_value.specs.Input.{Input}
 use Rattle.model_value.specs.Value.{Value, Exc}
 use Rattle.model_loop.specs.Parts.{Parts}
 use Rattle.model_loop.specs.Futures.{register}
-use Rattle.model_loop.specs.Tasks.{is_marked, set_waiter, unmark, begin_step, pause, return_value, raise_fault}
+use Rattle.model_loop.specs.Tasks.{is_marked, set_waiter, unmark, begin_step, pause, finish}
 use Rattle.model_loop.specs.Cancel.{cancel}
 use Rattle.model_loop.specs.Circles.{circle}
 use Rattle.model_loop.specs.Suspend.{wait_on, cancel_wait, suspend_unless, suspend}
@@ -12,17 +14,15 @@ use Rattle.model_loop.specs.Numbered.{IsNumbered}
 use Rattle.law_numbers.proofs.CancelNumbers.{cancel_numbers}
 use Rattle.law_numbers.proofs.Numbering.{soon_numbers, register_numbers, settle_numbers, change_task_numbers}
 
-pub begin_step_numbers : (id : ℕ) (p : Parts) → IsNumbered p → IsNumbered (begin_step id p)
-begin_step_numbers id p is = change_task_numbers id _ (set_waiter id None p) (change_task_numbers id _ p is)
+pub begin_step_numbers : (id : ℕ) (input : Input) (p : Parts) → IsNumbered p → IsNumbered (begin_step id input p).parts
+begin_step_numbers id input p is = change_task_numbers id _ (set_waiter id None p) (change_task_numbers id _ p is)
 
 pub pause_numbers : (id : ℕ) (p : Parts) → IsNumbered p → IsNumbered (pause id p)
 pause_numbers id p is = soon_numbers (Step id) p is
 
-pub return_value_numbers : (id : ℕ) (value : Value) (p : Parts) → IsNumbered p → IsNumbered (return_value id value p)
-return_value_numbers id value p is = settle_numbers _ _ (unmark id p) (change_task_numbers id _ p is)
-
-pub raise_fault_numbers : (id : ℕ) (fault : Exc) (p : Parts) → IsNumbered p → IsNumbered (raise_fault id fault p)
-raise_fault_numbers id fault p is = settle_numbers _ _ p is
+pub finish_numbers : (id : ℕ) (end : Result Value Exc) (p : Parts) → IsNumbered p → IsNumbered (finish id end p)
+finish_numbers id (Ok value) p is = settle_numbers _ _ (unmark id p) (change_task_numbers id _ p is)
+finish_numbers id (Err fault) p is = settle_numbers _ _ p is
 
 wait_on_numbers : (task on : ℕ) (p : Parts) → IsNumbered p → IsNumbered (wait_on task on p)
 wait_on_numbers task on p is = change_task_numbers task _ (register on (Wakeup task) p) (register_numbers on (Wakeup task) p is)

@@ -1,12 +1,13 @@
 //! Laws of stamps, tags and numbers: what is numbered once stays so. Each function has no body.
-ghost use Rattle.std.specs.Prelude.{ℕ, ◌<◌, List};
+ghost use Rattle.std.specs.Prelude.{ℕ, ◌<◌, List, Result};
 ghost use Rattle.std.specs.List.{All};
 ghost use Rattle.model_value.specs.Action.{Action};
+ghost use Rattle.model_value.specs.Input.{Input};
 ghost use Rattle.model_value.specs.Value.{Value, Exc, Outcome};
 ghost use Rattle.model_loop.specs.Parts.{Parts};
 ghost use Rattle.model_loop.specs.Handles.{soon, later, revoke, due};
 ghost use Rattle.model_loop.specs.Futures.{next_future, new_plain, new_many, settle, register};
-ghost use Rattle.model_loop.specs.Tasks.{spawn, begin_step, pause, return_value, raise_fault};
+ghost use Rattle.model_loop.specs.Tasks.{spawn, begin_step, pause, finish};
 ghost use Rattle.model_loop.specs.Suspend.{suspend};
 ghost use Rattle.model_loop.specs.Cancel.{cancel};
 ghost use Rattle.model_loop.specs.Numbered.{IsNumbered};
@@ -33,9 +34,8 @@ pub fn stay_given_once_at_making()
 
 /// So they do in each part of a task's step.
 pub fn stay_given_once_in_steps()
-    ensures begin { (id : ℕ) (p : Parts) → IsNumbered p → IsNumbered (begin_step id p) }
+    ensures begin { (id : ℕ) (input : Input) (p : Parts) → IsNumbered p → IsNumbered (begin_step id input p).parts }
     ensures pause { (id : ℕ) (p : Parts) → IsNumbered p → IsNumbered (pause id p) }
     ensures suspend { (task on : ℕ) (p : Parts) → IsNumbered p → IsNumbered (suspend task on p).parts }
-    ensures returns { (id : ℕ) (value : Value) (p : Parts) → IsNumbered p → IsNumbered (return_value id value p) }
-    ensures raises { (id : ℕ) (fault : Exc) (p : Parts) → IsNumbered p → IsNumbered (raise_fault id fault p) }
+    ensures finish { (id : ℕ) (end : Result Value Exc) (p : Parts) → IsNumbered p → IsNumbered (finish id end p) }
 {}

@@ -4,7 +4,8 @@ use Rattle.std.specs.Prelude.{◌≡◌, ℕ, zero, suc, Bool, true, false, ◌|
 use Rattle.std.specs.List.{list_any}
 use Rattle.std.specs.Option.{option_to_list}
 use Rattle.model_value.specs.declared.kind.Kind.TheVariants.{RuntimeError}
-use Rattle.model_value.specs.Action.{Circle, Itself, ItsWaiter}
+use Rattle.model_value.specs.Action.{Circle}
+use Rattle.model_value.specs.declared.action.Circle.TheVariants.{Itself, ItsWaiter}
 use Rattle.model_value.specs.Value.{Exc, exception_of, Outcome}
 use Rattle.model_loop.specs.Parts.{FutureKind, Plain, OfTask, Many, Future, Parts}
 use Rattle.model_loop.specs.Futures.{made_before}

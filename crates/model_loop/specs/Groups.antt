@@ -4,7 +4,7 @@ use Rattle.std.specs.Prelude.{ℕ, Bool, true, false, not, ◌&&◌, ◌||◌, �
 use Rattle.model_value.specs.declared.input.Input.TheVariants.{Send, Throw}
 use Rattle.model_value.specs.declared.kind.Kind.TheVariants.{RuntimeError, ExceptionGroup}
 use Rattle.model_value.specs.declared.outcome.Outcome.TheVariants.{Value as Returned, Failed}
-use Rattle.model_value.specs.Action.{GroupDone}
+use Rattle.model_value.specs.declared.action.Action.TheVariants.{GroupDone}
 use Rattle.model_value.specs.Depth.{exc_depth}
 use Rattle.model_value.specs.Input.{Input}
 use Rattle.model_value.specs.Value.{Nothing, Exc, exc, excs, exception_of, Outcome}
@@ -12,7 +12,7 @@ use Rattle.model_value.specs.Weight.{exc_weight}
 use Rattle.model_loop.specs.Parts.{Parts}
 use Rattle.model_loop.specs.Futures.{future_outcome, next_future, new_plain, register, settle}
 use Rattle.model_loop.specs.Tasks.{cancelling, future_of, is_cancelled, next_task, spawn}
-use Rattle.model_loop.specs.Ledger.{ByGroup, ByAbort, Began, request, request_each, uncancel_by}
+use Rattle.model_loop.specs.Ledger.{ByGroup, ByAbort, Began, ask_cancel, request_each, uncancel_by}
 use Rattle.model_loop.specs.Loop.{Group, Loop, in_parts, book}
 
 abbrev pub new_group : ℕ → Group
@@ -127,7 +127,7 @@ wake_exit id l = let group = group_of l id in in_parts (wake_if_last group.child
 abbrev pub request_parent : ℕ → Loop → Loop
 request_parent id l =
     let group = group_of l id in
-    book (request (ByGroup id) (future_of l.parts group.parent)) (set_group id (record group { requested = true }) l)
+    book (ask_cancel (ByGroup id) (future_of l.parts group.parent)) (set_group id (record group { requested = true }) l)
 
 abbrev pub abort_and_request_unless : Bool → ℕ → Loop → Loop
 abort_and_request_unless true id l = l

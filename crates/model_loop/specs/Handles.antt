@@ -1,6 +1,7 @@
 -- Handles and timers. Source: PEP 3156, "Callback Handles"; `base_events.py`, `call_soon`, `call_at`.
-use Rattle.std.specs.Prelude.{ℕ, ◌+◌, ◌==◌, true, false, not, List, [], ◌∷◌, ◌++◌, map, filter, nat_le, nat_lt, if◌then◌else◌}
+use Rattle.std.specs.Prelude.{ℕ, suc, ◌+◌, ◌-◌, ◌==◌, ℤ, pos, negsuc, true, false, not, List, [], ◌∷◌, ◌++◌, map, filter, min, nat_le, nat_lt, if◌then◌else◌}
 use Rattle.model_value.specs.Action.{Action}
+use Rattle.model_value.specs.Number.{most}
 use Rattle.model_loop.specs.Parts.{Handle, Timer, Parts}
 
 -- `call_soon`: a handle behind all that are pending
@@ -15,6 +16,12 @@ soon action p =
 abbrev pub soon_all : List Action → Parts → Parts
 soon_all [] p = p
 soon_all (action ∷ actions) p = soon_all actions (soon action p)
+
+-- When a delay is over, past the greatest number of a script at that number. One that is negative was over before the
+-- time came.
+abbrev pub deadline : (time : ℕ) (delay : ℤ) → ℕ
+deadline time (pos delay) = min (time + delay) most
+deadline time (negsuc before) = time - suc before
 
 -- `call_at`: a handle for a time
 abbrev pub later : ℕ → Action → Parts → Parts

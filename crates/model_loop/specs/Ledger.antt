@@ -44,14 +44,29 @@ unbooked p = record { parts = p; entries = [] }
 abbrev pub raised_among : Parts → List ℕ → List ℕ
 raised_among before = filter (λ task. nat_lt (cancelling before task) most)
 
+-- a request that was made, and its answer
+pub record Requested : Type 0 where
+  pub booked : Booked
+  pub answer : Bool
+
 -- a request to cancel a future
-abbrev pub request : Origin → ℕ → Parts → Booked
+abbrev pub request : Origin → ℕ → Parts → Requested
 request by id p =
     let asked = cancel id p in
-    record { parts = asked.parts; entries = Asked by ∷ map (λ task. Raised task by) (raised_among p asked.seen) }
+    record {
+      booked = record {
+        parts = asked.parts;
+        entries = Asked by ∷ map (λ task. Raised task by) (raised_among p asked.seen);
+      };
+      answer = asked.answer;
+    }
+
+-- the same where nobody wants the answer
+abbrev pub ask_cancel : Origin → ℕ → Parts → Booked
+ask_cancel by id p = (request by id p).booked
 
 abbrev pub request_where : Bool → Origin → ℕ → Parts → Booked
-request_where true by id p = request by id p
+request_where true by id p = ask_cancel by id p
 request_where false by id p = unbooked p
 
 -- one request for each of these tasks that lives when its turn comes, in order

@@ -1,7 +1,7 @@
 -- How a run begins: at time 0, with main's task, which is task 0, its first step pending, and what is called when it is
 -- done. Source: `runners.py`, `Runner.run`; `base_events.py`, `run_until_complete`.
 use Rattle.std.specs.Prelude.{[]}
-use Rattle.model_value.specs.Action.{MainDone}
+use Rattle.model_value.specs.declared.action.Action.TheVariants.{MainDone}
 use Rattle.model_loop.specs.Parts.{Parts}
 use Rattle.model_loop.specs.Futures.{register}
 use Rattle.model_loop.specs.Tasks.{spawn}

@@ -1,11 +1,11 @@
 -- A task's step ends with the await of a future that isn't done. Source: `tasks.py`, `__step_run_and_handle_result`.
 use Rattle.std.specs.Prelude.{ℕ, Bool, true, false, Option, Some, None, if◌then◌else◌}
-use Rattle.model_value.specs.Action.{Circle, StepInCircle, Wakeup}
+use Rattle.model_value.specs.Action.{Circle}
+use Rattle.model_value.specs.declared.action.Action.TheVariants.{StepInCircle, Wakeup}
 use Rattle.model_loop.specs.Parts.{Parts}
 use Rattle.model_loop.specs.Handles.{soon}
 use Rattle.model_loop.specs.Futures.{register}
 use Rattle.model_loop.specs.Tasks.{set_waiter, unmark, is_marked}
-use Rattle.model_loop.specs.Cancel.{cancel}
 use Rattle.model_loop.specs.Circles.{circle}
 use Rattle.model_loop.specs.Ledger.{Booked, unbooked, request, ByWait}
 
@@ -22,7 +22,7 @@ abbrev pub cancel_wait : Bool → ℕ → ℕ → Parts → Booked
 cancel_wait false task on p = unbooked p
 cancel_wait true task on p =
     let asked = request (ByWait task) on p in
-    record asked { parts = if (cancel on p).answer then unmark task asked.parts else asked.parts }
+    record (asked.booked) { parts = if asked.answer then unmark task asked.booked.parts else asked.booked.parts }
 
 abbrev pub suspend_unless : Option Circle → ℕ → ℕ → Parts → Booked
 suspend_unless (Some circle) task on p = unbooked (soon (StepInCircle task circle) p)

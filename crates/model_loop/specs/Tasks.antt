@@ -1,8 +1,8 @@
 -- Tasks. Source: `tasks.py`, Task: `__init__`, `__step`, `__wakeup`, `cancelling`, `uncancel`.
-use Rattle.std.specs.Prelude.{ℕ, ◌+◌, ◌-◌, Bool, true, false, [], ◌∷◌, ◌++◌, Option, None, length, nat_lt, slice_get, slice_set, if◌then◌else◌}
+use Rattle.std.specs.Prelude.{ℕ, ◌+◌, ◌-◌, Bool, true, false, [], ◌∷◌, ◌++◌, Option, None, Result, Ok, Err, length, nat_lt, slice_get, slice_set, if◌then◌else◌}
 use Rattle.std.specs.Option.{option_map_or}
 use Rattle.model_value.specs.declared.kind.Kind.TheVariants.{CancelledError}
-use Rattle.model_value.specs.Action.{Step}
+use Rattle.model_value.specs.declared.action.Action.TheVariants.{Step}
 use Rattle.model_value.specs.declared.input.Input.TheVariants.{Send, Throw}
 use Rattle.model_value.specs.Input.{Input}
 use Rattle.model_value.specs.Kinds.{same_kind}
@@ -80,26 +80,31 @@ abbrev pub cancelling_input : Input → Input
 cancelling_input (Send value) = Throw cancelled_error
 cancelling_input (Throw fault) = if is_cancelled fault then Throw fault else Throw cancelled_error
 
--- what a step's input is where the task is marked
-abbrev pub first_input : Parts → ℕ → Input → Input
-first_input p id input = if is_marked p id then cancelling_input input else input
+-- a step that has begun: the parts, and what the coroutine is resumed with
+pub record Begun : Type 0 where
+  pub parts : Parts
+  pub input : Input
 
 -- A step begins: the task waits no more, and a mark is used up by the input.
-abbrev pub begin_step : ℕ → Parts → Parts
-begin_step id p = unmark id (set_waiter id None p)
+abbrev pub begin_step : ℕ → Input → Parts → Begun
+begin_step id input p =
+    record {
+      parts = unmark id (set_waiter id None p);
+      input = if is_marked p id then cancelling_input input else input;
+    }
 
 -- a bare `yield`: the next step is called soon
 abbrev pub pause : ℕ → Parts → Parts
 pause id = soon (Step id)
 
--- The coroutine returned. Where a cancel still waits for the next step, there is none, and the task ends cancelled:
+-- The coroutine returned or raised. Where it returned and a cancel still waits for the next step, there is none, and the
+-- task ends cancelled:
 --
 --     cancel(me)
 --     return 1
-abbrev pub return_value : ℕ → Value → Parts → Parts
-return_value id value p =
+--
+-- Where it raised CancelledError the task ends cancelled too, and keeps no text.
+abbrev pub finish : ℕ → Result Value Exc → Parts → Parts
+finish id (Ok value) p =
     settle (future_of p id) (if is_marked p id then Cancelled else Returned value) (unmark id p)
-
--- The coroutine raised. A task that ends cancelled keeps no text.
-abbrev pub raise_fault : ℕ → Exc → Parts → Parts
-raise_fault id fault p = settle (future_of p id) (if is_cancelled fault then Cancelled else Failed fault) p
+finish id (Err fault) p = settle (future_of p id) (if is_cancelled fault then Cancelled else Failed fault) p

@@ -1,14 +1,14 @@
 -- Timeouts. Source: the library reference, "Timeouts"; `timeouts.py`, `Timeout.__aenter__`, `reschedule`, `_on_timeout`,
 -- `__aexit__`.
-use Rattle.std.specs.Prelude.{ℕ, ℤ, pos, negsuc, ◌+ℤ◌, Bool, true, false, ◌&&◌, List, [], ◌∷◌, ◌++◌, Option, Some, None, codes, length, nat_le, option_map, slice_index_or, slice_set, if◌then◌else◌}
+use Rattle.std.specs.Prelude.{ℕ, ℤ, pos, negsuc, Bool, true, false, ◌&&◌, List, [], ◌∷◌, ◌++◌, Option, Some, None, codes, length, nat_le, option_map, slice_index_or, slice_set, if◌then◌else◌}
 use Rattle.std.specs.Option.{option_map_or}
 use Rattle.model_value.specs.declared.kind.Kind.TheVariants.{RuntimeError, TimeoutError}
-use Rattle.model_value.specs.Action.{Fires}
+use Rattle.model_value.specs.declared.action.Action.TheVariants.{Fires}
 use Rattle.model_value.specs.Value.{Exc, exception_of}
 use Rattle.model_loop.specs.Parts.{Parts}
-use Rattle.model_loop.specs.Handles.{soon, later, revoke}
-use Rattle.model_loop.specs.Tasks.{cancelling, future_of, is_cancelled, uncancel}
-use Rattle.model_loop.specs.Ledger.{ByTimeout, request, uncancel_by}
+use Rattle.model_loop.specs.Handles.{deadline, soon, later, revoke}
+use Rattle.model_loop.specs.Tasks.{cancelling, future_of, is_cancelled}
+use Rattle.model_loop.specs.Ledger.{ByTimeout, ask_cancel, uncancel_by}
 use Rattle.model_loop.specs.Loop.{TimeoutState, Created, Active, Expiring, Expired, Finished, Timeout, Loop, in_parts, book}
 
 -- what stands for a timeout of a number that none has
@@ -32,17 +32,16 @@ without_handle id l =
     set_timeout id (record timeout { tag = None }) (in_parts (give_up timeout.tag) l)
 
 -- A deadline that isn't later than the time is over soon.
-abbrev pub fires_at : ℕ → ℤ → Parts → Parts
-fires_at id (negsuc before) p = soon (Fires id) p
-fires_at id (pos when) p = if nat_le when p.time then soon (Fires id) p else later when (Fires id) p
+abbrev pub fires_at : ℕ → ℕ → Parts → Parts
+fires_at id when p = if nat_le when p.time then soon (Fires id) p else later when (Fires id) p
 
-abbrev pub with_deadline : ℕ → Option ℤ → Loop → Loop
+abbrev pub with_deadline : ℕ → Option ℕ → Loop → Loop
 with_deadline id None l = l
 with_deadline id (Some when) l =
     set_timeout id (record (timeout_of l id) { tag = Some l.parts.next_tag }) (in_parts (fires_at id when) l)
 
 -- the old handle is given up, and a new one waits for the deadline, if there is one
-abbrev pub schedule : ℕ → Option ℤ → Loop → Loop
+abbrev pub schedule : ℕ → Option ℕ → Loop → Loop
 schedule id when l = with_deadline id when (without_handle id l)
 
 -- the number of the timeout that is made next
@@ -56,20 +55,21 @@ make_timeout task l =
       timeouts = l.timeouts ++ record { state = Active; task = task; stored = cancelling l.parts task; tag = None } ∷ [];
     }
 
--- the deadline after a delay, which may be negative; with no delay there is none
-abbrev pub deadline_after : (time : ℕ) → Option ℤ → Option ℤ
-deadline_after time delay = option_map (λ milliseconds. pos time +ℤ milliseconds) delay
-
--- a task enters a block whose time is over after a delay, or never
+-- a task enters a block whose time is over after a delay, which may be negative, or never
 abbrev pub enter_timeout : ℕ → Option ℤ → Loop → Loop
-enter_timeout task delay l = schedule (next_timeout l) (deadline_after l.parts.time delay) (make_timeout task l)
+enter_timeout task delay l = schedule (next_timeout l) (option_map (deadline l.parts.time) delay) (make_timeout task l)
 
 abbrev pub is_active : TimeoutState → Bool
 is_active Active = true
 is_active _ = false
 
+-- a time that a script tells; one before a run's first was over as that began
+abbrev pub moment : ℤ → ℕ
+moment (pos when) = when
+moment (negsuc before) = 0
+
 abbrev pub reschedule_where : Bool → ℕ → Option ℤ → Loop → Loop
-reschedule_where true id when l = schedule id when l
+reschedule_where true id when l = schedule id (option_map moment when) l
 reschedule_where false id when l = l
 
 -- a new deadline, or none; refused unless the timeout is active
@@ -92,23 +92,14 @@ abbrev pub fire : ℕ → Loop → Loop
 fire id l =
     let timeout = timeout_of l id in
     set_timeout id (record timeout { state = Expiring; tag = None })
-    (book (request (ByTimeout id) (future_of l.parts timeout.task)) l)
+    (book (ask_cancel (ByTimeout id) (future_of l.parts timeout.task)) l)
 
-abbrev pub leave_from : TimeoutState → ℕ → Loop → Loop
-leave_from Expiring id l =
-    let timeout = timeout_of l id in
-    set_timeout id (record timeout { state = Expired }) (book (uncancel_by (ByTimeout id) timeout.task) l)
-leave_from _ id l = set_timeout id (record (timeout_of l id) { state = Finished }) l
+-- A block that was left, and whether TimeoutError is raised in place of the exception with which it ended.
+pub record Left : Type 0 where
+  pub loop : Loop
+  pub timed_out : Bool
 
--- the block is left, and a timeout whose time was over takes its cancel back
-abbrev pub exit_timeout : ℕ → Loop → Loop
-exit_timeout id l = leave_from (timeout_of l id).state id (without_handle id l)
-
-abbrev pub is_expiring : TimeoutState → Bool
-is_expiring Expiring = true
-is_expiring _ = false
-
--- Whether an exit, before it is made, raises TimeoutError in place of the exception with which the block ends. Not where
+-- A timeout whose time was over takes its cancel back. It raises TimeoutError in place of a CancelledError, but not where
 -- somebody else asked for the task's cancel too: of two nested timeouts whose time is over in one turn the outer one
 -- raises, once the inner one has passed its CancelledError on.
 --
@@ -117,11 +108,21 @@ is_expiring _ = false
 --         yield from sleep(100)
 --       end
 --     end
-abbrev pub times_out : Option Exc → ℕ → Loop → Bool
-times_out raised id l =
+abbrev pub leave_from : TimeoutState → Option Exc → ℕ → Loop → Left
+leave_from Expiring raised id l =
     let timeout = timeout_of l id in
-    is_expiring timeout.state && nat_le (cancelling (uncancel timeout.task l.parts) timeout.task) timeout.stored
-    && option_map_or is_cancelled raised false
+    let taken = book (uncancel_by (ByTimeout id) timeout.task) l in
+    record {
+      loop = set_timeout id (record timeout { state = Expired }) taken;
+      timed_out =
+          nat_le (cancelling taken.parts timeout.task) timeout.stored && option_map_or is_cancelled raised false;
+    }
+leave_from _ raised id l =
+    record { loop = set_timeout id (record (timeout_of l id) { state = Finished }) l; timed_out = false }
+
+-- the block is left, by an exception or by none
+abbrev pub exit_timeout : Option Exc → ℕ → Loop → Left
+exit_timeout raised id l = leave_from (timeout_of l id).state raised id (without_handle id l)
 
 -- what is then raised
 abbrev pub timeout_fault : Exc

@@ -1,4 +1,3 @@
-pub mod Straight
 pub mod Variables
 pub mod Operations
 pub mod Expressions

@@ -18,7 +18,7 @@ pub enum Action<B> {
     /// A task's step after the future that it waits for is done.
     Wakeup(u32),
     /// The time that a task asked to sleep is over: its future is resolved unless it is done.
-    SleepDone { task: u32, future: u32 },
+    SleepDone { task: u32, future: u64 },
     /// A task of a group is done.
     GroupDone { group: u32, task: u32 },
     /// The time of a timeout is over.

@@ -1,7 +1,7 @@
 -- States before and after a cancel request.
 use Rattle.std.specs.Prelude.{ℕ, Bool, true, false, [], ◌∷◌}
 use Rattle.model_value.specs.Number.{most}
-use Rattle.model_value.specs.Action.{Wakeup}
+use Rattle.model_value.specs.declared.action.Action.TheVariants.{Wakeup}
 use Rattle.model_loop.specs.Parts.{Plain, OfTask, Many, Parts}
 use Rattle.row_loop.specs.Made.{waiting, cancelled, resolved, waits, waits_marked, free, free_marked, handle, parts_of}
 

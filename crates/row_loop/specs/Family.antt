@@ -2,7 +2,7 @@
 use Rattle.std.specs.Prelude.{ℕ, zero, suc, true, false, List, [], ◌∷◌, ◌++◌, Option, Some, None, codes}
 use Rattle.model_value.specs.declared.kind.Kind.TheVariants.{ExceptionGroup}
 use Rattle.model_value.specs.declared.outcome.Outcome.TheVariants.{Failed, Cancelled}
-use Rattle.model_value.specs.Action.{Step, Wakeup, GroupDone}
+use Rattle.model_value.specs.declared.action.Action.TheVariants.{Step, Wakeup, GroupDone}
 use Rattle.model_value.specs.Value.{Exc, exc, excs, exc_then, no_excs}
 use Rattle.model_loop.specs.Parts.{Plain, OfTask, Future, Task, Handle, Parts}
 use Rattle.model_loop.specs.Ledger.{LedgerEntry, Asked, Raised, Took, Began, ByGroup, ByAbort}

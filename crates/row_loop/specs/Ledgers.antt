@@ -1,10 +1,15 @@
--- Three tasks and what a run's end does to them. Task 0 is done, task 1 waits for future 3, and task 2 awaits task 1.
-use Rattle.std.specs.Prelude.{[], ◌∷◌}
-use Rattle.model_value.specs.Action.{Wakeup}
-use Rattle.model_loop.specs.Parts.{Plain, OfTask}
-use Rattle.model_loop.specs.Ledger.{Asked, Raised, ByEnd}
+-- Requests that were made, and what a run's end does to three tasks: task 0 is done, task 1 waits for future 3, and task 2
+-- awaits task 1.
+use Rattle.std.specs.Prelude.{Bool, List, [], ◌∷◌}
+use Rattle.model_value.specs.declared.action.Action.TheVariants.{Wakeup}
+use Rattle.model_loop.specs.Parts.{Plain, OfTask, Parts}
+use Rattle.model_loop.specs.Ledger.{LedgerEntry, Asked, Raised, ByEnd, Requested}
 use Rattle.model_loop.specs.Loop.{Loop}
 use Rattle.row_loop.specs.Made.{waiting, cancelled, resolved, waits, waits_marked, free, handle, parts_of}
+
+-- a request that was made
+abbrev pub requested : Bool → Parts → List LedgerEntry → Requested
+requested answer parts entries = record { booked = record { parts = parts; entries = entries }; answer = answer }
 
 abbrev pub main_done : Loop
 main_done =

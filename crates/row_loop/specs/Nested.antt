@@ -1,9 +1,10 @@
 -- Two timeouts of task 0, one in the other, with the same deadline. Times are in milliseconds.
-use Rattle.std.specs.Prelude.{ℕ, true, List, [], ◌∷◌, Option, Some, None}
-use Rattle.model_value.specs.Action.{Wakeup, Fires}
+use Rattle.std.specs.Prelude.{ℕ, Bool, true, List, [], ◌∷◌, Option, Some, None}
+use Rattle.model_value.specs.declared.action.Action.TheVariants.{Wakeup, Fires}
 use Rattle.model_loop.specs.Parts.{Plain, OfTask, Future, Handle, Timer, Parts}
 use Rattle.model_loop.specs.Ledger.{LedgerEntry, Asked, Raised, Took, ByTimeout}
 use Rattle.model_loop.specs.Loop.{TimeoutState, Active, Expiring, Finished, Timeout, Loop}
+use Rattle.model_loop.specs.Timeouts.{Left}
 use Rattle.row_loop.specs.Made.{waiting, cancelled, waits, waits_marked, free, handle, dead, timer, parts_of}
 
 abbrev pub timed : TimeoutState → Option ℕ → Timeout
@@ -118,3 +119,7 @@ alone_expiring count =
       tasks = free 0 count ∷ [];
     })
     (timed Expiring None ∷ []) []
+
+-- a block that was left
+abbrev pub left : Bool → Loop → Left
+left timed_out l = record { loop = l; timed_out = timed_out }

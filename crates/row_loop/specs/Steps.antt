@@ -1,6 +1,7 @@
 -- States before and after parts of a step.
 use Rattle.std.specs.Prelude.{ℕ, false, List, [], ◌∷◌}
-use Rattle.model_value.specs.Action.{Action, Step, Wakeup, MainDone}
+use Rattle.model_value.specs.Action.{Action}
+use Rattle.model_value.specs.declared.action.Action.TheVariants.{Step, Wakeup, MainDone}
 use Rattle.model_value.specs.Value.{Outcome}
 use Rattle.model_loop.specs.Parts.{Plain, OfTask, Many, Handle, Parts}
 use Rattle.row_loop.specs.Made.{waiting, ended, cancelled, waits, waits_marked, free, free_marked, handle, dead, timer, parts_of}

@@ -2,7 +2,7 @@
 ghost use Rattle.std.specs.Prelude.{◌≡◌, [], ◌∷◌, true, false};
 ghost use Rattle.model_value.specs.declared.input.Input.TheVariants.{Throw};
 ghost use Rattle.model_loop.specs.Cancel.{cancel, cancel_with, answers};
-ghost use Rattle.model_loop.specs.Tasks.{begin_step, first_input, cancelled_error};
+ghost use Rattle.model_loop.specs.Tasks.{begin_step, cancelled_error};
 ghost use Rattle.model_loop.specs.Spent.{is_spent};
 ghost use Rattle.model_loop.specs.Circles.{leads};
 ghost use Rattle.row_loop.specs.Steps.{sleeping, woken_at_once, woken_and_marked, begun};
@@ -40,8 +40,7 @@ pub fn no_member_left()
 pub fn two_before_one_step()
     ensures first { cancel 0 sleeping ≡ answers true (0 ∷ []) (woken_at_once 1) }
     ensures second { cancel 0 (woken_at_once 1) ≡ answers true (0 ∷ []) (woken_and_marked 2) }
-    ensures step { begin_step 0 (woken_and_marked 2) ≡ begun 2 }
-    ensures input { first_input (woken_and_marked 2) 0 (Throw cancelled_error) ≡ Throw cancelled_error }
+    ensures step { begin_step 0 (Throw cancelled_error) (woken_and_marked 2) ≡ record { parts = begun 2; input = Throw cancelled_error } }
 {}
 
 /// Two members wait for one future: the second finds it done, and is marked.

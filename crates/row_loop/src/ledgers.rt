@@ -4,17 +4,15 @@ ghost use Rattle.model_loop.specs.Ending.{cancel_everything};
 ghost use Rattle.model_loop.specs.Ledger.{ByScript, ByTimeout, ByGroup, Asked, Raised, Took, request, uncancel_by};
 ghost use Rattle.row_loop.specs.Cancels.{chain, chain_cancelled, all_done, full_count, full_count_cancelled};
 ghost use Rattle.row_loop.specs.Steps.{running_marked};
-ghost use Rattle.row_loop.specs.Ledgers.{main_done, all_cancelled};
+ghost use Rattle.row_loop.specs.Ledgers.{main_done, all_cancelled, requested};
 
 /// A request is booked with each count that it raises, in the order in which it comes to the tasks.
 pub fn books_requests()
     ensures chain { request (ByScript 7) 0 chain
-        ≡ record {
-          parts = chain_cancelled;
-          entries = Asked (ByScript 7) ∷ Raised 0 (ByScript 7) ∷ Raised 1 (ByScript 7) ∷ Raised 2 (ByScript 7) ∷ [];
-        } }
-    ensures refused { request (ByScript 7) 4 all_done ≡ record { parts = all_done; entries = Asked (ByScript 7) ∷ [] } }
-    ensures at_the_greatest { request (ByGroup 0) 0 full_count ≡ record { parts = full_count_cancelled; entries = Asked (ByGroup 0) ∷ [] } }
+        ≡ requested true chain_cancelled
+        (Asked (ByScript 7) ∷ Raised 0 (ByScript 7) ∷ Raised 1 (ByScript 7) ∷ Raised 2 (ByScript 7) ∷ []) }
+    ensures refused { request (ByScript 7) 4 all_done ≡ requested false all_done (Asked (ByScript 7) ∷ []) }
+    ensures at_the_greatest { request (ByGroup 0) 0 full_count ≡ requested true full_count_cancelled (Asked (ByGroup 0) ∷ []) }
 {}
 
 /// An `uncancel` is booked, with whether the count fell.

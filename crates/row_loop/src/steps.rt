@@ -1,12 +1,13 @@
 //! The parts of a task's step.
-ghost use Rattle.std.specs.Prelude.{◌≡◌, [], ◌∷◌, true, false, Some, None, codes};
+ghost use Rattle.std.specs.Prelude.{◌≡◌, [], ◌∷◌, true, false, Some, None, Ok, Err, codes};
 ghost use Rattle.model_value.specs.declared.input.Input.TheVariants.{Send, Throw};
 ghost use Rattle.model_value.specs.declared.kind.Kind.TheVariants.{CancelledError, RuntimeError};
 ghost use Rattle.model_value.specs.declared.outcome.Outcome.TheVariants.{Value as Returned, Failed, Cancelled};
-ghost use Rattle.model_value.specs.Action.{Step, StepInCircle, Itself, ItsWaiter};
+ghost use Rattle.model_value.specs.declared.action.Action.TheVariants.{Step, StepInCircle};
+ghost use Rattle.model_value.specs.declared.action.Circle.TheVariants.{Itself, ItsWaiter};
 ghost use Rattle.model_value.specs.Value.{Nothing, Truth, exception_of};
 ghost use Rattle.model_loop.specs.Handles.{due, revoke};
-ghost use Rattle.model_loop.specs.Tasks.{spawn, pause, begin_step, first_input, cancelled_error, return_value, raise_fault, uncancel, cancelling};
+ghost use Rattle.model_loop.specs.Tasks.{spawn, pause, begin_step, cancelled_error, finish, uncancel, cancelling};
 ghost use Rattle.model_loop.specs.Circles.{circle, circle_fault};
 ghost use Rattle.model_loop.specs.Ledger.{Asked, Raised, ByWait, unbooked};
 ghost use Rattle.model_loop.specs.Suspend.{suspend};
@@ -39,22 +40,22 @@ pub fn refuses_circles()
 
 /// A step takes the mark away and throws CancelledError, but for an input that throws one already.
 pub fn begins_steps()
-    ensures parts { begin_step 0 (woken_and_marked 2) ≡ begun 2 }
-    ensures sent { first_input (woken_and_marked 2) 0 (Send Nothing) ≡ Throw cancelled_error }
-    ensures thrown { first_input (woken_and_marked 2) 0 (Throw (value_error (codes "a"))) ≡ Throw cancelled_error }
-    ensures cancelled { first_input (woken_and_marked 2) 0 (Throw (exception_of CancelledError (codes "a")))
+    ensures parts { (begin_step 0 (Send Nothing) (woken_and_marked 2)).parts ≡ begun 2 }
+    ensures sent { (begin_step 0 (Send Nothing) (woken_and_marked 2)).input ≡ Throw cancelled_error }
+    ensures thrown { (begin_step 0 (Throw (value_error (codes "a"))) (woken_and_marked 2)).input ≡ Throw cancelled_error }
+    ensures cancelled { (begin_step 0 (Throw (exception_of CancelledError (codes "a"))) (woken_and_marked 2)).input
         ≡ Throw (exception_of CancelledError (codes "a")) }
-    ensures unmarked { first_input running 0 (Send (Truth true)) ≡ Send (Truth true) }
+    ensures unmarked { (begin_step 0 (Send (Truth true)) running).input ≡ Send (Truth true) }
 {}
 
 /// What a step ends with.
 pub fn ends_steps()
     ensures pauses { pause 0 running ≡ paused (Step 0) }
-    ensures returns { return_value 0 (Truth true) running ≡ ended_as (Returned (Truth true)) }
-    ensures returns_marked { return_value 0 (Truth true) (running_marked 1) ≡ ended_counted_as Cancelled }
-    ensures raises { raise_fault 0 (value_error (codes "a")) running ≡ ended_as (Failed (value_error (codes "a"))) }
-    ensures raises_cancelled { raise_fault 0 (exception_of CancelledError (codes "a")) running ≡ ended_as Cancelled }
-    ensures raises_marked { raise_fault 0 (value_error (codes "a")) (running_marked 1) ≡ ended_marked_as (Failed (value_error (codes "a"))) }
+    ensures returns { finish 0 (Ok (Truth true)) running ≡ ended_as (Returned (Truth true)) }
+    ensures returns_marked { finish 0 (Ok (Truth true)) (running_marked 1) ≡ ended_counted_as Cancelled }
+    ensures raises { finish 0 (Err (value_error (codes "a"))) running ≡ ended_as (Failed (value_error (codes "a"))) }
+    ensures raises_cancelled { finish 0 (Err (exception_of CancelledError (codes "a"))) running ≡ ended_as Cancelled }
+    ensures raises_marked { finish 0 (Err (value_error (codes "a"))) (running_marked 1) ≡ ended_marked_as (Failed (value_error (codes "a"))) }
 {}
 
 /// `uncancel` lowers a positive count, and leaves the mark.

@@ -3,10 +3,10 @@ ghost use Rattle.std.specs.Prelude.{◌≡◌, ◌++◌, [], ◌∷◌, true, fa
 ghost use Rattle.model_value.specs.declared.kind.Kind.TheVariants.{RuntimeError};
 ghost use Rattle.model_value.specs.Value.{exception_of};
 ghost use Rattle.model_loop.specs.Loop.{Created, Active, Expiring, Expired, Finished, in_parts};
-ghost use Rattle.model_loop.specs.Tasks.{begin_step, cancelled_error};
-ghost use Rattle.model_loop.specs.Timeouts.{enter_timeout, reschedule, reschedule_fault, fire, exit_timeout, times_out, has_expired};
+ghost use Rattle.model_loop.specs.Tasks.{cancelled_error};
+ghost use Rattle.model_loop.specs.Timeouts.{enter_timeout, reschedule, reschedule_fault, fire, exit_timeout, has_expired};
 ghost use Rattle.row_loop.specs.Made.{value_error};
-ghost use Rattle.row_loop.specs.Nested.{before, entered, both_due, outer_fired, both_fired, stepping, both_asked, inner_took, outer_took, alone_due, alone_later, alone_soon, alone_never, alone_left, alone_waiting, alone_waited, alone_expiring};
+ghost use Rattle.row_loop.specs.Nested.{before, entered, both_due, outer_fired, both_fired, stepping, both_asked, inner_took, outer_took, alone_due, alone_later, alone_soon, alone_never, alone_left, alone_waiting, alone_waited, alone_expiring, left};
 
 /// Both fire in one turn. The inner exit finds a second cancel and lets CancelledError pass, and the outer one raises
 /// TimeoutError.
@@ -14,12 +14,10 @@ pub fn nested_with_one_deadline()
     ensures entered { enter_timeout 0 (Some (pos 10)) (enter_timeout 0 (Some (pos 10)) before) ≡ entered }
     ensures outer_fires { fire 0 both_due ≡ outer_fired }
     ensures inner_fires { fire 1 outer_fired ≡ both_fired }
-    ensures inner_passes { times_out (Some cancelled_error) 1 (stepping 2 Expiring Expiring both_asked) ≡ false }
-    ensures inner_left { exit_timeout 1 (stepping 2 Expiring Expiring both_asked)
-        ≡ stepping 1 Expiring Expired (both_asked ++ inner_took) }
-    ensures outer_raises { times_out (Some cancelled_error) 0 (stepping 1 Expiring Expired (both_asked ++ inner_took)) ≡ true }
-    ensures outer_left { exit_timeout 0 (stepping 1 Expiring Expired (both_asked ++ inner_took))
-        ≡ stepping 0 Expired Expired (both_asked ++ inner_took ++ outer_took) }
+    ensures inner_passes { exit_timeout (Some cancelled_error) 1 (stepping 2 Expiring Expiring both_asked)
+        ≡ left false (stepping 1 Expiring Expired (both_asked ++ inner_took)) }
+    ensures outer_raises { exit_timeout (Some cancelled_error) 0 (stepping 1 Expiring Expired (both_asked ++ inner_took))
+        ≡ left true (stepping 0 Expired Expired (both_asked ++ inner_took ++ outer_took)) }
 {}
 
 /// A new deadline gives the old handle up, even one that is pending already.
@@ -34,14 +32,13 @@ pub fn reschedules()
 
 /// What an exit makes of the exception with which its block ends.
 pub fn exits()
-    ensures in_time { exit_timeout 0 alone_due ≡ alone_left }
-    ensures in_time_with_timer { exit_timeout 0 alone_waiting ≡ alone_waited }
-    ensures in_time_passes { times_out (Some cancelled_error) 0 alone_due ≡ false }
-    ensures raises { times_out (Some cancelled_error) 0 (alone_expiring 1) ≡ true }
-    ensures no_exception { times_out None 0 (alone_expiring 1) ≡ false }
-    ensures other_exception { times_out (Some (value_error [])) 0 (alone_expiring 1) ≡ false }
-    ensures other_cancel { times_out (Some cancelled_error) 0 (alone_expiring 2) ≡ false }
-    ensures taken_back_by_the_script { times_out (Some cancelled_error) 0 (alone_expiring 0) ≡ true }
+    ensures in_time { exit_timeout (Some cancelled_error) 0 alone_due ≡ left false alone_left }
+    ensures in_time_with_timer { exit_timeout None 0 alone_waiting ≡ left false alone_waited }
+    ensures raises { (exit_timeout (Some cancelled_error) 0 (alone_expiring 1)).timed_out ≡ true }
+    ensures no_exception { (exit_timeout None 0 (alone_expiring 1)).timed_out ≡ false }
+    ensures other_exception { (exit_timeout (Some (value_error [])) 0 (alone_expiring 1)).timed_out ≡ false }
+    ensures other_cancel { (exit_timeout (Some cancelled_error) 0 (alone_expiring 2)).timed_out ≡ false }
+    ensures taken_back_by_the_script { (exit_timeout (Some cancelled_error) 0 (alone_expiring 0)).timed_out ≡ true }
     ensures expired { has_expired Expiring ≡ true }
     ensures expired_after { has_expired Expired ≡ true }
     ensures not_expired { has_expired Active ≡ false }

@@ -2,7 +2,7 @@ use Rattle.std.proofs.Common.{ap, ◌∙◌, List, ℕ}
 use Rattle.std.proofs.lemmas.Result.{IfOk-weaker, IfErr-weaker}
 use Rattle.model_text.specs.Canonical.{canonical}
 use Rattle.model_wire.specs.Told.{grown, Rose}
-use Rattle.model_machine.specs.Program.{Output, MayCheck}
+use Rattle.model_straight.specs.Program.{Output, MayCheck}
 use Rattle.aio_run.proofs.Outcomes.{check_by_script, line_early}
 use Rattle.aio_run.proofs.checking.check.Goals as goal
 

@@ -1,7 +1,7 @@
 use Rattle.std.proofs.Common.{ap, ◌∙◌, subst, List}
 use Rattle.std.proofs.lemmas.Result.{err_from_is_err_and}
 use Rattle.model_wire.specs.Call.{Answer}
-use Rattle.model_machine.specs.Transcript.{lines_of_events}
+use Rattle.model_straight.specs.Transcript.{lines_of_events}
 use Rattle.aio_wire.specs.Told.{answer_of}
 use Rattle.aio_run.specs.Kernel.{Turned}
 use Rattle.aio_run.specs.Events.{plain_events}

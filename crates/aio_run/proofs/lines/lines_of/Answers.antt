@@ -1,5 +1,5 @@
 use Rattle.std.proofs.Common.{◌∙◌, ◌++◌, ap, sym, List, ℕ}
-use Rattle.model_machine.specs.Transcript.{line_of}
+use Rattle.model_straight.specs.Transcript.{line_of}
 use Rattle.aio_run.specs.Events.{plain_event}
 use Rattle.aio_run.proofs.Turning.{lines_all, lines_more}
 use Rattle.aio_run.proofs.lines.lines_of.Goals as goal

@@ -1,5 +1,5 @@
 use Rattle.std.proofs.Common.{◌≡◌, ℕ, take}
-use Rattle.model_machine.specs.Transcript.{lines_of_events}
+use Rattle.model_straight.specs.Transcript.{lines_of_events}
 use Rattle.aio_run.specs.Events.{plain_events}
 use Rattle.aio_run.proofs.lines.lines_of.Given as goal
 

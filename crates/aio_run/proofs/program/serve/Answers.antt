@@ -1,7 +1,7 @@
 use Rattle.std.proofs.Common.{Option, refl, subst}
 use Rattle.std.proofs.lemmas.Result.{IfOk-weaker, IfErr-weaker}
 use Rattle.model_wire.specs.Told.{Rose}
-use Rattle.model_machine.specs.Program.{MayWrite, words_refused}
+use Rattle.model_straight.specs.Program.{MayWrite, words_refused}
 use Rattle.model_machine.specs.Words.{Command}
 use Rattle.aio_run.proofs.Outcomes.{line_early}
 use Rattle.aio_run.proofs.program.serve.Goals as goal

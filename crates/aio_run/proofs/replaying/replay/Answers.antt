@@ -1,8 +1,8 @@
 use Rattle.std.proofs.Common.{ap, arith, List, ℕ, Option}
 use Rattle.std.proofs.lemmas.Result.{IfOk-weaker, IfErr-weaker}
 use Rattle.model_wire.specs.Told.{Rose}
-use Rattle.model_machine.specs.Program.{MayRunIf, MayReplay}
-use Rattle.model_machine.specs.StraightScripts.{straight_of}
+use Rattle.model_straight.specs.Program.{MayRunIf, MayReplay}
+use Rattle.model_straight.specs.StraightScripts.{straight_of}
 use Rattle.aio_run.proofs.Outcomes.{whole_wider, early_wider, replay_by_script, rose_since}
 use Rattle.aio_run.proofs.replaying.replay.Goals as goal
 

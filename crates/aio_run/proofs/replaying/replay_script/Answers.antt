@@ -1,9 +1,9 @@
 use Rattle.std.proofs.Common.{ap, sym, ◌∙◌, refl, subst, List, Option, option_map}
 use Rattle.std.proofs.lemmas.Result.{IfOk-weaker, IfErr-weaker}
-use Rattle.model_says.specs.Straight.{Line}
+use Rattle.model_straight.specs.Straight.{Line}
 use Rattle.model_wire.specs.Told.{Rose}
-use Rattle.model_machine.specs.Program.{MayRunIf, not_run}
-use Rattle.model_machine.specs.StraightScripts.{straight_of}
+use Rattle.model_straight.specs.Program.{MayRunIf, not_run}
+use Rattle.model_straight.specs.StraightScripts.{straight_of}
 use Rattle.aio_straight.specs.Lines.{plain_program}
 use Rattle.aio_straight.specs.declared.program.Program.{Program}
 use Rattle.aio_run.proofs.Outcomes.{line_early}

@@ -1,8 +1,8 @@
 use Rattle.std.proofs.Common.{ap, sym, ◌∙◌, refl, subst, List, [], ℕ}
 use Rattle.std.proofs.lemmas.Result.{IfOk-weaker, IfErr-weaker}
 use Rattle.model_wire.specs.Told.{grown}
-use Rattle.model_machine.specs.Program.{Output, faulted}
-use Rattle.model_machine.specs.Transcript.{line}
+use Rattle.model_straight.specs.Program.{Output, faulted}
+use Rattle.model_straight.specs.Transcript.{line}
 use Rattle.aio_run.specs.Script.{Tells, refusal_text}
 use Rattle.aio_run.specs.declared.script.NoScript.{NoScript}
 use Rattle.aio_run.proofs.Outcomes.{line_early}

@@ -1,5 +1,5 @@
 use Rattle.std.proofs.Common.{◌≡◌, ◌++◌, take}
-use Rattle.model_machine.specs.Step.{shown_behind}
+use Rattle.model_straight.specs.Step.{shown_behind}
 use Rattle.aio_run.proofs.stepping.show_behind.Given as goal
 
 abbrev pub invariant-loop-value : goal.invariant-loop-value

@@ -1,6 +1,6 @@
 use Rattle.std.proofs.Common.{◌≡◌, drop}
 use Rattle.model_text.specs.Levels.{all_of}
-use Rattle.model_machine.specs.StraightScripts.{literal_value}
+use Rattle.model_straight.specs.StraightScripts.{literal_value}
 use Rattle.aio_straight.proofs.Rows.{behind}
 use Rattle.aio_straight.proofs.line.literal_values.Given as goal
 

@@ -1,6 +1,6 @@
 use Rattle.std.proofs.Common.{◌≡◌, drop}
 use Rattle.model_text.specs.Levels.{all_of}
-use Rattle.model_machine.specs.StraightScripts.{straight_line}
+use Rattle.model_straight.specs.StraightScripts.{straight_line}
 use Rattle.aio_straight.specs.Lines.{plain_lines}
 use Rattle.aio_straight.proofs.Rows.{behind}
 use Rattle.aio_straight.proofs.reading.lines_of.Given as goal
