@@ -1,1 +1,15 @@
+pub mod Arguments
+pub mod End
+pub mod Event
+pub mod Extra
+pub mod Mids
+pub mod Outcomes
+pub mod Outside
+pub mod Replies
+pub mod Run
+pub mod State
+pub mod Step
+pub mod Told
+pub mod Turn
+pub mod Went
 pub mod Words
