@@ -1,11 +1,11 @@
 //! The one loop that holds kernel, wire and sink.
 ghost use Rattle.std.specs.Prelude.{◌≡◌, ◌≤◌, IfOk, IfErr, OnOk};
 ghost use Rattle.model_wire.specs.Call.{Turn};
-ghost use Rattle.model_wire.specs.Told.{grown};
+ghost use Rattle.model_wire.specs.Told.{took};
 ghost use Rattle.model_straight.specs.Transcript.{line, ending_text, status_of};
 ghost use Rattle.aio_wire.specs.Told.{answer_of};
 ghost use Rattle.aio_straight.specs.Lines.{plain_program};
-ghost use Rattle.aio_run.specs.Drive.{Ran, Stopped, StopsInTurn, TurnWritten};
+ghost use Rattle.aio_run.specs.Drive.{Ran, Stopped, StopsInTurn, TurnWritten, UnlessWire};
 ghost use Rattle.aio_run.specs.Ending.{plain_ending};
 ghost use Rattle.aio_run.specs.Writing.{StopsWriting};
 
@@ -25,13 +25,13 @@ pub fn drive<W: Wire, K: Sink>(
     wire: &mut W,
     out: &mut K,
 ) -> Result<u8, Halt>
-    ensures run { IfOk result (Ran (plain_program program) (W.answers wire.old) (K.taken out.old) (K.taken out.new)) }
+    ensures run { IfOk result (Ran (plain_program program) (W.answers wire.old) (K.seen out.old) (K.seen out.new)) }
     ensures live { IfOk result (λ _. W.fails wire.old → ⊥) }
-    ensures failing { W.fails wire.old → K.taken out.new ≡ K.taken out.old }
-    ensures stopped { IfErr result (Stopped (plain_program program) (W.answers wire.old) (K.taken out.old) (K.taken out.new)
-        (W.faults wire.old) (W.faults wire.new) (K.faults out.old) (K.faults out.new)) }
-    ensures later { W.faults wire.old ≤ W.faults wire.new }
-    ensures sink { K.faults out.old ≤ K.faults out.new }
+    ensures failing { W.fails wire.old → K.seen out.new ≡ K.seen out.old }
+    ensures stopped { IfErr result (Stopped (plain_program program) (W.answers wire.old) (K.seen out.old) (K.seen out.new)
+        (W.faults wire.old) (W.faults wire.new)) }
+    ensures quiet { OnOk result (W.quiet wire.old wire.new) }
+    ensures still { IfErr result (UnlessWire (W.quiet wire.old wire.new)) }
     ensures keeps { W.keeps wire.old wire.new }
 {
     let mut kernel = Kernel::new(program);
@@ -60,9 +60,8 @@ fn take_turn<K: Sink>(
     answer: Answer,
     out: &mut K,
 ) -> Result<(), Halt>
-    ensures ok { OnOk result (TurnWritten kernel.old kernel.new (answer_of answer) (K.taken out.old) (K.taken out.new)) }
-    ensures err { IfErr result (StopsInTurn kernel.old (answer_of answer) (K.taken out.old) (K.taken out.new) (K.faults out.old) (K.faults out.new)) }
-    ensures later { K.faults out.old ≤ K.faults out.new }
+    ensures ok { OnOk result (TurnWritten kernel.old kernel.new (answer_of answer) (K.seen out.old) (K.seen out.new)) }
+    ensures err { IfErr result (StopsInTurn kernel.old (answer_of answer) (K.seen out.old) (K.seen out.new)) }
 {
     let told = kernel.turn(alloc, time_of(answer))?;
     let text = lines_of(alloc, told.as_slice())?;
@@ -82,9 +81,9 @@ fn time_of(answer: Answer) -> u64
 /// Writes a run's last line, and answers its status.
 fn finish<K: Sink>(alloc: Global, ending: &Ending, out: &mut K) -> Result<u8, Halt>
     ensures ok { IfOk result (λ status. (status ≡ status_of (plain_ending ending.now))
-        × (K.taken out.new ≡ grown (K.taken out.old) (line (ending_text (plain_ending ending.now))))) }
-    ensures err { IfErr result (StopsWriting (line (ending_text (plain_ending ending.now))) (K.taken out.old) (K.taken out.new) (K.faults out.old) (K.faults out.new)) }
-    ensures later { K.faults out.old ≤ K.faults out.new }
+        × (K.seen out.new ≡ took (K.seen out.old) (line (ending_text (plain_ending ending.now))))) }
+    ensures err { IfErr result (StopsWriting (line (ending_text (plain_ending ending.now)))
+        (K.seen out.old) (K.seen out.new)) }
 {
     let text = ending.line(alloc)?;
     write_all(alloc, out, text.as_bytes())?;

@@ -24,3 +24,10 @@ FailedIfRose before now (Got answer) = Unit {0}
 FailedIfRose before now Over = Unit {0}
 FailedIfRose before now (Bad fault) = Unit {0}
 FailedIfRose before now Failed = Rose before now
+
+-- a fact that holds unless the wire failed
+abbrev pub UnlessFailed : Type 0 → Reply → Type 0
+UnlessFailed fact (Got answer) = fact
+UnlessFailed fact Over = fact
+UnlessFailed fact (Bad fault) = fact
+UnlessFailed fact Failed = Unit {0}

@@ -9,6 +9,7 @@ pub mod Replies
 pub mod Run
 pub mod State
 pub mod Step
+pub mod Theorem
 pub mod Told
 pub mod Turn
 pub mod Went
