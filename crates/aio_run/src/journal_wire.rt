@@ -52,17 +52,23 @@ impl<'a, F: Shelf> JournalWire<'a, F, Buffers> {
 
 impl<'a, F: Shelf> Wire for JournalWire<'a, F, Buffers> {
     ghost use Rattle.std.specs.Prelude.{◌≡◌, ◌≤◌, None, Some};
-    ghost use Rattle.aio_run.specs.JournalWire.{left_of};
+    ghost use Rattle.aio_run.specs.JournalWire.{left_of, end_of};
 
     ghost faults = { λ wire. F.faults wire.shelf.now };
 
     ghost answers = { λ wire. left_of (F.file wire.shelf.now wire.name.now) wire.own.journal };
+
+    ghost end = { λ wire. end_of wire.own.journal };
 
     ghost fails = { λ wire. (wire.own.journal ≡ None) × (F.file wire.shelf.now wire.name.now ≡ Some None) };
 
     ghost keeps = { λ old new. (new.shelf.ghost_name ≡ old.shelf.ghost_name)
         × (F.file new.shelf.now ≡ F.file old.shelf.now)
         × (F.faults old.shelf.now ≤ F.faults new.shelf.now) };
+
+    ghost use Rattle.aio_run.specs.JournalWire.{ends_as_left};
+
+    ghost end_agrees = { λ wire. ends_as_left (F.file wire.shelf.now wire.name.now) wire.own.journal };
 
     ghost use Rattle.std.specs.Prelude.{refl};
     ghost use Rattle.std.proofs.Common.{sym, ◌∙◌, arith};

@@ -14,3 +14,9 @@ grown (Some held) piece = Some (held ++ piece)
 -- A count rose between two moments, where it may stand at its type's last value.
 abbrev pub Rose : ℕ → ℕ → Type 0
 Rose before now = min (before + 1) (2 ^ 64 - 1) ≤ now
+
+-- How a wire ended: not yet, with no answer left, or at a line that is no entry, with its number and cause.
+pub data WireEnd : Type 0 where
+  Going : WireEnd
+  OutOfAnswers : WireEnd
+  AtRefused : (line cause : ℕ) → WireEnd
