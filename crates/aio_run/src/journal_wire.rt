@@ -52,11 +52,13 @@ impl<'a, F: Shelf> JournalWire<'a, F, Buffers> {
 
 impl<'a, F: Shelf> Wire for JournalWire<'a, F, Buffers> {
     ghost use Rattle.std.specs.Prelude.{◌≡◌, None, Some};
-    ghost use Rattle.aio_run.specs.JournalWire.{left_of};
+    ghost use Rattle.aio_run.specs.JournalWire.{left_of, end_of};
 
     ghost faults = { λ wire. (F.seen wire.shelf.now).faults wire.name.now };
 
     ghost answers = { λ wire. left_of ((F.seen wire.shelf.now).file wire.name.now) wire.own.journal };
+
+    ghost end = { λ wire. end_of wire.own.journal };
 
     ghost fails = { λ wire. (wire.own.journal ≡ None) × ((F.seen wire.shelf.now).file wire.name.now ≡ Some None) };
 
@@ -64,6 +66,10 @@ impl<'a, F: Shelf> Wire for JournalWire<'a, F, Buffers> {
         × ((F.seen new.shelf.now).file ≡ (F.seen old.shelf.now).file) };
 
     ghost quiet = { λ old new. F.seen new.shelf.now ≡ F.seen old.shelf.now };
+
+    ghost use Rattle.aio_run.specs.JournalWire.{ends_as_left};
+
+    ghost end_agrees = { λ wire. ends_as_left ((F.seen wire.shelf.now).file wire.name.now) wire.own.journal };
 
     ghost use Rattle.std.specs.Prelude.{refl};
     ghost use Rattle.std.proofs.Common.{◌∙◌};

@@ -1,6 +1,4 @@
 pub mod Arguments
-pub mod End
-pub mod Event
 pub mod Extra
 pub mod Mids
 pub mod Outcomes

@@ -4,9 +4,9 @@ use Rattle.std.specs.Prelude.{ℕ, zero, suc, Bool, true, false, List, [], ◌�
 use Rattle.model_wire.specs.Call.{Answer, Call}
 use Rattle.model_wire.specs.Journal.{Entry, Answered, Refused}
 use Rattle.model_loop.specs.Parts.{Handle}
-use Rattle.model_machine.specs.Event as event
+use Rattle.model_wire.specs.declared.event.Event.TheVariants as event
 use Rattle.model_machine.specs.Extra.{Extra}
-use Rattle.model_machine.specs.Outside.{fits}
+use Rattle.model_wire.specs.Fits.{fits}
 use Rattle.model_machine.specs.State.{State, noted, unbooked_in}
 use Rattle.model_machine.specs.Turn.{call_of, is_stalled, run_first, woken_by}
 use Rattle.model_machine.specs.Went.{Went, Goes, Stops}

@@ -5,8 +5,8 @@ use Rattle.model_value.specs.declared.input.Input.TheVariants.{Send, Throw}
 use Rattle.model_value.specs.declared.outcome.Outcome.TheVariants.{Value as Returned}
 use Rattle.model_value.specs.Action.{Action}
 use Rattle.model_value.specs.Value.{Nothing, Outcome}
-use Rattle.model_machine.specs.End as end
-use Rattle.model_machine.specs.Event as event
+use Rattle.model_wire.specs.declared.event.End.TheVariants as end
+use Rattle.model_wire.specs.declared.event.Event.TheVariants as event
 use Rattle.model_wire.specs.Call.{Call, Answer}
 use Rattle.model_loop.specs.Circles.{circle_fault}
 use Rattle.model_loop.specs.Ending.{cancel_everything}

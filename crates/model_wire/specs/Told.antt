@@ -45,3 +45,9 @@ NoneFell old new = (name : List ℕ) → old.faults name ≤ new.faults name
 -- a sink took this piece, and then it failed
 abbrev pub SinkFailed : List ℕ → SinkSeen → SinkSeen → Type 0
 SinkFailed piece old new = (new.taken ≡ grown old.taken piece) × Rose old.faults new.faults
+
+-- How a wire ended: not yet, with no answer left, or at a line that is no entry, with its number and cause.
+pub data WireEnd : Type 0 where
+  Going : WireEnd
+  OutOfAnswers : WireEnd
+  AtRefused : (line cause : ℕ) → WireEnd

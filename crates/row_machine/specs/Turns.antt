@@ -1,7 +1,7 @@
 -- Scripts whose runs show the order of handles.
 use Rattle.std.specs.Prelude.{ℕ, pos, List, [], ◌∷◌, Some, codes}
 use Rattle.model_value.specs.Value.{Nothing, Int}
-use Rattle.model_machine.specs.End.{Returned, Stalled}
+use Rattle.model_wire.specs.declared.event.End.TheVariants.{Returned, Stalled}
 use Rattle.row_machine.specs.Reading.{Seen, text, prints}
 
 abbrev pub first_come_first_run_text : List ℕ

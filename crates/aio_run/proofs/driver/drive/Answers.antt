@@ -1,6 +1,6 @@
 use Rattle.std.proofs.Common.{arith, [], refl, ap, sym, ◌∙◌}
 use Rattle.std.proofs.lemmas.Result.{err_from_is_err_and, IfOk-weaker, IfErr-weaker}
-use Rattle.aio_wire.specs.Told.{answer_of, call_of as plain_call}
+use Rattle.model_wire.specs.declared.call.Call.TheVariants.{Select}
 use Rattle.aio_straight.specs.Lines.{plain_program}
 use Rattle.aio_run.specs.Kernel.{starting}
 use Rattle.aio_run.proofs.Driving.{running_first, fits_starting, ends_run, ends_stops, ends_finished, ends_turns, ends_over, ends_bad, call_stops, wire_failed, turned_on, turn_stops_run, rose_earlier}
@@ -51,7 +51,7 @@ returns-in_err-take_turn-in-Got-clause-stopped g c =
     let replied = rw c.in-Got.is at c.in_ok-answer.ensures.replied in
     let p = err_from_is_err_and c.from_residual-in_err-take_turn-in-Got.result c.from_residual-in_err-take_turn-in-Got.ensures.1 in
     rw (p.1, p.2) (turn_stops_run running c.in_err-take_turn-in-Got.field-0.0 (g.W.Wire.answers c.ask.new.self)
-    (g.K.Sink.seen c.take_turn.new.out) (answer_of c.in-Got.answer) (sym c.is_over.ensures ∙ c.if-is_over.false) c.loop-made-test.true
+    (g.K.Sink.seen c.take_turn.new.out) c.in-Got.answer (sym c.is_over.ensures ∙ c.if-is_over.false) c.loop-made-test.true
     replied (g.W.Wire.faults c.args.wire.now) (g.W.Wire.faults c.ask.new.self) c.in_err-take_turn-in-Got.ensures.err)
 
 pub returns-in-Over-clause-run : goal.returns-in-Over-clause-run
@@ -59,8 +59,8 @@ returns-in-Over-clause-run g c =
     let l = c.loop-made in
     let (h, past, running) = l.invariant.running in
     let replied = rw c.in-Over.is at c.in_ok-answer.ensures.replied in
-    let ends = ends_over (g.W.Wire.answers l.wire) l._made l.kernel h (plain_call c.call-call.result) (sym c.is_over.ensures ∙ c.if-is_over.false)
-    c.loop-made-test.true c.call-call.ensures replied.0 in
+    let ends = ends_over (g.W.Wire.answers l.wire) l._made l.kernel h (Select c.wait-wait.result []) (sym c.is_over.ensures ∙ c.if-is_over.false)
+    c.loop-made-test.true c.wait-wait.ensures replied.0 in
     IfOk-weaker c.finish-in-Over.result _ _ (λ status d. ends_run running _ ends (g.K.Sink.seen c.finish-in-Over.new.out) status d.1 d.0) c.finish-in-Over.ensures.ok
 
 pub returns-in-Over-clause-stopped : goal.returns-in-Over-clause-stopped
@@ -68,8 +68,8 @@ returns-in-Over-clause-stopped g c =
     let l = c.loop-made in
     let (h, past, running) = l.invariant.running in
     let replied = rw c.in-Over.is at c.in_ok-answer.ensures.replied in
-    let ends = ends_over (g.W.Wire.answers l.wire) l._made l.kernel h (plain_call c.call-call.result) (sym c.is_over.ensures ∙ c.if-is_over.false)
-    c.loop-made-test.true c.call-call.ensures replied.0 in
+    let ends = ends_over (g.W.Wire.answers l.wire) l._made l.kernel h (Select c.wait-wait.result []) (sym c.is_over.ensures ∙ c.if-is_over.false)
+    c.loop-made-test.true c.wait-wait.ensures replied.0 in
     IfErr-weaker c.finish-in-Over.result _ _
     (λ halt d. ends_stops running _ ends (g.K.Sink.seen c.finish-in-Over.new.out) (g.W.Wire.faults c.args.wire.now) (g.W.Wire.faults c.ask.new.self) halt d) c.finish-in-Over.ensures.err
 
@@ -109,7 +109,7 @@ loop-made-preserved g c =
     let quiet = rw c.in-Got.is at c.in_ok-answer.ensures.quiet in
     record {
       running = turned_on running c.take_turn.new.kernel (g.W.Wire.answers c.ask.new.self) (g.K.Sink.seen c.take_turn.new.out)
-          (answer_of c.in-Got.answer) (sym c.is_over.ensures ∙ c.if-is_over.false) c.loop-made-test.true replied
+          c.in-Got.answer (sym c.is_over.ensures ∙ c.if-is_over.false) c.loop-made-test.true replied
           c.in_ok-take_turn-in-Got.ensures.ok;
       first = λ fails. absurd (let f = c.in_ok-answer.ensures.fails (l.invariant.first fails).0 in let e = c.in-Got.is in cc);
       wire_later = omega (arith, l.invariant.wire_later, c.ask.ensures.later);
