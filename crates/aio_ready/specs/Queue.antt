@@ -4,7 +4,7 @@ use Rattle.aio_ready.specs.Names.{marked}
 use Rattle.aio_ready.specs.declared.handle.Name.{Name}
 use Rattle.aio_ready.specs.declared.handle.Name.TheVariants.{Nameless, Given}
 use Rattle.aio_ready.specs.declared.handle.Handle.{Handle}
-use Rattle.model_value.specs.declared.action.Action.{Action}
+use Rattle.model_value.specs.Action.{Action}
 
 -- those before the bar and those after it, in the order in which they were appended, and how many numbers were given
 pub record Queue : Type 0 where
@@ -17,7 +17,7 @@ is_empty [] = true
 is_empty (handle ∷ handles) = false
 
 -- what they run, in order
-abbrev pub actions_of : List Handle → List (Action (List ℕ))
+abbrev pub actions_of : List Handle → List Action
 actions_of = map (λ (handle : Handle). handle.action)
 
 abbrev pub no_handles : Queue
@@ -35,15 +35,15 @@ abbrev pub given_after : Queue → ℕ
 given_after q = if nat_lt q.given most_given then q.given + 1 else q.given
 
 -- a handle behind all others
-abbrev pub appended : Name → Action (List ℕ) → Queue → Queue
+abbrev pub appended : Name → Action → Queue → Queue
 appended name action q = record q { after = q.after ++ record { name = name; action = action; dead = false } ∷ [] }
 
 -- `call_soon`
-abbrev pub soon : Action (List ℕ) → Queue → Queue
+abbrev pub soon : Action → Queue → Queue
 soon action q = record (appended (next_name q) action q) { given = given_after q }
 
 -- `call_soon` of each, in order
-abbrev pub soon_all : List (Action (List ℕ)) → Queue → Queue
+abbrev pub soon_all : List Action → Queue → Queue
 soon_all [] q = q
 soon_all (action ∷ actions) q = soon_all actions (soon action q)
 
@@ -60,12 +60,12 @@ abbrev pub from_live : List Handle → List Handle
 from_live [] = []
 from_live (handle ∷ handles) = if handle.dead then from_live handles else handle ∷ handles
 
-abbrev pub first_action : List Handle → Option (Action (List ℕ))
+abbrev pub first_action : List Handle → Option Action
 first_action [] = None
 first_action (handle ∷ handles) = Some handle.action
 
 -- what runs next before the bar, and what is left then; a dead one is skipped
-abbrev pub next_action : Queue → Option (Action (List ℕ))
+abbrev pub next_action : Queue → Option Action
 next_action q = first_action (from_live q.below)
 
 abbrev pub taken : Queue → Queue

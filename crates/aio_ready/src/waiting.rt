@@ -17,10 +17,10 @@ pub struct Waiting {
 
 impl Model for Waiting {
     ghost use Rattle.std.specs.Prelude.{List, ℕ, reverse};
-    ghost use Rattle.model_value.specs.declared.action.Action.{Action};
+    ghost use Rattle.model_value.specs.Action.{Action};
     ghost use Rattle.aio_ready.specs.Queue.{actions_of};
 
-    ghost Value = { List (Action (List ℕ)) };
+    ghost Value = { List Action };
 
     ghost view = { λ a. actions_of (reverse a.late) };
 }

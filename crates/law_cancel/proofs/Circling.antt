@@ -1,9 +1,10 @@
 -- No step of the parts makes a circle: a request, an outcome and a callback add no pass, and a wait adds one pass, which
 -- isn't part of a circle where the wait wasn't refused.
-use Rattle.std.proofs.Common.{◌≡◌, ◌≢◌, ℕ, ◌⊎◌, Bool, true, false, cond, ◌||◌, ◌==◌, List, [], ◌∷◌, ◌++◌, Option, Some, None, nat_eq, slice_get, slice_set, refl, ap, sym, ◌∙◌, inl, inr}
+use Rattle.std.proofs.Common.{◌≡◌, ◌≢◌, ℕ, ◌⊎◌, Bool, true, false, cond, ◌||◌, ◌==◌, List, [], ◌∷◌, ◌++◌, Option, Some, None, nat_eq, option_map, slice_get, slice_set, refl, ap, sym, ◌∙◌, inl, inr}
 use Rattle.std.specs.List.{list_any}
 use Rattle.std.specs.Option.{option_map_or, option_to_list}
 use Rattle.std.proofs.lemmas.Bool.{cases_eq, eqb-true, eq-eqb, or_cases}
+use Rattle.std.proofs.lemmas.Option.{none-some, same_Some}
 use Rattle.model_value.specs.declared.outcome.Outcome.TheVariants.{Cancelled}
 use Rattle.model_value.specs.Action.{Action, Circle}
 use Rattle.model_value.specs.declared.action.Action.TheVariants.{StepInCircle, Wakeup}
@@ -16,7 +17,8 @@ use Rattle.model_loop.specs.Tasks.{waiter_of, future_of, change_task, unmark, is
 use Rattle.model_loop.specs.Cancel.{cancel}
 use Rattle.model_loop.specs.Circles.{passes_of_kind, passes_until, passes_at, passes, PassesTo, Leads, at_once, through, leads, circle}
 use Rattle.model_loop.specs.Suspend.{wait_on, cancel_wait, suspend_unless, suspend}
-use Rattle.model_loop.specs.Sound.{HasNoCircle, OwnsFutures}
+use Rattle.model_loop.specs.Owning.{OwnsFutures, own_future, owner_at, owner_in}
+use Rattle.model_loop.specs.Sound.{HasNoCircle}
 use Rattle.law_cancel.proofs.Lookups.{get-set_same, get-set_other, get-set_kept}
 use Rattle.law_cancel.proofs.Effects.{settle-futures, settle-tasks, done_as, mark_asked-futures, mark_asked-tasks, asked_as, register-tasks, change_task-there, change_task-futures}
 use Rattle.law_cancel.proofs.Counting.{change_task-kept}
@@ -130,6 +132,18 @@ waiting-passes task on p x =
     w : Parts
     w = wait_on task on p
 
+-- a task's future has its task
+owned : (p : Parts) → OwnsFutures p → (x task : ℕ) (future : Future) → slice_get p.futures x ≡ Some future → future.kind ≡ OfTask task
+    → (it : Task) × (slice_get p.tasks task ≡ Some it) × (it.future ≡ x)
+owned p owns x task future e k = at (slice_get p.tasks task) refl
+  where
+    own : own_future p task ≡ Some x
+    own = (owns x task).0 (ap owner_at e ∙ ap owner_in k)
+
+    at : (o : Option Task) → slice_get p.tasks task ≡ o → (it : Task) × (slice_get p.tasks task ≡ Some it) × (it.future ≡ x)
+    at None n = absurd (none-some x (ap (option_map (λ (it : Task). it.future)) (sym n) ∙ own))
+    at (Some it) n = (it, n, same_Some it.future x (ap (option_map (λ (t : Task). t.future)) (sym n) ∙ own))
+
 edge_of : (task on : ℕ) (p : Parts) → OwnsFutures p → (x y : ℕ) → PassesTo (wait_on task on p) x y → Edge task on p x y
 edge_of task on p owns x y h =
     at (slice_get p.futures x) refl (ap (list_any (λ n. n == y)) (sym (waiting-passes task on p x)) ∙ h)
@@ -142,7 +156,7 @@ edge_of task on p owns x y h =
 
     mine : (future : Future) → slice_get p.futures x ≡ Some future → future.kind ≡ OfTask task → Hit (option_to_list (waiter_of (wait_on task on p) task)) → Edge task on p x y
     mine future e k hit =
-        let own = owns.of_futures x task future e k in
+        let own = owned p owns x task future e k in
         let last : (nat_eq on y || false) ≡ true = ap (λ o. list_any (λ n. n == y) (option_to_list o)) (sym (waiter-same task on p own.0 own.1)) ∙ hit in
         inr (sym (ap (λ o. option_map_or (λ (t : Task). t.future) o (next_future p)) own.1 ∙ own.2), first last)
       where

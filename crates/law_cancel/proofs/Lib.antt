@@ -3,6 +3,7 @@ pub mod Circling
 pub mod Counting
 pub mod Effects
 pub mod Lookups
+pub mod Meeting
 pub mod Reach
 pub mod Seen
 pub mod Total

@@ -82,14 +82,14 @@ abbrev AgreeBelow : ℕ → Canceller → Canceller → Type 0
 AgreeBelow n V W = (id : ℕ) (s : List ℕ) (p : Parts) → left (length p.tasks) s < n → V id s p ≡ W id s p
 
 -- a task that is visited leaves fewer
-fewer : (s : List ℕ) (p : Parts) (t : ℕ) (task : Task) → has_seen s t ≡ false → slice_get p.tasks t ≡ Some task → left (length (raise_count t p).tasks) (s ++ t ∷ []) < left (length p.tasks) s
+pub fewer : (s : List ℕ) (p : Parts) (t : ℕ) (task : Task) → has_seen s t ≡ false → slice_get p.tasks t ≡ Some task → left (length (raise_count t p).tasks) (s ++ t ∷ []) < left (length p.tasks) s
 fewer s p t task n e =
     let l : length (raise_count t p).tasks ≡ length p.tasks = length-change_task t _ p in
     let h = left-push (length p.tasks) s t (slice_get_within p.tasks t task e) n in
     rw l (omega arith)
 
 -- none of the changes of a request makes more tasks left
-no_more : {s : List ℕ} {p : Parts} {t : List ℕ} {q : Parts} → Goes s p t q → left (length q.tasks) t ≤ left (length p.tasks) s
+pub no_more : {s : List ℕ} {p : Parts} {t : List ℕ} {q : Parts} → Goes s p t q → left (length q.tasks) t ≤ left (length p.tasks) s
 no_more {p = p} g = rw (goes-tasks g) (goes-left (length p.tasks) g)
 
 below_same : (bound n : ℕ) (V W : Canceller) → IsRow V → AgreeBelow n V W → (id : ℕ) (s : List ℕ) (p : Parts) → left (length p.tasks) s ≤ n → cancel_below bound V id s p ≡ cancel_below bound W id s p

@@ -5,7 +5,8 @@ ghost use Rattle.model_loop.specs.Parts.{Parts};
 ghost use Rattle.model_loop.specs.Futures.{future_outcome, is_pending};
 ghost use Rattle.model_loop.specs.Tasks.{cancelling, one_more};
 ghost use Rattle.model_loop.specs.Spent.{spent_by, is_spent};
-ghost use Rattle.model_loop.specs.Cancel.{answers, has_seen, cancel_by, cancel_with, cancel};
+ghost use Rattle.model_loop.specs.Cancel.{Request, answers, has_seen, cancel_by, cancel_with, cancel};
+ghost use Rattle.model_loop.specs.Cancelling.{Cancels};
 ghost use Rattle.model_loop.specs.Numbered.{occurrences};
 
 /// A request ends: at each future it does what the definition says with the request itself for members and for what a
@@ -13,6 +14,13 @@ ghost use Rattle.model_loop.specs.Numbered.{occurrences};
 pub fn is_total()
     ensures { (id : ℕ) (seen : List ℕ) (p : Parts)
         → cancel_with id seen p ≡ cancel_by cancel_with cancel_with id seen p }
+{}
+
+/// It meets the rows that say what a request does, and it alone does.
+pub fn is_the_relation()
+    ensures meets { (id : ℕ) (seen : List ℕ) (p : Parts) → Cancels id seen p (cancel_with id seen p) }
+    ensures alone { (id : ℕ) (seen : List ℕ) (p : Parts) (request : Request)
+        → Cancels id seen p request → cancel_with id seen p ≡ request }
 {}
 
 /// So does the test whether a future is spent.

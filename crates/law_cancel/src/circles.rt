@@ -4,7 +4,8 @@ ghost use Rattle.model_loop.specs.Parts.{Parts};
 ghost use Rattle.model_loop.specs.Cancel.{cancel};
 ghost use Rattle.model_loop.specs.Circles.{Leads, leads};
 ghost use Rattle.model_loop.specs.Suspend.{suspend};
-ghost use Rattle.model_loop.specs.Sound.{HasNoCircle, OwnsFutures};
+ghost use Rattle.model_loop.specs.Owning.{OwnsFutures};
+ghost use Rattle.model_loop.specs.Sound.{HasNoCircle};
 
 /// The test tells exactly whether one future leads to another: as many passes as there are futures are enough.
 pub fn test_decides()

@@ -1,4 +1,4 @@
-//! Laws of the machine.
+//! Laws of the machine of straight programs.
 ghost use Rattle.std.specs.Prelude.{◌≡◌, ℕ, ◌+◌, ◌≤◌, List, length};
 ghost use Rattle.model_straight.specs.Straight.{Line};
 ghost use Rattle.model_wire.specs.Call.{Answer};

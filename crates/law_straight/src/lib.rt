@@ -1,4 +1,4 @@
-//! Laws of the reference machine's turns and runs.
+//! Laws of the turns and runs of straight programs.
 #![tactic(auto)]
 
 mod laws;

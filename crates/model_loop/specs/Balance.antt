@@ -6,6 +6,7 @@ use Rattle.std.specs.List.{count_by, list_any}
 use Rattle.model_loop.specs.Ledger.{Origin, ByTimeout, ByGroup, LedgerEntry, Asked, Raised, Took, Began, Booked}
 use Rattle.model_loop.specs.Parts.{Parts}
 use Rattle.model_loop.specs.Loop.{TimeoutState, Expired, Loop}
+use Rattle.model_loop.specs.Homes.{one_if}
 use Rattle.model_loop.specs.Tasks.{cancelling}
 use Rattle.model_loop.specs.Timeouts.{timeout_of, has_expired}
 use Rattle.model_loop.specs.Groups.{group_of}
@@ -57,10 +58,6 @@ asked_before_exit id (entry ∷ entries) =
     if asks (is_by_group id) entry then list_any (begins id) entries
     else (if begins id entry then false else asked_before_exit id entries)
 
-abbrev pub one_if : Bool → ℕ
-one_if true = 1
-one_if false = 0
-
 abbrev pub is_expired : TimeoutState → Bool
 is_expired Expired = true
 is_expired _ = false
@@ -70,4 +67,5 @@ pub record CountsBalance (l : Loop) : Type 0 where
   pub timeouts_ask : (id : ℕ) → count_by (asks (is_by_timeout id)) l.ledger ≡ one_if (has_expired (timeout_of l id).state)
   pub timeouts_take : (id : ℕ) → count_by (takes (is_by_timeout id)) l.ledger ≡ one_if (is_expired (timeout_of l id).state)
   pub groups_ask : (id : ℕ) → count_by (asks (is_by_group id)) l.ledger ≡ one_if (group_of l id).requested
+  pub groups_begin : (id : ℕ) → count_by (begins id) l.ledger ≡ one_if (group_of l id).exiting
   pub groups_take : (id : ℕ) → count_by (takes (is_by_group id)) l.ledger ≡ one_if (asked_before_exit id l.ledger)

@@ -1,5 +1,7 @@
 pub mod Balance
+pub mod Callbacks
 pub mod Cancel
+pub mod Cancelling
 pub mod Children
 pub mod Circles
 pub mod Deadlines
@@ -7,10 +9,12 @@ pub mod Ending
 pub mod Futures
 pub mod Groups
 pub mod Handles
+pub mod Homes
 pub mod Ledger
 pub mod Loop
 pub mod Marks
 pub mod Numbered
+pub mod Owning
 pub mod Parts
 pub mod Sound
 pub mod Spent

@@ -1,4 +1,4 @@
-//! Runs that are written by hand, with what the reference machine gives on them. Each function has no body: its clauses
+//! Runs that are written by hand, with what the machine of straight programs gives on them. Each function has no body: its clauses
 //! are the equations, and the check computes them.
 #![tactic(auto)]
 

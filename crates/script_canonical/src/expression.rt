@@ -4,9 +4,9 @@ ghost use Rattle.model_tree.specs.Syntax.{MakeError, exprs};
 ghost use Rattle.model_text.specs.Canonical.{expr_text, exprs_text, more_text, as_operand, in_parentheses};
 
 use crate::constant::push_constant;
-use crate::words::{name_of_function, push_name, text_of_comparison, text_of_operator};
+use crate::words::{push_name, text_of_comparison, text_of_operator};
 use aio_base::{Memory, name_of};
-use aio_syntax::{Expr, ExprCase, Kind};
+use aio_syntax::{Expr, ExprCase, Kind, name_of_function};
 use std::alloc::Global;
 
 #[cycle(expression)]

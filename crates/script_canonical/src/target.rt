@@ -5,10 +5,10 @@ ghost use Rattle.model_text.specs.Canonical.{target_text, manager_text, exprs_te
 ghost use Rattle.aio_program.specs.Target.{plain_target, plain_manager};
 
 use crate::expression::{push_expr, push_exprs, push_more};
-use crate::words::{name_of_request, push_name};
+use crate::words::push_name;
 use aio_base::Memory;
 use aio_program::{Manager, Target};
-use aio_syntax::ExprList;
+use aio_syntax::{ExprList, name_of_request};
 use std::alloc::Global;
 
 pub fn push_target(alloc: Global, target: &Target, out: &mut Vec<u8>) -> Result<(), Memory>

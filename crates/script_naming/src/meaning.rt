@@ -9,9 +9,9 @@ ghost use Rattle.script_naming.specs.Gives.{Gives, Fails};
 
 use crate::both::both;
 use crate::fault::MeaningFault;
-use crate::known::{function_of, is_made_by_error, kind_of_name};
+use crate::known::{is_made_by_error, kind_of_name};
 use crate::scope::Scope;
-use aio_syntax::{Constant, Expr, ExprList};
+use aio_syntax::{Constant, Expr, ExprList, function_of};
 use model_text::Cause;
 use script_term::{Term, TermCase};
 use std::alloc::{AllocError, Global};

@@ -11,11 +11,11 @@ ghost use Rattle.script_naming.specs.Gives.{Gives, Fails};
 
 use crate::both::{both, if_arity};
 use crate::fault::MeaningFault;
-use crate::known::{request_arity, request_of};
+use crate::known::request_arity;
 use crate::meaning::{all_meant, one_argument};
 use crate::scope::Scope;
 use aio_program::Target;
-use aio_syntax::ExprList;
+use aio_syntax::{ExprList, request_of};
 use model_text::Cause;
 use model_tree::RequestName;
 use script_term::{Arguments, Goal, Term};

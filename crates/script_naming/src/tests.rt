@@ -1,7 +1,7 @@
 // Scripts by the forms of their lines, and what the second pass tells of them, all worked out by hand from the rules.
-use crate::known::{function_of, is_taken, kind_of_name, request_arity, request_of};
+use crate::known::{is_taken, kind_of_name, request_arity};
 use crate::{profile_of, second_pass};
-use aio_syntax::Constant;
+use aio_syntax::{Constant, function_of, request_of};
 use model_tree::{Function, RequestName};
 use model_value::Kind;
 use script_term::{Arguments, Goal, NumberedForm, Spelled, Term, TermList};

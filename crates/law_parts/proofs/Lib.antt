@@ -1,0 +1,6 @@
+pub mod WalkLemmas
+pub mod WeightLemmas
+pub mod QuietLemmas
+pub mod SearchLemmas
+pub mod OpenLemmas
+pub mod ForgottenLemmas
