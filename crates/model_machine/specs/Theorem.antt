@@ -10,7 +10,7 @@ pub record Output : Type 0 where
   pub status : ℕ
 
 -- The outside at a moment: the shelf and the wire, and what is seen of the shelf and of the sink.
-pub record Outside (F W : Type 0) : Type 0 where
+pub record Moment (F W : Type 0) : Type 0 where
   pub shelf : F
   pub files : ShelfSeen
   pub wire : W
@@ -38,7 +38,7 @@ SinkStops may none_failed old new = (front : List ℕ) × MayBegin may none_fail
 
 -- The theorem: what the program does for the words behind its name, for every shelf, wire and sink, by its exit status.
 pub record Behaves {F W : Type 0} (may : ShelfSeen → ShelfSeen → Option Command → Output → Type 0) (given : List (List ℕ))
-    (old new : Outside F W) (status : ℕ) : Type 0 where
+    (old new : Moment F W) (status : ℕ) : Type 0 where
   -- Under every status but 9 and 11 the sink took exactly the text of an output that may be, and the status is its own.
   pub written : status ≢ 9 → status ≢ 11 → WritesWhole (may old.files new.files (command_of given)) old.sink new.sink status
   -- Under 9 it took the whole of an output that has this status, which there is only where a file failed; or it took a
