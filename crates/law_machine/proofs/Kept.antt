@@ -7,8 +7,8 @@ use Rattle.model_value.specs.Input.{Input}
 use Rattle.model_value.specs.Request.{Request}
 use Rattle.model_value.specs.Value.{Value, Outcome}
 use Rattle.model_says.specs.Tape.{Tape}
-use Rattle.model_machine.specs.Event as event
-use Rattle.model_machine.specs.Event.{Event}
+use Rattle.model_wire.specs.declared.event.Event.TheVariants as event
+use Rattle.model_wire.specs.Event.{Event}
 use Rattle.model_loop.specs.Futures.{next_future}
 use Rattle.model_loop.specs.Groups.{GroupExit, Waits, Passes, Raises as RaisedBy, Refusal, create, exit_begin, exit_woken, group_of, next_group, refusal}
 use Rattle.model_loop.specs.Ledger.{ByScript, uncancel_by}

@@ -7,11 +7,11 @@ use Rattle.model_value.specs.declared.input.Input.TheVariants.{Send, Throw}
 use Rattle.model_value.specs.Input.{Input}
 use Rattle.model_value.specs.Value.{Outcome}
 use Rattle.model_says.specs.Endings.{Saying, Asks, Returns, Raises as Raised, Runaway}
-use Rattle.model_machine.specs.End as end
-use Rattle.model_machine.specs.Event as event
+use Rattle.model_wire.specs.declared.event.End.TheVariants as end
+use Rattle.model_wire.specs.declared.event.Event.TheVariants as event
 use Rattle.model_wire.specs.Call.{Call, Answer}
-use Rattle.model_machine.specs.Event.{Event}
-use Rattle.model_machine.specs.Outside.{fits}
+use Rattle.model_wire.specs.Event.{Event}
+use Rattle.model_wire.specs.Fits.{fits}
 use Rattle.model_wire.specs.Journal.{Entry, Answered, Refused}
 use Rattle.model_loop.specs.Parts.{Handle}
 use Rattle.model_loop.specs.Tasks.{begin_step}
@@ -223,7 +223,7 @@ module _ {S : Type 0} (limit : ℕ) (added : Extra S) where
     where
       at : (b : Bool) → b ≡ false → Turned s (turn_unless limit added b s)
       at true n = absurd (true≢false n)
-      at false n = ask-turned s (call_of s) (turned_by limit added) (turned-on limit added)
+      at false n = ask-turned s (call_of added s) (turned_by limit added) (turned-on limit added)
 
   stalled : (s : State S) → is_stalled added s ≡ true → turn limit added s ≡ Stops end.Stalled s
   unfolding turn

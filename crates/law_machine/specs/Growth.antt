@@ -1,7 +1,7 @@
 -- Lists of events that only grow, and the turns in them.
 use Rattle.std.specs.Prelude.{◌≡◌, ℕ, suc, List, [], ◌∷◌, ◌++◌}
-use Rattle.model_machine.specs.Event as event
-use Rattle.model_machine.specs.Event.{Event}
+use Rattle.model_wire.specs.declared.event.Event.TheVariants as event
+use Rattle.model_wire.specs.Event.{Event}
 
 -- events go on with more
 abbrev pub GoesOn : List Event → List Event → Type 0

@@ -1,6 +1,4 @@
 pub mod Arguments
-pub mod End
-pub mod Event
 pub mod Extra
 pub mod Mids
 pub mod Outcomes
@@ -9,7 +7,9 @@ pub mod Replies
 pub mod Run
 pub mod State
 pub mod Step
+pub mod Theorem
 pub mod Told
+pub mod Transcript
 pub mod Turn
 pub mod Went
 pub mod Words

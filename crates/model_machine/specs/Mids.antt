@@ -4,9 +4,9 @@ use Rattle.std.specs.Prelude.{ℕ, zero, suc, Bool, true, false, List, [], ◌�
 use Rattle.model_wire.specs.Call.{Answer, Call}
 use Rattle.model_wire.specs.Journal.{Entry, Answered, Refused}
 use Rattle.model_loop.specs.Parts.{Handle}
-use Rattle.model_machine.specs.Event as event
+use Rattle.model_wire.specs.declared.event.Event.TheVariants as event
 use Rattle.model_machine.specs.Extra.{Extra}
-use Rattle.model_machine.specs.Outside.{fits}
+use Rattle.model_wire.specs.Fits.{fits}
 use Rattle.model_machine.specs.State.{State, noted, unbooked_in}
 use Rattle.model_machine.specs.Turn.{call_of, is_stalled, run_first, woken_by}
 use Rattle.model_machine.specs.Went.{Went, Goes, Stops}
@@ -44,7 +44,7 @@ module _ {S : Type 0} (limit : ℕ) (added : Extra S) where
 
   abbrev pub mids_unless : (stalled : Bool) → State S → List (State S)
   mids_unless true s = []
-  mids_unless false s = mids_by s.answers (call_of s) (noted (event.Called (call_of s)) s)
+  mids_unless false s = mids_by s.answers (call_of added s) (noted (event.Called (call_of added s)) s)
 
   abbrev pub mids : State S → List (State S)
   mids s = mids_unless (is_stalled added s) s

@@ -7,8 +7,8 @@ use Rattle.model_value.specs.Input.{Input}
 use Rattle.model_value.specs.declared.input.Input.TheVariants.{Send, Throw}
 use Rattle.model_value.specs.declared.outcome.Outcome.TheVariants.{Value as Returned, Failed, Cancelled}
 use Rattle.model_value.specs.Value.{Nothing, Outcome}
-use Rattle.model_machine.specs.End.{End}
-use Rattle.model_machine.specs.End as end
+use Rattle.model_wire.specs.Trace.{End}
+use Rattle.model_wire.specs.declared.event.End.TheVariants as end
 use Rattle.model_loop.specs.Parts.{Parts}
 use Rattle.model_loop.specs.Futures.{future_outcome}
 use Rattle.model_loop.specs.Tasks.{cancelled_error, future_of, lives, next_task, waiter_of}

@@ -14,9 +14,9 @@ use Rattle.model_value.specs.Shown.{shown}
 use Rattle.model_value.specs.Value.{Value, Nothing, Truth, Int, Fut, Task, Group, Timeout, Exc, Outcome, exception_of}
 use Rattle.model_says.specs.Operations.{out_of_range}
 use Rattle.model_says.specs.Requests.{bad_argument}
-use Rattle.model_machine.specs.End as end
-use Rattle.model_machine.specs.Event as event
-use Rattle.model_machine.specs.End.{End}
+use Rattle.model_wire.specs.declared.event.End.TheVariants as end
+use Rattle.model_wire.specs.declared.event.Event.TheVariants as event
+use Rattle.model_wire.specs.Trace.{End}
 use Rattle.model_loop.specs.Futures.{future_outcome, new_plain, next_future, settle}
 use Rattle.model_loop.specs.Groups.{GroupExit, Waits, Passes, Raises as RaisedBy, Exited, Refusal, create, enter_group, exit_begin, exit_woken, group_of, make_group, next_group, refusal, refusal_fault}
 use Rattle.model_loop.specs.Handles.{deadline, later}

@@ -2,10 +2,10 @@
 use Rattle.std.specs.Prelude.{ℕ, zero, suc, Bool, true, false, List}
 use Rattle.model_says.specs.Says.{step_limit}
 use Rattle.model_tree.specs.Syntax.{Program}
-use Rattle.model_machine.specs.End as end
-use Rattle.model_machine.specs.Event.{Event}
+use Rattle.model_wire.specs.declared.event.End.TheVariants as end
+use Rattle.model_wire.specs.Event.{Event}
 use Rattle.model_wire.specs.Journal.{Entry}
-use Rattle.model_machine.specs.End.{End}
+use Rattle.model_wire.specs.Trace.{End}
 use Rattle.model_machine.specs.Extra.{Extra, no_extra}
 use Rattle.model_machine.specs.State.{State, start}
 use Rattle.model_machine.specs.Turn.{is_stalled, turn}

@@ -6,7 +6,7 @@ use Rattle.model_tree.specs.Syntax.{Program}
 use Rattle.model_text.specs.SecondPass.{main_text}
 use Rattle.model_says.specs.Requests.{place_of}
 use Rattle.model_says.specs.Tape.{Tape}
-use Rattle.model_machine.specs.Event.{Event}
+use Rattle.model_wire.specs.Event.{Event}
 use Rattle.model_wire.specs.Journal.{Entry}
 use Rattle.model_loop.specs.Parts.{Parts}
 use Rattle.model_loop.specs.Loop.{Loop, in_parts}

@@ -5,7 +5,7 @@ use Rattle.model_value.specs.declared.input.Input.TheVariants.{Send, Throw}
 use Rattle.model_says.specs.Endings.{Saying, Asks, Returns, Raises as Raised, Runaway, saying_of}
 use Rattle.model_says.specs.Says.{course}
 use Rattle.model_says.specs.Tape.{Tape}
-use Rattle.model_machine.specs.End as end
+use Rattle.model_wire.specs.declared.event.End.TheVariants as end
 use Rattle.model_loop.specs.Handles.{revoke}
 use Rattle.model_loop.specs.Parts.{Parts}
 use Rattle.model_loop.specs.Tasks.{begin_step, finish}

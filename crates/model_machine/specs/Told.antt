@@ -3,8 +3,8 @@
 use Rattle.std.specs.Prelude.{ℕ, ◌==◌, List, [], ◌∷◌, if◌then◌else◌}
 use Rattle.model_value.specs.declared.action.Action.TheVariants.{GroupDone}
 use Rattle.model_value.specs.Action.{Action}
-use Rattle.model_machine.specs.Event as event
-use Rattle.model_machine.specs.Event.{Event}
+use Rattle.model_wire.specs.declared.event.Event.TheVariants as event
+use Rattle.model_wire.specs.Event.{Event}
 
 abbrev pub told_by : (group : ℕ) → Action → List ℕ → List ℕ
 told_by group (GroupDone other task) others = if other == group then task ∷ others else others

@@ -1,12 +1,12 @@
 -- What may end the run: a call that finds no answer, and a runaway. What happened before stands.
 use Rattle.std.specs.Prelude.{ℕ, suc, Bool, true, false, List, [], ◌∷◌}
-use Rattle.model_machine.specs.End as end
-use Rattle.model_machine.specs.Event as event
+use Rattle.model_wire.specs.declared.event.End.TheVariants as end
+use Rattle.model_wire.specs.declared.event.Event.TheVariants as event
 use Rattle.model_wire.specs.Call.{Call, Answer}
-use Rattle.model_machine.specs.Event.{Event}
-use Rattle.model_machine.specs.Outside.{fits}
+use Rattle.model_wire.specs.Fits.{fits}
+use Rattle.model_wire.specs.Event.{Event}
 use Rattle.model_wire.specs.Journal.{Entry, Answered, Refused}
-use Rattle.model_machine.specs.End.{End}
+use Rattle.model_wire.specs.Trace.{End}
 use Rattle.model_machine.specs.State.{State, noted}
 
 pub data Went (S : Type 0) : Type 0 where

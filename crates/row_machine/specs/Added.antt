@@ -7,7 +7,7 @@ use Rattle.model_value.specs.Input.{Input}
 use Rattle.model_value.specs.Value.{Nothing, Text}
 use Rattle.model_loop.specs.Futures.{next_future}
 use Rattle.model_loop.specs.Ledger.{LedgerEntry, Asked, Raised, ByScript}
-use Rattle.model_machine.specs.End.{Returned}
+use Rattle.model_wire.specs.declared.event.End.TheVariants.{Returned}
 use Rattle.model_machine.specs.Extra.{CallsLater, Extra, ExtraAnswer, ExtraCall, ExtraSaid, MakesPlain, Answers, Raises, Settles, Waits}
 use Rattle.model_machine.specs.Run.{run_on}
 use Rattle.model_machine.specs.State.{State, start}

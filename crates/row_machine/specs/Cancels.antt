@@ -2,7 +2,7 @@
 use Rattle.std.specs.Prelude.{ℕ, pos, true, List, [], ◌∷◌, Some, codes}
 use Rattle.model_value.specs.declared.kind.Kind.TheVariants as kind
 use Rattle.model_value.specs.Value.{Nothing, Truth, Int, Text, Exception, exception_of}
-use Rattle.model_machine.specs.End.{Cancelled, Returned}
+use Rattle.model_wire.specs.declared.event.End.TheVariants.{Cancelled, Returned}
 use Rattle.row_machine.specs.Reading.{Seen, text, prints}
 
 abbrev pub goes_down_the_chain_text : List ℕ

@@ -3,7 +3,7 @@ use Rattle.std.specs.Prelude.{ℕ, pos, true, false, List, [], ◌∷◌, ◌++�
 use Rattle.std.specs.Fmt.{signed_decimal}
 use Rattle.model_value.specs.declared.kind.Kind.TheVariants as kind
 use Rattle.model_value.specs.Value.{Nothing, Truth, Int, Text, Fut, Exception, exception_of}
-use Rattle.model_machine.specs.End.{Returned, Raised, Runaway}
+use Rattle.model_wire.specs.declared.event.End.TheVariants.{Returned, Raised, Runaway}
 use Rattle.row_machine.specs.Reading.{Seen, text, prints}
 
 abbrev pub frames_overflow_text : List ℕ

@@ -2,7 +2,7 @@
 use Rattle.std.specs.Prelude.{ℕ, pos, List, [], ◌∷◌, Some, codes}
 use Rattle.model_value.specs.declared.kind.Kind.TheVariants as kind
 use Rattle.model_value.specs.Value.{Int, Text, Exception, Exc, Nothing, exc, excs, exception_of}
-use Rattle.model_machine.specs.End.{Returned}
+use Rattle.model_wire.specs.declared.event.End.TheVariants.{Returned}
 use Rattle.row_machine.specs.Reading.{Seen, text, prints}
 
 -- what a group raises

@@ -6,11 +6,12 @@ use Rattle.model_value.specs.Value.{Value}
 use Rattle.model_tree.specs.Syntax.{Program}
 use Rattle.model_text.specs.Scripts.{script_of}
 use Rattle.model_text.specs.SecondPass.{Judged}
-use Rattle.model_wire.specs.Call as wire
-use Rattle.model_machine.specs.Event as event
-use Rattle.model_machine.specs.Event.{Event}
+use Rattle.model_wire.specs.declared.answer.Answer.TheVariants.{Turn}
+use Rattle.model_wire.specs.declared.call.Call.TheVariants.{Select}
+use Rattle.model_wire.specs.declared.event.Event.TheVariants as event
+use Rattle.model_wire.specs.Event.{Event}
 use Rattle.model_wire.specs.Journal.{Entry, Answered}
-use Rattle.model_machine.specs.End.{End}
+use Rattle.model_wire.specs.Trace.{End}
 use Rattle.model_machine.specs.Replies.{shown_all}
 use Rattle.model_loop.specs.Ledger.{LedgerEntry}
 use Rattle.model_machine.specs.Extra.{no_extra}
@@ -37,7 +38,7 @@ program_of text = program_in (script_of text)
 
 -- turns at these times
 abbrev pub at : List ℕ → List Entry
-at times = map (λ now. Answered (wire.Turn now)) times
+at times = map (λ now. Answered (Turn now [])) times
 
 -- a text that a task printed
 pub record Line : Type 0 where
@@ -54,7 +55,7 @@ lines_of (_ ∷ events) = lines_of events
 
 abbrev pub waits_of : List Event → List (Option ℕ)
 waits_of [] = []
-waits_of (event.Called (wire.Select wait) ∷ events) = wait ∷ waits_of events
+waits_of (event.Called (Select wait watch) ∷ events) = wait ∷ waits_of events
 waits_of (_ ∷ events) = waits_of events
 
 pub record Seen : Type 0 where

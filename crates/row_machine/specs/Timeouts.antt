@@ -3,7 +3,7 @@ use Rattle.std.specs.Prelude.{ℕ, pos, true, List, [], ◌∷◌, Some, codes}
 use Rattle.model_value.specs.declared.kind.Kind.TheVariants as kind
 use Rattle.model_value.specs.Number.{most}
 use Rattle.model_value.specs.Value.{Nothing, Truth, Int, Text, Exception, exception_of}
-use Rattle.model_machine.specs.End.{Returned}
+use Rattle.model_wire.specs.declared.event.End.TheVariants.{Returned}
 use Rattle.row_machine.specs.Reading.{Seen, text, prints}
 
 abbrev pub two_in_one_turn_text : List ℕ

@@ -1,8 +1,8 @@
 -- Scripts whose runs show the order of handles.
 use Rattle.std.specs.Prelude.{ℕ, pos, List, [], ◌∷◌, Option, Some, codes}
 use Rattle.model_value.specs.Value.{Nothing, Int, Text}
-use Rattle.model_machine.specs.End.{End}
-use Rattle.model_machine.specs.End.{Returned, Stalled}
+use Rattle.model_wire.specs.Trace.{End}
+use Rattle.model_wire.specs.declared.event.End.TheVariants.{Returned, Stalled}
 use Rattle.row_machine.specs.Reading.{Seen, text, prints}
 
 abbrev pub first_come_first_run_text : List ℕ

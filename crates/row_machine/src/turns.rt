@@ -4,7 +4,7 @@
 ghost use Rattle.std.specs.Prelude.{◌≡◌, [], ◌∷◌, ◌++◌, Some};
 ghost use Rattle.model_value.specs.Value.{Nothing};
 ghost use Rattle.model_wire.specs.Journal.{Refused};
-ghost use Rattle.model_machine.specs.End.{JournalRefused, Over, Returned, Turns};
+ghost use Rattle.model_wire.specs.declared.event.End.TheVariants.{JournalRefused, Over, Returned, Turns};
 ghost use Rattle.model_machine.specs.Outside.{select};
 ghost use Rattle.model_machine.specs.Run.{run};
 ghost use Rattle.row_machine.specs.Reading.{at, program_of, seen, seen_of};
@@ -27,7 +27,7 @@ pub fn stalled()
 
 /// A run without an answer left, one whose answer's line is none, and one that may make no further turn.
 pub fn short_runs()
-    ensures over { seen hello_text (0 ∷ []) ≡ hello_until (Over (select (Some 0))) (Some 0 ∷ Some 0 ∷ []) }
+    ensures over { seen hello_text (0 ∷ []) ≡ hello_until (Over (select (Some 0) [])) (Some 0 ∷ Some 0 ∷ []) }
     ensures bad { seen_of (run (program_of hello_text) (at (0 ∷ []) ++ Refused 2 1 ∷ []) 1000)
         ≡ hello_until (JournalRefused 2 1) (Some 0 ∷ Some 0 ∷ []) }
     ensures turns { seen_of (run (program_of hello_text) (at (0 ∷ 0 ∷ [])) 1) ≡ hello_until (Turns 1) (Some 0 ∷ []) }
