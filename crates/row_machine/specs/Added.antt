@@ -1,16 +1,25 @@
 -- A request that is added to the loop's own: with code 1 it waits five milliseconds and answers a text. Its state is the
 -- number of the future for which the last such request waits.
-use Rattle.std.specs.Prelude.{ℕ, ◌+◌, false, List, [], ◌∷◌, codes, Some}
+use Rattle.std.specs.Prelude.{ℕ, ◌+◌, pos, true, false, List, [], ◌∷◌, codes, Some, None}
+use Rattle.model_value.specs.declared.action.Action.TheVariants as action
 use Rattle.model_value.specs.declared.input.Input.TheVariants.{Send, Throw}
 use Rattle.model_value.specs.declared.outcome.Outcome.TheVariants.{Value as Resolved}
 use Rattle.model_value.specs.Input.{Input}
 use Rattle.model_value.specs.Value.{Nothing, Text}
+use Rattle.model_wire.specs.declared.answer.Answer.TheVariants as answer
+use Rattle.model_wire.specs.declared.call.Call.TheVariants as call
+use Rattle.model_wire.specs.declared.event.Event.TheVariants as event
+use Rattle.model_wire.specs.declared.item.Item.TheVariants as item
+use Rattle.model_wire.specs.declared.watch.Watch.{Watch}
+use Rattle.model_wire.specs.declared.watch.Watch.TheVariants as watch
+use Rattle.model_wire.specs.Event.{Event}
+use Rattle.model_wire.specs.Journal.{Entry, Answered}
 use Rattle.model_loop.specs.Futures.{next_future}
-use Rattle.model_loop.specs.Ledger.{LedgerEntry, Asked, Raised, ByScript}
 use Rattle.model_wire.specs.declared.event.End.TheVariants.{Returned}
 use Rattle.model_machine.specs.Extra.{CallsLater, Extra, ExtraAnswer, ExtraCall, ExtraSaid, MakesPlain, Answers, Raises, Settles, Waits}
-use Rattle.model_machine.specs.Run.{run_on}
-use Rattle.model_machine.specs.State.{State, start}
+use Rattle.model_machine.specs.Replies.{shown_all}
+use Rattle.model_machine.specs.Run.{Run, run_on}
+use Rattle.model_machine.specs.State.{start}
 use Rattle.model_says.specs.Says.{step_limit}
 use Rattle.row_machine.specs.Reading.{Seen, at, prints, program_of, seen_of, text}
 
@@ -80,3 +89,35 @@ cancelled_seen =
       waits = Some 0 ∷ Some 0 ∷ Some 0 ∷ Some 0 ∷ Some 0 ∷ [];
       end = Returned Nothing;
     }
+
+-- the same request, which waits for news of the outside
+abbrev pub bell : Extra ℕ
+bell =
+    record alarm {
+      ask = λ task code arguments s.
+          record {
+            call = record { state = next_future s.loop.parts; steps = MakesPlain ∷ [] };
+            answer = Waits (next_future s.loop.parts) 7;
+          };
+      item = λ code bytes s. record { state = s.extra; steps = Settles s.extra (Resolved Nothing) ∷ [] };
+      watches = λ s. true;
+    }
+
+abbrev pub news : Entry
+news = Answered (answer.Turn 4 (item.Extra (pos 1) [] ∷ []))
+
+abbrev pub run_with_bell : List ℕ → List Entry → Run
+run_with_bell script entries = run_on step_limit bell 1000 1000 (start 0 (program_of script) entries)
+
+abbrev pub watched : List Watch
+watched = watch.Extra ∷ []
+
+-- the request is asked; news come, and run; the task is woken; main's callback runs
+abbrev pub news_events : List Event
+news_events =
+    event.Called (call.Select (Some 0) watched) ∷ event.Got (answer.Turn 0 []) ∷ event.Ran (action.Step 0)
+    ∷ event.Called (call.Select None watched) ∷ event.Got (answer.Turn 4 (item.Extra (pos 1) [] ∷ []))
+    ∷ event.Ran (action.ExtraItem (pos 1) [])
+    ∷ event.Called (call.Select (Some 0) watched) ∷ event.Got (answer.Turn 4 []) ∷ event.Ran (action.Wakeup 0)
+    ∷ event.Said 0 (shown_all (Text (codes "rang") ∷ []))
+    ∷ event.Called (call.Select (Some 0) watched) ∷ event.Got (answer.Turn 4 []) ∷ event.Ran action.MainDone ∷ []
