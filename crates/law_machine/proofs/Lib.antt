@@ -1,3 +1,4 @@
+pub mod Beginning
 pub mod Bounded
 pub mod Kept
 pub mod Turns

@@ -5,6 +5,7 @@ pub mod Outcomes
 pub mod Outside
 pub mod Replies
 pub mod Run
+pub mod Sound
 pub mod State
 pub mod Step
 pub mod Theorem
