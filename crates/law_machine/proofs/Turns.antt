@@ -223,7 +223,7 @@ module _ {S : Type 0} (limit : ℕ) (added : Extra S) where
     where
       at : (b : Bool) → b ≡ false → Turned s (turn_unless limit added b s)
       at true n = absurd (true≢false n)
-      at false n = ask-turned s (call_of s) (turned_by limit added) (turned-on limit added)
+      at false n = ask-turned s (call_of added s) (turned_by limit added) (turned-on limit added)
 
   stalled : (s : State S) → is_stalled added s ≡ true → turn limit added s ≡ Stops end.Stalled s
   unfolding turn

@@ -2,6 +2,7 @@
 //! its clauses are the equations, and the check computes them.
 #![tactic(auto)]
 
+pub mod added;
 pub mod cancels;
 pub mod coroutines;
 pub mod groups;
