@@ -14,13 +14,13 @@ mod text;
 mod value;
 mod weigh;
 
-pub use model_value::{Circle, Kind, Place};
 pub use blob::Blob;
 pub use equality::{equal, equal_excs};
 pub use exc::{Exc, ExcList, exception};
 pub use kinds::{kind_matches, name_of};
 pub use literal::{push_bytes_literal, push_escaped, push_text_literal};
 pub use memory::Memory;
+pub use model_value::{Circle, Kind, Place};
 pub use nesting::{depth, depth_of_exc};
 pub use shared::{Action, ChildItem, Input, Outcome, Request};
 pub use stream::Stream;

@@ -13,8 +13,8 @@ mod tests;
 mod token;
 mod words;
 
-pub use model_text::Symbol;
 pub use fault::LexFault;
 pub use lexer::tokens;
 pub use list::TokenList;
+pub use model_text::Symbol;
 pub use token::{Span, Token, TokenClass};

@@ -5,7 +5,7 @@ use Rattle.model_text.specs.Places.{Role, Opens, Begins, Closes, Stands, Block, 
 use Rattle.model_text.specs.Places as places
 use Rattle.model_text.specs.SecondPass.{Line}
 use Rattle.model_text.specs.Bodies.{Cut, cut_from, simple, Body, bodies, block, then_statements, block_then, statements_in, body_in}
-use Rattle.aio_program.specs.declared.block.OpenBlock.{OpenBlock}
+use Rattle.aio_program.specs.declared.block.UnendedBlock.{UnendedBlock}
 use Rattle.aio_program.specs.declared.sorted.Head.{Head}
 use Rattle.aio_program.specs.declared.sorted.Head.TheVariants as head
 use Rattle.aio_program.specs.declared.sorted.Begin.{Begin}
@@ -86,7 +86,7 @@ rest-opens line b e so_far lines =
     ap (rest_of so_far) (cut_opens line b e 0 lines) ∙ (λ i. record { body = body i; sections = bodies statements_in (on.sections i); behind = on.behind i })
 
 -- ---- all blocks
-pub around_all-last : (blocks : List OpenBlock) (last : OpenBlock) (inner : Rest) → around_all (blocks ++ last ∷ []) inner ≡ around_all blocks (around last inner)
+pub around_all-last : (blocks : List UnendedBlock) (last : UnendedBlock) (inner : Rest) → around_all (blocks ++ last ∷ []) inner ≡ around_all blocks (around last inner)
 around_all-last [] last inner = refl
 around_all-last (first ∷ blocks) last inner = ap (around first) (around_all-last blocks last inner)
 
@@ -111,22 +111,22 @@ begins begin.Finally = (places.FinallySection, refl)
 
 -- ---- blocks that are pushed and popped
 -- a block at the end, and nothing in its section yet
-pub pushed : (blocks all : List OpenBlock) (block : OpenBlock) (outer so_far : List Statement) (sections : List Body) (head : Line) (lines : List Line) (inner : Rest) → all ≡ blocks ++ block ∷ [] → block.outer.items ≡ outer → over block ≡ sections → latest block ≡ head → so_far ≡ [] → around_block outer sections head (rest [] lines) ≡ inner → (around_all all (rest so_far lines)).body ≡ (around_all blocks inner).body
+pub pushed : (blocks all : List UnendedBlock) (block : UnendedBlock) (outer so_far : List Statement) (sections : List Body) (head : Line) (lines : List Line) (inner : Rest) → all ≡ blocks ++ block ∷ [] → block.outer.items ≡ outer → over block ≡ sections → latest block ≡ head → so_far ≡ [] → around_block outer sections head (rest [] lines) ≡ inner → (around_all all (rest so_far lines)).body ≡ (around_all blocks inner).body
 pushed blocks all block outer so_far sections head lines inner is_all is_outer is_over is_latest is_empty e =
     let here : around block (rest so_far lines) ≡ inner =
     (λ i. around_block (is_outer i) (is_over i) (is_latest i) (rest (is_empty i) lines)) ∙ e in
-    ap (λ (bs : List OpenBlock). (around_all bs (rest so_far lines)).body) is_all ∙ (ap (λ (r : Rest). r.body) (around_all-last blocks block (rest so_far lines)) ∙ ap (λ (r : Rest). (around_all blocks r).body) here)
+    ap (λ (bs : List UnendedBlock). (around_all bs (rest so_far lines)).body) is_all ∙ (ap (λ (r : Rest). r.body) (around_all-last blocks block (rest so_far lines)) ∙ ap (λ (r : Rest). (around_all blocks r).body) here)
 
 -- the last block, taken off
-pub popped : (blocks left : List OpenBlock) (block : OpenBlock) (inner : Rest) → blocks ≡ left ++ block ∷ [] → (around_all left (around block inner)).body ≡ (around_all blocks inner).body
+pub popped : (blocks left : List UnendedBlock) (block : UnendedBlock) (inner : Rest) → blocks ≡ left ++ block ∷ [] → (around_all left (around block inner)).body ≡ (around_all blocks inner).body
 popped blocks left block inner e =
-    sym (ap (λ (bs : List OpenBlock). (around_all bs inner).body) e ∙ ap (λ (r : Rest). r.body) (around_all-last left block inner))
+    sym (ap (λ (bs : List UnendedBlock). (around_all bs inner).body) e ∙ ap (λ (r : Rest). r.body) (around_all-last left block inner))
 
 -- no block is open
-pub outermost : (blocks : List OpenBlock) (inner : Rest) → blocks ≡ [] → (around_all blocks inner).body ≡ inner.body
-outermost blocks inner e = ap (λ (bs : List OpenBlock). (around_all bs inner).body) e
+pub outermost : (blocks : List UnendedBlock) (inner : Rest) → blocks ≡ [] → (around_all blocks inner).body ≡ inner.body
+outermost blocks inner e = ap (λ (bs : List UnendedBlock). (around_all bs inner).body) e
 
 -- nothing was read yet
-pub nothing_yet : (blocks : List OpenBlock) (so_far : List Statement) (lines : List Line) → blocks ≡ [] → so_far ≡ [] → (around_all blocks (rest so_far lines)).body ≡ body_in lines
+pub nothing_yet : (blocks : List UnendedBlock) (so_far : List Statement) (lines : List Line) → blocks ≡ [] → so_far ≡ [] → (around_all blocks (rest so_far lines)).body ≡ body_in lines
 nothing_yet blocks so_far lines e e' =
     outermost blocks (rest so_far lines) e ∙ (ap (λ (s : List Statement). (rest s lines).body) e' ∙ sym (body_in-rest lines))

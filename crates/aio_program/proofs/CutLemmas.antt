@@ -3,7 +3,7 @@ use Rattle.std.proofs.Common.{◌≡◌, ℕ, zero, suc, ◌≤◌, List, [], �
 use Rattle.model_text.specs.Places.{Role, Opens, Begins, Closes, Stands, Block, role_of}
 use Rattle.model_text.specs.Places as places
 use Rattle.model_text.specs.SecondPass.{Line}
-use Rattle.model_text.specs.Bodies.{Section, Cut, with_line, with_section, depth_behind, cut_at, cut_from}
+use Rattle.model_text.specs.Bodies.{SectionLines, Cut, with_line, with_section, depth_behind, cut_at, cut_from}
 
 -- ---- a cut by the role of its first line
 by_role : (line : Line) (role : Role) → role_of line ≡ role → (depth : ℕ) (lines : List Line) → cut_from depth (line ∷ lines) ≡ cut_at role depth line lines (cut_from (depth_behind depth role) lines)
@@ -80,7 +80,7 @@ goes_on [] depth = record { sections = refl; behind = refl; body = refl }
 goes_on (line ∷ lines) depth = goes_on_by (role_of line) depth line lines refl (goes_on lines)
 
 -- ---- a cut has no more lines than were cut
-abbrev pub AllWithin : ℕ → List Section → Type 0
+abbrev pub AllWithin : ℕ → List SectionLines → Type 0
 AllWithin count [] = Unit {0}
 AllWithin count (section ∷ sections) = (length section.lines ≤ count) × AllWithin count sections
 

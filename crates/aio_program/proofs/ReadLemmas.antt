@@ -3,10 +3,10 @@ use Rattle.std.proofs.Common.{◌≡◌, ℕ, zero, suc, ◌≤◌, List, [], �
 use Rattle.model_tree.specs.Syntax.{Statements, no_statements}
 use Rattle.model_text.specs.Places.{Role, Opens, Stands, Block, role_of}
 use Rattle.model_text.specs.SecondPass.{Line}
-use Rattle.model_text.specs.Bodies.{Section, cut_from, simple, bodies, block, then_statements, block_then, first_then, statements_within, statements_in}
+use Rattle.model_text.specs.Bodies.{SectionLines, cut_from, simple, bodies, block, then_statements, block_then, first_then, statements_within, statements_in}
 use Rattle.aio_program.proofs.CutLemmas.{AllWithin, IsWithin, is_within}
 
-bodies_same : (p q : List Line → Statements) (count : ℕ) (sections : List Section) → AllWithin count sections → ((lines : List Line) → length lines ≤ count → p lines ≡ q lines) → bodies p sections ≡ bodies q sections
+bodies_same : (p q : List Line → Statements) (count : ℕ) (sections : List SectionLines) → AllWithin count sections → ((lines : List Line) → length lines ≤ count → p lines ≡ q lines) → bodies p sections ≡ bodies q sections
 bodies_same p q count [] within same = refl
 bodies_same p q count (section ∷ sections) within same =
     λ i. record { head = section.head; body = same section.lines within.0 i } ∷ bodies_same p q count sections within.1 same i

@@ -3,32 +3,32 @@ use Rattle.std.specs.Prelude.{List, [], ◌∷◌, ◌++◌, Option, Some, None,
 use Rattle.model_tree.specs.Syntax.{Statement, Try, statements, Branch, no_branch, branch, Handlers, handler_then, Handler}
 use Rattle.model_text.specs.SecondPass.{Line}
 use Rattle.model_text.specs.Bodies.{Body, block, handlers_in, finally_in}
-use Rattle.aio_program.specs.declared.block.OpenBlock.{OpenBlock}
-use Rattle.aio_program.specs.declared.block.Place.{Place}
-use Rattle.aio_program.specs.declared.block.Place.TheVariants as place
-use Rattle.aio_program.specs.declared.block.Section.{Section}
+use Rattle.aio_program.specs.declared.block.UnendedBlock.{UnendedBlock}
+use Rattle.aio_program.specs.declared.block.Reached.{Reached}
+use Rattle.aio_program.specs.declared.block.Reached.TheVariants as place
+use Rattle.aio_program.specs.declared.block.FurtherSection.{FurtherSection}
 use Rattle.aio_program.specs.declared.block.OpenTry.{OpenTry}
 use Rattle.aio_program.specs.declared.sorted.Head.{Head}
 use Rattle.aio_program.specs.Sorted.{plain_head, plain_begin}
 use Rattle.aio_program.specs.Target.{plain_branch}
 
-abbrev pub plain_section : Section → Body
+abbrev pub plain_section : FurtherSection → Body
 plain_section section = record { head = plain_begin section.begin; body = statements section.body }
 
 -- the sections of a block that are over, and the line of the section that is read
-abbrev pub over_at : Head → Place → List Body
+abbrev pub over_at : Head → Reached → List Body
 over_at head place.First = []
 over_at head (place.Further body sections begin) =
     record { head = plain_head head; body = statements body } ∷ map plain_section sections.items
 
-abbrev pub latest_at : Head → Place → Line
+abbrev pub latest_at : Head → Reached → Line
 latest_at head place.First = plain_head head
 latest_at head (place.Further body sections begin) = plain_begin begin
 
-abbrev pub over : OpenBlock → List Body
+abbrev pub over : UnendedBlock → List Body
 over block = over_at block.head block.place
 
-abbrev pub latest : OpenBlock → Line
+abbrev pub latest : UnendedBlock → Line
 latest block = latest_at block.head block.place
 
 -- the block that sections are, of which the first has the block's head

@@ -3,7 +3,7 @@ use Rattle.std.specs.Prelude.{List, [], ◌∷◌, ◌++◌}
 use Rattle.model_tree.specs.Syntax.{Statement, Statements, statement_then, statements}
 use Rattle.model_text.specs.SecondPass.{Line}
 use Rattle.model_text.specs.Bodies.{Body, Cut, cut_from, bodies, statements_in}
-use Rattle.aio_program.specs.declared.block.OpenBlock.{OpenBlock}
+use Rattle.aio_program.specs.declared.block.UnendedBlock.{UnendedBlock}
 use Rattle.aio_program.specs.declared.body.OpenBody.{OpenBody}
 use Rattle.aio_program.specs.declared.body.Step.{Step}
 use Rattle.aio_program.specs.declared.body.Step.TheVariants as step
@@ -33,11 +33,11 @@ unfoldable pub around_block : List Statement → List Body → Line → Rest →
 around_block outer sections head inner =
     rest (with_block outer (sections ++ record { head = head; body = inner.body } ∷ inner.sections)) inner.behind
 
-abbrev pub around : OpenBlock → Rest → Rest
+abbrev pub around : UnendedBlock → Rest → Rest
 around block inner = around_block block.outer.items (over block) (latest block) inner
 
 -- the rest of the outermost section, around blocks of which the innermost is the last
-abbrev pub around_all : List OpenBlock → Rest → Rest
+abbrev pub around_all : List UnendedBlock → Rest → Rest
 around_all [] inner = inner
 around_all (block ∷ blocks) inner = around block (around_all blocks inner)
 

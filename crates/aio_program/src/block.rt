@@ -14,25 +14,25 @@ use std::alloc::{AllocError, Global};
 
 /// A block whose `end` was not read yet.
 #[derive(Drop)]
-pub struct OpenBlock {
+pub struct UnendedBlock {
     /// The statements in front of it, in the section around it.
     outer: Vec<Statement>,
     head: Head,
-    place: Place,
+    place: Reached,
 }
 
 /// How far a block was read.
 #[derive(Drop)]
-enum Place {
+enum Reached {
     /// The statements right behind its head are read.
     First,
     /// Those are over, and these further sections, and one that begins so is read.
-    Further(StatementList, Vec<Section>, Begin),
+    Further(StatementList, Vec<FurtherSection>, Begin),
 }
 
 /// A further section of a block.
 #[derive(Drop)]
-struct Section {
+struct FurtherSection {
     begin: Begin,
     body: StatementList,
 }
@@ -45,17 +45,17 @@ struct OpenTry {
     finally: Branch,
 }
 
-impl OpenBlock {
+impl UnendedBlock {
     /// A block behind these statements.
-    pub fn new(outer: Vec<Statement>, head: Head) -> OpenBlock
+    pub fn new(outer: Vec<Statement>, head: Head) -> UnendedBlock
         ensures outer { result.outer ≡ outer }
         ensures over { over result ≡ [] }
         ensures latest { latest result ≡ plain_head head }
     {
-        OpenBlock {
+        UnendedBlock {
             outer,
             head,
-            place: Place::First,
+            place: Reached::First,
         }
     }
 
@@ -65,14 +65,14 @@ impl OpenBlock {
         alloc: Global,
         begin: Begin,
         so_far: Vec<Statement>,
-    ) -> Result<OpenBlock, AllocError>
+    ) -> Result<UnendedBlock, AllocError>
         ensures outer { IfOk result (λ next. next.outer ≡ self.outer) }
         ensures over { IfOk result (λ next. over next ≡ over self ++ record { head = latest self; body = statements so_far.items } ∷ []) }
         ensures latest { IfOk result (λ next. latest next ≡ plain_begin begin) }
     {
-        let OpenBlock { outer, head, place } = self;
+        let UnendedBlock { outer, head, place } = self;
         let place = place.with_section(alloc, begin, StatementList::of(so_far))?;
-        Ok(OpenBlock { outer, head, place })
+        Ok(UnendedBlock { outer, head, place })
     }
 
     /// The statements of the section around the block, which are the block and those in front of it. These statements
@@ -80,7 +80,7 @@ impl OpenBlock {
     pub fn ended(self, alloc: Global, so_far: Vec<Statement>) -> Result<Vec<Statement>, AllocError>
         ensures { IfOk result (λ outer. outer.items ≡ with_block self.outer.items (over self ++ record { head = latest self; body = statements so_far.items } ∷ [])) }
     {
-        let OpenBlock {
+        let UnendedBlock {
             mut outer,
             head,
             place,
@@ -93,19 +93,19 @@ impl OpenBlock {
     }
 }
 
-impl Place {
+impl Reached {
     /// How far a block was read behind the line of a further section. The list is the section before it.
     fn with_section(
         self,
         alloc: Global,
         begin: Begin,
         list: StatementList,
-    ) -> Result<Place, AllocError>
+    ) -> Result<Reached, AllocError>
         ensures over { IfOk result (λ next. (head : Head) → over_at head next ≡ over_at head self ++ record { head = latest_at head self; body = statements list } ∷ []) }
         ensures latest { IfOk result (λ next. (head : Head) → latest_at head next ≡ plain_begin begin) }
     {
         let (body, sections) = self.ended(alloc, list)?;
-        Ok(Place::Further(body, sections, begin))
+        Ok(Reached::Further(body, sections, begin))
     }
 
     /// The statements right behind the head, and the further sections, of which the list is the last.
@@ -113,13 +113,13 @@ impl Place {
         self,
         alloc: Global,
         list: StatementList,
-    ) -> Result<(StatementList, Vec<Section>), AllocError>
+    ) -> Result<(StatementList, Vec<FurtherSection>), AllocError>
         ensures { IfOk result (λ made. (head : Head) → record { head = plain_head head; body = statements made.0 } ∷ map plain_section made.1.items ≡ over_at head self ++ record { head = latest_at head self; body = statements list } ∷ []) }
     {
         match self {
-            Place::First => Ok((list, Vec::new(alloc))),
-            Place::Further(body, mut sections, begin) => {
-                sections.push(Section { begin, body: list })?;
+            Reached::First => Ok((list, Vec::new(alloc))),
+            Reached::Further(body, mut sections, begin) => {
+                sections.push(FurtherSection { begin, body: list })?;
                 Ok((body, sections))
             }
         }
@@ -131,7 +131,7 @@ fn block_of(
     alloc: Global,
     head: Head,
     body: StatementList,
-    sections: Vec<Section>,
+    sections: Vec<FurtherSection>,
 ) -> Result<Option<Statement>, AllocError>
     ensures { IfOk result (λ made. made ≡ block (plain_head head) (statements body) (map plain_section sections.items)) }
 {
@@ -148,12 +148,12 @@ fn block_of(
 }
 
 /// The statements of the first section.
-fn first_of(sections: Vec<Section>) -> Branch
+fn first_of(sections: Vec<FurtherSection>) -> Branch
     ensures { plain_branch result ≡ branch_in (map plain_section sections.items) }
 {
     let mut sections = sections.into_iter();
     match sections.next() {
-        Some(Section { begin: _, body }) => Some(body),
+        Some(FurtherSection { begin: _, body }) => Some(body),
         None => None,
     }
 }
@@ -162,7 +162,7 @@ fn first_of(sections: Vec<Section>) -> Branch
 fn try_of(
     alloc: Global,
     body: StatementList,
-    sections: Vec<Section>,
+    sections: Vec<FurtherSection>,
 ) -> Result<Statement, AllocError>
     ensures { IfOk result (λ made. made ≡ Try (statements body) (handlers_in (map plain_section sections.items)) (finally_in (map plain_section sections.items))) }
 {
@@ -184,10 +184,10 @@ fn try_of(
 
 impl OpenTry {
     /// The same with one section more. A second `finally` would be none.
-    fn with_section(self, section: Section) -> Result<OpenTry, AllocError>
+    fn with_section(self, section: FurtherSection) -> Result<OpenTry, AllocError>
         ensures { IfOk result (λ next. (others : List Body) → try_with next others ≡ try_with self (plain_section section ∷ others)) }
     {
-        let Section { begin, body } = section;
+        let FurtherSection { begin, body } = section;
         match begin {
             Begin::Else => Ok(self),
             Begin::Except(kind, name) => self.with_handler(Handler::new(kind, name, body)),

@@ -9,7 +9,7 @@ ghost use Rattle.aio_program.specs.Line.{plain_line};
 ghost use Rattle.aio_program.specs.Sorted.{plain_head, plain_begin};
 ghost use Rattle.aio_program.specs.Body.{body_with, step_with};
 
-use crate::block::OpenBlock;
+use crate::block::UnendedBlock;
 use crate::line::Line;
 use crate::sorted::{Begin, Head, Sorted, sort_out};
 use crate::statement::{Statement, StatementList};
@@ -19,7 +19,7 @@ use std::alloc::{AllocError, Global};
 #[derive(Drop)]
 struct OpenBody {
     /// The blocks that are open, the innermost at the end.
-    blocks: Vec<OpenBlock>,
+    blocks: Vec<UnendedBlock>,
     /// The statements so far of the innermost block's last section.
     so_far: Vec<Statement>,
 }
@@ -66,7 +66,7 @@ impl OpenBody {
         ensures { IfOk result (λ step. (lines : List plain.Line) → step_with step lines ≡ body_with self (plain_head head ∷ lines)) }
     {
         let OpenBody { mut blocks, so_far } = self;
-        blocks.push(OpenBlock::new(so_far, head))?;
+        blocks.push(UnendedBlock::new(so_far, head))?;
         let so_far = Vec::new(alloc);
         Ok(Step::More(OpenBody { blocks, so_far }))
     }

@@ -1,6 +1,6 @@
 //! What `yield from` hands over to, and what `with` enters.
-use model_tree::RequestName;
 use aio_syntax::{Expr, ExprList};
+use model_tree::RequestName;
 use std::rc::RcStr;
 
 /// What `yield from` hands over to.

@@ -4,10 +4,10 @@ use Rattle.model_text.specs.declared.cause.Cause.{Cause}
 use Rattle.model_text.specs.Causes.{cause_number}
 use Rattle.model_text.specs.FirstPass.{fault_at}
 use Rattle.model_text.specs.SecondPass.{Judged}
-use Rattle.aio_form.specs.declared.fault.FormFault.{FormFault}
-use Rattle.aio_form.specs.declared.fault.FormFault.TheVariants as form
-use Rattle.aio_naming.specs.declared.fault.NameFault.{NameFault}
-use Rattle.aio_naming.specs.declared.fault.NameFault.TheVariants as name
+use Rattle.script_form.specs.declared.fault.FormFault.{FormFault}
+use Rattle.script_form.specs.declared.fault.FormFault.TheVariants as form
+use Rattle.script_naming.specs.declared.fault.NameFault.{NameFault}
+use Rattle.script_naming.specs.declared.fault.NameFault.TheVariants as name
 use Rattle.aio_script.specs.declared.fault.ScriptFault.{ScriptFault}
 use Rattle.aio_script.specs.declared.fault.ScriptFault.TheVariants.{Refused, Memory}
 

@@ -4,9 +4,9 @@ ghost use Rattle.model_text.specs.Causes.{cause_number};
 ghost use Rattle.aio_script.specs.declared.fault.ScriptFault.TheVariants.{Memory};
 ghost use Rattle.aio_script.specs.Fault.{of_form, of_name};
 
-use aio_form::FormFault;
-use aio_naming::NameFault;
 use model_text::Cause;
+use script_form::FormFault;
+use script_naming::NameFault;
 use std::alloc::{AllocError, AllocFailed};
 use thiserror::Error;
 

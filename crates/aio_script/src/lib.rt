@@ -7,7 +7,7 @@ mod reader;
 #[cfg(test)]
 mod tests;
 
-pub use aio_canonical::print;
 pub use aio_program::{Coroutine, Program};
 pub use fault::ScriptFault;
 pub use reader::read;
+pub use script_canonical::print;

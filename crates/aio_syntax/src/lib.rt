@@ -3,8 +3,10 @@
 
 mod constant;
 mod expr;
+mod spelling;
 
-pub use model_tree::{Comparison, Function, Operator, RequestName};
-pub use model_value::Kind;
 pub use constant::Constant;
 pub use expr::{Expr, ExprCase, ExprList};
+pub use model_tree::{Comparison, Function, Operator, RequestName};
+pub use model_value::Kind;
+pub use spelling::{function_of, name_of_function, name_of_request, request_of};

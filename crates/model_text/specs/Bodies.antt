@@ -8,14 +8,14 @@ use Rattle.model_text.specs.Places.{Role, Opens, Begins, Closes, Stands, role_of
 use Rattle.model_text.specs.SecondPass.{Line}
 
 -- a section of a block: its line, and the lines behind it
-pub record Section : Type 0 where
+pub record SectionLines : Type 0 where
   pub head : Line
   pub lines : List Line
 
 -- what stands behind a block's head: its lines, its sections, and what stands behind its `end`
 pub record Cut : Type 0 where
   pub body : List Line
-  pub sections : List Section
+  pub sections : List SectionLines
   pub behind : List Line
 
 abbrev pub with_line : Line → Cut → Cut
@@ -99,7 +99,7 @@ then_statements None others = others
 then_statements (Some statement) others = statement_then statement others
 
 -- sections with what their lines spell
-abbrev pub bodies : (List Line → Statements) → List Section → List Body
+abbrev pub bodies : (List Line → Statements) → List SectionLines → List Body
 bodies spelled sections = map (λ section. record { head = section.head; body = spelled section.lines }) sections
 
 -- what a head, its bodies and its `end` spell, with what the lines behind spell

@@ -2,7 +2,7 @@ use Rattle.std.proofs.Common.{◌≡◌, List, [], map, sym, ap, ◌∙◌}
 use Rattle.std.specs.Vec.Iter.{into_iter_items}
 use Rattle.model_tree.specs.Syntax.{Try, statements, Handler}
 use Rattle.model_text.specs.Bodies.{Body, handlers_in, finally_in}
-use Rattle.aio_program.specs.declared.block.Section.{Section}
+use Rattle.aio_program.specs.declared.block.FurtherSection.{FurtherSection}
 use Rattle.aio_program.specs.Block.{plain_section, handlers_before, try_with}
 use Rattle.aio_program.proofs.TryLemmas.{try_with-nothing, nothing_left}
 use Rattle.aio_program.proofs.block.try_of.Goals as goal
@@ -15,4 +15,4 @@ returns c =
     let all : List Body = map plain_section c.args.sections.items in
     let passed : into_iter_items c.into_iter-section-iterator.result ≡ c.args.sections.items =
     c.into_iter-section-iterator.ensures.into_iter_gives.0 in
-    c.try_except.ensures ∙ (sym (try_with-nothing at.begun) ∙ (ap (λ (left : List Section). try_with at.begun (map plain_section left)) (sym empty) ∙ (at.invariant.0 ∙ (ap (λ (left : List Section). Try (statements c.args.body) (handlers_before c.new.result.items (handlers_in (map plain_section left))) (finally_in (map plain_section left))) passed ∙ ap (λ (hs : List Handler). Try (statements c.args.body) (handlers_before hs (handlers_in all)) (finally_in all)) c.new.ensures.items))))
+    c.try_except.ensures ∙ (sym (try_with-nothing at.begun) ∙ (ap (λ (left : List FurtherSection). try_with at.begun (map plain_section left)) (sym empty) ∙ (at.invariant.0 ∙ (ap (λ (left : List FurtherSection). Try (statements c.args.body) (handlers_before c.new.result.items (handlers_in (map plain_section left))) (finally_in (map plain_section left))) passed ∙ ap (λ (hs : List Handler). Try (statements c.args.body) (handlers_before hs (handlers_in all)) (finally_in all)) c.new.ensures.items))))

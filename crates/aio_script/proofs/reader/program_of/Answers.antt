@@ -1,6 +1,6 @@
 use Rattle.std.proofs.Common.{map}
 use Rattle.model_text.specs.SecondPass.{parts_of}
-use Rattle.aio_spelled.specs.Spelled.{plain_numbered}
+use Rattle.script_term.specs.Spelled.{plain_numbered}
 use Rattle.aio_script.proofs.Reading.{from_parts}
 use Rattle.aio_script.proofs.reader.program_of.Goals as goal
 

@@ -1,7 +1,7 @@
 use Rattle.std.proofs.Common.{◌≡◌, List, [], ◌∷◌, refl, sym, ap, ◌∙◌, arith}
 use Rattle.model_tree.specs.Syntax.{Statement}
 use Rattle.model_text.specs.Forms.{End}
-use Rattle.aio_program.specs.declared.block.OpenBlock.{OpenBlock}
+use Rattle.aio_program.specs.declared.block.UnendedBlock.{UnendedBlock}
 use Rattle.aio_program.specs.Block.{over, latest}
 use Rattle.aio_program.specs.Body.{Rest, rest, around_all}
 use Rattle.aio_program.proofs.TryLemmas.{nothing_left}
@@ -18,6 +18,6 @@ returns-in_default c = λ lines.
 pub returns : goal.returns
 returns c = λ lines.
     let so_far = c.args.self.so_far.items in
-    let block : OpenBlock = c.in-Some.block in
+    let block : UnendedBlock = c.in-Some.block in
     let left = c.pop.new.self.items in
     ap (λ (s : List Statement). (around_all left (rest s lines)).body) c.in_ok-so_far.ensures ∙ (ap (λ (r : Rest). (around_all left r).body) (sym (around-closes End refl block.outer.items (over block) (latest block) so_far lines)) ∙ popped c.args.self.blocks.items left block (rest so_far (End ∷ lines)) c.in-Some.ensures.items)

@@ -1,0 +1,6 @@
+pub mod Grows
+pub mod Rows
+pub mod PlaceLemmas
+pub mod KnownLemmas
+pub mod Blocks
+pub mod CodeLemmas

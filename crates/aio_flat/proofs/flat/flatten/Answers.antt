@@ -1,0 +1,16 @@
+use Rattle.std.proofs.Common.{subst, sym}
+use Rattle.aio_flat.specs.Code.{AreBodiesOf}
+use Rattle.aio_flat.proofs.CodeLemmas.{laid-out, names-of}
+use Rattle.aio_flat.proofs.flat.flatten.Goals as goal
+
+pub returns : goal.returns
+returns c =
+    let program = c.args.program.now in
+    let bodies = c.in_ok-bodies.bodies.items in
+    let are =
+    subst (λ coroutines. AreBodiesOf program coroutines bodies) c.coroutines.ensures
+    (subst (λ places. AreBodiesOf places c.coroutines.result.now bodies) c.in_ok-places.ensures c.in_ok-bodies.ensures) in
+    record {
+      laid_out = laid-out program bodies are;
+      names = names-of program program.coroutines bodies are;
+    }

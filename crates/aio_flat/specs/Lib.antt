@@ -1,0 +1,5 @@
+pub mod Grows
+pub mod Places
+pub mod Known
+pub mod Built
+pub mod Code

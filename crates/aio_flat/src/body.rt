@@ -1,0 +1,44 @@
+//! Code of bodies: the operations and ranges of `law_flat`, over types that own what they name.
+ghost use Rattle.std.specs.Prelude.{◌≡◌};
+
+use crate::name::Name;
+use aio_syntax::{Expr, ExprList};
+use std::marker::Model;
+
+/// An operation of flat code.
+pub type Op = law_flat::Op<Name, Expr, ExprList>;
+
+/// An `except` clause.
+pub type Clause = law_flat::Clause<Name>;
+
+/// What handles the ways out of a `try` or a `with`.
+pub type Range = law_flat::Range<ClauseList>;
+
+/// Clauses in order. Contracts see them as a list.
+#[derive(Drop)]
+pub struct ClauseList {
+    items: Vec<Clause>,
+}
+
+impl Model for ClauseList {
+    ghost use Rattle.std.specs.Prelude.{List};
+    ghost use Rattle.law_flat.specs.Ops as plain;
+
+    ghost Value = { List plain.Clause };
+
+    ghost view = { λ a. a.items.items };
+}
+
+impl ClauseList {
+    pub fn of(items: Vec<Clause>) -> ClauseList
+        ensures { result ≡ items.items }
+    {
+        ClauseList { items }
+    }
+
+    pub fn items(&self) -> &[Clause]
+        ensures { result.now ≡ self.now }
+    {
+        self.items.as_slice()
+    }
+}

@@ -1,0 +1,17 @@
+use Rattle.std.proofs.Common.{◌++◌, ◌∷◌, []}
+use Rattle.model_loop.specs.Parts as plain
+use Rattle.aio_future.proofs.Puts.{some_lent, pending_held, wrote}
+use Rattle.aio_future.proofs.futures.Futures.add.Goals as goal
+
+pub unwrap-future-requires : goal.unwrap-future-requires
+unwrap-future-requires c =
+    some_lent c.get_mut.result _ c.get_mut.ensures.value
+    (pending_held c.self.inside.held.entries c.self.inside.next c.args.id c.args.self.now c.self.view_is c.requires)
+
+pub returns : goal.returns
+returns c = λ future found.
+    wrote c.self.inside.held.entries (c.get_mut.follows.lender c.add.new.self).entries c.self.inside.next c.args.id c.args.self.now
+    c.get_mut.result c.unwrap-future.result c.add.new.self
+    (λ (f : plain.Future). record f { callbacks = f.callbacks ++ c.args.action ∷ [] })
+    c.self.invariant.0 c.self.view_is c.get_mut.ensures.value c.unwrap-future.ensures
+    (λ some. ((c.get_mut.follows.holds c.add.new.self).3 some).0) c.add.ensures future found

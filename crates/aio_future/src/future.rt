@@ -1,0 +1,143 @@
+//! One future.
+ghost use Rattle.std.specs.Prelude.{◌≡◌, ◌+◌, ◌<◌, ◌^◌, IfSome, [], ◌∷◌, ◌++◌, None, Some, slice_get, is_some};
+ghost use Rattle.std.specs.Option.{option_copied};
+ghost use Rattle.model_loop.specs.Futures.{asked_kind};
+ghost use Rattle.law_parts.specs.Shape.{stands_of, members_of};
+ghost use Rattle.law_parts.specs.Forgotten.{released};
+ghost use Rattle.aio_ready.specs.Queue.{soon_all};
+ghost use Rattle.aio_future.specs.Kinds.{kind_of, is_asked_kind};
+
+use aio_base::{Action, Outcome};
+use aio_ready::{Ready, Ticket, Waiting};
+use law_parts::Stands;
+use std::marker::Model;
+
+/// A future's number. It is given once.
+pub type FutureId = u64;
+
+/// What a future stands for.
+#[derive(Drop)]
+pub enum Kind {
+    Plain,
+    /// A task's own future.
+    OfTask(u32),
+    /// Several futures, its members. `asked` says that its cancel was asked for, and one of them answered true.
+    Many { members: Vec<FutureId>, asked: bool },
+}
+
+/// A future is pending while it has no outcome. Contracts see the plain future.
+#[derive(Drop)]
+pub struct Future {
+    kind: Kind,
+    outcome: Option<Outcome>,
+    callbacks: Waiting,
+}
+
+impl Model for Future {
+    ghost use Rattle.model_loop.specs.Parts as plain;
+    ghost use Rattle.aio_future.specs.Code.{coded_future};
+
+    ghost Value = { plain.Future };
+
+    ghost coded = { coded_future };
+
+    ghost use Rattle.aio_future.specs.Kinds.{kind_of};
+
+    ghost view = { λ a. record { kind = kind_of a.kind; outcome = a.outcome; callbacks = a.callbacks } };
+}
+
+impl Future {
+    pub fn new(kind: Kind) -> Future
+        ensures { result ≡ record { kind = kind_of kind; outcome = None; callbacks = [] } }
+    {
+        Future {
+            kind,
+            outcome: None,
+            callbacks: Waiting::new(),
+        }
+    }
+
+    /// The future that stands for a released one.
+    pub fn over() -> Future
+        ensures { result ≡ released }
+    {
+        Future {
+            kind: Kind::Plain,
+            outcome: Some(Outcome::Cancelled),
+            callbacks: Waiting::new(),
+        }
+    }
+
+    pub fn outcome(&self) -> Option<&Outcome>
+        ensures { option_copied result ≡ self.now.outcome }
+    {
+        self.outcome.as_ref()
+    }
+
+    pub fn is_done(&self) -> bool
+        ensures { result ≡ is_some self.now.outcome }
+    {
+        self.outcome.is_some()
+    }
+
+    /// The outcome is set, and the callbacks are called soon, in order.
+    pub fn end(&mut self, outcome: Outcome, ready: &mut Ready)
+        ensures after { self.new ≡ record self.old { outcome = Some outcome; callbacks = [] } }
+        ensures called { ready.new ≡ soon_all self.old.callbacks ready.old }
+    {
+        self.outcome = Some(outcome);
+        ready.soon_all(&mut self.callbacks);
+    }
+
+    pub fn add(&mut self, ticket: Ticket, action: Action)
+        ensures { self.new ≡ record self.old { callbacks = self.old.callbacks ++ action ∷ [] } }
+    {
+        self.callbacks.add(ticket, action);
+    }
+
+    pub fn ask(&mut self)
+        ensures { self.new ≡ record self.old { kind = asked_kind self.old.kind } }
+    {
+        if let Kind::Many { members: _, asked } = &mut self.kind {
+            *asked = true;
+        }
+    }
+
+    pub fn is_asked(&self) -> bool
+        ensures { result ≡ is_asked_kind self.now.kind }
+    {
+        match &self.kind {
+            Kind::Many { members: _, asked } => *asked,
+            Kind::Plain => false,
+            Kind::OfTask(_) => false,
+        }
+    }
+
+    pub fn stands(&self) -> Stands
+        ensures { result ≡ stands_of self.now.outcome self.now.kind }
+    {
+        if self.outcome.is_some() {
+            return Stands::Done;
+        }
+        match &self.kind {
+            Kind::Plain => Stands::Plain,
+            Kind::OfTask(task) => Stands::OfTask(*task),
+            Kind::Many {
+                members: _,
+                asked: _,
+            } => Stands::Many,
+        }
+    }
+
+    /// The member at a place.
+    pub fn member(&self, place: usize) -> Option<FutureId>
+        ensures value { result ≡ slice_get (members_of self.now.kind) place }
+        ensures room { IfSome result (λ _. place + 1 < 2 ^ 64) }
+    {
+        match &self.kind {
+            Kind::Many { members, asked: _ } => members.get(place).copied(),
+            Kind::Plain => None,
+            Kind::OfTask(_) => None,
+        }
+    }
+}

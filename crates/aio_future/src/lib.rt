@@ -1,0 +1,11 @@
+//! Futures: pending or done, and what is called when they are done.
+#![tactic(auto)]
+
+mod future;
+mod futures;
+
+pub use future::{Future, FutureId, Kind};
+pub use futures::Futures;
+
+#[cfg(test)]
+mod tests;

@@ -1,6 +1,0 @@
-use Rattle.std.proofs.Common.{◌≡◌, map, take}
-use Rattle.std.specs.Rc.{rc_str_bytes}
-use Rattle.aio_naming.proofs.line.shared_names.Given as goal
-
-abbrev pub invariant-loop-name : goal.invariant-loop-name
-invariant-loop-name l = map rc_str_bytes l.shared.items ≡ map rc_str_bytes (take l.name-index l.names)

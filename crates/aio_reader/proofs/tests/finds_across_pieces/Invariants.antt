@@ -1,0 +1,6 @@
+use Rattle.std.proofs.Common.{◌≡◌, false, None}
+use Rattle.aio_reader.proofs.tests.finds_across_pieces.Given as goal
+
+-- more may be fed
+abbrev pub invariant-loop : goal.invariant-loop
+invariant-loop l = record { not_ended : l.reader.ended ≡ false; not_failed : l.reader.failed ≡ None }

@@ -1,0 +1,11 @@
+//! The bytes that one reader holds, and the operations that take them.
+#![tactic(auto)]
+
+mod held;
+mod reader;
+mod search;
+
+pub use reader::{ReadOp, Reader, Taken};
+
+#[cfg(test)]
+mod tests;

@@ -1,0 +1,169 @@
+//! The pending queue.
+ghost use Rattle.std.specs.Prelude.{◌≡◌, ◌++◌, []};
+ghost use Rattle.std.specs.Option.{option_map};
+ghost use Rattle.aio_ready.specs.Queue.{no_handles, soon, soon_all, next_name, appended, cancelled, barred, next_action, given_after, taken, is_empty};
+
+use crate::handle::{Handle, HandleId, Name};
+use crate::stack::Stack;
+use crate::ticket::Ticket;
+use crate::waiting::Waiting;
+use aio_base::{Action, Memory};
+use std::alloc::Global;
+use std::marker::Model;
+
+// No more numbers are given than so many.
+const MOST_GIVEN: u64 = 1 << 62;
+
+/// The handles that wait to run. Contracts see those before the bar and those after it, in the order in which they were
+/// appended, and how many numbers were given.
+#[derive(Drop)]
+pub struct Ready {
+    // the first is on top
+    below: Stack,
+    // the last is on top
+    late: Stack,
+    given: u64,
+}
+
+impl Model for Ready {
+    ghost use Rattle.std.specs.Prelude.{reverse, ◌≤◌};
+    ghost use Rattle.aio_ready.specs.Queue.{Queue, most_given};
+
+    ghost Value = { Queue };
+
+    ghost view = { λ a. record { below = a.below; after = reverse a.late; given = a.given } };
+
+    ghost invariant = { λ a. a.given ≤ most_given };
+}
+
+impl Ready {
+    /// No handles.
+    pub fn new() -> Ready
+        ensures { result ≡ no_handles }
+    {
+        Ready {
+            below: Stack::new(),
+            late: Stack::new(),
+            given: 0,
+        }
+    }
+
+    /// All the memory of one handle.
+    pub fn ticket(&mut self, alloc: Global) -> Result<Ticket, Memory>
+        ensures { self.new ≡ self.old }
+    {
+        Ticket::new(alloc)
+    }
+
+    /// `call_soon`. Where no number is left, the answer names no handle, and a cancel of it does nothing.
+    pub fn soon(&mut self, ticket: Ticket, action: Action) -> HandleId
+        ensures after { self.new ≡ soon action self.old }
+        ensures name { result.name ≡ next_name self.old }
+    {
+        let name = self.next_name();
+        self.count();
+        self.append(ticket, name, action);
+        HandleId { name }
+    }
+
+    /// `call_soon` of all that wait, in order.
+    pub fn soon_all(&mut self, waiting: &mut Waiting)
+        ensures after { self.new ≡ soon_all waiting.old self.old }
+        ensures waiting { waiting.new ≡ [] }
+    {
+        let mut first = waiting.turn_out();
+        while let Some((handle, ticket)) = first.pop() {
+            let _id = self.soon(ticket, handle.action);
+        }
+    }
+
+    /// How many numbers were given.
+    pub fn given(&self) -> u64
+        ensures { result ≡ self.now.given }
+    {
+        self.given
+    }
+
+    /// A handle keeps its place, and does nothing. One that ran, or was cancelled, is as it was.
+    pub fn cancel(&mut self, handle: HandleId)
+        ensures { self.new ≡ cancelled handle.name self.old }
+    {
+        self.mark(handle.name);
+    }
+
+    /// A timer's handle, which keeps the timer's number.
+    pub fn soon_due(&mut self, ticket: Ticket, action: Action, timer: u64)
+        ensures { self.new ≡ appended (Name.Timer timer) action self.old }
+    {
+        self.append(ticket, Name::Timer(timer), action);
+    }
+
+    /// As `cancel`, of what `soon_due` appended under this number.
+    pub fn cancel_due(&mut self, timer: u64)
+        ensures { self.new ≡ cancelled (Name.Timer timer) self.old }
+    {
+        self.mark(Name::Timer(timer));
+    }
+
+    /// Whether nothing waits. Cancelled handles count.
+    pub fn is_empty(&self) -> bool
+        ensures { result ≡ is_empty (self.now.below ++ self.now.after) }
+    {
+        self.below.is_empty() && self.late.is_empty()
+    }
+
+    /// All that wait stand before the bar.
+    pub fn set_bar(&mut self)
+        ensures { self.new ≡ barred self.old }
+    {
+        let mut turned = Stack::new();
+        self.below.turn_onto(&mut turned);
+        self.late.turn_onto(&mut self.below);
+        turned.turn_onto(&mut self.below);
+    }
+
+    /// What runs next before the bar, with its memory. Those that were cancelled are let go.
+    pub fn next_below(&mut self) -> Option<(Action, Ticket)>
+        ensures action { option_map (λ next. next.0) result ≡ next_action self.old }
+        ensures after { self.new ≡ taken self.old }
+    {
+        while let Some((handle, ticket)) = self.below.pop() {
+            if !handle.dead {
+                return Some((handle.action, ticket));
+            }
+        }
+        None
+    }
+
+    fn next_name(&self) -> Name
+        ensures { result ≡ next_name self.now }
+    {
+        if self.given < MOST_GIVEN {
+            Name::Given(self.given)
+        } else {
+            Name::Nameless
+        }
+    }
+
+    fn count(&mut self)
+        ensures { self.new ≡ record self.old { given = given_after self.old } }
+    {
+        if self.given < MOST_GIVEN {
+            self.given += 1;
+        }
+    }
+
+    fn append(&mut self, ticket: Ticket, name: Name, action: Action)
+        ensures { self.new ≡ appended name action self.old }
+    {
+        let dead = false;
+        self.late.push(ticket, Handle { name, action, dead });
+    }
+
+    fn mark(&mut self, name: Name)
+        ensures { self.new ≡ cancelled name self.old }
+    {
+        self.below.mark(name);
+        self.late.mark(name);
+    }
+}

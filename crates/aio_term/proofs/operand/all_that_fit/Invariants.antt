@@ -1,8 +1,0 @@
-use Rattle.std.proofs.Common.{◌≡◌, map, option_map}
-use Rattle.model_text.specs.Levels.{all_of}
-use Rattle.law_reading.specs.Operands.{that_fits}
-use Rattle.aio_term.specs.Operand.{plain_operand}
-use Rattle.aio_term.proofs.operand.all_that_fit.Given as goal
-
-abbrev pub invariant-loop-operand : goal.invariant-loop-operand
-invariant-loop-operand l = option_map (λ all. all.items) l.terms ≡ all_of that_fits (map plain_operand l.yielded)

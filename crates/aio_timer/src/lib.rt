@@ -1,0 +1,11 @@
+//! The handles that wait for a time.
+#![tactic(auto)]
+
+mod live;
+mod timers;
+
+pub use live::TimerId;
+pub use timers::{Timers, Unplaced};
+
+#[cfg(test)]
+mod tests;

@@ -1,0 +1,7 @@
+pub mod Shape
+pub mod Forgotten
+pub mod Walk
+pub mod Weight
+pub mod Quiet
+pub mod Search
+pub mod Open

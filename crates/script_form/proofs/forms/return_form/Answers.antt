@@ -1,0 +1,8 @@
+use Rattle.std.proofs.Common.{option_map, sym, ◌∙◌}
+use Rattle.script_term.specs.Spelled.{plain_spelled}
+use Rattle.script_form.proofs.ReadLemmas.{return-read}
+use Rattle.script_form.proofs.forms.return_form.Goals as goal
+
+pub returns : goal.returns
+returns c =
+    return-read c.args.rest.now c.in-Some.value (option_map plain_spelled c.returning.result) (sym c.is_empty.ensures ∙ c.if-is_empty.false) (sym c.in-Some.is ∙ c.in_ok-value.ensures) c.returning.ensures

@@ -1,0 +1,10 @@
+use Rattle.script_form.proofs.LineLemmas.{return-dropped, no-return-dropped}
+use Rattle.script_form.proofs.text.without_return.Goals as goal
+
+pub returns-then-last-eq13 : goal.returns-then-last-eq13
+returns-then-last-eq13 c =
+    return-dropped c.args.line.now c.in-Some.inner.now c.in-Some.last.now c.in-Some.ensures.cases.0 c.if-last-eq13.true
+
+pub returns-else-last-eq13 : goal.returns-else-last-eq13
+returns-else-last-eq13 c =
+    no-return-dropped c.args.line.now c.in-Some.inner.now c.in-Some.last.now c.in-Some.ensures.cases.0 c.if-last-eq13.false

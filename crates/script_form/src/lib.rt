@@ -1,0 +1,21 @@
+//! The forms of lines, and the first pass over the text of a script: each line has a form, and stands where it may.
+#![tactic(auto)]
+
+mod block;
+mod fault;
+mod forms;
+mod fronts;
+mod goal;
+mod parts;
+mod pass;
+mod places;
+mod standing;
+mod terms;
+#[cfg(test)]
+mod tests;
+mod text;
+
+pub use fault::FormFault;
+pub use model_text::Cause;
+pub use pass::first_pass;
+pub use script_term::{Arguments, Goal, NumberedForm, Operand, Spelled, Term};

@@ -1,0 +1,433 @@
+//! What a reader knows behind one lexeme more.
+ghost use Rattle.std.specs.Prelude.{◌≡◌, List, IfOk, [], None, suc, option_map, option_and_then, reverse};
+ghost use Rattle.std.specs.Rc.{rc_str_bytes};
+ghost use Rattle.model_text.specs.Levels.{atom, constant_of_word};
+ghost use Rattle.model_text.specs.Words.{Reserved, Sign};
+ghost use Rattle.law_reading.specs.Operands.{Fits};
+ghost use Rattle.law_reading.specs.Pending.{behind_and, behind_or};
+ghost use Rattle.law_reading.specs.Reader.{Open as OpenBracket, Arguments, AtNot, AtOperand, BehindName, BehindOperand, reading};
+ghost use Rattle.law_reading.specs.Feeding.{opening, at_operand, at_not, infix_of, behind_infix, at_symbol, behind_operand, first_argument, behind_name, at_kind, fed_within, fed};
+ghost use Rattle.script_term.specs.Lexeme.{plain_lexeme};
+ghost use Rattle.script_term.specs.Operand.{plain_operand};
+ghost use Rattle.script_term_reader.specs.Infix.{plain_infix};
+ghost use Rattle.script_term_reader.specs.Next.{applied, come};
+
+use crate::ends::{at_closing, at_comma, named};
+use crate::pending::{
+    Loose, Tight, behind_and, behind_compared, behind_minus, behind_not, behind_or, behind_product,
+    behind_sum, no_loose, no_tight,
+};
+use crate::reader::{
+    Bracket, Next, Open, Position, Progress, at, forget, forget_loose, forget_operand, goes, opens,
+};
+use script_term::{Comparison, Constant, Lexeme, Operand, Operator, ReservedWord, Symbol, Term};
+use std::alloc::{AllocError, Global};
+use std::rc::RcStr;
+
+// ---- where an operand may stand
+
+fn constant_of_word(word: ReservedWord) -> Option<Term>
+    ensures { result ≡ constant_of_word word }
+{
+    match word {
+        ReservedWord::TrueValue => Some(Term::constantly(Constant::Bool(true))),
+        ReservedWord::FalseValue => Some(Term::constantly(Constant::Bool(false))),
+        ReservedWord::NoneValue => Some(Term::constantly(Constant::Nothing)),
+        _ => None,
+    }
+}
+
+/// The expression that one lexeme is.
+fn atom(lexeme: &Lexeme) -> Result<Option<Term>, AllocError>
+    ensures { IfOk result (λ term. term ≡ atom (plain_lexeme lexeme.now)) }
+{
+    Ok(match lexeme {
+        Lexeme::Reserved(word) => constant_of_word(*word),
+        Lexeme::Named(name) => Some(Term::variable(name.clone()?)),
+        Lexeme::Number(number) => Some(Term::constantly(Constant::Int(*number))),
+        Lexeme::Texts(text) => Some(Term::constantly(Constant::Text(text.clone()?))),
+        Lexeme::Octets(bytes) => Some(Term::constantly(Constant::Bytes(bytes.clone()?))),
+        Lexeme::Sign(_) => None,
+    })
+}
+
+fn at_operand(
+    alloc: Global,
+    loose: Loose,
+    tight: Tight,
+    lexeme: &Lexeme,
+) -> Result<Next, AllocError>
+    ensures { IfOk result (λ next. (opened : List OpenBracket) → applied next opened ≡ at_operand loose tight opened (plain_lexeme lexeme.now)) }
+{
+    match lexeme {
+        Lexeme::Reserved(_) | Lexeme::Number(_) | Lexeme::Texts(_) | Lexeme::Octets(_) =>
+            behind_atom(loose, tight, lexeme),
+        Lexeme::Named(name) => behind_new_name(loose, tight, name),
+        Lexeme::Sign(symbol) => at_operand_sign(alloc, loose, tight, *symbol),
+    }
+}
+
+fn behind_new_name(loose: Loose, tight: Tight, name: &RcStr) -> Result<Next, AllocError>
+    ensures { IfOk result (λ next. (opened : List OpenBracket) → applied next opened ≡ reading (BehindName loose tight (rc_str_bytes name.now)) opened) }
+{
+    match name.clone() {
+        Ok(name) => Ok(goes(Position::BehindName(loose, tight, name))),
+        Err(refused) => {
+            forget(loose, tight);
+            Err(refused)
+        }
+    }
+}
+
+fn behind_atom(loose: Loose, tight: Tight, lexeme: &Lexeme) -> Result<Next, AllocError>
+    ensures { IfOk result (λ next. (opened : List OpenBracket) → applied next opened ≡ option_and_then (λ term. reading (BehindOperand loose tight (Fits term)) opened) (atom (plain_lexeme lexeme.now))) }
+{
+    match atom(lexeme) {
+        Ok(Some(term)) => Ok(goes(Position::BehindOperand(loose, tight, Operand::Fits(term)))),
+        Ok(None) => {
+            forget(loose, tight);
+            Ok(Next::Fails)
+        }
+        Err(refused) => {
+            forget(loose, tight);
+            Err(refused)
+        }
+    }
+}
+
+fn at_operand_sign(
+    alloc: Global,
+    loose: Loose,
+    tight: Tight,
+    symbol: Symbol,
+) -> Result<Next, AllocError>
+    ensures { IfOk result (λ next. (opened : List OpenBracket) → applied next opened ≡ at_operand loose tight opened (Sign symbol)) }
+{
+    match symbol {
+        Symbol::Minus => minus(loose, tight),
+        Symbol::LeftParenthesis => Ok(opens(Bracket::Group, loose, tight, at(Position::Start))),
+        Symbol::LeftBracket => Ok(opens(
+            Bracket::Items(Vec::new(alloc)),
+            loose,
+            tight,
+            at(Position::Start),
+        )),
+        _ => {
+            forget(loose, tight);
+            Ok(Next::Fails)
+        }
+    }
+}
+
+fn minus(loose: Loose, tight: Tight) -> Result<Next, AllocError>
+    ensures { IfOk result (λ next. (opened : List OpenBracket) → applied next opened ≡ reading (AtOperand loose (record tight { minuses = suc tight.minuses })) opened) }
+{
+    match behind_minus(tight) {
+        Ok(tight) => Ok(goes(Position::AtOperand(loose, tight))),
+        Err(refused) => {
+            forget_loose(loose);
+            Err(refused)
+        }
+    }
+}
+
+/// Where `not` may stand too.
+fn at_not(alloc: Global, loose: Loose, lexeme: &Lexeme) -> Result<Next, AllocError>
+    ensures { IfOk result (λ next. (opened : List OpenBracket) → applied next opened ≡ at_not loose opened (plain_lexeme lexeme.now)) }
+{
+    match lexeme {
+        Lexeme::Reserved(ReservedWord::Not) => denial(loose),
+        _ => at_operand(alloc, loose, no_tight(), lexeme),
+    }
+}
+
+fn denial(loose: Loose) -> Result<Next, AllocError>
+    ensures { IfOk result (λ next. (opened : List OpenBracket) → applied next opened ≡ reading (AtNot (record loose { nots = suc loose.nots })) opened) }
+{
+    let loose = behind_not(loose)?;
+    Ok(goes(Position::AtNot(loose)))
+}
+
+// ---- behind an operand
+
+/// It is no expression: what is pending is let go.
+fn fails(loose: Loose, tight: Tight, operand: Operand) -> Next
+    ensures { (opened : List OpenBracket) → applied result opened ≡ None }
+{
+    forget(loose, tight);
+    forget_operand(operand);
+    Next::Fails
+}
+
+/// An operator between operands, by its level.
+#[derive(Clone, Copy)]
+pub enum Infix {
+    Compares(Comparison),
+    Adds(Operator),
+    Multiplies(Operator),
+}
+
+fn infix_of(symbol: Symbol) -> Option<Infix>
+    ensures { option_map plain_infix result ≡ infix_of symbol }
+{
+    match symbol {
+        Symbol::Equals => Some(Infix::Compares(Comparison::Equal)),
+        Symbol::NotEquals => Some(Infix::Compares(Comparison::NotEqual)),
+        Symbol::LessThan => Some(Infix::Compares(Comparison::Less)),
+        Symbol::LessOrEqual => Some(Infix::Compares(Comparison::LessOrEqual)),
+        Symbol::GreaterThan => Some(Infix::Compares(Comparison::Greater)),
+        Symbol::GreaterOrEqual => Some(Infix::Compares(Comparison::GreaterOrEqual)),
+        Symbol::Plus => Some(Infix::Adds(Operator::Add)),
+        Symbol::Minus => Some(Infix::Adds(Operator::Subtract)),
+        Symbol::Star => Some(Infix::Multiplies(Operator::Multiply)),
+        Symbol::DoubleSlash => Some(Infix::Multiplies(Operator::FloorDivide)),
+        Symbol::Percent => Some(Infix::Multiplies(Operator::Remainder)),
+        _ => None,
+    }
+}
+
+fn behind_infix(
+    alloc: Global,
+    tight: Tight,
+    operand: Operand,
+    operator: Infix,
+) -> Result<Option<Tight>, AllocError>
+    ensures { IfOk result (λ pending. pending ≡ behind_infix tight (plain_operand operand) (plain_infix operator)) }
+{
+    match operator {
+        Infix::Compares(comparison) => behind_compared(alloc, tight, comparison, operand),
+        Infix::Adds(operator) => Ok(Some(behind_sum(alloc, tight, operator, operand)?)),
+        Infix::Multiplies(operator) => Ok(Some(behind_product(alloc, tight, operator, operand)?)),
+    }
+}
+
+fn infixed(
+    alloc: Global,
+    loose: Loose,
+    tight: Tight,
+    operand: Operand,
+    operator: Infix,
+) -> Result<Next, AllocError>
+    ensures { IfOk result (λ next. (opened : List OpenBracket) → applied next opened ≡ option_and_then (λ pending. reading (AtOperand loose pending) opened) (behind_infix tight (plain_operand operand) (plain_infix operator))) }
+{
+    match behind_infix(alloc, tight, operand, operator) {
+        Ok(Some(pending)) => Ok(goes(Position::AtOperand(loose, pending))),
+        Ok(None) => {
+            forget_loose(loose);
+            Ok(Next::Fails)
+        }
+        Err(refused) => {
+            forget_loose(loose);
+            Err(refused)
+        }
+    }
+}
+
+fn infixed_by(
+    alloc: Global,
+    loose: Loose,
+    tight: Tight,
+    operand: Operand,
+    symbol: Symbol,
+) -> Result<Next, AllocError>
+    ensures { IfOk result (λ next. (opened : List OpenBracket) → applied next opened ≡ option_and_then (λ pending. reading (AtOperand loose pending) opened) (option_and_then (behind_infix tight (plain_operand operand)) (infix_of symbol))) }
+{
+    match infix_of(symbol) {
+        None => Ok(fails(loose, tight, operand)),
+        Some(operator) => infixed(alloc, loose, tight, operand, operator),
+    }
+}
+
+fn at_symbol(
+    alloc: Global,
+    loose: Loose,
+    tight: Tight,
+    operand: Operand,
+    symbol: Symbol,
+) -> Result<Next, AllocError>
+    ensures { IfOk result (λ next. (opened : List OpenBracket) → applied next opened ≡ at_symbol loose tight (plain_operand operand) opened symbol) }
+{
+    match symbol {
+        Symbol::LeftBracket => Ok(opens(Bracket::Item(operand), loose, tight, at(Position::Start))),
+        _ => infixed_by(alloc, loose, tight, operand, symbol),
+    }
+}
+
+fn behind_operand(
+    alloc: Global,
+    loose: Loose,
+    tight: Tight,
+    operand: Operand,
+    lexeme: &Lexeme,
+) -> Result<Next, AllocError>
+    ensures { IfOk result (λ next. (opened : List OpenBracket) → applied next opened ≡ behind_operand loose tight (plain_operand operand) opened (plain_lexeme lexeme.now)) }
+{
+    match lexeme {
+        Lexeme::Reserved(word) => at_word(alloc, loose, tight, operand, *word),
+        Lexeme::Sign(symbol) => at_symbol(alloc, loose, tight, operand, *symbol),
+        Lexeme::Named(_) | Lexeme::Number(_) | Lexeme::Texts(_) | Lexeme::Octets(_) => Ok(fails(
+            loose, tight, operand,
+        )),
+    }
+}
+
+fn at_word(
+    alloc: Global,
+    loose: Loose,
+    tight: Tight,
+    operand: Operand,
+    word: ReservedWord,
+) -> Result<Next, AllocError>
+    ensures { IfOk result (λ next. (opened : List OpenBracket) → applied next opened ≡ behind_operand loose tight (plain_operand operand) opened (Reserved word)) }
+{
+    match word {
+        ReservedWord::Or => disjunction(alloc, loose, tight, operand),
+        ReservedWord::And => conjunction(alloc, loose, tight, operand),
+        _ => Ok(fails(loose, tight, operand)),
+    }
+}
+
+fn disjunction(
+    alloc: Global,
+    loose: Loose,
+    tight: Tight,
+    operand: Operand,
+) -> Result<Next, AllocError>
+    ensures { IfOk result (λ next. (opened : List OpenBracket) → applied next opened ≡ reading (AtNot (behind_or loose tight (plain_operand operand))) opened) }
+{
+    let loose = behind_or(alloc, loose, tight, operand)?;
+    Ok(goes(Position::AtNot(loose)))
+}
+
+fn conjunction(
+    alloc: Global,
+    loose: Loose,
+    tight: Tight,
+    operand: Operand,
+) -> Result<Next, AllocError>
+    ensures { IfOk result (λ next. (opened : List OpenBracket) → applied next opened ≡ reading (AtNot (behind_and loose tight (plain_operand operand))) opened) }
+{
+    let loose = behind_and(alloc, loose, tight, operand)?;
+    Ok(goes(Position::AtNot(loose)))
+}
+
+/// What may stand as the first argument of a call: a bare name in `error(KIND, t)`.
+fn first_argument(name: &str) -> Progress
+    ensures { result ≡ first_argument name.now }
+{
+    if name == "error" {
+        at(Position::AtKind)
+    } else {
+        at(Position::Start)
+    }
+}
+
+fn behind_name(
+    alloc: Global,
+    loose: Loose,
+    tight: Tight,
+    name: RcStr,
+    lexeme: &Lexeme,
+) -> Result<Next, AllocError>
+    ensures { IfOk result (λ next. (opened : List OpenBracket) → applied next opened ≡ behind_name loose tight (rc_str_bytes name) opened (plain_lexeme lexeme.now)) }
+{
+    match lexeme {
+        Lexeme::Sign(Symbol::LeftParenthesis) => Ok(called(alloc, loose, tight, name)),
+        _ => behind_operand(alloc, loose, tight, named(name), lexeme),
+    }
+}
+
+fn called(alloc: Global, loose: Loose, tight: Tight, name: RcStr) -> Next
+    ensures { (opened : List OpenBracket) → applied result opened ≡ opening (Arguments (rc_str_bytes name) None []) loose tight (first_argument (rc_str_bytes name)) opened }
+{
+    let progress = first_argument(name.as_str());
+    opens(
+        Bracket::Arguments(name, None, Vec::new(alloc)),
+        loose,
+        tight,
+        progress,
+    )
+}
+
+fn at_kind(lexeme: &Lexeme) -> Result<Next, AllocError>
+    ensures { IfOk result (λ next. (opened : List OpenBracket) → applied next opened ≡ at_kind opened (plain_lexeme lexeme.now)) }
+{
+    match lexeme {
+        Lexeme::Named(kind) => {
+            let kind = kind.clone()?;
+            Ok(goes(Position::BehindKind(kind)))
+        }
+        _ => Ok(Next::Fails),
+    }
+}
+
+// ---- one lexeme more
+
+fn fed_within(alloc: Global, progress: Progress, lexeme: &Lexeme) -> Result<Next, AllocError>
+    ensures { IfOk result (λ next. (opened : List OpenBracket) → applied next opened ≡ fed_within progress opened (plain_lexeme lexeme.now)) }
+{
+    match progress.place() {
+        Position::Start => at_not(alloc, no_loose(), lexeme),
+        Position::AtNot(loose) => at_not(alloc, loose, lexeme),
+        Position::AtOperand(loose, tight) => at_operand(alloc, loose, tight, lexeme),
+        Position::BehindName(loose, tight, name) => behind_name(alloc, loose, tight, name, lexeme),
+        Position::BehindOperand(loose, tight, operand) => behind_operand(
+            alloc, loose, tight, operand, lexeme,
+        ),
+        Position::AtKind => at_kind(lexeme),
+        Position::BehindKind(_kind) => Ok(Next::Fails),
+    }
+}
+
+/// The brackets that are open are changed in place.
+fn apply(next: Next, opened: &mut Vec<Open>) -> Result<Option<Progress>, AllocError>
+    ensures { IfOk result (λ reached. come reached opened.new.items ≡ applied next (reverse opened.old.items)) }
+{
+    match next {
+        Next::Goes(progress) => Ok(Some(progress)),
+        Next::Opens(innermost, progress) => {
+            opened.push(innermost)?;
+            Ok(Some(progress))
+        }
+        Next::Fails => Ok(None),
+    }
+}
+
+fn within(
+    alloc: Global,
+    progress: Progress,
+    opened: &mut Vec<Open>,
+    lexeme: &Lexeme,
+) -> Result<Option<Progress>, AllocError>
+    ensures { IfOk result (λ reached. come reached opened.new.items ≡ fed_within progress (reverse opened.old.items) (plain_lexeme lexeme.now)) }
+{
+    let next = fed_within(alloc, progress, lexeme)?;
+    apply(next, opened)
+}
+
+/// How far the expression has come behind the lexeme, if it still is one; the brackets that are open are changed in place.
+pub fn fed(
+    alloc: Global,
+    progress: Progress,
+    opened: &mut Vec<Open>,
+    lexeme: &Lexeme,
+) -> Result<Option<Progress>, AllocError>
+    ensures { IfOk result (λ reached. come reached opened.new.items ≡ fed (record { progress = progress; opened = reverse opened.old.items }) (plain_lexeme lexeme.now)) }
+{
+    match lexeme {
+        Lexeme::Sign(Symbol::Comma) => at_comma(alloc, progress, opened),
+        Lexeme::Sign(Symbol::RightParenthesis) => at_closing(
+            alloc,
+            Symbol::RightParenthesis,
+            progress,
+            opened,
+        ),
+        Lexeme::Sign(Symbol::RightBracket) => at_closing(
+            alloc,
+            Symbol::RightBracket,
+            progress,
+            opened,
+        ),
+        _ => within(alloc, progress, opened, lexeme),
+    }
+}

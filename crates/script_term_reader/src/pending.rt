@@ -1,0 +1,371 @@
+//! Operators that still want their right operand, at most one at each level.
+ghost use Rattle.std.specs.Prelude.{◌≡◌, IfOk, option_map, suc};
+ghost use Rattle.law_reading.specs.Pending.{no_loose, no_tight, with_nots, with_minuses, calculated, compared, and_of, or_of, product_of, sum_of, comparison_of, conjunction_of, disjunction_of, behind_product, behind_sum, behind_comparison, behind_and, behind_or};
+ghost use Rattle.law_reading.specs.Feeding.{behind_compared};
+ghost use Rattle.script_term.specs.Operand.{plain_operand};
+ghost use Rattle.script_term_reader.specs.PendingLeft.{plain_left};
+
+use script_term::{Comparison, Join, Operand, Operator, denied, joined, negated};
+use std::alloc::{AllocError, Global};
+use std::marker::Model;
+
+/// The loose operators: what stands left of `or`, what stands left of `and` behind it, and how many `not` stand behind
+/// that.
+#[derive(Drop)]
+pub struct Loose {
+    or_left: Option<Operand>,
+    and_left: Option<Operand>,
+    nots: usize,
+}
+
+/// The tight ones: what stands left of a comparison, of `+` or `-`, of `*`, `//` or `%`, each behind the one before; and
+/// how many unary `-` stand behind that.
+#[derive(Drop)]
+pub struct Tight {
+    compare_left: Option<(Comparison, Operand)>,
+    sum_left: Option<(Operator, Operand)>,
+    product_left: Option<(Operator, Operand)>,
+    minuses: usize,
+}
+
+impl Model for Loose {
+    ghost use Rattle.law_reading.specs.Pending as plain;
+    ghost use Rattle.script_term_reader.specs.PendingCode.{coded_loose};
+
+    ghost Value = { plain.Loose };
+
+    ghost coded = { coded_loose };
+
+    ghost use Rattle.script_term_reader.specs.Pending.{plain_loose};
+
+    ghost view = { plain_loose };
+}
+
+impl Model for Tight {
+    ghost use Rattle.law_reading.specs.Pending as plain;
+    ghost use Rattle.script_term_reader.specs.PendingCode.{coded_tight};
+
+    ghost Value = { plain.Tight };
+
+    ghost coded = { coded_tight };
+
+    ghost use Rattle.script_term_reader.specs.Pending.{plain_tight};
+
+    ghost view = { plain_tight };
+}
+
+pub fn no_loose() -> Loose
+    ensures { result ≡ no_loose }
+{
+    Loose {
+        or_left: None,
+        and_left: None,
+        nots: 0,
+    }
+}
+
+pub fn no_tight() -> Tight
+    ensures { result ≡ no_tight }
+{
+    Tight {
+        compare_left: None,
+        sum_left: None,
+        product_left: None,
+        minuses: 0,
+    }
+}
+
+// ---- what one level makes of its right operand
+
+fn with_nots(alloc: Global, nots: usize, operand: Operand) -> Result<Operand, AllocError>
+    ensures { IfOk result (λ made. plain_operand made ≡ with_nots nots (plain_operand operand)) }
+{
+    let mut made = operand;
+    for _count in 0..nots {
+        made = denied(alloc, made)?;
+    }
+    Ok(made)
+}
+
+fn with_minuses(alloc: Global, minuses: usize, operand: Operand) -> Result<Operand, AllocError>
+    ensures { IfOk result (λ made. plain_operand made ≡ with_minuses minuses (plain_operand operand)) }
+{
+    let mut made = operand;
+    for _count in 0..minuses {
+        made = negated(alloc, made)?;
+    }
+    Ok(made)
+}
+
+fn calculated(
+    alloc: Global,
+    left: Option<(Operator, Operand)>,
+    right: Operand,
+) -> Result<Operand, AllocError>
+    ensures { IfOk result (λ made. plain_operand made ≡ calculated (plain_left left) (plain_operand right)) }
+{
+    match left {
+        None => Ok(right),
+        Some((operator, left)) => joined(alloc, Join::Calculate(operator), left, right),
+    }
+}
+
+fn compared(
+    alloc: Global,
+    left: Option<(Comparison, Operand)>,
+    right: Operand,
+) -> Result<Operand, AllocError>
+    ensures { IfOk result (λ made. plain_operand made ≡ compared (plain_left left) (plain_operand right)) }
+{
+    match left {
+        None => Ok(right),
+        Some((comparison, left)) => joined(alloc, Join::Compare(comparison), left, right),
+    }
+}
+
+fn and_of(alloc: Global, left: Option<Operand>, right: Operand) -> Result<Operand, AllocError>
+    ensures { IfOk result (λ made. plain_operand made ≡ and_of (option_map plain_operand left) (plain_operand right)) }
+{
+    match left {
+        None => Ok(right),
+        Some(left) => joined(alloc, Join::And, left, right),
+    }
+}
+
+fn or_of(alloc: Global, left: Option<Operand>, right: Operand) -> Result<Operand, AllocError>
+    ensures { IfOk result (λ made. plain_operand made ≡ or_of (option_map plain_operand left) (plain_operand right)) }
+{
+    match left {
+        None => Ok(right),
+        Some(left) => joined(alloc, Join::Or, left, right),
+    }
+}
+
+// ---- what the levels make of an operand, each with the tighter ones before it
+
+fn product_of(
+    alloc: Global,
+    left: Option<(Operator, Operand)>,
+    minuses: usize,
+    operand: Operand,
+) -> Result<Operand, AllocError>
+    ensures { IfOk result (λ made. plain_operand made ≡ calculated (plain_left left) (with_minuses minuses (plain_operand operand))) }
+{
+    let right = with_minuses(alloc, minuses, operand)?;
+    calculated(alloc, left, right)
+}
+
+/// Forgets what stands left of a comparison.
+fn sum_of(alloc: Global, tight: Tight, operand: Operand) -> Result<Operand, AllocError>
+    ensures { IfOk result (λ made. plain_operand made ≡ sum_of tight (plain_operand operand)) }
+{
+    let product = product_of(alloc, tight.product_left, tight.minuses, operand)?;
+    calculated(alloc, tight.sum_left, product)
+}
+
+fn comparison_of(alloc: Global, tight: Tight, operand: Operand) -> Result<Operand, AllocError>
+    ensures { IfOk result (λ made. plain_operand made ≡ comparison_of tight (plain_operand operand)) }
+{
+    let Tight {
+        compare_left,
+        sum_left,
+        product_left,
+        minuses,
+    } = tight;
+    let product = product_of(alloc, product_left, minuses, operand)?;
+    let sum = calculated(alloc, sum_left, product)?;
+    compared(alloc, compare_left, sum)
+}
+
+fn conjunction_of(
+    alloc: Global,
+    left: Option<Operand>,
+    nots: usize,
+    tight: Tight,
+    operand: Operand,
+) -> Result<Operand, AllocError>
+    ensures { IfOk result (λ made. plain_operand made ≡ and_of (option_map plain_operand left) (with_nots nots (comparison_of tight (plain_operand operand)))) }
+{
+    let comparison = comparison_of(alloc, tight, operand)?;
+    let right = with_nots(alloc, nots, comparison)?;
+    and_of(alloc, left, right)
+}
+
+/// What all levels make of the operand.
+pub fn disjunction_of(
+    alloc: Global,
+    loose: Loose,
+    tight: Tight,
+    operand: Operand,
+) -> Result<Operand, AllocError>
+    ensures { IfOk result (λ made. plain_operand made ≡ disjunction_of loose tight (plain_operand operand)) }
+{
+    let Loose {
+        or_left,
+        and_left,
+        nots,
+    } = loose;
+    let conjunction = conjunction_of(alloc, and_left, nots, tight, operand)?;
+    or_of(alloc, or_left, conjunction)
+}
+
+// ---- what is pending behind an operator that stands behind an operand
+
+pub fn behind_product(
+    alloc: Global,
+    tight: Tight,
+    operator: Operator,
+    operand: Operand,
+) -> Result<Tight, AllocError>
+    ensures { IfOk result (λ pending. pending ≡ behind_product tight operator (plain_operand operand)) }
+{
+    let Tight {
+        compare_left,
+        sum_left,
+        product_left,
+        minuses,
+    } = tight;
+    let left = product_of(alloc, product_left, minuses, operand)?;
+    Ok(Tight {
+        compare_left,
+        sum_left,
+        product_left: Some((operator, left)),
+        minuses: 0,
+    })
+}
+
+pub fn behind_sum(
+    alloc: Global,
+    tight: Tight,
+    operator: Operator,
+    operand: Operand,
+) -> Result<Tight, AllocError>
+    ensures { IfOk result (λ pending. pending ≡ behind_sum tight operator (plain_operand operand)) }
+{
+    let Tight {
+        compare_left,
+        sum_left,
+        product_left,
+        minuses,
+    } = tight;
+    let product = product_of(alloc, product_left, minuses, operand)?;
+    let left = calculated(alloc, sum_left, product)?;
+    Ok(Tight {
+        compare_left,
+        sum_left: Some((operator, left)),
+        product_left: None,
+        minuses: 0,
+    })
+}
+
+/// At most one comparison.
+pub fn behind_compared(
+    alloc: Global,
+    tight: Tight,
+    comparison: Comparison,
+    operand: Operand,
+) -> Result<Option<Tight>, AllocError>
+    ensures { IfOk result (λ pending. pending ≡ behind_compared tight.compare_left tight comparison (plain_operand operand)) }
+{
+    match &tight.compare_left {
+        Some(_) => Ok(None),
+        None => Ok(Some(behind_comparison(alloc, tight, comparison, operand)?)),
+    }
+}
+
+fn behind_comparison(
+    alloc: Global,
+    tight: Tight,
+    comparison: Comparison,
+    operand: Operand,
+) -> Result<Tight, AllocError>
+    ensures { IfOk result (λ pending. pending ≡ behind_comparison tight comparison (plain_operand operand)) }
+{
+    let left = sum_of(alloc, tight, operand)?;
+    Ok(Tight {
+        compare_left: Some((comparison, left)),
+        sum_left: None,
+        product_left: None,
+        minuses: 0,
+    })
+}
+
+pub fn behind_and(
+    alloc: Global,
+    loose: Loose,
+    tight: Tight,
+    operand: Operand,
+) -> Result<Loose, AllocError>
+    ensures { IfOk result (λ pending. pending ≡ behind_and loose tight (plain_operand operand)) }
+{
+    let Loose {
+        or_left,
+        and_left,
+        nots,
+    } = loose;
+    let left = conjunction_of(alloc, and_left, nots, tight, operand)?;
+    Ok(Loose {
+        or_left,
+        and_left: Some(left),
+        nots: 0,
+    })
+}
+
+pub fn behind_or(
+    alloc: Global,
+    loose: Loose,
+    tight: Tight,
+    operand: Operand,
+) -> Result<Loose, AllocError>
+    ensures { IfOk result (λ pending. pending ≡ behind_or loose tight (plain_operand operand)) }
+{
+    let left = disjunction_of(alloc, loose, tight, operand)?;
+    Ok(Loose {
+        or_left: Some(left),
+        and_left: None,
+        nots: 0,
+    })
+}
+
+/// One `not` more.
+pub fn behind_not(loose: Loose) -> Result<Loose, AllocError>
+    ensures { IfOk result (λ pending. pending ≡ record loose { nots = suc loose.nots }) }
+{
+    let Loose {
+        or_left,
+        and_left,
+        nots,
+    } = loose;
+    let nots = one_more(nots)?;
+    Ok(Loose {
+        or_left,
+        and_left,
+        nots,
+    })
+}
+
+/// One unary `-` more.
+pub fn behind_minus(tight: Tight) -> Result<Tight, AllocError>
+    ensures { IfOk result (λ pending. pending ≡ record tight { minuses = suc tight.minuses }) }
+{
+    let Tight {
+        compare_left,
+        sum_left,
+        product_left,
+        minuses,
+    } = tight;
+    let minuses = one_more(minuses)?;
+    Ok(Tight {
+        compare_left,
+        sum_left,
+        product_left,
+        minuses,
+    })
+}
+
+/// No memory holds as many lexemes as would take the count to its type's end.
+fn one_more(count: usize) -> Result<usize, AllocError>
+    ensures { IfOk result (λ more. more ≡ suc count) }
+{
+    count.checked_add(1).ok_or(AllocError)
+}

@@ -1,0 +1,124 @@
+//! A row: words, files, and what must come of them.
+use crate::dead_wire::DeadWire;
+use crate::line::RowLine;
+use aio_base::Memory;
+use aio_run::aio_main;
+use aio_wire::{MemShelf, MemSink, Shelf};
+use std::alloc::Global;
+
+/// Which text a line adds to.
+#[derive(Clone, Copy)]
+enum Into {
+    Nowhere,
+    File,
+    Written,
+}
+
+/// The words of one call of the program, its files, what it must write and how it must end.
+#[derive(Drop)]
+pub struct Row {
+    pub name: String,
+    words: Vec<String>,
+    shelf: MemShelf,
+    file: String,
+    into: Into,
+    written: Vec<u8>,
+    status: Vec<u8>,
+}
+
+/// What came of a row.
+#[derive(Clone, Copy)]
+pub enum Verdict {
+    Right,
+    /// It ended with this status.
+    OtherStatus(u8),
+    /// What it wrote differs first at this byte, from 0.
+    OtherText(usize),
+}
+
+impl Row {
+    /// A row without words, files or text, which must end with status 0.
+    pub fn new(alloc: Global, name: &str) -> Result<Row, Memory> {
+        Ok(Row {
+            name: String::from_str(alloc, name)?,
+            words: Vec::new(alloc),
+            shelf: MemShelf::new(alloc),
+            file: String::new(alloc),
+            into: Into::Nowhere,
+            written: Vec::new(alloc),
+            status: Vec::new(alloc),
+        })
+    }
+
+    /// Takes a line of the row.
+    pub fn add(&mut self, alloc: Global, line: &RowLine<'_>) -> Result<(), Memory> {
+        match line {
+            RowLine::Word(word) => {
+                self.words.push(String::from_str(alloc, word)?)?;
+                Ok(())
+            }
+            RowLine::Status(number) => {
+                self.status = Vec::from_slice(alloc, number.as_bytes())?;
+                Ok(())
+            }
+            RowLine::File(name) => {
+                self.file = String::from_str(alloc, name)?;
+                self.into = Into::File;
+                self.add_text(alloc, b"")
+            }
+            RowLine::Written => {
+                self.into = Into::Written;
+                Ok(())
+            }
+            RowLine::Text(text) => {
+                self.add_text(alloc, text)?;
+                self.add_text(alloc, b"\n")
+            }
+            RowLine::End(text) => self.add_text(alloc, text),
+            RowLine::Row(_) | RowLine::Comment => Ok(()),
+        }
+    }
+
+    fn add_text(&mut self, alloc: Global, text: &[u8]) -> Result<(), Memory> {
+        match self.into {
+            Into::Nowhere => Ok(()),
+            Into::Written => {
+                self.written.extend_from_slice(text)?;
+                Ok(())
+            }
+            Into::File => {
+                self.shelf.append(alloc, self.file.as_str(), text)?;
+                Ok(())
+            }
+        }
+    }
+
+    /// Runs the program over the row's words and files.
+    pub fn run(&mut self, alloc: Global) -> Verdict {
+        let mut out = MemSink::new(alloc);
+        let status = aio_main(
+            alloc,
+            &self.words,
+            &mut self.shelf,
+            &mut DeadWire::new(),
+            &mut out,
+        );
+        if aio_text::number(&self.status) != Some(u64::from(status)) {
+            return Verdict::OtherStatus(status);
+        }
+        match first_difference(out.taken(), &self.written) {
+            Some(at) => Verdict::OtherText(at),
+            None => Verdict::Right,
+        }
+    }
+}
+
+/// Where two texts differ first.
+fn first_difference(one: &[u8], other: &[u8]) -> Option<usize> {
+    let found = one.iter().zip(other).position(|(a, b)| a != b);
+    match found {
+        Some(at) => Some(at),
+        None if one.len() == other.len() => None,
+        None => Some(one.len().min(other.len())),
+    }
+}
