@@ -1,6 +1,8 @@
 //! The files of the file system.
-ghost use Rattle.std.specs.Prelude.{◌≡◌, ◌<◌, length, None, IfOk};
+ghost use Rattle.std.specs.Prelude.{◌≡◌, ◌<◌, ℕ, List, length, vec_len, None, IfOk, IfErr, IsErr};
 ghost use Rattle.std.specs.Io.{ReadsAtMost, WritesAtMost};
+ghost use Rattle.aio_wire.specs.Got.{FitsRead, ReadLeavesShelf};
+ghost use Rattle.aio.specs.Counts.{counting, Took};
 
 use aio_base::{Blob, Memory};
 use aio_wire::{Shelf, SinkTook, SourceGot};
@@ -12,8 +14,8 @@ use std::{fs, io, rt};
 /// The most bytes that one read asks for.
 const LONGEST_READ: usize = 65_536;
 
-/// The files of the file system by their paths, as a shelf that tells nothing of what they hold. Each error of the
-/// system raises its count of faults.
+/// The files of the file system by their paths, as a shelf that tells nothing of what they hold. It has one count of
+/// failures for all of them.
 #[derive(Drop)]
 pub struct Files<R> {
     rt: R,
@@ -29,9 +31,7 @@ impl<R: rt::Files> Files<R> {
 }
 
 impl<R: rt::Files> Shelf for Files<R> {
-    ghost faults = { λ files. files.faults };
-
-    ghost file = { λ _ _. None };
+    ghost seen = { λ files. counting files.faults };
 
     /// At most 65,536 bytes are asked of the system at once.
     fn read(
@@ -42,38 +42,70 @@ impl<R: rt::Files> Shelf for Files<R> {
         max: usize,
     ) -> Result<SourceGot, Memory> {
         let mut piece = vec![in alloc; 0u8; max.min(LONGEST_READ)]?;
-        match read_at(&self.rt, name, from, &mut piece) {
-            Ok(0) => Ok(SourceGot::End),
+        let read = read_at::<R>(fs::open(&self.rt, name), from, &mut piece);
+        Ok(self.got(read, piece))
+    }
+
+    fn append(&mut self, _alloc: Global, name: &str, piece: &[u8]) -> Result<SinkTook, Memory> {
+        let opened = OpenOptions::new()
+            .append(true)
+            .create(true)
+            .open(&self.rt, name);
+        let wrote = append_to::<R>(opened, piece);
+        Ok(self.took(wrote))
+    }
+}
+
+impl<R> Files<R> {
+    /// What is answered where the system read so: an error is a failure, and no bytes are the end.
+    fn got(&mut self, read: io::Result<usize>, mut piece: Vec<u8>) -> SourceGot
+        requires { ReadsAtMost read piece.items }
+        ensures failed { IfErr read (λ _. result ≡ SourceGot.Failed) }
+        ensures size { FitsRead (vec_len piece) result }
+        ensures left { (name : List ℕ)
+            → ReadLeavesShelf name (counting self.old.faults) (counting self.new.faults) result }
+    {
+        match read {
+            Ok(0) => SourceGot::End,
             Ok(count) => {
                 piece.truncate(count);
-                Ok(SourceGot::Bytes(Blob::of(piece)))
+                SourceGot::Bytes(Blob::of(piece))
             }
             Err(_) => {
                 self.faults = self.faults.saturating_add(1);
-                Ok(SourceGot::Failed)
+                SourceGot::Failed
             }
         }
     }
 
-    fn append(&mut self, _alloc: Global, name: &str, piece: &[u8]) -> Result<SinkTook, Memory> {
-        match append_to(&self.rt, name, piece) {
-            Ok(count) => Ok(SinkTook::Took(count)),
+    /// What is answered where the system wrote so: an error is a failure.
+    fn took(&mut self, wrote: io::Result<usize>) -> SinkTook
+        ensures { Took wrote self.old.faults self.new.faults result }
+    {
+        match wrote {
+            Ok(count) => SinkTook::Took(count),
             Err(_) => {
                 self.faults = self.faults.saturating_add(1);
-                Ok(SinkTook::Failed)
+                SinkTook::Failed
             }
         }
     }
 }
 
-// Reads into the piece from a place of a file on, and says how many bytes came. None is the end.
-fn read_at<R: rt::Files>(rt: &R, name: &str, from: u64, piece: &mut [u8]) -> io::Result<usize>
-    ensures { ReadsAtMost result piece.new }
+/// Reads into the piece from a place of a file on, and says how many bytes came. None is the end. A file that could not be
+/// opened is not read.
+fn read_at<R: rt::Files>(
+    opened: io::Result<R::File>,
+    from: u64,
+    piece: &mut [u8],
+) -> io::Result<usize>
+    ensures bound { ReadsAtMost result piece.new }
+    ensures closed { IfErr opened (λ _. IsErr result) }
 {
-    let mut file = fs::open(rt, name)?;
-    file.seek(SeekFrom::Start(from))?;
+    let mut source = opened?;
+    source.seek(SeekFrom::Start(from))?;
     for _ in 0..u64::MAX {
-        match file.read(piece) {
+        match source.read(piece) {
             Err(error) if error.kind() == ErrorKind::Interrupted => {}
             read => return read,
         }
@@ -81,17 +113,19 @@ fn read_at<R: rt::Files>(rt: &R, name: &str, from: u64, piece: &mut [u8]) -> io:
     Err(io::Error::from(ErrorKind::Interrupted))
 }
 
-// Writes a front of the piece behind a file's end, and says how many bytes went. A missing file is made.
-fn append_to<R: rt::Files>(rt: &R, name: &str, piece: &[u8]) -> io::Result<usize>
+/// Writes a front of the piece behind a file's end, and says how many bytes went. Nothing goes to a file that could not be
+/// opened.
+fn append_to<R: rt::Files>(opened: io::Result<R::File>, piece: &[u8]) -> io::Result<usize>
     ensures bound { WritesAtMost result piece.now }
     ensures some { IfOk result (λ count. 0 < length piece.now → 0 < count) }
+    ensures closed { IfErr opened (λ _. IsErr result) }
 {
-    let mut file = OpenOptions::new().append(true).create(true).open(rt, name)?;
+    let mut target = opened?;
     if piece.is_empty() {
         return Ok(0);
     }
     for _ in 0..u64::MAX {
-        match file.write(piece) {
+        match target.write(piece) {
             Ok(0) => return Err(io::Error::from(ErrorKind::WriteZero)),
             Err(error) if error.kind() == ErrorKind::Interrupted => {}
             written => return written,

@@ -1,5 +1,6 @@
 //! A wire that answers nothing.
 ghost use Rattle.std.specs.Prelude.{◌≡◌, None};
+ghost use Rattle.model_wire.specs.Told.{Going};
 
 use aio_base::Memory;
 use aio_wire::{Call, Reply, Wire};
@@ -24,16 +25,26 @@ impl Wire for NoWire {
 
     ghost answers = { λ _. None };
 
+    ghost end = { λ _. Going };
+
     ghost fails = { λ _. Unit {0} };
 
     ghost keeps = { λ _ _. Unit {0} };
+
+    ghost quiet = { λ _ _. Unit {0} };
 
     fn ask(&mut self, _alloc: Global, _call: &Call) -> Result<Reply, Memory> {
         self.faults = self.faults.saturating_add(1);
         Ok(Reply::Failed)
     }
 
+    ghost end_agrees = { λ _. tt };
+
     ghost keeps_same = { λ _. tt };
 
     ghost keeps_on = { λ _ _ _ _ _. tt };
+
+    ghost quiet_same = { λ _. tt };
+
+    ghost quiet_on = { λ _ _ _ _ _. tt };
 }

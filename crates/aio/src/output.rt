@@ -1,6 +1,7 @@
 //! The standard output.
 ghost use Rattle.std.specs.Prelude.{◌≡◌, ◌<◌, length, None, IfOk};
 ghost use Rattle.std.specs.Io.{WritesAtMost};
+ghost use Rattle.aio.specs.Counts.{Took};
 
 use aio_base::Memory;
 use aio_wire::{Sink, SinkTook};
@@ -9,7 +10,7 @@ use std::io;
 use std::io::ErrorKind;
 
 /// The standard output as a sink that tells nothing of what it took. Each piece goes to the system at once, so nothing
-/// waits in a buffer. Each error of the system raises its count of faults.
+/// waits in a buffer.
 #[derive(Drop)]
 pub struct Output<R> {
     rt: R,
@@ -25,22 +26,30 @@ impl<R: Print> Output<R> {
 }
 
 impl<R: Print> Sink for Output<R> {
-    ghost faults = { λ output. output.faults };
-
-    ghost taken = { λ _. None };
+    ghost seen = { λ output. record { taken = None; faults = output.faults } };
 
     fn write(&mut self, _alloc: Global, piece: &[u8]) -> Result<SinkTook, Memory> {
-        match write_some(&self.rt, piece) {
-            Ok(count) => Ok(SinkTook::Took(count)),
+        let wrote = write_some(&self.rt, piece);
+        Ok(self.took(wrote))
+    }
+}
+
+impl<R> Output<R> {
+    /// What is answered where the system wrote so: an error is a failure.
+    fn took(&mut self, wrote: io::Result<usize>) -> SinkTook
+        ensures { Took wrote self.old.faults self.new.faults result }
+    {
+        match wrote {
+            Ok(count) => SinkTook::Took(count),
             Err(_) => {
                 self.faults = self.faults.saturating_add(1);
-                Ok(SinkTook::Failed)
+                SinkTook::Failed
             }
         }
     }
 }
 
-// Writes a front of the piece, and says how many bytes went.
+/// Writes a front of the piece, and says how many bytes went.
 fn write_some<R: Print>(rt: &R, piece: &[u8]) -> io::Result<usize>
     ensures bound { WritesAtMost result piece.now }
     ensures some { IfOk result (λ count. 0 < length piece.now → 0 < count) }

@@ -1,4 +1,6 @@
-//! The real shelf over a file of the system, and the real sink over a standard output that fails in turn.
+//! The real shelf over files of the system, and the real sink over a standard output that fails in turn.
+ghost use Rattle.std.specs.Prelude.{◌≤◌};
+
 use crate::files::Files;
 use crate::output::Output;
 use aio_base::Memory;
@@ -94,5 +96,70 @@ fn file_there_and_back(rt: HostRuntime) -> Result<(), Fail> {
         );
     }
     fs::remove_file(&rt, name.as_str())?;
+    Ok(())
+}
+
+// Puts bytes into a file, in as many pieces as it takes.
+fn put<F: Shelf>(alloc: Global, files: &mut F, name: &str, bytes: &[u8]) -> Result<(), Memory> {
+    let mut rest = bytes;
+    for _ in 0..bytes.len() {
+        if rest.is_empty() {
+            break;
+        }
+        let SinkTook::Took(count) = files.append(alloc, name, rest)? else {
+            break;
+        };
+        rest = rest.get(count..).unwrap_or(&[]);
+    }
+    Ok(())
+}
+
+// Whether a file holds these bytes: it is read from each place on that a read comes to.
+fn holds<F: Shelf>(
+    alloc: Global,
+    files: &mut F,
+    name: &str,
+    bytes: &[u8],
+) -> Result<bool, Memory> {
+    let mut rest = bytes;
+    for _ in 0..bytes.len() {
+        if rest.is_empty() {
+            break;
+        }
+        let at = bytes.len().saturating_sub(rest.len());
+        let SourceGot::Bytes(piece) = files.read(alloc, name, at as u64, 1_048_576)? else {
+            return Ok(false);
+        };
+        if !rest.starts_with(piece.items()) {
+            return Ok(false);
+        }
+        rest = rest.get(piece.items().len()..).unwrap_or(&[]);
+    }
+    let end = files.read(alloc, name, bytes.len() as u64, 1)?;
+    Ok(rest.is_empty() && matches!(end, SourceGot::End))
+}
+
+// Bytes of which none is as that which stands 65,536 places before.
+fn bytes_of(alloc: Global, size: usize) -> Result<Vec<u8>, Memory> {
+    let mut bytes = Vec::new(alloc);
+    for at in 0..size {
+        bytes.push((at % 251) as u8)?;
+    }
+    Ok(bytes)
+}
+
+#[test]
+fn whole_files(rt: HostRuntime) -> Result<(), Fail> {
+    let alloc = rt.alloc();
+    let process = process::id(rt.process());
+    let mut files = Files::new(&rt);
+    for size in [200_000, 1_048_576] {
+        let name = format!(in alloc; "/tmp/aio-whole-{process}-{size}")?;
+        let bytes = bytes_of(alloc, size)?;
+        put(alloc, &mut files, name.as_str(), bytes.as_slice())?;
+        let held = holds(alloc, &mut files, name.as_str(), bytes.as_slice())?;
+        fs::remove_file(&rt, name.as_str())?;
+        assert!(rt; held, "{size}");
+    }
     Ok(())
 }

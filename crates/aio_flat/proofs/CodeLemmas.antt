@@ -9,9 +9,9 @@ use Rattle.law_flat.specs.Laid.{LaidAll}
 use Rattle.law_flat.specs.Nearer.{JumpsForward}
 use Rattle.law_flat.specs.Stands.{LaidOut}
 use Rattle.aio_flat.specs.declared.code.FlatBody.{FlatBody}
-use Rattle.aio_flat.specs.Code.{code_at, codes_in, variables_at, IsBodyOf, AreBodiesOf}
+use Rattle.aio_flat.specs.Code.{code_at, codes_in, IsBodyOf, AreBodiesOf}
 
-pub none-forward : JumpsForward (record { ops = []; ranges = [] })
+pub none-forward : JumpsForward (record { ops = []; ranges = []; variables = [] })
 none-forward place to has = absurd (omega (arith, slice_get_within [] place (op.Jump to) has))
 
 pub bodies-push : (program : Program) (coroutines : List Coroutine) (bodies : List FlatBody) (coroutine : Coroutine) (body : FlatBody) →
@@ -32,22 +32,23 @@ laid-at program (first ∷ coroutines) (one ∷ bodies) (suc at) are = laid-at p
 laid-at program [] (one ∷ bodies) at are = absurd are
 laid-at program (first ∷ coroutines) [] at are = absurd are
 
+variables-at : (program : Program) (coroutines : List Coroutine) (bodies : List FlatBody) →
+    AreBodiesOf program coroutines bodies → (at : ℕ) →
+    (codes_in bodies at).variables ≡ variables_of (coroutine_or_none (slice_get coroutines at))
+variables-at program [] [] are at = refl
+variables-at program (first ∷ coroutines) (one ∷ bodies) are zero = are.0.variables
+variables-at program (first ∷ coroutines) (one ∷ bodies) are (suc at) = variables-at program coroutines bodies are.1 at
+variables-at program [] (one ∷ bodies) are at = absurd are
+variables-at program (first ∷ coroutines) [] are at = absurd are
+
 pub laid-out : (program : Program) (bodies : List FlatBody) → AreBodiesOf program program.coroutines bodies → (at : ℕ) →
     LaidOut program (codes_in bodies) at
 laid-out program bodies are at = record {
   end = length (codes_in bodies at).ops;
   body = laid-at program program.coroutines bodies at are;
   ends = slice_get_past (codes_in bodies at).ops (length (codes_in bodies at).ops) (omega arith);
+  variables = variables-at program program.coroutines bodies are at;
 }
-
-pub variables-at : (program : Program) (coroutines : List Coroutine) (bodies : List FlatBody) →
-    AreBodiesOf program coroutines bodies → (at : ℕ) →
-    variables_at (slice_get bodies at) ≡ variables_of (coroutine_or_none (slice_get coroutines at))
-variables-at program [] [] are at = refl
-variables-at program (first ∷ coroutines) (one ∷ bodies) are zero = are.0.variables
-variables-at program (first ∷ coroutines) (one ∷ bodies) are (suc at) = variables-at program coroutines bodies are.1 at
-variables-at program [] (one ∷ bodies) are at = absurd are
-variables-at program (first ∷ coroutines) [] are at = absurd are
 
 pub names-of : (program : Program) (coroutines : List Coroutine) (bodies : List FlatBody) →
     AreBodiesOf program coroutines bodies →

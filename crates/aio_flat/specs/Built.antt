@@ -1,5 +1,5 @@
--- Code as it is laid, statement by statement.
-use Rattle.std.specs.Prelude.{◌≡◌, ℕ, ◌+◌, length, Option, Some, None}
+-- Code as it is laid, statement by statement. Its variables come last.
+use Rattle.std.specs.Prelude.{◌≡◌, ℕ, ◌+◌, [], length, Option, Some, None}
 use Rattle.model_tree.specs.Syntax.{exprs_of, Statement, Assign, Yield, YieldFrom, Print, Raise, Return, Pass, Branch, Handler, Program}
 use Rattle.law_flat.specs.declared.op.Op.TheVariants as op
 use Rattle.law_flat.specs.Ops.{Op, Clause, Body, Has}
@@ -8,7 +8,7 @@ use Rattle.aio_flat.specs.declared.builder.BodyBuilder.{BodyBuilder}
 use Rattle.aio_flat.specs.Grows.{Grows}
 
 abbrev pub built : BodyBuilder → Body
-built builder = record { ops = builder.ops.items; ranges = builder.ranges.items }
+built builder = record { ops = builder.ops.items; ranges = builder.ranges.items; variables = [] }
 
 -- what was laid stands from where the builder was up to where it is
 abbrev pub Lays : BodyBuilder → BodyBuilder → (Body → ℕ → ℕ → Type 0) → Type 0

@@ -10,16 +10,12 @@ use Rattle.aio_flat.specs.declared.code.FlatBody.{FlatBody}
 use Rattle.aio_flat.specs.declared.code.Code.{Code}
 
 abbrev pub plain_body : FlatBody → Body
-plain_body body = record { ops = body.ops.items; ranges = body.ranges.items }
+plain_body body = record { ops = body.ops.items; ranges = body.ranges.items; variables = body.variables.items }
 
 -- a coroutine that there is not has no operations and no variables
 abbrev pub code_at : Option FlatBody → Body
-code_at None = record { ops = []; ranges = [] }
+code_at None = record { ops = []; ranges = []; variables = [] }
 code_at (Some body) = plain_body body
-
-abbrev pub variables_at : Option FlatBody → List Name
-variables_at None = []
-variables_at (Some body) = body.variables.items
 
 abbrev pub codes_in : List FlatBody → ℕ → Body
 codes_in bodies coroutine = code_at (slice_get bodies coroutine)
@@ -39,9 +35,7 @@ AreBodiesOf program (coroutine ∷ coroutines) (body ∷ bodies) =
     IsBodyOf program coroutine body × AreBodiesOf program coroutines bodies
 AreBodiesOf program _ _ = ⊥
 
--- The code of a program: each body is laid out, with the variables that a call of it has.
+-- the code of a program
 pub record IsCodeOf (program : Program) (code : Code) : Type 0 where
   pub laid_out : AllLaidOut program (codes_of code)
-  pub variables : (coroutine : ℕ) →
-      variables_at (slice_get code.bodies.items coroutine) ≡ variables_of (coroutine_at program coroutine)
   pub names : map (λ body. body.name) code.bodies.items ≡ map (λ coroutine. coroutine.name) program.coroutines

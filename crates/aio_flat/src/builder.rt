@@ -16,7 +16,7 @@ pub struct BodyBuilder {
 
 impl BodyBuilder {
     pub fn new(alloc: Global) -> BodyBuilder
-        ensures { built result ≡ record { ops = []; ranges = [] } }
+        ensures { built result ≡ record { ops = []; ranges = []; variables = [] } }
     {
         BodyBuilder {
             ops: Vec::new(alloc),

@@ -1,5 +1,4 @@
 //! The code of a program.
-ghost use Rattle.std.specs.Prelude.{◌≡◌, IfSome, IfNone, Some, None, slice_get, option_copied};
 ghost use Rattle.law_flat.specs.Nearer.{JumpsForward};
 
 use crate::body::{Op, Range};
@@ -13,7 +12,7 @@ pub struct FlatBody {
     pub variables: Vec<Name>,
     pub ops: Vec<Op>,
     pub ranges: Vec<Range>,
-    ghost forward: { JumpsForward (record { ops = ops.items; ranges = ranges.items }) },
+    ghost forward: { JumpsForward (record { ops = ops.items; ranges = ranges.items; variables = variables.items }) },
 }
 
 /// The code of a program: that of each coroutine, in their order.

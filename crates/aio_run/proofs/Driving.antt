@@ -7,7 +7,7 @@ use Rattle.model_value.specs.declared.outcome.Outcome.TheVariants.{Value as Retu
 use Rattle.model_straight.specs.Straight.{Line}
 use Rattle.model_wire.specs.Call.{Call, Answer}
 use Rattle.model_wire.specs.Journal.{Entry, Answered, Refused}
-use Rattle.model_wire.specs.Told.{Agrees, grown, Rose}
+use Rattle.model_wire.specs.Told.{Agrees, Rose, SinkSeen, took}
 use Rattle.model_straight.specs.Program.{turn_limit}
 use Rattle.model_straight.specs.State.{State, Event, Called, start}
 use Rattle.model_straight.specs.Turn.{turn, call_of}
@@ -15,34 +15,37 @@ use Rattle.model_straight.specs.Run.{Run, Ending, Over, Bad, Finished, Turns, ru
 use Rattle.model_straight.specs.Transcript.{line, lines_of_events, ending_text, transcript, status_of}
 use Rattle.law_straight.proofs.Grows.{run_on-grows}
 use Rattle.aio_straight.specs.Lines.{plain_program}
-use Rattle.aio_run.specs.Drive.{Ran, RanInPart, RanSoFar, Stopped, StopsInTurn, TurnWritten, TurnWrittenInPart}
+use Rattle.model_machine.specs.Theorem.{IsFrontOf}
+use Rattle.aio_run.specs.Drive.{Ran, RanInPart, RanSoFar, Stopped, StopsInTurn, TurnInPart, TurnWritten}
 use Rattle.aio_run.specs.Kernel.{History, Fits, FitsIn, state_of, state_in, starting, is_over, waiting}
-use Rattle.aio_run.specs.Writing.{TakesFront, StopsWriting}
+use Rattle.aio_run.specs.Writing.{StopsWriting}
 use Rattle.aio_run.specs.declared.halt.Halt.{Halt}
 use Rattle.aio_run.specs.declared.halt.Halt.TheVariants.{Memory, Sink, Wire}
 use Rattle.aio_run.specs.declared.kernel.Kernel.{Kernel}
 use Rattle.aio_run.specs.declared.phase.Phase.{Phase}
 use Rattle.aio_run.specs.declared.phase.Phase.TheVariants.{Ready, Sleeping, Woken, Ended, Over as PhaseOver}
-use Rattle.aio_run.proofs.Fronts.{append-nil, grown-grown, grown-nil}
+use Rattle.aio_run.proofs.Fronts.{append-nil, took-nil, took_on, failed_on}
 use Rattle.aio_run.proofs.Turning.{lines-append}
 
 -- A run of a program in which some turns were made: the history, the answers so far, and what was taken.
-pub record Running (program : List Line) (made : ℕ) (kernel : Kernel) (h : History) (past : List Entry) (first_told now_told : Option (List Entry)) (first_taken now_taken : Option (List ℕ)) : Type 0 where
+pub record Running (program : List Line) (made : ℕ) (kernel : Kernel) (h : History) (past : List Entry) (first_told now_told : Option (List Entry))
+    (first now : SinkSeen) : Type 0 where
   pub same : plain_program kernel.program ≡ program
   pub fits : Fits kernel h
   pub told : (rest : List Entry) → Agrees now_told rest → Agrees first_told (past ++ rest)
   pub on : (rest : List Entry) → run program (past ++ rest) turn_limit ≡ run_on turn_limit made (state_of kernel h) rest
-  pub taken : now_taken ≡ grown first_taken (lines_of_events h.events)
+  pub sink : now ≡ took first (lines_of_events h.events)
 
 -- a run that begins
-pub running_first : (program : List Line) (kernel : Kernel) (told : Option (List Entry)) (taken : Option (List ℕ)) → plain_program kernel.program ≡ program → Fits kernel starting → state_of kernel starting ≡ start program → Running program 0 kernel starting [] told told taken taken
-running_first program kernel told taken same fits begins =
+pub running_first : (program : List Line) (kernel : Kernel) (told : Option (List Entry)) (sink : SinkSeen) → plain_program kernel.program ≡ program
+    → Fits kernel starting → state_of kernel starting ≡ start program → Running program 0 kernel starting [] told told sink sink
+running_first program kernel told sink same fits begins =
     record {
       same = same;
       fits = fits;
       told = λ rest agrees. agrees;
       on = λ rest. ap (λ (s : State). run_on turn_limit 0 s rest) (sym begins);
-      taken = sym (grown-nil taken);
+      sink = sym (took-nil sink);
     }
 
 -- entries that agree with what is told
@@ -97,128 +100,6 @@ run_on-turn limit made s answer entries none = rw none refl
 lines-called : (es : List Event) (e : Event) → lines_of_events (e ∷ []) ≡ [] → lines_of_events (es ++ e ∷ []) ≡ lines_of_events es
 lines-called es e none = lines-append es (e ∷ []) ∙ ap (λ (t : List ℕ). lines_of_events es ++ t) none ∙ append-nil (lines_of_events es)
 
--- what a run writes where it ends here
-transcript_here : (program : List Line) (made : ℕ) (kernel : Kernel) (h : History) (past : List Entry) (first_told now_told : Option (List Entry)) (first_taken now_taken : Option (List ℕ)) (running : Running program made kernel h past first_told now_told first_taken now_taken) (rest : List Entry) (r : Run) → run_on turn_limit made (state_of kernel h) rest ≡ r → lines_of_events r.events ≡ lines_of_events h.events → lines_of_events h.events ++ line (ending_text r.ending) ≡ transcript (run program (past ++ rest) turn_limit)
-transcript_here program made kernel h past first_told now_told first_taken now_taken running rest r here same =
-    ap (λ (t : List ℕ). t ++ line (ending_text r.ending)) (sym same) ∙ ap transcript (sym (running.on rest ∙ here))
-
-pub whole_run : (program : List Line) (made : ℕ) (kernel : Kernel) (h : History) (past : List Entry) (first_told now_told : Option (List Entry)) (first_taken now_taken : Option (List ℕ)) (running : Running program made kernel h past first_told now_told first_taken now_taken) (rest : List Entry) → Agrees now_told rest → (r : Run) → run_on turn_limit made (state_of kernel h) rest ≡ r → lines_of_events r.events ≡ lines_of_events h.events → (after : Option (List ℕ)) (status : ℕ) → after ≡ grown now_taken (line (ending_text r.ending)) → status ≡ status_of r.ending → Ran program first_told first_taken after status
-whole_run program made kernel h past first_told now_told first_taken now_taken running rest agrees r here same after status took told = (
-  past ++ rest,
-  running.told rest agrees,
-  took ∙ ap (λ (t : Option (List ℕ)). grown t (line (ending_text r.ending))) running.taken ∙ grown-grown first_taken (lines_of_events h.events) (line (ending_text r.ending))
-      ∙ ap (grown first_taken) (transcript_here program made kernel h past first_told now_told first_taken now_taken running rest r here same),
-  told ∙ ap (λ (x : Run). status_of x.ending) (sym (running.on rest ∙ here)),
-)
-
--- a front of the last line
-last_in_part : (program : List Line) (made : ℕ) (kernel : Kernel) (h : History) (past : List Entry) (first_told now_told : Option (List Entry)) (first_taken now_taken : Option (List ℕ)) (running : Running program made kernel h past first_told now_told first_taken now_taken) (rest : List Entry) → Agrees now_told rest → (r : Run) → run_on turn_limit made (state_of kernel h) rest ≡ r → lines_of_events r.events ≡ lines_of_events h.events → (after : Option (List ℕ)) → TakesFront (line (ending_text r.ending)) now_taken after → RanInPart program first_told first_taken after
-last_in_part program made kernel h past first_told now_told first_taken now_taken running rest agrees r here same after front = (
-  past ++ rest,
-  running.told rest agrees,
-  (
-    lines_of_events h.events ++ front.0,
-    front.1,
-    append_assoc (lines_of_events h.events) front.0 front.1 ∙ ap (λ (t : List ℕ). lines_of_events h.events ++ t) front.2
-        ∙ transcript_here program made kernel h past first_told now_told first_taken now_taken running rest r here same,
-    front.3 ∙ ap (λ (t : Option (List ℕ)). grown t front.0) running.taken ∙ grown-grown first_taken (lines_of_events h.events) front.0,
-  ),
-)
-
-pub rose_earlier : (first before now : ℕ) → first ≤ before → Rose before now → Rose first now
-rose_earlier first before now earlier rose = omega arith
-
-pub last_stops : (halt : Halt) (program : List Line) (made : ℕ) (kernel : Kernel) (h : History) (past : List Entry) (first_told now_told : Option (List Entry)) (first_taken now_taken : Option (List ℕ)) (running : Running program made kernel h past first_told now_told first_taken now_taken) (rest : List Entry) → Agrees now_told rest → (r : Run) → run_on turn_limit made (state_of kernel h) rest ≡ r → lines_of_events r.events ≡ lines_of_events h.events → (after : Option (List ℕ)) (wire_before wire_now first before now : ℕ) → first ≤ before → StopsWriting (line (ending_text r.ending)) now_taken after before now halt → Stopped program first_told first_taken after wire_before wire_now first now halt
-last_stops Memory program made kernel h past first_told now_told first_taken now_taken running rest agrees r here same after wire_before wire_now first before now earlier stops =
-    last_in_part program made kernel h past first_told now_told first_taken now_taken running rest agrees r here same after stops
-last_stops Sink program made kernel h past first_told now_told first_taken now_taken running rest agrees r here same after wire_before wire_now first before now earlier stops =
-    (last_in_part program made kernel h past first_told now_told first_taken now_taken running rest agrees r here same after stops.0, rose_earlier first before now earlier stops.1)
-last_stops Wire program made kernel h past first_told now_told first_taken now_taken running rest agrees r here same after wire_before wire_now first before now earlier stops = absurd stops
-
--- what was written before a call is a front of the whole
-pub front_before : (program : List Line) (made : ℕ) (kernel : Kernel) (h : History) (past : List Entry) (first_told now_told : Option (List Entry)) (first_taken now_taken : Option (List ℕ)) (running : Running program made kernel h past first_told now_told first_taken now_taken) → RanInPart program first_told first_taken now_taken
-front_before program made kernel h past first_told now_told first_taken now_taken running =
-    let (rest, agrees) = agreed now_told in
-    let r = run_on turn_limit made (state_of kernel h) rest in
-    let grew = run_on-grows turn_limit made (state_of kernel h) rest in (
-      past ++ rest,
-      running.told rest agrees,
-      (
-        lines_of_events h.events,
-        lines_of_events grew.0 ++ line (ending_text r.ending),
-        sym (append_assoc (lines_of_events h.events) (lines_of_events grew.0) (line (ending_text r.ending)))
-            ∙ ap (λ (t : List ℕ). t ++ line (ending_text r.ending)) (sym (ap lines_of_events grew.1 ∙ lines-append h.events grew.0))
-            ∙ ap transcript (sym (running.on rest)),
-        running.taken,
-      ),
-    )
-
--- a wire that fails leaves the run at its next call
-pub wire_failed : (program : List Line) (made : ℕ) (kernel : Kernel) (h : History) (past : List Entry) (first_told now_told : Option (List Entry)) (first_taken now_taken : Option (List ℕ)) (running : Running program made kernel h past first_told now_told first_taken now_taken) → is_over kernel.phase ≡ false → made < turn_limit → RanSoFar program first_told first_taken now_taken
-wire_failed program made kernel h past first_told now_told first_taken now_taken running over left =
-    let (rest, agrees) = agreed now_told in
-    let none = goes_on (plain_program kernel.program) kernel.time kernel.phase h made over left in
-    let e : run program past turn_limit ≡ ends_at_call (state_of kernel h) Over = ap (λ (es : List Entry). run program es turn_limit) (sym (append-nil past)) ∙ running.on [] ∙ run_on-over turn_limit made (state_of kernel h) none in (
-      past,
-      (rest, running.told rest agrees),
-      running.taken ∙ ap (grown first_taken) (sym (ap (λ (x : Run). lines_of_events x.events) e ∙ lines-called h.events (Called (call_of (state_of kernel h))) refl)),
-    )
-
--- one more answer behind those so far
-told_behind : (past : List Entry) (answer : Answer) (rest : List Entry) → past ++ Answered answer ∷ rest ≡ (past ++ Answered answer ∷ []) ++ rest
-told_behind past answer rest = sym (append_assoc past (Answered answer ∷ []) rest)
-
--- a turn leads on
-pub turned_on : (program : List Line) (made : ℕ) (old new : Kernel) (h : History) (past : List Entry) (first_told old_told new_told : Option (List Entry)) (first_taken old_taken new_taken : Option (List ℕ)) (answer : Answer) (running : Running program made old h past first_told old_told first_taken old_taken) → is_over old.phase ≡ false → made < turn_limit → ((rest : List Entry) → Agrees new_told rest → Agrees old_told (Answered answer ∷ rest)) → TurnWritten old new answer old_taken new_taken → (after : History) × (had : List Entry) × Running program (made + 1) new after had first_told new_told first_taken new_taken
-turned_on program made old new h past first_told old_told new_told first_taken old_taken new_taken answer running over left got written =
-    let (after, fits, led, (text, lines, took)) = written.1 h running.fits in
-    let none = goes_on (plain_program old.program) old.time old.phase h made over left in (
-      after,
-      past ++ Answered answer ∷ [],
-      record {
-        same = ap plain_program written.0 ∙ running.same;
-        fits = fits;
-        told = λ rest agrees. subst (λ (es : List Entry). Agrees first_told es) (told_behind past answer rest) (running.told (Answered answer ∷ rest) (got rest agrees));
-        on = λ rest.
-            ap (λ (es : List Entry). run program es turn_limit) (sym (told_behind past answer rest)) ∙ running.on (Answered answer ∷ rest)
-            ∙ run_on-turn turn_limit made (state_of old h) answer rest none ∙ ap (λ (s : State). run_on turn_limit (made + 1) s rest) led;
-        taken = took ∙ ap (λ (t : Option (List ℕ)). grown t text) running.taken ∙ grown-grown first_taken (lines_of_events h.events) text ∙ ap (grown first_taken) (sym lines);
-      },
-    )
-
--- a front of a turn's lines
-turn_in_part : (program : List Line) (made : ℕ) (old : Kernel) (h : History) (past : List Entry) (first_told old_told new_told : Option (List Entry)) (first_taken old_taken new_taken : Option (List ℕ)) (answer : Answer) (running : Running program made old h past first_told old_told first_taken old_taken) → is_over old.phase ≡ false → made < turn_limit → ((rest : List Entry) → Agrees new_told rest → Agrees old_told (Answered answer ∷ rest)) → TurnWrittenInPart old answer old_taken new_taken → RanInPart program first_told first_taken new_taken
-turn_in_part program made old h past first_told old_told new_told first_taken old_taken new_taken answer running over left got written =
-    let (rest, agrees) = agreed new_told in
-    let (front, behind, lines, took) = written h running.fits in
-    let none = goes_on (plain_program old.program) old.time old.phase h made over left in
-    let next = turn answer (state_of old h) in
-    let r = run_on turn_limit (made + 1) next rest in
-    let grew = run_on-grows turn_limit (made + 1) next rest in
-    let last = line (ending_text r.ending) in
-    let here : run program (past ++ Answered answer ∷ rest) turn_limit ≡ r = running.on (Answered answer ∷ rest) ∙ run_on-turn turn_limit made (state_of old h) answer rest none in
-    let all : lines_of_events r.events ≡ (lines_of_events h.events ++ (front ++ behind)) ++ lines_of_events grew.0 =
-    ap lines_of_events grew.1 ∙ lines-append next.events grew.0 ∙ ap (λ (t : List ℕ). t ++ lines_of_events grew.0) lines in (
-      past ++ Answered answer ∷ rest,
-      running.told (Answered answer ∷ rest) (got rest agrees),
-      (
-        lines_of_events h.events ++ front,
-        behind ++ (lines_of_events grew.0 ++ last),
-        regrouped (lines_of_events h.events) front behind (lines_of_events grew.0) last ∙ ap (λ (t : List ℕ). t ++ last) (sym all) ∙ ap transcript (sym here),
-        took ∙ ap (λ (t : Option (List ℕ)). grown t front) running.taken ∙ grown-grown first_taken (lines_of_events h.events) front,
-      ),
-    )
-  where
-    regrouped : (a b c d e : List ℕ) → (a ++ b) ++ (c ++ (d ++ e)) ≡ ((a ++ (b ++ c)) ++ d) ++ e
-    regrouped a b c d e = simp append_assoc
-
-pub turn_stops_run : (halt : Halt) (program : List Line) (made : ℕ) (old : Kernel) (h : History) (past : List Entry) (first_told old_told new_told : Option (List Entry)) (first_taken old_taken new_taken : Option (List ℕ)) (answer : Answer) (running : Running program made old h past first_told old_told first_taken old_taken) → is_over old.phase ≡ false → made < turn_limit → ((rest : List Entry) → Agrees new_told rest → Agrees old_told (Answered answer ∷ rest)) → (wire_before wire_now first before now : ℕ) → first ≤ before → StopsInTurn old answer old_taken new_taken before now halt → Stopped program first_told first_taken new_taken wire_before wire_now first now halt
-turn_stops_run Memory program made old h past first_told old_told new_told first_taken old_taken new_taken answer running over left got wire_before wire_now first before now earlier stops =
-    turn_in_part program made old h past first_told old_told new_told first_taken old_taken new_taken answer running over left got stops
-turn_stops_run Sink program made old h past first_told old_told new_told first_taken old_taken new_taken answer running over left got wire_before wire_now first before now earlier stops =
-    (turn_in_part program made old h past first_told old_told new_told first_taken old_taken new_taken answer running over left got stops.0, rose_earlier first before now earlier stops.1)
-turn_stops_run Wire program made old h past first_told old_told new_told first_taken old_taken new_taken answer running over left got wire_before wire_now first before now earlier stops = absurd stops
-
 -- A run ends here, with this ending: entries that agree with what is told, and the run from here over them.
 pub record EndsHere (now_told : Option (List Entry)) (made : ℕ) (kernel : Kernel) (h : History) (ending : Ending) : Type 0 where
   pub rest : List Entry
@@ -227,13 +108,160 @@ pub record EndsHere (now_told : Option (List Entry)) (made : ℕ) (kernel : Kern
   pub here : run_on turn_limit made (state_of kernel h) rest ≡ record { events = events; ending = ending }
   pub same : lines_of_events events ≡ lines_of_events h.events
 
-pub ends_run : (program : List Line) (made : ℕ) (kernel : Kernel) (h : History) (past : List Entry) (first_told now_told : Option (List Entry)) (first_taken now_taken : Option (List ℕ)) (ending : Ending) → Running program made kernel h past first_told now_told first_taken now_taken → EndsHere now_told made kernel h ending → (after : Option (List ℕ)) (status : ℕ) → after ≡ grown now_taken (line (ending_text ending)) → status ≡ status_of ending → Ran program first_told first_taken after status
-ends_run program made kernel h past first_told now_told first_taken now_taken ending running ends after status took told =
-    whole_run program made kernel h past first_told now_told first_taken now_taken running ends.rest ends.agrees (record { events = ends.events; ending = ending }) ends.here ends.same after status took told
+pub rose_earlier : (first before now : ℕ) → first ≤ before → Rose before now → Rose first now
+rose_earlier first before now earlier rose = omega arith
 
-pub ends_stops : (program : List Line) (made : ℕ) (kernel : Kernel) (h : History) (past : List Entry) (first_told now_told : Option (List Entry)) (first_taken now_taken : Option (List ℕ)) (ending : Ending) → Running program made kernel h past first_told now_told first_taken now_taken → EndsHere now_told made kernel h ending → (after : Option (List ℕ)) (wire_before wire_now first before now : ℕ) (halt : Halt) → first ≤ before → StopsWriting (line (ending_text ending)) now_taken after before now halt → Stopped program first_told first_taken after wire_before wire_now first now halt
-ends_stops program made kernel h past first_told now_told first_taken now_taken ending running ends after wire_before wire_now first before now halt earlier stops =
-    last_stops halt program made kernel h past first_told now_told first_taken now_taken running ends.rest ends.agrees (record { events = ends.events; ending = ending }) ends.here ends.same after wire_before wire_now first before now earlier stops
+-- one more answer behind those so far
+told_behind : (past : List Entry) (answer : Answer) (rest : List Entry) → past ++ Answered answer ∷ rest ≡ (past ++ Answered answer ∷ []) ++ rest
+told_behind past answer rest = sym (append_assoc past (Answered answer ∷ []) rest)
+
+-- what an answer leaves of what is told
+abbrev Gives : Option (List Entry) → Answer → Option (List Entry) → Type 0
+Gives told answer next = (rest : List Entry) → Agrees next rest → Agrees told (Answered answer ∷ rest)
+
+module _ {program : List Line} {made : ℕ} {kernel : Kernel} {h : History} {past : List Entry} {first_told now_told : Option (List Entry)}
+    {first now : SinkSeen} (running : Running program made kernel h past first_told now_told first now) where
+
+  -- what a run writes where it ends here
+  ended_transcript : (ending : Ending) (ends : EndsHere now_told made kernel h ending)
+      → lines_of_events h.events ++ line (ending_text ending) ≡ transcript (run program (past ++ ends.rest) turn_limit)
+  ended_transcript ending ends =
+      ap (λ (t : List ℕ). t ++ line (ending_text ending)) (sym ends.same) ∙ ap transcript (sym (running.on ends.rest ∙ ends.here))
+
+  pub ends_run : (ending : Ending) (ends : EndsHere now_told made kernel h ending) (after : SinkSeen) (status : ℕ)
+      → after ≡ took now (line (ending_text ending)) → status ≡ status_of ending → Ran program first_told first after status
+  ends_run ending ends after status wrote is = (
+    past ++ ends.rest,
+    running.told ends.rest ends.agrees,
+    took_on first now after (lines_of_events h.events) (line (ending_text ending)) running.sink wrote
+        ∙ ap (took first) (ended_transcript ending ends),
+    is ∙ ap (λ (x : Run). status_of x.ending) (sym (running.on ends.rest ∙ ends.here)),
+  )
+
+  -- a front of the last line
+  last_in_part : (ending : Ending) (ends : EndsHere now_told made kernel h ending) (front : List ℕ) → IsFrontOf front (line (ending_text ending))
+      → RanInPart program first_told (lines_of_events h.events ++ front)
+  last_in_part ending ends front part = (
+    past ++ ends.rest,
+    running.told ends.rest ends.agrees,
+    (
+      part.0,
+      append_assoc (lines_of_events h.events) front part.0 ∙ ap (λ (t : List ℕ). lines_of_events h.events ++ t) part.1
+          ∙ ended_transcript ending ends,
+    ),
+  )
+
+  pub ends_stops : (ending : Ending) (ends : EndsHere now_told made kernel h ending) (after : SinkSeen) (wire_before wire_now : ℕ) (halt : Halt)
+      → StopsWriting (line (ending_text ending)) now after halt → Stopped program first_told first after wire_before wire_now halt
+  ends_stops ending ends after wire_before wire_now Memory stops = (
+    lines_of_events h.events ++ stops.0,
+    last_in_part ending ends stops.0 stops.1,
+    took_on first now after (lines_of_events h.events) stops.0 running.sink stops.2,
+  )
+  ends_stops ending ends after wire_before wire_now Sink stops = (
+    lines_of_events h.events ++ stops.0,
+    last_in_part ending ends stops.0 stops.1,
+    failed_on first now after (lines_of_events h.events) stops.0 running.sink stops.2,
+  )
+  ends_stops ending ends after wire_before wire_now Wire stops = absurd stops
+
+  -- what was written before a call is a front of the whole
+  front_before : RanInPart program first_told (lines_of_events h.events)
+  front_before =
+      let (rest, agrees) = agreed now_told in
+      let r = run_on turn_limit made (state_of kernel h) rest in
+      let grew = run_on-grows turn_limit made (state_of kernel h) rest in (
+        past ++ rest,
+        running.told rest agrees,
+        (
+          lines_of_events grew.0 ++ line (ending_text r.ending),
+          sym (append_assoc (lines_of_events h.events) (lines_of_events grew.0) (line (ending_text r.ending)))
+              ∙ ap (λ (t : List ℕ). t ++ line (ending_text r.ending)) (sym (ap lines_of_events grew.1 ∙ lines-append h.events grew.0))
+              ∙ ap transcript (sym (running.on rest)),
+        ),
+      )
+
+  -- a call for which there was no memory
+  pub call_stops : (wire_before wire_now : ℕ) → Stopped program first_told first now wire_before wire_now Memory
+  call_stops wire_before wire_now = (lines_of_events h.events, front_before, running.sink)
+
+  -- a wire that fails leaves the run at its next call
+  pub wire_failed : is_over kernel.phase ≡ false → made < turn_limit → RanSoFar program first_told first now
+  wire_failed over left =
+      let (rest, agrees) = agreed now_told in
+      let s = state_of kernel h in
+      let none = goes_on (plain_program kernel.program) kernel.time kernel.phase h made over left in
+      let e : run program past turn_limit ≡ ends_at_call s Over =
+      ap (λ (es : List Entry). run program es turn_limit) (sym (append-nil past)) ∙ running.on [] ∙ run_on-over turn_limit made s none in
+      let same = ap (λ (x : Run). lines_of_events x.events) e ∙ lines-called h.events (Called (call_of s)) refl in (
+        past,
+        (rest, running.told rest agrees),
+        (call_of s, ap (λ (x : Run). x.ending) e),
+        running.sink ∙ ap (took first) (sym same),
+      )
+
+  -- a turn leads on
+  pub turned_on : (new : Kernel) (new_told : Option (List Entry)) (after : SinkSeen) (answer : Answer) → is_over kernel.phase ≡ false
+      → made < turn_limit → Gives now_told answer new_told → TurnWritten kernel new answer now after
+      → (goes : History) × (had : List Entry) × Running program (made + 1) new goes had first_told new_told first after
+  turned_on new new_told after answer over left got written =
+      let (goes, fits, led, (text, more, wrote)) = written.1 h running.fits in
+      let none = goes_on (plain_program kernel.program) kernel.time kernel.phase h made over left in (
+        goes,
+        past ++ Answered answer ∷ [],
+        record {
+          same = ap plain_program written.0 ∙ running.same;
+          fits = fits;
+          told = λ rest agrees.
+              subst (λ (es : List Entry). Agrees first_told es) (told_behind past answer rest) (running.told (Answered answer ∷ rest) (got rest agrees));
+          on = λ rest.
+              ap (λ (es : List Entry). run program es turn_limit) (sym (told_behind past answer rest)) ∙ running.on (Answered answer ∷ rest)
+              ∙ run_on-turn turn_limit made (state_of kernel h) answer rest none ∙ ap (λ (s : State). run_on turn_limit (made + 1) s rest) led;
+          sink = took_on first now after (lines_of_events h.events) text running.sink wrote ∙ ap (took first) (sym more);
+        },
+      )
+
+  -- a front of a turn's lines
+  turn_in_part : (new_told : Option (List Entry)) (answer : Answer) (front : List ℕ) → is_over kernel.phase ≡ false → made < turn_limit
+      → Gives now_told answer new_told → TurnInPart kernel answer front → RanInPart program first_told (lines_of_events h.events ++ front)
+  turn_in_part new_told answer front over left got written =
+      let (rest, agrees) = agreed new_told in
+      let (behind, more) = written h running.fits in
+      let none = goes_on (plain_program kernel.program) kernel.time kernel.phase h made over left in
+      let next = turn answer (state_of kernel h) in
+      let r = run_on turn_limit (made + 1) next rest in
+      let grew = run_on-grows turn_limit (made + 1) next rest in
+      let last = line (ending_text r.ending) in
+      let here : run program (past ++ Answered answer ∷ rest) turn_limit ≡ r =
+      running.on (Answered answer ∷ rest) ∙ run_on-turn turn_limit made (state_of kernel h) answer rest none in
+      let all : lines_of_events r.events ≡ (lines_of_events h.events ++ (front ++ behind)) ++ lines_of_events grew.0 =
+      ap lines_of_events grew.1 ∙ lines-append next.events grew.0 ∙ ap (λ (t : List ℕ). t ++ lines_of_events grew.0) more in (
+        past ++ Answered answer ∷ rest,
+        running.told (Answered answer ∷ rest) (got rest agrees),
+        (
+          behind ++ (lines_of_events grew.0 ++ last),
+          regrouped (lines_of_events h.events) front behind (lines_of_events grew.0) last ∙ ap (λ (t : List ℕ). t ++ last) (sym all)
+              ∙ ap transcript (sym here),
+        ),
+      )
+    where
+      regrouped : (a b c d e : List ℕ) → (a ++ b) ++ (c ++ (d ++ e)) ≡ ((a ++ (b ++ c)) ++ d) ++ e
+      regrouped a b c d e = simp append_assoc
+
+  pub turn_stops_run : (halt : Halt) (new_told : Option (List Entry)) (after : SinkSeen) (answer : Answer) → is_over kernel.phase ≡ false
+      → made < turn_limit → Gives now_told answer new_told → (wire_before wire_now : ℕ) → StopsInTurn kernel answer now after halt
+      → Stopped program first_told first after wire_before wire_now halt
+  turn_stops_run Memory new_told after answer over left got wire_before wire_now stops = (
+    lines_of_events h.events ++ stops.0,
+    turn_in_part new_told answer stops.0 over left got stops.1,
+    took_on first now after (lines_of_events h.events) stops.0 running.sink stops.2,
+  )
+  turn_stops_run Sink new_told after answer over left got wire_before wire_now stops = (
+    lines_of_events h.events ++ stops.0,
+    turn_in_part new_told answer stops.0 over left got stops.1,
+    failed_on first now after (lines_of_events h.events) stops.0 running.sink stops.2,
+  )
+  turn_stops_run Wire new_told after answer over left got wire_before wire_now stops = absurd stops
 
 pub ends_finished : (now_told : Option (List Entry)) (made : ℕ) (kernel : Kernel) (h : History) → is_over kernel.phase ≡ true → EndsHere now_told made kernel h (Finished (Returned Nothing))
 ends_finished now_told made kernel h over =

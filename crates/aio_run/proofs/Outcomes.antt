@@ -1,38 +1,40 @@
 -- From a driven run to what the program may write.
 use Rattle.std.specs.Prelude.{codes}
-use Rattle.std.proofs.Common.{◌≡◌, ℕ, ◌≤◌, List, [], ◌∷◌, ◌++◌, Option, Some, None, refl, ap, sym, ◌∙◌, subst, inl, inr, append_assoc}
+use Rattle.std.proofs.Common.{◌≡◌, ℕ, List, [], ◌∷◌, ◌++◌, Option, Some, None, ◌⊎◌, refl, ap, sym, ◌∙◌, subst, inl, inr, append_assoc}
 use Rattle.model_tree.specs.Syntax.{Program}
 use Rattle.model_text.specs.declared.cause.Cause.{Cause}
 use Rattle.model_text.specs.Canonical.{canonical}
 use Rattle.model_text.specs.Causes.{cause_number}
+use Rattle.model_text.specs.FirstPass.{fault_at}
 use Rattle.model_text.specs.Scripts.{script_of}
 use Rattle.model_text.specs.SecondPass.{Judged}
-use Rattle.model_straight.specs.Straight.{Line}
 use Rattle.model_wire.specs.Journal.{Entry, entries_of}
-use Rattle.model_wire.specs.Told.{Agrees, grown, Rose}
+use Rattle.model_wire.specs.Told.{Agrees, Rose, ShelfSeen, SinkSeen, NoneFailed, SinkFailed, grown, took}
+use Rattle.model_machine.specs.Theorem.{Output, IsFrontOf, MayBegin, StopsShort, SinkStops, WritesWhole}
+use Rattle.model_straight.specs.Straight.{Line}
 use Rattle.model_straight.specs.StraightScripts.{straight_of}
-use Rattle.model_straight.specs.Program.{Output, output_of, faulted, script_refused, turn_limit, FileSays, JournalSays, JournalBegins, MayRun, MayRunIf, MayRunScript, MayReplay, MayCheck, checked}
+use Rattle.model_straight.specs.Program.{output_of, faulted, script_refused, turn_limit, FileSays, JournalSays, JournalBegins, MayRun, MayRunIf, MayRunScript, MayReplay, MayCheck, checked}
 use Rattle.model_straight.specs.Run.{run}
 use Rattle.model_straight.specs.Transcript.{line, lines_of_events}
 use Rattle.aio_run.specs.Drive.{Ran, RanInPart, RanSoFar, Stopped}
 use Rattle.aio_run.specs.JournalWire.{left_of}
-use Rattle.aio_run.specs.Outcome.{WritesWhole, TakesPart, EndsEarly}
+use Rattle.aio_run.specs.Outcome.{EndsEarly}
 use Rattle.aio_run.specs.Reading.{IsFront}
 use Rattle.aio_run.specs.Script.{SpellsScript, IsMissing, Tells, refusal_text}
 use Rattle.aio_run.specs.declared.script.NoScript.{NoScript}
 use Rattle.aio_run.specs.declared.script.NoScript.TheVariants.{Refused, Failed, Memory as NoMemory}
-use Rattle.aio_run.specs.Writing.{TakesFront, StopsWriting}
+use Rattle.aio_run.specs.Writing.{StopsWriting}
 use Rattle.aio_run.specs.declared.halt.Halt.{Halt}
 use Rattle.aio_run.specs.declared.halt.Halt.TheVariants.{Memory, Sink, Wire}
-use Rattle.aio_run.proofs.Driving.{rose_earlier}
-use Rattle.aio_run.proofs.Fronts.{grown-grown}
+use Rattle.aio_run.proofs.Fronts.{failed_on, grown-nil, took-nil, took_on}
 use Rattle.aio_run.proofs.TextFronts.{spells_alike}
 
 -- what is told outright
 outright : {A : Type 0} (a b : A) → Agrees (Some a) b → b ≡ a
 outright a b agrees = sym (agrees a refl)
 
-says_from : (told : Option (Option (List ℕ))) (entries : List Entry) → (told ≡ Some None → ⊥) → Agrees (left_of told None) entries → JournalSays told entries
+says_from : (told : Option (Option (List ℕ))) (entries : List Entry) → (told ≡ Some None → ⊥) → Agrees (left_of told None) entries
+    → JournalSays told entries
 says_from None entries there agrees = tt
 says_from (Some None) entries there agrees = there refl
 says_from (Some (Some text)) entries there agrees = outright (entries_of text) entries agrees
@@ -46,128 +48,204 @@ begins_from None had rest agrees = tt
 begins_from (Some None) had rest agrees = append-nothing had rest (outright [] (had ++ rest) agrees)
 begins_from (Some (Some text)) had rest agrees = (rest, outright (entries_of text) (had ++ rest) agrees)
 
--- a run to its end
-pub whole_from : (program : List Line) (told : Option (Option (List ℕ))) (failed : Type 0) (old new : Option (List ℕ)) (status : ℕ) → (told ≡ Some None → ⊥) → Ran program (left_of told None) old new status → WritesWhole (MayRun program told failed) old new status
-whole_from program told failed old new status there ran =
-    (output_of (run program ran.0 turn_limit), inl (ran.0, says_from told ran.0 there ran.1, refl), ran.2, ran.3)
+-- a file that is told to be missing, or not
+missing_or : (told : Option (Option (List ℕ))) → (told ≡ Some None) ⊎ (told ≡ Some None → ⊥)
+missing_or None = inr (λ e. cc e)
+missing_or (Some None) = inl refl
+missing_or (Some (Some text)) = inr (λ e. cc e)
 
--- a run that was cut short
-part_from : (program : List Line) (told : Option (Option (List ℕ))) (failed : Type 0) (old new : Option (List ℕ)) → (told ≡ Some None → new ≡ old) → RanInPart program (left_of told None) old new → TakesPart (MayRun program told failed) old new
-part_from program None failed old new none ran = inr (output_of (run program ran.0 turn_limit), inl (ran.0, tt, refl), ran.2)
-part_from program (Some None) failed old new none ran = inl (none refl)
-part_from program (Some (Some text)) failed old new none ran =
-    inr (output_of (run program ran.0 turn_limit), inl (ran.0, outright (entries_of text) ran.0 ran.1, refl), ran.2)
+none_failed : (old new : ShelfSeen) → new ≡ old → NoneFailed old new
+none_failed old new same = ap (λ (s : ShelfSeen). s.faults) same
 
--- a run that stops for want of memory or at the sink; that it stops at the wire is told apart before
-pub early_from : (halt : Halt) (program : List Line) (told : Option (Option (List ℕ))) (failed : Type 0) (old new : Option (List ℕ)) (wire_before wire_now before now : ℕ) → (halt ≡ Wire → ⊥) → (told ≡ Some None → new ≡ old) → Stopped program (left_of told None) old new wire_before wire_now before now halt → EndsEarly (MayRun program told failed) old new before now halt
-early_from Memory program told failed old new wire_before wire_now before now other none stopped = part_from program told failed old new none stopped
-early_from Sink program told failed old new wire_before wire_now before now other none stopped = (part_from program told failed old new none stopped.0, stopped.1)
-early_from Wire program told failed old new wire_before wire_now before now other none stopped = other refl
+-- a program's replay over a journal of a shelf, by what is seen of the shelf before and after
+module _ (program : List Line) (old new : ShelfSeen) (journal : List ℕ) where
+  -- a run to its end
+  pub whole_from : (first last : SinkSeen) (status : ℕ) → (old.file journal ≡ Some None → ⊥) → new ≡ old
+      → Ran program (left_of (old.file journal) None) first last status → WritesWhole (MayRun old new program journal) first last status
+  whole_from first last status there same ran = (
+    output_of (run program ran.0 turn_limit),
+    inl (none_failed old new same, ran.0, says_from (old.file journal) ran.0 there ran.1, refl),
+    ran.2,
+    ran.3,
+  )
 
--- the fault's line behind what happened
-pub fault_from : (program : List Line) (told : Option (Option (List ℕ))) (failed : Type 0) (old mid new : Option (List ℕ)) (fault_line : List ℕ) → failed → RanSoFar program (left_of told None) old mid → fault_line ≡ line (codes "! fault shelf") → (status : ℕ) → status ≡ 9 → new ≡ grown mid fault_line → WritesWhole (MayRun program told failed) old new status
-fault_from program told failed old mid new fault_line rose ran text status nine took =
-    let events = (run program ran.0 turn_limit).events in (
-      faulted events,
-      inr (ran.0, begins_from told ran.0 ran.1.0 ran.1.1, rose, refl),
-      took ∙ ap (λ (t : Option (List ℕ)). grown t fault_line) ran.2 ∙ grown-grown old (lines_of_events events) fault_line ∙ ap (λ (t : List ℕ). grown old (lines_of_events events ++ t)) text,
-      nine,
-    )
+  -- a front of a run
+  part_from : (front : List ℕ) → (old.file journal ≡ Some None → ⊥) → new ≡ old → RanInPart program (left_of (old.file journal) None) front
+      → MayBegin (MayRun old new program journal) (NoneFailed old new) front
+  part_from front there same ran = inr (
+    output_of (run program ran.0 turn_limit),
+    inl (none_failed old new same, ran.0, says_from (old.file journal) ran.0 there ran.1, refl),
+    ran.2,
+  )
 
-fault_in_part : (program : List Line) (told : Option (Option (List ℕ))) (failed : Type 0) (old mid new : Option (List ℕ)) (fault_line : List ℕ) → failed → RanSoFar program (left_of told None) old mid → fault_line ≡ line (codes "! fault shelf") → TakesFront fault_line mid new → TakesPart (MayRun program told failed) old new
-fault_in_part program told failed old mid new fault_line rose ran text front =
-    let events = (run program ran.0 turn_limit).events in
-    inr (
-      faulted events,
-      inr (ran.0, begins_from told ran.0 ran.1.0 ran.1.1, rose, refl),
-      (
-        lines_of_events events ++ front.0,
-        front.1,
-        append_assoc (lines_of_events events) front.0 front.1 ∙ ap (λ (t : List ℕ). lines_of_events events ++ t) (front.2 ∙ text),
-        front.3 ∙ ap (λ (t : Option (List ℕ)). grown t front.0) ran.2 ∙ grown-grown old (lines_of_events events) front.0,
-      ),
-    )
+  short_from : (first last : SinkSeen) → (old.file journal ≡ Some None) ⊎ (old.file journal ≡ Some None → ⊥) → new ≡ old
+      → (old.file journal ≡ Some None → last ≡ first)
+      → (front : List ℕ) × RanInPart program (left_of (old.file journal) None) front × (last ≡ took first front)
+      → StopsShort (MayRun old new program journal) (NoneFailed old new) first last
+  short_from first last (inl missing) same none stops = ([], inl (refl, none_failed old new same), none missing ∙ sym (took-nil first))
+  short_from first last (inr there) same none stops = (stops.0, part_from stops.0 there same stops.1, stops.2)
 
-pub fault_early : (halt : Halt) (program : List Line) (told : Option (Option (List ℕ))) (failed : Type 0) (old mid new : Option (List ℕ)) (fault_line : List ℕ) (first before now : ℕ) → failed → RanSoFar program (left_of told None) old mid → fault_line ≡ line (codes "! fault shelf") → first ≤ before → StopsWriting fault_line mid new before now halt → EndsEarly (MayRun program told failed) old new first now halt
-fault_early Memory program told failed old mid new fault_line first before now rose ran text earlier stops = fault_in_part program told failed old mid new fault_line rose ran text stops
-fault_early Sink program told failed old mid new fault_line first before now rose ran text earlier stops = (fault_in_part program told failed old mid new fault_line rose ran text stops.0, rose_earlier first before now earlier stops.1)
-fault_early Wire program told failed old mid new fault_line first before now rose ran text earlier stops = absurd stops
+  failing_from : (first last : SinkSeen) → (old.file journal ≡ Some None) ⊎ (old.file journal ≡ Some None → ⊥) → new ≡ old
+      → (old.file journal ≡ Some None → last ≡ first)
+      → (front : List ℕ) × RanInPart program (left_of (old.file journal) None) front × SinkFailed front first last
+      → SinkStops (MayRun old new program journal) (NoneFailed old new) first last
+  failing_from first last (inl missing) same none stops = (
+    [],
+    inl (refl, none_failed old new same),
+    (ap (λ (s : SinkSeen). s.taken) (none missing) ∙ sym (grown-nil first.taken), stops.2.1),
+  )
+  failing_from first last (inr there) same none stops = (stops.0, part_from stops.0 there same stops.1, stops.2)
+
+  -- a run that stops for want of memory or at the sink; that it stops at the wire is told apart before
+  pub early_from : (halt : Halt) (first last : SinkSeen) (before now : ℕ) → (halt ≡ Wire → ⊥) → new ≡ old
+      → (old.file journal ≡ Some None → last ≡ first) → Stopped program (left_of (old.file journal) None) first last before now halt
+      → EndsEarly (MayRun old new program journal) (NoneFailed old new) first last halt
+  early_from Memory first last before now other same none stopped = short_from first last (missing_or (old.file journal)) same none stopped
+  early_from Sink first last before now other same none stopped = failing_from first last (missing_or (old.file journal)) same none stopped
+  early_from Wire first last before now other same none stopped = absurd (other refl)
+
+  module _ (first mid last : SinkSeen) (fault_line : List ℕ) (rose : Rose (old.faults journal) (new.faults journal))
+      (ran : RanSoFar program (left_of (old.file journal) None) first mid) (text : fault_line ≡ line (codes "! fault shelf")) where
+    may_fault : MayRun old new program journal (faulted (run program ran.0 turn_limit).events)
+    may_fault = inr (rose, ran.0, begins_from (old.file journal) ran.0 ran.1.0 ran.1.1, ran.2, refl)
+
+    -- the fault's line behind what happened
+    pub fault_from : (status : ℕ) → status ≡ 9 → last ≡ took mid fault_line → WritesWhole (MayRun old new program journal) first last status
+    fault_from status nine wrote =
+        let lines = lines_of_events (run program ran.0 turn_limit).events in (
+          faulted (run program ran.0 turn_limit).events,
+          may_fault,
+          took_on first mid last lines fault_line ran.3 wrote ∙ ap (λ (t : List ℕ). took first (lines ++ t)) text,
+          nine,
+        )
+
+    fault_begins : (front : List ℕ) → IsFrontOf front fault_line
+        → MayBegin (MayRun old new program journal) (NoneFailed old new) (lines_of_events (run program ran.0 turn_limit).events ++ front)
+    fault_begins front part =
+        let lines = lines_of_events (run program ran.0 turn_limit).events in
+        inr (
+          faulted (run program ran.0 turn_limit).events,
+          may_fault,
+          (part.0, append_assoc lines front part.0 ∙ ap (λ (t : List ℕ). lines ++ t) (part.1 ∙ text)),
+        )
+
+    pub fault_early : (halt : Halt) → StopsWriting fault_line mid last halt
+        → EndsEarly (MayRun old new program journal) (NoneFailed old new) first last halt
+    fault_early Memory stops =
+        let lines = lines_of_events (run program ran.0 turn_limit).events in
+        (lines ++ stops.0, fault_begins stops.0 stops.1, took_on first mid last lines stops.0 ran.3 stops.2)
+    fault_early Sink stops =
+        let lines = lines_of_events (run program ran.0 turn_limit).events in
+        (lines ++ stops.0, fault_begins stops.0 stops.1, failed_on first mid last lines stops.0 ran.3 stops.2)
+    fault_early Wire stops = absurd stops
 
 -- what a journal's wire tells before it is asked
-pub told_first : {F : Type 0} (file : F → List ℕ → Option (Option (List ℕ))) (held shelf : F) (name journal : List ℕ) (own : Option (List Entry)) → held ≡ shelf → name ≡ journal → own ≡ None → left_of (file held name) own ≡ left_of (file shelf journal) None
-told_first {F} file held shelf name journal own same named unread =
-    ap (λ (s : F). left_of (file s name) own) same ∙ ap (λ (n : List ℕ). left_of (file shelf n) own) named ∙ ap (left_of (file shelf journal)) unread
+pub told_first : {F : Type 0} (seen : F → ShelfSeen) (held shelf : F) (name journal : List ℕ) (own : Option (List Entry)) → held ≡ shelf
+    → name ≡ journal → own ≡ None → left_of ((seen held).file name) own ≡ left_of ((seen shelf).file journal) None
+told_first {F} seen held shelf name journal own same named unread =
+    ap (λ (s : F). left_of ((seen s).file name) own) same ∙ ap (λ (n : List ℕ). left_of ((seen shelf).file n) own) named
+    ∙ ap (left_of ((seen shelf).file journal)) unread
 
-pub missing_first : {F : Type 0} (file : F → List ℕ → Option (Option (List ℕ))) (held shelf : F) (name journal : List ℕ) → held ≡ shelf → name ≡ journal → file shelf journal ≡ Some None → file held name ≡ Some None
-missing_first {F} file held shelf name journal same named missing =
-    ap (λ (s : F). file s name) same ∙ ap (λ (n : List ℕ). file shelf n) named ∙ missing
+pub missing_first : {F : Type 0} (seen : F → ShelfSeen) (held shelf : F) (name journal : List ℕ) → held ≡ shelf → name ≡ journal
+    → (seen shelf).file journal ≡ Some None → (seen held).file name ≡ Some None
+missing_first {F} seen held shelf name journal same named missing =
+    ap (λ (s : F). (seen s).file name) same ∙ ap (λ (n : List ℕ). (seen shelf).file n) named ∙ missing
+
+-- what is seen of what was held is seen of what is left of it
+pub seen_kept : {F : Type 0} (seen : F → ShelfSeen) (first held now after : F) → held ≡ first → now ≡ after → seen now ≡ seen held
+    → seen after ≡ seen first
+seen_kept {F} seen first held now after same left quiet = sym (ap seen left) ∙ quiet ∙ ap seen same
 
 -- a count that rose in what was held rose in what is left of it
-pub rose_here : {F : Type 0} (faults : F → ℕ) (first held now after : F) → held ≡ first → now ≡ after → Rose (faults held) (faults now) → Rose (faults first) (faults after)
-rose_here {F} faults first held now after same left rose =
-    subst (λ (n : ℕ). Rose (faults first) n) (ap faults left) (subst (λ (n : ℕ). Rose n (faults now)) (ap faults same) rose)
+pub rose_here : {F : Type 0} (seen : F → ShelfSeen) (first held now after : F) (name late journal : List ℕ) → held ≡ first → now ≡ after
+    → name ≡ journal → late ≡ name → Rose ((seen held).faults name) ((seen now).faults late)
+    → Rose ((seen first).faults journal) ((seen after).faults journal)
+rose_here {F} seen first held now after name late journal same left named kept rose =
+    let before : (seen held).faults name ≡ (seen first).faults journal =
+    ap (λ (s : F). (seen s).faults name) same ∙ ap (λ (n : List ℕ). (seen first).faults n) named in
+    let behind : (seen now).faults late ≡ (seen after).faults journal =
+    ap (λ (s : F). (seen s).faults late) left ∙ ap (λ (n : List ℕ). (seen after).faults n) (kept ∙ named) in
+    subst (λ (n : ℕ). Rose ((seen first).faults journal) n) behind (subst (λ (n : ℕ). Rose n ((seen now).faults late)) before rose)
 
 -- what may be written by more than one rule
-widened : (may might : Output → Type 0) (old new : Option (List ℕ)) → ((output : Output) → may output → might output) → TakesPart may old new → TakesPart might old new
-widened may might old new wider (inl none) = inl none
-widened may might old new wider (inr part) = inr (part.0, wider part.0 part.1, part.2)
+module _ (may might : Output → Type 0) (none nothing : Type 0) (wider : (output : Output) → may output → might output) (as_well : none → nothing) where
+  widened : (front : List ℕ) → MayBegin may none front → MayBegin might nothing front
+  widened front (inl empty) = inl (empty.0, as_well empty.1)
+  widened front (inr part) = inr (part.0, wider part.0 part.1, part.2)
 
-pub whole_wider : (may might : Output → Type 0) (old new : Option (List ℕ)) (status : ℕ) → ((output : Output) → may output → might output) → WritesWhole may old new status → WritesWhole might old new status
-whole_wider may might old new status wider whole = (whole.0, wider whole.0 whole.1, whole.2, whole.3)
+  pub whole_wider : (old new : SinkSeen) (status : ℕ) → WritesWhole may old new status → WritesWhole might old new status
+  whole_wider old new status whole = (whole.0, wider whole.0 whole.1, whole.2, whole.3)
 
-pub early_wider : (halt : Halt) (may might : Output → Type 0) (old new : Option (List ℕ)) (first before now : ℕ) → ((output : Output) → may output → might output) → first ≤ before → EndsEarly may old new before now halt → EndsEarly might old new first now halt
-early_wider Memory may might old new first before now wider earlier early = widened may might old new wider early
-early_wider Sink may might old new first before now wider earlier early = (widened may might old new wider early.0, rose_earlier first before now earlier early.1)
-early_wider Wire may might old new first before now wider earlier early = absurd early
+  pub early_wider : (halt : Halt) (old new : SinkSeen) → EndsEarly may none old new halt → EndsEarly might nothing old new halt
+  early_wider Memory old new early = (early.0, widened early.0 early.1, early.2)
+  early_wider Sink old new early = (early.0, widened early.0 early.1, early.2)
+  early_wider Wire old new early = absurd early
+
+-- nothing was written, for want of memory
+pub nothing_yet : (may : Output → Type 0) (none : Type 0) (sink : SinkSeen) → none → EndsEarly may none sink sink Memory
+nothing_yet may none sink holds = ([], inl (refl, holds), sym (took-nil sink))
 
 -- a line that is all of an output
-pub line_early : (halt : Halt) (may : Output → Type 0) (output : Output) (text : List ℕ) (old new : Option (List ℕ)) (before now : ℕ) → may output → text ≡ output.text → StopsWriting text old new before now halt → EndsEarly may old new before now halt
-line_early Memory may output text old new before now allowed same stops = inr (output, allowed, (stops.0, stops.1, stops.2 ∙ same, stops.3))
-line_early Sink may output text old new before now allowed same stops = (inr (output, allowed, (stops.0.0, stops.0.1, stops.0.2 ∙ same, stops.0.3)), stops.1)
-line_early Wire may output text old new before now allowed same stops = absurd stops
+pub line_early : (halt : Halt) (may : Output → Type 0) (none : Type 0) (output : Output) (text : List ℕ) (old new : SinkSeen) → may output
+    → text ≡ output.text → StopsWriting text old new halt → EndsEarly may none old new halt
+line_early Memory may none output text old new allowed same stops = (stops.0, inr (output, allowed, (stops.1.0, stops.1.1 ∙ same)), stops.2)
+line_early Sink may none output text old new allowed same stops = (stops.0, inr (output, allowed, (stops.1.0, stops.1.1 ∙ same)), stops.2)
+line_early Wire may none output text old new allowed same stops = absurd stops
+
+-- none of it was written, for want of memory
+pub line_unwritten : (may : Output → Type 0) (none : Type 0) (output : Output) (sink : SinkSeen) → may output → EndsEarly may none sink sink Memory
+line_unwritten may none output sink allowed = ([], inr (output, allowed, (output.text, refl)), sym (took-nil sink))
 
 -- ---- scripts
 says_all : (held : Option (List ℕ)) (all : List ℕ) → held ≡ Some all → FileSays (Some held) all
 says_all None all is = absurd (cc is)
 says_all (Some text) all is = let e : all ≡ text = cc is in e
 
-pub front_says : (told : Option (Option (List ℕ))) (front : List ℕ) → IsFront 1048577 told front → (text : List ℕ) × FileSays told text × (script_of front ≡ script_of text)
+pub front_says : (told : Option (Option (List ℕ))) (front : List ℕ) → IsFront 1048577 told front
+    → (text : List ℕ) × FileSays told text × (script_of front ≡ script_of text)
 front_says None front is = (front, tt, refl)
 front_says (Some held) front is =
     let found = is held refl in
     (found.0, says_all held found.0 found.1, ap script_of found.2 ∙ spells_alike found.0)
 
--- a script's replay, by the rules for its text
-run_if_wider : (found : Option (List Line)) (later journal : Option (Option (List ℕ))) (failed failed_all : Type 0) → later ≡ journal → (failed → failed_all) → (output : Output) → MayRunIf found later failed output → MayRunIf found journal failed_all output
-run_if_wider None later journal failed failed_all same fails output may = may
-run_if_wider (Some program) later journal failed failed_all same fails output (inl whole) =
-    subst (λ (j : Option (Option (List ℕ))). MayRun program j failed_all output) same (inl whole)
-run_if_wider (Some program) later journal failed failed_all same fails output (inr cut) =
-    subst (λ (j : Option (Option (List ℕ))). MayRun program j failed_all output) same (inr (cut.0, cut.1, fails cut.2, cut.3))
+-- a script's replay, by the rules for its text; reading it changed nothing of the shelf
+pub replay_by_script : (script : Program) (old mid new : ShelfSeen) (name journal : List ℕ) → SpellsScript (old.file name) script → mid ≡ old
+    → (output : Output) → MayRunIf mid new (straight_of script) journal output → MayReplay old new name journal output
+replay_by_script script old mid new name journal spells same output may =
+    let here = subst (λ (s : ShelfSeen). MayRunIf s new (straight_of script) journal output) same may in
+    inr (spells.0, spells.1, subst (λ (p : Judged Program). MayRunScript old new p journal output) (sym spells.2) here)
 
-pub replay_by_script : (script : Program) (told journal later : Option (Option (List ℕ))) (failed failed_all : Type 0) → SpellsScript told script → later ≡ journal → (failed → failed_all) → (output : Output) → MayRunIf (straight_of script) later failed output → MayReplay told journal failed_all output
-replay_by_script script told journal later failed failed_all spells same fails output may =
-    inr (spells.0, spells.1, subst (λ (p : Judged Program). MayRunScript p journal failed_all output) (sym spells.2) (run_if_wider (straight_of script) later journal failed failed_all same fails output may))
-
-refused_as : (number cause : ℕ) (why : Cause) (output : Output) → cause ≡ cause_number why → Tells (Refused number cause) output → output ≡ script_refused (record { line = number; cause = why })
+refused_as : (number cause : ℕ) (why : Cause) (output : Output) → cause ≡ cause_number why → Tells (Refused number cause) output
+    → output ≡ script_refused (record { line = number; cause = why })
 refused_as number cause why output same tells =
     tells ∙ ap (λ (n : ℕ). record { text = line (refusal_text number n); status = 3 }) same
 
-pub replay_without : (none : NoScript) (told journal : Option (Option (List ℕ))) (failed : Type 0) (before now : ℕ) → IsMissing told before now none → (Rose before now → failed) → (output : Output) → Tells none output → MayReplay told journal failed output
-replay_without (Refused number cause) told journal failed before now missing fails output tells =
-    inr (missing.0, missing.2, subst (λ (p : Judged Program). MayRunScript p journal failed output) (sym missing.3) (refused_as number cause missing.1 output missing.4 tells))
-replay_without Failed told journal failed before now missing fails output tells = inl (fails missing, tells)
-replay_without NoMemory told journal failed before now missing fails output tells = absurd tells
+pub replay_without : (none : NoScript) (old new : ShelfSeen) (name journal : List ℕ) → IsMissing name old new none
+    → (output : Output) → Tells none output → MayReplay old new name journal output
+replay_without (Refused number cause) old new name journal missing output tells =
+    let (text, why, says, spells, is) = missing.0 in
+    let refused : MayRunScript old new (fault_at number why) journal output = (none_failed old new missing.1, refused_as number cause why output is tells) in
+    inr (text, says, subst (λ (p : Judged Program). MayRunScript old new p journal output) (sym spells) refused)
+replay_without Failed old new name journal missing output tells = inl (missing, tells)
+replay_without NoMemory old new name journal missing output tells = absurd tells
 
-pub check_by_script : (script : Program) (told : Option (Option (List ℕ))) (failed : Type 0) → SpellsScript told script → MayCheck told failed (record { text = canonical script; status = 0 })
-check_by_script script told failed spells =
-    inr (spells.0, spells.1, subst (λ (p : Judged Program). record { text = canonical script; status = 0 } ≡ checked p) (sym spells.2) refl)
+pub check_by_script : (script : Program) (old new : ShelfSeen) (name : List ℕ) → SpellsScript (old.file name) script → new ≡ old
+    → MayCheck old new name (record { text = canonical script; status = 0 })
+check_by_script script old new name spells same =
+    let output : Output = record { text = canonical script; status = 0 } in
+    inr (none_failed old new same, spells.0, spells.1, subst (λ (p : Judged Program). output ≡ checked p) (sym spells.2) refl)
 
-pub check_without : (none : NoScript) (told : Option (Option (List ℕ))) (failed : Type 0) (before now : ℕ) → IsMissing told before now none → (Rose before now → failed) → (output : Output) → Tells none output → MayCheck told failed output
-check_without (Refused number cause) told failed before now missing fails output tells =
-    inr (missing.0, missing.2, subst (λ (p : Judged Program). output ≡ checked p) (sym missing.3) (refused_as number cause missing.1 output missing.4 tells))
-check_without Failed told failed before now missing fails output tells = inl (fails missing, tells)
-check_without NoMemory told failed before now missing fails output tells = absurd tells
+pub check_without : (none : NoScript) (old new : ShelfSeen) (name : List ℕ) → IsMissing name old new none
+    → (output : Output) → Tells none output → MayCheck old new name output
+check_without (Refused number cause) old new name missing output tells =
+    let (text, why, says, spells, is) = missing.0 in
+    let refused = refused_as number cause why output is tells in
+    inr (none_failed old new missing.1, text, says, subst (λ (p : Judged Program). output ≡ checked p) (sym spells) refused)
+check_without Failed old new name missing output tells = inl (missing, tells)
+check_without NoMemory old new name missing output tells = absurd tells
 
-pub rose_since : (first before now : ℕ) → first ≤ before → Rose before now → Rose first now
-rose_since first before now earlier rose = rose_earlier first before now earlier rose
+-- where memory was refused while a script was read, none failed
+pub none_failed_without : (none : NoScript) (old new : ShelfSeen) (name : List ℕ) → IsMissing name old new none → none ≡ NoMemory → NoneFailed old new
+none_failed_without (Refused number cause) old new name missing is = absurd (cc is)
+none_failed_without Failed old new name missing is = absurd (cc is)
+none_failed_without NoMemory old new name missing is = none_failed old new missing

@@ -3,7 +3,7 @@ use Rattle.std.proofs.Common.{◌≡◌, ℕ, List, [], ◌∷◌, Option, Some,
 use Rattle.model_wire.specs.Journal.{Entry, Answered, entries_of}
 use Rattle.model_wire.specs.Told.{Agrees}
 use Rattle.aio_wire.specs.Replied.{Replied}
-use Rattle.aio_wire.specs.Told.{answer_of, refused_of}
+use Rattle.aio_wire.specs.Told.{refused_of}
 use Rattle.aio_wire.specs.declared.wire.Reply.{Reply}
 use Rattle.aio_wire.specs.declared.wire.Reply.TheVariants.{Got, Over, Bad, Failed}
 use Rattle.aio_run.specs.JournalWire.{RepliesWith, left_of}
@@ -21,7 +21,7 @@ agrees_same told a b agrees same held e = agrees held e ∙ same
 -- the replies of a journal that agrees with what is told
 pub replied_from : (told : Option (List Entry)) (old new : List Entry) (reply : Reply) → Agrees told old → RepliesWith old new reply → Replied told (Some new) reply
 replied_from told old new (Got answer) agrees replies =
-    λ rest left. agrees_same told old (Answered (answer_of answer) ∷ rest) agrees (replies ∙ ap (λ (es : List Entry). Answered (answer_of answer) ∷ es) (told_outright new rest left))
+    λ rest left. agrees_same told old (Answered answer ∷ rest) agrees (replies ∙ ap (λ (es : List Entry). Answered answer ∷ es) (told_outright new rest left))
 replied_from told old new Over agrees replies =
     (agrees_same told old [] agrees replies.1, λ rest left. agrees_same told old rest agrees (sym replies.0 ∙ told_outright new rest left))
 replied_from told old new (Bad fault) agrees replies =

@@ -8,7 +8,7 @@ use Rattle.model_value.specs.Value.{Nothing}
 use Rattle.model_value.specs.declared.input.Input.TheVariants.{Send}
 use Rattle.model_value.specs.declared.outcome.Outcome.TheVariants.{Value as Returned}
 use Rattle.model_straight.specs.Straight.{Line, Pass, Print, Sleep, Tape, Resumed, Saying, after, says, says_on}
-use Rattle.model_wire.specs.Call.{Turn}
+use Rattle.model_wire.specs.Call.{Answer}
 use Rattle.model_loop.specs.Parts.{Parts, Future, Plain, Timer}
 use Rattle.model_loop.specs.Handles.{due, fall_due, by_deadline, later as schedule}
 use Rattle.model_loop.specs.Futures.{registered, settled, new_plain}
@@ -16,7 +16,7 @@ use Rattle.model_loop.specs.Tasks.{set_waiter}
 use Rattle.model_loop.specs.Timeouts.{give_up}
 use Rattle.model_straight.specs.State.{State, Event, Called, Got, Ran, Said, with_handle, with_parts}
 use Rattle.model_straight.specs.Step.{deadline, step, step_limit, serve, served, end_task, put_to_sleep, shown_all}
-use Rattle.model_straight.specs.Turn.{turn, run_handles, run_pending, call_of}
+use Rattle.model_straight.specs.Turn.{turn, run_handles, run_pending, call_of, time_of}
 use Rattle.law_cancel.proofs.Lookups.{get-push_last}
 use Rattle.aio_run.specs.Events.{plain_events}
 use Rattle.aio_run.specs.Kernel.{History, ComesTo, FitsIn, TurnedIn, pending_main, pending_sleep, sleep_future, state_in}
@@ -188,52 +188,52 @@ come_to program time h (Sleeps (suc delay) rest) last events at phase waits on =
     )
 
 -- what a turn tells before anything runs in it
-abbrev called : List Line → ℕ → ℕ → Phase → History → List Event
-called program time now phase h = (h.events ++ Called (call_of (state_in program time phase h)) ∷ []) ++ Got (Turn now) ∷ []
+abbrev called : List Line → ℕ → Answer → Phase → History → List Event
+called program time answer phase h = (h.events ++ Called (call_of (state_in program time phase h)) ∷ []) ++ Got answer ∷ []
 
 -- a turn in which one handle runs
-told_one : (program : List Line) (time now : ℕ) (phase : Phase) (h : History) (action : Action) (more told : List Event) → told ≡ Ran action ∷ more → (called program time now phase h ++ Ran action ∷ []) ++ more ≡ h.events ++ Called (call_of (state_in program time phase h)) ∷ Got (Turn now) ∷ told
-told_one program time now phase h action more told is = simp append_assoc (ap (λ (es : List Event). h.events ++ Called (call_of (state_in program time phase h)) ∷ Got (Turn now) ∷ es) (sym is))
+told_one : (program : List Line) (time : ℕ) (answer : Answer) (phase : Phase) (h : History) (action : Action) (more told : List Event) → told ≡ Ran action ∷ more → (called program time answer phase h ++ Ran action ∷ []) ++ more ≡ h.events ++ Called (call_of (state_in program time phase h)) ∷ Got answer ∷ told
+told_one program time answer phase h action more told is = simp append_assoc (ap (λ (es : List Event). h.events ++ Called (call_of (state_in program time phase h)) ∷ Got answer ∷ es) (sym is))
 
-turn-ready : (program : List Line) (time now : ℕ) (h : History) → turn (Turn now) (state_in program time Ready h) ≡ step 0 (Send Nothing) (about program (max time now) h (called program time now Ready h ++ Ran (Step 0) ∷ []))
+turn-ready : (program : List Line) (time : ℕ) (answer : Answer) (h : History) → turn answer (state_in program time Ready h) ≡ step 0 (Send Nothing) (about program (max time (time_of answer)) h (called program time answer Ready h ++ Ran (Step 0) ∷ []))
 unfolding turn run_handles
-turn-ready program time now h = refl
+turn-ready program time answer h = refl
 
-turn-woken : (program : List Line) (time now : ℕ) (h : History) → turn (Turn now) (state_in program time Woken h) ≡ step 0 (Send Nothing) (about program (max time now) h (called program time now Woken h ++ Ran (Wakeup 0) ∷ []))
+turn-woken : (program : List Line) (time : ℕ) (answer : Answer) (h : History) → turn answer (state_in program time Woken h) ≡ step 0 (Send Nothing) (about program (max time (time_of answer)) h (called program time answer Woken h ++ Ran (Wakeup 0) ∷ []))
 unfolding turn run_handles
-turn-woken program time now h = refl
+turn-woken program time answer h = refl
 
 -- a turn in which main makes a step, from a phase in which it is about to
-stepped : (program : List Line) (at time now next : ℕ) (phase end : Phase) (action : Action) (told : List code.Event) → ((h : History) → FitsIn program at phase h → ComesTo program at h.tape) → ((h : History) → turn (Turn now) (state_in program time phase h) ≡ step 0 (Send Nothing) (about program (max time now) h (called program time now phase h ++ Ran action ∷ []))) → length program ≤ 100000 → ((future : ℕ) → plain_events future told ≡ Ran action ∷ said_by (drop at program)) → GoesOnAt program (max time now) (stop_of (drop at program)) next end → TurnedIn program at time phase next (max time now) end (Turn now) told
-stepped program at time now next phase end action told comes turned few said on =
+stepped : (program : List Line) (at time : ℕ) (answer : Answer) (next : ℕ) (phase end : Phase) (action : Action) (told : List code.Event) → ((h : History) → FitsIn program at phase h → ComesTo program at h.tape) → ((h : History) → turn answer (state_in program time phase h) ≡ step 0 (Send Nothing) (about program (max time (time_of answer)) h (called program time answer phase h ++ Ran action ∷ []))) → length program ≤ 100000 → ((future : ℕ) → plain_events future told ≡ Ran action ∷ said_by (drop at program)) → GoesOnAt program (max time (time_of answer)) (stop_of (drop at program)) next end → TurnedIn program at time phase next (max time (time_of answer)) end answer told
+stepped program at time answer next phase end action told comes turned few said on =
     λ h fits.
-    let events = called program time now phase h ++ Ran action ∷ [] in
-    let (last, waits, led) = step-main program at (max time now) h events (comes h fits) few in
-    let (goes, fits', come, same) = come_to program (max time now) h (stop_of (drop at program)) last (events ++ said_by (drop at program)) next end waits on in (
+    let events = called program time answer phase h ++ Ran action ∷ [] in
+    let (last, waits, led) = step-main program at (max time (time_of answer)) h events (comes h fits) few in
+    let (goes, fits', come, same) = come_to program (max time (time_of answer)) h (stop_of (drop at program)) last (events ++ said_by (drop at program)) next end waits on in (
       goes,
       fits',
       turned h ∙ led ∙ come,
-      same ∙ told_one program time now phase h action (said_by (drop at program)) (plain_events (sleep_future h) told) (said (sleep_future h)),
+      same ∙ told_one program time answer phase h action (said_by (drop at program)) (plain_events (sleep_future h) told) (said (sleep_future h)),
     )
 
-abbrev At : List Line → (at time : ℕ) → Phase → (next : ℕ) → Phase → ℕ → List code.Event → (later : ℕ) → Type 0
-At program at time phase next end now told later = GoesOnAt program later (stop_of (drop at program)) next end → TurnedIn program at time phase next later end (Turn now) told
+abbrev At : List Line → (at time : ℕ) → Phase → (next : ℕ) → Phase → Answer → List code.Event → (later : ℕ) → Type 0
+At program at time phase next end answer told later = GoesOnAt program later (stop_of (drop at program)) next end → TurnedIn program at time phase next later end answer told
 
-pub turned-ready : (program : List Line) (at time now next later : ℕ) (end : Phase) (told : List code.Event) → later ≡ max time now → length program ≤ 100000 → ((future : ℕ) → plain_events future told ≡ Ran (Step 0) ∷ said_by (drop at program)) → GoesOnAt program later (stop_of (drop at program)) next end → TurnedIn program at time Ready next later end (Turn now) told
-turned-ready program at time now next later end told on few said =
-    subst (At program at time Ready next end now told) (sym on) (stepped program at time now next Ready end (Step 0) told (λ h fits. fits) (turn-ready program time now) few said)
+pub turned-ready : (program : List Line) (at time : ℕ) (answer : Answer) (next later : ℕ) (end : Phase) (told : List code.Event) → later ≡ max time (time_of answer) → length program ≤ 100000 → ((future : ℕ) → plain_events future told ≡ Ran (Step 0) ∷ said_by (drop at program)) → GoesOnAt program later (stop_of (drop at program)) next end → TurnedIn program at time Ready next later end answer told
+turned-ready program at time answer next later end told on few said =
+    subst (At program at time Ready next end answer told) (sym on) (stepped program at time answer next Ready end (Step 0) told (λ h fits. fits) (turn-ready program time answer) few said)
 
-pub turned-woken : (program : List Line) (at time now next later : ℕ) (end : Phase) (told : List code.Event) → later ≡ max time now → length program ≤ 100000 → ((future : ℕ) → plain_events future told ≡ Ran (Wakeup 0) ∷ said_by (drop at program)) → GoesOnAt program later (stop_of (drop at program)) next end → TurnedIn program at time Woken next later end (Turn now) told
-turned-woken program at time now next later end told on few said =
-    subst (At program at time Woken next end now told) (sym on) (stepped program at time now next Woken end (Wakeup 0) told (λ h fits. fits) (turn-woken program time now) few said)
+pub turned-woken : (program : List Line) (at time : ℕ) (answer : Answer) (next later : ℕ) (end : Phase) (told : List code.Event) → later ≡ max time (time_of answer) → length program ≤ 100000 → ((future : ℕ) → plain_events future told ≡ Ran (Wakeup 0) ∷ said_by (drop at program)) → GoesOnAt program later (stop_of (drop at program)) next end → TurnedIn program at time Woken next later end answer told
+turned-woken program at time answer next later end told on few said =
+    subst (At program at time Woken next end answer told) (sym on) (stepped program at time answer next Woken end (Wakeup 0) told (λ h fits. fits) (turn-woken program time answer) few said)
 
 -- the future of a sleep that is over
 abbrev done_sleep : Future
 done_sleep = record { kind = Plain; outcome = Some (Returned Nothing); callbacks = [] }
 
 -- the history after the handle of a timer ran
-abbrev woken_in : List Line → ℕ → ℕ → ℕ → History → History
-woken_in program time now when h =
+abbrev woken_in : List Line → ℕ → Answer → ℕ → History → History
+woken_in program time answer when h =
     record {
       tape = h.tape;
       waiter = h.waiter;
@@ -243,12 +243,12 @@ woken_in program time now when h =
       tag = h.next_tag;
       next_stamp = h.next_stamp + 1 + 1;
       next_tag = h.next_tag + 1;
-      events = called program time now (Sleeping when) h ++ Ran (SleepDone 0 (sleep_future h)) ∷ [];
+      events = called program time answer (Sleeping when) h ++ Ran (SleepDone 0 (sleep_future h)) ∷ [];
     }
 
 -- the history after a turn in which nothing ran
-abbrev idle_in : List Line → ℕ → ℕ → Phase → History → History
-idle_in program time now phase h = record h { events = called program time now phase h }
+abbrev idle_in : List Line → ℕ → Answer → Phase → History → History
+idle_in program time answer phase h = record h { events = called program time answer phase h }
 
 -- a sleep's timer
 abbrev timer_of : ℕ → History → Timer
@@ -259,91 +259,91 @@ abbrev asleep_at : ℕ → ℕ → History → List Timer → Parts
 asleep_at time when h timers = record (state_in [] time (Sleeping when) h).parts { timers = timers }
 
 -- the turn of a sleeping run, by whether the timer is due
-abbrev turn_by : List Line → ℕ → ℕ → ℕ → History → (due stays : Bool) → State
-turn_by program time now when h due stays =
-    run_pending (with_parts (fall_due (by_deadline (cond due (timer_of when h ∷ []) [])) (asleep_at (max time now) when h (cond stays (timer_of when h ∷ []) [])))
-    (record (state_in program time (Sleeping when) h) { events = called program time now (Sleeping when) h }))
+abbrev turn_by : List Line → ℕ → Answer → ℕ → History → (due stays : Bool) → State
+turn_by program time answer when h due stays =
+    run_pending (with_parts (fall_due (by_deadline (cond due (timer_of when h ∷ []) [])) (asleep_at (max time (time_of answer)) when h (cond stays (timer_of when h ∷ []) [])))
+    (record (state_in program time (Sleeping when) h) { events = called program time answer (Sleeping when) h }))
 
-turn-sleeping : (program : List Line) (time now when : ℕ) (h : History) → turn (Turn now) (state_in program time (Sleeping when) h) ≡ turn_by program time now when h (nat_le when (max time now)) (nat_lt (max time now) when)
+turn-sleeping : (program : List Line) (time : ℕ) (answer : Answer) (when : ℕ) (h : History) → turn answer (state_in program time (Sleeping when) h) ≡ turn_by program time answer when h (nat_le when (max time (time_of answer))) (nat_lt (max time (time_of answer)) when)
 unfolding turn
-turn-sleeping program time now when h = refl
+turn-sleeping program time answer when h = refl
 
 -- the parts in which the handle of a timer runs
-abbrev due_parts : ℕ → ℕ → ℕ → History → Parts
-due_parts time now when h = record (asleep_at (max time now) when h []) { next_stamp = h.next_stamp + 1 }
+abbrev due_parts : ℕ → Answer → ℕ → History → Parts
+due_parts time answer when h = record (asleep_at (max time (time_of answer)) when h []) { next_stamp = h.next_stamp + 1 }
 
-turn-due : (program : List Line) (time now when : ℕ) (h : History) → turn_by program time now when h true false ≡ state_in program (max time now) Woken (woken_in program time now when h)
+turn-due : (program : List Line) (time : ℕ) (answer : Answer) (when : ℕ) (h : History) → turn_by program time answer when h true false ≡ state_in program (max time (time_of answer)) Woken (woken_in program time answer when h)
 unfolding run_handles
-turn-due program time now when h =
-    let goes = woken_in program time now when h in
-    let s = state_in program (max time now) Woken goes in
+turn-due program time answer when h =
+    let goes = woken_in program time answer when h in
+    let s = state_in program (max time (time_of answer)) Woken goes in
     let on = sleep_future h in
-    ap (λ (future : Option Future). with_parts (settled future on (Returned Nothing) (due_parts time now when h)) s) (get-push_last h.slept pending_sleep)
+    ap (λ (future : Option Future). with_parts (settled future on (Returned Nothing) (due_parts time answer when h)) s) (get-push_last h.slept pending_sleep)
     ∙ ap (λ (futures : List Future). with_parts (with_futures (pending_main ∷ futures) s.parts) s) (set-append_seam h.slept pending_sleep [] done_sleep)
 
-turn-early : (program : List Line) (time now when : ℕ) (h : History) → turn_by program time now when h false true ≡ state_in program (max time now) (Sleeping when) (idle_in program time now (Sleeping when) h)
+turn-early : (program : List Line) (time : ℕ) (answer : Answer) (when : ℕ) (h : History) → turn_by program time answer when h false true ≡ state_in program (max time (time_of answer)) (Sleeping when) (idle_in program time answer (Sleeping when) h)
 unfolding run_handles
-turn-early program time now when h = refl
+turn-early program time answer when h = refl
 
-abbrev finished_in : List Line → ℕ → ℕ → History → History
-finished_in program time now h = record h { events = called program time now Ended h ++ Ran MainDone ∷ [] }
+abbrev finished_in : List Line → ℕ → Answer → History → History
+finished_in program time answer h = record h { events = called program time answer Ended h ++ Ran MainDone ∷ [] }
 
-turn-ended : (program : List Line) (time now : ℕ) (h : History) → turn (Turn now) (state_in program time Ended h) ≡ state_in program (max time now) Over (finished_in program time now h)
+turn-ended : (program : List Line) (time : ℕ) (answer : Answer) (h : History) → turn answer (state_in program time Ended h) ≡ state_in program (max time (time_of answer)) Over (finished_in program time answer h)
 unfolding turn run_handles
-turn-ended program time now h = refl
+turn-ended program time answer h = refl
 
-turn-over : (program : List Line) (time now : ℕ) (h : History) → turn (Turn now) (state_in program time Over h) ≡ state_in program (max time now) Over (idle_in program time now Over h)
+turn-over : (program : List Line) (time : ℕ) (answer : Answer) (h : History) → turn answer (state_in program time Over h) ≡ state_in program (max time (time_of answer)) Over (idle_in program time answer Over h)
 unfolding turn run_handles
-turn-over program time now h = refl
+turn-over program time answer h = refl
 
-pub turned-due : (program : List Line) (at time now when later : ℕ) (told : List code.Event) → later ≡ max time now → when ≤ later → ((future : ℕ) → plain_events future told ≡ Ran (SleepDone 0 future) ∷ []) → TurnedIn program at time (Sleeping when) at later Woken (Turn now) told
-turned-due program at time now when later told on due events =
+pub turned-due : (program : List Line) (at time : ℕ) (answer : Answer) (when later : ℕ) (told : List code.Event) → later ≡ max time (time_of answer) → when ≤ later → ((future : ℕ) → plain_events future told ≡ Ran (SleepDone 0 future) ∷ []) → TurnedIn program at time (Sleeping when) at later Woken answer told
+turned-due program at time answer when later told on due events =
     λ h fits.
-    let goes = woken_in program time now when h in
-    let is_due : nat_le when (max time now) ≡ true = grind (arith, nat_tests) in
-    let gone : nat_lt (max time now) when ≡ false = grind (arith, nat_tests) in (
+    let goes = woken_in program time answer when h in
+    let is_due : nat_le when (max time (time_of answer)) ≡ true = grind (arith, nat_tests) in
+    let gone : nat_lt (max time (time_of answer)) when ≡ false = grind (arith, nat_tests) in (
       goes,
       fits,
-      turn-sleeping program time now when h ∙ ap (λ (b : Bool). turn_by program time now when h b (nat_lt (max time now) when)) is_due ∙ ap (turn_by program time now when h true) gone
-          ∙ turn-due program time now when h ∙ ap (λ (t : ℕ). state_in program t Woken goes) (sym on),
-      sym (append-nil goes.events) ∙ told_one program time now (Sleeping when) h (SleepDone 0 (sleep_future h)) [] (plain_events (sleep_future h) told) (events (sleep_future h)),
+      turn-sleeping program time answer when h ∙ ap (λ (b : Bool). turn_by program time answer when h b (nat_lt (max time (time_of answer)) when)) is_due ∙ ap (turn_by program time answer when h true) gone
+          ∙ turn-due program time answer when h ∙ ap (λ (t : ℕ). state_in program t Woken goes) (sym on),
+      sym (append-nil goes.events) ∙ told_one program time answer (Sleeping when) h (SleepDone 0 (sleep_future h)) [] (plain_events (sleep_future h) told) (events (sleep_future h)),
     )
 
 -- nothing is told where nothing ran
-told_nothing : (program : List Line) (time now : ℕ) (phase : Phase) (h : History) (told : List code.Event) → told ≡ [] → called program time now phase h ≡ h.events ++ Called (call_of (state_in program time phase h)) ∷ Got (Turn now) ∷ plain_events (sleep_future h) told
-told_nothing program time now phase h told none =
-    append_assoc h.events (Called (call_of (state_in program time phase h)) ∷ []) (Got (Turn now) ∷ [])
-    ∙ ap (λ (es : List code.Event). h.events ++ Called (call_of (state_in program time phase h)) ∷ Got (Turn now) ∷ plain_events (sleep_future h) es) (sym none)
+told_nothing : (program : List Line) (time : ℕ) (answer : Answer) (phase : Phase) (h : History) (told : List code.Event) → told ≡ [] → called program time answer phase h ≡ h.events ++ Called (call_of (state_in program time phase h)) ∷ Got answer ∷ plain_events (sleep_future h) told
+told_nothing program time answer phase h told none =
+    append_assoc h.events (Called (call_of (state_in program time phase h)) ∷ []) (Got answer ∷ [])
+    ∙ ap (λ (es : List code.Event). h.events ++ Called (call_of (state_in program time phase h)) ∷ Got answer ∷ plain_events (sleep_future h) es) (sym none)
 
-pub turned-early : (program : List Line) (at time now when later : ℕ) (told : List code.Event) → later ≡ max time now → later < when → told ≡ [] → TurnedIn program at time (Sleeping when) at later (Sleeping when) (Turn now) told
-turned-early program at time now when later told on early none =
+pub turned-early : (program : List Line) (at time : ℕ) (answer : Answer) (when later : ℕ) (told : List code.Event) → later ≡ max time (time_of answer) → later < when → told ≡ [] → TurnedIn program at time (Sleeping when) at later (Sleeping when) answer told
+turned-early program at time answer when later told on early none =
     λ h fits.
-    let goes = idle_in program time now (Sleeping when) h in
-    let is_due : nat_le when (max time now) ≡ false = grind (arith, nat_tests) in
-    let stays : nat_lt (max time now) when ≡ true = grind (arith, nat_tests) in (
+    let goes = idle_in program time answer (Sleeping when) h in
+    let is_due : nat_le when (max time (time_of answer)) ≡ false = grind (arith, nat_tests) in
+    let stays : nat_lt (max time (time_of answer)) when ≡ true = grind (arith, nat_tests) in (
       goes,
       fits,
-      turn-sleeping program time now when h ∙ ap (λ (b : Bool). turn_by program time now when h b (nat_lt (max time now) when)) is_due ∙ ap (turn_by program time now when h false) stays
-          ∙ turn-early program time now when h ∙ ap (λ (t : ℕ). state_in program t (Sleeping when) goes) (sym on),
-      told_nothing program time now (Sleeping when) h told none,
+      turn-sleeping program time answer when h ∙ ap (λ (b : Bool). turn_by program time answer when h b (nat_lt (max time (time_of answer)) when)) is_due ∙ ap (turn_by program time answer when h false) stays
+          ∙ turn-early program time answer when h ∙ ap (λ (t : ℕ). state_in program t (Sleeping when) goes) (sym on),
+      told_nothing program time answer (Sleeping when) h told none,
     )
 
-pub turned-ended : (program : List Line) (at time now later : ℕ) (told : List code.Event) → later ≡ max time now → ((future : ℕ) → plain_events future told ≡ Ran MainDone ∷ []) → TurnedIn program at time Ended at later Over (Turn now) told
-turned-ended program at time now later told on events =
+pub turned-ended : (program : List Line) (at time : ℕ) (answer : Answer) (later : ℕ) (told : List code.Event) → later ≡ max time (time_of answer) → ((future : ℕ) → plain_events future told ≡ Ran MainDone ∷ []) → TurnedIn program at time Ended at later Over answer told
+turned-ended program at time answer later told on events =
     λ h fits.
-    let goes = finished_in program time now h in (
+    let goes = finished_in program time answer h in (
       goes,
       tt,
-      turn-ended program time now h ∙ ap (λ (t : ℕ). state_in program t Over goes) (sym on),
-      sym (append-nil goes.events) ∙ told_one program time now Ended h MainDone [] (plain_events (sleep_future h) told) (events (sleep_future h)),
+      turn-ended program time answer h ∙ ap (λ (t : ℕ). state_in program t Over goes) (sym on),
+      sym (append-nil goes.events) ∙ told_one program time answer Ended h MainDone [] (plain_events (sleep_future h) told) (events (sleep_future h)),
     )
 
-pub turned-over : (program : List Line) (at time now later : ℕ) (told : List code.Event) → later ≡ max time now → told ≡ [] → TurnedIn program at time Over at later Over (Turn now) told
-turned-over program at time now later told on none =
+pub turned-over : (program : List Line) (at time : ℕ) (answer : Answer) (later : ℕ) (told : List code.Event) → later ≡ max time (time_of answer) → told ≡ [] → TurnedIn program at time Over at later Over answer told
+turned-over program at time answer later told on none =
     λ h fits.
-    let goes = idle_in program time now Over h in (
+    let goes = idle_in program time answer Over h in (
       goes,
       tt,
-      turn-over program time now h ∙ ap (λ (t : ℕ). state_in program t Over goes) (sym on),
-      told_nothing program time now Over h told none,
+      turn-over program time answer h ∙ ap (λ (t : ℕ). state_in program t Over goes) (sym on),
+      told_nothing program time answer Over h told none,
     )

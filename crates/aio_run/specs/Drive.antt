@@ -2,57 +2,63 @@
 use Rattle.std.specs.Prelude.{◌≡◌, ℕ, List, ◌++◌, Option}
 use Rattle.model_straight.specs.Straight.{Line}
 use Rattle.model_wire.specs.Journal.{Entry}
-use Rattle.model_wire.specs.Told.{Agrees, grown, Rose}
+use Rattle.model_wire.specs.Told.{Agrees, Rose, SinkSeen, took, SinkFailed}
 use Rattle.model_wire.specs.Call.{Answer}
-use Rattle.model_straight.specs.Program.{turn_limit}
+use Rattle.model_straight.specs.Program.{IsOver, turn_limit}
 use Rattle.model_straight.specs.Run.{run}
+use Rattle.model_machine.specs.Theorem.{IsFrontOf}
 use Rattle.model_straight.specs.Transcript.{transcript, lines_of_events, status_of}
 use Rattle.model_straight.specs.Turn.{turn}
 use Rattle.aio_run.specs.Kernel.{History, Fits, state_of}
 use Rattle.aio_run.specs.declared.kernel.Kernel.{Kernel}
-use Rattle.aio_run.specs.Writing.{TakesFront}
 use Rattle.aio_run.specs.declared.halt.Halt.{Halt}
 use Rattle.aio_run.specs.declared.halt.Halt.TheVariants.{Memory, Sink, Wire}
 
 -- The machine's run over entries that agree with what the wire told: its whole transcript was taken, and this is its
 -- status.
-abbrev pub Ran : List Line → Option (List Entry) → Option (List ℕ) → Option (List ℕ) → ℕ → Type 0
+abbrev pub Ran : List Line → Option (List Entry) → SinkSeen → SinkSeen → ℕ → Type 0
 Ran program told old new status =
-    (entries : List Entry) × Agrees told entries × (new ≡ grown old (transcript (run program entries turn_limit)))
+    (entries : List Entry) × Agrees told entries × (new ≡ took old (transcript (run program entries turn_limit)))
     × (status ≡ status_of (run program entries turn_limit).ending)
 
--- a front of the machine's transcript over entries that agree with what the wire told was taken
-abbrev pub RanInPart : List Line → Option (List Entry) → Option (List ℕ) → Option (List ℕ) → Type 0
-RanInPart program told old new =
-    (entries : List Entry) × Agrees told entries × TakesFront (transcript (run program entries turn_limit)) old new
+-- a front of the machine's transcript over entries that agree with what the wire told
+abbrev pub RanInPart : List Line → Option (List Entry) → List ℕ → Type 0
+RanInPart program told front =
+    (entries : List Entry) × Agrees told entries × IsFrontOf front (transcript (run program entries turn_limit))
 
--- The lines of the machine's run over the answers had so far, a front of those that the wire told, were taken.
-abbrev pub RanSoFar : List Line → Option (List Entry) → Option (List ℕ) → Option (List ℕ) → Type 0
+-- The machine's run over the answers had so far, a front of those that the wire told, was over, and its lines were taken.
+abbrev pub RanSoFar : List Line → Option (List Entry) → SinkSeen → SinkSeen → Type 0
 RanSoFar program told old new =
-    (had : List Entry) × ((rest : List Entry) × Agrees told (had ++ rest)) × (new ≡ grown old (lines_of_events (run program had turn_limit).events))
+    (had : List Entry) × ((rest : List Entry) × Agrees told (had ++ rest)) × IsOver (run program had turn_limit)
+    × (new ≡ took old (lines_of_events (run program had turn_limit).events))
 
--- A run stops for want of memory, or where the sink's or the wire's count of faults rose.
-abbrev pub Stopped : List Line → Option (List Entry) → Option (List ℕ) → Option (List ℕ) → ℕ → ℕ → ℕ → ℕ → Halt → Type 0
-Stopped program told old new wire_before wire_now sink_before sink_now Memory = RanInPart program told old new
-Stopped program told old new wire_before wire_now sink_before sink_now Sink = RanInPart program told old new × Rose sink_before sink_now
-Stopped program told old new wire_before wire_now sink_before sink_now Wire = RanSoFar program told old new × Rose wire_before wire_now
+-- A run stops for want of memory, or where the sink failed, or where the wire's count of faults rose.
+abbrev pub Stopped : List Line → Option (List Entry) → SinkSeen → SinkSeen → (before now : ℕ) → Halt → Type 0
+Stopped program told old new before now Memory = (front : List ℕ) × RanInPart program told front × (new ≡ took old front)
+Stopped program told old new before now Sink = (front : List ℕ) × RanInPart program told front × SinkFailed front old new
+Stopped program told old new before now Wire = RanSoFar program told old new × Rose before now
+
+-- a fact that holds unless the wire failed
+abbrev pub UnlessWire : Type 0 → Halt → Type 0
+UnlessWire fact Memory = fact
+UnlessWire fact Sink = fact
+UnlessWire fact Wire = Unit {0}
 
 -- A turn was made and its lines were taken, whatever the history.
-abbrev pub TurnWritten : Kernel → Kernel → Answer → Option (List ℕ) → Option (List ℕ) → Type 0
-TurnWritten old new answer taken_before taken_now =
+abbrev pub TurnWritten : Kernel → Kernel → Answer → SinkSeen → SinkSeen → Type 0
+TurnWritten old new answer before now =
     (new.program ≡ old.program)
     × ((h : History) → Fits old h →
     (after : History) × Fits new after × (turn answer (state_of old h) ≡ state_of new after)
-    × ((text : List ℕ) × (lines_of_events after.events ≡ lines_of_events h.events ++ text) × (taken_now ≡ grown taken_before text)))
+    × ((text : List ℕ) × (lines_of_events after.events ≡ lines_of_events h.events ++ text) × (now ≡ took before text)))
 
--- a front of a turn's lines was taken
-abbrev pub TurnWrittenInPart : Kernel → Answer → Option (List ℕ) → Option (List ℕ) → Type 0
-TurnWrittenInPart old answer taken_before taken_now =
+-- a front of a turn's lines, whatever the history
+abbrev pub TurnInPart : Kernel → Answer → List ℕ → Type 0
+TurnInPart old answer front =
     (h : History) → Fits old h →
-    (front : List ℕ) × (rest : List ℕ) × (lines_of_events (turn answer (state_of old h)).events ≡ lines_of_events h.events ++ (front ++ rest))
-    × (taken_now ≡ grown taken_before front)
+    (rest : List ℕ) × (lines_of_events (turn answer (state_of old h)).events ≡ lines_of_events h.events ++ (front ++ rest))
 
-abbrev pub StopsInTurn : Kernel → Answer → Option (List ℕ) → Option (List ℕ) → ℕ → ℕ → Halt → Type 0
-StopsInTurn old answer taken_before taken_now before now Memory = TurnWrittenInPart old answer taken_before taken_now
-StopsInTurn old answer taken_before taken_now before now Sink = TurnWrittenInPart old answer taken_before taken_now × Rose before now
-StopsInTurn old answer taken_before taken_now before now Wire = ⊥
+abbrev pub StopsInTurn : Kernel → Answer → SinkSeen → SinkSeen → Halt → Type 0
+StopsInTurn old answer before now Memory = (front : List ℕ) × TurnInPart old answer front × (now ≡ took before front)
+StopsInTurn old answer before now Sink = (front : List ℕ) × TurnInPart old answer front × SinkFailed front before now
+StopsInTurn old answer before now Wire = ⊥

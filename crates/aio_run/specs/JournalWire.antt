@@ -1,7 +1,10 @@
 -- What a journal's wire tells of the answers that are left.
-use Rattle.std.specs.Prelude.{◌≡◌, ℕ, List, [], ◌∷◌, Option, Some, None}
-use Rattle.model_wire.specs.Journal.{Entry, Answered, entries_of}
-use Rattle.aio_wire.specs.Told.{answer_of, refused_of}
+use Rattle.std.specs.Prelude.{◌≡◌, refl, ℕ, List, [], ◌∷◌, Option, Some, None}
+use Rattle.model_wire.specs.Journal.{Entry, Answered, Refused, entries_of}
+use Rattle.std.proofs.Common.{sym}
+use Rattle.aio_wire.specs.Replied.{EndAgrees}
+use Rattle.model_wire.specs.Told.{Agrees, WireEnd, Going, OutOfAnswers, AtRefused}
+use Rattle.aio_wire.specs.Told.{refused_of}
 use Rattle.aio_wire.specs.declared.wire.Reply.{Reply}
 use Rattle.aio_wire.specs.declared.wire.Reply.TheVariants.{Got, Over, Bad, Failed}
 
@@ -18,7 +21,32 @@ left_of None None = None
 
 -- What a journal's wire replies, by the entries before and behind it: an answer is taken, a refused line stays.
 abbrev pub RepliesWith : List Entry → List Entry → Reply → Type 0
-RepliesWith old new (Got answer) = old ≡ Answered (answer_of answer) ∷ new
+RepliesWith old new (Got answer) = old ≡ Answered answer ∷ new
 RepliesWith old new Over = (new ≡ old) × (old ≡ [])
 RepliesWith old new (Bad fault) = (new ≡ old) × (rest : List Entry) × (old ≡ refused_of fault ∷ rest)
 RepliesWith old new Failed = ⊥
+
+-- how a journal's wire ended, by the entries that are left of a journal that was read
+abbrev pub end_of_entries : List Entry → WireEnd
+end_of_entries [] = OutOfAnswers
+end_of_entries (Answered answer ∷ entries) = Going
+end_of_entries (Refused line cause ∷ entries) = AtRefused line cause
+
+abbrev pub end_of : Option (List Entry) → WireEnd
+end_of None = Going
+end_of (Some left) = end_of_entries left
+
+-- what is told outright is what it is
+told_outright : (left : List Entry) → Agrees (Some left) left
+told_outright left held is = let same : left ≡ held = Prim.cc in sym same
+
+-- the end of a journal that was read is that of the entries that are left
+ends_as_entries : (left : List Entry) → EndAgrees (end_of_entries left) (Some left)
+ends_as_entries [] = told_outright []
+ends_as_entries (Answered answer ∷ entries) = tt
+ends_as_entries (Refused line cause ∷ entries) = (entries, told_outright (Refused line cause ∷ entries))
+
+pub ends_as_left : (told : Option (Option (List ℕ))) (left : Option (List Entry)) → EndAgrees (end_of left) (left_of told left)
+ends_as_left (Some held) None = tt
+ends_as_left None None = tt
+ends_as_left told (Some left) = ends_as_entries left

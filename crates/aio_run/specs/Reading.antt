@@ -1,13 +1,13 @@
 -- How far a file was read.
 use Rattle.std.specs.Prelude.{◌≡◌, ℕ, List, [], Option, Some, None, length, take}
-use Rattle.model_wire.specs.Told.{Rose}
+use Rattle.model_wire.specs.Told.{ShelfSeen, FileFailed, NoneFell}
 use Rattle.aio_run.specs.declared.reading.ReadFault.{ReadFault}
 use Rattle.aio_run.specs.declared.reading.ReadFault.TheVariants.{Memory, Failed}
 
--- reading stops for want of memory, or where the shelf's count of faults rose
-abbrev pub StopsReading : ℕ → ℕ → ReadFault → Type 0
-StopsReading before now Memory = Unit {0}
-StopsReading before now Failed = Rose before now
+-- reading a file stops for want of memory, and then nothing failed, or where the file failed
+abbrev pub StopsReading : List ℕ → ShelfSeen → ShelfSeen → ReadFault → Type 0
+StopsReading name old new Memory = new ≡ old
+StopsReading name old new Failed = FileFailed name old new × NoneFell old new
 
 -- a text is the front of what a file holds; of a missing file nothing was read
 abbrev pub Begins : Option (List ℕ) → List ℕ → Type 0

@@ -1,13 +1,14 @@
 -- What was read of a script, or why there is none, by what the shelf tells of its file.
-use Rattle.std.specs.Prelude.{◌≡◌, ℕ, List, [], ◌++◌, Option, Ok, ⊤, codes}
+use Rattle.std.specs.Prelude.{◌≡◌, ℕ, List, [], ◌++◌, Option, Ok, codes}
 use Rattle.std.specs.Fmt.{decimal}
 use Rattle.model_tree.specs.Syntax.{Program}
 use Rattle.model_text.specs.declared.cause.Cause.{Cause}
 use Rattle.model_text.specs.Causes.{cause_number}
 use Rattle.model_text.specs.FirstPass.{fault_at}
 use Rattle.model_text.specs.Scripts.{script_of}
-use Rattle.model_wire.specs.Told.{Rose}
-use Rattle.model_straight.specs.Program.{Output, FileSays, faulted}
+use Rattle.model_wire.specs.Told.{ShelfSeen, FileFailed}
+use Rattle.model_machine.specs.Theorem.{Output}
+use Rattle.model_straight.specs.Program.{FileSays, faulted}
 use Rattle.model_straight.specs.Transcript.{line}
 use Rattle.aio_run.specs.declared.script.NoScript.{NoScript}
 use Rattle.aio_run.specs.declared.script.NoScript.TheVariants.{Refused, Failed, Memory}
@@ -21,11 +22,11 @@ abbrev pub HasFault : Option (Option (List ℕ)) → ℕ → ℕ → Type 0
 HasFault told number cause =
     (text : List ℕ) × (why : Cause) × FileSays told text × (script_of text ≡ fault_at number why) × (cause ≡ cause_number why)
 
--- There is no script: its text is refused, the shelf's count of faults rose, or memory was refused.
-abbrev pub IsMissing : Option (Option (List ℕ)) → ℕ → ℕ → NoScript → Type 0
-IsMissing told before now (Refused number cause) = HasFault told number cause
-IsMissing told before now Failed = Rose before now
-IsMissing told before now Memory = ⊤
+-- There is no script: its text is refused, its file failed, or memory was refused. Only its file failed, if any.
+abbrev pub IsMissing : List ℕ → ShelfSeen → ShelfSeen → NoScript → Type 0
+IsMissing name old new (Refused number cause) = HasFault (old.file name) number cause × (new ≡ old)
+IsMissing name old new Failed = FileFailed name old new
+IsMissing name old new Memory = new ≡ old
 
 abbrev pub refusal_text : ℕ → ℕ → List ℕ
 refusal_text number cause = codes "! script " ++ decimal number ++ codes " " ++ decimal cause

@@ -1,8 +1,9 @@
 //! Checking a script.
 ghost use Rattle.std.specs.Prelude.{◌≡◌, IfOk, IfErr};
-ghost use Rattle.model_wire.specs.Told.{Rose};
+ghost use Rattle.model_wire.specs.Told.{NoneFailed};
 ghost use Rattle.model_straight.specs.Program.{MayCheck};
-ghost use Rattle.aio_run.specs.Outcome.{EndsEarly, WritesWhole};
+ghost use Rattle.model_machine.specs.Theorem.{WritesWhole};
+ghost use Rattle.aio_run.specs.Outcome.{EndsEarly};
 
 use crate::halt::Halt;
 use crate::script::{read_script, refuse};
@@ -18,13 +19,11 @@ pub fn check<F: Shelf, K: Sink>(
     shelf: &mut F,
     out: &mut K,
 ) -> Result<u8, Halt>
-    ensures ok { IfOk result (WritesWhole
-        (MayCheck (F.file shelf.old script.now) (Rose (F.faults shelf.old) (F.faults shelf.new)))
-        (K.taken out.old) (K.taken out.new)) }
-    ensures err { IfErr result (EndsEarly
-        (MayCheck (F.file shelf.old script.now) (Rose (F.faults shelf.old) (F.faults shelf.new)))
-        (K.taken out.old) (K.taken out.new) (K.faults out.old) (K.faults out.new)) }
-    ensures files { F.file shelf.new ≡ F.file shelf.old }
+    ensures ok { IfOk result (WritesWhole (MayCheck (F.seen shelf.old) (F.seen shelf.new) script.now)
+        (K.seen out.old) (K.seen out.new)) }
+    ensures err { IfErr result (EndsEarly (MayCheck (F.seen shelf.old) (F.seen shelf.new) script.now)
+        (NoneFailed (F.seen shelf.old) (F.seen shelf.new)) (K.seen out.old) (K.seen out.new)) }
+    ensures files { (F.seen shelf.new).file ≡ (F.seen shelf.old).file }
 {
     match read_script(alloc, script, shelf) {
         Ok(script) => {

@@ -1,11 +1,9 @@
 //! The one loop that holds kernel, wire and sink.
 ghost use Rattle.std.specs.Prelude.{◌≡◌, ◌≤◌, IfOk, IfErr, OnOk};
-ghost use Rattle.model_wire.specs.Call.{Turn};
-ghost use Rattle.model_wire.specs.Told.{grown};
+ghost use Rattle.model_wire.specs.Told.{took};
 ghost use Rattle.model_straight.specs.Transcript.{line, ending_text, status_of};
-ghost use Rattle.aio_wire.specs.Told.{answer_of};
 ghost use Rattle.aio_straight.specs.Lines.{plain_program};
-ghost use Rattle.aio_run.specs.Drive.{Ran, Stopped, StopsInTurn, TurnWritten};
+ghost use Rattle.aio_run.specs.Drive.{Ran, Stopped, StopsInTurn, TurnWritten, UnlessWire};
 ghost use Rattle.aio_run.specs.Ending.{plain_ending};
 ghost use Rattle.aio_run.specs.Writing.{StopsWriting};
 
@@ -15,7 +13,7 @@ use crate::kernel::Kernel;
 use crate::lines::lines_of;
 use crate::writing::write_all;
 use aio_straight::Program;
-use aio_wire::{Answer, Reply, Sink, Wire};
+use aio_wire::{Answer, Call, Reply, Sink, WatchList, Wire};
 use std::alloc::Global;
 
 /// Runs a program over a wire's answers, and writes its transcript to a sink. It answers the exit status.
@@ -25,13 +23,13 @@ pub fn drive<W: Wire, K: Sink>(
     wire: &mut W,
     out: &mut K,
 ) -> Result<u8, Halt>
-    ensures run { IfOk result (Ran (plain_program program) (W.answers wire.old) (K.taken out.old) (K.taken out.new)) }
+    ensures run { IfOk result (Ran (plain_program program) (W.answers wire.old) (K.seen out.old) (K.seen out.new)) }
     ensures live { IfOk result (λ _. W.fails wire.old → ⊥) }
-    ensures failing { W.fails wire.old → K.taken out.new ≡ K.taken out.old }
-    ensures stopped { IfErr result (Stopped (plain_program program) (W.answers wire.old) (K.taken out.old) (K.taken out.new)
-        (W.faults wire.old) (W.faults wire.new) (K.faults out.old) (K.faults out.new)) }
-    ensures later { W.faults wire.old ≤ W.faults wire.new }
-    ensures sink { K.faults out.old ≤ K.faults out.new }
+    ensures failing { W.fails wire.old → K.seen out.new ≡ K.seen out.old }
+    ensures stopped { IfErr result (Stopped (plain_program program) (W.answers wire.old) (K.seen out.old) (K.seen out.new)
+        (W.faults wire.old) (W.faults wire.new)) }
+    ensures quiet { OnOk result (W.quiet wire.old wire.new) }
+    ensures still { IfErr result (UnlessWire (W.quiet wire.old wire.new)) }
     ensures keeps { W.keeps wire.old wire.new }
 {
     let mut kernel = Kernel::new(program);
@@ -39,10 +37,11 @@ pub fn drive<W: Wire, K: Sink>(
         if kernel.is_over() {
             return finish(alloc, &Ending::Finished, out);
         }
-        let call = kernel.call();
-        match wire.ask(alloc, &call)? {
+        let wait = kernel.wait();
+        let watch = WatchList::of(Vec::new(alloc));
+        match wire.ask(alloc, &Call::Select { wait, watch })? {
             Reply::Got(answer) => take_turn(alloc, &mut kernel, answer, out)?,
-            Reply::Over => return finish(alloc, &Ending::Over(call), out),
+            Reply::Over => return finish(alloc, &Ending::Over(wait), out),
             Reply::Bad(fault) => return finish(alloc, &Ending::Bad(fault), out),
             Reply::Failed => return Err(Halt::Wire),
         }
@@ -60,31 +59,21 @@ fn take_turn<K: Sink>(
     answer: Answer,
     out: &mut K,
 ) -> Result<(), Halt>
-    ensures ok { OnOk result (TurnWritten kernel.old kernel.new (answer_of answer) (K.taken out.old) (K.taken out.new)) }
-    ensures err { IfErr result (StopsInTurn kernel.old (answer_of answer) (K.taken out.old) (K.taken out.new) (K.faults out.old) (K.faults out.new)) }
-    ensures later { K.faults out.old ≤ K.faults out.new }
+    ensures ok { OnOk result (TurnWritten kernel.old kernel.new answer (K.seen out.old) (K.seen out.new)) }
+    ensures err { IfErr result (StopsInTurn kernel.old answer (K.seen out.old) (K.seen out.new)) }
 {
-    let told = kernel.turn(alloc, time_of(answer))?;
+    let told = kernel.turn(alloc, &answer)?;
     let text = lines_of(alloc, told.as_slice())?;
     write_all(alloc, out, text.as_slice())?;
     Ok(())
 }
 
-/// The time that an answer tells.
-fn time_of(answer: Answer) -> u64
-    ensures { Turn result ≡ answer_of answer }
-{
-    match answer {
-        Answer::Turn { now } => now,
-    }
-}
-
 /// Writes a run's last line, and answers its status.
 fn finish<K: Sink>(alloc: Global, ending: &Ending, out: &mut K) -> Result<u8, Halt>
     ensures ok { IfOk result (λ status. (status ≡ status_of (plain_ending ending.now))
-        × (K.taken out.new ≡ grown (K.taken out.old) (line (ending_text (plain_ending ending.now))))) }
-    ensures err { IfErr result (StopsWriting (line (ending_text (plain_ending ending.now))) (K.taken out.old) (K.taken out.new) (K.faults out.old) (K.faults out.new)) }
-    ensures later { K.faults out.old ≤ K.faults out.new }
+        × (K.seen out.new ≡ took (K.seen out.old) (line (ending_text (plain_ending ending.now))))) }
+    ensures err { IfErr result (StopsWriting (line (ending_text (plain_ending ending.now)))
+        (K.seen out.old) (K.seen out.new)) }
 {
     let text = ending.line(alloc)?;
     write_all(alloc, out, text.as_bytes())?;

@@ -4,7 +4,7 @@ ghost use Rattle.model_straight.specs.Transcript.{line, ending_text, status_of};
 ghost use Rattle.model_straight.specs.Run.{Bad};
 ghost use Rattle.aio_run.specs.Ending.{plain_ending};
 
-use aio_wire::{Call, JournalFault};
+use aio_wire::JournalFault;
 use std::alloc::{AllocError, Global};
 
 /// How many turns a run makes at most.
@@ -17,8 +17,8 @@ pub enum Ending {
     Finished,
     /// As many turns were made as are allowed.
     Turns,
-    /// A call found no answer.
-    Over(Call),
+    /// A select that waits so long found no answer.
+    Over(Option<u64>),
     /// A call found a line that is no answer.
     Bad(JournalFault),
 }
@@ -31,11 +31,11 @@ impl Ending {
         match self {
             Ending::Finished => String::from_str(alloc, "= returned None\n"),
             Ending::Turns => format!(in alloc; "= turns {TURN_LIMIT}\n"),
-            Ending::Over(Call::Select { wait: None }) => String::from_str(
+            Ending::Over(None) => String::from_str(
                 alloc,
                 "! over select none\n",
             ),
-            Ending::Over(Call::Select { wait: Some(wait) }) => format!(in alloc;
+            Ending::Over(Some(wait)) => format!(in alloc;
                 "! over select {wait}\n"
             ),
             Ending::Bad(fault) => refused_line(alloc, fault.line, fault.cause),

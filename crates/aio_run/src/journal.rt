@@ -4,7 +4,7 @@ ghost use Rattle.model_wire.specs.Journal.{entries_of, entry_of};
 ghost use Rattle.aio_run.specs.Journal.{plain_entry, NextIs};
 
 use aio_text::{next_line, number};
-use aio_wire::{Answer, JournalFault};
+use aio_wire::{Answer, ItemList, JournalFault};
 use std::marker::Model;
 
 /// A journal that was read: its text, where the next line begins, and that line's number. Contracts see the entries
@@ -29,7 +29,7 @@ impl Model for Journal {
 }
 
 /// What a journal says next.
-#[derive(Clone, Copy, Debug, PartialEq, Eq)]
+#[derive(Debug, Drop)]
 pub enum NextEntry {
     Answer(Answer),
     /// A line that is no entry; it stays.
@@ -57,7 +57,7 @@ impl Journal {
         let Some((line, rest)) = next_line(text) else {
             return NextEntry::End;
         };
-        let Some(answer) = read_entry(line) else {
+        let Some(now) = read_entry(line) else {
             return NextEntry::Refused(JournalFault {
                 line: self.line,
                 cause: 9,
@@ -65,17 +65,17 @@ impl Journal {
         };
         self.at += text.len() - rest.len();
         self.line += 1;
-        NextEntry::Answer(answer)
+        let items = ItemList::of(Vec::new(*self.text.allocator()));
+        NextEntry::Answer(Answer::Turn { now, items })
     }
 }
 
-/// The answer that a line says: `turn` and the time, with one space between them.
-fn read_entry(line: &[u8]) -> Option<Answer>
+/// The time that a line says: `turn` and the time, with one space between them.
+fn read_entry(line: &[u8]) -> Option<u64>
     ensures { (n : ℕ) → entry_of n line.now ≡ plain_entry n result }
 {
     if !line.starts_with(b"turn ") {
         return None;
     }
-    let now = number(&line[5..])?;
-    Some(Answer::Turn { now })
+    number(&line[5..])
 }

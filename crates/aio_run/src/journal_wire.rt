@@ -14,8 +14,8 @@ pub struct Buffers {
     journal: Option<Journal>,
 }
 
-/// A wire whose answers are the lines of a shelf's file. The file is read whole at the first ask, so a fault of the
-/// shelf rises in that call.
+/// A wire whose answers are the lines of a shelf's file. The file is read whole at the first ask, so it fails in that
+/// call or not at all.
 pub struct JournalWire<'a, F, B = Buffers> {
     pub shelf: &'a mut F,
     pub name: &'a str,
@@ -51,25 +51,37 @@ impl<'a, F: Shelf> JournalWire<'a, F, Buffers> {
 }
 
 impl<'a, F: Shelf> Wire for JournalWire<'a, F, Buffers> {
-    ghost use Rattle.std.specs.Prelude.{◌≡◌, ◌≤◌, None, Some};
-    ghost use Rattle.aio_run.specs.JournalWire.{left_of};
+    ghost use Rattle.std.specs.Prelude.{◌≡◌, None, Some};
+    ghost use Rattle.aio_run.specs.JournalWire.{left_of, end_of};
 
-    ghost faults = { λ wire. F.faults wire.shelf.now };
+    ghost faults = { λ wire. (F.seen wire.shelf.now).faults wire.name.now };
 
-    ghost answers = { λ wire. left_of (F.file wire.shelf.now wire.name.now) wire.own.journal };
+    ghost answers = { λ wire. left_of ((F.seen wire.shelf.now).file wire.name.now) wire.own.journal };
 
-    ghost fails = { λ wire. (wire.own.journal ≡ None) × (F.file wire.shelf.now wire.name.now ≡ Some None) };
+    ghost end = { λ wire. end_of wire.own.journal };
 
-    ghost keeps = { λ old new. (new.shelf.ghost_name ≡ old.shelf.ghost_name)
-        × (F.file new.shelf.now ≡ F.file old.shelf.now)
-        × (F.faults old.shelf.now ≤ F.faults new.shelf.now) };
+    ghost fails = { λ wire. (wire.own.journal ≡ None) × ((F.seen wire.shelf.now).file wire.name.now ≡ Some None) };
+
+    ghost keeps = { λ old new. (new.shelf.ghost_name ≡ old.shelf.ghost_name) × (new.name.now ≡ old.name.now)
+        × ((F.seen new.shelf.now).file ≡ (F.seen old.shelf.now).file) };
+
+    ghost quiet = { λ old new. F.seen new.shelf.now ≡ F.seen old.shelf.now };
+
+    ghost use Rattle.aio_run.specs.JournalWire.{ends_as_left};
+
+    ghost end_agrees = { λ wire. ends_as_left ((F.seen wire.shelf.now).file wire.name.now) wire.own.journal };
 
     ghost use Rattle.std.specs.Prelude.{refl};
-    ghost use Rattle.std.proofs.Common.{sym, ◌∙◌, arith};
+    ghost use Rattle.std.proofs.Common.{◌∙◌};
 
-    ghost keeps_same = { λ wire. (refl, refl, Prim.omega arith) };
+    ghost keeps_same = { λ wire. (refl, refl, refl) };
 
-    ghost keeps_on = { λ before between after first second. (second.0 ∙ first.0, second.1 ∙ first.1, Prim.omega arith) };
+    ghost keeps_on = { λ before between after first second.
+        (second.0 ∙ first.0, second.1 ∙ first.1, second.2 ∙ first.2) };
+
+    ghost quiet_same = { λ wire. refl };
+
+    ghost quiet_on = { λ before between after first second. second ∙ first };
 
     fn ask(&mut self, alloc: Global, _call: &Call) -> Result<Reply, Memory> {
         match self.own.journal.take() {

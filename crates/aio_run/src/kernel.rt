@@ -1,8 +1,8 @@
 //! The kernel of a straight program: main's task, step by step. It keeps no history.
 ghost use Rattle.std.specs.Prelude.{◌≡◌, ℕ, ◌++◌, IfOk, OnOk, drop};
-ghost use Rattle.model_wire.specs.Call.{Turn};
+ghost use Rattle.model_wire.specs.declared.call.Call.TheVariants.{Select};
 ghost use Rattle.model_straight.specs.State.{start};
-ghost use Rattle.aio_wire.specs.Told.{call_of as plain_call};
+ghost use Rattle.model_straight.specs.Turn.{time_of};
 ghost use Rattle.aio_straight.specs.Lines.{plain_program};
 ghost use Rattle.aio_run.specs.Kernel.{state_of, starting, waiting, is_over, Turned};
 ghost use Rattle.aio_run.specs.Events.{plain_events};
@@ -13,7 +13,7 @@ use crate::phase::Phase;
 use crate::stepping::{Stop, run_lines};
 use aio_base::Memory;
 use aio_straight::Program;
-use aio_wire::Call;
+use aio_wire::Answer;
 use std::alloc::Global;
 
 /// The longest wait that is asked for, in milliseconds: a day.
@@ -51,25 +51,24 @@ impl Kernel {
         matches!(self.phase, Phase::Over)
     }
 
-    /// What the next turn asks: it waits for nothing where something is pending, and else for the timer.
-    pub fn call(&self) -> Call
-        ensures { plain_call result ≡ waiting self.now }
+    /// How long the next turn's select waits: not at all where something is pending, and else for the timer. It watches
+    /// nothing.
+    pub fn wait(&self) -> Option<u64>
+        ensures { Select result [] ≡ waiting self.now }
     {
-        let wait = match self.phase {
+        match self.phase {
             Phase::Ready | Phase::Woken | Phase::Ended => Some(0),
             Phase::Sleeping { when } => Some(when.saturating_sub(self.time).min(LONGEST_WAIT)),
             Phase::Over => None,
-        };
-        Call::Select { wait }
+        }
     }
 
-    /// A turn whose call is answered by this time in milliseconds: what happens in it. After `Memory` the kernel may
-    /// not be used.
-    pub fn turn(&mut self, alloc: Global, now: u64) -> Result<Vec<Event>, Memory>
-        ensures { IfOk result (λ told. Turned self.old self.new (Turn now) told.items) }
+    /// A turn whose call has this answer: what happens in it. After `Memory` the kernel may not be used.
+    pub fn turn(&mut self, alloc: Global, answer: &Answer) -> Result<Vec<Event>, Memory>
+        ensures { IfOk result (λ told. Turned self.old self.new answer.now told.items) }
     {
         let mut told = Vec::new(alloc);
-        self.time = self.time.max(now);
+        self.time = self.time.max(time_of(answer));
         match self.phase {
             Phase::Ready => {
                 told.push(Event::RanStep)?;
@@ -115,5 +114,24 @@ impl Kernel {
             Stop::Ends => self.phase = Phase::Ended,
         }
         Ok(())
+    }
+}
+
+/// The time that an answer tells: 0 where it is no turn, and then the time stays.
+fn time_of(answer: &Answer) -> u64
+    ensures { result ≡ time_of answer.now }
+{
+    match answer {
+        Answer::Turn { now, .. } => *now,
+        Answer::Done
+        | Answer::Refused
+        | Answer::Conn
+        | Answer::Again
+        | Answer::Broken
+        | Answer::Data(_)
+        | Answer::Eof
+        | Answer::Took(_)
+        | Answer::Child
+        | Answer::Extra(_) => 0,
     }
 }

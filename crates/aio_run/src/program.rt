@@ -1,9 +1,10 @@
 //! What the program does for its words.
-ghost use Rattle.std.specs.Prelude.{◌≡◌, ◌≢◌, ◌≤◌, None, IfOk, IfErr, map, string_bytes};
-ghost use Rattle.model_wire.specs.Told.{Rose};
+ghost use Rattle.std.specs.Prelude.{◌≡◌, None, IfOk, IfErr, map, string_bytes};
+ghost use Rattle.model_wire.specs.Told.{NoneFailed};
 ghost use Rattle.model_straight.specs.Program.{MayWrite};
+ghost use Rattle.model_machine.specs.Theorem.{Behaves, WritesWhole};
 ghost use Rattle.model_machine.specs.Words.{command_of as plain_command_of};
-ghost use Rattle.aio_run.specs.Outcome.{EndsEarly, WritesWhole, TakesPart, ShelfFailed};
+ghost use Rattle.aio_run.specs.Outcome.{EndsEarly};
 
 use crate::checking::check;
 use crate::halt::Halt;
@@ -27,22 +28,10 @@ pub fn aio_main<F: Shelf, W: Wire, K: Sink>(
     wire: &mut W,
     out: &mut K,
 ) -> u8
-    // Where nothing failed, all is written that may be, and this is its status.
-    ensures written { result ≢ 9 → result ≢ 11 → WritesWhole
-        (MayWrite (F.file shelf.old) (Rose (F.faults shelf.old) (F.faults shelf.new)) (plain_command_of (map string_bytes words.now.items)))
-        (K.taken out.old) (K.taken out.new) result }
-    // The shelf failed, and all is written up to the fault's line; or the sink did, which took a front.
-    ensures fault { result ≡ 9 → ShelfFailed
-        (MayWrite (F.file shelf.old) (Rose (F.faults shelf.old) (F.faults shelf.new)) (plain_command_of (map string_bytes words.now.items)))
-        (K.taken out.old) (K.taken out.new) (K.faults out.old) (K.faults out.new) }
-    // Want of memory: the sink took nothing or a front.
-    ensures memory { result ≡ 11 → TakesPart
-        (MayWrite (F.file shelf.old) (Rose (F.faults shelf.old) (F.faults shelf.new)) (plain_command_of (map string_bytes words.now.items)))
-        (K.taken out.old) (K.taken out.new) }
-    ensures files { F.file shelf.new ≡ F.file shelf.old }
-    ensures wire { wire.new ≡ wire.old }
-    // Words that are refused ask nothing of the outside but the sink.
-    ensures words { plain_command_of (map string_bytes words.now.items) ≡ None → shelf.new ≡ shelf.old }
+    ensures { Behaves MayWrite (map string_bytes words.now.items)
+        (record { shelf = shelf.old; files = F.seen shelf.old; wire = wire.old; sink = K.seen out.old })
+        (record { shelf = shelf.new; files = F.seen shelf.new; wire = wire.new; sink = K.seen out.new })
+        result }
 {
     let _ = wire;
     match serve(alloc, words.as_slice(), shelf, out) {
@@ -60,12 +49,12 @@ fn serve<F: Shelf, K: Sink>(
     out: &mut K,
 ) -> Result<u8, Halt>
     ensures ok { IfOk result (WritesWhole
-        (MayWrite (F.file shelf.old) (Rose (F.faults shelf.old) (F.faults shelf.new)) (plain_command_of (map string_bytes words.now)))
-        (K.taken out.old) (K.taken out.new)) }
+        (MayWrite (F.seen shelf.old) (F.seen shelf.new) (plain_command_of (map string_bytes words.now)))
+        (K.seen out.old) (K.seen out.new)) }
     ensures err { IfErr result (EndsEarly
-        (MayWrite (F.file shelf.old) (Rose (F.faults shelf.old) (F.faults shelf.new)) (plain_command_of (map string_bytes words.now)))
-        (K.taken out.old) (K.taken out.new) (K.faults out.old) (K.faults out.new)) }
-    ensures files { F.file shelf.new ≡ F.file shelf.old }
+        (MayWrite (F.seen shelf.old) (F.seen shelf.new) (plain_command_of (map string_bytes words.now)))
+        (NoneFailed (F.seen shelf.old) (F.seen shelf.new)) (K.seen out.old) (K.seen out.new)) }
+    ensures files { (F.seen shelf.new).file ≡ (F.seen shelf.old).file }
     ensures words { plain_command_of (map string_bytes words.now) ≡ None → shelf.new ≡ shelf.old }
 {
     match command_of(words) {

@@ -1,5 +1,5 @@
 //! Reading a shelf's files.
-ghost use Rattle.std.specs.Prelude.{◌≡◌, ◌≤◌, Some, IfOk, IfErr};
+ghost use Rattle.std.specs.Prelude.{◌≡◌, ◌≤◌, Some, IfOk, IfErr, OnOk};
 ghost use Rattle.model_wire.specs.Told.{Agrees};
 ghost use Rattle.aio_run.specs.Reading.{IsFront, StopsReading};
 ghost use Rattle.aio_run.specs.declared.reading.ReadFault.TheVariants.{Memory as OutOfMemory};
@@ -35,12 +35,12 @@ impl From<AllocError> for ReadFault {
     }
 }
 
-/// All of a file. A missing file is a fault of the shelf. No file changes.
+/// All of a file. A missing file is a failure. No file changes.
 pub fn read_file<F: Shelf>(alloc: Global, shelf: &mut F, name: &str) -> Result<Vec<u8>, ReadFault>
-    ensures text { IfOk result (λ text. Agrees (F.file shelf.old name.now) (Some text.items)) }
-    ensures fault { IfErr result (StopsReading (F.faults shelf.old) (F.faults shelf.new)) }
-    ensures files { F.file shelf.new ≡ F.file shelf.old }
-    ensures later { F.faults shelf.old ≤ F.faults shelf.new }
+    ensures text { IfOk result (λ text. Agrees ((F.seen shelf.old).file name.now) (Some text.items)) }
+    ensures kept { OnOk result (F.seen shelf.new ≡ F.seen shelf.old) }
+    ensures fault { IfErr result (StopsReading name.now (F.seen shelf.old) (F.seen shelf.new)) }
+    ensures files { (F.seen shelf.new).file ≡ (F.seen shelf.old).file }
 {
     let mut text = Vec::new(alloc);
     loop {
@@ -52,7 +52,7 @@ pub fn read_file<F: Shelf>(alloc: Global, shelf: &mut F, name: &str) -> Result<V
     }
 }
 
-/// A file's first bytes, at most `limit`, and all of them where it has no more. A missing file is a fault of the shelf.
+/// A file's first bytes, at most `limit`, and all of them where it has no more. A missing file is a failure.
 /// No file changes.
 pub fn read_front<F: Shelf>(
     alloc: Global,
@@ -61,10 +61,10 @@ pub fn read_front<F: Shelf>(
     limit: usize,
 ) -> Result<Vec<u8>, ReadFault>
     requires some { 1 ≤ limit }
-    ensures text { IfOk result (λ text. IsFront limit (F.file shelf.old name.now) text.items) }
-    ensures fault { IfErr result (StopsReading (F.faults shelf.old) (F.faults shelf.new)) }
-    ensures files { F.file shelf.new ≡ F.file shelf.old }
-    ensures later { F.faults shelf.old ≤ F.faults shelf.new }
+    ensures text { IfOk result (λ text. IsFront limit ((F.seen shelf.old).file name.now) text.items) }
+    ensures kept { OnOk result (F.seen shelf.new ≡ F.seen shelf.old) }
+    ensures fault { IfErr result (StopsReading name.now (F.seen shelf.old) (F.seen shelf.new)) }
+    ensures files { (F.seen shelf.new).file ≡ (F.seen shelf.old).file }
 {
     let mut text = Vec::new(alloc);
     while text.len() < limit {

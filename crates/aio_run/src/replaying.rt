@@ -1,10 +1,11 @@
 //! Replaying a script over a journal.
-ghost use Rattle.std.specs.Prelude.{◌≡◌, ◌≤◌, IfOk, IfErr};
-ghost use Rattle.model_wire.specs.Told.{Rose};
+ghost use Rattle.std.specs.Prelude.{◌≡◌, IfOk, IfErr};
+ghost use Rattle.model_wire.specs.Told.{NoneFailed};
 ghost use Rattle.model_straight.specs.Program.{MayRun, MayRunIf, MayReplay};
 ghost use Rattle.model_straight.specs.StraightScripts.{straight_of};
+ghost use Rattle.model_machine.specs.Theorem.{WritesWhole};
 ghost use Rattle.aio_straight.specs.Lines.{plain_program};
-ghost use Rattle.aio_run.specs.Outcome.{EndsEarly, WritesWhole};
+ghost use Rattle.aio_run.specs.Outcome.{EndsEarly};
 
 use crate::driver::drive;
 use crate::halt::Halt;
@@ -25,12 +26,12 @@ pub fn replay<F: Shelf, K: Sink>(
     out: &mut K,
 ) -> Result<u8, Halt>
     ensures ok { IfOk result (WritesWhole
-        (MayReplay (F.file shelf.old script.now) (F.file shelf.old journal.now) (Rose (F.faults shelf.old) (F.faults shelf.new)))
-        (K.taken out.old) (K.taken out.new)) }
+        (MayReplay (F.seen shelf.old) (F.seen shelf.new) script.now journal.now)
+        (K.seen out.old) (K.seen out.new)) }
     ensures err { IfErr result (EndsEarly
-        (MayReplay (F.file shelf.old script.now) (F.file shelf.old journal.now) (Rose (F.faults shelf.old) (F.faults shelf.new)))
-        (K.taken out.old) (K.taken out.new) (K.faults out.old) (K.faults out.new)) }
-    ensures files { F.file shelf.new ≡ F.file shelf.old }
+        (MayReplay (F.seen shelf.old) (F.seen shelf.new) script.now journal.now)
+        (NoneFailed (F.seen shelf.old) (F.seen shelf.new)) (K.seen out.old) (K.seen out.new)) }
+    ensures files { (F.seen shelf.new).file ≡ (F.seen shelf.old).file }
 {
     match read_script(alloc, script, shelf) {
         Ok(script) => replay_script(alloc, &script, journal, shelf, out),
@@ -47,13 +48,12 @@ fn replay_script<F: Shelf, K: Sink>(
     out: &mut K,
 ) -> Result<u8, Halt>
     ensures ok { IfOk result (WritesWhole
-        (MayRunIf (straight_of script.now) (F.file shelf.old journal.now) (Rose (F.faults shelf.old) (F.faults shelf.new)))
-        (K.taken out.old) (K.taken out.new)) }
+        (MayRunIf (F.seen shelf.old) (F.seen shelf.new) (straight_of script.now) journal.now)
+        (K.seen out.old) (K.seen out.new)) }
     ensures err { IfErr result (EndsEarly
-        (MayRunIf (straight_of script.now) (F.file shelf.old journal.now) (Rose (F.faults shelf.old) (F.faults shelf.new)))
-        (K.taken out.old) (K.taken out.new) (K.faults out.old) (K.faults out.new)) }
-    ensures files { F.file shelf.new ≡ F.file shelf.old }
-    ensures later { F.faults shelf.old ≤ F.faults shelf.new }
+        (MayRunIf (F.seen shelf.old) (F.seen shelf.new) (straight_of script.now) journal.now)
+        (NoneFailed (F.seen shelf.old) (F.seen shelf.new)) (K.seen out.old) (K.seen out.new)) }
+    ensures files { (F.seen shelf.new).file ≡ (F.seen shelf.old).file }
 {
     match straight(alloc, script)? {
         Some(program) => replay_program(alloc, program, journal, shelf, out),
@@ -70,13 +70,12 @@ fn replay_program<F: Shelf, K: Sink>(
     out: &mut K,
 ) -> Result<u8, Halt>
     ensures ok { IfOk result (WritesWhole
-        (MayRun (plain_program program) (F.file shelf.old journal.now) (Rose (F.faults shelf.old) (F.faults shelf.new)))
-        (K.taken out.old) (K.taken out.new)) }
+        (MayRun (F.seen shelf.old) (F.seen shelf.new) (plain_program program) journal.now)
+        (K.seen out.old) (K.seen out.new)) }
     ensures err { IfErr result (EndsEarly
-        (MayRun (plain_program program) (F.file shelf.old journal.now) (Rose (F.faults shelf.old) (F.faults shelf.new)))
-        (K.taken out.old) (K.taken out.new) (K.faults out.old) (K.faults out.new)) }
-    ensures files { F.file shelf.new ≡ F.file shelf.old }
-    ensures later { F.faults shelf.old ≤ F.faults shelf.new }
+        (MayRun (F.seen shelf.old) (F.seen shelf.new) (plain_program program) journal.now)
+        (NoneFailed (F.seen shelf.old) (F.seen shelf.new)) (K.seen out.old) (K.seen out.new)) }
+    ensures files { (F.seen shelf.new).file ≡ (F.seen shelf.old).file }
 {
     let mut wire = JournalWire::new(shelf, journal);
     match drive(alloc, program, &mut wire, out) {

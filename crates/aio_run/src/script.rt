@@ -1,8 +1,8 @@
 //! A script of the shelf, or why there is none.
-ghost use Rattle.std.specs.Prelude.{◌≡◌, ◌≤◌, IfOk, IfErr, string_bytes};
-ghost use Rattle.model_straight.specs.Program.{FileSays};
+ghost use Rattle.std.specs.Prelude.{◌≡◌, IfOk, IfErr, OnOk, string_bytes};
 ghost use Rattle.model_straight.specs.Transcript.{line};
-ghost use Rattle.aio_run.specs.Outcome.{EndsEarly, WritesWhole};
+ghost use Rattle.model_machine.specs.Theorem.{WritesWhole};
+ghost use Rattle.aio_run.specs.Outcome.{EndsEarly};
 ghost use Rattle.aio_run.specs.Script.{SpellsScript, IsMissing, Tells, refusal_text};
 
 use crate::halt::Halt;
@@ -27,10 +27,10 @@ pub enum NoScript {
 
 /// Reads a script of the shelf. Of a text that is too long it holds a byte more than the longest has.
 pub fn read_script<F: Shelf>(alloc: Global, name: &str, shelf: &mut F) -> Result<Program, NoScript>
-    ensures script { IfOk result (SpellsScript (F.file shelf.old name.now)) }
-    ensures none { IfErr result (IsMissing (F.file shelf.old name.now) (F.faults shelf.old) (F.faults shelf.new)) }
-    ensures files { F.file shelf.new ≡ F.file shelf.old }
-    ensures later { F.faults shelf.old ≤ F.faults shelf.new }
+    ensures script { IfOk result (SpellsScript ((F.seen shelf.old).file name.now)) }
+    ensures kept { OnOk result (F.seen shelf.new ≡ F.seen shelf.old) }
+    ensures none { IfErr result (IsMissing name.now (F.seen shelf.old) (F.seen shelf.new)) }
+    ensures files { (F.seen shelf.new).file ≡ (F.seen shelf.old).file }
 {
     match read_front(alloc, shelf, name, FRONT) {
         Ok(text) => match read(alloc, text.as_slice()) {
@@ -45,9 +45,8 @@ pub fn read_script<F: Shelf>(alloc: Global, name: &str, shelf: &mut F) -> Result
 
 /// Writes why there is no script.
 pub fn refuse<K: Sink>(alloc: Global, none: NoScript, out: &mut K) -> Result<u8, Halt>
-    ensures ok { IfOk result (WritesWhole (Tells none) (K.taken out.old) (K.taken out.new)) }
-    ensures err { IfErr result (EndsEarly (Tells none) (K.taken out.old) (K.taken out.new) (K.faults out.old) (K.faults out.new)) }
-    ensures later { K.faults out.old ≤ K.faults out.new }
+    ensures ok { IfOk result (WritesWhole (Tells none) (K.seen out.old) (K.seen out.new)) }
+    ensures err { IfErr result (EndsEarly (Tells none) (none ≡ NoScript.Memory) (K.seen out.old) (K.seen out.new)) }
 {
     match none {
         NoScript::Refused { line, cause } => {

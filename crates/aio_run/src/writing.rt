@@ -1,6 +1,6 @@
 //! Writing to a sink.
-ghost use Rattle.std.specs.Prelude.{◌≡◌, ◌≤◌, OnOk, IfOk, IfErr};
-ghost use Rattle.model_wire.specs.Told.{grown};
+ghost use Rattle.std.specs.Prelude.{◌≡◌, OnOk, IfOk, IfErr};
+ghost use Rattle.model_wire.specs.Told.{took};
 ghost use Rattle.aio_run.specs.Writing.{StopsWriting};
 
 use crate::halt::Halt;
@@ -9,9 +9,8 @@ use std::alloc::Global;
 
 /// Hands all of a text to a sink. Where it stops before, the sink took a front of the text.
 pub fn write_all<K: Sink>(alloc: Global, out: &mut K, text: &[u8]) -> Result<(), Halt>
-    ensures ok { OnOk result (K.taken out.new ≡ grown (K.taken out.old) text.now) }
-    ensures err { IfErr result (StopsWriting text.now (K.taken out.old) (K.taken out.new) (K.faults out.old) (K.faults out.new)) }
-    ensures later { K.faults out.old ≤ K.faults out.new }
+    ensures ok { OnOk result (K.seen out.new ≡ took (K.seen out.old) text.now) }
+    ensures err { IfErr result (StopsWriting text.now (K.seen out.old) (K.seen out.new)) }
 {
     let mut rest = text;
     while !rest.is_empty() {
@@ -25,9 +24,8 @@ pub fn write_all<K: Sink>(alloc: Global, out: &mut K, text: &[u8]) -> Result<(),
 
 /// Writes a text, and answers this status.
 pub fn tell<K: Sink>(alloc: Global, text: &[u8], status: u8, out: &mut K) -> Result<u8, Halt>
-    ensures ok { IfOk result (λ told. (told ≡ status) × (K.taken out.new ≡ grown (K.taken out.old) text.now)) }
-    ensures err { IfErr result (StopsWriting text.now (K.taken out.old) (K.taken out.new) (K.faults out.old) (K.faults out.new)) }
-    ensures later { K.faults out.old ≤ K.faults out.new }
+    ensures ok { IfOk result (λ told. (told ≡ status) × (K.seen out.new ≡ took (K.seen out.old) text.now)) }
+    ensures err { IfErr result (StopsWriting text.now (K.seen out.old) (K.seen out.new)) }
 {
     write_all(alloc, out, text)?;
     Ok(status)
@@ -35,9 +33,8 @@ pub fn tell<K: Sink>(alloc: Global, text: &[u8], status: u8, out: &mut K) -> Res
 
 /// The same of a line.
 pub fn say<K: Sink>(alloc: Global, line: &str, status: u8, out: &mut K) -> Result<u8, Halt>
-    ensures ok { IfOk result (λ told. (told ≡ status) × (K.taken out.new ≡ grown (K.taken out.old) line.now)) }
-    ensures err { IfErr result (StopsWriting line.now (K.taken out.old) (K.taken out.new) (K.faults out.old) (K.faults out.new)) }
-    ensures later { K.faults out.old ≤ K.faults out.new }
+    ensures ok { IfOk result (λ told. (told ≡ status) × (K.seen out.new ≡ took (K.seen out.old) line.now)) }
+    ensures err { IfErr result (StopsWriting line.now (K.seen out.old) (K.seen out.new)) }
 {
     tell(alloc, line.as_bytes(), status, out)
 }

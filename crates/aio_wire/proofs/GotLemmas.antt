@@ -2,7 +2,8 @@
 use Rattle.std.proofs.Common.{◌≡◌, ℕ, zero, suc, ◌≤◌, List, [], ◌∷◌, ◌++◌, length, take, drop, Some, refl, sym, ap, ◌∙◌, arith, length-take, length-drop}
 use Rattle.std.proofs.lemmas.List.{take_min, take-append-drop}
 use Rattle.std.proofs.Math.Seq.{drop-nil}
-use Rattle.aio_wire.specs.Got.{got_of, FitsRead, ReadLeaves, ReadsAt, FailedIfRose}
+use Rattle.model_wire.specs.Told.{ShelfSeen}
+use Rattle.aio_wire.specs.Got.{got_of, FitsRead, ReadLeaves, ReadLeavesShelf, ReadsAt, FailedIfRose}
 use Rattle.aio_wire.specs.declared.source.SourceGot.{SourceGot}
 use Rattle.aio_wire.specs.declared.source.SourceGot.TheVariants.{Bytes, End}
 
@@ -31,6 +32,10 @@ ReadLeaves-got_of max left some =
 -- a read of bytes in memory never fails
 pub FailedIfRose-got_of : (before now : ℕ) (bytes : List ℕ) → FailedIfRose before now (got_of bytes)
 FailedIfRose-got_of before now bytes = got_of_cases (FailedIfRose before now) bytes (λ none. tt) (λ some. tt)
+
+-- and leaves a shelf as it was
+pub ReadLeavesShelf-got_of : (name : List ℕ) (old new : ShelfSeen) (bytes : List ℕ) → new ≡ old → ReadLeavesShelf name old new (got_of bytes)
+ReadLeavesShelf-got_of name old new bytes same = got_of_cases (ReadLeavesShelf name old new) bytes (λ none. same) (λ some. same)
 
 -- the bytes of a file from a place on
 pub ReadsAt-got_of : (all : List ℕ) (from max : ℕ) → 1 ≤ max → ReadsAt (Some all) from (got_of (take max (drop from all)))

@@ -1,5 +1,6 @@
--- What is told of a shelf's files after an append.
+-- What is seen of a shelf after an append.
 use Rattle.std.specs.Prelude.{◌≡◌, ◌≢◌, ℕ, List, ◌++◌, Option, Some, None, take}
+use Rattle.model_wire.specs.Told.{ShelfSeen, FileFailed, NoneFell}
 use Rattle.aio_wire.specs.declared.sink.SinkTook.{SinkTook}
 use Rattle.aio_wire.specs.declared.sink.SinkTook.TheVariants.{Took, Failed}
 
@@ -9,8 +10,9 @@ with_piece None piece = None
 with_piece (Some None) piece = Some (Some piece)
 with_piece (Some (Some held)) piece = Some (Some (held ++ piece))
 
--- the file's end has what was taken, and no other file changes
-abbrev pub Appends : List ℕ → List ℕ → (List ℕ → Option (Option (List ℕ))) → (List ℕ → Option (Option (List ℕ))) → SinkTook → Type 0
+-- the file's end has what was taken, and no other file changes; where it failed, none does
+abbrev pub Appends : List ℕ → List ℕ → ShelfSeen → ShelfSeen → SinkTook → Type 0
 Appends name piece old new (Took count) =
-    (new name ≡ with_piece (old name) (take count piece)) × ((other : List ℕ) → other ≢ name → new other ≡ old other)
-Appends name piece old new Failed = new ≡ old
+    (new.file name ≡ with_piece (old.file name) (take count piece))
+    × ((other : List ℕ) → other ≢ name → new.file other ≡ old.file other) × (new.faults ≡ old.faults)
+Appends name piece old new Failed = (new.file ≡ old.file) × FileFailed name old new × NoneFell old new

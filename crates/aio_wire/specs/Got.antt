@@ -1,6 +1,6 @@
 -- What a read may give.
 use Rattle.std.specs.Prelude.{◌≡◌, ℕ, ◌≤◌, List, [], ◌∷◌, ◌++◌, Option, Some, length, drop, take}
-use Rattle.model_wire.specs.Told.{Agrees, Rose}
+use Rattle.model_wire.specs.Told.{Agrees, Rose, ShelfSeen, FileFailed, NoneFell}
 use Rattle.aio_wire.specs.declared.source.SourceGot.{SourceGot}
 use Rattle.aio_wire.specs.declared.source.SourceGot.TheVariants.{Bytes, End, Failed}
 
@@ -34,3 +34,9 @@ ReadsAt held from (Bytes bytes) =
     (all : List ℕ) × (held ≡ Some all) × (bytes ≡ take (length bytes) (drop from all)) × (from ≤ length all)
 ReadsAt held from End = (all : List ℕ) × (held ≡ Some all) × (length all ≤ from)
 ReadsAt held from Failed = Unit {0}
+
+-- what a read of a file leaves of the shelf: all as it was, but where it failed
+abbrev pub ReadLeavesShelf : List ℕ → ShelfSeen → ShelfSeen → SourceGot → Type 0
+ReadLeavesShelf name old new (Bytes bytes) = new ≡ old
+ReadLeavesShelf name old new End = new ≡ old
+ReadLeavesShelf name old new Failed = FileFailed name old new × NoneFell old new

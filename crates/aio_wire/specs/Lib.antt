@@ -1,6 +1,10 @@
+pub mod EventList
+pub mod Events
 pub mod Files
 pub mod Got
+pub mod Port
 pub mod Replied
 pub mod Shelved
 pub mod Told
 pub mod Took
+pub mod Watched

@@ -6,6 +6,7 @@ use Rattle.std.specs.String.{string_bytes}
 use Rattle.std.specs.declared.alloc.Global.{Global}
 use Rattle.std.specs.declared.string.String.{String}
 use Rattle.std.specs.declared.vec.Vec.{Vec}
+use Rattle.model_wire.specs.Told.{ShelfSeen}
 use Rattle.aio_wire.specs.Got.{got_of}
 use Rattle.aio_wire.specs.declared.source.SourceGot.{SourceGot}
 use Rattle.aio_wire.specs.declared.source.SourceGot.TheVariants.{Failed}
@@ -19,6 +20,10 @@ pub record Shelved : Type 0 where
 -- the bytes of a file, or nothing where it is missing
 abbrev pub held : Shelved → List ℕ → Option (List ℕ)
 held shelf name = lookup (bytes_eq name) shelf.files
+
+-- what is seen of it: all that its files hold, and one count for all of them
+abbrev pub seen_of : Shelved → ShelfSeen
+seen_of shelf = record { file = λ name. Some (held shelf name); faults = λ name. shelf.missed }
 
 -- what a read from a place gives: as many bytes as are asked for and are left there
 abbrev pub got_at : Option (List ℕ) → ℕ → ℕ → SourceGot

@@ -1,15 +1,9 @@
 //! What the loop asks of the outside, and what it answers.
+use crate::lists::{ItemList, WatchList, WordList};
+use aio_base::Blob;
 
-/// A call of the loop on the outside.
-#[derive(Clone, Copy, Debug, PartialEq, Eq)]
-pub enum Call {
-    /// Waits for at most so many milliseconds, or without a bound.
-    Select { wait: Option<u64> },
-}
+/// What the loop asks of the outside.
+pub type Call = model_wire::Call<Blob, WatchList, WordList>;
 
 /// What the outside answers.
-#[derive(Clone, Copy, Debug, PartialEq, Eq)]
-pub enum Answer {
-    /// The answer to a select: the time in milliseconds.
-    Turn { now: u64 },
-}
+pub type Answer = model_wire::Answer<Blob, ItemList>;

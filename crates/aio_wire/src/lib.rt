@@ -3,22 +3,38 @@
 #![tactic(auto)]
 
 mod call;
+mod event;
+mod copying;
+mod fitting;
+mod lists;
 mod mem_shelf;
 mod mem_sink;
 mod mem_source;
+mod port;
 mod shelf;
 mod sink;
 mod source;
+mod stop;
 #[cfg(test)]
 mod tests;
 mod window;
 mod wire;
+mod writing;
 
+pub use aio_base::ChildItem;
 pub use call::{Answer, Call};
+pub use copying::{copy_of_answer, copy_of_call};
+pub use event::{Event, Events};
+pub use fitting::fits;
+pub use lists::{Item, ItemList, Watch, WatchList, WordList};
+pub use model_wire::Ready;
 pub use mem_shelf::MemShelf;
 pub use mem_sink::MemSink;
 pub use mem_source::MemSource;
+pub use port::Port;
 pub use shelf::Shelf;
 pub use sink::{Sink, SinkTook};
 pub use source::{Source, SourceGot};
+pub use stop::Stop;
 pub use wire::{JournalFault, Reply, Wire};
+pub use writing::{push_answer, push_call};

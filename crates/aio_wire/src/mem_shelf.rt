@@ -1,7 +1,7 @@
 //! A shelf in memory.
 ghost use Rattle.std.specs.Prelude.{◌≡◌, ◌≤◌, [], Some, length, IfOk, OnOk, OnErr};
 ghost use Rattle.std.specs.Option.{option_copied};
-ghost use Rattle.aio_wire.specs.Shelved.{held, files_of, got_at, missed_by, with_appended};
+ghost use Rattle.aio_wire.specs.Shelved.{held, files_of, got_at, missed_by, seen_of, with_appended};
 
 use crate::shelf::Shelf;
 use crate::sink::SinkTook;
@@ -50,9 +50,7 @@ impl MemShelf {
 }
 
 impl Shelf for MemShelf {
-    ghost faults = { λ shelf. shelf.missed };
-
-    ghost file = { λ shelf name. Some (held shelf name) };
+    ghost seen = { seen_of };
 
     fn read(
         &mut self,

@@ -36,9 +36,7 @@ impl MemSink {
 }
 
 impl Sink for MemSink {
-    ghost faults = { λ _. 0 };
-
-    ghost taken = { λ sink. Some sink };
+    ghost seen = { λ sink. record { taken = Some sink; faults = 0 } };
 
     fn write(&mut self, _alloc: Global, piece: &[u8]) -> Result<SinkTook, Memory>
         ensures whole { IfOk result (λ took. took ≡ SinkTook.Took (length piece.now)) }

@@ -79,7 +79,7 @@ module _ (limit : ℕ) (program : Program) (codes : ℕ → Body) where
     by_truth left _ =
         (rest, rests, record { here = (frames.frame.place + 1, stands.3); callers = callers }, λ tape exchanges. refl)
 
-    loop-keeps : Keeping (before_way Passing frames (then_loop test body rest) rests) (move_of program (Code frames) Passing frames)
+    loop-keeps : Keeping (before_way Passing frames (then_loop test body rest) rests) (move_of codes (Code frames) Passing frames)
     loop-keeps =
         op-keeps limit program codes frames (op.Repeat test stands.0) (before_way Passing frames (then_loop test body rest) rests)
         stands.2
@@ -94,7 +94,7 @@ module _ (limit : ℕ) (program : Program) (codes : ℕ → Body) where
   -- at the end of what a handler covers, its way out is taken
   leave-keeps : (frames : Frames) (handlers : List OpenHandler) (before : Meant limit program codes) →
       frames.frame.handlers ≡ handlers → Has (Code frames) frames.frame.place op.Leave →
-      Keeping before (way_out (Code frames) Passing handlers frames) → Keeping before (move_of program (Code frames) Passing frames)
+      Keeping before (way_out (Code frames) Passing handlers frames) → Keeping before (move_of codes (Code frames) Passing frames)
   leave-keeps frames handlers before are leaves keeps =
       op-keeps limit program codes frames op.Leave before leaves
       (subst (λ hs. Keeping before (way_out (Code frames) Passing hs frames)) (sym are) keeps)
@@ -131,7 +131,7 @@ module _ (limit : ℕ) (program : Program) (codes : ℕ → Body) where
 
     exit-keeps : (manager : Manager) → frames.frame.handlers ≡ AtExit entered way ∷ outer →
         Has (Code frames) frames.frame.place (exit_op manager) →
-        Keeping (before_exit manager) (move_of program (Code frames) Passing frames)
+        Keeping (before_exit manager) (move_of codes (Code frames) Passing frames)
     exit-keeps GroupBlock are has =
         op-keeps limit program codes frames op.ExitGroup (before_exit GroupBlock) has
         (subst (λ hs. Keeping (before_exit GroupBlock) (ask_exit request.GroupExit hs frames)) (sym are) (ask_exit-keeps GroupBlock))
@@ -144,9 +144,9 @@ module _ (limit : ℕ) (program : Program) (codes : ℕ → Body) where
   module _ (laid_out : AllLaidOut program codes) where
     passing-keeps : (frames : Frames) (rest : Rest) (rests : List Rest) →
         Stands frames frames.frame.place frames.frame.handlers rest → Callers frames rests →
-        Keeping (before_way Passing frames rest rests) (move_of program (Code frames) Passing frames)
+        Keeping (before_way Passing frames rest rests) (move_of codes (Code frames) Passing frames)
     passing-keeps frames at_end rests stands callers =
-        subst (λ o. Keeping (before_way Passing frames at_end rests) (after_op program (Code frames) o frames)) (sym stands.0)
+        subst (λ o. Keeping (before_way Passing frames at_end rests) (after_op codes (Code frames) o frames)) (sym stands.0)
         (ending-keeps limit program codes frames rests frames.frame.handlers stands.1 callers)
     passing-keeps frames (then_all no_statements rest) rests stands callers =
         passing-keeps frames rest rests (subst (λ n. Stands frames n frames.frame.handlers rest) stands.1 stands.2) callers
@@ -181,7 +181,7 @@ module _ (limit : ℕ) (program : Program) (codes : ℕ → Body) where
 
     -- whatever the way
     pub move-keeps : (way : Way) (frames : Frames) (rest : Rest) (rests : List Rest) → Stand program codes way frames rest rests →
-        Keeping (before_way way frames rest rests) (move_of program (Code frames) way frames)
+        Keeping (before_way way frames rest rests) (move_of codes (Code frames) way frames)
     move-keeps Passing frames rest rests stand = passing-keeps frames rest rests stand.here stand.callers
     move-keeps (Returning value) frames rest rests stand =
         returning-keeps limit program codes value frames rest rests stand.here.0 frames.frame.handlers stand.here.1 stand.callers

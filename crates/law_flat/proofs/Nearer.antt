@@ -5,7 +5,7 @@ use Rattle.std.proofs.lemmas.Option.{slice_get_within}
 use Rattle.std.proofs.Math.Nat.{mul-le-mul_right}
 use Rattle.model_value.specs.declared.request.Request.TheVariants as request
 use Rattle.model_value.specs.Value.{Value, Truth, Nothing, Exception, Exc}
-use Rattle.model_tree.specs.Syntax.{Name, exprs, Program}
+use Rattle.model_tree.specs.Syntax.{Name, exprs}
 use Rattle.model_says.specs.Requests.{requested}
 use Rattle.model_says.specs.Expressions.{value_of, values_of}
 use Rattle.law_flat.specs.declared.way.Way.TheVariants.{Passing, Returning, Raising}
@@ -121,7 +121,7 @@ ask_exit-lighter : (exit : _) (handlers : List OpenHandler) (before frames : Fra
 ask_exit-lighter exit (AtExit entered way ∷ outer) before frames = tt
 ask_exit-lighter exit _ before frames = tt
 
-module _ (program : Program) (before : Frames) (left : ℕ) (fewer : before.left ≡ suc left) where
+module _ (codes : ℕ → Body) (before : Frames) (left : ℕ) (fewer : before.left ≡ suc left) where
   abbrev begun : Frames
   begun = record before { left = left }
 
@@ -129,11 +129,11 @@ module _ (program : Program) (before : Frames) (left : ℕ) (fewer : before.left
   counted-less = omega (arith, fewer)
 
   call-lighter : (room : ℕ) (into : Option Name) (coroutine : ℕ) (arguments : List Value) →
-      Lighter before (call program room into coroutine arguments begun)
+      Lighter before (call codes room into coroutine arguments begun)
   call-lighter zero into coroutine arguments = omega (arith, fewer)
   call-lighter (suc room) into coroutine arguments = omega (arith, fewer)
 
-  statement-lighter : (operation : Op) → Lighter before (after_statement program operation begun)
+  statement-lighter : (operation : Op) → Lighter before (after_statement codes operation begun)
   statement-lighter (op.Assign name value) =
       given-lighter (value_of value before.frame.env) _ before begun counted-less
       (λ v. omega (arith, fewer))
@@ -173,14 +173,14 @@ module _ (program : Program) (before : Frames) (left : ℕ) (fewer : before.left
       given-lighter (value_of delay before.frame.env) _ before begun counted-less (λ d. tt)
   statement-lighter _ = tt
 
-module _ (program : Program) (code : Body) (forward : JumpsForward code) (size : ℕ) (within : length code.ops ≤ size) where
+module _ (codes : ℕ → Body) (code : Body) (forward : JumpsForward code) (size : ℕ) (within : length code.ops ≤ size) where
   counted-lighter : (operation : Op) (frames : Frames) (left : ℕ) → frames.left ≡ left →
-      Lighter frames (counted left (after_statement program operation) frames)
+      Lighter frames (counted left (after_statement codes operation) frames)
   counted-lighter operation frames zero h = tt
-  counted-lighter operation frames (suc left) h = statement-lighter program frames left h operation
+  counted-lighter operation frames (suc left) h = statement-lighter codes frames left h operation
 
   after_op-nearer : (operation : Option Op) (frames : Frames) → slice_get code.ops frames.frame.place ≡ operation →
-      Nearer size frames (after_op program code operation frames)
+      Nearer size frames (after_op codes code operation frames)
   after_op-nearer None frames is =
       lighter-nearer size frames _ (way_out-lighter code Passing frames frames.frame.handlers refl)
   after_op-nearer (Some (op.Jump to)) frames is =
@@ -196,13 +196,13 @@ module _ (program : Program) (code : Body) (forward : JumpsForward code) (size :
   after_op-nearer (Some operation) frames is =
       lighter-nearer size frames _ (counted-lighter operation frames frames.left refl)
 
-  move-nearer : (way : Way) (frames : Frames) → Nearer size frames (move_of program code way frames)
+  move-nearer : (way : Way) (frames : Frames) → Nearer size frames (move_of codes code way frames)
   move-nearer Passing frames = after_op-nearer (slice_get code.ops frames.frame.place) frames refl
   move-nearer (Returning value) frames =
       lighter-nearer size frames _ (way_out-lighter code (Returning value) frames frames.frame.handlers refl)
   move-nearer (Raising fault) frames =
       lighter-nearer size frames _ (way_out-lighter code (Raising fault) frames frames.frame.handlers refl)
 
-  pub goes-nearer : (way next : Way) (frames after : Frames) → move_of program code way frames ≡ Goes next after →
+  pub goes-nearer : (way next : Way) (frames after : Frames) → move_of codes code way frames ≡ Goes next after →
       distance size after < distance size frames
   goes-nearer way next frames after h = subst (Nearer size frames) h (move-nearer way frames)

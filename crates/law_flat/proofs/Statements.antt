@@ -1,10 +1,10 @@
 -- The first move of each statement keeps what is meant.
-use Rattle.std.proofs.Common.{◌≡◌, ℕ, zero, suc, ◌+◌, true, false, List, ◌∷◌, Option, Some, None, Result, Ok, Err, refl, sym, ap, subst}
+use Rattle.std.proofs.Common.{◌≡◌, ℕ, zero, suc, ◌+◌, true, false, List, [], ◌∷◌, Option, Some, None, Result, Ok, Err, refl, sym, ap, subst}
 use Rattle.model_value.specs.declared.request.Request.TheVariants as request
 use Rattle.model_value.specs.Request.{Request}
 use Rattle.model_value.specs.Value.{Value, Truth, Exception, Exc}
 use Rattle.model_tree.specs.Syntax.{Name, Expr, Exprs, no_exprs, expr_then, exprs, exprs_of, Target, Await, Call, Ask, SpawnTask, CreateTask, ListenAt, Manager, GroupBlock, TimeoutBlock, Statement, Assign, Yield, YieldFrom, Print, Raise, Return, Pass, If, While, Try, With, Statements, statement_then, Branch, Handlers, Program}
-use Rattle.model_says.specs.Variables.{held}
+use Rattle.model_says.specs.Variables.{held, bound}
 use Rattle.model_says.specs.Requests.{requested, place_of, coroutine_at}
 use Rattle.model_says.specs.Expressions.{value_of, values_of}
 use Rattle.model_says.specs.Endings.{Runaway, Passes, Next, saying_of, given, all_valued, chosen, begun, begun_with, assign_to, ask}
@@ -14,7 +14,7 @@ use Rattle.law_flat.specs.declared.op.Op.TheVariants as op
 use Rattle.law_flat.specs.Ops.{Op, Body, Has}
 use Rattle.law_flat.specs.Laid.{target_op, Laid}
 use Rattle.law_flat.specs.Rests.{body_of, Rest, at_end, then_all, then_loop, then_jump, in_try, ignored, assigned_to, entering}
-use Rattle.law_flat.specs.Moves.{Frames, Move, counted, with_given, with_values, ask_into, by_test, raise_value, call, after_op, move_of}
+use Rattle.law_flat.specs.Moves.{Frames, Move, Goes, counted, with_given, with_values, ask_into, by_test, raise_value, call, at_next, after_op, move_of}
 use Rattle.law_flat.specs.Stands.{LaidOut, AllLaidOut, callers_of, progress_at, meaning}
 use Rattle.law_flat.proofs.Endings.{run_branch-body, ending_of_all-stop}
 use Rattle.law_flat.proofs.WaysOut.{code_of, calls_of, StandsIn, AllStand, Meant, KeepsIt, meant_by, meant_next, branch-laid}
@@ -40,10 +40,10 @@ module _ (limit : ℕ) (program : Program) (codes : ℕ → Body) where
   -- the operation at the place is done
   pub op-keeps : (frames : Frames) (operation : Op) (before : Meant limit program codes) →
       Has (Code frames) frames.frame.place operation →
-      KeepsIt limit program codes before (after_op program (Code frames) (Some operation) frames) →
-      KeepsIt limit program codes before (move_of program (Code frames) Passing frames)
+      KeepsIt limit program codes before (after_op codes (Code frames) (Some operation) frames) →
+      KeepsIt limit program codes before (move_of codes (Code frames) Passing frames)
   op-keeps frames operation before has keeps =
-      subst (λ o. KeepsIt limit program codes before (after_op program (Code frames) o frames)) (sym has) keeps
+      subst (λ o. KeepsIt limit program codes before (after_op codes (Code frames) o frames)) (sym has) keeps
 
   -- ---- counts, values and answers
   module _ (rest : Rest) (rests : List Rest) where
@@ -87,12 +87,12 @@ module _ (limit : ℕ) (program : Program) (codes : ℕ → Body) where
     StatementKeeps statement =
         KeepsIt limit program codes
         (meant_by limit program codes Passing frames (then_all (statement_then statement others) rest) rests)
-        (move_of program (Code frames) Passing frames)
+        (move_of codes (Code frames) Passing frames)
 
     statement-keeps : (operation : Op) (statement : Statement) → Has (Code frames) frames.frame.place operation →
         KeepsIt limit program codes
         (meant_by limit program codes Passing frames (then_all (statement_then statement others) rest) rests)
-        (after_op program (Code frames) (Some operation) frames) → StatementKeeps statement
+        (after_op codes (Code frames) (Some operation) frames) → StatementKeeps statement
     statement-keeps operation statement has keeps =
         op-keeps frames operation
         (meant_by limit program codes Passing frames (then_all (statement_then statement others) rest) rests) has keeps
@@ -171,15 +171,26 @@ module _ (limit : ℕ) (program : Program) (codes : ℕ → Body) where
         call-keeps : (coroutine : ℕ) → LaidOut program codes coroutine → (room left : ℕ) (values : List Value) →
             let f = record frames { left = left; room = room } in
             Means (λ now. came_back frames.frame.env Assigned (call_within limit program room coroutine values now)) f behind rests
-            (call program room into coroutine values f)
+            (call codes room into coroutine values f)
         call-keeps coroutine laid_out zero left values =
             (behind, rests, record { here = (frames.frame.place + 1, next); callers = callers }, λ tape exchanges. refl)
-        call-keeps coroutine laid_out (suc room) left values = (
-          then_all (coroutine_at program coroutine).body at_end,
-          behind ∷ rests,
-          record { here = (laid_out.end, laid_out.body, (laid_out.ends, refl)); callers = (next, callers) },
-          λ tape exchanges. refl,
-        )
+        call-keeps coroutine laid_out (suc room) left values =
+            subst
+            (λ (variables : List Name).
+            let f = record frames { left = left; room = suc room } in
+            Means (λ now. came_back frames.frame.env Assigned (call_within limit program (suc room) coroutine values now)) f behind rests
+            (Goes Passing (record f {
+              frame = record { coroutine = coroutine; place = 0; handlers = []; env = bound variables values; into = into };
+              callers = (at_next f).frame ∷ f.callers;
+              room = room;
+            })))
+            (sym laid_out.variables)
+            (
+              then_all (coroutine_at program coroutine).body at_end,
+              behind ∷ rests,
+              record { here = (laid_out.end, laid_out.body, (laid_out.ends, refl)); callers = (next, callers) },
+              λ tape exchanges. refl,
+            )
 
         target-keeps : AllLaidOut program codes → (target : Target) →
             Has (Code frames) frames.frame.place (target_op program into target) → StatementKeeps (YieldFrom into target)

@@ -1,20 +1,22 @@
 -- Input by input, flat code says what the coroutine says after its tape.
-use Rattle.std.proofs.Common.{◌≡◌, ℕ, Bool, List, [], ◌∷◌, ◌++◌, refl, sym, ◌∙◌, ap, append_assoc, append-nil}
+use Rattle.std.proofs.Common.{◌≡◌, ℕ, Bool, List, [], ◌∷◌, ◌++◌, None, refl, sym, ◌∙◌, ap, subst, append_assoc, append-nil}
 use Rattle.model_value.specs.declared.input.Input.TheVariants.{Send, Throw}
 use Rattle.model_value.specs.declared.request.Request.TheVariants as request
 use Rattle.model_value.specs.Input.{Input}
 use Rattle.model_value.specs.Request.{Request}
 use Rattle.model_value.specs.Value.{Value}
-use Rattle.model_tree.specs.Syntax.{Program}
+use Rattle.model_tree.specs.Syntax.{Name, Program}
+use Rattle.model_says.specs.Variables.{bound, variables_of}
 use Rattle.model_says.specs.Requests.{coroutine_at}
 use Rattle.model_says.specs.Tape.{Resumed, Tape}
 use Rattle.model_says.specs.Endings.{Exchange, Asks as Asked, Passes, saying_of, ask}
 use Rattle.model_says.specs.Says.{course}
+use Rattle.law_flat.specs.declared.answer_use.AnswerUse.TheVariants.{Ignored}
 use Rattle.law_flat.specs.Ops.{Body}
 use Rattle.law_flat.specs.Rests.{Way, ending_by, then_all, at_end, ignored}
 use Rattle.law_flat.specs.Moves.{Frames, Move, Goes, Asks, Says, move_of}
 use Rattle.law_flat.specs.Stands.{AllLaidOut, Keeps, meaning, progress_at, callers_of}
-use Rattle.law_flat.specs.Tapes.{Waiting, unbegun_frames, unbegun_waiting, way_of, after_input, renewed_by, said, MovesFor, WaitsFor, ComesTo}
+use Rattle.law_flat.specs.Tapes.{Waiting, unbegun_waiting, way_of, after_input, renewed_by, said, MovesFor, WaitsFor, ComesTo}
 use Rattle.law_flat.proofs.Endings.{ending_of_all-stop}
 use Rattle.law_flat.proofs.Moves.{move-keeps, answer-keeps, waits-somewhere}
 
@@ -76,22 +78,31 @@ module _ (limit : ℕ) (program : Program) (codes : ℕ → Body) (coroutine : �
                 ∙ waits.goes_on (resumed ∷ more);
           }
 
+  -- the first frame with these variables
+  abbrev first_frames : List Name → Frames
+  first_frames variables = record {
+    frame = record { coroutine = coroutine; place = 0; handlers = []; env = bound variables arguments; into = None };
+    callers = [];
+    room = 63;
+    left = limit;
+  }
+
   -- what is said along inputs is what the frames say that have not begun
   abbrev SaysUnbegun : Tape → Type 0
   SaysUnbegun more =
       said limit program codes coroutine arguments more
       ≡ saying_of
-      (meaning limit program (unbegun_frames limit program coroutine arguments)
+      (meaning limit program (first_frames (variables_of (coroutine_at program coroutine)))
       (then_all (coroutine_at program coroutine).body at_end) []
       (ask limit request.Pause (λ answer. Passes)
-      (progress_at (unbegun_frames limit program coroutine arguments) more [])))
+      (progress_at (first_frames (variables_of (coroutine_at program coroutine))) more [])))
 
   module _ (laid_out : AllLaidOut program codes) where
     -- before any input it waits as after a bare `yield`
-    pub unbegun-waits : WaitsFor limit program codes coroutine arguments [] request.Pause
-        (unbegun_waiting limit program coroutine arguments)
+    first-waits : WaitsFor limit program codes coroutine arguments [] request.Pause
+        (record { frames = first_frames (variables_of (coroutine_at program coroutine)); use_of = Ignored })
     unfolding course
-    unbegun-waits = record {
+    first-waits = record {
       rest = then_all (coroutine_at program coroutine).body at_end;
       rests = [];
       wait = ignored;
@@ -106,17 +117,25 @@ module _ (limit : ℕ) (program : Program) (codes : ℕ → Body) (coroutine : �
         by_input : (input : Input) (fresh : Bool) (more : Tape) → SaysUnbegun (record { input = input; fresh = fresh } ∷ more)
         by_input (Send value) fresh more = refl
         by_input (Throw fault) fresh more = refl
-
         same : (more : Tape) → SaysUnbegun more
         same [] = refl
         same (entry ∷ more) = by_input entry.input entry.fresh more
 
+    pub unbegun-waits : WaitsFor limit program codes coroutine arguments [] request.Pause
+        (unbegun_waiting limit codes coroutine arguments)
+    unbegun-waits =
+        subst
+        (λ (variables : List Name).
+        WaitsFor limit program codes coroutine arguments [] request.Pause
+        (record { frames = first_frames variables; use_of = Ignored }))
+        (sym (laid_out coroutine).variables) first-waits
+
     -- after a move it stands for the same inputs
     pub move-comes : (tape : Tape) (way : Way) (frames : Frames) →
         MovesFor limit program codes coroutine arguments tape way frames →
-        ComesTo limit program codes coroutine arguments tape (move_of program (codes frames.frame.coroutine) way frames)
+        ComesTo limit program codes coroutine arguments tape (move_of codes (codes frames.frame.coroutine) way frames)
     move-comes tape way frames moves =
-        by_move (move_of program (codes frames.frame.coroutine) way frames)
+        by_move (move_of codes (codes frames.frame.coroutine) way frames)
         (move-keeps limit program codes laid_out way frames moves.rest moves.rests moves.stand)
       where
         by_move : (move : Move) →

@@ -5,10 +5,10 @@ use Rattle.model_value.specs.Kinds.{matches}
 use Rattle.model_value.specs.declared.request.Request.TheVariants as request
 use Rattle.model_value.specs.Request.{Request}
 use Rattle.model_value.specs.Value.{Value, Nothing, Truth, Exception, Exc, kind_of}
-use Rattle.model_tree.specs.Syntax.{Name, Expr, exprs, Program}
-use Rattle.model_says.specs.Variables.{Env, held, assigned, entered}
+use Rattle.model_tree.specs.Syntax.{Name, Expr, exprs}
+use Rattle.model_says.specs.Variables.{Env, held, assigned, bound}
 use Rattle.model_says.specs.Operations.{bad_operand}
-use Rattle.model_says.specs.Requests.{requested, coroutine_at}
+use Rattle.model_says.specs.Requests.{requested}
 use Rattle.model_says.specs.Expressions.{value_of, values_of}
 use Rattle.model_says.specs.Endings.{Saying, Runaway, Returns, Raises}
 use Rattle.model_says.specs.Says.{too_many_frames}
@@ -170,14 +170,15 @@ after_answer (AssignedTo into) value frames = with_variable into value frames
 after_answer (Entered name number) value frames =
     with_variable (Some name) value (with_handlers (InWith number value ∷ frames.frame.handlers) frames)
 
-module _ (program : Program) where
+-- the code of the program's coroutines, by their places
+module _ (codes : ℕ → Body) where
   -- the frame of a call of a coroutine, for these arguments
   abbrev pub new_frame : Option Name → ℕ → List Value → Frame
   new_frame into coroutine arguments = record {
     coroutine = coroutine;
     place = 0;
     handlers = [];
-    env = entered (coroutine_at program coroutine) arguments;
+    env = bound (codes coroutine).variables arguments;
     into = into;
   }
 

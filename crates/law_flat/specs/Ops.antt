@@ -15,10 +15,11 @@ Clause = clause.Clause Name
 abbrev pub Range : Type 0
 Range = range.Range (List Clause)
 
--- the code of a coroutine's body
+-- the code of a coroutine: that of its body, and its variables, the parameters first
 pub record Body : Type 0 where
   pub ops : List Op
   pub ranges : List Range
+  pub variables : List Name
 
 -- this operation stands at a place
 abbrev pub Has : Body → ℕ → Op → Type 0

@@ -2,6 +2,7 @@
 use Rattle.std.specs.Prelude.{◌≡◌, ℕ, ◌+◌, List, [], ◌∷◌, Option, None, slice_get}
 use Rattle.model_value.specs.Request.{Request}
 use Rattle.model_tree.specs.Syntax.{Name, Program}
+use Rattle.model_says.specs.Variables.{variables_of}
 use Rattle.model_says.specs.Requests.{coroutine_at}
 use Rattle.model_says.specs.Tape.{Tape}
 use Rattle.model_says.specs.Endings.{Exchange, Progress, Ending, saying_of, ask}
@@ -78,11 +79,12 @@ module _ (program : Program) (codes : ℕ → Body) where
     pub here : StandsAt program (codes frames.frame.coroutine) use_of wait frames.frame.place frames.frame.handlers rest
     pub callers : StandAll frames.callers rests
 
-  -- the code of a coroutine is its body
+  -- the code of a coroutine is that of its body, with its variables
   pub record LaidOut (coroutine : ℕ) : Type 0 where
     pub end : ℕ
     pub body : LaidAll program (codes coroutine) (coroutine_at program coroutine).body 0 end
     pub ends : slice_get (codes coroutine).ops end ≡ None
+    pub variables : (codes coroutine).variables ≡ variables_of (coroutine_at program coroutine)
 
   abbrev pub AllLaidOut : Type 0
   AllLaidOut = (coroutine : ℕ) → LaidOut coroutine

@@ -22,13 +22,13 @@ pub record Waiting : Type 0 where
   pub use_of : AnswerUse
 
 -- Before its first input a coroutine waits as after a bare `yield`. It may open 63 frames more.
-abbrev pub unbegun_frames : (limit : ℕ) → Program → ℕ → List Value → Frames
-unbegun_frames limit program coroutine arguments =
-    record { frame = new_frame program None coroutine arguments; callers = []; room = 63; left = limit }
+abbrev pub unbegun_frames : (limit : ℕ) → (ℕ → Body) → ℕ → List Value → Frames
+unbegun_frames limit codes coroutine arguments =
+    record { frame = new_frame codes None coroutine arguments; callers = []; room = 63; left = limit }
 
-abbrev pub unbegun_waiting : (limit : ℕ) → Program → ℕ → List Value → Waiting
-unbegun_waiting limit program coroutine arguments =
-    record { frames = unbegun_frames limit program coroutine arguments; use_of = Ignored }
+abbrev pub unbegun_waiting : (limit : ℕ) → (ℕ → Body) → ℕ → List Value → Waiting
+unbegun_waiting limit codes coroutine arguments =
+    record { frames = unbegun_frames limit codes coroutine arguments; use_of = Ignored }
 
 abbrev pub way_of : Input → Way
 way_of (Send value) = Passing

@@ -17,7 +17,7 @@ ghost use Rattle.law_flat.specs.Nearer.{JumpsForward, distance};
 pub fn frames_begin_as_the_coroutine()
     ensures { (limit : ℕ) (program : Program) (codes : ℕ → Body) (coroutine : ℕ) (arguments : List Value) →
         AllLaidOut program codes →
-        WaitsFor limit program codes coroutine arguments [] Pause (unbegun_waiting limit program coroutine arguments) }
+        WaitsFor limit program codes coroutine arguments [] Pause (unbegun_waiting limit codes coroutine arguments) }
 {}
 
 /// What frames wait for is what the coroutine asks.
@@ -44,14 +44,14 @@ pub fn a_move_comes_to_what_the_coroutine_does()
         (tape : Tape) (way : Way) (frames : Frames) →
         MovesFor limit program codes coroutine arguments tape way frames →
         ComesTo limit program codes coroutine arguments tape
-        (move_of program (codes frames.frame.coroutine) way frames) }
+        (move_of codes (codes frames.frame.coroutine) way frames) }
 {}
 
 /// Moves come to an end: where a move goes on, the end is nearer.
 pub fn moves_come_to_an_end()
-    ensures { (program : Program) (code : Body) (size : ℕ) →
+    ensures { (codes : ℕ → Body) (code : Body) (size : ℕ) →
         JumpsForward code → length code.ops ≤ size →
         (way next : Way) (frames after : Frames) →
-        move_of program code way frames ≡ Goes next after →
+        move_of codes code way frames ≡ Goes next after →
         distance size after < distance size frames }
 {}

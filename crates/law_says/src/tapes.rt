@@ -1,5 +1,5 @@
 //! Laws of what coroutines say. Each function has no body: its clause is the law.
-ghost use Rattle.std.specs.Prelude.{◌≡◌, ℕ, List, [], ◌∷◌, ◌++◌};
+ghost use Rattle.std.specs.Prelude.{◌≡◌, ℕ, ◌+◌, ◌*◌, ◌≤◌, List, [], ◌∷◌, ◌++◌, length};
 ghost use Rattle.model_value.specs.Request.{Request};
 ghost use Rattle.model_value.specs.Value.{Value};
 ghost use Rattle.model_tree.specs.Syntax.{Expr, Program, Statements, While, If, no_branch, statements, statements_of};
@@ -7,6 +7,7 @@ ghost use Rattle.model_says.specs.Asked.{IsFront, asked, waiting, answers_of, in
 ghost use Rattle.model_says.specs.Endings.{Asks, Progress, saying_of, progress_of};
 ghost use Rattle.model_says.specs.Says.{course, call_within, run};
 ghost use Rattle.model_says.specs.Tape.{Tape};
+ghost use Rattle.law_says.specs.Steps.{steps_in};
 
 /// What a coroutine asks along a tape it asks first along any longer one: more inputs change nothing of what was asked.
 pub fn longer_tapes_ask_the_same_first()
@@ -30,6 +31,13 @@ pub fn requests_take_the_inputs_in_order()
         let ending = course limit program place arguments tape in
         saying_of ending ≡ Asks request →
         answers_of (progress_of ending).exchanges ≡ inputs_of tape }
+{}
+
+/// Each statement asks twice at most, as a `with` does. So a request that waits has no more answers before it than twice the
+/// statements that the steps so far may have begun, and one for the beginning.
+pub fn requests_are_bounded()
+    ensures { (limit : ℕ) (program : Program) (place : ℕ) (arguments : List Value) (tape : Tape) (request : Request) →
+        saying_of (course limit program place arguments tape) ≡ Asks request → length tape ≤ 1 + 2 * (limit * (steps_in tape + 1)) }
 {}
 
 /// A loop is its test, and where that is True its body and then the loop: that its turns have a bound decides nothing.

@@ -1,1 +1,14 @@
+pub mod Arguments
+pub mod Extra
+pub mod Mids
+pub mod Outcomes
+pub mod Outside
+pub mod Replies
+pub mod Run
+pub mod State
+pub mod Step
+pub mod Theorem
+pub mod Told
+pub mod Turn
+pub mod Went
 pub mod Words

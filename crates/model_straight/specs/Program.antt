@@ -8,17 +8,15 @@ use Rattle.model_text.specs.FirstPass.{Fault}
 use Rattle.model_text.specs.Scripts.{script_of}
 use Rattle.model_text.specs.SecondPass.{Judged}
 use Rattle.model_straight.specs.Straight.{Line}
+use Rattle.model_wire.specs.Call.{Call}
 use Rattle.model_wire.specs.Journal.{Entry, entries_of}
-use Rattle.model_straight.specs.Run.{Run, run}
+use Rattle.model_wire.specs.Told.{ShelfSeen, FileFailed, NoneFailed}
+use Rattle.model_machine.specs.Theorem.{Output}
+use Rattle.model_straight.specs.Run.{Run, Over, run}
 use Rattle.model_straight.specs.State.{Event}
 use Rattle.model_straight.specs.StraightScripts.{straight_of}
 use Rattle.model_straight.specs.Transcript.{line, lines_of_events, transcript, status_of}
 use Rattle.model_machine.specs.Words.{Command, Check, Replay}
-
--- all that is written, and the exit status
-pub record Output : Type 0 where
-  pub text : List ℕ
-  pub status : ℕ
 
 -- how many turns a run makes at most
 abbrev pub turn_limit : ℕ
@@ -63,41 +61,48 @@ JournalBegins None had = Unit {0}
 JournalBegins (Some None) had = had ≡ []
 JournalBegins (Some (Some held)) had = (rest : List Entry) × (had ++ rest ≡ entries_of held)
 
--- What a program's replay may write: its whole run over what the journal says, or, where the shelf failed, its run over
--- the answers had so far, and then the fault's line.
-abbrev pub MayRun : List Line → Option (Option (List ℕ)) → Type 0 → Output → Type 0
-MayRun program journal failed output =
-    ((entries : List Entry) × JournalSays journal entries × (output ≡ output_of (run program entries turn_limit)))
-    ⊎ ((had : List Entry) × JournalBegins journal had × failed × (output ≡ faulted (run program had turn_limit).events))
+-- a run asked for an answer behind the last one
+abbrev pub IsOver : Run → Type 0
+IsOver run = (call : Call) × (run.ending ≡ Over call)
+
+-- What a program's replay may write. Where no file failed, its whole run over what the journal says. Where the journal
+-- failed, the run over the answers had so far was over at the call that failed: its lines, and then the fault's.
+abbrev pub MayRun : ShelfSeen → ShelfSeen → List Line → (journal : List ℕ) → Output → Type 0
+MayRun old new program journal output =
+    (NoneFailed old new × (entries : List Entry) × JournalSays (old.file journal) entries
+    × (output ≡ output_of (run program entries turn_limit)))
+    ⊎ (FileFailed journal old new × (had : List Entry) × JournalBegins (old.file journal) had
+    × IsOver (run program had turn_limit) × (output ≡ faulted (run program had turn_limit).events))
 
 -- A script's replay, by whether it is a straight program: others don't run so far.
-abbrev pub MayRunIf : Option (List Line) → Option (Option (List ℕ)) → Type 0 → Output → Type 0
-MayRunIf None journal failed output = output ≡ not_run
-MayRunIf (Some program) journal failed output = MayRun program journal failed output
+abbrev pub MayRunIf : ShelfSeen → ShelfSeen → Option (List Line) → (journal : List ℕ) → Output → Type 0
+MayRunIf old new None journal output = NoneFailed old new × (output ≡ not_run)
+MayRunIf old new (Some program) journal output = MayRun old new program journal output
 
 -- by what the text of the script spells
-abbrev pub MayRunScript : Judged Program → Option (Option (List ℕ)) → Type 0 → Output → Type 0
-MayRunScript (Err fault) journal failed output = output ≡ script_refused fault
-MayRunScript (Ok script) journal failed output = MayRunIf (straight_of script) journal failed output
+abbrev pub MayRunScript : ShelfSeen → ShelfSeen → Judged Program → (journal : List ℕ) → Output → Type 0
+MayRunScript old new (Err fault) journal output = NoneFailed old new × (output ≡ script_refused fault)
+MayRunScript old new (Ok script) journal output = MayRunIf old new (straight_of script) journal output
 
--- A replay: where the shelf failed before the script was read, the fault's line alone.
-abbrev pub MayReplay : Option (Option (List ℕ)) → Option (Option (List ℕ)) → Type 0 → Output → Type 0
-MayReplay script journal failed output =
-    (failed × (output ≡ faulted []))
-    ⊎ ((text : List ℕ) × FileSays script text × MayRunScript (script_of text) journal failed output)
+-- A replay. Where the script failed, the fault's line alone.
+abbrev pub MayReplay : ShelfSeen → ShelfSeen → (script journal : List ℕ) → Output → Type 0
+MayReplay old new script journal output =
+    (FileFailed script old new × (output ≡ faulted []))
+    ⊎ ((text : List ℕ) × FileSays (old.file script) text × MayRunScript old new (script_of text) journal output)
 
 -- the canonical text of a script, or why it is none
 abbrev pub checked : Judged Program → Output
 checked (Ok script) = record { text = canonical script; status = 0 }
 checked (Err fault) = script_refused fault
 
--- A check: where the shelf failed, the fault's line alone.
-abbrev pub MayCheck : Option (Option (List ℕ)) → Type 0 → Output → Type 0
-MayCheck script failed output =
-    (failed × (output ≡ faulted [])) ⊎ ((text : List ℕ) × FileSays script text × (output ≡ checked (script_of text)))
+-- A check. Where the script failed, the fault's line alone.
+abbrev pub MayCheck : ShelfSeen → ShelfSeen → (script : List ℕ) → Output → Type 0
+MayCheck old new script output =
+    (FileFailed script old new × (output ≡ faulted []))
+    ⊎ (NoneFailed old new × (text : List ℕ) × FileSays (old.file script) text × (output ≡ checked (script_of text)))
 
--- What may be written for words, by what the shelf tells of its files, and whether it failed.
-abbrev pub MayWrite : (List ℕ → Option (Option (List ℕ))) → Type 0 → Option Command → Output → Type 0
-MayWrite files failed None output = output ≡ words_refused
-MayWrite files failed (Some (Check script)) output = MayCheck (files script) failed output
-MayWrite files failed (Some (Replay script journal)) output = MayReplay (files script) (files journal) failed output
+-- What may be written for words, by what is seen of the shelf before and after.
+abbrev pub MayWrite : ShelfSeen → ShelfSeen → Option Command → Output → Type 0
+MayWrite old new None output = NoneFailed old new × (output ≡ words_refused)
+MayWrite old new (Some (Check script)) output = MayCheck old new script output
+MayWrite old new (Some (Replay script journal)) output = MayReplay old new script journal output

@@ -5,7 +5,9 @@ use Rattle.model_value.specs.declared.action.Action.TheVariants.{Step, StepInCir
 use Rattle.model_value.specs.declared.input.Input.TheVariants.{Send, Throw}
 use Rattle.model_value.specs.Value.{Nothing}
 use Rattle.model_value.specs.declared.outcome.Outcome.TheVariants.{Value as Returned}
-use Rattle.model_wire.specs.Call.{Call, Select, Answer, Turn}
+use Rattle.model_wire.specs.declared.answer.Answer.TheVariants.{Turn}
+use Rattle.model_wire.specs.declared.call.Call.TheVariants.{Select}
+use Rattle.model_wire.specs.Call.{Call, Answer}
 use Rattle.model_loop.specs.Parts.{Parts, Handle, Timer}
 use Rattle.model_loop.specs.Circles.{circle_fault}
 use Rattle.model_loop.specs.Handles.{due}
@@ -37,7 +39,7 @@ wait_of p = wait_with p.pending p
 
 -- what a turn asks first
 abbrev pub call_of : State → Call
-call_of s = Select (wait_of s.parts)
+call_of s = Select (wait_of s.parts) []
 
 -- what a handle does
 abbrev pub effect : Action → State → State
@@ -71,7 +73,8 @@ abbrev pub at_time : ℕ → Parts → Parts
 at_time now p = record p { time = max p.time now }
 
 abbrev pub time_of : Answer → ℕ
-time_of (Turn now) = now
+time_of (Turn now items) = now
+time_of _ = 0
 
 -- the time goes on, and timers fall due
 abbrev pub woken : Answer → State → State

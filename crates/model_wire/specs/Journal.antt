@@ -3,7 +3,8 @@ use Rattle.std.specs.Prelude.{ℕ, ◌+◌, List, [], ◌∷◌, Option, Some, N
 use Rattle.std.specs.List.{starts_with}
 use Rattle.model_value.specs.Lines.{lines_of}
 use Rattle.model_value.specs.Number.{number_of}
-use Rattle.model_wire.specs.Call.{Answer, Turn}
+use Rattle.model_wire.specs.declared.answer.Answer.TheVariants.{Turn}
+use Rattle.model_wire.specs.Call.{Answer}
 
 -- a line as the run meets it: an answer, or a line that is none, with its number from 1 and the cause
 pub data Entry : Type 0 where
@@ -16,7 +17,7 @@ no_entry = 9
 
 abbrev pub entry_with : ℕ → Option ℕ → Entry
 entry_with number None = Refused number no_entry
-entry_with number (Some now) = Answered (Turn now)
+entry_with number (Some now) = Answered (Turn now [])
 
 -- what a line with this number says
 abbrev pub entry_of : ℕ → List ℕ → Entry

@@ -4,7 +4,8 @@ use Rattle.model_value.specs.declared.action.Action.TheVariants.{Step, Wakeup, S
 use Rattle.model_value.specs.Number.{most}
 use Rattle.model_value.specs.Value.{Value, Text, Int}
 use Rattle.model_straight.specs.Straight.{Line, Pass, Print, Sleep}
-use Rattle.model_wire.specs.Call.{Select, Turn}
+use Rattle.model_wire.specs.declared.answer.Answer.TheVariants.{Turn}
+use Rattle.model_wire.specs.declared.call.Call.TheVariants.{Select}
 use Rattle.model_straight.specs.State.{Event, Called, Got, Ran, Said}
 use Rattle.model_straight.specs.Step.{shown_all}
 
@@ -19,7 +20,7 @@ print_and_sleep = Print two_items ∷ Sleep 10 ∷ Print (Text (codes "b") ∷ [
 
 -- a call and its answer: how long is waited at most, and the time
 abbrev pub waits : (wait now : ℕ) → List Event → List Event
-waits wait now rest = Called (Select (Some wait)) ∷ Got (Turn now) ∷ rest
+waits wait now rest = Called (Select (Some wait) []) ∷ Got (Turn now []) ∷ rest
 
 abbrev pub says_b : List Event → List Event
 says_b rest = Said 0 (codes "b") ∷ rest
@@ -33,7 +34,7 @@ print_and_sleep_events =
 
 -- one turn, and the call of the second
 abbrev pub print_and_sleep_cut : List Event
-print_and_sleep_cut = waits 0 0 (Ran (Step 0) ∷ Said 0 (shown_all two_items) ∷ Called (Select (Some 10)) ∷ [])
+print_and_sleep_cut = waits 0 0 (Ran (Step 0) ∷ Said 0 (shown_all two_items) ∷ Called (Select (Some 10) []) ∷ [])
 
 abbrev pub bare_yield : List Line
 bare_yield = Pass ∷ Sleep 0 ∷ Print (Text (codes "b") ∷ []) ∷ []
@@ -57,8 +58,8 @@ longest_sleep = Sleep most ∷ []
 -- the deadline is the greatest number, and a day is asked for at most
 abbrev pub longest_sleep_events : List Event
 longest_sleep_events =
-    waits 0 5 (Ran (Step 0) ∷ waits 86400000 (most - 1) (waits 1 most (Ran (SleepDone 0 1) ∷ Called (Select (Some 0)) ∷ [])))
+    waits 0 5 (Ran (Step 0) ∷ waits 86400000 (most - 1) (waits 1 most (Ran (SleepDone 0 1) ∷ Called (Select (Some 0) []) ∷ [])))
 
 -- the time stays where an answer is earlier
 abbrev pub time_back_events : List Event
-time_back_events = waits 0 5 (Ran (Step 0) ∷ waits 1 3 (waits 1 6 (Ran (SleepDone 0 1) ∷ Called (Select (Some 0)) ∷ [])))
+time_back_events = waits 0 5 (Ran (Step 0) ∷ waits 1 3 (waits 1 6 (Ran (SleepDone 0 1) ∷ Called (Select (Some 0) []) ∷ [])))

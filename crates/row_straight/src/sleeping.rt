@@ -4,7 +4,7 @@ ghost use Rattle.model_value.specs.declared.outcome.Outcome.TheVariants.{Value a
 ghost use Rattle.model_value.specs.Number.{most};
 ghost use Rattle.model_value.specs.Value.{Nothing, Text, Int};
 ghost use Rattle.model_straight.specs.Straight.{Pass, Print, Sleep};
-ghost use Rattle.model_wire.specs.Call.{Select};
+ghost use Rattle.model_wire.specs.declared.call.Call.TheVariants.{Select};
 ghost use Rattle.model_straight.specs.Run.{Finished, Over, run};
 ghost use Rattle.row_straight.specs.Reading.{line_read, lines_read};
 ghost use Rattle.row_straight.specs.Straight.{turn_at};
@@ -42,7 +42,7 @@ pub fn print_and_sleep()
     ensures run { run print_and_sleep (turn_at 0 ∷ turn_at 4 ∷ turn_at 10 ∷ turn_at 10 ∷ turn_at 10 ∷ []) 1000
         ≡ record { events = print_and_sleep_events; ending = Finished (Returned Nothing) } }
     ensures cut { run print_and_sleep (turn_at 0 ∷ []) 1000
-        ≡ record { events = print_and_sleep_cut; ending = Over (Select (Some 10)) } }
+        ≡ record { events = print_and_sleep_cut; ending = Over (Select (Some 10) []) } }
 {}
 
 #[tactic(auto, unfolding(model_straight::specs::Run::run_on, model_straight::specs::Turn::turn, model_straight::specs::Turn::run_handles, model_straight::specs::Step::serve))]
@@ -53,7 +53,7 @@ pub fn sleeps()
     ensures two_sleeps { run two_sleeps (turn_at 0 ∷ turn_at 5 ∷ turn_at 5 ∷ turn_at 6 ∷ turn_at 6 ∷ turn_at 6 ∷ []) 1000
         ≡ record { events = two_sleeps_events; ending = Finished (Returned Nothing) } }
     ensures longest_sleep { run longest_sleep (turn_at 5 ∷ turn_at (most - 1) ∷ turn_at most ∷ []) 1000
-        ≡ record { events = longest_sleep_events; ending = Over (Select (Some 0)) } }
+        ≡ record { events = longest_sleep_events; ending = Over (Select (Some 0) []) } }
     ensures time_back { run (Sleep 1 ∷ []) (turn_at 5 ∷ turn_at 3 ∷ turn_at 6 ∷ []) 1000
-        ≡ record { events = time_back_events; ending = Over (Select (Some 0)) } }
+        ≡ record { events = time_back_events; ending = Over (Select (Some 0) []) } }
 {}

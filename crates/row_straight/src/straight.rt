@@ -2,7 +2,7 @@
 ghost use Rattle.std.specs.Prelude.{◌≡◌, [], ◌∷◌, Some, None, codes};
 ghost use Rattle.model_value.specs.declared.outcome.Outcome.TheVariants.{Value as Returned};
 ghost use Rattle.model_value.specs.Value.{Nothing};
-ghost use Rattle.model_wire.specs.Call.{Select};
+ghost use Rattle.model_wire.specs.declared.call.Call.TheVariants.{Select};
 ghost use Rattle.model_wire.specs.Journal.{Refused, entries_of};
 ghost use Rattle.model_straight.specs.State.{Called};
 ghost use Rattle.model_straight.specs.Run.{Finished, Over, Bad, Turns, run};
@@ -36,11 +36,11 @@ pub fn least_run()
 #[tactic(auto, unfolding(model_straight::specs::Run::run_on, model_straight::specs::Turn::turn, model_straight::specs::Turn::run_handles, model_straight::specs::Step::serve))]
 /// The same script where answers are missing or refused.
 pub fn short_runs()
-    ensures none { run hello [] 1000 ≡ record { events = Called (Select (Some 0)) ∷ []; ending = Over (Select (Some 0)) } }
+    ensures none { run hello [] 1000 ≡ record { events = Called (Select (Some 0) []) ∷ []; ending = Over (Select (Some 0) []) } }
     ensures one { run hello (turn_at 0 ∷ []) 1000
-        ≡ record { events = first_turn (Called (Select (Some 0)) ∷ []); ending = Over (Select (Some 0)) } }
+        ≡ record { events = first_turn (Called (Select (Some 0) []) ∷ []); ending = Over (Select (Some 0) []) } }
     ensures refused { run hello (turn_at 0 ∷ Refused 2 9 ∷ []) 1000
-        ≡ record { events = first_turn (Called (Select (Some 0)) ∷ []); ending = Bad 2 9 } }
+        ≡ record { events = first_turn (Called (Select (Some 0) []) ∷ []); ending = Bad 2 9 } }
     ensures turns { run hello (turn_at 0 ∷ turn_at 0 ∷ []) 1
         ≡ record { events = first_turn []; ending = Turns 1 } }
 {}

@@ -26,6 +26,8 @@ impl Wire for DeadWire {
 
     ghost keeps = { λ _ _. Unit {0} };
 
+    ghost quiet = { λ _ _. Unit {0} };
+
     fn ask(&mut self, _alloc: Global, _call: &Call) -> Result<Reply, Memory> {
         self.faults = self.faults.saturating_add(1);
         Ok(Reply::Failed)
@@ -34,4 +36,8 @@ impl Wire for DeadWire {
     ghost keeps_same = { λ _. tt };
 
     ghost keeps_on = { λ _ _ _ _ _. tt };
+
+    ghost quiet_same = { λ _. tt };
+
+    ghost quiet_on = { λ _ _ _ _ _. tt };
 }

@@ -25,9 +25,7 @@ impl FakeShelf {
 }
 
 impl Shelf for FakeShelf {
-    ghost faults = { λ shelf. shelf.faults };
-
-    ghost file = { λ _ _. None };
+    ghost seen = { λ shelf. record { file = λ _. None; faults = λ _. shelf.faults } };
 
     fn read(
         &mut self,

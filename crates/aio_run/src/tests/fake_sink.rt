@@ -30,9 +30,7 @@ impl FakeSink {
 }
 
 impl Sink for FakeSink {
-    ghost faults = { λ sink. sink.faults };
-
-    ghost taken = { λ _. None };
+    ghost seen = { λ sink. record { taken = None; faults = sink.faults } };
 
     fn write(&mut self, _alloc: Global, piece: &[u8]) -> Result<SinkTook, Memory> {
         let Some(first) = piece.first() else {

@@ -8,7 +8,8 @@ use Rattle.aio_flat.proofs.flat.body_of.Goals as goal
 
 pub returns : goal.returns
 returns c =
-    let code = built c.lay_all.new.builder in
+    let laid = built c.lay_all.new.builder in
+    let code : Body = record laid { variables = c.in_ok-variables.variables.items } in
     let program = c.args.places.now in
     let grows = c.in_ok-lay_all.ensures in
     let start : length c.new-builder.result.ops.items ≡ 0 = ap (λ (body : Body). length body.ops) c.new-builder.ensures in

@@ -1,6 +1,6 @@
 use Rattle.std.proofs.Common.{subst, sym}
 use Rattle.aio_flat.specs.Code.{AreBodiesOf}
-use Rattle.aio_flat.proofs.CodeLemmas.{laid-out, variables-at, names-of}
+use Rattle.aio_flat.proofs.CodeLemmas.{laid-out, names-of}
 use Rattle.aio_flat.proofs.flat.flatten.Goals as goal
 
 pub returns : goal.returns
@@ -12,6 +12,5 @@ returns c =
     (subst (λ places. AreBodiesOf places c.coroutines.result.now bodies) c.in_ok-places.ensures c.in_ok-bodies.ensures) in
     record {
       laid_out = laid-out program bodies are;
-      variables = variables-at program program.coroutines bodies are;
       names = names-of program program.coroutines bodies are;
     }

@@ -8,9 +8,12 @@ use Rattle.aio_run.proofs.driver.drive.Given as goal
 
 abbrev pub invariant-loop-made : goal.invariant-loop-made
 invariant-loop-made g l = record {
-  running : (h : History) × (past : List Entry) × Running (plain_program l.fn.program) l._made l.kernel h past (g.W.Wire.answers l.fn.wire) (g.W.Wire.answers l.wire) (g.K.Sink.taken l.fn.out) (g.K.Sink.taken l.out);
-  first : g.W.Wire.fails l.fn.wire → g.W.Wire.fails l.wire × (l._made ≡ 0) × (l.kernel.phase ≡ Ready) × (g.K.Sink.taken l.out ≡ g.K.Sink.taken l.fn.out);
+  running : (h : History) × (past : List Entry)
+      × Running (plain_program l.fn.program) l._made l.kernel h past (g.W.Wire.answers l.fn.wire) (g.W.Wire.answers l.wire)
+      (g.K.Sink.seen l.fn.out) (g.K.Sink.seen l.out);
+  first : g.W.Wire.fails l.fn.wire
+      → g.W.Wire.fails l.wire × (l._made ≡ 0) × (l.kernel.phase ≡ Ready) × (g.K.Sink.seen l.out ≡ g.K.Sink.seen l.fn.out);
   wire_later : g.W.Wire.faults l.fn.wire ≤ g.W.Wire.faults l.wire;
-  sink_later : g.K.Sink.faults l.fn.out ≤ g.K.Sink.faults l.out;
   keeps : g.W.Wire.keeps l.fn.wire l.wire;
+  quiet : g.W.Wire.quiet l.fn.wire l.wire;
 }

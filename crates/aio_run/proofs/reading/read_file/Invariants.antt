@@ -1,12 +1,11 @@
-use Rattle.std.proofs.Common.{◌≡◌, ◌≤◌, ◌-◌, ◌^◌, ℕ, List, Option, Some, vec_len}
+use Rattle.std.proofs.Common.{◌≡◌, ◌-◌, ◌^◌, ℕ, List, Option, Some, vec_len}
 use Rattle.aio_run.specs.Reading.{Begins}
 use Rattle.aio_run.proofs.reading.read_file.Given as goal
 
 abbrev pub invariant-loop-text : goal.invariant-loop-text
 invariant-loop-text g l = record {
-  files : g.F.Shelf.file l.shelf ≡ g.F.Shelf.file l.fn.shelf;
-  later : g.F.Shelf.faults l.fn.shelf ≤ g.F.Shelf.faults l.shelf;
-  begins : (held : Option (List ℕ)) → g.F.Shelf.file l.fn.shelf l.name ≡ Some held → Begins held l.text.items;
+  kept : g.F.Shelf.seen l.shelf ≡ g.F.Shelf.seen l.fn.shelf;
+  begins : (held : Option (List ℕ)) → (g.F.Shelf.seen l.fn.shelf).file l.name ≡ Some held → Begins held l.text.items;
 }
 
 abbrev pub decreases-loop-text : goal.decreases-loop-text

@@ -4,9 +4,8 @@ use Rattle.aio_run.proofs.reading.read_front.Given as goal
 
 abbrev pub invariant-loop-alloc : goal.invariant-loop-alloc
 invariant-loop-alloc g l = record {
-  files : g.F.Shelf.file l.shelf ≡ g.F.Shelf.file l.fn.shelf;
-  later : g.F.Shelf.faults l.fn.shelf ≤ g.F.Shelf.faults l.shelf;
-  begins : (held : Option (List ℕ)) → g.F.Shelf.file l.fn.shelf l.name ≡ Some held → Begins held l.text.items;
+  kept : g.F.Shelf.seen l.shelf ≡ g.F.Shelf.seen l.fn.shelf;
+  begins : (held : Option (List ℕ)) → (g.F.Shelf.seen l.fn.shelf).file l.name ≡ Some held → Begins held l.text.items;
   within : vec_len l.text ≤ l.limit;
 }
 

@@ -7,14 +7,14 @@ use Rattle.aio_run.proofs.journal_wire.JournalWireBuffersWire.ask.Goals as goal
 
 pub returns-in-Some-clause-replied : goal.returns-in-Some-clause-replied
 returns-in-Some-clause-replied g c =
-    let file = g.F.Shelf.file c.args.self.now.shelf.now c.args.self.now.name.now in
+    let file = (g.F.Shelf.seen c.args.self.now.shelf.now).file c.args.self.now.name.now in
     let e : Some c.in-Some.journal ≡ c.args.self.now.own.journal = c.in-Some.ensures.value in
     subst (λ (own : Option (List Entry)). Replied (left_of file own) (Some c.next_reply-reply.new.journal) c.next_reply-reply.result) e
     (replied_from (Some c.in-Some.journal) c.in-Some.journal c.next_reply-reply.new.journal c.next_reply-reply.result (agrees_outright c.in-Some.journal) c.next_reply-reply.ensures)
 
 pub returns-in-Ok-clause-replied : goal.returns-in-Ok-clause-replied
 returns-in-Ok-clause-replied g c =
-    let file = g.F.Shelf.file c.args.self.now.shelf.now c.args.self.now.name.now in
+    let file = (g.F.Shelf.seen c.args.self.now.shelf.now).file c.args.self.now.name.now in
     let e : None ≡ c.args.self.now.own.journal = c.in-None.ensures.value in
     subst (λ (own : Option (List Entry)). Replied (left_of file own) (Some c.next_reply-reply-in-Ok.new.journal) c.next_reply-reply-in-Ok.result) e
     (replied_from (left_of file None) c.new-journal.result c.next_reply-reply-in-Ok.new.journal c.next_reply-reply-in-Ok.result

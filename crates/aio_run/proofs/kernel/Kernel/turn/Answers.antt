@@ -1,6 +1,6 @@
-use Rattle.std.proofs.Common.{◌≡◌, ◌≤◌, ℕ, length, arith, ◌++◌, ◌∷◌, [], refl, ap, sym, ◌∙◌, subst, drop, List}
+use Rattle.std.proofs.Common.{max, ◌≡◌, ◌≤◌, ℕ, length, arith, ◌++◌, ◌∷◌, [], refl, ap, sym, ◌∙◌, subst, drop, List}
 use Rattle.std.proofs.lemmas.List.{length-map}
-use Rattle.model_wire.specs.Call.{Turn}
+use Rattle.model_machine.specs.Turn.{time_of}
 use Rattle.aio_straight.specs.Lines.{plain_program, plain_line}
 use Rattle.aio_run.specs.Events.{plain_events}
 use Rattle.aio_run.specs.Kernel.{TurnedIn}
@@ -11,6 +11,10 @@ use Rattle.aio_run.specs.declared.phase.Phase.{Phase}
 use Rattle.aio_run.specs.declared.phase.Phase.TheVariants.{Woken, Over}
 use Rattle.aio_run.proofs.Turns.{turned-ready, turned-woken, turned-due, turned-early, turned-ended, turned-over}
 use Rattle.aio_run.proofs.kernel.Kernel.turn.Goals as goal
+
+-- the time after an answer
+at_answer : (later time now told : ℕ) → later ≡ max time now → now ≡ told → later ≡ max time told
+at_answer later time now told is same = is ∙ ap (max time) same
 
 -- what was told is one event, and then others
 told_first : (events : List Event) (event : Event) (start : List Event) → start ≡ [] → events ≡ start ++ event ∷ [] → events ≡ event ∷ []
@@ -25,8 +29,8 @@ returns-in_ok-step-in-Ready c =
     let program = plain_program k.program in
     let few : length program ≤ 100000 = omega (arith, length-map k.program.lines.items plain_line, k.program.lines.ok.0, k.program.few) in (
       done.program,
-      subst (λ (p : Phase). TurnedIn program k.at k.time p new.at new.time new.phase (Turn c.args.now) told) (sym c.in-Ready.is)
-          (turned-ready program k.at k.time c.args.now new.at new.time new.phase told (done.time ∙ c.max-self.ensures) few
+      subst (λ (p : Phase). TurnedIn program k.at k.time p new.at new.time new.phase c.args.answer.now told) (sym c.in-Ready.is)
+          (turned-ready program k.at k.time c.args.answer.now new.at new.time new.phase told (done.time ∙ (at_answer c.max-self.result k.time c.time_of.result (time_of c.args.answer.now) c.max-self.ensures c.time_of.ensures)) few
           (λ future. done.said future ∙ ap (λ (es : List Event). plain_events future es ++ said_by (drop k.at program)) (told_first _ RanStep _ c.new-told.ensures.items c.in_ok-push-in-Ready.ensures.items))
           (subst (λ (t : ℕ). GoesOnAt program t (stop_of (drop k.at program)) new.at new.phase) (sym done.time) done.goes_on)),
     )
@@ -40,8 +44,8 @@ returns-in_ok-step-in-Woken c =
     let program = plain_program k.program in
     let few : length program ≤ 100000 = omega (arith, length-map k.program.lines.items plain_line, k.program.lines.ok.0, k.program.few) in (
       done.program,
-      subst (λ (p : Phase). TurnedIn program k.at k.time p new.at new.time new.phase (Turn c.args.now) told) (sym c.in-Woken.is)
-          (turned-woken program k.at k.time c.args.now new.at new.time new.phase told (done.time ∙ c.max-self.ensures) few
+      subst (λ (p : Phase). TurnedIn program k.at k.time p new.at new.time new.phase c.args.answer.now told) (sym c.in-Woken.is)
+          (turned-woken program k.at k.time c.args.answer.now new.at new.time new.phase told (done.time ∙ (at_answer c.max-self.result k.time c.time_of.result (time_of c.args.answer.now) c.max-self.ensures c.time_of.ensures)) few
           (λ future. done.said future ∙ ap (λ (es : List Event). plain_events future es ++ said_by (drop k.at program)) (told_first _ RanWakeup _ c.new-told.ensures.items c.in_ok-push-in-Woken.ensures.items))
           (subst (λ (t : ℕ). GoesOnAt program t (stop_of (drop k.at program)) new.at new.phase) (sym done.time) done.goes_on)),
     )
@@ -50,8 +54,8 @@ pub returns-in_ok-push-in-Ended : goal.returns-in_ok-push-in-Ended
 returns-in_ok-push-in-Ended c =
     let k = c.args.self.now in (
       refl,
-      subst (λ (p : Phase). TurnedIn (plain_program k.program) k.at k.time p k.at c.max-self.result Over (Turn c.args.now) c.push-in-Ended.new.self.items) (sym c.in-Ended.is)
-          (turned-ended (plain_program k.program) k.at k.time c.args.now c.max-self.result c.push-in-Ended.new.self.items c.max-self.ensures
+      subst (λ (p : Phase). TurnedIn (plain_program k.program) k.at k.time p k.at c.max-self.result Over c.args.answer.now c.push-in-Ended.new.self.items) (sym c.in-Ended.is)
+          (turned-ended (plain_program k.program) k.at k.time c.args.answer.now c.max-self.result c.push-in-Ended.new.self.items (at_answer c.max-self.result k.time c.time_of.result (time_of c.args.answer.now) c.max-self.ensures c.time_of.ensures)
           (λ future. ap (plain_events future) (told_first _ RanMainDone _ c.new-told.ensures.items c.in_ok-push-in-Ended.ensures.items))),
     )
 
@@ -59,23 +63,23 @@ pub returns-in-Over : goal.returns-in-Over
 returns-in-Over c =
     let k = c.args.self.now in (
       refl,
-      subst (λ (p : Phase). TurnedIn (plain_program k.program) k.at k.time p k.at c.max-self.result p (Turn c.args.now) c.new-told.result.items) (sym c.in-Over.is)
-          (turned-over (plain_program k.program) k.at k.time c.args.now c.max-self.result c.new-told.result.items c.max-self.ensures c.new-told.ensures.items),
+      subst (λ (p : Phase). TurnedIn (plain_program k.program) k.at k.time p k.at c.max-self.result p c.args.answer.now c.new-told.result.items) (sym c.in-Over.is)
+          (turned-over (plain_program k.program) k.at k.time c.args.answer.now c.max-self.result c.new-told.result.items (at_answer c.max-self.result k.time c.time_of.result (time_of c.args.answer.now) c.max-self.ensures c.time_of.ensures) c.new-told.ensures.items),
     )
 
 pub returns-then-self-when : goal.returns-then-self-when
 returns-then-self-when c =
     let k = c.args.self.now in (
       refl,
-      subst (λ (p : Phase). TurnedIn (plain_program k.program) k.at k.time p k.at c.max-self.result p (Turn c.args.now) c.new-told.result.items) (sym c.in-Sleeping.is)
-          (turned-early (plain_program k.program) k.at k.time c.args.now c.in-Sleeping.when c.max-self.result c.new-told.result.items c.max-self.ensures c.if-self-when.true c.new-told.ensures.items),
+      subst (λ (p : Phase). TurnedIn (plain_program k.program) k.at k.time p k.at c.max-self.result p c.args.answer.now c.new-told.result.items) (sym c.in-Sleeping.is)
+          (turned-early (plain_program k.program) k.at k.time c.args.answer.now c.in-Sleeping.when c.max-self.result c.new-told.result.items (at_answer c.max-self.result k.time c.time_of.result (time_of c.args.answer.now) c.max-self.ensures c.time_of.ensures) c.if-self-when.true c.new-told.ensures.items),
     )
 
 pub returns-in_ok-push-in-Sleeping : goal.returns-in_ok-push-in-Sleeping
 returns-in_ok-push-in-Sleeping c =
     let k = c.args.self.now in (
       refl,
-      subst (λ (p : Phase). TurnedIn (plain_program k.program) k.at k.time p k.at c.max-self.result Woken (Turn c.args.now) c.push-in-Sleeping.new.self.items) (sym c.in-Sleeping.is)
-          (turned-due (plain_program k.program) k.at k.time c.args.now c.in-Sleeping.when c.max-self.result c.push-in-Sleeping.new.self.items c.max-self.ensures c.if-self-when.false
+      subst (λ (p : Phase). TurnedIn (plain_program k.program) k.at k.time p k.at c.max-self.result Woken c.args.answer.now c.push-in-Sleeping.new.self.items) (sym c.in-Sleeping.is)
+          (turned-due (plain_program k.program) k.at k.time c.args.answer.now c.in-Sleeping.when c.max-self.result c.push-in-Sleeping.new.self.items (at_answer c.max-self.result k.time c.time_of.result (time_of c.args.answer.now) c.max-self.ensures c.time_of.ensures) c.if-self-when.false
           (λ future. ap (plain_events future) (told_first _ RanSleepDone _ c.new-told.ensures.items c.in_ok-push-in-Sleeping.ensures.items))),
     )

@@ -1,0 +1,122 @@
+//! The words of a line.
+ghost use Rattle.std.specs.Prelude.{◌≡◌, ◌≤◌, ◌<◌, [], ◌∷◌, length, take, drop, IfOk, MatchOption};
+ghost use Rattle.model_wire.specs.JournalText.{Outside, Standing, words_of, tokens_of, is_outside, standing_after};
+ghost use Rattle.aio_journal.specs.Words.{plain_place, word_len, NextIs, IsBounded};
+
+use crate::tokens::{Token, token_of};
+use aio_base::Memory;
+use std::alloc::Global;
+use std::marker::Model;
+
+/// Where a byte stands.
+#[derive(Clone, Copy, Debug, PartialEq, Eq)]
+pub enum Place {
+    Outside,
+    /// In a literal.
+    Inside,
+    /// In a literal, after a backslash that takes it along.
+    Escaped,
+}
+
+/// The words that are left of a line. Contracts see what each is.
+#[derive(Drop)]
+pub struct Words<'a> {
+    rest: &'a [u8],
+}
+
+impl Model for Words<'_> {
+    ghost use Rattle.std.specs.Prelude.{List};
+    ghost use Rattle.model_wire.specs.JournalText.{EntryToken, tokens_of};
+
+    ghost Value = { List EntryToken };
+
+    ghost view = { λ words. tokens_of words.rest.now };
+}
+
+impl<'a> Words<'a> {
+    pub fn new(line: &'a [u8]) -> Words<'a>
+        ensures { result ≡ tokens_of line.now }
+    {
+        Words { rest: line }
+    }
+
+    /// Takes the next word: what it is, or nothing where none is left.
+    pub fn next(&mut self, alloc: Global) -> Result<Option<Token>, Memory>
+        ensures next { IfOk result (NextIs self.old self.new) }
+        ensures bounded { IfOk result IsBounded }
+    {
+        let Some((word, rest)) = next_word(self.rest) else {
+            return Ok(None);
+        };
+        let token = token_of(alloc, word)?;
+        self.rest = rest;
+        Ok(Some(token))
+    }
+}
+
+/// The first word of a text, and what follows it; nothing where there is none.
+fn next_word(text: &[u8]) -> Option<(&[u8], &[u8])>
+    ensures { MatchOption result (words_of text.now ≡ []) (λ found. words_of text.now ≡ found.0.now ∷ words_of found.1.now) }
+{
+    let text = without_spaces(text);
+    let len = word_len(text);
+    if len == 0 {
+        return None;
+    }
+    Some((&text[..len], &text[len..]))
+}
+
+/// A text without the spaces that it begins with.
+fn without_spaces(text: &[u8]) -> &[u8]
+    ensures words { words_of result.now ≡ words_of text.now }
+    ensures first { word_len Outside result.now ≡ 0 → result.now ≡ [] }
+{
+    for (at, byte) in text.iter().enumerate() {
+        if *byte != b' ' {
+            return &text[at..];
+        }
+    }
+    &text[text.len()..]
+}
+
+/// How many bytes the word has that a text begins with.
+fn word_len(text: &[u8]) -> usize
+    ensures value { result ≡ word_len Outside text.now }
+    ensures within { result ≤ length text.now }
+{
+    let mut place = Place::Outside;
+    for (at, byte) in text.iter().enumerate() {
+        if is_outside(place) && *byte == b' ' {
+            return at;
+        }
+        place = place_after(place, *byte);
+    }
+    text.len()
+}
+
+fn is_outside(place: Place) -> bool
+    ensures { result ≡ is_outside (plain_place place) }
+{
+    matches!(place, Place::Outside)
+}
+
+/// Where the byte after this one stands.
+fn place_after(place: Place, byte: u8) -> Place
+    ensures { plain_place result ≡ standing_after (plain_place place) byte }
+{
+    match place {
+        Place::Outside => {
+            if byte == b'"' {
+                Place::Inside
+            } else {
+                Place::Outside
+            }
+        }
+        Place::Inside => match byte {
+            b'"' => Place::Outside,
+            b'\\' => Place::Escaped,
+            _ => Place::Inside,
+        },
+        Place::Escaped => Place::Inside,
+    }
+}

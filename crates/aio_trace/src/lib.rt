@@ -1,0 +1,12 @@
+//! The lines of a transcript: what happens in a run, with the trace or without it, and how it ends.
+#![tactic(auto)]
+
+mod actions;
+mod ends;
+
+#[cfg(test)]
+mod tests;
+mod writing;
+
+pub use ends::{End, last_line};
+pub use writing::lines;

@@ -1,0 +1,73 @@
+//! Where the loop asks the outside.
+ghost use Rattle.std.specs.Prelude.{◌≡◌, ◌≤◌, ◌⊎◌};
+ghost use Rattle.aio_wire.specs.Port.{Exchanges, StopsShort};
+ghost use Rattle.aio_wire.specs.Replied.{Replied, FailedIfRose, EndsAs, asked_after, handed_after};
+ghost use Rattle.aio_wire.specs.declared.wire.Reply.{Reply as AnyReply};
+
+use crate::call::{Answer, Call};
+use crate::copying::{copy_of_answer, copy_of_call};
+use crate::event::{Event, Events};
+use crate::fitting::fits;
+use crate::stop::Stop;
+use crate::wire::{Reply, Wire};
+use std::alloc::Global;
+
+/// A wire with the events of the run that asks it. It keeps its two borrows while it stands.
+pub struct Port<'a, W> {
+    pub wire: &'a mut W,
+    pub events: &'a mut Events,
+}
+
+impl<'a, W> Drop for Port<'a, W> {
+    fn drop(self)
+        ensures wire { self.exit.0.now ≡ self.entry.wire.now }
+        ensures events { self.exit.1.0.now ≡ self.entry.events.now }
+    {
+        let Port { wire: _, events: _ } = self;
+    }
+}
+
+impl<'a, W: Wire> Port<'a, W> {
+    pub fn new(wire: &'a mut W, events: &'a mut Events) -> Port<'a, W>
+        ensures wire { result.wire.now ≡ wire.old }
+        ensures wire_name { result.wire.ghost_name ≡ wire.entry.ghost_name }
+        ensures events { result.events.now ≡ events.old }
+        ensures events_name { result.events.ghost_name ≡ events.entry.ghost_name }
+    {
+        Port { wire, events }
+    }
+
+    /// Asks the wire once. The call is noted, and the answer too, whether it fits or not.
+    pub fn ask(&mut self, alloc: Global, call: Call) -> Result<Answer, Stop>
+        ensures wire_name { self.new.wire.ghost_name ≡ self.old.wire.ghost_name }
+        ensures events_name { self.new.events.ghost_name ≡ self.old.events.ghost_name }
+        ensures asks {
+            ((said : AnyReply) × Exchanges call self.old.events.now self.new.events.now result said
+                × Replied (W.answers self.old.wire.now) (W.answers self.new.wire.now) said
+                × EndsAs (W.end self.new.wire.now) said
+                × FailedIfRose (W.faults self.old.wire.now) (W.faults self.new.wire.now) said
+                × (W.asked self.new.wire.now ≡ asked_after (W.asked self.old.wire.now) call)
+                × (W.handed self.new.wire.now ≡ handed_after (W.handed self.old.wire.now) call said))
+            ⊎ StopsShort self.old.events.now self.new.events.now result }
+        ensures fitting { W.is_fitting self.new.wire.now ≡ W.is_fitting self.old.wire.now }
+        ensures later { W.faults self.old.wire.now ≤ W.faults self.new.wire.now }
+        ensures keeps { W.keeps self.old.wire.now self.new.wire.now }
+    {
+        let noted = copy_of_call(alloc, &call)?;
+        self.events.push(Event::Called(noted))?;
+        match self.wire.ask(alloc, &call)? {
+            Reply::Got(answer) => {
+                let noted = copy_of_answer(alloc, &answer)?;
+                self.events.push(Event::Got(noted))?;
+                if fits(&call, &answer) {
+                    Ok(answer)
+                } else {
+                    Err(Stop::Mismatch(self.events.answers(), call))
+                }
+            }
+            Reply::Over => Err(Stop::Over(call)),
+            Reply::Bad(fault) => Err(Stop::Bad(fault)),
+            Reply::Failed => Err(Stop::Failed(call)),
+        }
+    }
+}

@@ -1,0 +1,8 @@
+use Rattle.law_machine.proofs.Turns.{turn-one, run-bounded}
+use Rattle.law_machine.proofs.laws.turns_are_bounded.Goals as goal
+
+pub returns-clause-one : goal.returns-clause-one
+returns-clause-one g c = turn-one
+
+pub returns-clause-most : goal.returns-clause-most
+returns-clause-most g c = run-bounded

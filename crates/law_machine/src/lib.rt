@@ -1,0 +1,4 @@
+//! Laws of the reference machine's steps, turns and runs.
+#![tactic(auto)]
+
+pub mod laws;

@@ -1,0 +1,5 @@
+pub mod Items
+pub mod Lengths
+pub mod Numbers
+pub mod Tokens
+pub mod Words

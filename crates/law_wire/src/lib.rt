@@ -1,0 +1,4 @@
+//! Laws of the outside's words: what is written is read back.
+#![tactic(auto)]
+
+pub mod laws;

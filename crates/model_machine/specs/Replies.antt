@@ -1,0 +1,267 @@
+-- What each request comes to: an answer, an exception, or the end of the task's step. The kinds of its arguments are tested
+-- first, then whether one more of what it makes can be numbered, and then the rest.
+-- Source: the library reference, "Coroutines and Tasks", "Futures"; `timeouts.py`; `taskgroups.py`.
+use Rattle.std.specs.Prelude.{ℕ, zero, suc, ◌^◌, ◌-◌, ℤ, pos, negsuc, Bool, true, false, List, [], ◌∷◌, ◌++◌, Option, Some, None, codes, is_some, length, nat_lt}
+use Rattle.std.specs.List.{flat_map}
+use Rattle.model_value.specs.declared.action.Action.TheVariants.{SleepDone}
+use Rattle.model_value.specs.declared.input.Input.TheVariants.{Send, Throw}
+use Rattle.model_value.specs.declared.kind.Kind.TheVariants.{InvalidStateError, NameError}
+use Rattle.model_value.specs.declared.outcome.Outcome.TheVariants.{Value as Returned, Failed, Cancelled}
+use Rattle.model_value.specs.declared.request.Request.TheVariants as request
+use Rattle.model_value.specs.Input.{Input}
+use Rattle.model_value.specs.Request.{Request}
+use Rattle.model_value.specs.Shown.{shown}
+use Rattle.model_value.specs.Value.{Value, Nothing, Truth, Int, Fut, Task, Group, Timeout, Exc, Outcome, exception_of}
+use Rattle.model_says.specs.Operations.{out_of_range}
+use Rattle.model_says.specs.Requests.{bad_argument}
+use Rattle.model_wire.specs.declared.event.End.TheVariants as end
+use Rattle.model_wire.specs.declared.event.Event.TheVariants as event
+use Rattle.model_wire.specs.Trace.{End}
+use Rattle.model_loop.specs.Futures.{future_outcome, new_plain, next_future, settle}
+use Rattle.model_loop.specs.Groups.{GroupExit, Waits, Passes, Raises as RaisedBy, Exited, Refusal, create, enter_group, exit_begin, exit_woken, group_of, make_group, next_group, refusal, refusal_fault}
+use Rattle.model_loop.specs.Handles.{deadline, later}
+use Rattle.model_loop.specs.Ledger.{ByScript, request, uncancel_by}
+use Rattle.model_loop.specs.Loop.{book}
+use Rattle.model_loop.specs.Parts.{Parts}
+use Rattle.model_loop.specs.Suspend.{suspend}
+use Rattle.model_loop.specs.Tasks.{cancelling, next_task, pause, spawn}
+use Rattle.model_loop.specs.Timeouts.{enter_timeout, exit_timeout, has_expired, is_active, next_timeout, reschedule, reschedule_fault, timeout_fault, timeout_of}
+use Rattle.model_machine.specs.Arguments.{as_future, as_awaited, as_task, as_timeout, as_group, as_int, as_delay, as_failure, as_list}
+use Rattle.model_machine.specs.Extra as extra
+use Rattle.model_machine.specs.Extra.{Extra, ExtraAnswer, ExtraSaid, called}
+use Rattle.model_machine.specs.Outcomes.{input_of}
+use Rattle.model_machine.specs.State.{Standing, Asked, Sleeping, Leaving, Serving, State, in_loop, with_loop, unbooked_in, noted, stands, with_coroutine}
+
+pub data Reply (S : Type 0) : Type 0 where
+  -- the coroutine goes on with a value
+  Answers : (value : Value) (now : State S) → Reply S
+  -- or with an exception that is raised in it
+  Raises : (fault : Exc) (now : State S) → Reply S
+  -- the step ends
+  Rests : (now : State S) → Reply S
+  -- the run ends
+  Halts : (end : End) (last : State S) → Reply S
+
+-- ---- refusals
+abbrev pub given : {S A : Type 0} → Option A → (A → State S → Reply S) → State S → Reply S
+given None next s = Raises bad_argument s
+given (Some argument) next s = next argument s
+
+-- how many tasks, futures of `future()`, timeouts or groups can be made
+abbrev pub most_ids : ℕ
+most_ids = 2 ^ 32 - 1
+
+abbrev pub numbered_if : {S : Type 0} → Bool → (State S → Reply S) → State S → Reply S
+numbered_if true next s = next s
+numbered_if false next s = Raises out_of_range s
+
+-- one more can be made than so many
+abbrev pub numbered : {S : Type 0} → ℕ → (State S → Reply S) → State S → Reply S
+numbered made next s = numbered_if (nat_lt made most_ids) next s
+
+-- ---- values and outcomes
+abbrev pub replied : {S : Type 0} → Input → State S → Reply S
+replied (Send value) s = Answers value s
+replied (Throw fault) s = Raises fault s
+
+abbrev pub ended : {S : Type 0} → State S → ℕ → Option Outcome
+ended s on = future_outcome s.loop.parts on
+
+abbrev pub is_cancelled_as : Option Outcome → Bool
+is_cancelled_as (Some Cancelled) = true
+is_cancelled_as _ = false
+
+abbrev pub not_set : Exc
+not_set = exception_of InvalidStateError (codes "Result is not set.")
+
+abbrev pub result_of : {S : Type 0} → Option Outcome → State S → Reply S
+result_of (Some outcome) s = replied (input_of outcome) s
+result_of None s = Raises not_set s
+
+-- values as `print` shows them: one space between two
+abbrev pub shown_after : List Value → List ℕ
+shown_after values = flat_map (λ value. 32 ∷ shown value) values
+
+abbrev pub shown_all : List Value → List ℕ
+shown_all [] = []
+shown_all (value ∷ values) = shown value ++ shown_after values
+
+-- ---- waits
+-- the task waits for a future
+abbrev pub waits : {S : Type 0} → (task on : ℕ) → State S → State S
+waits task on s = in_loop (book (suspend task on)) s
+
+abbrev pub awaits_as : {S : Type 0} → Option Outcome → (task on : ℕ) → State S → Reply S
+awaits_as (Some outcome) task on s = replied (input_of outcome) s
+awaits_as None task on s = Rests (waits task on s)
+
+-- what is done is awaited at once
+abbrev pub awaits : {S : Type 0} → (task on : ℕ) → State S → Reply S
+awaits task on s = awaits_as (ended s on) task on s
+
+-- a bare `yield`
+abbrev pub pauses : {S : Type 0} → ℕ → State S → Reply S
+pauses task s = Rests (unbooked_in (pause task) s)
+
+-- a future of its own, which a timer's handle will resolve
+abbrev pub alarmed : (task : ℕ) (delay : ℤ) → Parts → Parts
+alarmed task delay p = later (deadline p.time delay) (SleepDone task (next_future p)) (new_plain p)
+
+abbrev pub sleeps_for : {S : Type 0} → (task : ℕ) (delay : ℤ) → State S → Reply S
+sleeps_for task delay s =
+    Rests (stands (Sleeping s.loop.parts.next_tag) task
+    (waits task (next_future s.loop.parts) (unbooked_in (alarmed task delay) s)))
+
+-- a sleep of 0 or less is a bare `yield`
+abbrev pub sleeps : {S : Type 0} → ℕ → ℤ → State S → Reply S
+sleeps task (negsuc before) s = pauses task s
+sleeps task (pos zero) s = pauses task s
+sleeps task (pos (suc delay)) s = sleeps_for task (pos (suc delay)) s
+
+-- ---- futures
+abbrev pub makes_future : {S : Type 0} → State S → Reply S
+makes_future s =
+    Answers (Fut (length s.futures))
+    (unbooked_in new_plain (record s { futures = s.futures ++ next_future s.loop.parts ∷ [] }))
+
+abbrev pub invalid_state : Exc
+invalid_state = exception_of InvalidStateError (codes "invalid state")
+
+abbrev pub settles_if : {S : Type 0} → (done : Bool) → ℕ → Outcome → State S → Reply S
+settles_if true on outcome s = Raises invalid_state s
+settles_if false on outcome s = Answers Nothing (unbooked_in (settle on outcome) s)
+
+-- a done future is refused
+abbrev pub settles : {S : Type 0} → ℕ → Outcome → State S → Reply S
+settles on outcome s = settles_if (is_some (ended s on)) on outcome s
+
+-- ---- cancels
+abbrev pub requests : {S : Type 0} → (task on : ℕ) → State S → Reply S
+requests task on s =
+    let asked = request (ByScript task) on s.loop.parts in
+    Answers (Truth asked.answer) (in_loop (book (λ p. asked.booked)) s)
+
+abbrev pub counted : {S : Type 0} → ℕ → State S → Reply S
+counted task s = Answers (Int (pos (cancelling s.loop.parts task))) s
+
+-- ---- tasks
+abbrev pub spawns : {S : Type 0} → ℕ → List Value → State S → Reply S
+spawns coroutine arguments s =
+    Answers (Task (next_task s.loop.parts)) (with_coroutine coroutine arguments (unbooked_in spawn s))
+
+-- ---- timeouts
+abbrev pub enters_timeout : {S : Type 0} → ℕ → Option ℤ → State S → Reply S
+enters_timeout task delay s =
+    Answers (Timeout (next_timeout s.loop)) (in_loop (enter_timeout task delay) s)
+
+abbrev pub timed_out_if : {S : Type 0} → Bool → State S → Reply S
+timed_out_if true s = Raises timeout_fault s
+timed_out_if false s = Answers Nothing s
+
+abbrev pub exits_timeout : {S : Type 0} → Option Exc → ℕ → State S → Reply S
+exits_timeout raised id s =
+    let left = exit_timeout raised id s.loop in timed_out_if left.timed_out (with_loop left.loop s)
+
+abbrev pub reschedules_if : {S : Type 0} → Bool → ℕ → Option ℤ → State S → Reply S
+reschedules_if false id when s = Raises (reschedule_fault (timeout_of s.loop id).state) s
+reschedules_if true id when s = Answers Nothing (in_loop (reschedule id when) s)
+
+abbrev pub reschedules : {S : Type 0} → ℕ → Option ℤ → State S → Reply S
+reschedules id when s = reschedules_if (is_active (timeout_of s.loop id).state) id when s
+
+-- ---- groups
+abbrev pub enters_group : {S : Type 0} → ℕ → State S → Reply S
+enters_group task s =
+    let id = next_group s.loop in Answers (Group id) (in_loop (λ l. enter_group id (make_group task l)) s)
+
+-- what the exit of a group, begun or gone on, makes of its task's step
+abbrev pub exits_as : {S : Type 0} → GroupExit → (task id : ℕ) → State S → Reply S
+exits_as (Waits on) task id s = Rests (stands (Leaving id) task (waits task on s))
+exits_as Passes task id s = Answers Nothing s
+exits_as (RaisedBy fault) task id s = Raises fault s
+
+abbrev pub exits_group : {S : Type 0} → Exited → (task id : ℕ) → State S → Reply S
+exits_group exited task id s = exits_as exited.answer task id (with_loop exited.loop s)
+
+abbrev pub creates_unless : {S : Type 0} → Option Refusal → ℕ → ℕ → List Value → State S → Reply S
+creates_unless (Some cause) id coroutine arguments s = Raises (refusal_fault cause) s
+creates_unless None id coroutine arguments s =
+    Answers (Task (next_task s.loop.parts)) (with_coroutine coroutine arguments (in_loop (create id) s))
+
+abbrev pub creates : {S : Type 0} → ℕ → ℕ → List Value → State S → Reply S
+creates id coroutine arguments s = creates_unless (refusal (group_of s.loop id)) id coroutine arguments s
+
+-- Of connections and children nothing is defined here so far.
+abbrev pub undefined : Exc
+undefined = exception_of NameError (codes "connections and children")
+
+-- ---- requests that are added. One that goes on waiting for what is done is woken at once.
+abbrev pub Wake : Type 0 → Type 0
+Wake S = (key : ℕ) → Input → State S → Reply S
+
+abbrev pub serves_until : {S : Type 0} → Option Outcome → Wake S → (task on key : ℕ) → State S → Reply S
+serves_until (Some outcome) wake task on key s = wake key (input_of outcome) s
+serves_until None wake task on key s = Rests (stands (Serving key) task (waits task on s))
+
+abbrev pub serves_as : {S : Type 0} → ExtraAnswer → Wake S → ℕ → State S → Reply S
+serves_as (extra.Answers value) wake task s = Answers value s
+serves_as (extra.Raises fault) wake task s = Raises fault s
+serves_as (extra.Waits on key) wake task s = serves_until (ended s on) wake task on key s
+
+abbrev pub serves : {S : Type 0} → ExtraSaid S → Wake S → ℕ → State S → Reply S
+serves said wake task s = serves_as said.answer wake task (called said.call s)
+
+module _ {S : Type 0} (added : Extra S) where
+  -- Woken so many times at most. What is added says how many times are left, and that falls each time.
+  abbrev pub woken_within : ℕ → ℕ → Wake S
+  woken_within zero task key input s = Halts (end.Runaway task) s
+  woken_within (suc wakes) task key input s = serves (added.wake key input s) (woken_within wakes task) task s
+
+  abbrev pub woken : ℕ → Wake S
+  woken task key input s = woken_within (suc (added.wakes_left key s.extra)) task key input s
+
+  -- ---- the table
+  unfoldable pub reply : ℕ → Request → State S → Reply S
+  reply task request.Pause s = pauses task s
+  reply task (request.Await x) s = given (as_awaited s x) (awaits task) s
+  reply task (request.Print values) s = Answers Nothing (noted (event.Said task (shown_all values)) s)
+  reply task request.MakeFuture s = numbered (length s.futures) makes_future s
+  reply task (request.Set future value) s = given (as_future s future) (λ on. settles on (Returned value)) s
+  reply task (request.Fail future fault) s =
+      given (as_future s future) (λ on. given (as_failure fault) (λ it. settles on (Failed it))) s
+  reply task (request.IsDone x) s =
+      given (as_awaited s x) (λ on now. Answers (Truth (is_some (ended now on))) now) s
+  reply task (request.IsCancelled x) s =
+      given (as_awaited s x) (λ on now. Answers (Truth (is_cancelled_as (ended now on))) now) s
+  reply task (request.ResultOf x) s = given (as_awaited s x) (λ on now. result_of (ended now on) now) s
+  reply task (request.Cancel x) s = given (as_awaited s x) (requests task) s
+  reply task (request.Cancelling x) s = given (as_task x) counted s
+  reply task (request.Uncancel x) s =
+      given (as_task x) (λ other now. counted other (in_loop (book (uncancel_by (ByScript task) other)) now)) s
+  reply task request.Current s = Answers (Task task) s
+  reply task request.Time s = Answers (Int (pos s.loop.parts.time)) s
+  reply task (request.Spawn coroutine arguments) s =
+      numbered (next_task s.loop.parts) (spawns coroutine arguments) s
+  reply task (request.Sleep delay) s = given (as_int delay) (sleeps task) s
+  reply task (request.TimeoutEnter delay) s =
+      given (as_delay delay) (λ it now. numbered (next_timeout now.loop) (enters_timeout task it) now) s
+  reply task (request.TimeoutExit timeout raised) s = given (as_timeout timeout) (exits_timeout raised) s
+  reply task (request.Reschedule timeout when) s =
+      given (as_timeout timeout) (λ id. given (as_delay when) (λ it. reschedules id it)) s
+  reply task (request.Expired timeout) s =
+      given (as_timeout timeout) (λ id now. Answers (Truth (has_expired (timeout_of now.loop id).state)) now) s
+  reply task request.GroupEnter s = numbered (next_group s.loop) (enters_group task) s
+  reply task (request.GroupExit group raised) s =
+      given (as_group group) (λ id now. exits_group (exit_begin raised id now.loop) task id now) s
+  reply task (request.Create group coroutine arguments) s =
+      given (as_group group) (λ id now. numbered (next_task now.loop.parts) (creates id coroutine arguments) now) s
+  reply task (request.Extra code arguments) s =
+      given (as_int code) (λ number. given (as_list arguments) (λ items now. serves (added.ask task number items now) (woken task) task now)) s
+  reply task _ s = Raises undefined s
+
+  -- what the request at which a task stands makes of the input that its step begins with
+  abbrev pub decides : Standing → ℕ → Input → State S → Reply S
+  decides Asked task input s = replied input s
+  decides (Sleeping tag) task input s = replied input s
+  decides (Leaving group) task input s = exits_group (exit_woken input group s.loop) task group s
+  decides (Serving key) task input s = woken task key input s

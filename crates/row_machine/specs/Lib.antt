@@ -1,0 +1,6 @@
+pub mod Cancels
+pub mod Coroutines
+pub mod Groups
+pub mod Reading
+pub mod Timeouts
+pub mod Turns
