@@ -31,13 +31,8 @@ impl Ending {
         match self {
             Ending::Finished => String::from_str(alloc, "= returned None\n"),
             Ending::Turns => format!(in alloc; "= turns {TURN_LIMIT}\n"),
-            Ending::Over(None) => String::from_str(
-                alloc,
-                "! over select none\n",
-            ),
-            Ending::Over(Some(wait)) => format!(in alloc;
-                "! over select {wait}\n"
-            ),
+            Ending::Over(None) => String::from_str(alloc, "! over select none\n"),
+            Ending::Over(Some(wait)) => format!(in alloc; "! over select {wait}\n"),
             Ending::Bad(fault) => refused_line(alloc, fault.line, fault.cause),
         }
     }
