@@ -11,7 +11,7 @@ use Rattle.model_loop.specs.Cancel.{Request, Canceller, answers, has_seen, cance
 use Rattle.law_cancel.proofs.Total.{further}
 
 -- ---- spent futures: a greater bound changes nothing
-all_same : (f g : ℕ → Bool) (id : ℕ) → ((m : ℕ) → m < id → f m ≡ g m) → (members : List ℕ) → list_all f (made_before id members) ≡ list_all g (made_before id members)
+pub all_same : (f g : ℕ → Bool) (id : ℕ) → ((m : ℕ) → m < id → f m ≡ g m) → (members : List ℕ) → list_all f (made_before id members) ≡ list_all g (made_before id members)
 all_same f g id same [] = refl
 all_same f g id same (m ∷ members) =
     go (nat_lt m id) refl (all_same f g id same members)
@@ -21,7 +21,7 @@ all_same f g id same (m ∷ members) =
     go false e ih = ih
     go true e ih = rw (same m (ltb-true m id e), ih)
 
-spent_by_same : (f g : ℕ → Bool) (id : ℕ) → ((m : ℕ) → m < id → f m ≡ g m) → (o : Option Future) → spent_by f o id ≡ spent_by g o id
+pub spent_by_same : (f g : ℕ → Bool) (id : ℕ) → ((m : ℕ) → m < id → f m ≡ g m) → (o : Option Future) → spent_by f o id ≡ spent_by g o id
 spent_by_same f g id same None = refl
 spent_by_same f g id same (Some future) = until future.outcome future.kind
   where
@@ -97,7 +97,7 @@ at_still member waiter still (Some future) id s p h = until future.outcome futur
     until (Some outcome) k h = refl
     until None k h = kind_still member waiter still k id s p h
 
-below_still : (bound : ℕ) (waiter : Canceller) → Still (cancel_below bound waiter)
+pub below_still : (bound : ℕ) (waiter : Canceller) → Still (cancel_below bound waiter)
 below_still zero waiter id s p h = refl
 below_still (suc bound) waiter id s p h =
     at_still (cancel_below bound waiter) waiter (below_still bound waiter) (slice_get p.futures id) id s p h
@@ -136,7 +136,7 @@ at_answer spent p member waiter still by (Some future) id s = until future.outco
     until (Some outcome) k = refl
     until None k = kind k
 
-below_answer : (bound : ℕ) (waiter : Canceller) (p : Parts) → AnswersBy (spent_below bound p) p (cancel_below bound waiter)
+pub below_answer : (bound : ℕ) (waiter : Canceller) (p : Parts) → AnswersBy (spent_below bound p) p (cancel_below bound waiter)
 below_answer zero waiter p id s = refl
 below_answer (suc bound) waiter p id s =
     at_answer (spent_below bound p) p (cancel_below bound waiter) waiter (below_still bound waiter) (below_answer bound waiter p) (slice_get p.futures id) id s

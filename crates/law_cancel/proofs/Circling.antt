@@ -29,7 +29,7 @@ use Rattle.law_cancel.proofs.Trace.{Goes, begins, settles, asks, raises, marks, 
 abbrev waiter_at : Option Task → Option ℕ
 waiter_at o = option_map_or (λ (task : Task). task.waiter) o None
 
-passes_at-same : (o : Option Future) (x : ℕ) (p q : Parts) → ((t : ℕ) → waiter_of q t ≡ waiter_of p t) → passes_at o x q ≡ passes_at o x p
+pub passes_at-same : (o : Option Future) (x : ℕ) (p q : Parts) → ((t : ℕ) → waiter_of q t ≡ waiter_of p t) → passes_at o x q ≡ passes_at o x p
 passes_at-same None x p q same = refl
 passes_at-same (Some future) x p q same = until future.outcome future.kind
   where
@@ -42,11 +42,11 @@ passes_at-same (Some future) x p q same = until future.outcome future.kind
     until (Some outcome) k = refl
     until None k = kind k
 
-passes-same : (p q : Parts) (x : ℕ) → passes_at (slice_get q.futures x) x p ≡ passes_at (slice_get p.futures x) x p → ((t : ℕ) → waiter_of q t ≡ waiter_of p t) → passes q x ≡ passes p x
+pub passes-same : (p q : Parts) (x : ℕ) → passes_at (slice_get q.futures x) x p ≡ passes_at (slice_get p.futures x) x p → ((t : ℕ) → waiter_of q t ≡ waiter_of p t) → passes q x ≡ passes p x
 passes-same p q x futures waiters = passes_at-same (slice_get q.futures x) x p q waiters ∙ futures
 
 -- ---- a request
-goes-passes : {s : List ℕ} {p : Parts} {t : List ℕ} {q : Parts} → Goes s p t q → (x : ℕ) → passes q x ≡ passes p x
+pub goes-passes : {s : List ℕ} {p : Parts} {t : List ℕ} {q : Parts} → Goes s p t q → (x : ℕ) → passes q x ≡ passes p x
 goes-passes begins x = refl
 goes-passes (settles {q = q} g id future e o k) x =
     passes-same q (settle id Cancelled q) x
@@ -68,11 +68,11 @@ goes-passes (marks {q = q} g id) x =
     (λ t. change_task-kept waiter_at id _ q (λ task. refl) t) ∙ goes-passes g x
 
 -- ---- where there are no more passes there is no more leading
-leads_kept : (p q : Parts) → ((x y : ℕ) → PassesTo q x y → PassesTo p x y) → {from to : ℕ} → Leads q from to → Leads p from to
+pub leads_kept : (p q : Parts) → ((x y : ℕ) → PassesTo q x y → PassesTo p x y) → {from to : ℕ} → Leads q from to → Leads p from to
 leads_kept p q edge (at_once {from = from} {to = to} e) = at_once (edge from to e)
 leads_kept p q edge (through {from = from} next e l) = through next (edge from next e) (leads_kept p q edge l)
 
-no_circle_kept : (p q : Parts) → ((x : ℕ) → passes q x ≡ passes p x) → HasNoCircle p → HasNoCircle q
+pub no_circle_kept : (p q : Parts) → ((x : ℕ) → passes q x ≡ passes p x) → HasNoCircle p → HasNoCircle q
 no_circle_kept p q same none id l =
     none id (leads_kept p q (λ x y e. ap (list_any (λ next. next == y)) (sym (same x)) ∙ e) l)
 
@@ -84,7 +84,7 @@ pub cancel_makes_none : (id : ℕ) (p : Parts) → HasNoCircle p → HasNoCircle
 cancel_makes_none id p none = no_circle_kept p (cancel id p).parts (goes-passes (with_row id [] p)) none
 
 -- ---- callbacks
-register-view : {Y : Type 0} (f : Option Future → Y) → ((future : Future) (action : Action) → f (Some (record future { callbacks = future.callbacks ++ action ∷ [] })) ≡ f (Some future)) → (id : ℕ) (action : Action) (p : Parts) (x : ℕ) → f (slice_get (register id action p).futures x) ≡ f (slice_get p.futures x)
+pub register-view : {Y : Type 0} (f : Option Future → Y) → ((future : Future) (action : Action) → f (Some (record future { callbacks = future.callbacks ++ action ∷ [] })) ≡ f (Some future)) → (id : ℕ) (action : Action) (p : Parts) (x : ℕ) → f (slice_get (register id action p).futures x) ≡ f (slice_get p.futures x)
 register-view {Y} f same id action p x = at (slice_get p.futures id) refl
   where
     until : (future : Future) → slice_get p.futures id ≡ Some future → (o : Option Outcome) → f (slice_get (registered_on o id future action p).futures x) ≡ f (slice_get p.futures x)
@@ -212,11 +212,11 @@ ways_of task on p owns (through {from = x} {to = y} next e l) = go (edge_of task
     go (inr new) (inr k) = inr (inl new.0, k.1)
 
 -- a wait that isn't refused is not for the task's own future, nor for one that leads to it
-record IsAllowed (p : Parts) (task on : ℕ) : Type 0 where
+pub record IsAllowed (p : Parts) (task on : ℕ) : Type 0 where
   other : on ≢ future_of p task
   apart : Leads p on (future_of p task) → ⊥
 
-allowed : (p : Parts) (task on : ℕ) → circle p task on ≡ None → IsAllowed p task on
+pub allowed : (p : Parts) (task on : ℕ) → circle p task on ≡ None → IsAllowed p task on
 allowed p task on none = record { other = other; apart = apart }
   where
     other : on ≢ future_of p task
@@ -234,7 +234,7 @@ allowed p task on none = record { other = other; apart = apart }
         go true e = cc
         go false e = cc
 
-wait_makes_none : (task on : ℕ) (p : Parts) → OwnsFutures p → IsAllowed p task on → HasNoCircle p → HasNoCircle (wait_on task on p)
+pub wait_makes_none : (task on : ℕ) (p : Parts) → OwnsFutures p → IsAllowed p task on → HasNoCircle p → HasNoCircle (wait_on task on p)
 wait_makes_none task on p owns ok none id l = go (ways_of task on p owns l)
   where
     own : ℕ
@@ -251,7 +251,7 @@ wait_makes_none task on p owns ok none id l = go (ways_of task on p owns l)
     go (inr k) = back k.0 k.1
 
 -- ---- the whole wait
-unmark-passes : (task : ℕ) (p : Parts) (x : ℕ) → passes (unmark task p) x ≡ passes p x
+pub unmark-passes : (task : ℕ) (p : Parts) (x : ℕ) → passes (unmark task p) x ≡ passes p x
 unmark-passes task p x =
     passes-same p (unmark task p) x
     (ap (λ (fs : List Future). passes_at (slice_get fs x) x p) (change_task-futures task _ p))

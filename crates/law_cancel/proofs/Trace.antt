@@ -88,15 +88,15 @@ each_row cancel row (id ∷ ids) s p =
     goes_on (row id s p) (each_row cancel row ids first.seen first.parts)
 
 -- a pending future that stands for others, out of the test
-record IsMany (o : Option Future) : Type 0 where
-  future : Future
-  members : List ℕ
-  asked : Bool
-  there : o ≡ Some future
-  pending : future.outcome ≡ None
-  many : future.kind ≡ Many members asked
+pub record IsMany (o : Option Future) : Type 0 where
+  pub future : Future
+  pub members : List ℕ
+  pub asked : Bool
+  pub there : o ≡ Some future
+  pub pending : future.outcome ≡ None
+  pub many : future.kind ≡ Many members asked
 
-many_there : (o : Option Future) → is_pending_many o ≡ true → IsMany o
+pub many_there : (o : Option Future) → is_pending_many o ≡ true → IsMany o
 many_there None h = absurd (cc)
 many_there (Some future) h = go future.outcome future.kind refl refl h
   where

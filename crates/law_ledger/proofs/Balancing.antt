@@ -22,7 +22,8 @@ use Rattle.law_cancel.proofs.Lookups.{get-set_same, get-set_other}
 use Rattle.law_cancel.proofs.Trace.{with_row}
 
 -- ---- entries of raised counts
-count_cons : (p : LedgerEntry → Bool) (entry : LedgerEntry) (entries : List LedgerEntry) → count_by p (entry ∷ entries) ≡ cond (p entry) 1 0 + count_by p entries
+count_cons : (p : LedgerEntry → Bool) (entry : LedgerEntry) (entries : List LedgerEntry)
+    → count_by p (entry ∷ entries) ≡ cond (p entry) 1 0 + count_by p entries
 count_cons p entry entries = sum_by-cons (λ e. cond (p e) 1 0) entry entries
 
 pub count-append : (p : LedgerEntry → Bool) (xs ys : List LedgerEntry) → count_by p (xs ++ ys) ≡ count_by p xs + count_by p ys
@@ -60,11 +61,13 @@ occurrences-filter task test (x ∷ xs) = go (cases_eq task x) (occurrences-filt
     whole : occurrences task (x ∷ xs) ≡ cond (nat_eq task x) 1 0 + occurrences task xs
     whole = occurrences-cons task x xs
 
-    same : (b : Bool) → nat_eq task x ≡ true → occurrences task (filter test xs) ≡ cond b (occurrences task xs) 0 → occurrences task (cond b (x ∷ filter test xs) (filter test xs)) ≡ cond b (occurrences task (x ∷ xs)) 0
+    same : (b : Bool) → nat_eq task x ≡ true → occurrences task (filter test xs) ≡ cond b (occurrences task xs) 0
+        → occurrences task (cond b (x ∷ filter test xs) (filter test xs)) ≡ cond b (occurrences task (x ∷ xs)) 0
     same true e ih = occurrences-cons task x (filter test xs) ∙ rw ih (sym whole)
     same false e ih = ih
 
-    other : (b c : Bool) → nat_eq task x ≡ false → occurrences task (filter test xs) ≡ cond c (occurrences task xs) 0 → occurrences task (cond b (x ∷ filter test xs) (filter test xs)) ≡ cond c (occurrences task (x ∷ xs)) 0
+    other : (b c : Bool) → nat_eq task x ≡ false → occurrences task (filter test xs) ≡ cond c (occurrences task xs) 0
+        → occurrences task (cond b (x ∷ filter test xs) (filter test xs)) ≡ cond c (occurrences task (x ∷ xs)) 0
     other true c e ih = occurrences-cons task x (filter test xs) ∙ rw (whole, e, ih) (plain c)
       where
         plain : (c : Bool) → 0 + cond c (occurrences task xs) 0 ≡ cond c (0 + occurrences task xs) 0
@@ -76,7 +79,8 @@ occurrences-filter task test (x ∷ xs) = go (cases_eq task x) (occurrences-filt
         plain true = omega arith
         plain false = refl
 
-    go : (task ≡ x) ⊎ (task ≡ x → ⊥) → occurrences task (filter test xs) ≡ cond (test task) (occurrences task xs) 0 → occurrences task (filter test (x ∷ xs)) ≡ cond (test task) (occurrences task (x ∷ xs)) 0
+    go : (task ≡ x) ⊎ (task ≡ x → ⊥) → occurrences task (filter test xs) ≡ cond (test task) (occurrences task xs) 0
+        → occurrences task (filter test (x ∷ xs)) ≡ cond (test task) (occurrences task (x ∷ xs)) 0
     go (inl e) ih = rw (ap test (sym e)) (same (test task) (eq-eqb task x e) ih)
     go (inr n) ih = other (test x) (test task) (ne_eqb task x n) ih
 
@@ -116,7 +120,8 @@ request_balances by id p task =
         omega arith
 
     go : (has_seen seen task ≡ true) ⊎ (has_seen seen task ≡ false) → (nat_lt (cancelling p task) most ≡ true) ⊎ (nat_lt (cancelling p task) most ≡ false)
-        → cond (has_seen seen task) (one_more (cancelling p task)) (cancelling p task) + 0 ≡ cancelling p task + cond (nat_lt (cancelling p task) most) (occurrences task seen) 0
+        → cond (has_seen seen task) (one_more (cancelling p task)) (cancelling p task) + 0 ≡ cancelling p task + cond (nat_lt (cancelling p task) most)
+        (occurrences task seen) 0
     go (inl s) (inl l) = let o = seen-occurs seen task s in rw (s, l) (omega (arith, once))
     go (inl s) (inr l) = rw (s, l) (omega arith)
     go (inr s) (inl l) = let o = occurrences-unseen seen task s in rw (s, l) (omega arith)
@@ -148,14 +153,16 @@ lowered task = record task { cancels = task.cancels - 1 }
 uncancel-same : (id : ℕ) (p : Parts) → cancelling (uncancel id p) id ≡ cancelling p id - 1
 uncancel-same id p = at (slice_get p.tasks id) refl
   where
-    at : (o : Option Task) → slice_get p.tasks id ≡ o → count_at (slice_get (option_map_or (λ (t : Task). record p { tasks = slice_set p.tasks id (lowered t) }) o p).tasks id) ≡ count_at o - 1
+    at : (o : Option Task) → slice_get p.tasks id ≡ o
+        → count_at (slice_get (option_map_or (λ (t : Task). record p { tasks = slice_set p.tasks id (lowered t) }) o p).tasks id) ≡ count_at o - 1
     at None e = ap count_at e ∙ omega arith
     at (Some task) e = ap count_at (get-set_same p.tasks id task (lowered task) e)
 
 uncancel-other : (id u : ℕ) (p : Parts) → id ≢ u → cancelling (uncancel id p) u ≡ cancelling p u
 uncancel-other id u p n = at (slice_get p.tasks id)
   where
-    at : (o : Option Task) → count_at (slice_get (option_map_or (λ (t : Task). record p { tasks = slice_set p.tasks id (lowered t) }) o p).tasks u) ≡ cancelling p u
+    at : (o : Option Task)
+        → count_at (slice_get (option_map_or (λ (t : Task). record p { tasks = slice_set p.tasks id (lowered t) }) o p).tasks u) ≡ cancelling p u
     at None = refl
     at (Some task) = ap count_at (get-set_other p.tasks id u (lowered task) n)
 
@@ -191,7 +198,8 @@ suspend_balances task on p u = at (circle p task on)
     kept : cancelling (wait_on task on p) u ≡ cancelling p u
     kept = wait_on-count task on p u
 
-    marked : (b : Bool) → cancelling (cancel_wait b task on (wait_on task on p)).parts u + count_by (lowers u) (cancel_wait b task on (wait_on task on p)).entries ≡ cancelling p u + count_by (raises u) (cancel_wait b task on (wait_on task on p)).entries
+    marked : (b : Bool) → cancelling (cancel_wait b task on (wait_on task on p)).parts u + count_by (lowers u)
+        (cancel_wait b task on (wait_on task on p)).entries ≡ cancelling p u + count_by (raises u) (cancel_wait b task on (wait_on task on p)).entries
     marked false = ap (λ n. n + 0) kept
     marked true =
         let asked = ask_cancel (ByWait task) on (wait_on task on p) in
@@ -200,6 +208,8 @@ suspend_balances task on p u = at (circle p task on)
         ∙ request_balances (ByWait task) on (wait_on task on p) u
         ∙ ap (λ n. n + count_by (raises u) asked.entries) kept
 
-    at : (o : Option Circle) → cancelling (suspend_unless o task on p).parts u + count_by (lowers u) (suspend_unless o task on p).entries ≡ cancelling p u + count_by (raises u) (suspend_unless o task on p).entries
+    at : (o : Option Circle)
+        → cancelling (suspend_unless o task on p).parts u + count_by (lowers u) (suspend_unless o task on p).entries ≡ cancelling p u + count_by (raises u)
+        (suspend_unless o task on p).entries
     at (Some why) = refl
     at None = marked (is_marked p task)

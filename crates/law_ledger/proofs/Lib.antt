@@ -1,2 +1,5 @@
 pub mod Balancing
 pub mod LoopBalance
+pub mod Asked
+pub mod Quietly
+pub mod Booking

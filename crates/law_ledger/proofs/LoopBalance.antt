@@ -23,7 +23,7 @@ use Rattle.law_cancel.proofs.Effects.{settle-tasks, register-tasks}
 use Rattle.law_ledger.proofs.Balancing.{count_at, count-append, request_balances, request_each_balances, uncancel_balances}
 
 -- ---- a change that is booked, and one that no count sees
-book_keeps : (change : Parts → Booked) (l : Loop) → Balances l.parts (change l.parts) → TasksBalance l → TasksBalance (book change l)
+pub book_keeps : (change : Parts → Booked) (l : Loop) → Balances l.parts (change l.parts) → TasksBalance l → TasksBalance (book change l)
 book_keeps change l balances is task =
     let booked = change l.parts in
     let a = count-append (lowers task) l.ledger booked.entries in
@@ -45,7 +45,8 @@ give_up_counts (Some tag) p task = refl
 
 fires_at_counts : (id when : ℕ) (p : Parts) → KeepsCounts (fires_at id when) p
 fires_at_counts id when p task =
-    elim (nat_le when p.time) as (λ b. cancelling (cond b (soon (Fires id) p) (later when (Fires id) p)) task ≡ cancelling p task) [ true ↦ refl | false ↦ refl ]
+    elim (nat_le when p.time) as
+    (λ b. cancelling (cond b (soon (Fires id) p) (later when (Fires id) p)) task ≡ cancelling p task) [ true ↦ refl | false ↦ refl ]
 
 schedule_keeps : (id : ℕ) (when : Option ℕ) (l : Loop) → TasksBalance l → TasksBalance (schedule id when l)
 schedule_keeps id when l is = at when (in_parts_keeps (give_up tag) l (give_up_counts tag l.parts) is)
@@ -89,7 +90,7 @@ exit_timeout_keeps raised id l is = at (timeout_of l id).state (in_parts_keeps (
     at Finished h = h
 
 -- ---- groups
-spawn_counts : (p : Parts) → KeepsCounts spawn p
+pub spawn_counts : (p : Parts) → KeepsCounts spawn p
 spawn_counts p task = go (cases_eq task (length p.tasks))
   where
     new : Task
@@ -178,7 +179,8 @@ take_back_keeps id l is = at (group_of l id).requested
     at : (b : Bool) → TasksBalance (take_back_where b id l)
     at false = is
     at true =
-        elim (cancelling taken.parts parent == 0) as (λ b. TasksBalance (cond b (set_group id (record (group_of l id) { kept = None }) taken) taken)) [ true ↦ h | false ↦ h ]
+        elim (cancelling taken.parts parent == 0) as
+        (λ b. TasksBalance (cond b (set_group id (record (group_of l id) { kept = None }) taken) taken)) [ true ↦ h | false ↦ h ]
 
 abort_if_raised_keeps : (raised : Option Exc) (id : ℕ) (l : Loop) → TasksBalance l → TasksBalance (abort_if_raised raised id l)
 abort_if_raised_keeps raised id l is = at (is_some raised && not (group_of l id).aborting)
@@ -191,7 +193,8 @@ pub exit_begin_keeps : (raised : Option Exc) (id : ℕ) (l : Loop) → TasksBala
 exit_begin_keeps raised id l is =
     let begun = begin_exit raised id l in
     let taken = take_back id begun in
-    wait_or_end_keeps id (abort_if_raised raised id taken) (abort_if_raised_keeps raised id taken (take_back_keeps id begun (begin_exit_keeps raised id l is)))
+    wait_or_end_keeps id (abort_if_raised raised id taken)
+    (abort_if_raised_keeps raised id taken (take_back_keeps id begun (begin_exit_keeps raised id l is)))
 
 hear_keeps : (input : Input) (id : ℕ) (l : Loop) → TasksBalance l → TasksBalance (hear input id l)
 hear_keeps (Send value) id l is = is

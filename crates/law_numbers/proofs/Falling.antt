@@ -38,10 +38,10 @@ by_deadline-tags k (timer ∷ timers) =
     omega arith
 
 -- each timer is due or isn't
-abbrev early : ℕ → List Timer → List Timer
+abbrev pub early : ℕ → List Timer → List Timer
 early time = filter (λ (timer : Timer). nat_le timer.when time)
 
-abbrev late : ℕ → List Timer → List Timer
+abbrev pub late : ℕ → List Timer → List Timer
 late time = filter (λ (timer : Timer). nat_lt time timer.when)
 
 split-tags : (k time : ℕ) (timers : List Timer) → occurrences k (map timer_tag (early time timers)) + occurrences k (map timer_tag (late time timers)) ≡ occurrences k (map timer_tag timers)
@@ -61,7 +61,7 @@ split-tags k time (timer ∷ timers) = go (cases_lt time timer.when) (split-tags
         rw (le-leb timer.when time h, le-ltb time timer.when h) (omega arith)
 
 -- ---- a timer's handle is appended under its own tag
-abbrev fallen : Timer → Parts → Parts
+abbrev pub fallen : Timer → Parts → Parts
 fallen timer p =
     record p {
       pending = p.pending ++ record { stamp = p.next_stamp; tag = timer.tag; action = timer.action; dead = false } ∷ [];
@@ -85,11 +85,11 @@ fall_due-tags k (timer ∷ timers) p =
     let d = occurrences-cons k timer.tag (map timer_tag timers) in
     omega arith
 
-fall_due-next : (timers : List Timer) (p : Parts) → (fall_due timers p).next_tag ≡ p.next_tag
+pub fall_due-next : (timers : List Timer) (p : Parts) → (fall_due timers p).next_tag ≡ p.next_tag
 fall_due-next [] p = refl
 fall_due-next (timer ∷ timers) p = fall_due-next timers (fallen timer p)
 
-fall_due-futures : (timers : List Timer) (p : Parts) → (fall_due timers p).futures ≡ p.futures
+pub fall_due-futures : (timers : List Timer) (p : Parts) → (fall_due timers p).futures ≡ p.futures
 fall_due-futures [] p = refl
 fall_due-futures (timer ∷ timers) p = fall_due-futures timers (fallen timer p)
 

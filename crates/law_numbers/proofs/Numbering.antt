@@ -191,3 +191,26 @@ change_task_numbers id change p is = at (slice_get p.tasks id)
     at : (o : Option Task) → IsNumbered (option_map_or (λ (t : Task). record p { tasks = slice_set p.tasks id (change t) }) o p)
     at None = is
     at (Some task) = record { stamps = is.stamps; tags = is.tags; members = is.members }
+
+-- a handle is taken out
+pub taken_numbers : (handle : Handle) (rest : List Handle) (p : Parts) → p.pending ≡ handle ∷ rest → IsNumbered p
+    → IsNumbered (record p { pending = rest })
+taken_numbers handle rest p first is = record {
+  stamps = given_fewer (stamps_of p) (map stamp_of rest) p.next_stamp stamps is.stamps;
+  tags = given_fewer (tags_of p) (tags_of (record p { pending = rest })) p.next_tag tags is.tags;
+  members = is.members;
+}
+  where
+    stamps : (k : ℕ) → occurrences k (map stamp_of rest) ≤ occurrences k (stamps_of p)
+    stamps k =
+        let a : occurrences k (stamps_of p) ≡ one_at k handle.stamp + occurrences k (map stamp_of rest) =
+        ap (λ l. occurrences k (map stamp_of l)) first ∙ sum_by-cons (λ y. cond (nat_eq k y) 1 0) handle.stamp (map stamp_of rest) in
+        omega (arith, a)
+
+    tags : (k : ℕ) → occurrences k (tags_of (record p { pending = rest })) ≤ occurrences k (tags_of p)
+    tags k =
+        let a = tagged k p in
+        let b = tagged k (record p { pending = rest }) in
+        let c : occurrences k (map tag_of p.pending) ≡ one_at k handle.tag + occurrences k (map tag_of rest) =
+        ap (λ l. occurrences k (map tag_of l)) first ∙ sum_by-cons (λ y. cond (nat_eq k y) 1 0) handle.tag (map tag_of rest) in
+        omega (arith, a, b, c)

@@ -1,26 +1,25 @@
 -- A run begins in a sound state.
-use Rattle.std.proofs.Common.{◌≡◌, ◌≢◌, ℕ, zero, suc, ◌+◌, ◌<◌, true, false, not, ◌&&◌, [], Some, None, nat_eq, slice_get, refl, ap, sym, ◌∙◌, arith}
-use Rattle.std.specs.List.{count_by}
-use Rattle.std.proofs.lemmas.Bool.{false≢true, ne_eqb}
+use Rattle.std.proofs.Common.{◌≡◌, ℕ, None, Some, [], arith, false, nat_eq, refl, suc, sym, zero, ◌+◌, ◌<◌, ◌∙◌, ◌≢◌}
 use Rattle.std.proofs.lemmas.List.Elements.{All-nil}
-use Rattle.std.proofs.lemmas.Option.{none-some, same_Some}
-use Rattle.model_value.specs.declared.action.Action.TheVariants.{Step, MainDone}
-use Rattle.model_loop.specs.Parts.{Handle}
-use Rattle.model_loop.specs.Tasks.{cancelling, lives, waiter_of}
-use Rattle.model_loop.specs.Groups.{new_group}
-use Rattle.model_loop.specs.Circles.{PassesTo, Leads, at_once, through}
-use Rattle.model_loop.specs.Callbacks.{ActionsStand, AreSettled, callbacks_of, ends_sleep_on, waits_for_future}
-use Rattle.model_loop.specs.Homes.{one_if, still_to_come}
+use Rattle.model_loop.specs.Owning.{AreCallbacks, AreSettled, OwnsFutures, own_future}
+use Rattle.std.proofs.lemmas.Bool.{false≢true, ne_eqb}
+use Rattle.model_loop.specs.Start.{first_loop, first_parts, no_parts}
+use Rattle.model_loop.specs.Circles.{Leads, PassesTo, at_once, through}
+use Rattle.model_loop.specs.Ways.{HasOneWay, IsReady, wakeups_on, wanted, ways}
+use Rattle.model_loop.specs.Children.{IsTold, tells}
 use Rattle.model_loop.specs.Numbered.{AreGivenOnce, IsNumbered}
-use Rattle.model_loop.specs.Owning.{OwnsFutures, own_future}
-use Rattle.model_loop.specs.Ways.{steps, wakes, wakeups_on, HasOneWay, WaitsRightly}
-use Rattle.model_loop.specs.Marks.{MarksWait}
-use Rattle.model_loop.specs.Balance.{CountsBalance}
-use Rattle.model_loop.specs.Children.{IsOrderly, IsTold, tells}
-use Rattle.model_loop.specs.Sound.{HasNoCircle, IsSound}
-use Rattle.model_loop.specs.Start.{no_parts, first_parts, first_loop}
+use Rattle.model_loop.specs.Tasks.{cancelling, waiter_of}
+use Rattle.model_loop.specs.Totals.{callbacks_of, total}
 use Rattle.law_numbers.proofs.Numbering.{register_numbers}
+use Rattle.law_settling.proofs.Spreading.{marks}
 use Rattle.law_numbers.proofs.Falling.{spawn_numbers}
+use Rattle.model_loop.specs.Groups.{new_group}
+use Rattle.std.proofs.lemmas.Option.{none-some, same_Some}
+use Rattle.model_loop.specs.Sound.{HasNoCircle, IsSound}
+use Rattle.model_loop.specs.Marks.{MarksWait}
+use Rattle.model_loop.specs.Futures.{settled}
+use Rattle.std.specs.List.{count_by}
+use Rattle.model_value.specs.declared.action.Action.TheVariants.{MainDone}
 
 none_given : AreGivenOnce [] 0
 none_given = record { once = λ k. omega arith; below = λ k h. refl }
@@ -54,7 +53,7 @@ first_one_way = record {
   stays = λ task on l w h. absurd (none-some on (sym (waits_not task) ∙ w));
 }
   where
-    one : (task : ℕ) → still_to_come first_parts (steps task) (waiter_of first_parts task) ≡ one_if (lives first_parts task && true)
+    one : (task : ℕ) → ways first_parts task ≡ wanted None first_parts task
     one zero = refl
     one (suc task) = rw (apart task) refl
 
@@ -62,34 +61,15 @@ first_one_way = record {
     on_waiter task zero h = absurd (omega (arith, h))
     on_waiter task (suc on) h = absurd (omega (arith, h))
 
--- the only pending handle is main's first step
-abbrev first_handle : Handle
-first_handle = record { stamp = 0; tag = 0; action = Step 0; dead = false }
-
-is_first : (place : ℕ) (handle : Handle) → slice_get first_parts.pending place ≡ Some handle → first_handle ≡ handle
-is_first zero handle e = same_Some first_handle handle e
-is_first (suc place) handle e = absurd (none-some handle e)
-
-first_waits : WaitsRightly None first_parts
-first_waits = record {
-  made = λ task on w. absurd (none-some on (sym (waits_not task) ∙ w));
-  runs = λ task r. absurd (false≢true r);
-  running_waits = λ task r. absurd (false≢true r);
-  stepped = λ task place handle e d s. waits_not task;
-  woken = λ task place handle e d w. absurd (false≢true (ap (λ (h : Handle). wakes task h.action) (is_first place handle e) ∙ w));
+first_ready : IsReady first_parts
+first_ready = record {
+  free = λ task h. waits_not task;
+  woken = λ task h. absurd (omega (arith, h));
 }
 
-first_actions : ActionsStand first_parts
-first_actions = record {
-  in_timers = λ place timer e. absurd (none-some timer e);
-  on_futures = on_futures;
-  in_time = λ id place timer e h. absurd (none-some timer e);
-  pending = λ id place handle e d h. absurd (false≢true (ap (λ (h : Handle). ends_sleep_on id h.action) (is_first place handle e) ∙ h));
-}
-  where
-    on_futures : (id : ℕ) → count_by (λ action. not (waits_for_future action)) (callbacks_of first_parts id) ≡ 0
-    on_futures zero = refl
-    on_futures (suc id) = refl
+first_callbacks : AreCallbacks first_parts
+first_callbacks zero = refl
+first_callbacks (suc id) = refl
 
 first_no_circle : HasNoCircle first_parts
 first_no_circle zero l = go l refl
@@ -111,20 +91,6 @@ first_settled : AreSettled first_parts
 first_settled zero h = absurd (false≢true (sym h))
 first_settled (suc id) h = refl
 
-first_balance : CountsBalance first_loop
-first_balance = record {
-  tasks = tasks;
-  timeouts_ask = λ id. refl;
-  timeouts_take = λ id. refl;
-  groups_ask = λ id. refl;
-  groups_begin = λ id. refl;
-  groups_take = λ id. refl;
-}
-  where
-    tasks : (task : ℕ) → cancelling first_loop.parts task + 0 ≡ 0
-    tasks zero = refl
-    tasks (suc task) = refl
-
 first_told : (id : ℕ) → IsTold first_parts id [] (new_group 0)
 first_told id = record {
   tellings = tellings;
@@ -135,7 +101,7 @@ first_told id = record {
   parent_lives = λ e n. absurd (false≢true e);
 }
   where
-    tellings : (task : ℕ) → still_to_come first_parts (tells id task) (own_future first_parts task) ≡ 0
+    tellings : (task : ℕ) → total first_parts (tells id task) (own_future first_parts task) ≡ 0
     tellings zero = refl
     tellings (suc task) = refl
 
@@ -143,47 +109,55 @@ first_told id = record {
     at_home task zero h = absurd (omega (arith, h))
     at_home task (suc on) h = absurd (omega (arith, h))
 
-first_orderly : IsOrderly [] (new_group 0)
-first_orderly = record {
-  made_once = λ task. omega arith;
-  child_or_told = λ task. refl;
-  exiting_entered = λ h. absurd (false≢true h);
-  ended_exiting = λ h. absurd (false≢true h);
-  none_left = λ h. refl;
-  body_exiting = λ h. refl;
-  kept_exiting = λ h. refl;
-  body_aborts = λ h. refl;
-  kept_clean = λ fault e. absurd (none-some fault e);
-  waits_exiting = λ on e. absurd (none-some on e);
-  waits_not_ended = λ on e. absurd (none-some on e);
-}
-
 pub first_sound : IsSound None (λ id. []) first_loop
 first_sound = record {
+  numbered = first_numbered;
+  no_circle = first_no_circle;
   parts = record {
-    numbered = first_numbered;
-    owns_futures = first_owns;
+    owns = first_owns;
     settled = first_settled;
-    actions = first_actions;
+    callbacks = first_callbacks;
+    runs = λ task r. absurd (false≢true r);
+    free = λ task r. absurd (false≢true r);
+    waits_made = λ task on w. absurd (none-some on (sym (waits_not task) ∙ w));
     one_way = first_one_way;
-    waits = first_waits;
-    no_circle = first_no_circle;
-    marks_wait = first_marks;
+    ready = first_ready;
+    marks = first_marks;
   };
-  balance = first_balance;
+  timed = record { timers = refl; sleeps = λ id h. absurd (omega (arith, h)) };
   timeouts = λ id. record {
-    at_most_one = omega arith;
-    tagged = λ tag h. absurd (omega (arith, h));
+    held = refl;
     active = λ tag e. absurd (none-some tag e);
     below = λ tag e. absurd (none-some tag e);
     own = λ tag e. absurd (none-some tag e);
   };
   groups = λ id. record {
-    children_done = λ task e h. absurd (false≢true e);
-    errors_at_end = λ e. absurd (false≢true e);
-    errors_before = λ e. refl;
-    is_told = first_told id;
-    orderly = first_orderly;
-    exit_plain = λ on e. absurd (none-some on e);
+    tellings = first_told id;
+    kept = record {
+      made_once = λ task. omega arith;
+      child_or_told = λ task. refl;
+      none_left = λ h. refl;
+      ended_exiting = λ h. absurd (false≢true h);
+    };
+    errors = refl;
+    orderly = record {
+      exiting_entered = λ e. absurd (false≢true e);
+      kept_clean = λ fault e. refl;
+      body_aborts = λ e. refl;
+      body_exiting = λ e. refl;
+      kept_exiting = λ e. refl;
+      waits_exiting = λ e. refl;
+      waits_open = λ e. refl;
+    };
+    plain_exit = λ future e. absurd (none-some future e);
+  };
+  balance = record {
+    tasks = tasks;
+    timeouts = λ id. record { asked = refl; took = refl };
+    groups = λ id. record { asked = refl; began = refl; took = refl };
   };
 }
+  where
+    tasks : (task : ℕ) → cancelling first_loop.parts task + 0 ≡ 0
+    tasks zero = refl
+    tasks (suc task) = refl

@@ -1,1 +1,5 @@
+pub mod Carrying
 pub mod Beginning
+pub mod Steps
+pub mod GroupSteps
+pub mod TimeoutSteps

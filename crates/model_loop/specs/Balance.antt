@@ -6,10 +6,10 @@ use Rattle.std.specs.List.{count_by, list_any}
 use Rattle.model_loop.specs.Ledger.{Origin, ByTimeout, ByGroup, LedgerEntry, Asked, Raised, Took, Began, Booked}
 use Rattle.model_loop.specs.Parts.{Parts}
 use Rattle.model_loop.specs.Loop.{TimeoutState, Expired, Loop}
-use Rattle.model_loop.specs.Homes.{one_if}
 use Rattle.model_loop.specs.Tasks.{cancelling}
 use Rattle.model_loop.specs.Timeouts.{timeout_of, has_expired}
 use Rattle.model_loop.specs.Groups.{group_of}
+use Rattle.model_loop.specs.Ways.{one_if}
 
 abbrev pub is_by_timeout : ℕ → Origin → Bool
 is_by_timeout id (ByTimeout other) = other == id
@@ -62,10 +62,20 @@ abbrev pub is_expired : TimeoutState → Bool
 is_expired Expired = true
 is_expired _ = false
 
+-- What the ledger tells of a timeout: it asked where its time is over, and took its cancel back where its block was left
+-- after that.
+pub record TimeoutBalances (id : ℕ) (ledger : List LedgerEntry) (state : TimeoutState) : Type 0 where
+  pub asked : count_by (asks (is_by_timeout id)) ledger ≡ one_if (has_expired state)
+  pub took : count_by (takes (is_by_timeout id)) ledger ≡ one_if (is_expired state)
+
+-- What it tells of a group: it asked where its request is marked, its exit began where it is exiting, and it took its
+-- request back once where it asked before its exit began.
+pub record GroupBalances (id : ℕ) (ledger : List LedgerEntry) (requested exiting : Bool) : Type 0 where
+  pub asked : count_by (asks (is_by_group id)) ledger ≡ one_if requested
+  pub began : count_by (begins id) ledger ≡ one_if exiting
+  pub took : count_by (takes (is_by_group id)) ledger ≡ one_if (asked_before_exit id ledger)
+
 pub record CountsBalance (l : Loop) : Type 0 where
   pub tasks : TasksBalance l
-  pub timeouts_ask : (id : ℕ) → count_by (asks (is_by_timeout id)) l.ledger ≡ one_if (has_expired (timeout_of l id).state)
-  pub timeouts_take : (id : ℕ) → count_by (takes (is_by_timeout id)) l.ledger ≡ one_if (is_expired (timeout_of l id).state)
-  pub groups_ask : (id : ℕ) → count_by (asks (is_by_group id)) l.ledger ≡ one_if (group_of l id).requested
-  pub groups_begin : (id : ℕ) → count_by (begins id) l.ledger ≡ one_if (group_of l id).exiting
-  pub groups_take : (id : ℕ) → count_by (takes (is_by_group id)) l.ledger ≡ one_if (asked_before_exit id l.ledger)
+  pub timeouts : (id : ℕ) → TimeoutBalances id l.ledger (timeout_of l id).state
+  pub groups : (id : ℕ) → GroupBalances id l.ledger (group_of l id).requested (group_of l id).exiting

@@ -1,15 +1,14 @@
 pub mod Balance
-pub mod Callbacks
 pub mod Cancel
 pub mod Cancelling
 pub mod Children
 pub mod Circles
 pub mod Deadlines
 pub mod Ending
+pub mod Entries
 pub mod Futures
 pub mod Groups
 pub mod Handles
-pub mod Homes
 pub mod Ledger
 pub mod Loop
 pub mod Marks
@@ -22,4 +21,5 @@ pub mod Start
 pub mod Suspend
 pub mod Tasks
 pub mod Timeouts
+pub mod Totals
 pub mod Ways

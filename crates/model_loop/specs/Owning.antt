@@ -1,6 +1,12 @@
--- Each task has its own future, and each task's future its task.
-use Rattle.std.specs.Prelude.{◌≡◌, ◌↔◌, ℕ, Option, Some, None, option_map, slice_get}
-use Rattle.model_loop.specs.Parts.{FutureKind, OfTask, Future, Task, Parts}
+-- Futures and whose they are: each task has its own future, and each task's future its task. What is called when a future
+-- is done wakes a task, tells a group, or notes that main is done; a future that is done has been called for.
+use Rattle.std.specs.Prelude.{◌≡◌, ◌↔◌, ℕ, Bool, true, false, not, [], Option, Some, None, option_map, slice_get}
+use Rattle.std.specs.List.{count_by}
+use Rattle.model_value.specs.Action.{Action}
+use Rattle.model_value.specs.declared.action.Action.TheVariants.{Wakeup, GroupDone, MainDone}
+use Rattle.model_loop.specs.Parts.{FutureKind, Plain, OfTask, Future, Task, Parts}
+use Rattle.model_loop.specs.Futures.{is_pending}
+use Rattle.model_loop.specs.Totals.{callbacks_of}
 
 abbrev pub owner_in : FutureKind → Option ℕ
 owner_in (OfTask task) = Some task
@@ -20,3 +26,30 @@ own_future p task = option_map (λ (it : Task). it.future) (slice_get p.tasks ta
 
 abbrev pub OwnsFutures : Parts → Type 0
 OwnsFutures p = (id task : ℕ) → (owner_of p id ≡ Some task) ↔ (own_future p task ≡ Some id)
+
+abbrev pub AreSettled : Parts → Type 0
+AreSettled p = (id : ℕ) → is_pending p id ≡ false → callbacks_of p id ≡ []
+
+abbrev pub is_callback : Action → Bool
+is_callback (Wakeup task) = true
+is_callback (GroupDone group task) = true
+is_callback MainDone = true
+is_callback _ = false
+
+abbrev pub is_no_callback : Action → Bool
+is_no_callback action = not (is_callback action)
+
+abbrev pub AreCallbacks : Parts → Type 0
+AreCallbacks p = (id : ℕ) → count_by is_no_callback (callbacks_of p id) ≡ 0
+
+abbrev pub is_plain_kind : FutureKind → Bool
+is_plain_kind Plain = true
+is_plain_kind _ = false
+
+abbrev pub is_plain_at : Option Future → Bool
+is_plain_at None = false
+is_plain_at (Some future) = is_plain_kind future.kind
+
+-- whether there is a future of this number that is no task's and stands for no others
+abbrev pub is_plain : Parts → ℕ → Bool
+is_plain p id = is_plain_at (slice_get p.futures id)

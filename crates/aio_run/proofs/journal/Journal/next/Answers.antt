@@ -1,4 +1,4 @@
-use Rattle.std.proofs.Common.{◌+◌, ◌∷◌, refl, ap, sym, ◌∙◌, List, ℕ}
+use Rattle.std.proofs.Common.{◌+◌, [], ◌∷◌, refl, ap, sym, ◌∙◌, List, ℕ}
 use Rattle.model_value.specs.Lines.{lines_of}
 use Rattle.model_wire.specs.Journal.{Answered, Refused, no_entry, entries_from}
 use Rattle.model_wire.specs.declared.answer.Answer.TheVariants.{Turn}

@@ -1,0 +1,344 @@
+-- Steps that are no timeout's and no group's book nothing of them.
+use Rattle.std.proofs.Common.{◌≡◌, ℕ, Bool, List, None, Option, Some, [], ap, append-nil, append_assoc, arith, cond, false, map, option_map, refl, slice_index_or, slice_set, subst, suc, sym, true, zero, ℤ, ◌++◌, ◌+◌, ◌∙◌, ◌∷◌, nat_lt}
+use Rattle.model_loop.specs.Handles.{deadline}
+use Rattle.model_loop.specs.Groups.{Refusal, abort, create, create_unless, end_exit, exit_woken, group_of, hear, keep_and_abort_unless, make_group, new_group, refusal, set_group, wait_or_end, wait_or_end_with, wake_exit, wake_if_last, with_child}
+use Rattle.model_loop.specs.Circles.{circle}
+use Rattle.model_loop.specs.Timeouts.{enter_timeout, fires_at, give_up, has_expired, is_active, make_timeout, moment, next_timeout, no_timeout, reschedule, reschedule_where, schedule, set_timeout, timeout_of, with_deadline, without_handle}
+use Rattle.model_loop.specs.Tasks.{future_of, is_marked, lives, cancelling}
+use Rattle.model_loop.specs.Futures.{new_plain}
+use Rattle.model_loop.specs.Loop.{Group, Loop, Timeout, book, in_parts}
+use Rattle.model_loop.specs.Ledger.{Asked, Booked, ByAbort, ByWait, LedgerEntry, Origin, Raised, Took, ask_cancel, raised_among, request_each, request_where, uncancel_by}
+use Rattle.model_loop.specs.Suspend.{cancel_wait, suspend, suspend_unless, wait_on}
+use Rattle.std.specs.List.{count_by}
+use Rattle.model_loop.specs.Ways.{one_if}
+use Rattle.model_loop.specs.Entries.{entries}
+use Rattle.model_value.specs.declared.input.Input.TheVariants.{Send, Throw}
+use Rattle.law_ledger.specs.Telling.{BooksNone, BooksQuietly, IsOther, Tells}
+use Rattle.model_value.specs.Action.{Circle}
+use Rattle.model_loop.specs.Cancel.{cancel}
+use Rattle.model_loop.specs.Parts.{Parts}
+use Rattle.model_loop.specs.Balance.{GroupBalances, is_by_timeout, is_expired, takes, asks, begins, is_by_group}
+use Rattle.law_ledger.proofs.Asked.{quiet_asked}
+use Rattle.model_value.specs.Input.{Input}
+use Rattle.std.proofs.lemmas.List.Sums.{sum_by-append, sum_by-cons}
+use Rattle.model_value.specs.Value.{Exc}
+
+pub count-append : (f : LedgerEntry → Bool) (xs ys : List LedgerEntry) → count_by f (xs ++ ys) ≡ count_by f xs + count_by f ys
+count-append f xs ys = sum_by-append (λ e. cond (f e) 1 0) xs ys
+
+pub count-cons : (f : LedgerEntry → Bool) (x : LedgerEntry) (xs : List LedgerEntry)
+    → count_by f (x ∷ xs) ≡ cond (f x) 1 0 + count_by f xs
+count-cons f x xs = sum_by-cons (λ e. cond (f e) 1 0) x xs
+
+pub none_nil : BooksNone []
+none_nil = record {
+  timeouts_ask = λ id. refl;
+  timeouts_take = λ id. refl;
+  groups_ask = λ id. refl;
+  groups_take = λ id. refl;
+  groups_begin = λ id. refl;
+}
+
+zero_on : (f : LedgerEntry → Bool) (xs ys : List LedgerEntry) → count_by f xs ≡ 0 → count_by f ys ≡ 0 → count_by f (xs ++ ys) ≡ 0
+zero_on f xs ys a b = let c = count-append f xs ys in omega (arith, a, b, c)
+
+pub none_on : (xs ys : List LedgerEntry) → BooksNone xs → BooksNone ys → BooksNone (xs ++ ys)
+none_on xs ys a b = record {
+  timeouts_ask = λ id. zero_on _ xs ys (a.timeouts_ask id) (b.timeouts_ask id);
+  timeouts_take = λ id. zero_on _ xs ys (a.timeouts_take id) (b.timeouts_take id);
+  groups_ask = λ id. zero_on _ xs ys (a.groups_ask id) (b.groups_ask id);
+  groups_take = λ id. zero_on _ xs ys (a.groups_take id) (b.groups_take id);
+  groups_begin = λ id. zero_on _ xs ys (a.groups_begin id) (b.groups_begin id);
+}
+
+-- ---- requests
+raised_zero : (f : LedgerEntry → Bool) (by : Origin) → ((task : ℕ) → f (Raised task by) ≡ false) → (tasks : List ℕ)
+    → count_by f (map (λ task. Raised task by) tasks) ≡ 0
+raised_zero f by none [] = refl
+raised_zero f by none (t ∷ ts) =
+    let ih = raised_zero f by none ts in
+    let c : count_by f (Raised t by ∷ map (λ task. Raised task by) ts) ≡ 0 + count_by f (map (λ task. Raised task by) ts) =
+    count-cons f (Raised t by) (map (λ task. Raised task by) ts) ∙ rw (none t) refl in
+    omega (arith, ih, c)
+
+pub raised_none : (by : Origin) (tasks : List ℕ) → BooksNone (map (λ task. Raised task by) tasks)
+raised_none by tasks = record {
+  timeouts_ask = λ id. raised_zero _ by (λ t. refl) tasks;
+  timeouts_take = λ id. raised_zero _ by (λ t. refl) tasks;
+  groups_ask = λ id. raised_zero _ by (λ t. refl) tasks;
+  groups_take = λ id. raised_zero _ by (λ t. refl) tasks;
+  groups_begin = λ id. raised_zero _ by (λ t. refl) tasks;
+}
+
+-- an entry in front that isn't counted
+behind_zero : (f : LedgerEntry → Bool) (x : LedgerEntry) (xs : List LedgerEntry) → f x ≡ false → count_by f xs ≡ 0
+    → count_by f (x ∷ xs) ≡ 0
+behind_zero f x xs e z =
+    let c : count_by f (x ∷ xs) ≡ 0 + count_by f xs = count-cons f x xs ∙ rw e refl in
+    omega (arith, c, z)
+
+abbrev pub raised_entries : Origin → ℕ → Parts → List LedgerEntry
+raised_entries by id p = map (λ task. Raised task by) (raised_among p (cancel id p).seen)
+
+pub request_none : (by : Origin) (id : ℕ) (p : Parts) → IsOther by → BooksNone (ask_cancel by id p).entries
+request_none by id p other = record {
+  timeouts_ask = λ j. behind_zero (asks (is_by_timeout j)) (Asked by) (raised_entries by id p) (other.timeout j) (none.timeouts_ask j);
+  timeouts_take = λ j. behind_zero (takes (is_by_timeout j)) (Asked by) (raised_entries by id p) refl (none.timeouts_take j);
+  groups_ask = λ j. behind_zero (asks (is_by_group j)) (Asked by) (raised_entries by id p) (other.group j) (none.groups_ask j);
+  groups_take = λ j. behind_zero (takes (is_by_group j)) (Asked by) (raised_entries by id p) refl (none.groups_take j);
+  groups_begin = λ j. behind_zero (begins j) (Asked by) (raised_entries by id p) refl (none.groups_begin j);
+}
+  where
+    none : BooksNone (map (λ task. Raised task by) (raised_among p (cancel id p).seen))
+    none = raised_none by (raised_among p (cancel id p).seen)
+
+pub each_none : (by : Origin) (tasks : List ℕ) (p : Parts) → IsOther by → BooksNone (request_each by tasks p).entries
+each_none by [] p other = none_nil
+each_none by (task ∷ tasks) p other =
+    none_on (request_where (lives p task) by (future_of p task) p).entries _ (first (lives p task)) (each_none by tasks _ other)
+  where
+    first : (b : Bool) → BooksNone (request_where b by (future_of p task) p).entries
+    first true = request_none by (future_of p task) p other
+    first false = none_nil
+
+pub uncancel_none : (by : Origin) (task : ℕ) (p : Parts) → IsOther by → BooksNone (uncancel_by by task p).entries
+uncancel_none by task p other = record {
+  timeouts_ask = λ id. refl;
+  timeouts_take = λ id. behind_zero (takes (is_by_timeout id)) (Took task by (nat_lt 0 (cancelling p task))) [] (other.timeout id) refl;
+  groups_ask = λ id. refl;
+  groups_take = λ id. behind_zero (takes (is_by_group id)) (Took task by (nat_lt 0 (cancelling p task))) [] (other.group id) refl;
+  groups_begin = λ id. refl;
+}
+
+pub by_wait : (task : ℕ) → IsOther (ByWait task)
+by_wait task = record { timeout = λ id. refl; group = λ id. refl }
+
+pub by_abort : (group : ℕ) → IsOther (ByAbort group)
+by_abort group = record { timeout = λ id. refl; group = λ id. refl }
+
+pub suspend_none : (task on : ℕ) (p : Parts) → BooksNone (suspend task on p).entries
+suspend_none task on p = at (circle p task on)
+  where
+    marked : (b : Bool) → BooksNone (cancel_wait b task on (wait_on task on p)).entries
+    marked false = none_nil
+    marked true = request_none (ByWait task) on (wait_on task on p) (by_wait task)
+
+    at : (o : Option Circle) → BooksNone (suspend_unless o task on p).entries
+    at (Some why) = none_nil
+    at None = marked (is_marked p task)
+
+-- ---- such steps keep what the ledger tells
+pub quietly_tells : (l q : Loop) → BooksQuietly l q → Tells l → Tells q
+quietly_tells l q b is = record {
+  timeouts = λ id. record {
+    asked =
+        let c = count-append (asks (is_by_timeout id)) l.ledger b.more in
+        let z = b.none.timeouts_ask id in
+        let a = (is.timeouts id).asked in
+        let e : count_by (asks (is_by_timeout id)) q.ledger ≡ count_by (asks (is_by_timeout id)) (l.ledger ++ b.more) =
+        ap (count_by (asks (is_by_timeout id))) b.ledger in
+        let s : one_if (has_expired (timeout_of q id).state) ≡ one_if (has_expired (timeout_of l id).state) = ap one_if (b.expired id) in
+        omega (arith, c, z, a, e, s);
+    took =
+        let c = count-append (takes (is_by_timeout id)) l.ledger b.more in
+        let z = b.none.timeouts_take id in
+        let a = (is.timeouts id).took in
+        let e : count_by (takes (is_by_timeout id)) q.ledger ≡ count_by (takes (is_by_timeout id)) (l.ledger ++ b.more) =
+        ap (count_by (takes (is_by_timeout id))) b.ledger in
+        let s : one_if (is_expired (timeout_of q id).state) ≡ one_if (is_expired (timeout_of l id).state) = ap one_if (b.over id) in
+        omega (arith, c, z, a, e, s);
+  };
+  groups = λ id.
+      subst (λ ledger. GroupBalances id ledger (group_of q id).requested (group_of q id).exiting) (sym b.ledger)
+      (subst (λ r. GroupBalances id (l.ledger ++ b.more) r (group_of q id).exiting) (sym (b.requested id))
+      (subst (λ x. GroupBalances id (l.ledger ++ b.more) (group_of l id).requested x) (sym (b.exiting id))
+      (quiet_asked id l.ledger b.more (group_of l id).requested (group_of l id).exiting (b.none.groups_ask id)
+      (b.none.groups_begin id) (b.none.groups_take id) (is.groups id))));
+}
+
+pub quietly_on : (l q r : Loop) → BooksQuietly q r → BooksQuietly l q → BooksQuietly l r
+quietly_on l q r b a = record {
+  more = a.more ++ b.more;
+  ledger = b.ledger ∙ ap (λ x. x ++ b.more) a.ledger ∙ append_assoc l.ledger a.more b.more;
+  none = none_on a.more b.more a.none b.none;
+  requested = λ id. b.requested id ∙ a.requested id;
+  exiting = λ id. b.exiting id ∙ a.exiting id;
+  expired = λ id. b.expired id ∙ a.expired id;
+  over = λ id. b.over id ∙ a.over id;
+}
+
+pub parts_quietly : (l : Loop) (p : Parts) → BooksQuietly l (record l { parts = p })
+parts_quietly l p = record {
+  more = [];
+  ledger = sym (append-nil l.ledger);
+  none = none_nil;
+  requested = λ id. refl;
+  exiting = λ id. refl;
+  expired = λ id. refl;
+  over = λ id. refl;
+}
+
+pub refl_quietly : (l : Loop) → BooksQuietly l l
+refl_quietly l = record {
+  more = [];
+  ledger = sym (append-nil l.ledger);
+  none = none_nil;
+  requested = λ id. refl;
+  exiting = λ id. refl;
+  expired = λ id. refl;
+  over = λ id. refl;
+}
+
+pub book_quietly : (change : Parts → Booked) (l : Loop) → BooksNone (change l.parts).entries → BooksQuietly l (book change l)
+book_quietly change l none = record {
+  more = (change l.parts).entries;
+  ledger = refl;
+  none = none;
+  requested = λ id. refl;
+  exiting = λ id. refl;
+  expired = λ id. refl;
+  over = λ id. refl;
+}
+
+-- ---- what a list tells of its elements, after one was changed or appended as the view sees no change
+pub seen-set : {A : Type 0} (f : A → Bool) (xs : List A) (i : ℕ) (new d : A) → f new ≡ f (slice_index_or xs i d) → (j : ℕ)
+    → f (slice_index_or (slice_set xs i new) j d) ≡ f (slice_index_or xs j d)
+seen-set f [] i new d same j = refl
+seen-set f (x ∷ xs) zero new d same zero = same
+seen-set f (x ∷ xs) zero new d same (suc j) = refl
+seen-set f (x ∷ xs) (suc i) new d same zero = refl
+seen-set f (x ∷ xs) (suc i) new d same (suc j) = seen-set f xs i new d same j
+
+pub seen-push : {A : Type 0} (f : A → Bool) (xs : List A) (new d : A) → f new ≡ f d → (j : ℕ)
+    → f (slice_index_or (xs ++ new ∷ []) j d) ≡ f (slice_index_or xs j d)
+seen-push f [] new d same zero = same
+seen-push f [] new d same (suc j) = refl
+seen-push f (x ∷ xs) new d same zero = refl
+seen-push f (x ∷ xs) new d same (suc j) = seen-push f xs new d same j
+
+pub group_quietly : (id : ℕ) (new : Group) (l : Loop) → new.requested ≡ (group_of l id).requested
+    → new.exiting ≡ (group_of l id).exiting → BooksQuietly l (set_group id new l)
+group_quietly id new l requested exiting = record {
+  more = [];
+  ledger = sym (append-nil l.ledger);
+  none = none_nil;
+  requested = seen-set (λ (g : Group). g.requested) l.groups id new (new_group 0) requested;
+  exiting = seen-set (λ (g : Group). g.exiting) l.groups id new (new_group 0) exiting;
+  expired = λ j. refl;
+  over = λ j. refl;
+}
+
+pub make_group_quietly : (parent : ℕ) (l : Loop) → BooksQuietly l (make_group parent l)
+make_group_quietly parent l = record {
+  more = [];
+  ledger = sym (append-nil l.ledger);
+  none = none_nil;
+  requested = seen-push (λ (g : Group). g.requested) l.groups (new_group parent) (new_group 0) refl;
+  exiting = seen-push (λ (g : Group). g.exiting) l.groups (new_group parent) (new_group 0) refl;
+  expired = λ j. refl;
+  over = λ j. refl;
+}
+
+pub timeout_quietly : (id : ℕ) (new : Timeout) (l : Loop) → has_expired new.state ≡ has_expired (timeout_of l id).state
+    → is_expired new.state ≡ is_expired (timeout_of l id).state → BooksQuietly l (set_timeout id new l)
+timeout_quietly id new l expired over = record {
+  more = [];
+  ledger = sym (append-nil l.ledger);
+  none = none_nil;
+  requested = λ j. refl;
+  exiting = λ j. refl;
+  expired = seen-set (λ (t : Timeout). has_expired t.state) l.timeouts id new no_timeout expired;
+  over = seen-set (λ (t : Timeout). is_expired t.state) l.timeouts id new no_timeout over;
+}
+
+pub make_timeout_quietly : (task : ℕ) (l : Loop) → BooksQuietly l (make_timeout task l)
+make_timeout_quietly task l = record {
+  more = [];
+  ledger = sym (append-nil l.ledger);
+  none = none_nil;
+  requested = λ j. refl;
+  exiting = λ j. refl;
+  expired = seen-push (λ (t : Timeout). has_expired t.state) l.timeouts _ no_timeout refl;
+  over = seen-push (λ (t : Timeout). is_expired t.state) l.timeouts _ no_timeout refl;
+}
+
+-- ---- timeouts
+pub without_quietly : (id : ℕ) (l : Loop) → BooksQuietly l (without_handle id l)
+without_quietly id l =
+    quietly_on l (in_parts (give_up (timeout_of l id).tag) l) _
+    (timeout_quietly id (record (timeout_of l id) { tag = None }) (in_parts (give_up (timeout_of l id).tag) l) refl refl)
+    (parts_quietly l (give_up (timeout_of l id).tag l.parts))
+
+pub schedule_quietly : (id : ℕ) (when : Option ℕ) (l : Loop) → BooksQuietly l (schedule id when l)
+schedule_quietly id when l = at when
+  where
+    at : (when : Option ℕ) → BooksQuietly l (with_deadline id when (without_handle id l))
+    at None = without_quietly id l
+    at (Some when) =
+        quietly_on l (without_handle id l) _
+        (quietly_on (without_handle id l) (in_parts (fires_at id when) (without_handle id l)) _
+        (timeout_quietly id (record (timeout_of (without_handle id l) id) { tag = Some (without_handle id l).parts.next_tag })
+        (in_parts (fires_at id when) (without_handle id l)) refl refl)
+        (parts_quietly (without_handle id l) (fires_at id when (without_handle id l).parts)))
+        (without_quietly id l)
+
+pub reschedule_quietly : (id : ℕ) (when : Option ℤ) (l : Loop) → BooksQuietly l (reschedule id when l)
+reschedule_quietly id when l = at (is_active (timeout_of l id).state)
+  where
+    at : (b : Bool) → BooksQuietly l (reschedule_where b id when l)
+    at true = schedule_quietly id (option_map moment when) l
+    at false = refl_quietly l
+
+pub enter_quietly : (task : ℕ) (delay : Option ℤ) (l : Loop) → BooksQuietly l (enter_timeout task delay l)
+enter_quietly task delay l =
+    quietly_on l (make_timeout task l) _
+    (schedule_quietly (next_timeout l) (option_map (deadline l.parts.time) delay) (make_timeout task l)) (make_timeout_quietly task l)
+
+-- ---- groups
+pub create_quietly : (id : ℕ) (l : Loop) → BooksQuietly l (create id l)
+create_quietly id l = at (refusal (group_of l id))
+  where
+    at : (o : Option Refusal) → BooksQuietly l (create_unless o id l)
+    at (Some why) = refl_quietly l
+    at None =
+        quietly_on l (in_parts (with_child id) l) _ (group_quietly id _ (in_parts (with_child id) l) refl refl)
+        (parts_quietly l (with_child id l.parts))
+
+pub abort_quietly : (id : ℕ) (l : Loop) → BooksQuietly l (abort id l)
+abort_quietly id l =
+    quietly_on l (set_group id (record (group_of l id) { aborting = true }) l) _
+    (book_quietly (request_each (ByAbort id) (group_of l id).children) (set_group id (record (group_of l id) { aborting = true }) l)
+    (each_none (ByAbort id) (group_of l id).children l.parts (by_abort id)))
+    (group_quietly id (record (group_of l id) { aborting = true }) l refl refl)
+
+pub wake_quietly : (id : ℕ) (l : Loop) → BooksQuietly l (wake_exit id l)
+wake_quietly id l = parts_quietly l (wake_if_last (group_of l id).children (group_of l id).exit_future l.parts)
+
+end_quietly : (kept : Option Exc) (errors : List Exc) (id : ℕ) (l : Loop) → BooksQuietly l (end_exit kept errors id l).loop
+end_quietly None errors id l = group_quietly id _ l refl refl
+end_quietly (Some fault) [] id l = group_quietly id _ l refl refl
+end_quietly (Some fault) (x ∷ xs) id l = group_quietly id _ l refl refl
+
+pub wait_or_end_quietly : (id : ℕ) (l : Loop) → BooksQuietly l (wait_or_end id l).loop
+wait_or_end_quietly id l = at (group_of l id).children
+  where
+    at : (children : List ℕ) → BooksQuietly l (wait_or_end_with children id l).loop
+    at [] = end_quietly (group_of l id).kept (group_of l id).errors id l
+    at (child ∷ children) =
+        quietly_on l (in_parts new_plain l) _ (group_quietly id _ (in_parts new_plain l) refl refl) (parts_quietly l (new_plain l.parts))
+
+hear_quietly : (input : Input) (id : ℕ) (l : Loop) → BooksQuietly l (hear input id l)
+hear_quietly (Send value) id l = refl_quietly l
+hear_quietly (Throw fault) id l = at (group_of l id).aborting
+  where
+    at : (b : Bool) → BooksQuietly l (keep_and_abort_unless b fault id l)
+    at true = refl_quietly l
+    at false =
+        quietly_on l (set_group id (record (group_of l id) { kept = Some fault }) l) _
+        (abort_quietly id (set_group id (record (group_of l id) { kept = Some fault }) l)) (group_quietly id _ l refl refl)
+
+pub woken_quietly : (input : Input) (id : ℕ) (l : Loop) → BooksQuietly l (exit_woken input id l).loop
+woken_quietly input id l =
+    let l1 = set_group id (record (group_of l id) { exit_future = None }) l in
+    quietly_on l (hear input id l1) _ (wait_or_end_quietly id (hear input id l1))
+    (quietly_on l l1 _ (hear_quietly input id l1) (group_quietly id (record (group_of l id) { exit_future = None }) l refl refl))

@@ -1,0 +1,4 @@
+pub mod Spawning
+pub mod Making
+pub mod Registering
+pub mod Passing

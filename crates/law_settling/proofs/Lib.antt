@@ -1,0 +1,5 @@
+pub mod Settling
+pub mod SettleWays
+pub mod Spreading
+pub mod Looks
+pub mod CancelSound

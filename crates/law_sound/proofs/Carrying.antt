@@ -1,0 +1,368 @@
+-- What each step of the loop carries on: what is numbered, that no circle is, what is called and scheduled.
+use Rattle.std.proofs.Common.{◌≡◌, ℕ, Bool, List, None, Option, Some, [], ap, arith, cond, false, inl, inr, is_some, length, not, refl, slice_get, sym, true, ◌&&◌, ◌++◌, ◌==◌, ◌||◌, ◌∙◌, ◌∷◌, ◌⊎◌}
+use Rattle.model_loop.specs.Parts.{Future, FutureKind, Handle, OfTask, Parts, Plain, Task}
+use Rattle.model_loop.specs.Tasks.{cancelling, change_task, future_of, lives, next_task, spawn, uncancel, waiter_of}
+use Rattle.model_loop.specs.Totals.{callbacks_at, callbacks_of}
+use Rattle.law_numbers.proofs.Falling.{new_plain_numbers, spawn_numbers}
+use Rattle.model_value.specs.Value.{Exc, Nothing, Outcome}
+use Rattle.model_loop.specs.Futures.{make_future, new_plain, next_future, register, registered, registered_on, settle}
+use Rattle.model_loop.specs.Handles.{soon}
+use Rattle.law_timeouts.proofs.Quiet.{change_task_quiet, make_quiet, mark_asked_quiet, quiet_on, refl_quiet, register_quiet, settle_quiet, soon_quiet, spawn_quiet, taken_quiet}
+use Rattle.model_loop.specs.Groups.{Refusal, abort, abort_and_request_unless, abort_if_raised, abort_where, begin_exit, blame, child_done, create, create_unless, end_exit, exit_begin, exit_woken, failure_of, group_of, hear, keep_and_abort_unless, refusal, set_group, take_back, take_back_where, wait_or_end, wait_or_end_with, wake_exit, wake_if_last, with_child, without_child}
+use Rattle.std.specs.Option.{option_map_or, option_to_list}
+use Rattle.model_loop.specs.Numbered.{IsNumbered}
+use Rattle.law_cancel.proofs.Effects.{register-tasks}
+use Rattle.law_settling.proofs.CancelSound.{plain_within, settled_callbacks}
+use Rattle.model_loop.specs.Owning.{AreCallbacks, is_callback, is_no_callback, is_plain, is_plain_at}
+use Rattle.law_cancel.proofs.Lookups.{get-push_last, get-push_other, get-set_kept}
+use Rattle.model_loop.specs.Ledger.{Booked, ByAbort, ByGroup, Origin, ask_cancel, request_each, request_where, uncancel_by}
+use Rattle.law_numbers.proofs.Numbering.{change_task_numbers, mark_asked_numbers, register_numbers, settle_numbers, soon_numbers, taken_numbers}
+use Rattle.model_loop.specs.Loop.{Group, Loop, book, in_parts}
+use Rattle.model_loop.specs.Cancel.{cancel}
+use Rattle.model_value.specs.Action.{Action}
+use Rattle.model_loop.specs.Circles.{passes, passes_at}
+use Rattle.law_settling.proofs.Looks.{LooksSame, asked_looks_same, change_looks_same, same_callbacks, same_no_circle}
+use Rattle.law_made.proofs.Passing.{no_circle_more, same_tasks_no_circle, settle_no_circle}
+use Rattle.model_loop.specs.Entries.{is_timed}
+use Rattle.law_settling.proofs.Spreading.{Spreads, begins, settles, asks, raises, marks, with_spread}
+use Rattle.law_cancel.proofs.Circling.{no_circle_kept, passes-same, register-view}
+use Rattle.law_timeouts.specs.Tags.{IsQuiet}
+use Rattle.law_settling.specs.Frames.{taken}
+use Rattle.std.proofs.lemmas.List.Sums.{sum_by_push}
+use Rattle.model_value.specs.declared.input.Input.TheVariants.{Send, Throw}
+use Rattle.model_loop.specs.Deadlines.{fires}
+use Rattle.law_told.proofs.Holding.{settled_names}
+use Rattle.law_settling.proofs.Settling.{settle_cases}
+use Rattle.std.specs.List.{count_by}
+use Rattle.model_value.specs.Input.{Input}
+use Rattle.model_value.specs.declared.outcome.Outcome.TheVariants.{Value as Returned, Cancelled}
+use Rattle.std.proofs.lemmas.Bool.{cases_eq}
+use Rattle.std.proofs.lemmas.Option.{slice_get_past}
+use Rattle.model_loop.specs.Sound.{HasNoCircle}
+use Rattle.model_value.specs.declared.action.Action.TheVariants.{GroupDone}
+
+pub record Carries (p q : Parts) : Type 0 where
+  pub numbered : IsNumbered p → IsNumbered q
+  pub circle : HasNoCircle p → HasNoCircle q
+  pub callbacks : AreCallbacks p → AreCallbacks q
+  pub quiet : AreCallbacks p → IsQuiet p q
+  pub plains : (id : ℕ) → is_plain p id ≡ true → is_plain q id ≡ true
+
+pub refl_carries : (p : Parts) → Carries p p
+refl_carries p = record {
+  numbered = λ h. h;
+  circle = λ h. h;
+  callbacks = λ h. h;
+  quiet = λ h. refl_quiet p;
+  plains = λ id h. h;
+}
+
+pub carries_on : (p q r : Parts) → Carries q r → Carries p q → Carries p r
+carries_on p q r b a = record {
+  numbered = λ h. b.numbered (a.numbered h);
+  circle = λ h. b.circle (a.circle h);
+  callbacks = λ h. b.callbacks (a.callbacks h);
+  quiet = λ h. quiet_on p q r (b.quiet (a.callbacks h)) (a.quiet h);
+  plains = λ id h. b.plains id (a.plains id h);
+}
+
+-- ---- what looks the same
+pub looks_carries : (p q : Parts) → LooksSame p q → (IsNumbered p → IsNumbered q) → IsQuiet p q → Carries p q
+looks_carries p q s numbered quiet = record {
+  numbered = numbered;
+  circle = same_no_circle p q s;
+  callbacks = same_callbacks p q s;
+  quiet = λ h. quiet;
+  plains = λ id h. s.plains id ∙ h;
+}
+
+pub change_carries : (id : ℕ) (change : Task → Task) (p : Parts) → ((t : Task) → (change t).waiter ≡ t.waiter)
+    → ((t : Task) → (change t).future ≡ t.future) → Carries p (change_task id change p)
+change_carries id change p waiter future =
+    looks_carries p _ (change_looks_same id change p waiter future) (change_task_numbers id change p) (change_task_quiet id change p)
+
+pub uncancel_carries : (task : ℕ) (p : Parts) → Carries p (uncancel task p)
+uncancel_carries task p = change_carries task _ p (λ t. refl) (λ t. refl)
+
+-- ---- outcomes and requests
+pub settle_carries : (id : ℕ) (outcome : Outcome) (p : Parts) → Carries p (settle id outcome p)
+settle_carries id outcome p = record {
+  numbered = settle_numbers id outcome p;
+  circle = settle_no_circle id outcome p;
+  callbacks = λ h. settle_cases AreCallbacks id outcome p h (λ q s. settled_callbacks id p q s h);
+  quiet = settle_quiet id outcome p;
+  plains = λ j h. settle_cases (λ q. is_plain q j ≡ true) id outcome p h (λ q s. (settled_names id p q s).plains j ∙ h);
+}
+
+spreads_carries : {s : List ℕ} {p : Parts} {t : List ℕ} {q : Parts} → Spreads s p t q → Carries p q
+spreads_carries {p = p} begins = refl_carries p
+spreads_carries {p = p} (settles {q = q} g id future e o k) = carries_on p q _ (settle_carries id Cancelled q) (spreads_carries g)
+spreads_carries {p = p} (asks {q = q} g id future members asked e o k) =
+    carries_on p q _
+    (looks_carries q _ (asked_looks_same id q future e) (mark_asked_numbers id q) (mark_asked_quiet id q)) (spreads_carries g)
+spreads_carries {p = p} (raises {q = q} g id task n e) =
+    carries_on p q _ (change_carries id _ q (λ t. refl) (λ t. refl)) (spreads_carries g)
+spreads_carries {p = p} (marks {q = q} g id can) =
+    carries_on p q _ (change_carries id _ q (λ t. refl) (λ t. refl)) (spreads_carries g)
+
+pub cancel_carries : (id : ℕ) (p : Parts) → Carries p (cancel id p).parts
+cancel_carries id p = spreads_carries (with_spread id [] p)
+
+pub each_carries : (by : Origin) (tasks : List ℕ) (p : Parts) → Carries p (request_each by tasks p).parts
+each_carries by [] p = refl_carries p
+each_carries by (task ∷ tasks) p = carries_on p _ _ (each_carries by tasks _) (at (lives p task))
+  where
+    at : (b : Bool) → Carries p (request_where b by (future_of p task) p).parts
+    at true = cancel_carries (future_of p task) p
+    at false = refl_carries p
+
+-- ---- handles
+pub soon_carries : (action : Action) (p : Parts) → is_timed action ≡ false → Carries p (soon action p)
+soon_carries action p untimed_ = record {
+  numbered = soon_numbers action p;
+  circle = same_tasks_no_circle p (soon action p) refl refl;
+  callbacks = λ h. h;
+  quiet = λ h. soon_quiet action p untimed_;
+  plains = λ id h. h;
+}
+
+pub taken_carries : (handle : Handle) (rest : List Handle) (p : Parts) → p.pending ≡ handle ∷ rest
+    → ((id : ℕ) → (not handle.dead && fires id handle.action) ≡ false) → Carries p (taken rest p)
+taken_carries handle rest p first none = record {
+  numbered = taken_numbers handle rest p first;
+  circle = same_tasks_no_circle p (taken rest p) refl refl;
+  callbacks = λ h. h;
+  quiet = λ h. taken_quiet handle rest p first none;
+  plains = λ id h. h;
+}
+
+-- ---- what is made
+module _ (p : Parts) where
+  made_view : {Y : Type 0} (f : Option Future → Y) (kind : FutureKind)
+      → f (Some (record { kind = kind; outcome = None; callbacks = [] })) ≡ f None → (j : ℕ)
+      → f (slice_get (make_future kind p).futures j) ≡ f (slice_get p.futures j)
+  made_view f kind same j = go (cases_eq j (length p.futures))
+    where
+      go : (j ≡ length p.futures) ⊎ (j ≡ length p.futures → ⊥) → f (slice_get (make_future kind p).futures j) ≡ f (slice_get p.futures j)
+      go (inl e) =
+          ap (λ i. f (slice_get (make_future kind p).futures i)) e ∙ ap f (get-push_last p.futures _) ∙ same
+          ∙ sym (ap (λ i. f (slice_get p.futures i)) e ∙ ap f (slice_get_past p.futures (length p.futures) (omega arith)))
+      go (inr n) = ap f (get-push_other p.futures _ j n)
+
+  plain_kept : (kind : FutureKind) (j : ℕ) → is_plain p j ≡ true → is_plain (make_future kind p) j ≡ true
+  plain_kept kind j h = go (cases_eq j (length p.futures))
+    where
+      go : (j ≡ length p.futures) ⊎ (j ≡ length p.futures → ⊥) → is_plain (make_future kind p) j ≡ true
+      go (inl e) = let x = (plain_within p j h).1 in absurd (omega (arith, x, e))
+      go (inr n) = ap is_plain_at (get-push_other p.futures _ j n) ∙ h
+
+  made_callbacks : (kind : FutureKind) → AreCallbacks p → AreCallbacks (make_future kind p)
+  made_callbacks kind are j = made_view (λ o. count_by is_no_callback (callbacks_at o)) kind refl j ∙ are j
+
+  plain_circle : HasNoCircle p → HasNoCircle (new_plain p)
+  plain_circle none = no_circle_more p (new_plain p) (λ x. at x (cases_eq x (length p.futures))) (λ t. inl refl) none
+    where
+      at : (x : ℕ) → (x ≡ length p.futures) ⊎ (x ≡ length p.futures → ⊥)
+          → (slice_get (new_plain p).futures x ≡ slice_get p.futures x) ⊎ (passes (new_plain p) x ≡ [])
+      at x (inl e) = inr (ap (λ i. passes (new_plain p) i) e ∙ ap (λ o. passes_at o (length p.futures) (new_plain p)) (get-push_last p.futures _))
+      at x (inr n) = inl (get-push_other p.futures _ x n)
+
+  pub plain_carries : Carries p (new_plain p)
+  plain_carries = record {
+    numbered = new_plain_numbers p;
+    circle = plain_circle;
+    callbacks = made_callbacks Plain;
+    quiet = λ h. make_quiet Plain p;
+    plains = plain_kept Plain;
+  }
+
+  spawned_waiter : (t : ℕ) → waiter_of (spawn p) t ≡ waiter_of p t
+  spawned_waiter t = go (cases_eq t (length p.tasks))
+    where
+      go : (t ≡ length p.tasks) ⊎ (t ≡ length p.tasks → ⊥) → waiter_of (spawn p) t ≡ waiter_of p t
+      go (inl e) =
+          ap (waiter_of (spawn p)) e ∙ ap (λ (o : Option Task). option_map_or (λ (x : Task). x.waiter) o None) (get-push_last p.tasks _)
+          ∙ sym (ap (waiter_of p) e ∙ ap (λ (o : Option Task). option_map_or (λ (x : Task). x.waiter) o None)
+          (slice_get_past p.tasks (length p.tasks) (omega arith)))
+      go (inr n) = ap (λ (o : Option Task). option_map_or (λ (x : Task). x.waiter) o None) (get-push_other p.tasks _ t n)
+
+  spawn_circle : HasNoCircle p → HasNoCircle (spawn p)
+  spawn_circle none = no_circle_more p (spawn p) (λ x. at x (cases_eq x (length p.futures))) (λ t. inl (spawned_waiter t)) none
+    where
+      free : waiter_of (spawn p) (length p.tasks) ≡ None
+      free = ap (λ (o : Option Task). option_map_or (λ (x : Task). x.waiter) o None) (get-push_last p.tasks _)
+
+      at : (x : ℕ) → (x ≡ length p.futures) ⊎ (x ≡ length p.futures → ⊥)
+          → (slice_get (spawn p).futures x ≡ slice_get p.futures x) ⊎ (passes (spawn p) x ≡ [])
+      at x (inl e) =
+          inr (ap (λ i. passes (spawn p) i) e ∙ ap (λ o. passes_at o (length p.futures) (spawn p)) (get-push_last p.futures _)
+          ∙ ap option_to_list free)
+      at x (inr n) = inl (get-push_other p.futures _ x n)
+
+  pub spawn_carries : Carries p (spawn p)
+  spawn_carries = record {
+    numbered = spawn_numbers p;
+    circle = spawn_circle;
+    callbacks = made_callbacks (OfTask (length p.tasks));
+    quiet = λ h. spawn_quiet p;
+    plains = plain_kept (OfTask (length p.tasks));
+  }
+
+-- ---- a callback is registered
+register_callbacks : (id : ℕ) (action : Action) (p : Parts) → is_callback action ≡ true → AreCallbacks p → AreCallbacks (register id action p)
+register_callbacks id action p ok are j = at (slice_get p.futures id) refl
+  where
+    until : (future : Future) → slice_get p.futures id ≡ Some future → (o : Option Outcome)
+        → count_by is_no_callback (callbacks_of (registered_on o id future action p) j) ≡ 0
+    until future e (Some done) = are j
+    until future e None =
+        get-set_kept (λ o. count_by is_no_callback (callbacks_at o)) p.futures id j future
+        (record future { callbacks = future.callbacks ++ action ∷ [] }) e
+        (sum_by_push (λ a. cond (is_no_callback a) 1 0) future.callbacks action ∙ rw ok (omega arith)) ∙ are j
+
+    at : (o : Option Future) → slice_get p.futures id ≡ o → count_by is_no_callback (callbacks_of (registered o id action p) j) ≡ 0
+    at None e = are j
+    at (Some future) e = until future e future.outcome
+
+pub register_carries : (id : ℕ) (action : Action) (p : Parts) → is_callback action ≡ true → is_timed action ≡ false
+    → Carries p (register id action p)
+register_carries id action p ok untimed_ = record {
+  numbered = register_numbers id action p;
+  circle = no_circle_kept p (register id action p) (λ x. passes-same p (register id action p) x
+      (register-view (λ o. passes_at o x p) (λ f a. refl) id action p x)
+      (λ t. ap (λ (ts : List Task). option_map_or (λ (it : Task). it.waiter) (slice_get ts t) None) (register-tasks id action p)));
+  callbacks = register_callbacks id action p ok;
+  quiet = λ h. register_quiet id action p untimed_;
+  plains = λ j h. register-view is_plain_at (λ f a. refl) id action p j ∙ h;
+}
+
+pub child_carries : (id : ℕ) (p : Parts) → Carries p (with_child id p)
+child_carries id p =
+    carries_on p (spawn p) _ (register_carries (next_future p) (GroupDone id (next_task p)) (spawn p) refl refl) (spawn_carries p)
+
+-- ---- the loop: its timeouts stay
+pub record LoopCarries (l q : Loop) : Type 0 where
+  pub parts : Carries l.parts q.parts
+  pub timeouts : q.timeouts ≡ l.timeouts
+
+pub loop_on : (l q r : Loop) → LoopCarries q r → LoopCarries l q → LoopCarries l r
+loop_on l q r b a = record { parts = carries_on l.parts q.parts r.parts b.parts a.parts; timeouts = b.timeouts ∙ a.timeouts }
+
+pub refl_loop : (l : Loop) → LoopCarries l l
+refl_loop l = record { parts = refl_carries l.parts; timeouts = refl }
+
+pub parts_loop : (l : Loop) (q : Parts) → Carries l.parts q → LoopCarries l (record l { parts = q })
+parts_loop l q c = record { parts = c; timeouts = refl }
+
+pub book_loop : (change : Parts → Booked) (l : Loop) → Carries l.parts (change l.parts).parts → LoopCarries l (book change l)
+book_loop change l c = record { parts = c; timeouts = refl }
+
+pub group_loop : (id : ℕ) (new : Group) (l : Loop) → LoopCarries l (set_group id new l)
+group_loop id new l = record { parts = refl_carries l.parts; timeouts = refl }
+
+-- ---- groups
+pub create_loop : (id : ℕ) (l : Loop) → LoopCarries l (create id l)
+create_loop id l = at (refusal (group_of l id))
+  where
+    at : (o : Option Refusal) → LoopCarries l (create_unless o id l)
+    at (Some why) = refl_loop l
+    at None = loop_on l (in_parts (with_child id) l) _ (group_loop id _ (in_parts (with_child id) l)) (parts_loop l _ (child_carries id l.parts))
+
+abort_loop : (id : ℕ) (l : Loop) → LoopCarries l (abort id l)
+abort_loop id l =
+    loop_on l (set_group id (record (group_of l id) { aborting = true }) l) _
+    (book_loop (request_each (ByAbort id) (group_of l id).children) (set_group id (record (group_of l id) { aborting = true }) l)
+    (each_carries (ByAbort id) (group_of l id).children l.parts)) (group_loop id _ l)
+
+wake_loop : (id : ℕ) (l : Loop) → LoopCarries l (wake_exit id l)
+wake_loop id l = parts_loop l _ (at (group_of l id).children (group_of l id).exit_future)
+  where
+    at : (children : List ℕ) (exit : Option ℕ) → Carries l.parts (wake_if_last children exit l.parts)
+    at [] None = refl_carries l.parts
+    at [] (Some future) = settle_carries future (Returned Nothing) l.parts
+    at (child ∷ children) exit = refl_carries l.parts
+
+blame_loop : (fault : Option Exc) (id : ℕ) (l : Loop) → LoopCarries l (blame fault id l)
+blame_loop None id l = refl_loop l
+blame_loop (Some fault) id l =
+    loop_on l (set_group id (record (group_of l id) { errors = (group_of l id).errors ++ fault ∷ [] }) l) _
+    (at ((group_of l id).aborting || (group_of l id).requested)) (group_loop id _ l)
+  where
+    at : (b : Bool) → LoopCarries (set_group id (record (group_of l id) { errors = (group_of l id).errors ++ fault ∷ [] }) l)
+        (abort_and_request_unless b id (set_group id (record (group_of l id) { errors = (group_of l id).errors ++ fault ∷ [] }) l))
+    at true = refl_loop _
+    at false =
+        let l1 = set_group id (record (group_of l id) { errors = (group_of l id).errors ++ fault ∷ [] }) l in
+        loop_on l1 (abort id l1) _
+        (loop_on (abort id l1) (set_group id (record (group_of (abort id l1) id) { requested = true }) (abort id l1)) _
+        (book_loop (ask_cancel (ByGroup id) (future_of (abort id l1).parts (group_of (abort id l1) id).parent))
+        (set_group id (record (group_of (abort id l1) id) { requested = true }) (abort id l1))
+        (cancel_carries (future_of (abort id l1).parts (group_of (abort id l1) id).parent) (abort id l1).parts))
+        (group_loop id _ (abort id l1)))
+        (abort_loop id l1)
+
+pub child_done_loop : (id task : ℕ) (l : Loop) → LoopCarries l (child_done id task l)
+child_done_loop id task l =
+    loop_on l (without_child id task l) _
+    (loop_on (without_child id task l) (wake_exit id (without_child id task l)) _
+    (blame_loop (failure_of l.parts task) id (wake_exit id (without_child id task l))) (wake_loop id (without_child id task l)))
+    (group_loop id _ l)
+
+end_loop : (kept : Option Exc) (errors : List Exc) (id : ℕ) (l : Loop) → LoopCarries l (end_exit kept errors id l).loop
+end_loop None errors id l = group_loop id _ l
+end_loop (Some fault) [] id l = group_loop id _ l
+end_loop (Some fault) (x ∷ xs) id l = group_loop id _ l
+
+wait_or_end_loop : (id : ℕ) (l : Loop) → LoopCarries l (wait_or_end id l).loop
+wait_or_end_loop id l = at (group_of l id).children
+  where
+    at : (children : List ℕ) → LoopCarries l (wait_or_end_with children id l).loop
+    at [] = end_loop (group_of l id).kept (group_of l id).errors id l
+    at (child ∷ children) =
+        loop_on l (in_parts new_plain l) _ (group_loop id _ (in_parts new_plain l)) (parts_loop l _ (plain_carries l.parts))
+
+hear_loop : (input : Input) (id : ℕ) (l : Loop) → LoopCarries l (hear input id l)
+hear_loop (Send value) id l = refl_loop l
+hear_loop (Throw fault) id l = at (group_of l id).aborting
+  where
+    at : (b : Bool) → LoopCarries l (keep_and_abort_unless b fault id l)
+    at true = refl_loop l
+    at false =
+        loop_on l (set_group id (record (group_of l id) { kept = Some fault }) l) _
+        (abort_loop id (set_group id (record (group_of l id) { kept = Some fault }) l)) (group_loop id _ l)
+
+pub woken_loop : (input : Input) (id : ℕ) (l : Loop) → LoopCarries l (exit_woken input id l).loop
+woken_loop input id l =
+    let l1 = set_group id (record (group_of l id) { exit_future = None }) l in
+    loop_on l l1 _ (loop_on l1 (hear input id l1) _ (wait_or_end_loop id (hear input id l1)) (hear_loop input id l1)) (group_loop id _ l)
+
+take_back_loop : (id : ℕ) (l : Loop) → LoopCarries l (take_back id l)
+take_back_loop id l = at (group_of l id).requested
+  where
+    taken_loop : LoopCarries l (book (uncancel_by (ByGroup id) (group_of l id).parent) l)
+    taken_loop = book_loop (uncancel_by (ByGroup id) (group_of l id).parent) l (uncancel_carries (group_of l id).parent l.parts)
+
+    at : (requested : Bool) → LoopCarries l (take_back_where requested id l)
+    at false = refl_loop l
+    at true =
+        elim (cancelling (uncancel (group_of l id).parent l.parts) (group_of l id).parent == 0) as (λ b.
+        LoopCarries l (cond b (set_group id (record (group_of l id) { kept = None })
+        (book (uncancel_by (ByGroup id) (group_of l id).parent) l)) (book (uncancel_by (ByGroup id) (group_of l id).parent) l))) [
+          | true ↦ loop_on l (book (uncancel_by (ByGroup id) (group_of l id).parent) l) _ (group_loop id _ _) taken_loop
+          | false ↦ taken_loop
+        ]
+
+pub begin_loop : (raised : Option Exc) (id : ℕ) (l : Loop) → LoopCarries l (exit_begin raised id l).loop
+begin_loop raised id l =
+    let begun = begin_exit raised id l in
+    let taken_ = take_back id begun in
+    loop_on l begun _
+    (loop_on begun taken_ _
+    (loop_on taken_ (abort_if_raised raised id taken_) _ (wait_or_end_loop id (abort_if_raised raised id taken_))
+    (at (is_some raised && not (group_of taken_ id).aborting) taken_))
+    (take_back_loop id begun))
+    (record { parts = refl_carries l.parts; timeouts = refl })
+  where
+    at : (b : Bool) (q : Loop) → LoopCarries q (abort_where b id q)
+    at true q = abort_loop id q
+    at false q = refl_loop q

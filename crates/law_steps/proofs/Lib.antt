@@ -1,0 +1,5 @@
+pub mod Stepping
+pub mod Ending
+pub mod Waiting
+pub mod Taking
+pub mod Bridge

@@ -1,0 +1,340 @@
+-- Steps of tasks and requests schedule nothing.
+use Rattle.std.proofs.Common.{◌≡◌, ℕ, Bool, Err, List, None, Ok, Option, Result, Some, [], ap, arith, cond, false, not, refl, slice_get, slice_set, sym, true, ◌&&◌, ◌++◌, ◌+◌, ◌==◌, ◌∙◌, ◌∷◌, ◌<◌, ◌≤◌}
+use Rattle.model_loop.specs.Tasks.{begin_step, change_task, finish, future_of, is_marked, lives, next_task, set_waiter, spawn, unmark}
+use Rattle.model_loop.specs.Futures.{is_pending, make_future, mark_asked, next_future, register, registered, registered_on, settle, settled, settled_as, with_future}
+use Rattle.model_loop.specs.Loop.{Timeout}
+use Rattle.law_steps.proofs.Waiting.{task_there, wait_effect, waiting_sound}
+use Rattle.model_loop.specs.Handles.{soon, soon_all}
+use Rattle.law_timeouts.proofs.Entries.{entries-soon}
+use Rattle.model_loop.specs.Suspend.{cancel_wait, suspend, suspend_unless, wait_on}
+use Rattle.model_loop.specs.Entries.{AreTimed, ends_sleep_on, entries, handles_where, is_timed, timers_where, untimed}
+use Rattle.model_value.specs.Value.{Exc, Outcome, Value}
+use Rattle.model_loop.specs.Deadlines.{HasTag, entries_at, fires, fires_any, fires_as, others_as}
+use Rattle.law_settling.proofs.Looks.{change_looks_same, same_callbacks}
+use Rattle.model_value.specs.Action.{Action, Circle}
+use Rattle.model_loop.specs.Circles.{circle}
+use Rattle.model_loop.specs.Parts.{Future, FutureKind, Handle, OfTask, Parts, Task}
+use Rattle.model_value.specs.declared.outcome.Outcome.TheVariants.{Cancelled}
+use Rattle.law_settling.proofs.Spreading.{Spreads, asks, begins, marks, raises, settles, with_spread}
+use Rattle.model_loop.specs.Ways.{steps}
+use Rattle.model_value.specs.Input.{Input}
+use Rattle.model_value.specs.declared.action.Action.TheVariants.{Fires, SleepDone, Step, StepInCircle, Wakeup}
+use Rattle.law_timeouts.specs.Tags.{AddsNoTimes, IsQuiet, KeepsTags}
+use Rattle.law_steps.proofs.Ending.{pending_there}
+use Rattle.std.proofs.lemmas.List.Sums.{sum_by-cons}
+use Rattle.model_loop.specs.Cancel.{cancel}
+use Rattle.law_settling.proofs.CancelSound.{cancel_sound, cancels_sound}
+use Rattle.model_loop.specs.Owning.{AreCallbacks, is_no_callback, is_plain}
+use Rattle.model_loop.specs.Sound.{ArePartsSound}
+use Rattle.law_settling.specs.Frames.{Covers, taken}
+use Rattle.model_loop.specs.Ledger.{Origin, request_each, request_where}
+use Rattle.model_loop.specs.Totals.{callbacks_at}
+use Rattle.std.specs.Option.{option_map_or}
+use Rattle.std.proofs.lemmas.Bool.{eq-eqb, false≢true, ne_eqb}
+use Rattle.law_cancel.proofs.Effects.{asked_as}
+use Rattle.std.specs.List.{count_by}
+
+abbrev one : Bool → ℕ
+one b = cond b 1 0
+
+off : (b : Bool) → ◌≡◌ {A = ℕ} (cond (b && false) 1 0) 0
+off true = refl
+off false = refl
+
+pub untimed_fires : (action : Action) → is_timed action ≡ false → (id : ℕ) → fires id action ≡ false
+untimed_fires (Fires other) h id = absurd (false≢true (sym h))
+untimed_fires _ h id = refl
+
+untimed_sleeps : (action : Action) → is_timed action ≡ false → (id tag : ℕ) → ends_sleep_on id tag action ≡ false
+untimed_sleeps (SleepDone task future) h id tag = absurd (false≢true (sym h))
+untimed_sleeps _ h id tag = refl
+
+-- ---- one after the other
+pub tags_on : (p q r : Parts) → KeepsTags q r → KeepsTags p q → KeepsTags p r
+tags_on p q r b a = record {
+  next = let x = a.next in let y = b.next in omega (arith, x, y);
+  any = λ id. b.any id ∙ a.any id;
+  as_tag = λ id tag. b.as_tag id tag ∙ a.as_tag id tag;
+  others = λ id tag h.
+      let n = a.next in
+      let x = a.others id tag h in
+      let y = b.others id tag (omega (arith, h, n)) in
+      omega (arith, x, y);
+}
+
+pub times_on : (p q r : Parts) → AddsNoTimes q r → AddsNoTimes p q → AddsNoTimes p r
+times_on p q r b a = record {
+  timers = let x = a.timers in let y = b.timers in omega (arith, x, y);
+  sleeps = λ id. let x = a.sleeps id in let y = b.sleeps id in omega (arith, x, y);
+}
+
+pub quiet_on : (p q r : Parts) → IsQuiet q r → IsQuiet p q → IsQuiet p r
+quiet_on p q r b a = record { tags = tags_on p q r b.tags a.tags; times = times_on p q r b.times a.times }
+
+-- ---- the same handles and timers
+entries-same : (test : ℕ → Action → Bool) (p q : Parts) → q.pending ≡ p.pending → q.timers ≡ p.timers
+    → entries test q ≡ entries test p
+entries-same test p q pending timers =
+    ap (λ l. handles_where test l + timers_where test q.timers) pending
+    ∙ ap (λ l. handles_where test p.pending + timers_where test l) timers
+
+pub same_quiet : (p q : Parts) → q.pending ≡ p.pending → q.timers ≡ p.timers → q.next_tag ≡ p.next_tag → IsQuiet p q
+same_quiet p q pending timers next = record {
+  tags = record {
+    next = omega (arith, next);
+    any = λ id. entries-same (fires_any id) p q pending timers;
+    as_tag = λ id tag. entries-same (fires_as id tag) p q pending timers;
+    others = λ id tag h. let e = entries-same (others_as id tag) p q pending timers in omega (arith, e);
+  };
+  times = record {
+    timers = let e = ap (timers_where untimed) timers in omega (arith, e);
+    sleeps = λ id. let e = entries-same (ends_sleep_on id) p q pending timers in omega (arith, e);
+  };
+}
+
+pub refl_quiet : (p : Parts) → IsQuiet p p
+refl_quiet p = same_quiet p p refl refl refl
+
+-- ---- a handle that has no time
+pub soon_quiet : (action : Action) (p : Parts) → is_timed action ≡ false → IsQuiet p (soon action p)
+soon_quiet action p untimed_ = record {
+  tags = record {
+    next = omega arith;
+    any = λ id.
+        let a = entries-soon (fires_any id) action p in
+        let z : ◌≡◌ {A = ℕ} (cond (fires id action) 1 0) 0 = ap one (untimed_fires action untimed_ id) in
+        omega (arith, a, z);
+    as_tag = λ id tag.
+        let a = entries-soon (fires_as id tag) action p in
+        let z : ◌≡◌ {A = ℕ} (cond ((p.next_tag == tag) && fires id action) 1 0) 0 =
+        ap (λ b. one ((p.next_tag == tag) && b)) (untimed_fires action untimed_ id) ∙ off (p.next_tag == tag) in
+        omega (arith, a, z);
+    others = λ id tag h.
+        let a = entries-soon (others_as id tag) action p in
+        let z : ◌≡◌ {A = ℕ} (cond ((p.next_tag == tag) && not (fires id action)) 1 0) 0 =
+        ap (λ b. one (b && not (fires id action))) (ne_eqb p.next_tag tag (λ e. absurd (omega (arith, h, e)))) in
+        omega (arith, a, z);
+  };
+  times = record {
+    timers = omega arith;
+    sleeps = λ id.
+        let a = entries-soon (ends_sleep_on id) action p in
+        let z : ◌≡◌ {A = ℕ} (cond (ends_sleep_on id p.next_tag action) 1 0) 0 =
+        ap one (untimed_sleeps action untimed_ id p.next_tag) in
+        omega (arith, a, z);
+  };
+}
+
+callback_untimed : (action : Action) → is_no_callback action ≡ false → is_timed action ≡ false
+callback_untimed (SleepDone task future) h = absurd (false≢true (sym h))
+callback_untimed (Fires timeout) h = absurd (false≢true (sym h))
+callback_untimed _ h = refl
+
+pub soon_all_quiet : (actions : List Action) (p : Parts) → count_by is_no_callback actions ≡ 0 → IsQuiet p (soon_all actions p)
+soon_all_quiet [] p none = refl_quiet p
+soon_all_quiet (a ∷ more) p none =
+    go (is_no_callback a) refl (soon_all_quiet more (soon a p))
+  where
+    go : (b : Bool) → is_no_callback a ≡ b → (count_by is_no_callback more ≡ 0 → IsQuiet (soon a p) (soon_all more (soon a p)))
+        → IsQuiet p (soon_all more (soon a p))
+    go true e ih =
+        let c : count_by is_no_callback (a ∷ more) ≡ 1 + count_by is_no_callback more =
+        sum_by-cons (λ x. cond (is_no_callback x) 1 0) a more ∙ rw e refl in
+        absurd (omega (arith, c, none))
+    go false e ih =
+        let c : count_by is_no_callback (a ∷ more) ≡ 0 + count_by is_no_callback more =
+        sum_by-cons (λ x. cond (is_no_callback x) 1 0) a more ∙ rw e refl in
+        quiet_on p (soon a p) _ (ih (omega (arith, c, none))) (soon_quiet a p (callback_untimed a e))
+
+-- ---- futures
+pub settle_quiet : (id : ℕ) (outcome : Outcome) (p : Parts) → AreCallbacks p → IsQuiet p (settle id outcome p)
+settle_quiet id outcome p are = at (slice_get p.futures id) refl
+  where
+    until : (future : Future) → slice_get p.futures id ≡ Some future → (o : Option Outcome)
+        → IsQuiet p (settled_as o id future outcome p)
+    until future e (Some done) = refl_quiet p
+    until future e None =
+        quiet_on p (with_future id (record future { outcome = Some outcome; callbacks = [] }) p) _
+        (soon_all_quiet future.callbacks _ (ap (λ o. count_by is_no_callback (callbacks_at o)) (sym e) ∙ are id))
+        (same_quiet p _ refl refl refl)
+
+    at : (o : Option Future) → slice_get p.futures id ≡ o → IsQuiet p (settled o id outcome p)
+    at None e = refl_quiet p
+    at (Some future) e = until future e future.outcome
+
+pub register_quiet : (id : ℕ) (action : Action) (p : Parts) → is_timed action ≡ false → IsQuiet p (register id action p)
+register_quiet id action p untimed_ = at (slice_get p.futures id)
+  where
+    until : (future : Future) (o : Option Outcome) → IsQuiet p (registered_on o id future action p)
+    until future (Some done) = soon_quiet action p untimed_
+    until future None = same_quiet p _ refl refl refl
+
+    at : (o : Option Future) → IsQuiet p (registered o id action p)
+    at None = refl_quiet p
+    at (Some future) = until future future.outcome
+
+pub change_task_quiet : (id : ℕ) (change : Task → Task) (p : Parts) → IsQuiet p (change_task id change p)
+change_task_quiet id change p = at (slice_get p.tasks id)
+  where
+    at : (o : Option Task) → IsQuiet p (option_map_or (λ (t : Task). record p { tasks = slice_set p.tasks id (change t) }) o p)
+    at None = refl_quiet p
+    at (Some task) = same_quiet p _ refl refl refl
+
+pub mark_asked_quiet : (id : ℕ) (p : Parts) → IsQuiet p (mark_asked id p)
+mark_asked_quiet id p = at (slice_get p.futures id)
+  where
+    at : (o : Option Future) → IsQuiet p (option_map_or (λ (f : Future). with_future id (asked_as f) p) o p)
+    at None = refl_quiet p
+    at (Some future) = same_quiet p _ refl refl refl
+
+-- ---- a request
+cancels_quiet : (running excused : Option ℕ) → Covers running excused → {s : List ℕ} {p : Parts} {t : List ℕ} {q : Parts}
+    → Spreads s p t q → ArePartsSound running excused p → IsQuiet p q
+cancels_quiet running excused covers {p = p} begins is = refl_quiet p
+cancels_quiet running excused covers {p = p} (settles {q = q} g id future e o k) is =
+    quiet_on p q _ (settle_quiet id Cancelled q (cancels_sound running excused covers g is).callbacks) (cancels_quiet running excused covers g is)
+cancels_quiet running excused covers {p = p} (asks {q = q} g id future members asked e o k) is =
+    quiet_on p q _ (mark_asked_quiet id q) (cancels_quiet running excused covers g is)
+cancels_quiet running excused covers {p = p} (raises {q = q} g id task n e) is =
+    quiet_on p q _ (change_task_quiet id _ q) (cancels_quiet running excused covers g is)
+cancels_quiet running excused covers {p = p} (marks {q = q} g id can) is =
+    quiet_on p q _ (change_task_quiet id _ q) (cancels_quiet running excused covers g is)
+
+pub cancel_quiet : (running excused : Option ℕ) → Covers running excused → (id : ℕ) (p : Parts)
+    → ArePartsSound running excused p → IsQuiet p (cancel id p).parts
+cancel_quiet running excused covers id p is = cancels_quiet running excused covers (with_spread id [] p) is
+
+pub request_each_quiet : (running excused : Option ℕ) → Covers running excused → (by : Origin) (tasks : List ℕ) (p : Parts)
+    → ArePartsSound running excused p → IsQuiet p (request_each by tasks p).parts
+request_each_quiet running excused covers by [] p is = refl_quiet p
+request_each_quiet running excused covers by (task ∷ tasks) p is =
+    quiet_on p _ _ (request_each_quiet running excused covers by tasks _ (sound (lives p task))) (quiet (lives p task))
+  where
+    sound : (b : Bool) → ArePartsSound running excused (request_where b by (future_of p task) p).parts
+    sound true = cancel_sound running excused covers (future_of p task) p is
+    sound false = is
+
+    quiet : (b : Bool) → IsQuiet p (request_where b by (future_of p task) p).parts
+    quiet true = cancel_quiet running excused covers (future_of p task) p is
+    quiet false = refl_quiet p
+
+-- ---- a step
+pub handles-first : (test : ℕ → Action → Bool) (handle : Handle) (rest : List Handle) (p : Parts) → p.pending ≡ handle ∷ rest
+    → entries test p ≡ one (not handle.dead && test handle.tag handle.action) + entries test (taken rest p)
+handles-first test handle rest p first =
+    let a : handles_where test p.pending ≡ one (not handle.dead && test handle.tag handle.action) + handles_where test rest =
+    ap (handles_where test) first ∙ sum_by-cons (λ (h : Handle). cond (not h.dead && test h.tag h.action) 1 0) handle rest in
+    omega (arith, a)
+
+-- a handle that is no timeout's is taken out
+pub taken_quiet : (handle : Handle) (rest : List Handle) (p : Parts) → p.pending ≡ handle ∷ rest
+    → ((id : ℕ) → (not handle.dead && fires id handle.action) ≡ false) → IsQuiet p (taken rest p)
+taken_quiet handle rest p first none = record {
+  tags = record {
+    next = omega arith;
+    any = λ id.
+        let a = handles-first (fires_any id) handle rest p first in
+        let z : ◌≡◌ {A = ℕ} (cond (not handle.dead && fires id handle.action) 1 0) 0 = ap one (none id) in
+        omega (arith, a, z);
+    as_tag = λ id tag.
+        let a = handles-first (fires_as id tag) handle rest p first in
+        let z = tagged_none id tag (not handle.dead) (handle.tag == tag) (fires id handle.action) (none id) in
+        omega (arith, a, z);
+    others = λ id tag h. let a = handles-first (others_as id tag) handle rest p first in omega (arith, a);
+  };
+  times = record {
+    timers = omega arith;
+    sleeps = λ id. let a = handles-first (ends_sleep_on id) handle rest p first in omega (arith, a);
+  };
+}
+  where
+    tagged_none : (id tag : ℕ) (live t f : Bool) → (live && f) ≡ false → ◌≡◌ {A = ℕ} (cond (live && (t && f)) 1 0) 0
+    tagged_none id tag false t f h = refl
+    tagged_none id tag true t f h = rw h (off t)
+
+pub begin_quiet : (task : ℕ) (input : Input) (handle : Handle) (rest : List Handle) (p : Parts) → p.pending ≡ handle ∷ rest
+    → steps task handle.action ≡ true → IsQuiet p (begin_step task input (taken rest p)).parts
+begin_quiet task input handle rest p first mine =
+    quiet_on p (set_waiter task None (taken rest p)) _ (change_task_quiet task _ (set_waiter task None (taken rest p)))
+    (quiet_on p (taken rest p) _ (change_task_quiet task _ (taken rest p)) (taken_quiet handle rest p first none))
+  where
+    steps_none : (action : Action) → steps task action ≡ true → (id : ℕ) → fires id action ≡ false
+    steps_none (Fires other) h id = absurd (false≢true h)
+    steps_none _ h id = refl
+
+    none : (id : ℕ) → (not handle.dead && fires id handle.action) ≡ false
+    none id = rw (steps_none handle.action mine id) (go (not handle.dead))
+      where
+        go : (b : Bool) → (b && false) ≡ false
+        go true = refl
+        go false = refl
+
+pub suspend_quiet : (task on : ℕ) (p : Parts) → is_pending p on ≡ true → ArePartsSound (Some task) (Some task) p
+    → IsQuiet p (suspend task on p).parts
+suspend_quiet task on p here is = at (circle p task on)
+  where
+    waits : IsQuiet p (wait_on task on p)
+    waits = quiet_on p (register on (Wakeup task) p) _ (change_task_quiet task _ _) (register_quiet on (Wakeup task) p refl)
+
+    sound : ArePartsSound None (Some task) (wait_on task on p)
+    sound =
+        let u = task_there p task (is.runs task (eq-eqb task task refl)) in
+        let g = pending_there p on here in
+        waiting_sound task on p (wait_on task on p) (wait_effect task on p u.0 g.future u.1 g.there g.pending) here is
+
+    asked : IsQuiet p (cancel on (wait_on task on p)).parts
+    asked = quiet_on p (wait_on task on p) _ (cancel_quiet None (Some task) (λ other r. absurd (false≢true r)) on (wait_on task on p) sound) waits
+
+    answered : (b : Bool) → IsQuiet p (cond b (unmark task (cancel on (wait_on task on p)).parts) (cancel on (wait_on task on p)).parts)
+    answered true = quiet_on p (cancel on (wait_on task on p)).parts _ (change_task_quiet task _ _) asked
+    answered false = asked
+
+    marked : (b : Bool) → IsQuiet p (cancel_wait b task on (wait_on task on p)).parts
+    marked false = waits
+    marked true = answered (cancel on (wait_on task on p)).answer
+
+    at : (o : Option Circle) → IsQuiet p (suspend_unless o task on p).parts
+    at (Some why) = soon_quiet (StepInCircle task why) p refl
+    at None = marked (is_marked p task)
+
+pub finish_quiet : (task : ℕ) (end : Result Value Exc) (p : Parts) → AreCallbacks p → IsQuiet p (finish task end p)
+finish_quiet task (Err fault) p are = settle_quiet (future_of p task) _ p are
+finish_quiet task (Ok value) p are =
+    quiet_on p (unmark task p) _
+    (settle_quiet (future_of p task) _ (unmark task p)
+    (same_callbacks p (unmark task p) (change_looks_same task _ p (λ t. refl) (λ t. refl)) are))
+    (change_task_quiet task _ p)
+
+pub spawn_quiet : (p : Parts) → IsQuiet p (spawn p)
+spawn_quiet p = quiet_on p (record (make_future (OfTask (next_task p)) p) {
+  tasks = p.tasks ++ record { future = next_future p; waiter = None; cancels = 0; must_cancel = false } ∷ [];
+}) _ (soon_quiet (Step (next_task p)) _ refl) (same_quiet p _ refl refl refl)
+
+pub make_quiet : (kind : FutureKind) (p : Parts) → IsQuiet p (make_future kind p)
+make_quiet kind p = same_quiet p _ refl refl refl
+
+-- ---- what follows for a timeout and for all timers
+pub tag_kept_at : (p q : Parts) (id : ℕ) → p.next_tag ≤ q.next_tag → entries (fires_any id) q ≡ entries (fires_any id) p
+    → ((tag : ℕ) → entries (fires_as id tag) q ≡ entries (fires_as id tag) p)
+    → ((tag : ℕ) → tag < p.next_tag → entries (others_as id tag) q ≤ entries (others_as id tag) p)
+    → (it : Timeout) → HasTag p id it → HasTag q id it
+tag_kept_at p q id next any as_tag others it is = record {
+  held = any ∙ is.held ∙ sym (at it.tag);
+  active = is.active;
+  below = λ tag e. let b = is.below tag e in omega (arith, b, next);
+  own = λ tag e. let b = is.below tag e in let o = others tag b in let z = is.own tag e in omega (arith, o, z);
+}
+  where
+    at : (o : Option ℕ) → entries_at q id o ≡ entries_at p id o
+    at None = refl
+    at (Some tag) = as_tag tag
+
+pub tag_kept : (p q : Parts) → KeepsTags p q → (id : ℕ) (it : Timeout) → HasTag p id it → HasTag q id it
+tag_kept p q k id it is = tag_kept_at p q id k.next (k.any id) (k.as_tag id) (k.others id) it is
+
+pub timed_kept : (p q : Parts) → AddsNoTimes p q → ((id : ℕ) → is_plain p id ≡ true → is_plain q id ≡ true)
+    → AreTimed p → AreTimed q
+timed_kept p q k plains is = record {
+  timers = let a = k.timers in let b = is.timers in omega (arith, a, b);
+  sleeps = λ id h. let a = k.sleeps id in plains id (is.sleeps id (omega (arith, a, h)));
+}
