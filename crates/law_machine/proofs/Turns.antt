@@ -209,7 +209,8 @@ module _ {S : Type 0} (s : State S) (call : Call) where
       fit : (b : Bool) (answer : Answer) (entries : List Entry) → s.answers ≡ Answered answer ∷ entries
           → Turned s (fitted b call answer next (got answer entries))
       fit true answer entries e = after answer entries e (next answer (got answer entries)) (on answer (got answer entries))
-      fit false answer entries e = after answer entries e (fitted false call answer next (got answer entries)) (on_as (got answer entries) (got answer entries) refl refl)
+      fit false answer entries e =
+          after answer entries e (fitted false call answer next (got answer entries)) (on_as (got answer entries) (got answer entries) refl refl)
 
       at : (entries : List Entry) → s.answers ≡ entries → Turned s (answered_by entries call next (noted (event.Called call) s))
       at [] e = (goes_on_one s.events _, turns-called s.events call, omega arith)

@@ -20,8 +20,8 @@ pub fn what_happened_stays<S>()
         → GoesOn s.events (run_on limit added allowed left s).events }
 {}
 
-/// A turn asks the outside once, unless nothing can come. A run begins at most one turn more than the outside answers: the
-/// one that finds no answer.
+/// A turn asks the outside once, unless nothing can come. A run begins at most one turn more than the outside
+/// answers: the one that finds no answer.
 pub fn turns_are_bounded<S>()
     ensures one { (limit : ℕ) (added : Extra S) (s : State S) → is_stalled added s ≡ false
         → turns_in (state_of (turn limit added s)).events ≡ turns_in s.events + 1 }
@@ -36,8 +36,8 @@ pub fn a_step_ends_by_itself<S>()
         serve limit added (most + more) task s ≡ serve limit added most task s }
 {}
 
-/// What is added is woken no more often in a step than it says, where that number falls each time; it does where nothing is
-/// added.
+/// What is added is woken no more often in a step than it says, where that number falls each time; it does where
+/// nothing is added.
 pub fn wakes_end_by_themselves<S>()
     ensures within { (added : Extra S) (task more key : ℕ) (input : Input) (s : State S) → WakesFall added →
         let most = suc (added.wakes_left key s.extra) in
@@ -47,5 +47,6 @@ pub fn wakes_end_by_themselves<S>()
 
 /// A run begins in a sound state.
 pub fn a_run_begins_sound<S>()
-    ensures { (added : Extra S) (state : S) (program : Program) (answers : List Entry) → IsStateSound added (start state program answers) }
+    ensures { (added : Extra S) (state : S) (program : Program) (answers : List Entry)
+        → IsStateSound added (start state program answers) }
 {}

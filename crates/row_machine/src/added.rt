@@ -21,7 +21,8 @@ pub fn is_cancelled()
 
 /// News of the outside for the request run before the next turn's handles, and wake the task.
 pub fn waits_for_news()
-    ensures { run_with_bell waits_text (at (0 ∷ []) ++ news ∷ at (4 ∷ 4 ∷ [])) ≡ record { events = news_events; end = Returned Nothing } }
+    ensures { run_with_bell waits_text (at (0 ∷ []) ++ news ∷ at (4 ∷ 4 ∷ []))
+        ≡ record { events = news_events; end = Returned Nothing } }
 {}
 
 /// The same news don't fit where nothing watches for them: the run ends at its first answer.

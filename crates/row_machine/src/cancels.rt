@@ -7,7 +7,8 @@ ghost use Rattle.row_machine.specs.Cancels.{goes_down_the_chain_text, goes_down_
 
 /// Of a task that awaits a task that sleeps, the sleep is cancelled, and both count the cancel.
 pub fn goes_down_the_chain()
-    ensures { seen goes_down_the_chain_text (0 ∷ 0 ∷ 0 ∷ 10 ∷ 10 ∷ 10 ∷ 10 ∷ 10 ∷ 10 ∷ []) ≡ goes_down_the_chain_seen }
+    ensures { seen goes_down_the_chain_text (0 ∷ 0 ∷ 0 ∷ 10 ∷ 10 ∷ 10 ∷ 10 ∷ 10 ∷ 10 ∷ [])
+        ≡ goes_down_the_chain_seen }
 {}
 
 /// A task cancels itself and takes it back: the mark stays, and is thrown at its next step.
@@ -25,7 +26,8 @@ pub fn await_each_other()
     ensures { seen await_each_other_text (0 ∷ 0 ∷ 0 ∷ 0 ∷ 0 ∷ 0 ∷ []) ≡ await_each_other_seen }
 {}
 
-/// Main ends while another task sleeps: that is cancelled after the turn in which main's callback ran, and the run ends with its end.
+/// Main ends while another task sleeps: that is cancelled after the turn in which main's callback ran, and the run
+/// ends with its end.
 pub fn left_behind()
     ensures { seen left_behind_text (0 ∷ 0 ∷ 0 ∷ 0 ∷ 0 ∷ []) ≡ left_behind_seen }
 {}

@@ -27,8 +27,10 @@ pub fn futures()
 
 /// A step that begins as many statements as it may, and one that would begin one more; here a step may begin 6.
 pub fn long_step()
-    ensures at_the_limit { seen_within 6 (counting (codes "  print i" ∷ [])) (0 ∷ 0 ∷ []) ≡ counted_to_the_limit }
-    ensures beyond { seen_within 6 (counting (codes "  pass" ∷ codes "  pass" ∷ [])) (0 ∷ 0 ∷ []) ≡ ran_away }
+    ensures at_the_limit { seen_within 6 (counting (codes "  print i" ∷ [])) (0 ∷ 0 ∷ [])
+        ≡ counted_to_the_limit }
+    ensures beyond { seen_within 6 (counting (codes "  pass" ∷ codes "  pass" ∷ [])) (0 ∷ 0 ∷ [])
+        ≡ ran_away }
 {}
 
 /// A step answers more requests than it begins statements: each `with` asks twice.

@@ -12,12 +12,14 @@ ghost use Rattle.row_machine.specs.Turns.{first_come_first_run_text, first_come_
 
 /// Two tasks take turns: what is appended while handles run waits for the next turn.
 pub fn first_come_first_run()
-    ensures { seen first_come_first_run_text (0 ∷ 0 ∷ 0 ∷ 0 ∷ 0 ∷ 0 ∷ 0 ∷ []) ≡ first_come_first_run_seen }
+    ensures { seen first_come_first_run_text (0 ∷ 0 ∷ 0 ∷ 0 ∷ 0 ∷ 0 ∷ 0 ∷ [])
+        ≡ first_come_first_run_seen }
 {}
 
 /// Timers fall due by deadline, and equal deadlines in order of scheduling.
 pub fn equal_deadlines()
-    ensures { seen equal_deadlines_text (0 ∷ 0 ∷ 10 ∷ 20 ∷ 20 ∷ 20 ∷ 20 ∷ []) ≡ equal_deadlines_seen }
+    ensures { seen equal_deadlines_text (0 ∷ 0 ∷ 10 ∷ 20 ∷ 20 ∷ 20 ∷ 20 ∷ [])
+        ≡ equal_deadlines_seen }
 {}
 
 /// Main waits for what nobody sets.
