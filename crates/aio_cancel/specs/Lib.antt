@@ -1,3 +1,4 @@
 pub mod Code
 pub mod Seen
 pub mod Body
+pub mod Noted

@@ -5,6 +5,7 @@ ghost use Rattle.model_loop.specs.Parts as plain;
 ghost use Rattle.model_loop.specs.Futures.{settle, mark_asked};
 ghost use Rattle.model_loop.specs.Tasks.{raise_count, mark as mark_task};
 ghost use Rattle.law_parts.specs.Shape.{stands_at, members_at};
+ghost use Rattle.law_parts.specs.Quiet.{asked_of, stage_at};
 ghost use Rattle.aio_ready.specs.Queue.{no_handles};
 ghost use Rattle.aio_cancel.specs.Body.{parts, Appended};
 
@@ -51,6 +52,18 @@ impl Body {
         ensures { result ≡ stands_at (slice_get self.now.futures id) }
     {
         self.futures.stands(id)
+    }
+
+    /// Of a pending future that stands for several, whether its cancel was asked for.
+    pub fn asked(&self, id: FutureId) -> Option<bool>
+        ensures { result ≡ asked_of (stage_at (parts self.now) id) }
+    {
+        match self.futures.stands(id) {
+            Stands::Many => Some(self.futures.asked(id)),
+            Stands::Done => None,
+            Stands::Plain => None,
+            Stands::OfTask(_) => None,
+        }
     }
 
     pub fn member(&self, id: FutureId, place: usize) -> Option<FutureId>

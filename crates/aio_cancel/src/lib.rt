@@ -3,12 +3,15 @@
 
 mod body;
 mod marks;
+mod notes;
+mod quiet;
 mod stack;
 mod task;
 mod walk;
 
 pub use body::Body;
 pub use marks::Marks;
+pub use notes::{Note, Notes};
 pub use stack::Stack;
 pub use task::Task;
 pub use walk::cancel;

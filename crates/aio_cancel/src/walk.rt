@@ -10,17 +10,23 @@ ghost use Rattle.law_parts.specs.Open.{CanWalk, room_of};
 ghost use Rattle.law_parts.specs.Shape.{stands_at};
 ghost use Rattle.law_parts.specs.declared.walk.Stands.TheVariants as stands;
 ghost use Rattle.std.specs.Prelude.{slice_get};
+ghost use Rattle.law_parts.specs.Quiet.{Sound, Later};
 ghost use Rattle.aio_cancel.specs.Body.{parts, Appended};
+ghost use Rattle.aio_cancel.specs.Noted.{noted, HasNoNotes};
 
 use crate::body::Body;
 use crate::marks::Marks;
+use crate::notes::Notes;
+use crate::quiet::note;
 use crate::stack::Stack;
 use aio_base::Outcome;
 use aio_future::FutureId;
 use law_parts::{Frame, Go, Stands};
 
-fn visit(id: FutureId, body: &mut Body, seen: &mut Marks, stack: &mut Stack) -> Go
-    requires { CanWalk stack.old.room seen.old.tasks (go.Visit id) stack.old.frames seen.old.visited (parts body.old) }
+fn visit(id: FutureId, body: &mut Body, seen: &mut Marks, notes: &Notes, stack: &mut Stack) -> Go
+    requires sound { Sound seen.old.visited (parts body.old) (noted notes.now) }
+    requires can { CanWalk stack.old.room seen.old.tasks (go.Visit id) stack.old.frames seen.old.visited (parts body.old) }
+    ensures sound { Sound seen.new.visited (parts body.new) (noted notes.now) }
     ensures walks { CanWalk stack.new.room seen.new.tasks result stack.new.frames seen.new.visited (parts body.new) }
     ensures same { run result stack.new.frames seen.new.visited (parts body.new)
         ≡ run (go.Visit id) stack.old.frames seen.old.visited (parts body.old) }
@@ -37,10 +43,13 @@ fn visit(id: FutureId, body: &mut Body, seen: &mut Marks, stack: &mut Stack) -> 
             Go::Answer(true)
         }
         Stands::OfTask(task) => visit_task(id, task, body, seen, stack),
-        Stands::Many => Go::Next {
-            id,
-            place: 0,
-            any: false,
+        Stands::Many => match notes.of(id) {
+            Some(again) => Go::Answer(again),
+            None => Go::Next {
+                id,
+                place: 0,
+                any: false,
+            },
         },
     }
 }
@@ -48,6 +57,7 @@ fn visit(id: FutureId, body: &mut Body, seen: &mut Marks, stack: &mut Stack) -> 
 fn visit_task(id: FutureId, task: u32, body: &mut Body, seen: &mut Marks, stack: &mut Stack) -> Go
     requires can { CanWalk stack.old.room seen.old.tasks (go.Visit id) stack.old.frames seen.old.visited (parts body.old) }
     requires task { stands.OfTask task ≡ stands_at (slice_get body.old.futures id) }
+    ensures later { Later seen.old.visited (parts body.old) seen.new.visited (parts body.new) }
     ensures walks { CanWalk stack.new.room seen.new.tasks result stack.new.frames seen.new.visited (parts body.new) }
     ensures same { run result stack.new.frames seen.new.visited (parts body.new)
         ≡ run_task task stack.old.frames seen.old.visited (parts body.old) }
@@ -83,9 +93,12 @@ fn next(
     any: bool,
     body: &mut Body,
     seen: &Marks,
+    notes: &mut Notes,
     stack: &mut Stack,
 ) -> Go
-    requires { CanWalk stack.old.room seen.now.tasks (go.Next id place any) stack.old.frames seen.now.visited (parts body.old) }
+    requires sound { Sound seen.now.visited (parts body.old) (noted notes.old) }
+    requires can { CanWalk stack.old.room seen.now.tasks (go.Next id place any) stack.old.frames seen.now.visited (parts body.old) }
+    ensures sound { Sound seen.now.visited (parts body.new) (noted notes.new) }
     ensures walks { CanWalk stack.new.room seen.now.tasks result stack.new.frames seen.now.visited (parts body.new) }
     ensures same { run result stack.new.frames seen.now.visited (parts body.new)
         ≡ run (go.Next id place any) stack.old.frames seen.now.visited (parts body.old) }
@@ -113,12 +126,14 @@ fn next(
         }
         None => {
             body.ask_where(any, id);
+            note(id, body, seen, notes);
             Go::Answer(any)
         }
     }
 }
 
 fn back(answer: bool, frame: Frame, body: &mut Body) -> Go
+    ensures later { (seen : List ℕ) → Later seen (parts body.old) seen (parts body.new) }
     ensures walks { (room marks : ℕ) (seen : List ℕ) (stack : List PlainFrame)
         → CanWalk room marks (go.Answer answer) (stack ++ frame ∷ []) seen (parts body.old)
         → CanWalk room marks result stack seen (parts body.new) }
@@ -144,9 +159,16 @@ fn back(answer: bool, frame: Frame, body: &mut Body) -> Go
 }
 
 /// A request to cancel a future. The answer is false exactly where it can't reach anything.
-pub fn cancel(target: FutureId, body: &mut Body, seen: &mut Marks, stack: &mut Stack) -> bool
+pub fn cancel(
+    target: FutureId,
+    body: &mut Body,
+    seen: &mut Marks,
+    notes: &mut Notes,
+    stack: &mut Stack,
+) -> bool
     requires empty { stack.old.frames ≡ [] }
     requires unseen { seen.old.visited ≡ [] }
+    requires unnoted { HasNoNotes notes.old }
     requires no_circle { HasNoCircle (parts body.old) }
     requires fits { room_of (parts body.old) ≤ stack.old.room }
     requires marked { length body.old.tasks ≤ seen.old.tasks }
@@ -155,16 +177,18 @@ pub fn cancel(target: FutureId, body: &mut Body, seen: &mut Marks, stack: &mut S
     ensures queue { Appended body.old.queue body.new.queue }
     ensures stack { stack.new ≡ stack.old }
     ensures seen { seen.new ≡ seen.old }
+    ensures unnoted { HasNoNotes notes.new }
 {
     let mut go = Go::Visit(target);
     loop {
         go = match go {
-            Go::Visit(id) => visit(id, body, seen, stack),
-            Go::Next { id, place, any } => next(id, place, any, body, seen, stack),
+            Go::Visit(id) => visit(id, body, seen, notes, stack),
+            Go::Next { id, place, any } => next(id, place, any, body, seen, notes, stack),
             Go::Answer(answer) => match stack.pop() {
                 Some(frame) => back(answer, frame, body),
                 None => {
                     seen.clear();
+                    notes.clear();
                     return answer;
                 }
             },

@@ -4,6 +4,8 @@ use Rattle.model_loop.specs.Cancel.{cancel as cancel_of}
 use Rattle.law_parts.specs.Walk.{run}
 use Rattle.law_parts.specs.Weight.{weight}
 use Rattle.law_parts.specs.Open.{CanWalk}
+use Rattle.law_parts.specs.Quiet.{Sound}
+use Rattle.aio_cancel.specs.Noted.{noted}
 use Rattle.aio_cancel.specs.Body.{parts, Appended}
 use Rattle.aio_cancel.proofs.walk.cancel.Given as goal
 
@@ -11,6 +13,7 @@ abbrev pub invariant-loop-go : goal.invariant-loop-go
 invariant-loop-go l = record {
   walks : CanWalk l.stack.room l.seen.tasks l.go l.stack.frames l.seen.visited (parts l.body);
   same : run l.go l.stack.frames l.seen.visited (parts l.body) ≡ cancel_of l.target (parts l.fn.body);
+  sound : Sound l.seen.visited (parts l.body) (noted l.notes);
   queue : Appended l.fn.body.queue l.body.queue;
   room : l.stack.room ≡ l.fn.stack.room;
   marks : l.seen.tasks ≡ l.fn.seen.tasks;

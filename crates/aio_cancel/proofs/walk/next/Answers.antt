@@ -5,6 +5,8 @@ use Rattle.law_parts.specs.Walk.{resume}
 use Rattle.law_parts.proofs.WalkLemmas.{next_ends_where, next_past, next_member, resume-push}
 use Rattle.law_parts.proofs.WeightLemmas.{weigh_push, weigh_skip, weigh_ask_where}
 use Rattle.law_parts.proofs.RoomLemmas.{room_for, walk_member, walk_ends}
+use Rattle.law_parts.proofs.QuietLemmas.{sound_later, ask_where_later}
+use Rattle.aio_cancel.specs.Noted.{noted}
 use Rattle.aio_cancel.specs.Seen.{Stacked}
 use Rattle.aio_cancel.specs.Body.{parts}
 use Rattle.aio_cancel.proofs.walk.next.Goals as goal
@@ -15,7 +17,7 @@ push-requires c =
     room_for a.stack.now.room a.seen.now.tasks (Visit c.in-Some.member) a.stack.now.frames (Members a.id (a.place + 1) a.any)
     a.seen.now.visited (parts a.body.now)
     (walk_member a.stack.now.room a.seen.now.tasks a.id a.place (a.place + 1) c.in-Some.member a.any a.stack.now.frames
-    (a.stack.now.frames ++ Members a.id (a.place + 1) a.any ∷ []) a.seen.now.visited (parts a.body.now) c.requires
+    (a.stack.now.frames ++ Members a.id (a.place + 1) a.any ∷ []) a.seen.now.visited (parts a.body.now) c.requires.can
     c.in-Some.ensures.value c.if-member-id.true refl)
 
 pub returns-then-member-id-clause-walks : goal.returns-then-member-id-clause-walks
@@ -23,7 +25,7 @@ returns-then-member-id-clause-walks c =
     let a = c.args in
     rw (ap (λ (x : Stacked). x.room) c.push.ensures)
     (walk_member a.stack.now.room a.seen.now.tasks a.id a.place (a.place + 1) c.in-Some.member a.any a.stack.now.frames
-    c.push.new.self.frames a.seen.now.visited (parts a.body.now) c.requires
+    c.push.new.self.frames a.seen.now.visited (parts a.body.now) c.requires.can
     c.in-Some.ensures.value c.if-member-id.true (ap (λ (x : Stacked). x.frames) c.push.ensures))
 
 pub returns-then-member-id-clause-same : goal.returns-then-member-id-clause-same
@@ -55,7 +57,7 @@ pub returns-in-None-clause-walks : goal.returns-in-None-clause-walks
 returns-in-None-clause-walks c =
     let a = c.args in
     walk_ends a.stack.now.room a.seen.now.tasks a.id a.place a.any a.any a.stack.now.frames a.seen.now.visited (parts a.body.now)
-    (parts c.ask_where.new.self) c.requires c.ask_where.ensures.after
+    (parts c.ask_where.new.self) c.requires.can c.ask_where.ensures.after
 
 pub returns-in-None-clause-same : goal.returns-in-None-clause-same
 returns-in-None-clause-same c =
@@ -68,3 +70,10 @@ returns-in-None-clause-falls c =
     let a = c.args in
     weigh_ask_where a.id a.place a.any a.any a.stack.now.frames a.seen.now.visited (parts a.body.now) (parts c.ask_where.new.self)
     c.ask_where.ensures.after
+
+pub note-requires : goal.note-requires
+note-requires c =
+    let a = c.args in
+    sound_later a.seen.now.visited (parts a.body.now) a.seen.now.visited (parts c.ask_where.new.self) (noted a.notes.now)
+    (ask_where_later a.seen.now.visited (parts a.body.now) (parts c.ask_where.new.self) a.any a.id c.ask_where.ensures.after)
+    c.requires.sound
