@@ -1,0 +1,392 @@
+-- A cancel goes on from each task that it comes to: the task is marked, or what it waits for was reached.
+use Rattle.std.proofs.Common.{◌≡◌, ℕ, Bool, List, None, Option, Some, [], ap, false, inl, inr, option_map, refl, slice_get, slice_set, subst, sym, true, ◌++◌, ◌||◌, ◌∙◌, ◌∷◌, ◌⊎◌}
+use Rattle.model_loop.specs.Parts.{Future, FutureKind, Many, OfTask, Parts, Plain, Task}
+use Rattle.model_loop.specs.Tasks.{change_task, is_marked, mark, raise_count, waiter_of}
+use Rattle.law_cancel.proofs.Effects.{asked_as, change_task-futures, change_task-there, done_as, settle-futures, settle-tasks}
+use Rattle.law_promises.specs.Reached.{GoesOn, WasReached, asked_at, asked_in, was_asked}
+use Rattle.model_loop.specs.Cancel.{Request, answers, asked_where, cancel, has_seen, marked_unless}
+use Rattle.model_loop.specs.Futures.{asked_kind, future_outcome, mark_asked, outcome_at, settle, with_future}
+use Rattle.model_loop.specs.Owning.{OwnsFutures, own_future, owner_at, owner_in, owner_of}
+use Rattle.std.proofs.lemmas.Bool.{cases_eq, false≢true, or_left}
+use Rattle.law_cancel.proofs.Seen.{has_seen-append, has_seen_last, has_seen_other}
+use Rattle.model_loop.specs.Cancelling.{IsPendingAs, Cancels, CancelsEach, CancelsWaiter, done as done_row, plain as plain_row, many as many_row, visited as visited_row, task as task_row, no_task as no_task_row, none as none_row, each as each_row, waits_not as waits_not_row, waits as waits_row}
+use Rattle.law_cancel.proofs.Lookups.{get-set_kept, get-set_other, get-set_same}
+use Rattle.law_cancel.proofs.Meeting.{cancel_meets}
+use Rattle.law_steps.proofs.Stepping.{at_task}
+use Rattle.std.proofs.lemmas.Option.{none-some}
+use Rattle.model_loop.specs.Ledger.{request}
+use Rattle.law_cancel.proofs.Trace.{kind_many}
+use Rattle.std.specs.Option.{option_map_or}
+use Rattle.law_cancel.proofs.Counting.{change_task-kept}
+use Rattle.model_value.specs.declared.outcome.Outcome.TheVariants.{Cancelled}
+
+abbrev kind_many_at : Option Future → Bool
+kind_many_at None = false
+kind_many_at (Some future) = kind_many future.kind
+
+-- ---- what stays while a request goes on
+record Persists (s : List ℕ) (p : Parts) (t : List ℕ) (q : Parts) : Type 0 where
+  seen : (task : ℕ) → has_seen s task ≡ true → has_seen t task ≡ true
+  marked : (task : ℕ) → is_marked p task ≡ true → is_marked q task ≡ true
+  waiters : (task : ℕ) → waiter_of q task ≡ waiter_of p task
+  owned : (task : ℕ) → own_future q task ≡ own_future p task
+  owners : (id : ℕ) → owner_of q id ≡ owner_of p id
+  cancelled : (id : ℕ) → future_outcome p id ≡ Some Cancelled → future_outcome q id ≡ Some Cancelled
+  asked : (id : ℕ) → was_asked p id ≡ true → was_asked q id ≡ true
+  manys : (id : ℕ) → kind_many_at (slice_get q.futures id) ≡ kind_many_at (slice_get p.futures id)
+
+stays : (s : List ℕ) (p : Parts) → Persists s p s p
+stays s p = record {
+  seen = λ t h. h;
+  marked = λ t h. h;
+  waiters = λ t. refl;
+  owned = λ t. refl;
+  owners = λ j. refl;
+  cancelled = λ j h. h;
+  asked = λ j h. h;
+  manys = λ j. refl;
+}
+
+persists_on : (s t u : List ℕ) (p q r : Parts) → Persists t q u r → Persists s p t q → Persists s p u r
+persists_on s t u p q r b a = record {
+  seen = λ x h. b.seen x (a.seen x h);
+  marked = λ x h. b.marked x (a.marked x h);
+  waiters = λ x. b.waiters x ∙ a.waiters x;
+  owned = λ x. b.owned x ∙ a.owned x;
+  owners = λ j. b.owners j ∙ a.owners j;
+  cancelled = λ j h. b.cancelled j (a.cancelled j h);
+  asked = λ j h. b.asked j (a.asked j h);
+  manys = λ j. b.manys j ∙ a.manys j;
+}
+
+-- a task's count or mark, where no mark falls
+changed : (s : List ℕ) (id : ℕ) (change : Task → Task) (p : Parts) → ((t : Task) → (change t).waiter ≡ t.waiter)
+    → ((t : Task) → (change t).future ≡ t.future) → ((task : ℕ) → is_marked p task ≡ true → is_marked (change_task id change p) task ≡ true)
+    → Persists s p s (change_task id change p)
+changed s id change p waiter future marked = record {
+  seen = λ t h. h;
+  marked = marked;
+  waiters = λ t. change_task-kept (λ (o : Option Task). option_map_or (λ (x : Task). x.waiter) o None) id change p waiter t;
+  owned = λ t. change_task-kept (option_map (λ (x : Task). x.future)) id change p (λ x. ap Some (future x)) t;
+  owners = λ j. ap (λ (fs : List Future). owner_at (slice_get fs j)) (change_task-futures id change p);
+  cancelled = λ j h. ap (λ (fs : List Future). outcome_at (slice_get fs j)) (change_task-futures id change p) ∙ h;
+  asked = λ j h. ap (λ (fs : List Future). asked_at (slice_get fs j)) (change_task-futures id change p) ∙ h;
+  manys = λ j. ap (λ (fs : List Future). kind_many_at (slice_get fs j)) (change_task-futures id change p);
+}
+
+raise_stays : (s : List ℕ) (id : ℕ) (p : Parts) → Persists s p s (raise_count id p)
+raise_stays s id p =
+    changed s id _ p (λ t. refl) (λ t. refl)
+    (λ t m. change_task-kept (λ (o : Option Task). option_map_or (λ (x : Task). x.must_cancel) o false) id _ p (λ x. refl) t ∙ m)
+
+-- ---- a mark
+marks_it : (id : ℕ) (p : Parts) (it : Task) → slice_get p.tasks id ≡ Some it → is_marked (mark id p) id ≡ true
+marks_it id p it e =
+    ap (λ (q : Parts). option_map_or (λ (t : Task). t.must_cancel) (slice_get q.tasks id) false) (change_task-there id _ p it e)
+    ∙ ap (λ (o : Option Task). option_map_or (λ (t : Task). t.must_cancel) o false)
+    (get-set_same p.tasks id it (record it { must_cancel = true }) e)
+
+mark_more : (id : ℕ) (p : Parts) (task : ℕ) → is_marked p task ≡ true → is_marked (mark id p) task ≡ true
+mark_more id p task m = at (slice_get p.tasks id) refl
+  where
+    at : (o : Option Task) → slice_get p.tasks id ≡ o → is_marked (mark id p) task ≡ true
+    at None e = ap (λ (o : Option Task). is_marked
+        (option_map_or (λ (t : Task). record p { tasks = slice_set p.tasks id (record t { must_cancel = true }) }) o p) task) e ∙ m
+    at (Some it) e = go (cases_eq id task)
+      where
+        go : (id ≡ task) ⊎ (id ≡ task → ⊥) → is_marked (mark id p) task ≡ true
+        go (inl same) = subst (λ t. is_marked (mark id p) t ≡ true) same (marks_it id p it e)
+        go (inr n) =
+            at_task (λ (o : Option Task). option_map_or (λ (t : Task). t.must_cancel) o false) id _ p task n ∙ m
+
+mark_stays : (s : List ℕ) (id : ℕ) (p : Parts) → Persists s p s (mark id p)
+mark_stays s id p = changed s id _ p (λ t. refl) (λ t. refl) (mark_more id p)
+
+-- ---- a plain future is cancelled
+settle_stays : (s : List ℕ) (id : ℕ) (p : Parts) (future : Future) → slice_get p.futures id ≡ Some future → future.outcome ≡ None
+    → Persists s p s (settle id Cancelled p)
+settle_stays s id p future e o = record {
+  seen = λ t h. h;
+  marked = λ t m. ap (λ (ts : List Task). option_map_or (λ (x : Task). x.must_cancel) (slice_get ts t) false) tasks ∙ m;
+  waiters = λ t. ap (λ (ts : List Task). option_map_or (λ (x : Task). x.waiter) (slice_get ts t) None) tasks;
+  owned = λ t. ap (λ (ts : List Task). option_map (λ (x : Task). x.future) (slice_get ts t)) tasks;
+  owners = λ j. see owner_at j refl;
+  cancelled = λ j h. cancelled j h (cases_eq id j);
+  asked = λ j h. see asked_at j refl ∙ h;
+  manys = λ j. see kind_many_at j refl;
+}
+  where
+    tasks : (settle id Cancelled p).tasks ≡ p.tasks
+    tasks = settle-tasks id Cancelled p
+
+    see : {Y : Type 0} (f : Option Future → Y) (j : ℕ) → f (Some (done_as Cancelled future)) ≡ f (Some future)
+        → f (slice_get (settle id Cancelled p).futures j) ≡ f (slice_get p.futures j)
+    see f j same =
+        ap (λ (fs : List Future). f (slice_get fs j)) (settle-futures id Cancelled p future e o)
+        ∙ get-set_kept f p.futures id j future (done_as Cancelled future) e same
+
+    cancelled : (j : ℕ) → future_outcome p j ≡ Some Cancelled → (id ≡ j) ⊎ (id ≡ j → ⊥)
+        → future_outcome (settle id Cancelled p) j ≡ Some Cancelled
+    cancelled j h (inl same) =
+        subst (λ i. future_outcome (settle id Cancelled p) i ≡ Some Cancelled) same
+        (ap (λ (fs : List Future). outcome_at (slice_get fs id)) (settle-futures id Cancelled p future e o)
+        ∙ ap outcome_at (get-set_same p.futures id future (done_as Cancelled future) e))
+    cancelled j h (inr n) =
+        ap (λ (fs : List Future). outcome_at (slice_get fs j)) (settle-futures id Cancelled p future e o)
+        ∙ ap outcome_at (get-set_other p.futures id j (done_as Cancelled future) n) ∙ h
+
+settle_cancels : (id : ℕ) (p : Parts) (future : Future) → slice_get p.futures id ≡ Some future → future.outcome ≡ None
+    → future_outcome (settle id Cancelled p) id ≡ Some Cancelled
+settle_cancels id p future e o =
+    ap (λ (fs : List Future). outcome_at (slice_get fs id)) (settle-futures id Cancelled p future e o)
+    ∙ ap outcome_at (get-set_same p.futures id future (done_as Cancelled future) e)
+
+-- ---- one that stands for several keeps that it was asked
+ask_stays : (s : List ℕ) (id : ℕ) (p : Parts) → Persists s p s (mark_asked id p)
+ask_stays s id p = at (slice_get p.futures id) refl
+  where
+    kinds : (k : FutureKind)
+        → (owner_in (asked_kind k) ≡ owner_in k) × (asked_in k ≡ true → asked_in (asked_kind k) ≡ true) × (kind_many (asked_kind k) ≡ kind_many k)
+    kinds Plain = (refl, λ h. h, refl)
+    kinds (OfTask task) = (refl, λ h. h, refl)
+    kinds (Many members asked) = (refl, λ h. refl, refl)
+
+    with_it : (future : Future) → slice_get p.futures id ≡ Some future
+        → Persists s p s (record p { futures = slice_set p.futures id (asked_as future) })
+    with_it future e = record {
+      seen = λ t h. h;
+      marked = λ t m. m;
+      waiters = λ t. refl;
+      owned = λ t. refl;
+      owners = λ j. get-set_kept owner_at p.futures id j future (asked_as future) e (kinds future.kind).0;
+      cancelled = λ j h. get-set_kept outcome_at p.futures id j future (asked_as future) e refl ∙ h;
+      asked = λ j h. asked j h (cases_eq id j);
+      manys = λ j. get-set_kept kind_many_at p.futures id j future (asked_as future) e (kinds future.kind).2;
+    }
+      where
+        asked : (j : ℕ) → was_asked p j ≡ true → (id ≡ j) ⊎ (id ≡ j → ⊥)
+            → asked_at (slice_get (slice_set p.futures id (asked_as future)) j) ≡ true
+        asked j h (inl same) =
+            subst (λ i. asked_at (slice_get (slice_set p.futures id (asked_as future)) i) ≡ true) same
+            (ap asked_at (get-set_same p.futures id future (asked_as future) e)
+            ∙ (kinds future.kind).1 (sym (ap asked_at e) ∙ subst (λ i. was_asked p i ≡ true) (sym same) h))
+        asked j h (inr n) = ap asked_at (get-set_other p.futures id j (asked_as future) n) ∙ h
+
+    at : (o : Option Future) → slice_get p.futures id ≡ o
+        → Persists s p s (option_map_or (λ (f : Future). with_future id (asked_as f) p) o p)
+    at None e = stays s p
+    at (Some future) e = with_it future e
+
+asks_it : (id : ℕ) (p : Parts) → kind_many_at (slice_get p.futures id) ≡ true → was_asked (mark_asked id p) id ≡ true
+asks_it id p h = at (slice_get p.futures id) refl h
+  where
+    many : (k : FutureKind) → kind_many k ≡ true → asked_in (asked_kind k) ≡ true
+    many (Many members asked) h = refl
+    many Plain h = absurd (false≢true h)
+    many (OfTask task) h = absurd (false≢true h)
+
+    at : (o : Option Future) → slice_get p.futures id ≡ o → kind_many_at o ≡ true
+        → was_asked (option_map_or (λ (f : Future). with_future id (asked_as f) p) o p) id ≡ true
+    at None e h = absurd (false≢true h)
+    at (Some future) e h = ap asked_at (get-set_same p.futures id future (asked_as future) e) ∙ many future.kind h
+
+-- ---- what was reached stays so
+reached_stays : (s t : List ℕ) (p q : Parts) → Persists s p t q → (on : ℕ) → WasReached p s on → WasReached q t on
+reached_stays s t p q k on (inl c) = inl (k.cancelled on c)
+reached_stays s t p q k on (inr (inl a)) = inr (inl (k.asked on a))
+reached_stays s t p q k on (inr (inr w)) = inr (inr (w.0, k.owners on ∙ w.1, k.seen w.0 w.2))
+
+goes_stays : (s t : List ℕ) (p q : Parts) → Persists s p t q → (task : ℕ) → GoesOn p s task → GoesOn q t task
+goes_stays s t p q k task (inl m) = inl (k.marked task m)
+goes_stays s t p q k task (inr w) = inr (w.0, k.waiters task ∙ w.1, reached_stays s t p q k w.0 w.2)
+
+owns_stays : (s t : List ℕ) (p q : Parts) → Persists s p t q → OwnsFutures p → OwnsFutures q
+owns_stays s t p q k owns id task =
+    (λ h. k.owned task ∙ (owns id task).0 (sym (k.owners id) ∙ h), λ h. k.owners id ∙ (owns id task).1 (sym (k.owned task) ∙ h))
+
+-- ---- a request
+record Told (s : List ℕ) (p : Parts) (r : Request) : Type 0 where
+  persists : Persists s p r.seen r.parts
+  visits : (task : ℕ) → has_seen r.seen task ≡ true → (has_seen s task ≡ true) ⊎ GoesOn r.parts r.seen task
+
+record Reaches (id : ℕ) (s : List ℕ) (p : Parts) (r : Request) : Type 0 where
+  told : Told s p r
+  answered : r.answer ≡ true → WasReached r.parts r.seen id
+
+owner_found : (p : Parts) (id task : ℕ) → IsPendingAs p id (OfTask task) → owner_of p id ≡ Some task
+owner_found p id task is = ap owner_at is.found ∙ ap owner_in is.kind_is
+
+asked_told : (s : List ℕ) (p : Parts) (id : ℕ) (answer : Bool) (r : Request) → Told s p r → Told s p (asked_where answer id r)
+asked_told s p id false r t = t
+asked_told s p id true r t =
+    let k = ask_stays r.seen id r.parts in
+    record {
+      persists = persists_on s r.seen r.seen p r.parts (mark_asked id r.parts) k t.persists;
+      visits = λ task h. go task (t.visits task h);
+    }
+  where
+    go : (task : ℕ) → (has_seen s task ≡ true) ⊎ GoesOn r.parts r.seen task → (has_seen s task ≡ true) ⊎ GoesOn (mark_asked id r.parts) r.seen task
+    go task (inl x) = inl x
+    go task (inr x) = inr (goes_stays r.seen r.seen r.parts (mark_asked id r.parts) (ask_stays r.seen id r.parts) task x)
+
+-- the task that is visited is marked unless what it waits for answers true
+module _ (s : List ℕ) (p : Parts) (id task : ℕ) (it : Task) (is : IsPendingAs p id (OfTask task)) (there : slice_get p.tasks task ≡ Some it) (r : Request)
+    (t : Told (s ++ task ∷ []) (raise_count task p) r) where
+  raised : Persists s p (s ++ task ∷ []) (raise_count task p)
+  raised =
+      let k = raise_stays s task p in
+      record {
+        seen = λ u h. has_seen-append s (task ∷ []) u ∙ or_left (has_seen s u) (has_seen (task ∷ []) u) h;
+        marked = k.marked;
+        waiters = k.waiters;
+        owned = k.owned;
+        owners = k.owners;
+        cancelled = k.cancelled;
+        asked = k.asked;
+        manys = k.manys;
+      }
+
+  whole : Persists s p r.seen r.parts
+  whole = persists_on s (s ++ task ∷ []) r.seen p (raise_count task p) r.parts t.persists raised
+
+  still : (now : Task) × (slice_get r.parts.tasks task ≡ Some now)
+  still = at (slice_get r.parts.tasks task) refl
+    where
+      at : (o : Option Task) → slice_get r.parts.tasks task ≡ o → (now : Task) × (slice_get r.parts.tasks task ≡ Some now)
+      at None e =
+          absurd (none-some it.future (sym (ap (option_map (λ (x : Task). x.future)) e) ∙ whole.owned task
+          ∙ ap (option_map (λ (x : Task). x.future)) there))
+      at (Some now) e = (now, e)
+
+  seen_it : has_seen r.seen task ≡ true
+  seen_it = t.persists.seen task (has_seen_last s task)
+
+  -- its own way on
+  old : (u : ℕ) → has_seen (s ++ task ∷ []) u ≡ true → (has_seen s u ≡ true) ⊎ (u ≡ task)
+  old u h = go (cases_eq u task)
+    where
+      go : (u ≡ task) ⊎ (u ≡ task → ⊥) → (has_seen s u ≡ true) ⊎ (u ≡ task)
+      go (inl e) = inr e
+      go (inr n) = inl (sym (has_seen_other s task u n) ∙ h)
+
+  task_told : (answer : Bool) → (answer ≡ true → GoesOn r.parts r.seen task) → Reaches id s p (marked_unless answer task r)
+  task_told true on = record {
+    told = record { persists = whole; visits = λ u h. go u (t.visits u h) };
+    answered = λ e. inr (inr (task, whole.owners id ∙ owner_found p id task is, seen_it));
+  }
+    where
+      go : (u : ℕ) → (has_seen (s ++ task ∷ []) u ≡ true) ⊎ GoesOn r.parts r.seen u → (has_seen s u ≡ true) ⊎ GoesOn r.parts r.seen u
+      go u (inr x) = inr x
+      go u (inl x) = at (old u x)
+        where
+          at : (has_seen s u ≡ true) ⊎ (u ≡ task) → (has_seen s u ≡ true) ⊎ GoesOn r.parts r.seen u
+          at (inl y) = inl y
+          at (inr e) = inr (subst (GoesOn r.parts r.seen) (sym e) (on refl))
+  task_told false on = record {
+    told = record {
+      persists = persists_on s r.seen r.seen p r.parts (mark task r.parts) (mark_stays r.seen task r.parts) whole;
+      visits = λ u h. go u (t.visits u h);
+    };
+    answered = λ e. inr (inr (task, (mark_stays r.seen task r.parts).owners id ∙ whole.owners id ∙ owner_found p id task is, seen_it));
+  }
+    where
+      go : (u : ℕ) → (has_seen (s ++ task ∷ []) u ≡ true) ⊎ GoesOn r.parts r.seen u
+          → (has_seen s u ≡ true) ⊎ GoesOn (mark task r.parts) r.seen u
+      go u (inr x) = inr (goes_stays r.seen r.seen r.parts (mark task r.parts) (mark_stays r.seen task r.parts) u x)
+      go u (inl x) = at (old u x)
+        where
+          at : (has_seen s u ≡ true) ⊎ (u ≡ task) → (has_seen s u ≡ true) ⊎ GoesOn (mark task r.parts) r.seen u
+          at (inl y) = inl y
+          at (inr e) =
+              inr (inl (subst (λ x. is_marked (mark task r.parts) x ≡ true) (sym e) (marks_it task r.parts still.0 still.1)))
+
+nothing_told : (s : List ℕ) (p : Parts) → (b : Bool) → Told s p (answers b s p)
+nothing_told s p b = record { persists = stays s p; visits = λ task h. inl h }
+
+each_told : (s : List ℕ) (p : Parts) (first others : Request) → Told s p first → Told first.seen first.parts others
+    → Told s p (record others { answer = first.answer || others.answer })
+each_told s p first others a b = record {
+  persists = persists_on s first.seen others.seen p first.parts others.parts b.persists a.persists;
+  visits = λ task h. go task (b.visits task h);
+}
+  where
+    back : (task : ℕ) → (has_seen s task ≡ true) ⊎ GoesOn first.parts first.seen task
+        → (has_seen s task ≡ true) ⊎ GoesOn others.parts others.seen task
+    back task (inl x) = inl x
+    back task (inr x) = inr (goes_stays first.seen others.seen first.parts others.parts b.persists task x)
+
+    go : (task : ℕ) → (has_seen first.seen task ≡ true) ⊎ GoesOn others.parts others.seen task
+        → (has_seen s task ≡ true) ⊎ GoesOn others.parts others.seen task
+    go task (inr x) = inr x
+    go task (inl x) = back task (a.visits task x)
+
+many_reaches : (id : ℕ) (s : List ℕ) (p : Parts) (members : List ℕ) (asked : Bool) → IsPendingAs p id (Many members asked)
+    → (r : Request) → Told s p r → Reaches id s p (asked_where r.answer id r)
+many_reaches id s p members asked is r t = at r.answer refl
+  where
+    kept : kind_many_at (slice_get r.parts.futures id) ≡ true
+    kept = t.persists.manys id ∙ ap kind_many_at is.found ∙ ap kind_many is.kind_is
+
+    at : (answer : Bool) → r.answer ≡ answer → Reaches id s p (asked_where answer id r)
+    at true e = record { told = asked_told s p id true r t; answered = λ h. inr (inl (asks_it id r.parts kept)) }
+    at false e = record { told = t; answered = λ h. absurd (false≢true (sym e ∙ h)) }
+
+-- what the task waits for was reached
+goes_to : (task : ℕ) (it : Task) (s : List ℕ) (p : Parts) (r : Request) → slice_get p.tasks task ≡ Some it
+    → Told (s ++ task ∷ []) (raise_count task p) r → ((on : ℕ) × (it.waiter ≡ Some on) × WasReached r.parts r.seen on)
+    → GoesOn r.parts r.seen task
+goes_to task it s p r e t w =
+    inr (
+      w.0,
+      t.persists.waiters task ∙ (raise_stays s task p).waiters task
+          ∙ ap (λ (o : Option Task). option_map_or (λ (x : Task). x.waiter) o None) e ∙ w.1,
+      w.2,
+    )
+
+mutual
+  reaches : {id : ℕ} {s : List ℕ} {p : Parts} {r : Request} → OwnsFutures p → Cancels id s p r → Reaches id s p r
+  reaches {s = s} {p = p} owns (done_row d) = record { told = nothing_told s p false; answered = λ e. absurd (false≢true e) }
+  reaches {id = id} {s = s} {p = p} owns (plain_row is) = record {
+    told = record { persists = settle_stays s id p is.future is.found is.pending; visits = λ task h. inl h };
+    answered = λ e. inl (settle_cancels id p is.future is.found is.pending);
+  }
+  reaches {id = id} {s = s} {p = p} owns (many_row {members = members} {asked = asked} {request = r} is e) =
+      many_reaches id s p members asked is r (reaches_each owns e)
+  reaches {id = id} {s = s} {p = p} owns (visited_row {task = t} is n) = record {
+    told = nothing_told s p true;
+    answered = λ e. inr (inr (t, owner_found p id t is, n));
+  }
+  reaches {id = id} {s = s} {p = p} owns (task_row {task = t} {it = it} {request = r} is n e w) =
+      let k = reaches_waiter (owns_stays s s p (raise_count t p) (raise_stays s t p) owns) w in
+      task_told s p id t it is e r k.0 r.answer (λ a.
+      goes_to t it s p r e k.0 (k.1 a))
+  reaches {id = id} {s = s} {p = p} owns (no_task_row {task = t} is n e) =
+      absurd (none-some id (sym (ap (option_map (λ (x : Task). x.future)) e) ∙ (owns id t).0 (owner_found p id t is)))
+
+  reaches_each : {ids s : List ℕ} {p : Parts} {r : Request} → OwnsFutures p → CancelsEach ids s p r → Told s p r
+  reaches_each {s = s} {p = p} owns none_row = nothing_told s p false
+  reaches_each {s = s} {p = p} owns (each_row {id = id} {ids = ids} {first = first} {others = others} c e) =
+      let a = (reaches owns c).told in
+      each_told s p first others a (reaches_each (owns_stays s first.seen p first.parts a.persists owns) e)
+
+  reaches_waiter : {o : Option ℕ} {s : List ℕ} {p : Parts} {r : Request} → OwnsFutures p → CancelsWaiter o s p r
+      → Told s p r × (r.answer ≡ true → (on : ℕ) × (o ≡ Some on) × WasReached r.parts r.seen on)
+  reaches_waiter {s = s} {p = p} owns waits_not_row = (nothing_told s p false, λ e. absurd (false≢true e))
+  reaches_waiter owns (waits_row {on = on} c) = let k = reaches owns c in (k.told, λ e. (on, refl, k.answered e))
+
+-- the whole request
+pub cancel_goes_on : (id : ℕ) (p : Parts) → OwnsFutures p → (task : ℕ) → has_seen (cancel id p).seen task ≡ true
+    → GoesOn (cancel id p).parts (cancel id p).seen task
+cancel_goes_on id p owns task h = go ((reaches owns (cancel_meets id [] p)).told.visits task h)
+  where
+    go : (has_seen [] task ≡ true) ⊎ GoesOn (cancel id p).parts (cancel id p).seen task → GoesOn (cancel id p).parts (cancel id p).seen task
+    go (inl x) = absurd (false≢true x)
+    go (inr x) = x
+
+pub cancel_reaches : (id : ℕ) (p : Parts) → OwnsFutures p → (cancel id p).answer ≡ true
+    → WasReached (cancel id p).parts (cancel id p).seen id
+cancel_reaches id p owns h = (reaches owns (cancel_meets id [] p)).answered h
+
+pub cancel_keeps_marks : (id : ℕ) (p : Parts) → OwnsFutures p → (task : ℕ) → is_marked p task ≡ true
+    → is_marked (cancel id p).parts task ≡ true
+cancel_keeps_marks id p owns task m = (reaches owns (cancel_meets id [] p)).told.persists.marked task m

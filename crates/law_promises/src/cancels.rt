@@ -1,0 +1,27 @@
+//! A cancel goes on. Each function has no body: its clauses are the laws, of every state in which each task has its own
+//! future.
+ghost use Rattle.std.specs.Prelude.{◌≡◌, ℕ, true};
+ghost use Rattle.model_loop.specs.Parts.{Parts};
+ghost use Rattle.model_loop.specs.Tasks.{is_marked};
+ghost use Rattle.model_loop.specs.Cancel.{has_seen, cancel};
+ghost use Rattle.model_loop.specs.Owning.{OwnsFutures};
+ghost use Rattle.law_promises.specs.Reached.{WasReached, GoesOn};
+
+/// Each task that a request comes to is afterwards marked, or the request went on to what it waits for, which was cancelled,
+/// keeps that it was asked, or is the future of a task that the request came to.
+pub fn a_cancel_goes_on()
+    ensures { (id : ℕ) (p : Parts) → OwnsFutures p → (task : ℕ) → has_seen (cancel id p).seen task ≡ true
+        → GoesOn (cancel id p).parts (cancel id p).seen task }
+{}
+
+/// A request that answers true reached what it was made for.
+pub fn an_answer_is_true()
+    ensures { (id : ℕ) (p : Parts) → OwnsFutures p → (cancel id p).answer ≡ true
+        → WasReached (cancel id p).parts (cancel id p).seen id }
+{}
+
+/// No request takes a mark away.
+pub fn a_cancel_keeps_marks()
+    ensures { (id : ℕ) (p : Parts) → OwnsFutures p → (task : ℕ) → is_marked p task ≡ true
+        → is_marked (cancel id p).parts task ≡ true }
+{}
