@@ -5,7 +5,9 @@ use Rattle.model_stream.specs.Connections.{Connection, flushed}
 use Rattle.model_stream.specs.Doing.{Doing, Ends}
 use Rattle.model_stream.specs.Senders.{Sender, Outlet, has_unsent, schedule_loss, close_sender, fail_sender}
 
-closes_by : (outlet : Outlet) (s : Sender) (closing unsent : Bool) → s.closing ≡ closing → unsent ≡ true → cond closing (Ends s) (cond unsent (Ends (record s { closing = true })) (schedule_loss outlet false s)) ≡ Ends (record s { closing = true })
+closes_by :
+    (outlet : Outlet) (s : Sender) (closing unsent : Bool) → s.closing ≡ closing → unsent ≡ true
+    → cond closing (Ends s) (cond unsent (Ends (record s { closing = true })) (schedule_loss outlet false s)) ≡ Ends (record s { closing = true })
 closes_by outlet s true unsent is some = λ i. Ends (record s { closing = is i })
 closes_by outlet s false true is some = refl
 closes_by outlet s false false is some = absurd (let bad : ⊥ = cc in bad)
@@ -20,7 +22,9 @@ sends_by false ended stays goes some = absurd (let bad : ⊥ = cc in bad)
 pub sends : (id : ℕ) (c : Connection) → has_unsent c.sender ≡ true → flushed id c ≡ Ends c
 sends id c some = sends_by (has_unsent c.sender) c.sender.writer.ended (Ends c) _ some
 
-breaks_by : (id : ℕ) (p : Child) (ended unsent : Bool) → unsent ≡ true → cond ended (Ends p) (feeding (schedule_loss (inlet id) unsent) p) ≡ feeding (λ s. cond ended (Ends s) (schedule_loss (inlet id) true s)) p
+breaks_by :
+    (id : ℕ) (p : Child) (ended unsent : Bool) → unsent ≡ true
+    → cond ended (Ends p) (feeding (schedule_loss (inlet id) unsent) p) ≡ feeding (λ s. cond ended (Ends s) (schedule_loss (inlet id) true s)) p
 breaks_by id p true unsent some = refl
 breaks_by id p false true some = refl
 breaks_by id p false false some = absurd (let bad : ⊥ = cc in bad)
