@@ -13,7 +13,11 @@ none_before (Some at) is = absurd (let bad : ⊥ = cc in bad)
 some_is_none : (place : Option ℕ) (at : ℕ) → place ≡ Some at → place ≡ None → ⊥
 some_is_none place at found none = cc
 
-found_behind : (byte : ℕ) (text rest : List ℕ) (begins : Bool) → starts_with eqb (byte ∷ text) newline ≡ begins → first_at newline (byte ∷ text) ≡ None → (first_at newline text ≡ None → first_at newline (text ++ 10 ∷ rest) ≡ Some (length text)) → first_at newline (byte ∷ text ++ 10 ∷ rest) ≡ Some (length (byte ∷ text))
+found_behind :
+    (byte : ℕ) (text rest : List ℕ) (begins : Bool) → starts_with eqb (byte ∷ text) newline ≡ begins
+    → first_at newline (byte ∷ text) ≡ None
+    → (first_at newline text ≡ None → first_at newline (text ++ 10 ∷ rest) ≡ Some (length text))
+    → first_at newline (byte ∷ text ++ 10 ∷ rest) ≡ Some (length (byte ∷ text))
 found_behind byte text rest true is none on =
     absurd (some_is_none (first_at newline (byte ∷ text)) 0 (rw is refl) none)
 found_behind byte text rest false is none on =
@@ -43,5 +47,7 @@ line_over at r over = let e : ltb r.limit at ≡ true = grind (arith, nat_tests)
 pub line_fits : (text rest : List ℕ) (r : Reading) → HoldsLine text rest r → length text ≤ r.limit → take_line r ≡ gives (length text + 1) r.held
 line_fits text rest r line within = line_is text rest r line ∙ line_within (length text) r within
 
-pub line_is_too_long : (text rest : List ℕ) (r : Reading) → HoldsLine text rest r → r.limit < length text → take_line r ≡ removes found_too_far (drop (length text + 1) r.held)
+pub line_is_too_long :
+    (text rest : List ℕ) (r : Reading) → HoldsLine text rest r → r.limit < length text
+    → take_line r ≡ removes found_too_far (drop (length text + 1) r.held)
 line_is_too_long text rest r line over = line_is text rest r line ∙ line_over (length text) r over

@@ -1,6 +1,6 @@
 -- What is written stays in order.
-use Rattle.std.proofs.Common.{◌≡◌, ℕ, zero, suc, Bool, true, false, cond, leb, List, [], ◌∷◌, ◌++◌, Option, Some, None, length, take, drop, refl, ap, sym, ◌∙◌, inl, inr, ◌⊎◌}
-use Rattle.std.proofs.lemmas.List.{append_assoc, append-nil, take-append-drop}
+use Rattle.std.proofs.Common.{◌≡◌, ℕ, ◌≤◌, arith, zero, suc, Bool, true, false, cond, leb, List, [], ◌∷◌, ◌++◌, Option, Some, None, length, take, drop, refl, ap, sym, ◌∙◌, inl, inr, ◌⊎◌}
+use Rattle.std.proofs.lemmas.List.{append_assoc, append-nil, take-append-drop, take-take, length-take}
 use Rattle.model_stream.specs.declared.put.Put.{Put}
 use Rattle.model_stream.specs.declared.put.Put.TheVariants.{Offer, Kept, Empty, AfterEof, Dropped}
 use Rattle.model_stream.specs.Sending.{Writer, put_as, put_answer, took, resume_mark, resumed_under, paused_over, with_marks, marks_of, is_nothing}
@@ -35,7 +35,9 @@ marks_left None w = record { unsent_is = refl; ended_is = refl }
 marks_left (Some marks) w = record { unsent_is = refl; ended_is = refl }
 
 -- ---- after the loss
-none_by : (eof nothing ended empty : Bool) (piece : List ℕ) → ended ≡ true → written_as (cond eof AfterEof (cond nothing Empty (cond ended Dropped (cond empty Offer Kept)))) piece ≡ []
+none_by :
+    (eof nothing ended empty : Bool) (piece : List ℕ) → ended ≡ true
+    → written_as (cond eof AfterEof (cond nothing Empty (cond ended Dropped (cond empty Offer Kept)))) piece ≡ []
 none_by true nothing ended empty piece is = refl
 none_by false true ended empty piece is = refl
 none_by false false true empty piece is = refl
@@ -110,7 +112,10 @@ swapped : (front back : List ℕ) → (front ≡ []) ⊎ (back ≡ []) → front
 swapped front back (inl none) = ap (λ bytes. bytes ++ back) none ∙ sym (append-nil back) ∙ ap (λ bytes. back ++ bytes) (sym none)
 swapped front back (inr none) = ap (λ bytes. front ++ bytes) none ∙ append-nil front ∙ ap (λ bytes. bytes ++ front) (sym none)
 
-regrouped : (unsent wrote handed dropped between more on off last : List ℕ) → unsent ++ wrote ≡ handed ++ (dropped ++ between) → between ++ more ≡ on ++ (off ++ last) → dropped ++ on ≡ on ++ dropped → unsent ++ (wrote ++ more) ≡ (handed ++ on) ++ ((dropped ++ off) ++ last)
+regrouped :
+    (unsent wrote handed dropped between more on off last : List ℕ) → unsent ++ wrote ≡ handed ++ (dropped ++ between)
+    → between ++ more ≡ on ++ (off ++ last) → dropped ++ on ≡ on ++ dropped
+    → unsent ++ (wrote ++ more) ≡ (handed ++ on) ++ ((dropped ++ off) ++ last)
 regrouped unsent wrote handed dropped between more on off last first second swap =
     sym (append_assoc unsent wrote more)
     ∙ ap (λ bytes. bytes ++ more) first
@@ -124,10 +129,16 @@ regrouped unsent wrote handed dropped between more on off last first second swap
     ∙ ap (λ bytes. on ++ bytes) (sym (append_assoc dropped off last)))
     ∙ sym (append_assoc handed on ((dropped ++ off) ++ last))
 
-pub all_in_order : (steps : List WriterStep) (w : Writer) → w.unsent ++ written steps w ≡ handed steps w ++ (dropped steps w ++ (after_all steps w).unsent)
+pub all_in_order :
+    (steps : List WriterStep) (w : Writer)
+    → w.unsent ++ written steps w ≡ handed steps w ++ (dropped steps w ++ (after_all steps w).unsent)
 all_in_order [] w = append-nil w.unsent
 all_in_order (step ∷ steps) w =
     regrouped w.unsent (written_in step w) (handed_in step w) (dropped_in step w) (after step w).unsent
     (written steps (after step w)) (handed steps (after step w)) (dropped steps (after step w)) (after_all (step ∷ steps) w).unsent
     (step_order step w) (all_in_order steps (after step w))
     (swapped (dropped_in step w) (handed steps (after step w)) (dropped_last step steps w))
+
+pub front_of_front :
+    (count most : ℕ) (bytes : List ℕ) → count ≤ length (take most bytes) → take count (take most bytes) ≡ take count bytes
+front_of_front count most bytes within = take-take count most bytes (omega (arith, length-take most bytes))

@@ -2,5 +2,6 @@
 //! law.
 #![tactic(auto)]
 
+pub mod connections;
 pub mod readers;
 pub mod writers;
