@@ -4,4 +4,7 @@ pub mod QuietLemmas
 pub mod SearchLemmas
 pub mod OpenLemmas
 pub mod RoomLemmas
+pub mod RoomsKept
 pub mod ForgottenLemmas
+pub mod ForgottenSteps
+pub mod PlacedLemmas

@@ -1,5 +1,6 @@
 pub mod Shape
 pub mod Forgotten
+pub mod Placed
 pub mod Walk
 pub mod Weight
 pub mod Quiet
