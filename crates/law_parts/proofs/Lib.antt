@@ -2,6 +2,7 @@ pub mod WalkLemmas
 pub mod WeightLemmas
 pub mod QuietLemmas
 pub mod SearchLemmas
+pub mod SeekLemmas
 pub mod OpenLemmas
 pub mod RoomLemmas
 pub mod RoomsKept

@@ -5,4 +5,5 @@ pub mod Walk
 pub mod Weight
 pub mod Quiet
 pub mod Search
+pub mod Seek
 pub mod Open
