@@ -139,7 +139,7 @@ goes-waiter (asks {q = q} g id future members asked e o k) j =
 goes-waiter (raises {q = q} g id task n e) j = change-waiter id _ q j (λ t. refl) ∙ goes-waiter g j
 goes-waiter (marks {q = q} g id) j = change-waiter id _ q j (λ t. refl) ∙ goes-waiter g j
 
-passes-task : (p : Parts) (id task : ℕ) → passing_at p id ≡ stands.OfTask task → passes p id ≡ option_to_list (waiter_of p task)
+pub passes-task : (p : Parts) (id task : ℕ) → passing_at p id ≡ stands.OfTask task → passes p id ≡ option_to_list (waiter_of p task)
 passes-task p id task h = at (slice_get p.futures id) h
   where
     until : (o : Option Outcome) (k : FutureKind) → passing (stands_of o k) ≡ stands.OfTask task
@@ -153,7 +153,7 @@ passes-task p id task h = at (slice_get p.futures id) h
     at None h = absurd (cc)
     at (Some future) h = until future.outcome future.kind h
 
-passes-many : (p : Parts) (id : ℕ) → passing_at p id ≡ stands.Many → passes p id ≡ made_before id (members_at (slice_get p.futures id))
+pub passes-many : (p : Parts) (id : ℕ) → passing_at p id ≡ stands.Many → passes p id ≡ made_before id (members_at (slice_get p.futures id))
 passes-many p id h = at (slice_get p.futures id) h
   where
     until : (future : Future) (o : Option Outcome) (k : FutureKind) → passing (stands_of o k) ≡ stands.Many
