@@ -121,7 +121,6 @@ Gives told answer next = (rest : List Entry) → Agrees next rest → Agrees tol
 
 module _ {program : List Line} {made : ℕ} {kernel : Kernel} {h : History} {past : List Entry} {first_told now_told : Option (List Entry)}
     {first now : SinkSeen} (running : Running program made kernel h past first_told now_told first now) where
-
   -- what a run writes where it ends here
   ended_transcript : (ending : Ending) (ends : EndsHere now_told made kernel h ending)
       → lines_of_events h.events ++ line (ending_text ending) ≡ transcript (run program (past ++ ends.rest) turn_limit)

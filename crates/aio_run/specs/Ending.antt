@@ -1,4 +1,5 @@
 -- Code's endings as the definitions have them.
+use Rattle.std.specs.Prelude.{[]}
 use Rattle.model_value.specs.Value.{Nothing}
 use Rattle.model_value.specs.declared.outcome.Outcome.TheVariants.{Value as Returned}
 use Rattle.model_straight.specs.Program.{turn_limit}

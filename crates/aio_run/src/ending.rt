@@ -1,7 +1,8 @@
 //! How a run ends.
-ghost use Rattle.std.specs.Prelude.{◌≡◌, IfOk, string_bytes};
+ghost use Rattle.std.specs.Prelude.{◌≡◌, [], IfOk, string_bytes};
+ghost use Rattle.model_wire.specs.declared.call.Call.TheVariants.{Select};
 ghost use Rattle.model_straight.specs.Transcript.{line, ending_text, status_of};
-ghost use Rattle.model_straight.specs.Run.{Bad};
+ghost use Rattle.model_straight.specs.Run.{Bad, Over};
 ghost use Rattle.aio_run.specs.Ending.{plain_ending};
 
 use aio_wire::JournalFault;
@@ -31,13 +32,7 @@ impl Ending {
         match self {
             Ending::Finished => String::from_str(alloc, "= returned None\n"),
             Ending::Turns => format!(in alloc; "= turns {TURN_LIMIT}\n"),
-            Ending::Over(None) => String::from_str(
-                alloc,
-                "! over select none\n",
-            ),
-            Ending::Over(Some(wait)) => format!(in alloc;
-                "! over select {wait}\n"
-            ),
+            Ending::Over(wait) => over_line(alloc, *wait),
             Ending::Bad(fault) => refused_line(alloc, fault.line, fault.cause),
         }
     }
@@ -52,6 +47,15 @@ impl Ending {
             Ending::Over(_) => 6,
             Ending::Turns => 10,
         }
+    }
+}
+
+fn over_line(alloc: Global, wait: Option<u64>) -> Result<String, AllocError>
+    ensures { IfOk result (λ text. string_bytes text ≡ line (ending_text (Over (Select wait [])))) }
+{
+    match wait {
+        None => String::from_str(alloc, "! over select none\n"),
+        Some(wait) => format!(in alloc; "! over select {wait}\n"),
     }
 }
 

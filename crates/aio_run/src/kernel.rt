@@ -1,5 +1,5 @@
 //! The kernel of a straight program: main's task, step by step. It keeps no history.
-ghost use Rattle.std.specs.Prelude.{◌≡◌, ℕ, ◌++◌, IfOk, OnOk, drop};
+ghost use Rattle.std.specs.Prelude.{◌≡◌, ℕ, [], ◌++◌, IfOk, OnOk, drop};
 ghost use Rattle.model_wire.specs.declared.call.Call.TheVariants.{Select};
 ghost use Rattle.model_straight.specs.State.{start};
 ghost use Rattle.model_straight.specs.Turn.{time_of};

@@ -23,7 +23,8 @@ each_meets K F id stays meet (m ∷ members) s p k =
   where
     go : (b : Bool) → nat_lt m id ≡ b
         → ((t : List ℕ) (q : Parts) → K t q → CancelsEach (made_before id members) t q (cancel_each F (made_before id members) t q))
-        → CancelsEach (cond b (m ∷ made_before id members) (made_before id members)) s p (cancel_each F (cond b (m ∷ made_before id members) (made_before id members)) s p)
+        → CancelsEach (cond b (m ∷ made_before id members) (made_before id members)) s p (cancel_each F (cond b (m ∷ made_before id members)
+        (made_before id members)) s p)
     go false e ih = ih s p k
     go true e ih =
         let first = F m s p in
@@ -31,8 +32,10 @@ each_meets K F id stays meet (m ∷ members) s p k =
 
 module _ (F V : Canceller) (id : ℕ) (s : List ℕ) (p : Parts)
     (members_meet : (members : List ℕ) → CancelsEach (made_before id members) s p (cancel_each F (made_before id members) s p))
-    (waiter_meets : (t : ℕ) (it : Task) (w : ℕ) → has_seen s t ≡ false → slice_get p.tasks t ≡ Some it → Cancels w (s ++ t ∷ []) (raise_count t p) (V w (s ++ t ∷ []) (raise_count t p))) where
-  unseen_meets : (t : ℕ) → IsPendingAs p id (OfTask t) → has_seen s t ≡ false → (o : Option Task) → slice_get p.tasks t ≡ o → Cancels id s p (cancel_unseen V t o s p)
+    (waiter_meets : (t : ℕ) (it : Task) (w : ℕ) → has_seen s t ≡ false → slice_get p.tasks t ≡ Some it → Cancels w (s ++ t ∷ []) (raise_count t p)
+    (V w (s ++ t ∷ []) (raise_count t p))) where
+  unseen_meets : (t : ℕ) → IsPendingAs p id (OfTask t) → has_seen s t ≡ false → (o : Option Task) → slice_get p.tasks t ≡ o
+      → Cancels id s p (cancel_unseen V t o s p)
   unseen_meets t is n None e = no_task is n e
   unseen_meets t is n (Some it) e = go it.waiter refl
     where
@@ -51,7 +54,8 @@ module _ (F V : Canceller) (id : ℕ) (s : List ℕ) (p : Parts)
   kind_meets (OfTask t) is = task_meets t is (has_seen s t) refl
   kind_meets (Many members asked) is = many is (members_meet members)
 
-  until_meets : (future : Future) → slice_get p.futures id ≡ Some future → (o : Option Outcome) → future.outcome ≡ o → Cancels id s p (cancel_until F V o future.kind id s p)
+  until_meets : (future : Future) → slice_get p.futures id ≡ Some future → (o : Option Outcome) → future.outcome ≡ o
+      → Cancels id s p (cancel_until F V o future.kind id s p)
   until_meets future e (Some outcome) o = done (ap is_pending_at e ∙ ap is_none o)
   until_meets future e None o = kind_meets future.kind (record { future = future; found = e; pending = o; kind_is = refl })
 

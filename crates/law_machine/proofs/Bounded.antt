@@ -37,7 +37,8 @@ module _ {S : Type 0} (limit : ℕ) (added : Extra S) (task : ℕ) where
   still : (count : ℕ) (before : Tape) (input : Input) → IsEnough limit (suc count) before → IsEnough limit count (before ++ entry_of input ∷ [])
   still count before input h =
       let a : length (before ++ entry_of input ∷ []) ≡ length before + 1 = length-append before (entry_of input ∷ []) in
-      let b : steps_in (before ++ entry_of input ∷ []) ≡ steps_in before = sum_by-append (λ (e : Resumed). if e.fresh then 1 else 0) before (entry_of input ∷ []) ∙ omega arith in
+      let b : steps_in (before ++ entry_of input ∷ []) ≡ steps_in before =
+      sum_by-append (λ (e : Resumed). if e.fresh then 1 else 0) before (entry_of input ∷ []) ∙ omega arith in
       rw b (omega (arith, a, h))
 
   -- more answers than enough change nothing
@@ -46,7 +47,8 @@ module _ {S : Type 0} (limit : ℕ) (added : Extra S) (task : ℕ) where
       → (more : ℕ) → serve limit added (count + more) task s ≡ serve limit added count task s
 
   module _ (count : ℕ) (settles : Settles count) (more : ℕ) (s : State S) where
-    resumed_settles : (now : State S) → IsKept task s now → 0 < count → task < length s.generators → IsEnough limit (suc count) (tape_of task s) → (input : Input)
+    resumed_settles : (now : State S) → IsKept task s now → 0 < count → task < length s.generators → IsEnough limit (suc count) (tape_of task s)
+        → (input : Input)
         → serve limit added (count + more) task (resumed false task input now) ≡ serve limit added count task (resumed false task input now)
     resumed_settles now kept some there enough input =
         let next = resumed false task input now in
@@ -82,7 +84,8 @@ module _ {S : Type 0} (limit : ℕ) (added : Extra S) (task : ℕ) where
       ∙ served_settles count (serve_settles count) more s (says_of limit added task s) refl there enough
 
   pub bound_is_enough : (more : ℕ) (s : State S) → task < length s.generators
-      → serve limit added (most_answers limit (generator_of task s).tape + more) task s ≡ serve limit added (most_answers limit (generator_of task s).tape) task s
+      → serve limit added (most_answers limit (generator_of task s).tape + more) task s ≡ serve limit added (most_answers limit
+      (generator_of task s).tape) task s
   bound_is_enough more s there =
       let tape = (generator_of task s).tape in
       let few = count_by-le-length (λ (e : Resumed). e.fresh) tape in

@@ -243,7 +243,8 @@ module _ {S : Type 0} (added : Extra S) where
   reply-keeps task (request.Cancel x) s = given-keeps task (as_awaited s x) (requests task) s (λ on. kept_as task s _ refl refl refl)
   reply-keeps task (request.Cancelling x) s = given-keeps task (as_task x) counted s (λ on. kept_as task s s refl refl refl)
   reply-keeps task (request.Uncancel x) s =
-      given-keeps task (as_task x) (λ other now. counted other (in_loop (book (uncancel_by (ByScript task) other)) now)) s (λ other. kept_as task s _ refl refl refl)
+      given-keeps task (as_task x) (λ other now. counted other (in_loop (book (uncancel_by (ByScript task) other)) now)) s
+      (λ other. kept_as task s _ refl refl refl)
   reply-keeps task request.Current s = kept_as task s _ refl refl refl
   reply-keeps task request.Time s = kept_as task s _ refl refl refl
   reply-keeps task (request.Spawn coroutine arguments) s =

@@ -1,3 +1,5 @@
+pub mod Beginning
 pub mod Bounded
 pub mod Kept
 pub mod Turns
+pub mod Waking

@@ -209,7 +209,8 @@ module _ {S : Type 0} (s : State S) (call : Call) where
       fit : (b : Bool) (answer : Answer) (entries : List Entry) → s.answers ≡ Answered answer ∷ entries
           → Turned s (fitted b call answer next (got answer entries))
       fit true answer entries e = after answer entries e (next answer (got answer entries)) (on answer (got answer entries))
-      fit false answer entries e = after answer entries e (fitted false call answer next (got answer entries)) (on_as (got answer entries) (got answer entries) refl refl)
+      fit false answer entries e =
+          after answer entries e (fitted false call answer next (got answer entries)) (on_as (got answer entries) (got answer entries) refl refl)
 
       at : (entries : List Entry) → s.answers ≡ entries → Turned s (answered_by entries call next (noted (event.Called call) s))
       at [] e = (goes_on_one s.events _, turns-called s.events call, omega arith)
@@ -223,7 +224,7 @@ module _ {S : Type 0} (limit : ℕ) (added : Extra S) where
     where
       at : (b : Bool) → b ≡ false → Turned s (turn_unless limit added b s)
       at true n = absurd (true≢false n)
-      at false n = ask-turned s (call_of s) (turned_by limit added) (turned-on limit added)
+      at false n = ask-turned s (call_of added s) (turned_by limit added) (turned-on limit added)
 
   stalled : (s : State S) → is_stalled added s ≡ true → turn limit added s ≡ Stops end.Stalled s
   unfolding turn

@@ -1,7 +1,12 @@
 //! Laws of steps, turns and runs. `S` is the state of what is added to the loop's own requests, whatever that is.
-ghost use Rattle.std.specs.Prelude.{◌≡◌, ℕ, ◌+◌, ◌<◌, ◌≤◌, false, length};
-ghost use Rattle.model_machine.specs.Extra.{Extra};
-ghost use Rattle.model_machine.specs.State.{State, generator_of};
+ghost use Rattle.std.specs.Prelude.{◌≡◌, ℕ, suc, ◌+◌, ◌<◌, ◌≤◌, false, List, length};
+ghost use Rattle.model_value.specs.Input.{Input};
+ghost use Rattle.model_tree.specs.Syntax.{Program};
+ghost use Rattle.model_wire.specs.Journal.{Entry};
+ghost use Rattle.model_machine.specs.Extra.{Extra, WakesFall, no_extra};
+ghost use Rattle.model_machine.specs.Replies.{woken_within};
+ghost use Rattle.model_machine.specs.Sound.{IsStateSound};
+ghost use Rattle.model_machine.specs.State.{State, generator_of, start};
 ghost use Rattle.model_machine.specs.Step.{most_answers, serve};
 ghost use Rattle.model_machine.specs.Turn.{is_stalled, turn};
 ghost use Rattle.model_machine.specs.Run.{run_on};
@@ -15,8 +20,8 @@ pub fn what_happened_stays<S>()
         → GoesOn s.events (run_on limit added allowed left s).events }
 {}
 
-/// A turn asks the outside once, unless nothing can come. A run begins at most one turn more than the outside answers: the
-/// one that finds no answer.
+/// A turn asks the outside once, unless nothing can come. A run begins at most one turn more than the outside
+/// answers: the one that finds no answer.
 pub fn turns_are_bounded<S>()
     ensures one { (limit : ℕ) (added : Extra S) (s : State S) → is_stalled added s ≡ false
         → turns_in (state_of (turn limit added s)).events ≡ turns_in s.events + 1 }
@@ -29,4 +34,19 @@ pub fn a_step_ends_by_itself<S>()
     ensures { (limit : ℕ) (added : Extra S) (task more : ℕ) (s : State S) → task < length s.generators →
         let most = most_answers limit (generator_of task s).tape in
         serve limit added (most + more) task s ≡ serve limit added most task s }
+{}
+
+/// What is added is woken no more often in a step than it says, where that number falls each time; it does where
+/// nothing is added.
+pub fn wakes_end_by_themselves<S>()
+    ensures within { (added : Extra S) (task more key : ℕ) (input : Input) (s : State S) → WakesFall added →
+        let most = suc (added.wakes_left key s.extra) in
+        woken_within added (most + more) task key input s ≡ woken_within added most task key input s }
+    ensures nothing { WakesFall no_extra }
+{}
+
+/// A run begins in a sound state.
+pub fn a_run_begins_sound<S>()
+    ensures { (added : Extra S) (state : S) (program : Program) (answers : List Entry)
+        → IsStateSound added (start state program answers) }
 {}

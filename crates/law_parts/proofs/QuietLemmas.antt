@@ -1,6 +1,5 @@
 -- A future that a request is done with stays so, and a request for it changes nothing.
 use Rattle.std.proofs.Common.{◌≡◌, ℕ, zero, suc, ◌+◌, ◌<◌, ◌≤◌, ◌⊎◌, Bool, true, false, cond, ◌||◌, List, [], ◌∷◌, ◌++◌, Option, Some, None, take, slice_get, slice_set, nat_lt, nat_eq, refl, ap, sym, ◌∙◌, arith, inl, inr, Result, Ok, Err, OnOk, subst, append-nil, if◌then◌else◌}
-use Rattle.std.specs.Map.{lookup}
 use Rattle.std.specs.Option.{option_map_or}
 use Rattle.std.proofs.lemmas.Bool.{cases_eq, lt-ltb, le-ltb, eq-eqb, ne_eqb}
 use Rattle.model_value.specs.declared.outcome.Outcome.TheVariants.{Cancelled}
@@ -14,7 +13,7 @@ use Rattle.law_cancel.proofs.Seen.{has_seen-append}
 use Rattle.law_cancel.proofs.Effects.{settle-futures, done_as, asked_as, change_task-futures}
 use Rattle.law_parts.specs.Shape.{stands_of, stands_at, members_of, members_at}
 use Rattle.law_parts.specs.declared.walk.Stands.TheVariants as stands
-use Rattle.law_parts.specs.Quiet.{stage_of, stage, stage_at, Quiet, over, visited, finished, QuietAll, none, more, Sound, Grows, Later, asked_of}
+use Rattle.law_parts.specs.Quiet.{stage_of, stage, stage_at, Quiet, over, visited, finished, QuietAll, none, more, Sound, OnlyAdds, Grows, Later, asked_of}
 use Rattle.law_parts.specs.Walk.{joined, ask_joined}
 use Rattle.law_parts.proofs.WalkLemmas as walk
 
@@ -202,8 +201,8 @@ module _ (s : List ℕ) (p : Parts) where
     stages = λ j. grows_equal p.futures (raise_count task p).futures j (change_task-futures task _ p);
   }
 
-pub sound_later : (s : List ℕ) (p : Parts) (t : List ℕ) (q : Parts) (notes : List (ℕ × Bool)) → Later s p t q → Sound s p notes → Sound t q notes
-sound_later s p t q notes l sound = λ id again e. stays l (sound id again e)
+pub sound_later : (s : List ℕ) (p : Parts) (t : List ℕ) (q : Parts) (noted : ℕ → Option Bool) → Later s p t q → Sound s p noted → Sound t q noted
+sound_later s p t q noted l sound = λ id again e. stays l (sound id again e)
 
 -- ---- the steps of the code
 pub stage_done : (o : Option Future) → stands.Done ≡ stands_at o → stage o ≡ None
@@ -246,31 +245,21 @@ stage_many (Some future) asked e = until future.outcome future.kind e
     until None (OfTask t) e = absurd (cc)
     until None (Many ms a) e = let same : a ≡ asked = cc in rw same refl
 
-pub on_later : {A E : Type 0} (r : Result A E) (s : List ℕ) (p : Parts) (t : List ℕ) (q : Parts) (notes : List (ℕ × Bool)) → OnOk r (Later s p t q)
-    → Sound s p notes → OnOk r (Sound t q notes)
-on_later (Ok x) s p t q notes l sound = sound_later s p t q notes l sound
-on_later (Err cause) s p t q notes l sound = tt
-
 pub ask_where_later : (s : List ℕ) (p q : Parts) (any : Bool) (id : ℕ) → q ≡ (if any then mark_asked id p else p) → Later s p s q
 ask_where_later s p q true id e = rw e (asked_later s p id)
 ask_where_later s p q false id e = rw e (record { seen = λ x h. h; stages = λ j. grows_same (stage_at p j) })
 
-pub put_sound : {E : Type 0} (r : Result (Unit {0}) E) (s : List ℕ) (p : Parts) (notes after : List (ℕ × Bool)) (id : ℕ) (asked again : Bool)
-    → Sound s p notes → Some asked ≡ asked_of (stage_at p id) → QuietAll s p (made_before id (members_at (slice_get p.futures id))) again
-    → (again ≡ true → asked ≡ true)
-    → OnOk r ((q : ℕ) → lookup (nat_eq q) after ≡ cond (nat_eq id q) (Some again) (lookup (nat_eq q) notes)) → OnOk r (Sound s p after)
-put_sound (Err cause) s p notes after id asked again sound e all implies put = tt
-put_sound (Ok done) s p notes after id asked again sound e all implies put = λ j b found. go j b found (cases_eq id j)
+pub put_sound : (s : List ℕ) (p : Parts) (noted after : ℕ → Option Bool) (id : ℕ) (asked again : Bool)
+    → Sound s p noted → Some asked ≡ asked_of (stage_at p id) → QuietAll s p (made_before id (members_at (slice_get p.futures id))) again
+    → (again ≡ true → asked ≡ true) → OnlyAdds noted id again after → Sound s p after
+put_sound s p noted after id asked again sound e all implies adds = λ j b found. go j b (adds j b found)
   where
     mine : Quiet s p id again
     mine = finished (members_at (slice_get p.futures id)) asked (stage_many (slice_get p.futures id) asked e) all implies
 
-    go : (j : ℕ) (b : Bool) → lookup (nat_eq j) after ≡ Some b → (id ≡ j) ⊎ (id ≡ j → ⊥) → Quiet s p j b
-    go j b found (inl same) =
-        let here : lookup (nat_eq j) after ≡ Some again = put j ∙ rw (eq-eqb id j same) refl in
-        let eq : again ≡ b = cc in
-        subst (λ x. Quiet s p x b) same (subst (λ x. Quiet s p id x) eq mine)
-    go j b found (inr n) = sound j b (sym (put j ∙ rw (ne_eqb id j n) refl) ∙ found)
+    go : (j : ℕ) (b : Bool) → ((j ≡ id) × (b ≡ again)) ⊎ (noted j ≡ Some b) → Quiet s p j b
+    go j b (inl same) = subst (λ x. Quiet s p x b) (sym same.0) (subst (λ x. Quiet s p id x) (sym same.1) mine)
+    go j b (inr old) = sound j b old
 
 or_false : (b : Bool) → (b || false) ≡ b
 or_false true = refl

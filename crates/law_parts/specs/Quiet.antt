@@ -1,6 +1,5 @@
 -- Futures that a request is done with: it would answer again, and change nothing.
-use Rattle.std.specs.Prelude.{◌≡◌, ℕ, Bool, true, false, ◌||◌, List, [], ◌∷◌, Option, Some, None, nat_eq, slice_get}
-use Rattle.std.specs.Map.{lookup}
+use Rattle.std.specs.Prelude.{◌≡◌, ℕ, Bool, true, false, ◌||◌, ◌⊎◌, List, [], ◌∷◌, Option, Some, None, slice_get}
 use Rattle.model_value.specs.Value.{Outcome}
 use Rattle.model_loop.specs.Parts.{FutureKind, Plain, OfTask, Many, Future, Parts}
 use Rattle.model_loop.specs.Futures.{made_before}
@@ -36,8 +35,13 @@ mutual
     more : {id : ℕ} {again : Bool} {ids : List ℕ} {others : Bool} → Quiet s p id again → QuietAll s p ids others → QuietAll s p (id ∷ ids) (again || others)
 
 -- what is noted of futures is right
-abbrev pub Sound : List ℕ → Parts → List (ℕ × Bool) → Type 0
-Sound s p notes = (id : ℕ) (again : Bool) → lookup (nat_eq id) notes ≡ Some again → Quiet s p id again
+abbrev pub Sound : List ℕ → Parts → (ℕ → Option Bool) → Type 0
+Sound s p noted = (id : ℕ) (again : Bool) → noted id ≡ Some again → Quiet s p id again
+
+-- what is noted after one note more
+abbrev pub OnlyAdds : (ℕ → Option Bool) → ℕ → Bool → (ℕ → Option Bool) → Type 0
+OnlyAdds noted id again after =
+    (other : ℕ) (answer : Bool) → after other ≡ Some answer → ((other ≡ id) × (answer ≡ again)) ⊎ (noted other ≡ Some answer)
 
 -- ---- what may become of a future in a request
 abbrev pub Grows : Option FutureKind → Option FutureKind → Type 0

@@ -65,22 +65,26 @@ then_costs limit cost later first next c d =
     (λ value. more limit 0 later (Returned value) (omega arith) (returned limit value))
     (λ fault. more limit 0 later (Raised fault) (omega arith) (raises limit fault)) first c
 
-given_costs : {A : Type 0} (limit cost : ℕ) (next : A → Next) (result : Result A Exc) → ((value : A) → Costs limit cost (next value)) → Costs limit cost (given next result)
+given_costs : {A : Type 0} (limit cost : ℕ) (next : A → Next) (result : Result A Exc) → ((value : A) → Costs limit cost (next value))
+    → Costs limit cost (given next result)
 given_costs limit cost next (Ok value) costs now = costs value now
 given_costs limit cost next (Err fault) costs now = omega arith
 
 valued_costs : (limit cost : ℕ) (expr : Expr) (next : Value → Next) → ((value : Value) → Costs limit cost (next value)) → Costs limit cost (valued expr next)
 valued_costs limit cost expr next costs now = given_costs limit cost next (value_of expr now.env) costs now
 
-all_valued_costs : (limit cost : ℕ) (exprs : Exprs) (next : List Value → Next) → ((values : List Value) → Costs limit cost (next values)) → Costs limit cost (all_valued exprs next)
+all_valued_costs : (limit cost : ℕ) (exprs : Exprs) (next : List Value → Next) → ((values : List Value) → Costs limit cost (next values))
+    → Costs limit cost (all_valued exprs next)
 all_valued_costs limit cost exprs next costs now = given_costs limit cost next (values_of exprs now.env) costs now
 
-chosen_costs : (limit cost : ℕ) (first second : Next) → Costs limit cost first → Costs limit cost second → (value : Value) → Costs limit cost (chosen first second value)
+chosen_costs : (limit cost : ℕ) (first second : Next) → Costs limit cost first → Costs limit cost second → (value : Value)
+    → Costs limit cost (chosen first second value)
 chosen_costs limit cost first second c d (Truth true) now = c now
 chosen_costs limit cost first second c d (Truth false) now = d now
 chosen_costs limit cost first second c d _ now = omega arith
 
-decided_costs : (limit cost : ℕ) (test : Expr) (first second : Next) → Costs limit cost first → Costs limit cost second → Costs limit cost (decided test first second)
+decided_costs : (limit cost : ℕ) (test : Expr) (first second : Next) → Costs limit cost first → Costs limit cost second
+    → Costs limit cost (decided test first second)
 decided_costs limit cost test first second c d = valued_costs limit cost test (chosen first second) (chosen_costs limit cost first second c d)
 
 -- a statement that begins pays for two requests
@@ -92,7 +96,8 @@ begun_costs limit next costs now = at now.left refl
     at (suc left) e = let c = costs (record now { left = left }) in omega arith
 
 -- ---- requests
-resumed_costs : (limit cost : ℕ) (input : Input) (next : Value → Next) → ((value : Value) → Costs limit cost (next value)) → Costs limit cost (resumed_by input next)
+resumed_costs : (limit cost : ℕ) (input : Input) (next : Value → Next) → ((value : Value) → Costs limit cost (next value))
+    → Costs limit cost (resumed_by input next)
 resumed_costs limit cost (Send value) next costs now = costs value now
 resumed_costs limit cost (Throw fault) next costs now = omega arith
 
@@ -111,10 +116,13 @@ taken_costs limit asked entry tape now e = at entry.fresh refl
 
     at : (fresh : Bool) → entry.fresh ≡ fresh
         → length (now.exchanges ++ exchange ∷ []) + 2 * ((if fresh then limit else now.left) + allowed limit tape) ≤ potential limit now + 1
-    at true f = let b : allowed limit now.tape ≡ limit + allowed limit tape = before ∙ ap (λ b. (if b then limit else 0) + allowed limit tape) f in omega (arith, longer)
-    at false f = let b : allowed limit now.tape ≡ 0 + allowed limit tape = before ∙ ap (λ b. (if b then limit else 0) + allowed limit tape) f in omega (arith, longer)
+    at true f = let b : allowed limit now.tape ≡ limit + allowed limit tape = before ∙ ap (λ b.
+        (if b then limit else 0) + allowed limit tape) f in omega (arith, longer)
+    at false f =
+        let b : allowed limit now.tape ≡ 0 + allowed limit tape = before ∙ ap (λ b. (if b then limit else 0) + allowed limit tape) f in omega (arith, longer)
 
-ask_costs : (limit cost : ℕ) (asked : Request) (next : Value → Next) → ((value : Value) → Costs limit cost (next value)) → Costs limit (cost + 1) (ask limit asked next)
+ask_costs : (limit cost : ℕ) (asked : Request) (next : Value → Next) → ((value : Value) → Costs limit cost (next value))
+    → Costs limit (cost + 1) (ask limit asked next)
 ask_costs limit cost asked next costs now = at now.tape refl
   where
     at : (tape : Tape) → now.tape ≡ tape → potential limit (progress_of (asked_of limit asked next tape now)) ≤ potential limit now + (cost + 1)
@@ -149,10 +157,12 @@ finished_costs limit first finally c d =
     (λ fault. then_costs limit 0 0 finally (Raised fault) d (raises limit fault))
     first c
 
-handled_costs : (limit : ℕ) (first : Next) (handlers : Exc → Next) → Costs limit 0 first → ((fault : Exc) → Costs limit 0 (handlers fault)) → Costs limit 0 (λ now. handled handlers (first now))
+handled_costs : (limit : ℕ) (first : Next) (handlers : Exc → Next) → Costs limit 0 first → ((fault : Exc) → Costs limit 0 (handlers fault))
+    → Costs limit 0 (λ now. handled handlers (first now))
 handled_costs limit first handlers c d = routed_costs limit 0 0 Passes Returned handlers (passes limit) (returned limit) d first c
 
-exited_costs : (limit : ℕ) (manager : Manager) (block : Value) (first : Next) → Costs limit 0 first → Costs limit 1 (λ now. exited limit manager block (first now))
+exited_costs : (limit : ℕ) (manager : Manager) (block : Value) (first : Next) → Costs limit 0 first
+    → Costs limit 1 (λ now. exited limit manager block (first now))
 exited_costs limit manager block first c =
     routed_costs limit 0 1
     (ask limit (exit_of manager block None) (λ answer. Passes))
@@ -163,18 +173,21 @@ exited_costs limit manager block first c =
     (λ fault. ask_costs limit 0 (exit_of manager block (Some fault)) (λ answer. Raised fault) (λ answer. raises limit fault))
     first c
 
-managed_costs : (limit cost : ℕ) (manager : Manager) (body : Value → Next) → ((value : Value) → Costs limit cost (body value)) → Costs limit (cost + 1) (managed limit manager body)
+managed_costs : (limit cost : ℕ) (manager : Manager) (body : Value → Next) → ((value : Value) → Costs limit cost (body value))
+    → Costs limit (cost + 1) (managed limit manager body)
 managed_costs limit cost GroupBlock body costs = ask_costs limit cost request.GroupEnter body costs
 managed_costs limit cost (TimeoutBlock delay) body costs =
     valued_costs limit (cost + 1) delay (λ d. ask limit (request.TimeoutEnter d) body) (λ d. ask_costs limit cost (request.TimeoutEnter d) body costs)
 
 module _ (limit : ℕ) (program : Program) (call : Calls) (call_costs : (place : ℕ) (arguments : List Value) → Costs limit 0 (call place arguments)) where
-  delegated_costs : (target : Target) (next : Value → Next) → ((value : Value) → Costs limit 0 (next value)) → Costs limit 1 (delegated limit program call target next)
+  delegated_costs : (target : Target) (next : Value → Next) → ((value : Value) → Costs limit 0 (next value))
+      → Costs limit 1 (delegated limit program call target next)
   delegated_costs (Await name) next costs = λ now. ask_costs limit 0 (request.Await (held now.env name)) next costs now
   delegated_costs (Call coroutine arguments) next costs =
       all_valued_costs limit 1 arguments (λ values now. came_back now.env next (call (place_of program coroutine) values now))
       (λ values now. more limit 0 1 (λ here. came_back now.env next (call (place_of program coroutine) values here)) (omega arith)
-      (routed_costs limit 0 0 (λ here. next Nothing (back_in now.env here)) (λ value here. next value (back_in now.env here)) (λ fault here. Raised fault (back_in now.env here))
+      (routed_costs limit 0 0 (λ here. next Nothing (back_in now.env here)) (λ value here. next value (back_in now.env here))
+      (λ fault here. Raised fault (back_in now.env here))
       (λ here. costs Nothing (back_in now.env here)) (λ value here. costs value (back_in now.env here)) (λ fault here. omega arith)
       (call (place_of program coroutine) values) (call_costs (place_of program coroutine) values)) now)
   delegated_costs (Ask name arguments) next costs =
@@ -203,7 +216,8 @@ module _ (limit : ℕ) (program : Program) (call : Calls) (call_costs : (place :
         (valued_costs limit 2 value (λ v now. Passes (assign name v now)) (λ v now. omega arith))
     run_costs Yield =
         begun_costs limit (ask limit request.Pause (λ answer. Passes))
-        (more limit 1 2 (ask limit request.Pause (λ answer. Passes)) (omega arith) (ask_costs limit 0 request.Pause (λ answer. Passes) (λ answer. passes limit)))
+        (more limit 1 2 (ask limit request.Pause (λ answer. Passes)) (omega arith) (ask_costs limit 0 request.Pause (λ answer. Passes)
+        (λ answer. passes limit)))
     run_costs (YieldFrom into target) =
         begun_costs limit (delegated limit program call target (λ answer now. Passes (assign_to into answer now)))
         (more limit 1 2 (delegated limit program call target (λ answer now. Passes (assign_to into answer now))) (omega arith)
@@ -211,7 +225,8 @@ module _ (limit : ℕ) (program : Program) (call : Calls) (call_costs : (place :
     run_costs (Print items) =
         begun_costs limit (all_valued items (λ values. ask limit (request.Print values) (λ answer. Passes)))
         (all_valued_costs limit 2 items (λ values. ask limit (request.Print values) (λ answer. Passes))
-        (λ values. more limit 1 2 (ask limit (request.Print values) (λ answer. Passes)) (omega arith) (ask_costs limit 0 (request.Print values) (λ answer. Passes) (λ answer. passes limit))))
+        (λ values. more limit 1 2 (ask limit (request.Print values) (λ answer. Passes)) (omega arith) (ask_costs limit 0 (request.Print values)
+        (λ answer. Passes) (λ answer. passes limit))))
     run_costs (Raise fault) =
         begun_costs limit (valued fault raised) (valued_costs limit 2 fault raised (λ v. more limit 0 2 (raised v) (omega arith) (raised_costs limit v)))
     run_costs (Return None) = begun_costs limit (Returned Nothing) (more limit 0 2 (Returned Nothing) (omega arith) (returned limit Nothing))
@@ -225,16 +240,20 @@ module _ (limit : ℕ) (program : Program) (call : Calls) (call_costs : (place :
         (more limit 0 2 (run_branch limit program call otherwise) (omega arith) (run_branch_costs otherwise)))
     run_costs (While test body) = looped_costs limit test (run_all limit program call body) (run_all_costs body)
     run_costs (Try body handlers finally) =
-        let whole : Next = λ now. finished (run_branch limit program call finally) (handled (run_handlers limit program call handlers) (run_all limit program call body now)) in
+        let whole : Next =
+        λ now. finished (run_branch limit program call finally) (handled (run_handlers limit program call handlers)
+        (run_all limit program call body now)) in
         begun_costs limit whole
         (more limit 0 2 whole (omega arith)
-        (finished_costs limit (λ now. handled (run_handlers limit program call handlers) (run_all limit program call body now)) (run_branch limit program call finally)
+        (finished_costs limit (λ now. handled (run_handlers limit program call handlers) (run_all limit program call body now))
+        (run_branch limit program call finally)
         (handled_costs limit (run_all limit program call body) (run_handlers limit program call handlers) (run_all_costs body) (run_handlers_costs handlers))
         (run_branch_costs finally)))
     run_costs (With manager name body) =
         begun_costs limit (managed limit manager (λ block now. exited limit manager block (run_all limit program call body (assign name block now))))
         (managed_costs limit 1 manager (λ block now. exited limit manager block (run_all limit program call body (assign name block now)))
-        (λ block. exited_costs limit manager block (λ now. run_all limit program call body (assign name block now)) (λ now. run_all_costs body (assign name block now))))
+        (λ block. exited_costs limit manager block (λ now. run_all limit program call body (assign name block now)) (λ now. run_all_costs body
+        (assign name block now))))
 
     pub run_all_costs : (statements : Statements) → Costs limit 0 (run_all limit program call statements)
     run_all_costs no_statements = passes limit
@@ -250,10 +269,12 @@ module _ (limit : ℕ) (program : Program) (call : Calls) (call_costs : (place :
     run_handlers_costs (handler_then kind name body others) fault = at (matches kind (kind_of fault)) (run_all_costs body) (run_handlers_costs others fault)
       where
         at : (b : Bool) → Costs limit 0 (run_all limit program call body) → Costs limit 0 (run_handlers limit program call others fault)
-            → Costs limit 0 (if b then (λ now. run_all limit program call body (assign_to name (Exception fault) now)) else run_handlers limit program call others fault)
+            → Costs limit 0 (if b then (λ now. run_all limit program call body (assign_to name
+            (Exception fault) now)) else run_handlers limit program call others fault)
         at true c d = caught name c
           where
-            caught : (into : Option Name) → Costs limit 0 (run_all limit program call body) → Costs limit 0 (λ now. run_all limit program call body (assign_to into (Exception fault) now))
+            caught : (into : Option Name) → Costs limit 0 (run_all limit program call body)
+                → Costs limit 0 (λ now. run_all limit program call body (assign_to into (Exception fault) now))
             caught None costs now = costs now
             caught (Some it) costs now = costs (assign it (Exception fault) now)
         at false c d = d
@@ -269,7 +290,8 @@ pub course_costs : (limit : ℕ) (program : Program) (place : ℕ) (arguments : 
     → length (progress_of (course limit program place arguments tape)).exchanges ≤ 1 + 2 * (limit + allowed limit tape)
 unfolding course
 course_costs limit program place arguments tape =
-    let c = ask_costs limit 0 request.Pause (λ answer. call_within limit program frame_limit place arguments) (λ answer. calls_cost limit program frame_limit place arguments) (unbegun limit tape) in
+    let c = ask_costs limit 0 request.Pause (λ answer. call_within limit program frame_limit place arguments)
+    (λ answer. calls_cost limit program frame_limit place arguments) (unbegun limit tape) in
     omega arith
 
 -- ---- a request that waits, of a tape with so many steps
@@ -278,7 +300,8 @@ allowed-steps limit [] = omega arith
 allowed-steps limit (entry ∷ tape) =
     at entry.fresh (allowed-steps limit tape) ∙ ap (λ n. limit * n) (sym (sum_by-cons (λ (e : Resumed). if e.fresh then 1 else 0) entry tape))
   where
-    at : (b : Bool) → allowed limit tape ≡ limit * steps_in tape → (if b then limit else 0) + allowed limit tape ≡ limit * ((if b then 1 else 0) + steps_in tape)
+    at : (b : Bool) → allowed limit tape ≡ limit * steps_in tape
+        → (if b then limit else 0) + allowed limit tape ≡ limit * ((if b then 1 else 0) + steps_in tape)
     at true e = omega (arith, e)
     at false e = omega (arith, e)
 

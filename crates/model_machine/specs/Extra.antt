@@ -1,6 +1,6 @@
 -- Requests that are added to the loop's own: what serves them, as functions of its own state and the machine's. Each call
 -- gives its new state, what it changes of the loop, step by step, and an answer.
-use Rattle.std.specs.Prelude.{ℕ, ℤ, pos, Bool, false, List, [], ◌∷◌, ◌++◌, codes}
+use Rattle.std.specs.Prelude.{◌≡◌, ◌<◌, ℕ, ℤ, pos, Bool, false, List, [], ◌∷◌, ◌++◌, codes}
 use Rattle.std.specs.Fmt.{signed_decimal}
 use Rattle.model_value.specs.declared.action.Action.TheVariants as action
 use Rattle.model_value.specs.declared.kind.Kind.TheVariants.{NameError}
@@ -69,6 +69,12 @@ pub record Extra (S : Type 0) : Type 0 where
   pub act : (key : ℕ) → State S → ExtraCall S
   pub item : (code : ℤ) (bytes : List ℕ) → State S → ExtraCall S
   pub watches : S → Bool
+
+-- What is added keeps to its count: each time that it is woken and waits on, fewer times are left.
+abbrev pub WakesFall : {S : Type 0} → Extra S → Type 0
+WakesFall {S} added =
+    (key : ℕ) (input : Input) (s : State S) (on next : ℕ) → (added.wake key input s).answer ≡ Waits on next
+    → added.wakes_left next (added.wake key input s).call.state < added.wakes_left key s.extra
 
 -- the state after a call
 abbrev pub called : {S : Type 0} → ExtraCall S → State S → State S

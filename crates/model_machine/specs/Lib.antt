@@ -5,10 +5,12 @@ pub mod Outcomes
 pub mod Outside
 pub mod Replies
 pub mod Run
+pub mod Sound
 pub mod State
 pub mod Step
 pub mod Theorem
 pub mod Told
+pub mod Transcript
 pub mod Turn
 pub mod Went
 pub mod Words

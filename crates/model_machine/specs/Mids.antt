@@ -44,7 +44,7 @@ module _ {S : Type 0} (limit : ℕ) (added : Extra S) where
 
   abbrev pub mids_unless : (stalled : Bool) → State S → List (State S)
   mids_unless true s = []
-  mids_unless false s = mids_by s.answers (call_of s) (noted (event.Called (call_of s)) s)
+  mids_unless false s = mids_by s.answers (call_of added s) (noted (event.Called (call_of added s)) s)
 
   abbrev pub mids : State S → List (State S)
   mids s = mids_unless (is_stalled added s) s

@@ -16,7 +16,7 @@ use Rattle.model_loop.specs.Handles.{due, soon_all}
 use Rattle.model_loop.specs.Parts.{Handle, Parts, Timer}
 use Rattle.model_loop.specs.Timeouts.{fire}
 use Rattle.model_machine.specs.Extra.{Extra, called}
-use Rattle.model_machine.specs.Outside.{news_of, select, time_of}
+use Rattle.model_machine.specs.Outside.{news_of, select, time_of, watch_list}
 use Rattle.model_machine.specs.Outcomes.{end_of, finished_as, woken_with}
 use Rattle.model_machine.specs.State.{State, in_loop, noted, unbooked_in}
 use Rattle.model_machine.specs.Step.{step}
@@ -46,8 +46,8 @@ abbrev pub wait_of : Parts → Option ℕ
 wait_of p = wait_with p.pending p
 
 -- what a turn asks first
-abbrev pub call_of : {S : Type 0} → State S → Call
-call_of s = select (wait_of s.loop.parts)
+abbrev pub call_of : {S : Type 0} → Extra S → State S → Call
+call_of added s = select (wait_of s.loop.parts) (watch_list (added.watches s.extra))
 
 abbrev pub nothing_comes : List Handle → List Timer → (watches : Bool) → Bool
 nothing_comes [] [] false = true
@@ -130,7 +130,7 @@ module _ {S : Type 0} (limit : ℕ) (added : Extra S) where
 
   abbrev pub turn_unless : (stalled : Bool) → State S → Went S
   turn_unless true s = Stops end.Stalled s
-  turn_unless false s = ask (call_of s) turned_by s
+  turn_unless false s = ask (call_of added s) turned_by s
 
   -- A turn asks for the time and what came, and then the handles that are pending run. It may end the run.
   unfoldable pub turn : State S → Went S

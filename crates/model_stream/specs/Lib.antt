@@ -1,2 +1,10 @@
+pub mod Children
+pub mod Connections
+pub mod Doing
+pub mod Listeners
 pub mod Reading
+pub mod Receivers
+pub mod Senders
 pub mod Sending
+pub mod Streams
+pub mod Watching

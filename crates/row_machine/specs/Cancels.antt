@@ -2,7 +2,7 @@
 use Rattle.std.specs.Prelude.{ℕ, pos, true, List, [], ◌∷◌, Some, codes}
 use Rattle.model_value.specs.declared.kind.Kind.TheVariants as kind
 use Rattle.model_value.specs.Value.{Nothing, Truth, Int, Text, Exception, exception_of}
-use Rattle.model_wire.specs.declared.event.End.TheVariants.{Returned}
+use Rattle.model_wire.specs.declared.event.End.TheVariants.{Cancelled, Returned}
 use Rattle.row_machine.specs.Reading.{Seen, text, prints}
 
 abbrev pub goes_down_the_chain_text : List ℕ
@@ -162,3 +162,31 @@ left_behind_seen =
       waits = Some 0 ∷ Some 0 ∷ Some 0 ∷ [];
       end = Returned Nothing;
     }
+
+abbrev pub done_text : List ℕ
+done_text =
+    text
+    (codes "def main()"
+    ∷ codes "  t = yield from current()"
+    ∷ codes "  yield from cancel(t)"
+    ∷ codes "  f = yield from future()"
+    ∷ codes "  yield from set(f, 1)"
+    ∷ codes "  x = yield from f"
+    ∷ codes "  print x"
+    ∷ codes "  yield"
+    ∷ codes "end" ∷ [])
+
+abbrev pub done_seen : Seen
+done_seen = record { lines = prints 0 (Int (pos 1) ∷ []) ∷ []; waits = Some 0 ∷ Some 0 ∷ Some 0 ∷ []; end = Cancelled }
+
+abbrev pub returning_text : List ℕ
+returning_text =
+    text
+    (codes "def main()"
+    ∷ codes "  t = yield from current()"
+    ∷ codes "  yield from cancel(t)"
+    ∷ codes "  return 1"
+    ∷ codes "end" ∷ [])
+
+abbrev pub returning_seen : Seen
+returning_seen = record { lines = []; waits = Some 0 ∷ Some 0 ∷ []; end = Cancelled }

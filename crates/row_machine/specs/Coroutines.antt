@@ -141,3 +141,19 @@ counted_to_the_limit =
 
 abbrev pub ran_away : Seen
 ran_away = record { lines = []; waits = Some 0 ∷ []; end = Runaway 0 }
+
+-- three statements, which ask six times
+abbrev pub three_blocks : List ℕ
+three_blocks =
+    text
+    (codes "def main()"
+    ∷ codes "  with group as g"
+    ∷ codes "  end"
+    ∷ codes "  with timeout(None) as o"
+    ∷ codes "  end"
+    ∷ codes "  with group as g"
+    ∷ codes "  end"
+    ∷ codes "end" ∷ [])
+
+abbrev pub returned_at_once : Seen
+returned_at_once = record { lines = []; waits = Some 0 ∷ Some 0 ∷ []; end = Returned Nothing }

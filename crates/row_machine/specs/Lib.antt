@@ -1,3 +1,4 @@
+pub mod Added
 pub mod Cancels
 pub mod Coroutines
 pub mod Groups

@@ -1,6 +1,7 @@
 -- Scripts whose runs show the order of handles.
-use Rattle.std.specs.Prelude.{ℕ, pos, List, [], ◌∷◌, Some, codes}
-use Rattle.model_value.specs.Value.{Nothing, Int}
+use Rattle.std.specs.Prelude.{ℕ, pos, List, [], ◌∷◌, Option, Some, codes}
+use Rattle.model_value.specs.Value.{Nothing, Int, Text}
+use Rattle.model_wire.specs.Trace.{End}
 use Rattle.model_wire.specs.declared.event.End.TheVariants.{Returned, Stalled}
 use Rattle.row_machine.specs.Reading.{Seen, text, prints}
 
@@ -78,3 +79,9 @@ stalled_seen =
       waits = Some 0 ∷ [];
       end = Stalled;
     }
+
+abbrev pub hello_text : List ℕ
+hello_text = text (codes "def main()" ∷ codes "  print \"hi\"" ∷ codes "end" ∷ [])
+
+abbrev pub hello_until : End → List (Option ℕ) → Seen
+hello_until end waits = record { lines = prints 0 (Text (codes "hi") ∷ []) ∷ []; waits = waits; end = end }

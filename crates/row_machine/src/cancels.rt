@@ -3,11 +3,12 @@
 
 ghost use Rattle.std.specs.Prelude.{◌≡◌, [], ◌∷◌};
 ghost use Rattle.row_machine.specs.Reading.{seen};
-ghost use Rattle.row_machine.specs.Cancels.{goes_down_the_chain_text, goes_down_the_chain_seen, taken_back_text, taken_back_seen, two_before_one_step_text, two_before_one_step_seen, await_each_other_text, await_each_other_seen, left_behind_text, left_behind_seen};
+ghost use Rattle.row_machine.specs.Cancels.{goes_down_the_chain_text, goes_down_the_chain_seen, taken_back_text, taken_back_seen, two_before_one_step_text, two_before_one_step_seen, await_each_other_text, await_each_other_seen, left_behind_text, left_behind_seen, done_text, done_seen, returning_text, returning_seen};
 
 /// Of a task that awaits a task that sleeps, the sleep is cancelled, and both count the cancel.
 pub fn goes_down_the_chain()
-    ensures { seen goes_down_the_chain_text (0 ∷ 0 ∷ 0 ∷ 10 ∷ 10 ∷ 10 ∷ 10 ∷ 10 ∷ 10 ∷ []) ≡ goes_down_the_chain_seen }
+    ensures { seen goes_down_the_chain_text (0 ∷ 0 ∷ 0 ∷ 10 ∷ 10 ∷ 10 ∷ 10 ∷ 10 ∷ 10 ∷ [])
+        ≡ goes_down_the_chain_seen }
 {}
 
 /// A task cancels itself and takes it back: the mark stays, and is thrown at its next step.
@@ -25,7 +26,18 @@ pub fn await_each_other()
     ensures { seen await_each_other_text (0 ∷ 0 ∷ 0 ∷ 0 ∷ 0 ∷ 0 ∷ []) ≡ await_each_other_seen }
 {}
 
-/// Main ends while another task sleeps: that is cancelled after the turn in which main's callback ran, and the run ends with its end.
+/// Main ends while another task sleeps: that is cancelled after the turn in which main's callback ran, and the run
+/// ends with its end.
 pub fn left_behind()
     ensures { seen left_behind_text (0 ∷ 0 ∷ 0 ∷ 0 ∷ 0 ∷ []) ≡ left_behind_seen }
+{}
+
+/// What is done is awaited at once, whatever the mark says: the mark is used up at the next `yield`.
+pub fn done_is_awaited_at_once()
+    ensures { seen done_text (0 ∷ 0 ∷ 0 ∷ []) ≡ done_seen }
+{}
+
+/// A task that is marked and returns ends cancelled.
+pub fn returns_while_marked()
+    ensures { seen returning_text (0 ∷ 0 ∷ []) ≡ returning_seen }
 {}

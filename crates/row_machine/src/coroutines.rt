@@ -3,7 +3,7 @@
 
 ghost use Rattle.std.specs.Prelude.{◌≡◌, [], ◌∷◌, codes};
 ghost use Rattle.row_machine.specs.Reading.{seen, seen_within};
-ghost use Rattle.row_machine.specs.Coroutines.{frames_overflow_text, frames_overflow_seen, finally_on_the_way_out_text, finally_on_the_way_out_seen, extra_unknown_text, extra_unknown_seen, futures_text, futures_seen, counting, counted_to_the_limit, ran_away};
+ghost use Rattle.row_machine.specs.Coroutines.{frames_overflow_text, frames_overflow_seen, finally_on_the_way_out_text, finally_on_the_way_out_seen, extra_unknown_text, extra_unknown_seen, futures_text, futures_seen, counting, counted_to_the_limit, ran_away, three_blocks, returned_at_once};
 
 /// The 65th frame is refused.
 pub fn frames_overflow()
@@ -27,6 +27,13 @@ pub fn futures()
 
 /// A step that begins as many statements as it may, and one that would begin one more; here a step may begin 6.
 pub fn long_step()
-    ensures at_the_limit { seen_within 6 (counting (codes "  print i" ∷ [])) (0 ∷ 0 ∷ []) ≡ counted_to_the_limit }
-    ensures beyond { seen_within 6 (counting (codes "  pass" ∷ codes "  pass" ∷ [])) (0 ∷ 0 ∷ []) ≡ ran_away }
+    ensures at_the_limit { seen_within 6 (counting (codes "  print i" ∷ [])) (0 ∷ 0 ∷ [])
+        ≡ counted_to_the_limit }
+    ensures beyond { seen_within 6 (counting (codes "  pass" ∷ codes "  pass" ∷ [])) (0 ∷ 0 ∷ [])
+        ≡ ran_away }
+{}
+
+/// A step answers more requests than it begins statements: each `with` asks twice.
+pub fn more_answers_than_statements()
+    ensures { seen_within 3 three_blocks (0 ∷ 0 ∷ []) ≡ returned_at_once }
 {}

@@ -1,2 +1,5 @@
+pub mod Made
+pub mod Opened
+pub mod Played
 pub mod Readers
 pub mod Writers

@@ -12,9 +12,9 @@ loop-made-init g c = record {
     starting,
     [],
     running_first (plain_program c.args.program) c.new-kernel.result (g.W.Wire.answers c.args.wire.now) (g.K.Sink.seen c.args.out.now)
-    (ap plain_program c.new-kernel.ensures.program)
-    (fits_starting (plain_program c.new-kernel.result.program) c.new-kernel.result.at c.new-kernel.result.phase c.new-kernel.ensures.first)
-    c.new-kernel.ensures.begins,
+        (ap plain_program c.new-kernel.ensures.program)
+        (fits_starting (plain_program c.new-kernel.result.program) c.new-kernel.result.at c.new-kernel.result.phase c.new-kernel.ensures.first)
+        c.new-kernel.ensures.begins,
   );
   first = λ fails. (fails, refl, c.new-kernel.ensures.phase, refl);
   wire_later = omega arith;

@@ -15,8 +15,11 @@ returns-in-Ok-clause-ok g c =
     let first = told_first g.F.Shelf.seen w.shelf.now c.args.shelf.now w.name.now c.args.journal.now w.own.journal c.new-wire.ensures.held
     c.new-wire.ensures.name c.new-wire.ensures.unread in
     whole_from program old (g.F.Shelf.seen _) c.args.journal.now (g.K.Sink.seen c.args.out.now) (g.K.Sink.seen c.drive.new.out) c.in-Ok.status
-    (λ missing. c.in-Ok.ensures.live (c.new-wire.ensures.unread, missing_first g.F.Shelf.seen w.shelf.now c.args.shelf.now
-    w.name.now c.args.journal.now c.new-wire.ensures.held c.new-wire.ensures.name missing))
+    (λ missing. c.in-Ok.ensures.live (
+      c.new-wire.ensures.unread,
+      missing_first g.F.Shelf.seen w.shelf.now c.args.shelf.now
+          w.name.now c.args.journal.now c.new-wire.ensures.held c.new-wire.ensures.name missing,
+    ))
     (seen_kept g.F.Shelf.seen c.args.shelf.now w.shelf.now c.drive.new.wire.shelf.now _ c.new-wire.ensures.held (search rules) c.in-Ok.ensures.quiet)
     (subst (λ (t : Option (List Entry)). Ran program t (g.K.Sink.seen c.args.out.now) (g.K.Sink.seen c.drive.new.out) c.in-Ok.status)
     first c.in-Ok.ensures.run)
@@ -64,8 +67,11 @@ returns-in-Memory-clause-err g c =
     early_from program old (g.F.Shelf.seen _) c.args.journal.now Memory (g.K.Sink.seen c.args.out.now) (g.K.Sink.seen c.drive.new.out)
     ((g.F.Shelf.seen w.shelf.now).faults w.name.now) ((g.F.Shelf.seen c.drive.new.wire.shelf.now).faults c.drive.new.wire.name.now) (λ e. cc e)
     (seen_kept g.F.Shelf.seen c.args.shelf.now w.shelf.now c.drive.new.wire.shelf.now _ c.new-wire.ensures.held (search rules) (rw c.in-Memory.is at c.in-Err.ensures.still))
-    (λ missing. c.in-Err.ensures.failing (c.new-wire.ensures.unread, missing_first g.F.Shelf.seen w.shelf.now c.args.shelf.now
-    w.name.now c.args.journal.now c.new-wire.ensures.held c.new-wire.ensures.name missing)) stopped
+    (λ missing. c.in-Err.ensures.failing (
+      c.new-wire.ensures.unread,
+      missing_first g.F.Shelf.seen w.shelf.now c.args.shelf.now
+          w.name.now c.args.journal.now c.new-wire.ensures.held c.new-wire.ensures.name missing,
+    )) stopped
 
 pub returns-clause-err : goal.returns-clause-err
 returns-clause-err g c =
@@ -80,5 +86,8 @@ returns-clause-err g c =
     early_from program old (g.F.Shelf.seen _) c.args.journal.now Sink (g.K.Sink.seen c.args.out.now) (g.K.Sink.seen c.drive.new.out)
     ((g.F.Shelf.seen w.shelf.now).faults w.name.now) ((g.F.Shelf.seen c.drive.new.wire.shelf.now).faults c.drive.new.wire.name.now) (λ e. cc e)
     (seen_kept g.F.Shelf.seen c.args.shelf.now w.shelf.now c.drive.new.wire.shelf.now _ c.new-wire.ensures.held (search rules) (rw c.in-Sink.is at c.in-Err.ensures.still))
-    (λ missing. c.in-Err.ensures.failing (c.new-wire.ensures.unread, missing_first g.F.Shelf.seen w.shelf.now c.args.shelf.now
-    w.name.now c.args.journal.now c.new-wire.ensures.held c.new-wire.ensures.name missing)) stopped
+    (λ missing. c.in-Err.ensures.failing (
+      c.new-wire.ensures.unread,
+      missing_first g.F.Shelf.seen w.shelf.now c.args.shelf.now
+          w.name.now c.args.journal.now c.new-wire.ensures.held c.new-wire.ensures.name missing,
+    )) stopped

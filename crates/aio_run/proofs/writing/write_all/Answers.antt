@@ -9,5 +9,5 @@ loop-rest-preserved g c =
     let next = rw c.in-Took.is at c.in_ok-count.ensures.took in (
       i.0 ++ take c.in-Took.count c.loop-rest.rest.now,
       wrote_more i.0 c.loop-rest.rest.now c.args.text.now (g.K.Sink.seen c.args.out.now) (g.K.Sink.seen c.loop-rest.out)
-      (g.K.Sink.seen c.write.new.self) c.in-Took.count i.1 next,
+          (g.K.Sink.seen c.write.new.self) c.in-Took.count i.1 next,
     )

@@ -1,6 +1,6 @@
 use Rattle.std.proofs.Common.{max, ◌≡◌, ◌≤◌, ℕ, length, arith, ◌++◌, ◌∷◌, [], refl, ap, sym, ◌∙◌, subst, drop, List}
 use Rattle.std.proofs.lemmas.List.{length-map}
-use Rattle.model_machine.specs.Turn.{time_of}
+use Rattle.model_straight.specs.Turn.{time_of}
 use Rattle.aio_straight.specs.Lines.{plain_program, plain_line}
 use Rattle.aio_run.specs.Events.{plain_events}
 use Rattle.aio_run.specs.Kernel.{TurnedIn}

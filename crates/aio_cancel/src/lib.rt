@@ -1,0 +1,17 @@
+//! Cancel requests over the queue, the futures and the tasks, without recursion and without asking for memory.
+#![tactic(auto)]
+
+mod body;
+mod marks;
+mod notes;
+mod quiet;
+mod stack;
+mod task;
+mod walk;
+
+pub use body::Body;
+pub use marks::Marks;
+pub use notes::{Note, Notes};
+pub use stack::Stack;
+pub use task::Task;
+pub use walk::cancel;

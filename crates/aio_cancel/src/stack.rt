@@ -1,0 +1,66 @@
+//! What waits for an answer in a request.
+ghost use Rattle.std.specs.Prelude.{◌≡◌, ◌+◌, ◌<◌, [], ◌∷◌, ◌++◌, OnOk, OnErr, MatchOption, length};
+
+use aio_base::Memory;
+use law_parts::Frame;
+use std::alloc::Global;
+use std::marker::Model;
+
+/// Frames, with room for so many. Contracts see the room and the frames, the next one last.
+#[derive(Drop)]
+pub struct Stack {
+    frames: Vec<Frame>,
+    room: usize,
+}
+
+impl Model for Stack {
+    ghost use Rattle.std.specs.Prelude.{◌≤◌};
+    ghost use Rattle.std.specs.Vec.{vec_capacity};
+    ghost use Rattle.aio_cancel.specs.Seen.{Stacked};
+
+    ghost Value = { Stacked };
+
+    ghost view = { λ a. record { room = a.room; frames = a.frames.items } };
+
+    ghost invariant = { λ a. a.room ≤ vec_capacity a.frames };
+}
+
+impl Stack {
+    pub fn new(alloc: Global) -> Stack
+        ensures { result ≡ record { room = 0; frames = [] } }
+    {
+        let frames = Vec::new(alloc);
+        Stack { frames, room: 0 }
+    }
+
+    /// Room for one frame more.
+    pub fn announce(&mut self) -> Result<(), Memory>
+        requires { self.old.frames ≡ [] }
+        ensures after { OnOk result (self.new ≡ record self.old { room = self.old.room + 1 }) }
+        ensures err { OnErr result (self.new ≡ self.old) }
+    {
+        let Some(room) = self.room.checked_add(1) else {
+            return Err(Memory);
+        };
+        self.frames.reserve(room)?;
+        self.room = room;
+        Ok(())
+    }
+
+    pub fn push(&mut self, frame: Frame)
+        requires { length self.old.frames < self.old.room }
+        ensures { self.new ≡ record self.old { frames = self.old.frames ++ frame ∷ [] } }
+    {
+        let pushed = self.frames.push(frame);
+        prove!(pushed.is_ok());
+    }
+
+    pub fn pop(&mut self) -> Option<Frame>
+        ensures room { self.new.room ≡ self.old.room }
+        ensures frames { MatchOption result
+            ((self.old.frames ≡ []) × (self.new.frames ≡ []))
+            (λ frame. self.old.frames ≡ self.new.frames ++ frame ∷ []) }
+    {
+        self.frames.pop()
+    }
+}

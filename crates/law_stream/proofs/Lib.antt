@@ -1,0 +1,4 @@
+pub mod LineEnds
+pub mod Losses
+pub mod ReaderOrder
+pub mod WriterOrder

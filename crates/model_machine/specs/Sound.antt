@@ -1,0 +1,108 @@
+-- A sound state of the machine, between any two callbacks of a run: its loop is sound, and each task stands where its tape
+-- says that it does.
+use Rattle.std.specs.Prelude.{◌≡◌, ℕ, ◌<◌, Bool, true, false, not, ◌&&◌, ◌==◌, List, [], Option, Some, None, length, slice_get}
+use Rattle.std.specs.List.{list_any}
+use Rattle.model_value.specs.declared.action.Action.TheVariants.{SleepDone, Step}
+use Rattle.model_value.specs.declared.request.Request.TheVariants as request
+use Rattle.model_value.specs.Action.{Action}
+use Rattle.model_value.specs.Equality.{equal}
+use Rattle.model_value.specs.Request.{Request}
+use Rattle.model_value.specs.Value.{Value, Group, Timeout}
+use Rattle.model_says.specs.Blocks.{open_blocks}
+use Rattle.model_says.specs.Endings.{Asks}
+use Rattle.model_says.specs.Says.{step_limit}
+use Rattle.model_loop.specs.Groups.{group_of}
+use Rattle.model_loop.specs.Loop.{TimeoutState, Active, Expiring}
+use Rattle.model_loop.specs.Parts.{Future, Handle, Parts, Plain, Timer}
+use Rattle.model_loop.specs.Sound.{IsSound}
+use Rattle.model_loop.specs.Tasks.{lives, next_task}
+use Rattle.model_loop.specs.Timeouts.{timeout_of}
+use Rattle.model_machine.specs.Extra.{Extra}
+use Rattle.model_machine.specs.State.{Standing, Asked, Sleeping, Leaving, Serving, Generator, State, generator_of}
+use Rattle.model_machine.specs.Step.{says_of}
+use Rattle.model_machine.specs.Told.{told_in}
+
+-- ---- tasks and their tapes
+-- whether a task that waits at this request may stand so
+abbrev pub stands_at : Standing → Request → Bool
+stands_at Asked request.Pause = true
+stands_at Asked (request.Await x) = true
+stands_at Asked (request.Sleep delay) = true
+stands_at (Sleeping tag) (request.Sleep delay) = true
+stands_at (Leaving id) (request.GroupExit (Group group) raised) = group == id
+stands_at (Serving key) (request.Extra code arguments) = true
+stands_at _ _ = false
+
+-- a task's first step is pending
+pub record IsUnbegun (p : Parts) (task : ℕ) : Type 0 where
+  pub place : ℕ
+  pub handle : Handle
+  pub found : slice_get p.pending place ≡ Some handle
+  pub live : handle.dead ≡ false
+  pub steps : handle.action ≡ Step task
+
+-- what it asks, and how it stands there
+pub record IsAsking {S : Type 0} (added : Extra S) (s : State S) (task : ℕ) : Type 0 where
+  pub asked : Request
+  pub says : says_of step_limit added task s ≡ Asks asked
+  pub stands : stands_at (generator_of task s).standing asked ≡ true
+
+pub record AreTasksSound {S : Type 0} (added : Extra S) (s : State S) : Type 0 where
+  pub generators : length s.generators ≡ next_task s.loop.parts
+  pub asking : (task : ℕ) → lives s.loop.parts task ≡ true → IsAsking added s task
+  pub unbegun : (task : ℕ) → lives s.loop.parts task ≡ true → (generator_of task s).tape ≡ [] → IsUnbegun s.loop.parts task
+  pub main_over : s.main_done ≡ true → lives s.loop.parts 0 ≡ false
+
+-- ---- what tasks stand at
+-- whether an action ends a sleep of the task
+abbrev pub ends_sleep_of : ℕ → Action → Bool
+ends_sleep_of task (SleepDone other future) = other == task
+ends_sleep_of task _ = false
+
+-- what a sleep's tag still names resolves that sleep
+pub record NamesItsSleep (p : Parts) (task tag : ℕ) : Type 0 where
+  pub below : tag < p.next_tag
+  pub pending : (place : ℕ) (handle : Handle) → slice_get p.pending place ≡ Some handle → handle.tag ≡ tag
+      → handle.dead ≡ false → ends_sleep_of task handle.action ≡ true
+  pub in_time : (place : ℕ) (timer : Timer) → slice_get p.timers place ≡ Some timer → timer.tag ≡ tag
+      → ends_sleep_of task timer.action ≡ true
+
+pub record StandsRightly {S : Type 0} (s : State S) (task : ℕ) : Type 0 where
+  pub sleeping : (tag : ℕ) → (generator_of task s).standing ≡ Sleeping tag → NamesItsSleep s.loop.parts task tag
+  pub leaving : (id : ℕ) → (generator_of task s).standing ≡ Leaving id → (group_of s.loop id).parent ≡ task
+  pub leaving_now : (id : ℕ) → (generator_of task s).standing ≡ Leaving id
+      → ((group_of s.loop id).exiting && not (group_of s.loop id).ended) ≡ true
+
+-- ---- open blocks
+abbrev pub is_open : TimeoutState → Bool
+is_open Active = true
+is_open Expiring = true
+is_open _ = false
+
+-- whether this block is open on a task's tape
+abbrev pub has_open : {S : Type 0} → State S → (task : ℕ) → Value → Bool
+has_open s task block =
+    let it = generator_of task s in
+    list_any (equal block) (open_blocks s.program it.coroutine it.arguments it.tape)
+
+-- A timeout is active or expiring exactly while its block is open, and a group is entered and hasn't ended.
+pub record AreBlocksOpen {S : Type 0} (s : State S) : Type 0 where
+  pub timeouts : (id : ℕ) → id < length s.loop.timeouts
+      → is_open (timeout_of s.loop id).state ≡ has_open s (timeout_of s.loop id).task (Timeout id)
+  pub groups : (id : ℕ) → id < length s.loop.groups
+      → ((group_of s.loop id).entered && not (group_of s.loop id).ended) ≡ has_open s (group_of s.loop id).parent (Group id)
+
+-- ---- futures of `future()`
+-- each is a plain one, which it alone names
+pub record AreScriptsFutures {S : Type 0} (s : State S) : Type 0 where
+  pub plain : (place id : ℕ) → slice_get s.futures place ≡ Some id
+      → (future : Future) × (slice_get s.loop.parts.futures id ≡ Some future) × (future.kind ≡ Plain)
+  pub once : (place other id : ℕ) → slice_get s.futures place ≡ Some id → slice_get s.futures other ≡ Some id → place ≡ other
+
+-- ---- all of it
+pub record IsStateSound {S : Type 0} (added : Extra S) (s : State S) : Type 0 where
+  pub loop : IsSound None (told_in s.events) s.loop
+  pub tasks : AreTasksSound added s
+  pub standing : (task : ℕ) → lives s.loop.parts task ≡ true → StandsRightly s task
+  pub blocks : AreBlocksOpen s
+  pub futures : AreScriptsFutures s
