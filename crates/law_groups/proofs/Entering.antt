@@ -9,7 +9,7 @@ use Rattle.std.proofs.lemmas.List.{get_or_past}
 use Rattle.std.proofs.lemmas.Option.{none-some}
 use Rattle.law_told.specs.Holds.{Holds}
 use Rattle.model_loop.specs.Loop.{Group, Loop}
-use Rattle.law_groups.proofs.Exits.{AllOrderly, entered, orderly_set}
+use Rattle.law_groups.proofs.Exits.{AllOrderly, orderly_set}
 use Rattle.std.proofs.lemmas.Bool.{false≢true}
 
 -- after a push a number names what it named, or the new one

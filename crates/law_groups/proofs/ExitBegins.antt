@@ -11,7 +11,6 @@ use Rattle.model_loop.specs.Tasks.{cancelling, is_cancelled, uncancel}
 use Rattle.std.proofs.Math.ListN.{length-set}
 use Rattle.model_value.specs.Value.{Exc}
 use Rattle.model_loop.specs.Children.{IsOrderly, body_at_end, failures}
-use Rattle.std.specs.Option.{option_map_or}
 use Rattle.model_loop.specs.Ledger.{Began, ByGroup, uncancel_by}
 use Rattle.std.proofs.lemmas.Option.{none-some}
 use Rattle.law_told.specs.Holds.{Holds}

@@ -4,3 +4,4 @@ pub mod Exits
 pub mod ExitBegins
 pub mod Entering
 pub mod Orderly
+pub mod Waits

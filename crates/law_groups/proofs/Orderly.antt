@@ -4,7 +4,7 @@ use Rattle.model_loop.specs.Groups.{NotEntered, Refusal, abort, abort_and_reques
 use Rattle.model_loop.specs.Children.{IsOrderly}
 use Rattle.model_value.specs.Value.{Exc}
 use Rattle.model_loop.specs.Loop.{Group, Loop, in_parts}
-use Rattle.law_groups.proofs.Exits.{AllOrderly, entered, orderly_set}
+use Rattle.law_groups.proofs.Exits.{AllOrderly, orderly_set}
 use Rattle.std.proofs.lemmas.Bool.{cases_lt, false≢true}
 use Rattle.std.proofs.lemmas.Option.{none-some}
 use Rattle.std.proofs.lemmas.List.{get_or_past}

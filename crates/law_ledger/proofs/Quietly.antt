@@ -11,7 +11,6 @@ use Rattle.model_loop.specs.Ledger.{Asked, Booked, ByAbort, ByWait, LedgerEntry,
 use Rattle.model_loop.specs.Suspend.{cancel_wait, suspend, suspend_unless, wait_on}
 use Rattle.std.specs.List.{count_by}
 use Rattle.model_loop.specs.Ways.{one_if}
-use Rattle.model_loop.specs.Entries.{entries}
 use Rattle.model_value.specs.declared.input.Input.TheVariants.{Send, Throw}
 use Rattle.law_ledger.specs.Telling.{BooksNone, BooksQuietly, IsOther, Tells}
 use Rattle.model_value.specs.Action.{Circle}

@@ -1,5 +1,5 @@
 -- A new future that is no task's keeps the parts and what holds of all groups.
-use Rattle.std.proofs.Common.{◌≡◌, ℕ, suc, ◌+◌, ◌<◌, ◌⊎◌, Bool, false, not, ◌&&◌, List, [], ◌∷◌, ◌++◌, Option, Some, None, length, slice_get, refl, ap, sym, subst, ◌∙◌, inl, inr, arith, length-append, true}
+use Rattle.std.proofs.Common.{◌≡◌, ℕ, suc, ◌+◌, ◌<◌, ◌⊎◌, Bool, false, not, ◌&&◌, [], ◌∷◌, Option, Some, None, length, slice_get, refl, ap, sym, subst, ◌∙◌, inl, inr, arith, length-append, true}
 use Rattle.std.proofs.lemmas.Bool.{cases_eq}
 use Rattle.std.proofs.lemmas.Option.{none-some, slice_get_within, slice_get_past}
 use Rattle.std.specs.List.{count_by}
@@ -16,7 +16,6 @@ use Rattle.model_loop.specs.Owning.{owner_in, owner_at, owner_of, own_future, is
 use Rattle.model_loop.specs.Sound.{ArePartsSound}
 use Rattle.law_settling.proofs.Looks.{future_of-owned}
 use Rattle.law_made.proofs.Spawning.{spent_same}
-use Rattle.law_settling.proofs.Spreading.{marks}
 use Rattle.law_settling.proofs.CancelSound.{plain_within}
 
 module _ (kind : FutureKind) (free : owner_in kind ≡ None) (running excused : Option ℕ) (p : Parts) (is : ArePartsSound running excused p) where

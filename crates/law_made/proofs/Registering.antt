@@ -12,7 +12,6 @@ use Rattle.law_settling.proofs.Looks.{spent_grows_below}
 use Rattle.model_loop.specs.Parts.{Future, Parts, Task}
 use Rattle.std.specs.List.{count_by}
 use Rattle.model_loop.specs.Spent.{spent_by}
-use Rattle.law_settling.proofs.Spreading.{marks}
 use Rattle.std.specs.Option.{option_map_or}
 use Rattle.std.proofs.lemmas.List.Sums.{sum_by_push}
 use Rattle.model_loop.specs.Marks.{MayBeMarked}

@@ -14,7 +14,6 @@ use Rattle.law_cancel.proofs.Lookups.{get-set_kept, get-set_other, get-set_same}
 use Rattle.law_cancel.proofs.Meeting.{cancel_meets}
 use Rattle.law_steps.proofs.Stepping.{at_task}
 use Rattle.std.proofs.lemmas.Option.{none-some}
-use Rattle.model_loop.specs.Ledger.{request}
 use Rattle.law_cancel.proofs.Trace.{kind_many}
 use Rattle.std.specs.Option.{option_map_or}
 use Rattle.law_cancel.proofs.Counting.{change_task-kept}

@@ -1,7 +1,7 @@
 -- What a cancel request did with a future, and with a task that it came to.
 use Rattle.std.specs.Prelude.{◌≡◌, ℕ, ◌⊎◌, Bool, true, false, List, Option, Some, None, slice_get}
 use Rattle.model_value.specs.declared.outcome.Outcome.TheVariants.{Cancelled}
-use Rattle.model_loop.specs.Parts.{FutureKind, Plain, OfTask, Many, Future, Parts}
+use Rattle.model_loop.specs.Parts.{FutureKind, Many, Future, Parts}
 use Rattle.model_loop.specs.Futures.{future_outcome}
 use Rattle.model_loop.specs.Tasks.{is_marked, waiter_of}
 use Rattle.model_loop.specs.Cancel.{has_seen}

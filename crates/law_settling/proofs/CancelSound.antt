@@ -1,7 +1,7 @@
 -- A request keeps the parts sound.
 use Rattle.std.proofs.Common.{◌≡◌, ℕ, suc, ◌<◌, ◌⊎◌, Bool, true, false, List, [], Option, Some, None, length, option_map, slice_get, slice_set, refl, ap, sym, subst, ◌∙◌, inl, inr, arith, ◌≤◌}
 use Rattle.std.proofs.lemmas.Bool.{cases_eq, cases_Bool, cases_lt, false≢true}
-use Rattle.std.proofs.lemmas.Option.{none-some, slice_get_within, same_Some}
+use Rattle.std.proofs.lemmas.Option.{none-some, slice_get_within}
 use Rattle.std.specs.List.{count_by}
 use Rattle.std.specs.Option.{option_map_or}
 use Rattle.model_value.specs.declared.outcome.Outcome.TheVariants.{Cancelled}
@@ -23,7 +23,7 @@ use Rattle.law_settling.proofs.Settling.{IsSettled, settle_effect, count_fewer, 
 use Rattle.law_settling.proofs.SettleWays.{settled-waiter, settled-pending, settled-lives, settled_keeps}
 use Rattle.law_settling.proofs.Looks.{LooksSame, future_of-owned, spent_grows_below, same-lives, same_ways, same_owns, same_settled, same_may, same_marks, change_looks_same, asked_looks_same, same_callbacks, same_ready}
 use Rattle.law_settling.proofs.Spreading.{CanBeMarked, begins, settles, asks, raises, marks, with_spread, Spreads}
-use Rattle.model_value.specs.declared.action.Action.TheVariants.{Fires, GroupDone, MainDone, SleepDone, Step, StepInCircle, Wakeup}
+use Rattle.model_value.specs.declared.action.Action.TheVariants.{GroupDone, MainDone, Step, StepInCircle, Wakeup}
 use Rattle.model_value.specs.Action.{Action}
 use Rattle.model_value.specs.Value.{Outcome}
 

@@ -20,7 +20,7 @@ use Rattle.model_loop.specs.Owning.{owner_in, owner_at, owner_of, own_future, Ow
 use Rattle.model_loop.specs.Circles.{passes_until, passes_at}
 use Rattle.model_loop.specs.Sound.{HasNoCircle}
 use Rattle.model_loop.specs.Children.{tells}
-use Rattle.model_value.specs.declared.action.Action.TheVariants.{Step, StepInCircle, Wakeup, SleepDone, GroupDone, Fires, MainDone}
+use Rattle.model_value.specs.declared.action.Action.TheVariants.{Step, StepInCircle, Wakeup, GroupDone}
 use Rattle.law_settling.specs.Frames.{Follows}
 use Rattle.law_cancel.proofs.Circling.{passes-same, no_circle_kept}
 

@@ -11,13 +11,11 @@ use Rattle.model_loop.specs.Numbered.{AreGivenOnce, IsNumbered}
 use Rattle.model_loop.specs.Tasks.{cancelling, waiter_of}
 use Rattle.model_loop.specs.Totals.{callbacks_of, total}
 use Rattle.law_numbers.proofs.Numbering.{register_numbers}
-use Rattle.law_settling.proofs.Spreading.{marks}
 use Rattle.law_numbers.proofs.Falling.{spawn_numbers}
 use Rattle.model_loop.specs.Groups.{new_group}
 use Rattle.std.proofs.lemmas.Option.{none-some, same_Some}
 use Rattle.model_loop.specs.Sound.{HasNoCircle, IsSound}
 use Rattle.model_loop.specs.Marks.{MarksWait}
-use Rattle.model_loop.specs.Futures.{settled}
 use Rattle.std.specs.List.{count_by}
 use Rattle.model_value.specs.declared.action.Action.TheVariants.{MainDone}
 

@@ -23,7 +23,6 @@ use Rattle.law_timeouts.proofs.Quiet.{tag_kept, timed_kept}
 use Rattle.law_groups.proofs.Exits.{exit_woken_sound}
 use Rattle.law_groups.proofs.ExitBegins.{begin_well}
 use Rattle.law_timeouts.specs.Tags.{IsQuiet}
-use Rattle.model_loop.specs.Circles.{circle}
 use Rattle.model_loop.specs.Tasks.{lives}
 use Rattle.model_loop.specs.Parts.{Handle}
 

@@ -4,7 +4,6 @@ use Rattle.law_numbers.proofs.Falling.{due_numbers, new_many_numbers}
 use Rattle.law_numbers.proofs.Numbering.{later_numbers, revoke_numbers, taken_numbers}
 use Rattle.model_loop.specs.Balance.{Balances, TasksBalance, lowers}
 use Rattle.law_timeouts.proofs.Entries.{entries-later}
-use Rattle.law_groups.proofs.Exits.{entered}
 use Rattle.law_settling.proofs.CancelSound.{plain_no_task}
 use Rattle.model_loop.specs.Ledger.{Booked, ByEnd, Origin, ask_cancel, request_each, uncancel_by}
 use Rattle.std.specs.List.{All, count_by, range_with_len}
@@ -42,7 +41,6 @@ use Rattle.law_told.proofs.MakingHolds.{make_holds}
 use Rattle.std.specs.Option.{option_map_or}
 use Rattle.law_steps.proofs.Stepping.{taken-where, uncancel_fewer, uncancel_looks_same}
 use Rattle.law_cancel.proofs.Effects.{change_task-futures, settle-tasks}
-use Rattle.model_loop.specs.Circles.{circle}
 use Rattle.model_value.specs.Value.{Exc, Outcome, Value}
 use Rattle.std.proofs.lemmas.List.Sums.{sum_by_push}
 use Rattle.law_timeouts.proofs.Revoking.{revoke_times, sleep_looks_same, sleep_tags}
@@ -121,7 +119,7 @@ booked_sound running after told change l s c h balances none =
     (quietly_tells l (book change l) (book_quietly change l none) (tells_of running told l s))
 
 -- and where it books nothing
-parts_sound : (running after : Option ℕ) (told : ℕ → List ℕ) (l : Loop) (q : Parts) → IsSound running told l
+pub parts_sound : (running after : Option ℕ) (told : ℕ → List ℕ) (l : Loop) (q : Parts) → IsSound running told l
     → Carries l.parts q → Holds after after told told (group_of l) q
     → ((task : ℕ) → cancelling q task ≡ cancelling l.parts task) → IsSound after told (record l { parts = q })
 parts_sound running after told l q s c h counts =

@@ -29,7 +29,6 @@ use Rattle.law_steps.proofs.Stepping.{uncancel_fewer, uncancel_looks_same}
 use Rattle.model_loop.specs.Balance.{TasksBalance}
 use Rattle.law_told.proofs.Holding.{cancel_holds, looks_holds}
 use Rattle.std.specs.Option.{option_map_or}
-use Rattle.model_loop.specs.Circles.{circle}
 use Rattle.law_ledger.proofs.Quietly.{enter_quietly, quietly_tells, reschedule_quietly}
 use Rattle.law_timeouts.proofs.Tagging.{reschedule_tags}
 use Rattle.model_value.specs.declared.action.Action.TheVariants.{Fires}

@@ -7,7 +7,7 @@ use Rattle.model_value.specs.declared.action.Action.TheVariants.{Step, Wakeup}
 use Rattle.model_value.specs.Value.{Value, Exc, Outcome}
 use Rattle.model_loop.specs.Parts.{Future, Parts}
 use Rattle.model_loop.specs.Handles.{soon}
-use Rattle.model_loop.specs.Futures.{is_pending, is_pending_at, settle, settled}
+use Rattle.model_loop.specs.Futures.{is_pending, is_pending_at, settle}
 use Rattle.model_loop.specs.Tasks.{lives, future_of, is_marked, unmark, pause, finish, waiter_of}
 use Rattle.model_loop.specs.Ways.{one_if, steps, steps_among, is_running, ways, wanted, resumes, wakes}
 use Rattle.model_loop.specs.Marks.{MayBeMarked}
@@ -15,7 +15,6 @@ use Rattle.model_loop.specs.Sound.{ArePartsSound}
 use Rattle.law_settling.proofs.Settling.{soon-where, settle_effect}
 use Rattle.law_settling.proofs.Looks.{future_of-same, spent-futures, change_looks_same}
 use Rattle.law_steps.proofs.Stepping.{steps_one, running_is, unmark_sound, finished_sound, resumes_steps}
-use Rattle.law_settling.proofs.Spreading.{marks}
 use Rattle.model_loop.specs.Totals.{pending_where}
 
 -- a pending future, out of the test

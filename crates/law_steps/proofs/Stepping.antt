@@ -6,9 +6,9 @@ use Rattle.std.proofs.lemmas.List.Sums.{sum_by-cons}
 use Rattle.std.specs.List.{count_by}
 use Rattle.std.specs.Option.{option_map_or}
 use Rattle.model_value.specs.Action.{Action}
-use Rattle.model_value.specs.declared.action.Action.TheVariants.{Step, StepInCircle, Wakeup, SleepDone, GroupDone, Fires, MainDone}
+use Rattle.model_value.specs.declared.action.Action.TheVariants.{Step, StepInCircle, Wakeup}
 use Rattle.model_loop.specs.Parts.{Handle, Future, Task, Parts}
-use Rattle.model_loop.specs.Futures.{is_pending, is_pending_at, settled}
+use Rattle.model_loop.specs.Futures.{is_pending, is_pending_at}
 use Rattle.model_loop.specs.Tasks.{lives, waiter_of, future_of, change_task, is_marked, set_waiter, unmark, begin_step, uncancel}
 use Rattle.model_loop.specs.Ways.{one_if, steps, steps_among, wakeups_on, is_running, wakeups_at, ways, wanted, resumes, wakes}
 use Rattle.model_loop.specs.Totals.{callbacks_at, pending_where}

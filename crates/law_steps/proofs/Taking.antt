@@ -3,10 +3,8 @@ use Rattle.std.proofs.Common.{◌≡◌, ℕ, Bool, List, None, ap, arith, false
 use Rattle.model_loop.specs.Tasks.{waiter_of}
 use Rattle.model_loop.specs.Totals.{registered_at}
 use Rattle.law_steps.proofs.Stepping.{taken-where, taken_fewer}
-use Rattle.law_settling.proofs.Spreading.{marks}
 use Rattle.model_loop.specs.Ways.{resumes, steps, steps_among, wakes}
 use Rattle.model_loop.specs.Sound.{ArePartsSound}
-use Rattle.model_loop.specs.Futures.{settled}
 use Rattle.model_loop.specs.Marks.{MayBeMarked}
 use Rattle.law_settling.specs.Frames.{taken}
 use Rattle.model_loop.specs.Parts.{Handle, Parts}

@@ -28,7 +28,6 @@ use Rattle.law_settling.proofs.Looks.{future_of-same, spent_grows_below, change_
 use Rattle.law_settling.proofs.CancelSound.{cancel_sound, wakes_steps}
 use Rattle.law_steps.proofs.Stepping.{at_task, running_is, unmarked, unmark_sound, resumes_steps}
 use Rattle.law_steps.proofs.Ending.{pending_there, soon_step_sound}
-use Rattle.law_settling.proofs.Spreading.{marks}
 use Rattle.law_settling.proofs.Settling.{fewer_pending}
 
 -- From p to q the task began to wait for a pending future.

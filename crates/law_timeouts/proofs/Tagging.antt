@@ -1,11 +1,11 @@
 -- A timeout gets another deadline, or none: each timeout goes on having its tag, and no step or telling is lost.
-use Rattle.std.proofs.Common.{◌≡◌, ℕ, ℤ, pos, negsuc, ◌+◌, ◌≤◌, ◌<◌, ◌⊎◌, Bool, true, false, cond, not, ◌==◌, Option, Some, None, length, nat_le, refl, ap, sym, subst, ◌∙◌, inl, inr, arith, option_map}
+use Rattle.std.proofs.Common.{◌≡◌, ℕ, ℤ, ◌+◌, ◌≤◌, ◌<◌, ◌⊎◌, Bool, true, false, cond, not, ◌==◌, Option, Some, None, length, nat_le, refl, ap, sym, subst, ◌∙◌, inl, inr, arith, option_map}
 use Rattle.std.proofs.Math.ListN.{length-set}
 use Rattle.std.proofs.lemmas.Bool.{cases_eq, cases_Bool, cases_lt, false≢true, eq-eqb, ne_eqb, eqb-true, and_parts, and_from}
 use Rattle.std.proofs.lemmas.List.{get_or-set_same, get_or-set_other, get_or_past}
 use Rattle.std.proofs.lemmas.Option.{same_Some, none-some}
 use Rattle.model_value.specs.Action.{Action}
-use Rattle.model_value.specs.declared.action.Action.TheVariants.{Step, StepInCircle, Wakeup, SleepDone, GroupDone, Fires, MainDone}
+use Rattle.model_value.specs.declared.action.Action.TheVariants.{Fires}
 use Rattle.model_loop.specs.Parts.{Parts}
 use Rattle.model_loop.specs.Loop.{Timeout, Loop, in_parts}
 use Rattle.model_loop.specs.Handles.{soon, later, revoke}

@@ -1,6 +1,5 @@
 -- All timeouts have their tags, and what others have to leave them.
-use Rattle.std.specs.Prelude.{◌≡◌, ℕ, ◌≤◌, ◌<◌, Bool, not, ◌&&◌, ◌==◌}
-use Rattle.model_value.specs.Action.{Action}
+use Rattle.std.specs.Prelude.{◌≡◌, ℕ, ◌≤◌, ◌<◌}
 use Rattle.model_loop.specs.Parts.{Parts}
 use Rattle.model_loop.specs.Loop.{Loop}
 use Rattle.model_loop.specs.Timeouts.{timeout_of}

@@ -5,7 +5,7 @@ use Rattle.model_loop.specs.Parts.{FutureKind, Parts}
 use Rattle.std.specs.List.{count_by}
 use Rattle.law_told.proofs.Told.{SameToGroups, failures_kept, framed_told}
 use Rattle.law_told.specs.Holds.{Holds}
-use Rattle.model_loop.specs.Futures.{make_future, outcome_at, registered}
+use Rattle.model_loop.specs.Futures.{make_future, outcome_at}
 use Rattle.model_loop.specs.Owning.{owner_in}
 use Rattle.model_loop.specs.Children.{body_at_end, tells}
 use Rattle.model_loop.specs.Loop.{Group}

@@ -4,11 +4,11 @@ use Rattle.std.proofs.lemmas.Bool.{cases_eq, false≢true, eq-eqb}
 use Rattle.std.proofs.lemmas.List.Sums.{sum_by-cons}
 use Rattle.std.specs.List.{count_by}
 use Rattle.model_value.specs.Action.{Action, Circle}
-use Rattle.model_value.specs.declared.action.Action.TheVariants.{Step, StepInCircle, Wakeup, SleepDone, GroupDone, Fires, MainDone}
+use Rattle.model_value.specs.declared.action.Action.TheVariants.{StepInCircle, GroupDone}
 use Rattle.model_loop.specs.Parts.{Handle, Future, Task, Parts}
 use Rattle.model_loop.specs.Loop.{Group}
 use Rattle.model_loop.specs.Handles.{soon}
-use Rattle.model_loop.specs.Futures.{is_pending, is_pending_at, registered}
+use Rattle.model_loop.specs.Futures.{is_pending, is_pending_at}
 use Rattle.model_loop.specs.Tasks.{lives, future_of, change_task, set_waiter, unmark, begin_step, is_marked}
 use Rattle.model_loop.specs.Cancel.{cancel}
 use Rattle.model_loop.specs.Circles.{circle}
@@ -30,7 +30,6 @@ use Rattle.law_steps.proofs.Ending.{pending_there}
 use Rattle.law_steps.proofs.Waiting.{IsWaiting, wait_effect, waiting_sound, task_there}
 use Rattle.law_told.proofs.Told.{SameToGroups, framed_told, cancel_told, settled-owned, own_is}
 use Rattle.model_value.specs.Input.{Input}
-use Rattle.law_made.proofs.Spawning.{called}
 
 -- an action that steps a task tells no group
 step_tells : (action : Action) (stepped group task : ℕ) → steps stepped action ≡ true → tells group task action ≡ false

@@ -23,7 +23,6 @@ use Rattle.law_settling.proofs.SettleWays.{none_away, settled-total, settled-hom
 use Rattle.law_settling.proofs.Looks.{LooksSame, future_of-owned, same-lives, change_looks_same, asked_looks_same, follow_tells}
 use Rattle.law_settling.proofs.CancelSound.{is_no_task, cancels_sound}
 use Rattle.law_settling.proofs.Spreading.{Spreads, begins, settles, asks, raises, marks, with_spread}
-use Rattle.law_made.proofs.Spawning.{called}
 
 pub settled-owned : {id : ℕ} {p q : Parts} → IsSettled id p q → (task : ℕ) → own_future q task ≡ own_future p task
 settled-owned s task = ap (λ (ts : List Task). option_map (λ (t : Task). t.future) (slice_get ts task)) s.tasks
