@@ -1,8 +1,10 @@
 -- The parts after handles were appended.
-use Rattle.std.proofs.Common.{◌≡◌, ℕ, suc, ◌+◌, List, [], ◌∷◌, ◌++◌, Option, Some, None, length, slice_get, refl, ap, sym, ◌∙◌, arith, append_assoc, length-append, false}
+use Rattle.std.proofs.Common.{◌≡◌, ℕ, suc, ◌+◌, List, [], ◌∷◌, ◌++◌, Option, Some, None, length, slice_get, refl, ap, sym, ◌∙◌, arith, append_assoc, length-append, false, ◌<◌}
+use Rattle.std.specs.Option.{option_map}
+use Rattle.law_cancel.proofs.Lookups.{get_within}
 use Rattle.model_value.specs.Action.{Action}
 use Rattle.model_value.specs.Value.{Outcome}
-use Rattle.model_loop.specs.Parts.{Future}
+use Rattle.model_loop.specs.Parts.{Future, Task}
 use Rattle.model_loop.specs.Handles.{soon, soon_all}
 use Rattle.model_loop.specs.Futures as plain
 use Rattle.model_loop.specs.Futures.{settle}
@@ -71,3 +73,11 @@ nothing_appended q r e = ([], e)
 
 pub appended_on : (q r s : Queue) → Appended q r → Appended r s → Appended q s
 appended_on q r s a b = (a.0 ++ b.0, b.1 ∙ ap (queue.soon_all b.0) a.1 ∙ sym (soon_all-append a.0 b.0 q))
+
+pub task_within : (ts : List Task) (task : ℕ) (waiter : Option ℕ)
+    → Some waiter ≡ option_map (λ (it : Task). it.waiter) (slice_get ts task) → task < length ts
+task_within ts task waiter h = at (slice_get ts task) refl h
+  where
+    at : (o : Option Task) → slice_get ts task ≡ o → Some waiter ≡ option_map (λ (it : Task). it.waiter) o → task < length ts
+    at None e h = absurd (cc)
+    at (Some it) e h = get_within ts task it e

@@ -1,7 +1,9 @@
-//! Cancel requests over the queue, the futures and the tasks, without recursion and without asking for memory.
+//! Cancel requests and the search for a circle over the queue, the futures and the tasks, without recursion and without
+//! asking for memory.
 #![tactic(auto)]
 
 mod body;
+mod circle;
 mod marks;
 mod notes;
 mod quiet;
@@ -10,6 +12,7 @@ mod task;
 mod walk;
 
 pub use body::Body;
+pub use circle::leads;
 pub use marks::Marks;
 pub use notes::{Note, Notes};
 pub use stack::Stack;

@@ -63,4 +63,11 @@ impl Stack {
     {
         self.frames.pop()
     }
+
+    /// No frame waits.
+    pub fn clear(&mut self)
+        ensures { self.new ≡ record self.old { frames = [] } }
+    {
+        self.frames.clear();
+    }
 }

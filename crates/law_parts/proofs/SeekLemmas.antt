@@ -104,7 +104,7 @@ module _ (p : Parts) (from to id : ℕ) (seen after_seen : List ℕ) (noted afte
   old_notes : (i : ℕ) (again : Bool) → noted i ≡ Some again → has_seen (visited ++ id ∷ []) i ≡ true
   old_notes i again h = seen_grows visited id i (c.notes i again h)
 
-passes_done : (p : Parts) (id : ℕ) → passing_at p id ≡ stands.Done → passes p id ≡ []
+pub passes_done : (p : Parts) (id : ℕ) → passing_at p id ≡ stands.Done → passes p id ≡ []
 passes_done p id h = at (slice_get p.futures id) h
   where
     until : (o : Option Outcome) (k : FutureKind) → passing (stands_of o k) ≡ stands.Done → passes_until o k id p ≡ []
