@@ -24,7 +24,8 @@ abbrev key : EntryWord → EntryToken
 key known = token.Word known
 
 -- two words, each with its space
-two-follow : (first second rest : List ℕ) (one two : EntryToken) (tokens : List EntryToken) → IsWord first one → IsWord second two → Follows rest tokens
+two-follow : (first second rest : List ℕ) (one two : EntryToken) (tokens : List EntryToken) → IsWord first one → IsWord second two
+    → Follows rest tokens
     → Follows ((32 ∷ (first ++ 32 ∷ second)) ++ rest) (one ∷ two ∷ tokens)
 two-follow first second rest one two tokens a b f =
     subst (λ text. Follows text (one ∷ two ∷ tokens)) (ap (λ text. 32 ∷ text) (sym (append_assoc first (32 ∷ second) rest)))
@@ -41,7 +42,8 @@ three-follow first second third rest one two three tokens a b c f =
 apart : (first second : List ℕ) → 32 ∷ ((first ++ 32 ∷ []) ++ second) ≡ 32 ∷ (first ++ 32 ∷ second)
 apart first second = ap (λ text. 32 ∷ text) (append_assoc first (32 ∷ []) second)
 
-two-apart : (first second rest : List ℕ) (one two : EntryToken) (tokens : List EntryToken) → IsWord first one → IsWord second two → Follows rest tokens
+two-apart : (first second rest : List ℕ) (one two : EntryToken) (tokens : List EntryToken) → IsWord first one → IsWord second two
+    → Follows rest tokens
     → Follows ((32 ∷ ((first ++ 32 ∷ []) ++ second)) ++ rest) (one ∷ two ∷ tokens)
 two-apart first second rest one two tokens a b f =
     subst (λ text. Follows (text ++ rest) (one ∷ two ∷ tokens)) (sym (apart first second)) (two-follow first second rest one two tokens a b f)
@@ -112,14 +114,19 @@ news-follows child (news.Exit code) w h rest tokens f =
 
 item-follows : (came : Item) → ItemInRange came → (rest : List ℕ) (tokens : List EntryToken) → Follows rest tokens
     → Follows (spaced_item came ++ rest) (item_tokens came tokens)
-item-follows (item.ReadableServer server) h rest tokens f = two-follow (76 ∷ decimal server) (codes "r") rest _ _ tokens (server-word server h) (key-word word.Read) f
-item-follows (item.Ready conn letters) h rest tokens f = two-apart (67 ∷ decimal conn) (ready_text letters) rest _ _ tokens (conn-word conn h) (ready-word letters) f
+item-follows (item.ReadableServer server) h rest tokens f =
+    two-follow (76 ∷ decimal server) (codes "r") rest _ _ tokens (server-word server h) (key-word word.Read) f
+item-follows (item.Ready conn letters) h rest tokens f =
+    two-apart (67 ∷ decimal conn) (ready_text letters) rest _ _ tokens (conn-word conn h) (ready-word letters) f
 item-follows (item.Up conn) h rest tokens f = two-follow (67 ∷ decimal conn) (codes "up") rest _ _ tokens (conn-word conn h) (key-word word.Up) f
-item-follows (item.Down conn) h rest tokens f = two-follow (67 ∷ decimal conn) (codes "down") rest _ _ tokens (conn-word conn h) (key-word word.Down) f
-item-follows (item.WritableChild child) h rest tokens f = two-follow (80 ∷ decimal child) (codes "w") rest _ _ tokens (child-word child h) (key-word word.Write) f
+item-follows (item.Down conn) h rest tokens f =
+    two-follow (67 ∷ decimal conn) (codes "down") rest _ _ tokens (conn-word conn h) (key-word word.Down) f
+item-follows (item.WritableChild child) h rest tokens f =
+    two-follow (80 ∷ decimal child) (codes "w") rest _ _ tokens (child-word child h) (key-word word.Write) f
 item-follows (item.Child child told) h rest tokens f = news-follows child told (child-word child h.0) h.1 rest tokens f
 item-follows (item.Extra code bytes) h rest tokens f =
-    subst (λ text. Follows ((32 ∷ 88 ∷ 32 ∷ text) ++ rest) (item_tokens (item.Extra code bytes) tokens)) (sym (append_assoc (signed_decimal code) (32 ∷ []) (bytes_literal bytes)))
+    subst (λ text. Follows ((32 ∷ 88 ∷ 32 ∷ text) ++ rest) (item_tokens (item.Extra code bytes) tokens))
+    (sym (append_assoc (signed_decimal code) (32 ∷ []) (bytes_literal bytes)))
     (three-follow (codes "X") (signed_decimal code) (bytes_literal bytes) rest _ _ _ tokens (key-word word.News) (code-word code h.0) (bytes-word bytes h.1) f)
 
 pub items-follow : (items : List Item) → AllByRecursion ItemInRange items → Follows (flat_map spaced_item items) (items_tokens items)
@@ -127,7 +134,8 @@ items-follow [] a = nothing-follows
 items-follow (came ∷ items) a = item-follows came a.0 (flat_map spaced_item items) (items_tokens items) (items-follow items a.1)
 
 -- ---- and read
-read-ready : (conn : ℕ) (letters : Ready) (tokens : List EntryToken) → items_of (item_tokens (item.Ready conn letters) tokens) ≡ then_item (item.Ready conn letters) (items_of tokens)
+read-ready : (conn : ℕ) (letters : Ready) (tokens : List EntryToken)
+    → items_of (item_tokens (item.Ready conn letters) tokens) ≡ then_item (item.Ready conn letters) (items_of tokens)
 read-ready conn ready.Read tokens = refl
 read-ready conn ready.Write tokens = refl
 read-ready conn ready.Both tokens = refl

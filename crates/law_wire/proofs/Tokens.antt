@@ -102,7 +102,8 @@ minus-word n h =
     word-of (45 ∷ decimal n) (token.Minus n) refl s.0 s.1 (minus-read n (decimal n) h d.0 d.1)
 
 -- ---- ids
-id-read : (names : IdLetter) (n : ℕ) (digits : List ℕ) → n ≤ most_id → are_digits digits ≡ true → digits_value digits ≡ n → id_token names digits ≡ token.Id names n
+id-read : (names : IdLetter) (n : ℕ) (digits : List ℕ) → n ≤ most_id → are_digits digits ≡ true → digits_value digits ≡ n
+    → id_token names digits ≡ token.Id names n
 id-read names n digits h a v = let b : nat_le n most_id ≡ true = le-test n most_id h in rw (a, v, b) refl
 
 pub server-word : (n : ℕ) → n ≤ most_id → IsWord (76 ∷ decimal n) (token.Id letter.Server n)
@@ -170,14 +171,16 @@ over-append standing (byte ∷ bytes) rest = over-append (standing_after standin
 
 -- the inside of a literal, in front of what follows it
 inside-stays : (bytes rest : List ℕ) → AllByRecursion (λ byte. byte < 256) bytes
-    → (parts_nothing Inside (escaped InBytes bytes ++ rest) ≡ parts_nothing Inside rest) × (standing_over Inside (escaped InBytes bytes ++ rest) ≡ standing_over Inside rest)
+    → (parts_nothing Inside (escaped InBytes bytes ++ rest) ≡ parts_nothing Inside rest)
+    × (standing_over Inside (escaped InBytes bytes ++ rest) ≡ standing_over Inside rest)
 inside-stays [] rest a = (refl, refl)
 inside-stays (byte ∷ bytes) rest a =
     let text = escaped_byte InBytes byte in
     let others = inside-stays bytes rest a.1 in
     let b = and_parts (parts_nothing Inside text) (is_inside (standing_over Inside text)) (below 256 stays_inside byte stays_computed a.0) in
     let stays : standing_over Inside text ≡ Inside = inside-is (standing_over Inside text) b.1 in (
-      rw append_assoc (parts-append Inside text (escaped InBytes bytes ++ rest) b.0 ∙ ap (λ s. parts_nothing s (escaped InBytes bytes ++ rest)) stays ∙ others.0),
+      rw append_assoc (parts-append Inside text (escaped InBytes bytes ++ rest) b.0
+          ∙ ap (λ s. parts_nothing s (escaped InBytes bytes ++ rest)) stays ∙ others.0),
       rw append_assoc (over-append Inside text (escaped InBytes bytes ++ rest) ∙ ap (λ s. standing_over s (escaped InBytes bytes ++ rest)) stays ∙ others.1),
     )
 

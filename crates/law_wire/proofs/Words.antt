@@ -20,7 +20,8 @@ Leads before bytes after =
     (first : List ℕ) (pieces : List (List ℕ)) (rest : List ℕ) → pieces_of after rest ≡ first ∷ pieces
     → pieces_of before (bytes ++ rest) ≡ (bytes ++ first) ∷ pieces
 
-put_before : (parts : Bool) (byte : ℕ) (first : List ℕ) (pieces : List (List ℕ)) → not parts ≡ true → put parts byte (first ∷ pieces) ≡ (byte ∷ first) ∷ pieces
+put_before : (parts : Bool) (byte : ℕ) (first : List ℕ) (pieces : List (List ℕ)) → not parts ≡ true
+    → put parts byte (first ∷ pieces) ≡ (byte ∷ first) ∷ pieces
 put_before true byte first pieces h = cc
 put_before false byte first pieces h = refl
 

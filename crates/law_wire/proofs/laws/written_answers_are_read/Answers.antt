@@ -73,11 +73,13 @@ turn-read number watched now items fit h =
     let bytes = le-of (sum (map bytes_in items)) most_bytes few.1 in
     entry-is number (written (answer.Turn now items)) (answer.Turn now items) (token.Word word.Turn ∷ token.Number now ∷ items_tokens items)
     (omega (arith, length-append (decimal now) text, decimal-short now (omega (arith, h.0)), items-short items h.1))
-    (word-follows (decimal now) text (token.Number now) (items_tokens items) (number-word now h.0) (items-follow items h.1) (codes "turn") (token.Word word.Turn) (key-word word.Turn))
+    (word-follows (decimal now) text (token.Number now) (items_tokens items)
+    (number-word now h.0) (items-follow items h.1) (codes "turn") (token.Word word.Turn) (key-word word.Turn))
     (narrow-items items) (ap (option_map (answer.Turn now)) (read-items items)) (items-exit items h.1)
 
 bytes-read : (number : ℕ) (bytes : List ℕ) → length bytes ≤ most_bytes → AreBytes bytes
-    → (entry_of number (written (answer.Data bytes)) ≡ Answered (answer.Data bytes)) × (entry_of number (written (answer.Extra bytes)) ≡ Answered (answer.Extra bytes))
+    → (entry_of number (written (answer.Data bytes)) ≡ Answered (answer.Data bytes))
+    × (entry_of number (written (answer.Extra bytes)) ≡ Answered (answer.Extra bytes))
 bytes-read number bytes few h = (
   entry-is number (written (answer.Data bytes)) (answer.Data bytes) (token.Word word.Data ∷ token.Bytes bytes ∷ []) (omega (arith, literal-short bytes))
       (two-words (codes "data") (bytes_literal bytes) _ _ (key-word word.Data) (bytes-word bytes h)) refl refl refl,
@@ -87,7 +89,8 @@ bytes-read number bytes few h = (
 
 took-read : (number count : ℕ) → count ≤ most → entry_of number (written (answer.Took count)) ≡ Answered (answer.Took count)
 took-read number count h =
-    entry-is number (written (answer.Took count)) (answer.Took count) (token.Word word.Took ∷ token.Number count ∷ []) (omega (arith, decimal-short count (omega arith)))
+    entry-is number (written (answer.Took count)) (answer.Took count) (token.Word word.Took ∷ token.Number count ∷ [])
+    (omega (arith, decimal-short count (omega arith)))
     (two-words (codes "took") (decimal count) _ _ (key-word word.Took) (number-word count h)) refl refl refl
 
 -- an answer of one word
