@@ -68,8 +68,10 @@ module _ (gone : ℕ → Bool) where
 
   pub spawn-forget : (p : Parts) → gone (next_future p) ≡ false → spawn (forgotten gone p) ≡ forgotten gone (spawn p)
   spawn-forget p g =
-      rw (push-forget 0 p.futures (record { kind = OfTask (next_task p); outcome = None; callbacks = [] }) (next_kept p g),
-        length-forget 0 p.futures) refl
+      rw (
+        push-forget 0 p.futures (record { kind = OfTask (next_task p); outcome = None; callbacks = [] }) (next_kept p g),
+        length-forget 0 p.futures,
+      ) refl
 
   future_of-forget : (p : Parts) (task : ℕ) → future_of (forgotten gone p) task ≡ future_of p task
   future_of-forget p task =
@@ -106,8 +108,8 @@ module _ (gone : ℕ → Bool) where
   leads_within-forget p done (suc count) from to =
       ap (list_any (λ next. (next == to) || leads_within count (forgotten gone p) next to)) (passes-forget p done from)
       ∙ any_same (λ next. (next == to) || leads_within count (forgotten gone p) next to)
-        (λ next. (next == to) || leads_within count p next to)
-        (λ next. ap (λ b. (next == to) || b) (leads_within-forget p done count next to)) (passes p from)
+      (λ next. (next == to) || leads_within count p next to)
+      (λ next. ap (λ b. (next == to) || b) (leads_within-forget p done count next to)) (passes p from)
 
   leads-forget : (p : Parts) → AreDone gone p → (from to : ℕ) → leads (forgotten gone p) from to ≡ leads p from to
   leads-forget p done from to =
@@ -118,7 +120,7 @@ module _ (gone : ℕ → Bool) where
   circle-forget p done task on =
       let e = future_of-forget p task in
       let l : leads (forgotten gone p) on (future_of (forgotten gone p) task) ≡ leads p on (future_of p task) =
-              ap (leads (forgotten gone p) on) e ∙ leads-forget p done on (future_of p task) in
+      ap (leads (forgotten gone p) on) e ∙ leads-forget p done on (future_of p task) in
       rw (l, e) refl
 
   -- ---- the released stay done
@@ -162,8 +164,9 @@ module _ (gone : ℕ → Bool) where
       waited : (b : Bool)
           → cancel_wait b task on (forgotten gone (wait_on task on p))
           ≡ record {
-              parts = forgotten gone (cancel_wait b task on (wait_on task on p)).parts;
-              entries = (cancel_wait b task on (wait_on task on p)).entries }
+            parts = forgotten gone (cancel_wait b task on (wait_on task on p)).parts;
+            entries = (cancel_wait b task on (wait_on task on p)).entries;
+          }
       waited false = refl
       waited true =
           let r = cancel on (wait_on task on p) in
@@ -172,8 +175,9 @@ module _ (gone : ℕ → Bool) where
       go : (c : Option Circle)
           → suspend_unless c task on (forgotten gone p)
           ≡ record {
-              parts = forgotten gone (suspend_unless c task on p).parts;
-              entries = (suspend_unless c task on p).entries }
+            parts = forgotten gone (suspend_unless c task on p).parts;
+            entries = (suspend_unless c task on p).entries;
+          }
       go (Some c) = refl
       go None = ap (cancel_wait (is_marked p task) task on) (wait-forget task on p done) ∙ waited (is_marked p task)
 

@@ -6,7 +6,7 @@ use Rattle.model_value.specs.declared.action.Action.TheVariants.{SleepDone, Grou
 use Rattle.model_value.specs.declared.outcome.Outcome.TheVariants.{Value as Returned}
 use Rattle.model_tree.specs.Syntax.{Program}
 use Rattle.model_wire.specs.declared.event.Event.TheVariants as event
-use Rattle.model_wire.specs.Call.{Answer}
+use Rattle.model_wire.specs.Call.{Answer, Item}
 use Rattle.model_wire.specs.Event.{Event}
 use Rattle.model_wire.specs.Journal.{Entry}
 use Rattle.model_loop.specs.Parts.{Handle, Parts}
@@ -18,17 +18,27 @@ use Rattle.model_loop.specs.Children.{IsGroup, told_more}
 use Rattle.model_loop.specs.Sound.{IsSound}
 use Rattle.model_machine.specs.Extra.{Extra}
 use Rattle.model_machine.specs.Outcomes.{finished_as}
-use Rattle.model_machine.specs.Outside.{time_of}
+use Rattle.model_machine.specs.Outside.{items_of, ready_actions, actions_of, news_of, time_of}
+use Rattle.std.proofs.Common.{arith}
+use Rattle.std.specs.List.{flat_map}
+use Rattle.model_value.specs.declared.action.Action.TheVariants as action
+use Rattle.model_wire.specs.declared.item.Item.TheVariants as item
+use Rattle.model_wire.specs.declared.item.Ready.{Ready}
+use Rattle.model_wire.specs.declared.item.Ready.TheVariants as ready
+use Rattle.model_loop.specs.Handles.{soon, soon_all}
+use Rattle.model_loop.specs.Entries.{is_timed}
+use Rattle.model_loop.specs.Totals.{pending_where}
+use Rattle.law_settling.proofs.Settling.{soon-where}
 use Rattle.model_machine.specs.State.{State, noted, start, unbooked_in}
 use Rattle.model_machine.specs.Told.{told_by, told_in}
 use Rattle.model_machine.specs.Turn.{at_time, woken_by, cancelled_if, finished_if, turn_over, effect, ran, run_first}
 use Rattle.model_machine.specs.Went.{Went, Goes, Stops}
-use Rattle.law_settling.specs.Frames.{taken}
+use Rattle.law_settling.specs.Frames.{taken, is_followed, Follows}
 use Rattle.law_settling.proofs.Looks.{handles_look_same}
 use Rattle.law_told.proofs.Holding.{looks_holds}
 use Rattle.law_timeouts.proofs.Quiet.{same_quiet}
 use Rattle.law_sound.proofs.Beginning.{first_sound}
-use Rattle.law_sound.proofs.Carrying.{looks_carries}
+use Rattle.law_sound.proofs.Carrying.{looks_carries, soon_carries}
 use Rattle.law_sound.proofs.Steps.{holds_of, parts_sound, dead_sound, main_done_sound, sleep_done_sound, due_step_sound, end_of_run_sound}
 use Rattle.law_sound.proofs.GroupSteps.{child_done_step_sound}
 use Rattle.law_sound.proofs.TimeoutSteps.{fire_sound}
@@ -95,10 +105,53 @@ at_time_sound told now l s =
     (looks_holds None None told told (group_of l) l.parts (at_time now l.parts)
     (handles_look_same l.parts (at_time now l.parts) refl refl (λ test f. refl)) (λ t m. m) (holds_of None told l s)) (λ t. refl)
 
+-- ---- what came appends handles that step no task and tell no group
+news_sound : (told : ℕ → List ℕ) (it : Action) (l : Loop) → is_followed it ≡ false → is_timed it ≡ false → IsSound None told l
+    → IsSound None told (in_parts (soon it) l)
+news_sound told it l unfollowed untimed_ s =
+    parts_sound None None told l (soon it l.parts) s (soon_carries it l.parts untimed_)
+    (looks_holds None None told told (group_of l) l.parts (soon it l.parts) (handles_look_same l.parts (soon it l.parts) refl refl looks)
+    (λ t m. m) (holds_of None told l s)) (λ t. refl)
+  where
+    looks : (test : Action → Bool) → Follows test → pending_where test (soon it l.parts).pending ≡ pending_where test l.parts.pending
+    looks test follows =
+        let a = soon-where test it l.parts in
+        let z : ◌≡◌ {A = ℕ} (cond (test it) 1 0) 0 = ap (λ b. cond b 1 0) (follows it unfollowed) in
+        omega (arith, a, z)
+
+soon_all-append : (xs ys : List Action) (p : Parts) → soon_all (xs ++ ys) p ≡ soon_all ys (soon_all xs p)
+soon_all-append [] ys p = refl
+soon_all-append (x ∷ xs) ys p = soon_all-append xs ys (soon x p)
+
+ready_sound : (told : ℕ → List ℕ) (conn : ℕ) (letters : Ready) (l : Loop) → IsSound None told l
+    → IsSound None told (in_parts (soon_all (ready_actions conn letters)) l)
+ready_sound told conn ready.Read l s = news_sound told (action.Readable conn) l refl refl s
+ready_sound told conn ready.Write l s = news_sound told (action.Writable conn) l refl refl s
+ready_sound told conn ready.Both l s =
+    news_sound told (action.Writable conn) (in_parts (soon (action.Readable conn)) l) refl refl
+    (news_sound told (action.Readable conn) l refl refl s)
+
+item_sound : (told : ℕ → List ℕ) (it : Item) (l : Loop) → IsSound None told l → IsSound None told (in_parts (soon_all (actions_of it)) l)
+item_sound told (item.ReadableServer server) l s = news_sound told (action.ReadableServer server) l refl refl s
+item_sound told (item.Ready conn letters) l s = ready_sound told conn letters l s
+item_sound told (item.Up conn) l s = news_sound told (action.Up conn) l refl refl s
+item_sound told (item.Down conn) l s = news_sound told (action.Down conn) l refl refl s
+item_sound told (item.WritableChild child) l s = news_sound told (action.WritableChild child) l refl refl s
+item_sound told (item.Child child what) l s = news_sound told (action.ChildItem child what) l refl refl s
+item_sound told (item.Extra code bytes) l s = news_sound told (action.ExtraItem code bytes) l refl refl s
+
+items_sound : (told : ℕ → List ℕ) (items : List Item) (l : Loop) → IsSound None told l
+    → IsSound None told (in_parts (soon_all (flat_map actions_of items)) l)
+items_sound told [] l s = s
+items_sound told (it ∷ items) l s =
+    subst (λ p. IsSound None told (record l { parts = p })) (sym (soon_all-append (actions_of it) (flat_map actions_of items) l.parts))
+    (items_sound told items (in_parts (soon_all (actions_of it)) l) (item_sound told it l s))
+
 pub woken_sound : {S : Type 0} (answer : Answer) (s : State S) → HasSoundLoop s → HasSoundLoop (unbooked_in (woken_by answer) s)
 woken_sound answer s sound =
-    due_step_sound None (told_in s.events) (in_parts (at_time (time_of answer)) s.loop)
-    (at_time_sound (told_in s.events) (time_of answer) s.loop sound)
+    due_step_sound None (told_in s.events) (in_parts (soon_all (news_of answer)) (in_parts (at_time (time_of answer)) s.loop))
+    (items_sound (told_in s.events) (items_of answer) (in_parts (at_time (time_of answer)) s.loop)
+    (at_time_sound (told_in s.events) (time_of answer) s.loop sound))
 
 -- ---- callbacks
 module _ {S : Type 0} (limit : ℕ) (added : Extra S) (s : State S) (handle : Handle) (rest : List Handle) (first : s.loop.parts.pending ≡ handle ∷ rest)
@@ -112,42 +165,42 @@ module _ {S : Type 0} (limit : ℕ) (added : Extra S) (s : State S) (handle : Ha
   live_as : (it : Action) → handle.dead ≡ false → handle.action ≡ it
       → LeavesSoundLoop (effect limit added it (noted (event.Ran it) (unbooked_in (λ p. record p { pending = rest }) s)))
       → LeavesSoundLoop (run_first limit added handle rest s)
-  live_as it live action h =
+  live_as it live is h =
       subst (λ d. LeavesSoundLoop (ran limit added d handle.action (unbooked_in (λ p. record p { pending = rest }) s))) (sym live)
-      (subst (λ a. LeavesSoundLoop (effect limit added a (noted (event.Ran a) (unbooked_in (λ p. record p { pending = rest }) s)))) (sym action) h)
+      (subst (λ a. LeavesSoundLoop (effect limit added a (noted (event.Ran a) (unbooked_in (λ p. record p { pending = rest }) s)))) (sym is) h)
 
   pub main_done_handle : handle.dead ≡ false → handle.action ≡ MainDone → LeavesSoundLoop (run_first limit added handle rest s)
   unfolding effect
-  main_done_handle live action =
-      live_as MainDone live action
+  main_done_handle live is =
+      live_as MainDone live is
       (as_told None (told_in s.events) (told_in (s.events ++ event.Ran MainDone ∷ [])) (in_parts (taken rest) s.loop)
-      (tells_none s.events MainDone (λ g. refl)) (main_done_sound (told_in s.events) handle rest s.loop first action sound))
+      (tells_none s.events MainDone (λ g. refl)) (main_done_sound (told_in s.events) handle rest s.loop first is sound))
 
   pub sleep_done_handle : (task future : ℕ) → handle.dead ≡ false → handle.action ≡ SleepDone task future
       → LeavesSoundLoop (run_first limit added handle rest s)
   unfolding effect
-  sleep_done_handle task future live action =
-      live_as (SleepDone task future) live action
+  sleep_done_handle task future live is =
+      live_as (SleepDone task future) live is
       (as_told None (told_in s.events) (told_in (s.events ++ event.Ran (SleepDone task future) ∷ []))
       (in_parts (settle future (Returned Nothing)) (in_parts (taken rest) s.loop))
       (tells_none s.events (SleepDone task future) (λ g. refl))
-      (sleep_done_sound (told_in s.events) task future (Returned Nothing) handle rest s.loop first live action sound))
+      (sleep_done_sound (told_in s.events) task future (Returned Nothing) handle rest s.loop first live is sound))
 
   pub fires_handle : (id : ℕ) → handle.dead ≡ false → handle.action ≡ Fires id → LeavesSoundLoop (run_first limit added handle rest s)
   unfolding effect
-  fires_handle id live action =
-      live_as (Fires id) live action
+  fires_handle id live is =
+      live_as (Fires id) live is
       (as_told None (told_in s.events) (told_in (s.events ++ event.Ran (Fires id) ∷ [])) (fire id (in_parts (taken rest) s.loop))
-      (tells_none s.events (Fires id) (λ g. refl)) (fire_sound (told_in s.events) id handle rest s.loop first live action sound))
+      (tells_none s.events (Fires id) (λ g. refl)) (fire_sound (told_in s.events) id handle rest s.loop first live is sound))
 
   pub group_done_handle : (id task : ℕ) → handle.dead ≡ false → handle.action ≡ GroupDone id task
       → LeavesSoundLoop (run_first limit added handle rest s)
   unfolding effect
-  group_done_handle id task live action =
-      live_as (GroupDone id task) live action
+  group_done_handle id task live is =
+      live_as (GroupDone id task) live is
       (as_told None (told_more (told_in s.events) id task) (told_in (s.events ++ event.Ran (GroupDone id task) ∷ []))
       (child_done id task (in_parts (taken rest) s.loop)) (tells_more s.events id task)
-      (child_done_step_sound (told_in s.events) id task handle rest s.loop first live action sound))
+      (child_done_step_sound (told_in s.events) id task handle rest s.loop first live is sound))
 
 -- ---- the end of a turn
 pub turn_over_sound : {S : Type 0} (done_before : Bool) (s : State S) → HasSoundLoop s → LeavesSoundLoop (turn_over done_before s)
