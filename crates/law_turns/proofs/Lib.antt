@@ -1,2 +1,3 @@
 pub mod Replying
+pub mod Stepping
 pub mod Turning

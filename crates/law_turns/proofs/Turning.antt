@@ -67,7 +67,7 @@ nil_right [] = refl
 nil_right (x ∷ xs) = ap (λ l. x ∷ l) (nil_right xs)
 
 -- an action that tells no group
-tells_none : (events : List Event) (it : Action) → ((group : ℕ) → told_by group it [] ≡ []) → (group : ℕ)
+pub tells_none : (events : List Event) (it : Action) → ((group : ℕ) → told_by group it [] ≡ []) → (group : ℕ)
     → told_in (events ++ event.Ran it ∷ []) group ≡ told_in events group
 tells_none events it none group =
     told_in-ran events it group ∙ ap (λ l. told_in events group ++ l) (none group) ∙ nil_right (told_in events group)
