@@ -1,3 +1,4 @@
 pub mod Replying
+pub mod Serving
 pub mod Stepping
 pub mod Turning

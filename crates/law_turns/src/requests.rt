@@ -8,10 +8,11 @@ ghost use Rattle.model_loop.specs.Tasks.{begin_step};
 ghost use Rattle.model_loop.specs.Ways.{steps};
 ghost use Rattle.model_machine.specs.Extra.{Extra};
 ghost use Rattle.model_machine.specs.Replies.{decides, reply};
-ghost use Rattle.model_machine.specs.State.{Standing, Asked, State, noted, stands, unbooked_in};
-ghost use Rattle.model_machine.specs.Step.{given_up};
+ghost use Rattle.model_machine.specs.State.{Standing, Asked, State, generator_of, noted, stands, unbooked_in};
+ghost use Rattle.model_machine.specs.Step.{given_up, step};
+ghost use Rattle.law_turns.specs.Fits.{FitsStep};
 ghost use Rattle.law_turns.specs.Replied.{RunsSound, HasPlainFutures, RepliesSound, IsFit, IsStanding};
-ghost use Rattle.law_turns.specs.SoundState.{HasSoundLoop};
+ghost use Rattle.law_turns.specs.SoundState.{HasSoundLoop, LeavesSoundLoop};
 
 /// A step begins by a handle that steps its task: the handle of a sleep is given up, the task waits no more, and what it stands
 /// at says what the input means. A group's exit that waited may wait again, which ends the step.
@@ -30,4 +31,14 @@ pub fn a_step_begins_sound<S>()
 pub fn requests_keep_it_sound<S>()
     ensures { (task : ℕ) (added : Extra S) (it : Request) (s : State S) → RunsSound task s → HasPlainFutures s → IsFit it s
         → RepliesSound task (reply added task it s) }
+{}
+
+/// A whole step by a handle that steps its task keeps the loop sound, where each request that the task makes in it is fit, and
+/// it ends with no block of a group open.
+pub fn a_step_keeps_it_sound<S>()
+    ensures { (limit : ℕ) (added : Extra S) (s : State S) (task : ℕ) (input : Input) (handle : Handle) (rest : List Handle)
+        → s.loop.parts.pending ≡ handle ∷ rest → handle.dead ≡ false → steps task handle.action ≡ true → HasSoundLoop s
+        → IsStanding (generator_of task s).standing s →
+        let gone = noted (Ran handle.action) (unbooked_in (λ p. record p { pending = rest }) s) in
+        FitsStep limit added task input gone → LeavesSoundLoop (step limit added task input gone) }
 {}
