@@ -162,7 +162,7 @@ module _ {S : Type 0} (limit : ℕ) (added : Extra S) (s : State S) (handle : Ha
       (dead_sound (told_in s.events) handle rest s.loop first dead sound)
 
   -- a live one, by its action
-  live_as : (it : Action) → handle.dead ≡ false → handle.action ≡ it
+  pub live_as : (it : Action) → handle.dead ≡ false → handle.action ≡ it
       → LeavesSoundLoop (effect limit added it (noted (event.Ran it) (unbooked_in (λ p. record p { pending = rest }) s)))
       → LeavesSoundLoop (run_first limit added handle rest s)
   live_as it live is h =
