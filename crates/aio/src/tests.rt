@@ -115,12 +115,7 @@ fn put<F: Shelf>(alloc: Global, files: &mut F, name: &str, bytes: &[u8]) -> Resu
 }
 
 // Whether a file holds these bytes: it is read from each place on that a read comes to.
-fn holds<F: Shelf>(
-    alloc: Global,
-    files: &mut F,
-    name: &str,
-    bytes: &[u8],
-) -> Result<bool, Memory> {
+fn holds<F: Shelf>(alloc: Global, files: &mut F, name: &str, bytes: &[u8]) -> Result<bool, Memory> {
     let mut rest = bytes;
     for _ in 0..bytes.len() {
         if rest.is_empty() {

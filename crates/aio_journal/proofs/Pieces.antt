@@ -1,6 +1,7 @@
 -- The first word of a text, and what follows it.
-use Rattle.std.proofs.Common.{◌≡◌, ℕ, zero, suc, ◌+◌, ◌<◌, ◌≤◌, Bool, true, false, ◌&&◌, List, [], ◌∷◌, length, take, drop, filter, refl, sym, ap, subst, ◌∙◌, arith, add-one, if◌then◌else◌}
+use Rattle.std.proofs.Common.{◌≡◌, ℕ, ◌+◌, ◌<◌, ◌≤◌, Bool, true, false, ◌&&◌, List, [], ◌∷◌, length, take, drop, filter, refl, sym, ap, subst, ◌∙◌, arith, add-one, if◌then◌else◌}
 use Rattle.std.proofs.lemmas.Bool.{and_parts}
+use Rattle.std.proofs.lemmas.List.{length-take}
 use Rattle.std.proofs.lemmas.Bool.Decides.{nat_tests}
 use Rattle.model_text.specs.Letters.{is_space, is_quote}
 use Rattle.model_wire.specs.JournalText.{Standing, Outside, Inside, Escaped, is_outside, standing_after, put, pieces_of, is_some, words_of}
@@ -72,11 +73,12 @@ kept [] words h = absurd (omega arith)
 kept (byte ∷ bytes) words h = refl
 
 -- the words of a text that begins with one
-pub first-word : (text : List ℕ) (len : ℕ) → len ≡ word_len Outside text → 0 < length (take len text)
+pub first_word : (text : List ℕ) (len : ℕ) → len ≡ word_len Outside text → 0 < len → len ≤ length text
     → words_of text ≡ take len text ∷ words_of (drop len text)
-first-word text len e some =
+first_word text len e some within =
     let f = subst (FirstPiece Outside text) (sym e) (first-piece Outside text) in
-    ap (filter is_some) f.1 ∙ kept (take len text) f.0 some ∙ ap (λ words. take len text ∷ words) f.2
+    let longer : 0 < length (take len text) = omega (arith, length-take len text) in
+    ap (filter is_some) f.1 ∙ kept (take len text) f.0 longer ∙ ap (λ words. take len text ∷ words) f.2
 
 -- no word begins with a space
 pub no-space : (byte : ℕ) (bytes : List ℕ) → is_space byte ≡ false → 0 < word_len Outside (byte ∷ bytes)

@@ -122,8 +122,9 @@ bare_answer _ = None
 
 -- an answer where no token is left
 abbrev pub at_end : Option Answer → List EntryToken → Option Answer
-at_end said [] = said
-at_end said (token ∷ tokens) = None
+at_end None tokens = None
+at_end (Some said) [] = Some said
+at_end (Some said) (token ∷ tokens) = None
 
 abbrev pub turn_at : Option ℕ → List EntryToken → Option Answer
 turn_at None tokens = None

@@ -1,5 +1,5 @@
 -- Where bytes stand, as code has it, and how long the word is that a text begins with.
-use Rattle.std.specs.Prelude.{◌≡◌, ℕ, ◌+◌, ◌≤◌, Bool, true, false, ◌&&◌, List, [], ◌∷◌, Option, Some, None, if◌then◌else◌}
+use Rattle.std.specs.Prelude.{◌≡◌, ℕ, ◌+◌, ◌≤◌, ◌&&◌, List, [], ◌∷◌, Option, Some, None, if◌then◌else◌}
 use Rattle.model_value.specs.Number.{most}
 use Rattle.model_text.specs.Letters.{is_space}
 use Rattle.model_wire.specs.declared.entry.EntryToken.TheVariants as token
@@ -18,9 +18,9 @@ abbrev pub word_len : Standing → List ℕ → ℕ
 word_len standing [] = 0
 word_len standing (byte ∷ bytes) = if is_outside standing && is_space byte then 0 else word_len (standing_after standing byte) bytes + 1
 
--- the next token is taken, or there is none
+-- the next token is taken, or none is left
 abbrev pub NextIs : List EntryToken → List EntryToken → Option EntryToken → Type 0
-NextIs old new None = old ≡ []
+NextIs old new None = (old ≡ []) × (new ≡ [])
 NextIs old new (Some token) = old ≡ token ∷ new
 
 -- a number fits 64 bits with a sign

@@ -25,11 +25,7 @@ pub fn read_items(alloc: Global, words: &mut Words<'_>) -> Result<Option<Vec<Ite
 }
 
 /// The item that begins with this word.
-fn read_item(
-    alloc: Global,
-    subject: Token,
-    words: &mut Words<'_>,
-) -> Result<Option<Item>, Memory>
+fn read_item(alloc: Global, subject: Token, words: &mut Words<'_>) -> Result<Option<Item>, Memory>
     ensures step { IfOk result (StepIs (item_step subject words.old) words.new) }
     ensures shorter { OnOk result (length words.new ≤ length words.old) }
 {

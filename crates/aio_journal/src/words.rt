@@ -1,5 +1,5 @@
 //! The words of a line.
-ghost use Rattle.std.specs.Prelude.{◌≡◌, ◌≤◌, ◌<◌, [], ◌∷◌, length, take, drop, IfOk, MatchOption};
+ghost use Rattle.std.specs.Prelude.{◌≡◌, ◌≤◌, ◌<◌, [], ◌∷◌, length, IfOk, OnOk, IsSome, MatchOption};
 ghost use Rattle.model_wire.specs.JournalText.{Outside, Standing, words_of, tokens_of, is_outside, standing_after};
 ghost use Rattle.aio_journal.specs.Words.{plain_place, word_len, NextIs, IsBounded};
 
@@ -24,7 +24,7 @@ pub struct Words<'a> {
     rest: &'a [u8],
 }
 
-impl Model for Words<'_> {
+impl<'a> Model for Words<'a> {
     ghost use Rattle.std.specs.Prelude.{List};
     ghost use Rattle.model_wire.specs.JournalText.{EntryToken, tokens_of};
 
@@ -44,6 +44,8 @@ impl<'a> Words<'a> {
     pub fn next(&mut self, alloc: Global) -> Result<Option<Token>, Memory>
         ensures next { IfOk result (NextIs self.old self.new) }
         ensures bounded { IfOk result IsBounded }
+        ensures shorter { OnOk result (length self.new ≤ length self.old) }
+        ensures smaller { IfOk result (λ token. IsSome token → length self.new < length self.old) }
     {
         let Some((word, rest)) = next_word(self.rest) else {
             return Ok(None);

@@ -16,5 +16,6 @@ mod words;
 pub use fault::LexFault;
 pub use lexer::tokens;
 pub use list::TokenList;
+pub use literal::{closing, literal_bytes};
 pub use model_text::Symbol;
 pub use token::{Span, Token, TokenClass};

@@ -3,7 +3,6 @@
 
 mod actions;
 mod ends;
-
 #[cfg(test)]
 mod tests;
 mod writing;

@@ -10,12 +10,7 @@ use std::alloc::Global;
 
 /// Appends the lines of events, in order: those that tasks print, and with the trace each call, answer and handle. Want
 /// of memory appends nothing.
-pub fn lines(
-    alloc: Global,
-    events: &Events,
-    trace: bool,
-    out: &mut Vec<u8>,
-) -> Result<(), Memory>
+pub fn lines(alloc: Global, events: &Events, trace: bool, out: &mut Vec<u8>) -> Result<(), Memory>
     ensures ok { OnOk result (out.new.items ≡ out.old.items ++ lines_of_events trace events.now.events) }
     ensures err { OnErr result (out.new.items ≡ out.old.items) }
 {
@@ -35,12 +30,7 @@ fn lines_of(alloc: Global, events: &[Event], trace: bool) -> Result<Vec<u8>, Mem
 }
 
 /// Appends the line of an event, where it has one.
-fn push_line(
-    alloc: Global,
-    event: &Event,
-    trace: bool,
-    out: &mut Vec<u8>,
-) -> Result<(), Memory>
+fn push_line(alloc: Global, event: &Event, trace: bool, out: &mut Vec<u8>) -> Result<(), Memory>
     ensures { OnOk result (out.new.items ≡ out.old.items ++ line_of trace event.now) }
 {
     match event {

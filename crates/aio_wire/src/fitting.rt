@@ -44,11 +44,8 @@ pub fn fits(call: &Call, answer: &Answer) -> bool
             Answer::Again | Answer::Broken => true,
             _ => false,
         },
-        Call::Shut(_)
-        | Call::Close(_)
-        | Call::CloseServer(_)
-        | Call::End(_)
-        | Call::Kill(_) => matches!(answer, Answer::Done),
+        Call::Shut(_) | Call::Close(_) | Call::CloseServer(_) | Call::End(_) | Call::Kill(_) =>
+            matches!(answer, Answer::Done),
         Call::Launch(_) => matches!(answer, Answer::Child | Answer::Refused),
         Call::Extra { .. } => match answer {
             Answer::Extra(bytes) => bytes.items().len() as u64 <= MOST_BYTES,

@@ -3,8 +3,8 @@
 #![tactic(auto)]
 
 mod call;
-mod event;
 mod copying;
+mod event;
 mod fitting;
 mod lists;
 mod mem_shelf;
@@ -27,10 +27,10 @@ pub use copying::{copy_of_answer, copy_of_call};
 pub use event::{Event, Events};
 pub use fitting::fits;
 pub use lists::{Item, ItemList, Watch, WatchList, WordList};
-pub use model_wire::Ready;
 pub use mem_shelf::MemShelf;
 pub use mem_sink::MemSink;
 pub use mem_source::MemSource;
+pub use model_wire::Ready;
 pub use port::Port;
 pub use shelf::Shelf;
 pub use sink::{Sink, SinkTook};

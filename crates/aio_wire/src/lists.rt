@@ -3,10 +3,9 @@ ghost use Rattle.std.specs.Prelude.{◌≡◌, map};
 ghost use Rattle.std.specs.Rc.{rc_str_bytes};
 
 use aio_base::Blob;
+pub use model_wire::Watch;
 use std::marker::Model;
 use std::rc::RcStr;
-
-pub use model_wire::Watch;
 
 /// What came while a select waited.
 pub type Item = model_wire::Item<Blob>;

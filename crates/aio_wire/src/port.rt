@@ -41,13 +41,12 @@ impl<'a, W: Wire> Port<'a, W> {
     pub fn ask(&mut self, alloc: Global, call: Call) -> Result<Answer, Stop>
         ensures wire_name { self.new.wire.ghost_name ≡ self.old.wire.ghost_name }
         ensures events_name { self.new.events.ghost_name ≡ self.old.events.ghost_name }
-        ensures asks {
-            ((said : AnyReply) × Exchanges call self.old.events.now self.new.events.now result said
-                × Replied (W.answers self.old.wire.now) (W.answers self.new.wire.now) said
-                × EndsAs (W.end self.new.wire.now) said
-                × FailedIfRose (W.faults self.old.wire.now) (W.faults self.new.wire.now) said
-                × (W.asked self.new.wire.now ≡ asked_after (W.asked self.old.wire.now) call)
-                × (W.handed self.new.wire.now ≡ handed_after (W.handed self.old.wire.now) call said))
+        ensures asks { ((said : AnyReply) × Exchanges call self.old.events.now self.new.events.now result said
+            × Replied (W.answers self.old.wire.now) (W.answers self.new.wire.now) said
+            × EndsAs (W.end self.new.wire.now) said
+            × FailedIfRose (W.faults self.old.wire.now) (W.faults self.new.wire.now) said
+            × (W.asked self.new.wire.now ≡ asked_after (W.asked self.old.wire.now) call)
+            × (W.handed self.new.wire.now ≡ handed_after (W.handed self.old.wire.now) call said))
             ⊎ StopsShort self.old.events.now self.new.events.now result }
         ensures fitting { W.is_fitting self.new.wire.now ≡ W.is_fitting self.old.wire.now }
         ensures later { W.faults self.old.wire.now ≤ W.faults self.new.wire.now }

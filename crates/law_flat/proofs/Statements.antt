@@ -184,8 +184,7 @@ module _ (limit : ℕ) (program : Program) (codes : ℕ → Body) where
               callers = (at_next f).frame ∷ f.callers;
               room = room;
             })))
-            (sym laid_out.variables)
-            (
+            (sym laid_out.variables) (
               then_all (coroutine_at program coroutine).body at_end,
               behind ∷ rests,
               record { here = (laid_out.end, laid_out.body, (laid_out.ends, refl)); callers = (next, callers) },

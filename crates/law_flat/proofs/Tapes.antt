@@ -117,6 +117,7 @@ module _ (limit : ℕ) (program : Program) (codes : ℕ → Body) (coroutine : �
         by_input : (input : Input) (fresh : Bool) (more : Tape) → SaysUnbegun (record { input = input; fresh = fresh } ∷ more)
         by_input (Send value) fresh more = refl
         by_input (Throw fault) fresh more = refl
+
         same : (more : Tape) → SaysUnbegun more
         same [] = refl
         same (entry ∷ more) = by_input entry.input entry.fresh more

@@ -42,8 +42,8 @@ module _ (gone : ℕ → Bool) where
   set_same (x ∷ xs) zero v e = let same : x ≡ v = cc in ap (λ z. z ∷ xs) (sym same)
   set_same (x ∷ xs) (suc k) v e = ap (λ ys. x ∷ ys) (set_same xs k v e)
 
-  at : (p : Parts) (id : ℕ) → slice_get (forgotten gone p).futures id ≡ option_map (λ (f : Future). cond (gone id) released f) (slice_get p.futures id)
-  at p id = let e : 0 + id ≡ id = omega arith in get-forget 0 p.futures id ∙ rw e refl
+  pub forgotten_at : (p : Parts) (id : ℕ) → slice_get (forgotten gone p).futures id ≡ option_map (λ (f : Future). cond (gone id) released f) (slice_get p.futures id)
+  forgotten_at p id = let e : 0 + id ≡ id = omega arith in get-forget 0 p.futures id ∙ rw e refl
 
   gone_at : (id : ℕ) (b : Bool) → gone id ≡ b → gone (0 + id) ≡ b
   gone_at id b g = let e : 0 + id ≡ id = omega arith in ap gone e ∙ g
@@ -53,11 +53,11 @@ module _ (gone : ℕ → Bool) where
   soon_all-forget [] p = refl
   soon_all-forget (a ∷ more) p = soon_all-forget more (soon a p)
 
-  with-kept : (id : ℕ) (f : Future) (p : Parts) → gone id ≡ false → with_future id f (forgotten gone p) ≡ forgotten gone (with_future id f p)
+  pub with-kept : (id : ℕ) (f : Future) (p : Parts) → gone id ≡ false → with_future id f (forgotten gone p) ≡ forgotten gone (with_future id f p)
   with-kept id f p g = ap (λ fs. record p { futures = fs }) (sym (set-kept 0 p.futures id f (gone_at id false g)))
 
   pub settle-forget : (id : ℕ) (outcome : Outcome) (p : Parts) → AreDone gone p → settle id outcome (forgotten gone p) ≡ forgotten gone (settle id outcome p)
-  settle-forget id outcome p done = ap (λ o. settled o id outcome (forgotten gone p)) (at p id) ∙ go (slice_get p.futures id) (gone id) refl (done id)
+  settle-forget id outcome p done = ap (λ o. settled o id outcome (forgotten gone p)) (forgotten_at p id) ∙ go (slice_get p.futures id) (gone id) refl (done id)
     where
       until : (future : Future) (o : Option Outcome) → gone id ≡ false
           → settled_as o id future outcome (forgotten gone p) ≡ forgotten gone (settled_as o id future outcome p)
@@ -77,7 +77,7 @@ module _ (gone : ℕ → Bool) where
       go (Some future) false g d = until future future.outcome g
 
   pub ask-forget : (id : ℕ) (p : Parts) → mark_asked id (forgotten gone p) ≡ forgotten gone (mark_asked id p)
-  ask-forget id p = ap (λ o. option_map_or (λ (f : Future). with_future id (asked_as f) (forgotten gone p)) o (forgotten gone p)) (at p id)
+  ask-forget id p = ap (λ o. option_map_or (λ (f : Future). with_future id (asked_as f) (forgotten gone p)) o (forgotten gone p)) (forgotten_at p id)
       ∙ go (slice_get p.futures id) refl (gone id) refl
     where
       go : (o : Option Future) → slice_get p.futures id ≡ o → (b : Bool) → gone id ≡ b
@@ -87,11 +87,11 @@ module _ (gone : ℕ → Bool) where
       go None e b g = refl
       go (Some future) e false g = with-kept id (asked_as future) p g
       go (Some future) e true g =
-          let there : slice_get (forget_from gone 0 p.futures) id ≡ Some released = at p id ∙ rw (g, e) refl in
+          let there : slice_get (forget_from gone 0 p.futures) id ≡ Some released = forgotten_at p id ∙ rw (g, e) refl in
           ap (λ fs. record p { futures = fs }) (set_same (forget_from gone 0 p.futures) id released there
           ∙ sym (set-gone 0 p.futures id (asked_as future) (gone_at id true g)))
 
-  change-forget : (id : ℕ) (change : Task → Task) (p : Parts) → change_task id change (forgotten gone p) ≡ forgotten gone (change_task id change p)
+  pub change-forget : (id : ℕ) (change : Task → Task) (p : Parts) → change_task id change (forgotten gone p) ≡ forgotten gone (change_task id change p)
   change-forget id change p = go (slice_get p.tasks id)
     where
       go : (o : Option Task) → option_map_or (λ (task : Task). record (forgotten gone p) { tasks = slice_set p.tasks id (change task) }) o (forgotten gone p)
@@ -171,7 +171,7 @@ module _ (gone : ℕ → Bool) where
     future_at (Some future) false d = until future.outcome future.kind
 
     by_commutes : cancel_by F V id s (forgotten gone p) ≡ forgotten_of gone (cancel_by F V id s p)
-    by_commutes = ap (λ o. cancel_at F V o id s (forgotten gone p)) (at p id) ∙ future_at (slice_get p.futures id) (gone id) (done id)
+    by_commutes = ap (λ o. cancel_at F V o id s (forgotten gone p)) (forgotten_at p id) ∙ future_at (slice_get p.futures id) (gone id) (done id)
 
   below_commutes : (bound : ℕ) (V : Canceller) → IsRow V → Commutes V → Commutes (cancel_below bound V)
   below_commutes zero V row c id s p done = refl

@@ -2,6 +2,10 @@ pub mod WalkLemmas
 pub mod WeightLemmas
 pub mod QuietLemmas
 pub mod SearchLemmas
+pub mod SeekLemmas
 pub mod OpenLemmas
 pub mod RoomLemmas
+pub mod RoomsKept
 pub mod ForgottenLemmas
+pub mod ForgottenSteps
+pub mod PlacedLemmas

@@ -119,7 +119,6 @@ goes-passing (raises {q = q} g id task n e) j =
 goes-passing (marks {q = q} g id) j =
     ap (λ (fs : List Future). passing (stands_at (slice_get fs j))) (change_task-futures id _ q) ∙ goes-passing g j
 
-
 change-waiter : (id : ℕ) (change : Task → Task) (q : Parts) (j : ℕ) → ((t : Task) → (change t).waiter ≡ t.waiter)
     → waiter_of (change_task id change q) j ≡ waiter_of q j
 change-waiter id change q j same = at (slice_get q.tasks id) refl
@@ -139,7 +138,7 @@ goes-waiter (asks {q = q} g id future members asked e o k) j =
 goes-waiter (raises {q = q} g id task n e) j = change-waiter id _ q j (λ t. refl) ∙ goes-waiter g j
 goes-waiter (marks {q = q} g id) j = change-waiter id _ q j (λ t. refl) ∙ goes-waiter g j
 
-passes-task : (p : Parts) (id task : ℕ) → passing_at p id ≡ stands.OfTask task → passes p id ≡ option_to_list (waiter_of p task)
+pub passes-task : (p : Parts) (id task : ℕ) → passing_at p id ≡ stands.OfTask task → passes p id ≡ option_to_list (waiter_of p task)
 passes-task p id task h = at (slice_get p.futures id) h
   where
     until : (o : Option Outcome) (k : FutureKind) → passing (stands_of o k) ≡ stands.OfTask task
@@ -153,7 +152,7 @@ passes-task p id task h = at (slice_get p.futures id) h
     at None h = absurd (cc)
     at (Some future) h = until future.outcome future.kind h
 
-passes-many : (p : Parts) (id : ℕ) → passing_at p id ≡ stands.Many → passes p id ≡ made_before id (members_at (slice_get p.futures id))
+pub passes-many : (p : Parts) (id : ℕ) → passing_at p id ≡ stands.Many → passes p id ≡ made_before id (members_at (slice_get p.futures id))
 passes-many p id h = at (slice_get p.futures id) h
   where
     until : (future : Future) (o : Option Outcome) (k : FutureKind) → passing (stands_of o k) ≡ stands.Many
@@ -197,5 +196,5 @@ pub pass_member : {s : List ℕ} {p : Parts} {t : List ℕ} {q : Parts} → Goes
     → Some m ≡ slice_get (members_at (slice_get q.futures id)) place → m < id → PassesTo p id m
 pass_member {p = p} g id m place st h l =
     let a : slice_get (members_at (slice_get p.futures id)) place ≡ Some m =
-            ap (λ ms. slice_get ms place) (sym (goes-members g id)) ∙ sym h in
+    ap (λ ms. slice_get ms place) (sym (goes-members g id)) ∙ sym h in
     rw (passes-many p id st) (any_made (members_at (slice_get p.futures id)) id m place a l)

@@ -208,6 +208,22 @@ weigh_waits i t w id frames after s s' p q waiter a e f n h =
     there None g h = absurd (cc)
     there (Some task) g h = within p.tasks t task g
 
+-- a search goes on to what a task waits for, and keeps no frame
+pub weigh_on : (t w id : ℕ) (frames : List Frame) (s s' : List ℕ) (p : Parts) (waiter : Option ℕ) → s' ≡ s ++ t ∷ [] → has_seen s t ≡ false
+    → Some waiter ≡ option_map (λ (task : Task). task.waiter) (slice_get p.tasks t) → weight (Visit w) frames s' p < weight (Visit id) frames s p
+unfolding weight
+weigh_on t w id frames s s' p waiter e n h =
+    rw e
+    (let sh = shape p.futures in
+    let l = left-push (length p.tasks) s t (there (slice_get p.tasks t) refl h) n in
+    let m = frames_mono sh (left (length p.tasks) (s ++ t ∷ [])) (left (length p.tasks) s) frames (omega arith) in
+    let v = visit_waits sh (left (length p.tasks) s) (left (length p.tasks) (s ++ t ∷ [])) id w (omega arith) in
+    omega arith)
+  where
+    there : (o : Option Task) → slice_get p.tasks t ≡ o → Some waiter ≡ option_map (λ (task : Task). task.waiter) o → t < length p.tasks
+    there None g h = absurd (cc)
+    there (Some task) g h = within p.tasks t task g
+
 -- a member is one of its future's row
 row : (fs : List Future) (id place m : ℕ) → Some m ≡ slice_get (members_at (slice_get fs id)) place
     → (id < length (shape fs)) × (place < length (get_or (shape fs) id []))

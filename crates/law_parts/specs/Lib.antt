@@ -1,7 +1,9 @@
 pub mod Shape
 pub mod Forgotten
+pub mod Placed
 pub mod Walk
 pub mod Weight
 pub mod Quiet
 pub mod Search
+pub mod Seek
 pub mod Open

@@ -3,6 +3,8 @@
 #![tactic(auto)]
 
 pub mod forgetting;
+pub mod placing;
+pub mod rooms;
 pub mod stacks;
 mod walk;
 

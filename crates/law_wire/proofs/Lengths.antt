@@ -69,7 +69,7 @@ pub items-short : (items : List Item) → AllByRecursion ItemInRange items
 items-short [] a = omega arith
 items-short (came ∷ items) a =
     let all : length (flat_map spaced_item (came ∷ items)) ≡ length (spaced_item came) + length (flat_map spaced_item items) =
-        length-append (spaced_item came) (flat_map spaced_item items) in
+    length-append (spaced_item came) (flat_map spaced_item items) in
     let total : sum (map bytes_in (came ∷ items)) ≡ bytes_in came + sum (map bytes_in items) =
-        sum-map bytes_in (came ∷ items) ∙ sum_by-cons bytes_in came items ∙ ap (λ n. bytes_in came + n) (sym (sum-map bytes_in items)) in
+    sum-map bytes_in (came ∷ items) ∙ sum_by-cons bytes_in came items ∙ ap (λ n. bytes_in came + n) (sym (sum-map bytes_in items)) in
     omega (arith, all, total, item-short came a.0, items-short items a.1)

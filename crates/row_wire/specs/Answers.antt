@@ -31,7 +31,7 @@ turns =
     ∷ turn_to all (item.Ready 1 ready.Read ∷ item.Ready 1 ready.Write ∷ []) false
     ∷ turn_to all (item.ReadableServer 0 ∷ item.ReadableServer 0 ∷ []) false
     ∷ turn_to all (item.WritableChild 0 ∷ item.Child 0 news.Broken ∷ item.Child 0 (news.Out (codes "o")) ∷ item.Child 0 (news.Errs (codes "e"))
-        ∷ item.Child 0 (news.Exit (pos 0)) ∷ item.Child 1 news.Broken ∷ item.Child 1 (news.Exit (negsuc 8)) ∷ []) true
+    ∷ item.Child 0 (news.Exit (pos 0)) ∷ item.Child 1 news.Broken ∷ item.Child 1 (news.Exit (negsuc 8)) ∷ []) true
     ∷ turn_to all (item.Child 0 (news.Out (codes "o")) ∷ item.Child 0 news.OutEnd ∷ []) false
     ∷ turn_to all (item.Child 0 news.ErrsEnd ∷ item.Child 0 (news.Errs (codes "e")) ∷ []) false
     ∷ turn_to all (item.Child 0 (news.Out []) ∷ []) false

@@ -101,7 +101,7 @@ numbers =
     ∷ wide "turn 0 P0 exit -129"
     ∷ bad_form "turn 0 P0 exit 256 C0"
     ∷ turns "turn 0 X 9223372036854775807 b\"\" X -9223372036854775808 b\"\"" 0
-        (item.Extra (pos 9223372036854775807) [] ∷ item.Extra (negsuc 9223372036854775807) [] ∷ [])
+    (item.Extra (pos 9223372036854775807) [] ∷ item.Extra (negsuc 9223372036854775807) [] ∷ [])
     ∷ wide "turn 0 X 9223372036854775808 b\"\""
     ∷ wide "turn 0 X -9223372036854775809 b\"\""
     ∷ turns "turn 0 X -0 b\"\"" 0 (item.Extra (pos 0) [] ∷ [])

@@ -17,6 +17,6 @@ loop-at-preserved c =
     let at = c.loop-at.at in
     let first = c.index-items-at.result in
     let whole : drop at items ≡ first ∷ drop (at + 1) items =
-        drop_more items at first c.loop-at-test.true ∙ ap (λ x. x ∷ drop (at + 1) items) (sym c.index-items-at.is) in
+    drop_more items at first c.loop-at-test.true ∙ ap (λ x. x ∷ drop (at + 1) items) (sym c.index-items-at.is) in
     let none : list_any (clashes first) (drop (at + 1) items) ≡ false = grind (arith, common_steps) in
     c.loop-at.invariant ∙ past_first (drop at items) (drop (at + 1) items) first whole none

@@ -67,7 +67,7 @@ turn-read : (number : ℕ) (watched : List Watch) (now : ℕ) (items : List Item
     → entry_of number (written (answer.Turn now items)) ≡ Answered (answer.Turn now items)
 turn-read number watched now items fit h =
     let few = and_parts (nat_le (length items) most_items) (nat_le (sum (map bytes_in items)) most_bytes)
-        (and_parts (are_few items) (are_awaited watched items) (and_parts (nat_le now most) (are_few items && are_awaited watched items) fit).1).0 in
+    (and_parts (are_few items) (are_awaited watched items) (and_parts (nat_le now most) (are_few items && are_awaited watched items) fit).1).0 in
     let text = flat_map spaced_item items in
     let count = le-of (length items) most_items few.0 in
     let bytes = le-of (sum (map bytes_in items)) most_bytes few.1 in
