@@ -147,7 +147,7 @@ taken_looks handle rest p first none =
     let z : ◌≡◌ {A = ℕ} (cond (not handle.dead && test handle.action) 1 0) 0 = ap (λ b. cond b 1 0) (none test follows) in
     omega (arith, a, z))
 
-idle_sound : (told : ℕ → List ℕ) (handle : Handle) (rest : List Handle) (l : Loop) → l.parts.pending ≡ handle ∷ rest
+pub idle_sound : (told : ℕ → List ℕ) (handle : Handle) (rest : List Handle) (l : Loop) → l.parts.pending ≡ handle ∷ rest
     → ((test : Action → Bool) → Follows test → (not handle.dead && test handle.action) ≡ false)
     → ((id : ℕ) → (not handle.dead && fires id handle.action) ≡ false) → IsSound None told l
     → IsSound None told (in_parts (taken rest) l)

@@ -1,2 +1,5 @@
 pub mod Replying
+pub mod Running
+pub mod Serving
+pub mod Stepping
 pub mod Turning

@@ -65,7 +65,7 @@ module _ {S : Type 0} (task : ℕ) where
       at true = h
       at false = sound
 
-  replied_sound : (input : Input) (s : State S) → RunsSound task s → RepliesSound task (replied input s)
+  pub replied_sound : (input : Input) (s : State S) → RunsSound task s → RepliesSound task (replied input s)
   replied_sound (Send value) s sound = sound
   replied_sound (Throw fault) s sound = sound
 

@@ -67,7 +67,7 @@ nil_right [] = refl
 nil_right (x ∷ xs) = ap (λ l. x ∷ l) (nil_right xs)
 
 -- an action that tells no group
-tells_none : (events : List Event) (it : Action) → ((group : ℕ) → told_by group it [] ≡ []) → (group : ℕ)
+pub tells_none : (events : List Event) (it : Action) → ((group : ℕ) → told_by group it [] ≡ []) → (group : ℕ)
     → told_in (events ++ event.Ran it ∷ []) group ≡ told_in events group
 tells_none events it none group =
     told_in-ran events it group ∙ ap (λ l. told_in events group ++ l) (none group) ∙ nil_right (told_in events group)
@@ -162,7 +162,7 @@ module _ {S : Type 0} (limit : ℕ) (added : Extra S) (s : State S) (handle : Ha
       (dead_sound (told_in s.events) handle rest s.loop first dead sound)
 
   -- a live one, by its action
-  live_as : (it : Action) → handle.dead ≡ false → handle.action ≡ it
+  pub live_as : (it : Action) → handle.dead ≡ false → handle.action ≡ it
       → LeavesSoundLoop (effect limit added it (noted (event.Ran it) (unbooked_in (λ p. record p { pending = rest }) s)))
       → LeavesSoundLoop (run_first limit added handle rest s)
   live_as it live is h =

@@ -1,2 +1,4 @@
+pub mod Fits
+pub mod FitsTurn
 pub mod Replied
 pub mod SoundState

@@ -4,12 +4,13 @@ use Rattle.model_value.specs.declared.request.Request.TheVariants.{Await, Timeou
 use Rattle.model_value.specs.Request.{Request}
 use Rattle.model_loop.specs.Futures.{future_outcome, is_pending}
 use Rattle.model_loop.specs.Groups.{group_of}
+use Rattle.model_loop.specs.Entries.{entries, no_sleep_as}
 use Rattle.model_loop.specs.Owning.{is_plain}
 use Rattle.model_loop.specs.Sound.{IsSound}
 use Rattle.model_loop.specs.Timeouts.{timeout_of}
 use Rattle.model_machine.specs.Arguments.{as_awaited, as_timeout, as_group}
 use Rattle.model_machine.specs.Replies.{Reply, Answers, Raises, Rests, Halts}
-use Rattle.model_machine.specs.State.{State}
+use Rattle.model_machine.specs.State.{Standing, Asked, Sleeping, Leaving, Serving, State}
 use Rattle.model_machine.specs.Told.{told_in}
 use Rattle.law_ledger.specs.Telling.{is_open}
 use Rattle.law_turns.specs.SoundState.{HasSoundLoop}
@@ -41,3 +42,12 @@ IsFit (GroupExit group raised) s =
     → (id < length s.loop.groups) × ((group_of s.loop id).entered ≡ true) × ((group_of s.loop id).exiting ≡ false)
 IsFit (Extra code arguments) s = ⊥
 IsFit _ s = Unit {0}
+
+-- A task whose step begins stands at nothing that was added; a sleep's tag names ends of sleeps alone, and a group whose exit
+-- it left waiting is exiting.
+abbrev pub IsStanding : {S : Type 0} → Standing → State S → Type 0
+IsStanding Asked s = Unit {0}
+IsStanding (Sleeping tag) s = entries (no_sleep_as tag) s.loop.parts ≡ 0
+IsStanding (Leaving id) s =
+    (id < length s.loop.groups) × ((group_of s.loop id).exiting ≡ true) × ((group_of s.loop id).ended ≡ false)
+IsStanding (Serving key) s = ⊥

@@ -8,7 +8,9 @@ ghost use Rattle.model_wire.specs.Journal.{Entry};
 ghost use Rattle.model_loop.specs.Parts.{Handle};
 ghost use Rattle.model_machine.specs.Extra.{Extra};
 ghost use Rattle.model_machine.specs.State.{State, start, unbooked_in};
-ghost use Rattle.model_machine.specs.Turn.{woken_by, turn_over, run_first};
+ghost use Rattle.model_machine.specs.Mids.{mids_from};
+ghost use Rattle.model_machine.specs.Turn.{woken_by, turn_over, run_first, run_pending};
+ghost use Rattle.law_turns.specs.FitsTurn.{AreSound, FitsPending};
 ghost use Rattle.law_turns.specs.SoundState.{HasSoundLoop, LeavesSoundLoop};
 
 /// A run of every program begins in a state whose loop is sound.
@@ -44,4 +46,12 @@ pub fn callbacks_keep_it_sound<S>()
 /// So does the end of a turn, with the cancels of all tasks after main's callback ran.
 pub fn a_turn_ends_sound<S>()
     ensures { (done_before : Bool) (s : State S) → HasSoundLoop s → LeavesSoundLoop (turn_over done_before s) }
+{}
+
+/// All callbacks of a turn keep it, where each step among them is fit; so each state between two of them is sound.
+pub fn states_between_callbacks_are_sound<S>()
+    ensures after { (limit : ℕ) (added : Extra S) (s : State S) → HasSoundLoop s → FitsPending limit added s
+        → LeavesSoundLoop (run_pending limit added s) }
+    ensures between { (limit : ℕ) (added : Extra S) (s : State S) → HasSoundLoop s → FitsPending limit added s
+        → AreSound (mids_from limit added s) }
 {}
