@@ -1,0 +1,44 @@
+//! Wires of which chosen calls fail.
+ghost use Rattle.std.specs.Prelude.{◌≡◌, ◌+◌};
+
+use crate::fail_at::{FailAt, fails};
+use aio_base::Memory;
+use aio_wire::{Call, Reply, Wire};
+use std::alloc::Global;
+
+impl<I: Wire> Wire for FailAt<I> {
+    ghost faults = { λ wire. I.faults wire.inner + wire.faults };
+
+    ghost answers = { λ wire. I.answers wire.inner };
+
+    ghost end = { λ wire. I.end wire.inner };
+
+    ghost is_fitting = { λ wire. I.is_fitting wire.inner };
+
+    ghost handed = { λ wire. I.handed wire.inner };
+
+    ghost fails = { λ wire. I.fails wire.inner };
+
+    ghost keeps = { λ old new. I.keeps old.inner new.inner };
+
+    ghost quiet = { λ old new. I.quiet old.inner new.inner };
+
+    ghost end_agrees = { λ wire. I.end_agrees wire.inner };
+
+    ghost keeps_same = { λ wire. I.keeps_same wire.inner };
+
+    ghost keeps_on = { λ before between after first second.
+        I.keeps_on before.inner between.inner after.inner first second };
+
+    ghost quiet_same = { λ wire. I.quiet_same wire.inner };
+
+    ghost quiet_on = { λ before between after first second.
+        I.quiet_on before.inner between.inner after.inner first second };
+
+    fn ask(&mut self, alloc: Global, call: &Call) -> Result<Reply, Memory> {
+        if fails(self.calls.as_slice(), &mut self.made, &mut self.faults) {
+            return Ok(Reply::Failed);
+        }
+        self.inner.ask(alloc, call)
+    }
+}
