@@ -1,8 +1,7 @@
 -- Each request of the table keeps the loop sound.
-use Rattle.std.proofs.Common.{◌≡◌, ℕ, zero, suc, ◌+◌, ◌<◌, ℤ, pos, negsuc, Bool, true, false, cond, List, [], ◌∷◌, ◌++◌, Option, Some, None, is_some, length, slice_get, slice_index_or, nat_lt, refl, ap, sym, subst, ◌∙◌, length-append, arith}
+use Rattle.std.proofs.Common.{◌≡◌, ℕ, zero, suc, ◌+◌, ◌<◌, ℤ, pos, negsuc, Bool, true, false, List, [], ◌∷◌, ◌++◌, Option, Some, None, is_some, length, slice_index_or, nat_lt, refl, ap, ◌∙◌, length-append, arith}
 use Rattle.std.proofs.lemmas.Bool.{eq-eqb}
-use Rattle.std.proofs.lemmas.Option.{none-some, same_Some}
-use Rattle.model_value.specs.declared.action.Action.TheVariants.{SleepDone}
+use Rattle.std.proofs.lemmas.Option.{none-some}
 use Rattle.model_value.specs.declared.input.Input.TheVariants.{Send, Throw}
 use Rattle.model_value.specs.declared.outcome.Outcome.TheVariants.{Value as Returned, Failed}
 use Rattle.model_value.specs.declared.request.Request.TheVariants as request
@@ -11,22 +10,20 @@ use Rattle.model_value.specs.Request.{Request}
 use Rattle.model_value.specs.Value.{Value, Fut, Exc, Outcome}
 use Rattle.model_wire.specs.declared.event.Event.TheVariants as event
 use Rattle.model_wire.specs.Event.{Event}
-use Rattle.model_loop.specs.Parts.{Plain, Future, Parts}
-use Rattle.model_loop.specs.Loop.{Group, Loop, in_parts, book}
-use Rattle.model_loop.specs.Futures.{future_outcome, is_pending, is_pending_at, new_plain, next_future, settle}
-use Rattle.model_loop.specs.Groups.{GroupExit, Waits, Passes, Raises as RaisedBy, Exited, Refusal, create, enter_group, exit_begin, group_of, make_group, next_group, refusal, new_group}
-use Rattle.model_loop.specs.Handles.{deadline, later}
-use Rattle.model_loop.specs.Ledger.{ByScript, ask_cancel, uncancel_by}
+use Rattle.model_loop.specs.Loop.{Group, in_parts}
+use Rattle.model_loop.specs.Futures.{future_outcome, is_pending, is_pending_at, new_plain, next_future}
+use Rattle.model_loop.specs.Groups.{GroupExit, Waits, Passes, Raises as RaisedBy, Refusal, exit_begin, group_of, make_group, next_group, refusal, new_group}
+use Rattle.model_loop.specs.Handles.{deadline}
+use Rattle.model_loop.specs.Ledger.{ByScript}
 use Rattle.model_loop.specs.Owning.{is_plain, is_plain_at}
 use Rattle.model_loop.specs.Sound.{IsSound}
-use Rattle.model_loop.specs.Suspend.{suspend}
-use Rattle.model_loop.specs.Tasks.{next_task, pause, lives}
-use Rattle.model_loop.specs.Timeouts.{enter_timeout, exit_timeout, is_active, next_timeout, reschedule, timeout_of}
+use Rattle.model_loop.specs.Tasks.{next_task, lives}
+use Rattle.model_loop.specs.Timeouts.{exit_timeout, is_active, next_timeout, timeout_of}
 use Rattle.model_machine.specs.Arguments.{as_future, as_awaited, as_task, as_timeout, as_group, as_int, as_delay, as_failure}
 use Rattle.model_machine.specs.Extra.{Extra}
 use Rattle.model_machine.specs.Outcomes.{input_of}
-use Rattle.model_machine.specs.Replies.{Reply, Answers, Raises, Rests, Halts, given, most_ids, numbered_if, numbered, replied, ended, result_of, shown_all, waits, awaits_as, awaits, pauses, alarmed, sleeps_for, sleeps, makes_future, settles_if, settles, requests, counted, spawns, enters_timeout, timed_out_if, exits_timeout, reschedules_if, reschedules, enters_group, exits_as, exits_group, creates_unless, creates, reply}
-use Rattle.model_machine.specs.State.{State, noted, unbooked_in, with_loop}
+use Rattle.model_machine.specs.Replies.{Reply, given, most_ids, numbered_if, numbered, replied, ended, result_of, shown_all, awaits_as, awaits, alarmed, sleeps, makes_future, settles_if, settles, requests, counted, spawns, enters_timeout, timed_out_if, exits_timeout, reschedules_if, reschedules, enters_group, exits_as, exits_group, creates_unless, creates, reply}
+use Rattle.model_machine.specs.State.{State, with_loop}
 use Rattle.model_machine.specs.Told.{told_by, told_in}
 use Rattle.law_cancel.proofs.Lookups.{get-push_last}
 use Rattle.law_ledger.specs.Telling.{is_open, IsOther}
@@ -35,8 +32,7 @@ use Rattle.law_sound.proofs.GroupSteps.{make_group_sound, enter_group_sound, cre
 use Rattle.law_sound.proofs.TimeoutSteps.{enter_timeout_sound, reschedule_sound, exit_timeout_sound}
 use Rattle.law_groups.proofs.Waits.{exit_waits}
 use Rattle.law_turns.specs.Replied.{RunsSound, HasPlainFutures, RepliesSound, IsFit}
-use Rattle.law_turns.specs.SoundState.{HasSoundLoop}
-use Rattle.law_turns.proofs.Turning.{as_told, nil_right}
+use Rattle.law_turns.proofs.Turning.{as_told}
 
 -- what is said tells no group
 told_in-said : (events : List Event) (task : ℕ) (text : List ℕ) (group : ℕ)

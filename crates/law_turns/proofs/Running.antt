@@ -18,9 +18,9 @@ use Rattle.model_machine.specs.Outcomes.{woken_with}
 use Rattle.model_machine.specs.State.{State, generator_of, noted, unbooked_in}
 use Rattle.model_machine.specs.Step.{step}
 use Rattle.model_machine.specs.Told.{told_by, told_in}
-use Rattle.model_machine.specs.Turn.{effect, ran, run_first, run_if, next_below, run_below, run_pending}
+use Rattle.model_machine.specs.Turn.{effect, run_first, run_if, next_below, run_below, run_pending}
 use Rattle.model_machine.specs.Went.{Went, Goes, Stops, went_on}
-use Rattle.law_settling.specs.Frames.{taken, is_followed, Follows}
+use Rattle.law_settling.specs.Frames.{taken, is_followed}
 use Rattle.law_sound.proofs.Steps.{idle_sound}
 use Rattle.law_turns.specs.Fits.{FitsStep}
 use Rattle.law_turns.specs.FitsTurn.{AreSound, GoesOnFit, FitsAction, FitsLive, FitsIf, FitsNext, FitsBelow, FitsPending}

@@ -1,23 +1,16 @@
 -- A task's step keeps the loop sound, where each request that it makes is fit.
-use Rattle.std.proofs.Common.{◌≡◌, ℕ, zero, suc, Bool, true, false, List, ◌∷◌, ◌++◌, Some, None, Ok, Err, refl, sym, subst}
-use Rattle.model_value.specs.Action.{Action}
-use Rattle.model_value.specs.declared.action.Action.TheVariants as action
-use Rattle.model_value.specs.declared.input.Input.TheVariants.{Send, Throw}
+use Rattle.std.proofs.Common.{◌≡◌, ℕ, zero, suc, Bool, true, false, List, ◌∷◌, Ok, Err}
 use Rattle.model_value.specs.Input.{Input}
-use Rattle.model_value.specs.Value.{Nothing}
 use Rattle.model_says.specs.Endings.{Saying, Asks, Returns, Raises as Raised, Runaway}
 use Rattle.model_wire.specs.declared.event.Event.TheVariants as event
-use Rattle.model_loop.specs.Circles.{circle_fault}
 use Rattle.model_loop.specs.Parts.{Handle}
 use Rattle.model_loop.specs.Ways.{steps}
 use Rattle.model_machine.specs.Extra.{Extra}
-use Rattle.model_machine.specs.Outcomes.{woken_with}
 use Rattle.model_machine.specs.Replies.{Reply, Answers, Raises, Rests, Halts, reply}
 use Rattle.model_machine.specs.State.{State, generator_of, noted, unbooked_in}
 use Rattle.model_machine.specs.Step.{taken_as, says_of, served, serve, serve_all, most_answers, step}
 use Rattle.model_machine.specs.Told.{told_in}
-use Rattle.model_machine.specs.Turn.{effect, ran, run_first}
-use Rattle.model_machine.specs.Went.{Went, Goes, Stops}
+use Rattle.model_machine.specs.Went.{Went}
 use Rattle.law_sound.proofs.Steps.{finish_step_sound}
 use Rattle.law_turns.specs.Fits.{FitsAfter, FitsSaying, FitsWithin, FitsAll, FitsStep}
 use Rattle.law_turns.specs.Replied.{RunsSound, RepliesSound, IsStanding}

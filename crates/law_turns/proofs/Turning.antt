@@ -1,5 +1,5 @@
 -- A turn up to its bar, its callbacks that step no task, and its end keep the loop sound.
-use Rattle.std.proofs.Common.{◌≡◌, ℕ, ◌⊎◌, Bool, true, false, cond, not, ◌&&◌, ◌==◌, List, [], ◌∷◌, ◌++◌, Option, Some, None, max, refl, ap, sym, subst, ◌∙◌}
+use Rattle.std.proofs.Common.{◌≡◌, ℕ, Bool, true, false, cond, not, ◌&&◌, ◌==◌, List, [], ◌∷◌, ◌++◌, Option, Some, None, refl, ap, sym, subst, ◌∙◌}
 use Rattle.model_value.specs.Action.{Action}
 use Rattle.model_value.specs.Value.{Nothing, Outcome}
 use Rattle.model_value.specs.declared.action.Action.TheVariants.{SleepDone, GroupDone, Fires, MainDone}
@@ -32,7 +32,6 @@ use Rattle.law_settling.proofs.Settling.{soon-where}
 use Rattle.model_machine.specs.State.{State, noted, start, unbooked_in}
 use Rattle.model_machine.specs.Told.{told_by, told_in}
 use Rattle.model_machine.specs.Turn.{at_time, woken_by, cancelled_if, finished_if, turn_over, effect, ran, run_first}
-use Rattle.model_machine.specs.Went.{Went, Goes, Stops}
 use Rattle.law_settling.specs.Frames.{taken, is_followed, Follows}
 use Rattle.law_settling.proofs.Looks.{handles_look_same}
 use Rattle.law_told.proofs.Holding.{looks_holds}
