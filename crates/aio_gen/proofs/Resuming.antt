@@ -1,0 +1,81 @@
+-- An input, and then moves until something is asked or said.
+use Rattle.std.proofs.Common.{◌≡◌, ℕ, ◌-◌, List, [], ◌∷◌, ◌++◌, None, length, map, reverse, sym, subst, ap, ◌∙◌, append-nil}
+use Rattle.model_value.specs.declared.request.Request.TheVariants as request
+use Rattle.model_value.specs.Request.{Request}
+use Rattle.model_value.specs.Value.{Value}
+use Rattle.model_tree.specs.Syntax.{Program}
+use Rattle.model_says.specs.Tape.{Resumed, Tape}
+use Rattle.model_says.specs.Endings as endings
+use Rattle.model_says.specs.Says.{says, step_limit}
+use Rattle.law_flat.specs.Ops.{Body}
+use Rattle.law_flat.specs.Rests.{Way}
+use Rattle.law_flat.specs.declared.answer_use.AnswerUse.TheVariants.{Ignored}
+use Rattle.law_flat.specs.Moves as plain
+use Rattle.law_flat.specs.Moves.{Frames, Move, Says}
+use Rattle.law_flat.specs.Stands.{AllLaidOut}
+use Rattle.law_flat.specs.Tapes.{Waiting, way_of, after_input, renewed_by, MovesFor, WaitsFor, ComesTo}
+use Rattle.law_flat.proofs.Tapes.{input-moves, waits-says, unbegun-waits}
+use Rattle.aio_gen.specs.declared.frames.Frame.{Frame}
+use Rattle.aio_gen.specs.Plain.{plain_frame}
+
+module _ (program : Program) (codes : ℕ → Body) (coroutine : ℕ) (arguments : List Value) (tape : Tape) where
+  -- after an input, on this way, with these frames
+  pub goes-on : (entry : Resumed) (request : Request) (waiting : Waiting) (way : Way) (frames : Frames) →
+      WaitsFor step_limit program codes coroutine arguments tape request waiting → way ≡ way_of entry.input →
+      frames ≡ after_input entry.input waiting.use_of (renewed_by step_limit entry waiting.frames) →
+      MovesFor step_limit program codes coroutine arguments (tape ++ entry ∷ []) way frames
+  goes-on entry request waiting way frames waits ways are =
+      subst (λ w. MovesFor step_limit program codes coroutine arguments (tape ++ entry ∷ []) w frames) (sym ways)
+      (subst (λ f. MovesFor step_limit program codes coroutine arguments (tape ++ entry ∷ []) (way_of entry.input) f) (sym are)
+      (input-moves step_limit program codes coroutine arguments tape request waiting entry waits))
+
+  -- what is said whatever comes after, is said
+  pub says-so : (saying : endings.Saying) → ComesTo step_limit program codes coroutine arguments tape (Says saying) →
+      says program coroutine arguments tape ≡ saying
+  says-so saying comes = ap (λ t. says program coroutine arguments t) (sym (append-nil tape)) ∙ comes []
+
+  pub asks-so : (request : Request) (waiting : Waiting) →
+      WaitsFor step_limit program codes coroutine arguments tape request waiting →
+      says program coroutine arguments tape ≡ endings.Asks request
+  asks-so request waiting waits = waits-says step_limit program codes coroutine arguments tape request waiting waits
+
+-- before any input
+pub starts : (program : Program) (codes : ℕ → Body) (coroutine : ℕ) (arguments : List Value) → AllLaidOut program codes →
+    (frame : plain.Frame) (callers : List Frame) → frame ≡ plain.new_frame codes None coroutine arguments → callers ≡ [] →
+    WaitsFor step_limit program codes coroutine arguments [] request.Pause
+    (record {
+      frames = record {
+        frame = frame;
+        callers = reverse (map plain_frame callers);
+        room = 63 - length callers;
+        left = step_limit;
+      };
+      use_of = Ignored;
+    })
+starts program codes coroutine arguments laid_out frame callers is none =
+    subst
+    (λ (f : plain.Frame).
+    WaitsFor step_limit program codes coroutine arguments [] request.Pause
+    (record {
+      frames = record {
+        frame = f;
+        callers = reverse (map plain_frame callers);
+        room = 63 - length callers;
+        left = step_limit;
+      };
+      use_of = Ignored;
+    }))
+    (sym is)
+    (subst
+    (λ (cs : List Frame).
+    WaitsFor step_limit program codes coroutine arguments [] request.Pause
+    (record {
+      frames = record {
+        frame = plain.new_frame codes None coroutine arguments;
+        callers = reverse (map plain_frame cs);
+        room = 63 - length cs;
+        left = step_limit;
+      };
+      use_of = Ignored;
+    }))
+    (sym none) (unbegun-waits step_limit program codes coroutine arguments laid_out))

@@ -1,0 +1,22 @@
+use Rattle.std.proofs.Common.{ℕ, List}
+use Rattle.model_value.specs.Value.{Value}
+use Rattle.model_tree.specs.Syntax.{Program}
+use Rattle.model_says.specs.Tape.{Tape}
+use Rattle.law_flat.specs.Nearer.{distance}
+use Rattle.law_flat.specs.Stands.{AllLaidOut}
+use Rattle.law_flat.specs.Tapes.{MovesFor}
+use Rattle.aio_flat.specs.Code.{codes_of}
+use Rattle.aio_gen.specs.Plain.{plain_frames}
+use Rattle.aio_gen.proofs.Running.{size_of}
+use Rattle.aio_gen.proofs.run.run.Given as goal
+
+-- the frames stand for each tape that they stood for
+abbrev pub invariant-loop-next : goal.invariant-loop-next
+invariant-loop-next l =
+    (limit : ℕ) (program : Program) (coroutine : ℕ) (arguments : List Value) (tape : Tape) →
+    AllLaidOut program (codes_of l.fn.code) →
+    MovesFor limit program (codes_of l.fn.code) coroutine arguments tape l.fn.entry (plain_frames l.fn.frames) →
+    MovesFor limit program (codes_of l.code) coroutine arguments tape l.way (plain_frames l.frames)
+
+abbrev pub decreases-loop-next : goal.decreases-loop-next
+decreases-loop-next l = distance (size_of l.code.bodies.items) (plain_frames l.frames)

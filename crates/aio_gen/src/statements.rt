@@ -1,0 +1,219 @@
+//! Statements that were counted, and the exit of a `with`.
+ghost use Rattle.std.specs.Prelude.{◌≡◌, ◌+◌, ◌<◌, ◌^◌, ℕ, IfOk};
+ghost use Rattle.law_flat.specs.declared.op.Op.TheVariants as flat;
+ghost use Rattle.law_flat.specs.Ops.{Body};
+ghost use Rattle.law_flat.specs.Moves.{by_test, raise_value, ask_exit, after_statement};
+ghost use Rattle.law_flat.specs.Rests.{fault_of};
+ghost use Rattle.model_says.specs.Operations.{bad_operand};
+ghost use Rattle.aio_gen.specs.Plain.{plain_frames, plain_move, exit_request};
+
+use crate::evaluate::{value_of, values_of};
+use crate::frames::Frames;
+use crate::types::{AnswerUse, Move, OpenHandler, Way};
+use aio_base::{Exc, Kind, Memory, Request, Value, ValueCase, exception};
+use aio_flat::Name;
+use aio_syntax::{Expr, ExprList};
+use std::alloc::Global;
+
+impl Frames {
+    pub fn assign(&mut self, alloc: Global, name: &Name, value: &Expr) -> Result<Move, Memory>
+        requires { self.old.frame.place + 1 < 2 ^ 64 }
+        ensures { IfOk result (λ moving. (codes : ℕ → Body) →
+            plain_move moving self.new ≡ after_statement codes (flat.Assign name.now value.now) (plain_frames self.old)) }
+    {
+        match value_of(alloc, value, &self.frame.env)? {
+            Ok(value) => {
+                self.frame.env.assign(name.as_str(), value);
+                self.frame.place += 1;
+                Ok(Move::Goes(Way::Passing))
+            }
+            Err(fault) => Ok(Move::Goes(Way::Raising(fault))),
+        }
+    }
+
+    pub fn print(&mut self, alloc: Global, items: &ExprList) -> Result<Move, Memory>
+        requires { self.old.frame.place + 1 < 2 ^ 64 }
+        ensures { IfOk result (λ moving. (codes : ℕ → Body) →
+            plain_move moving self.new ≡ after_statement codes (flat.Print items.now) (plain_frames self.old)) }
+    {
+        match values_of(alloc, items.items(), &self.frame.env)? {
+            Ok(values) => {
+                self.frame.place += 1;
+                Ok(Move::Asks(Request::Print(values), AnswerUse::Ignored))
+            }
+            Err(fault) => Ok(Move::Goes(Way::Raising(fault))),
+        }
+    }
+
+    pub fn raise(&mut self, alloc: Global, fault: &Expr) -> Result<Move, Memory>
+        ensures { IfOk result (λ moving. (codes : ℕ → Body) →
+            plain_move moving self.new ≡ after_statement codes (flat.Raise fault.now) (plain_frames self.old)) }
+    {
+        match value_of(alloc, fault, &self.frame.env)? {
+            Ok(value) => self.raise_value(alloc, &value),
+            Err(fault) => Ok(Move::Goes(Way::Raising(fault))),
+        }
+    }
+
+    /// An exception is raised, and in the place of any other value a bad operand.
+    fn raise_value(&self, alloc: Global, value: &Value) -> Result<Move, Memory>
+        ensures { IfOk result (λ moving. plain_move moving self.now ≡ raise_value value.now (plain_frames self.now)) }
+    {
+        match value.case() {
+            ValueCase::Exc(fault) => Ok(Move::Goes(Way::Raising(fault.clone()?))),
+            _ => Ok(Move::Goes(Way::Raising(bad_operand(alloc)?))),
+        }
+    }
+
+    pub fn return_value(&mut self, alloc: Global, value: &Option<Expr>) -> Result<Move, Memory>
+        ensures { IfOk result (λ moving. (codes : ℕ → Body) →
+            plain_move moving self.new ≡ after_statement codes (flat.Return value.now) (plain_frames self.old)) }
+    {
+        match value {
+            Some(value) => match value_of(alloc, value, &self.frame.env)? {
+                Ok(value) => Ok(Move::Goes(Way::Returning(value))),
+                Err(fault) => Ok(Move::Goes(Way::Raising(fault))),
+            },
+            None => Ok(Move::Goes(Way::Returning(Value::nothing()))),
+        }
+    }
+
+    pub fn test(&mut self, alloc: Global, test: &Expr, otherwise: usize) -> Result<Move, Memory>
+        requires { self.old.frame.place + 1 < 2 ^ 64 }
+        ensures { IfOk result (λ moving. (codes : ℕ → Body) →
+            plain_move moving self.new ≡ after_statement codes (flat.Test test.now otherwise) (plain_frames self.old)) }
+    {
+        match value_of(alloc, test, &self.frame.env)? {
+            Ok(value) => self.by_test(alloc, self.frame.place + 1, otherwise, &value),
+            Err(fault) => Ok(Move::Goes(Way::Raising(fault))),
+        }
+    }
+
+    pub fn repeat(&mut self, alloc: Global, test: &Expr, body: usize) -> Result<Move, Memory>
+        requires { self.old.frame.place + 1 < 2 ^ 64 }
+        ensures { IfOk result (λ moving. (codes : ℕ → Body) →
+            plain_move moving self.new ≡ after_statement codes (flat.Repeat test.now body) (plain_frames self.old)) }
+    {
+        match value_of(alloc, test, &self.frame.env)? {
+            Ok(value) => self.by_test(alloc, body, self.frame.place + 1, &value),
+            Err(fault) => Ok(Move::Goes(Way::Raising(fault))),
+        }
+    }
+
+    /// To one place where a value is True, and to the other where it is False.
+    fn by_test(
+        &mut self,
+        alloc: Global,
+        on: usize,
+        off: usize,
+        value: &Value,
+    ) -> Result<Move, Memory>
+        ensures { IfOk result (λ moving. plain_move moving self.new ≡ by_test on off value.now (plain_frames self.old)) }
+    {
+        match value.case() {
+            ValueCase::Bool(true) => {
+                self.frame.place = on;
+                Ok(Move::Goes(Way::Passing))
+            }
+            ValueCase::Bool(false) => {
+                self.frame.place = off;
+                Ok(Move::Goes(Way::Passing))
+            }
+            _ => Ok(Move::Goes(Way::Raising(bad_operand(alloc)?))),
+        }
+    }
+
+    pub fn guard(&mut self, number: usize) -> Result<Move, Memory>
+        requires { self.old.frame.place + 1 < 2 ^ 64 }
+        ensures { IfOk result (λ moving. (codes : ℕ → Body) →
+            plain_move moving self.new ≡ after_statement codes (flat.Guard number) (plain_frames self.old)) }
+    {
+        self.frame.handlers.push(OpenHandler::InTry(number))?;
+        self.frame.place += 1;
+        Ok(Move::Goes(Way::Passing))
+    }
+
+    pub fn enter_group(&mut self, name: &Name, range: usize) -> Result<Move, Memory>
+        requires { self.old.frame.place + 1 < 2 ^ 64 }
+        ensures { IfOk result (λ moving. (codes : ℕ → Body) →
+            plain_move moving self.new ≡ after_statement codes (flat.EnterGroup name.now range) (plain_frames self.old)) }
+    {
+        let name = name.clone()?;
+        self.frame.place += 1;
+        Ok(Move::Asks(Request::GroupEnter, AnswerUse::Entered { name, range }))
+    }
+
+    pub fn enter_timeout(
+        &mut self,
+        alloc: Global,
+        delay: &Expr,
+        name: &Name,
+        range: usize,
+    ) -> Result<Move, Memory>
+        requires { self.old.frame.place + 1 < 2 ^ 64 }
+        ensures { IfOk result (λ moving. (codes : ℕ → Body) → plain_move moving self.new
+            ≡ after_statement codes (flat.EnterTimeout delay.now name.now range) (plain_frames self.old)) }
+    {
+        match value_of(alloc, delay, &self.frame.env)? {
+            Ok(delay) => {
+                let name = name.clone()?;
+                self.frame.place += 1;
+                Ok(Move::Asks(
+                    Request::TimeoutEnter(delay),
+                    AnswerUse::Entered { name, range },
+                ))
+            }
+            Err(fault) => Ok(Move::Goes(Way::Raising(fault))),
+        }
+    }
+
+    /// The request of an exit, after which the way out is taken as after a `finally`.
+    pub fn ask_exit(&mut self, of_group: bool) -> Result<Move, Memory>
+        requires { self.old.frame.place + 1 < 2 ^ 64 }
+        ensures { IfOk result (λ moving. plain_move moving self.new
+            ≡ ask_exit (exit_request of_group) (plain_frames self.old).frame.handlers (plain_frames self.old)) }
+    {
+        match self.frame.handlers.pop() {
+            Some(OpenHandler::AtExit(entered, way)) => {
+                let request = exit_request(of_group, entered, &way)?;
+                self.frame.handlers.push(OpenHandler::InFinally(way))?;
+                self.frame.place += 1;
+                Ok(Move::Asks(request, AnswerUse::Ignored))
+            }
+            _ => Ok(Move::Runaway),
+        }
+    }
+}
+
+/// The request of an exit, with the exception that leaves the body.
+fn exit_request(of_group: bool, entered: Value, way: &Way) -> Result<Request, Memory>
+    ensures { IfOk result (λ request. request ≡ exit_request of_group entered (fault_of way.now)) }
+{
+    let fault = fault_of(way)?;
+    if of_group {
+        Ok(Request::GroupExit {
+            group: entered,
+            fault,
+        })
+    } else {
+        Ok(Request::TimeoutExit {
+            timeout: entered,
+            fault,
+        })
+    }
+}
+
+fn fault_of(way: &Way) -> Result<Option<Exc>, Memory>
+    ensures { IfOk result (λ fault. fault ≡ fault_of way.now) }
+{
+    match way {
+        Way::Raising(fault) => Ok(Some(fault.clone()?)),
+        Way::Passing | Way::Returning(_) => Ok(None),
+    }
+}
+
+fn bad_operand(alloc: Global) -> Result<Exc, Memory>
+    ensures { IfOk result (λ exc. exc ≡ bad_operand) }
+{
+    exception(alloc, Kind::TypeError, "bad operand")
+}

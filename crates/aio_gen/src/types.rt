@@ -1,0 +1,31 @@
+//! Ways out, open handlers and moves, over the values of the code.
+use aio_base::{Exc, Request, Value};
+use aio_flat::Name;
+
+/// A way out of statements.
+pub type Way = law_flat::Way<Value, Exc>;
+
+/// A `try` or a `with` that is open.
+pub type OpenHandler = law_flat::OpenHandler<Value, Exc>;
+
+/// What the answer of a request is to the operation that asked it.
+pub type AnswerUse = law_flat::AnswerUse<Name>;
+
+/// What a move comes to.
+#[derive(Drop)]
+pub enum Move {
+    Goes(Way),
+    Asks(Request, AnswerUse),
+    Returns(Value),
+    Raises(Exc),
+    Runaway,
+}
+
+/// What moves come to in the end.
+#[derive(Drop)]
+pub enum Stop {
+    Asks(Request, AnswerUse),
+    Returns(Value),
+    Raises(Exc),
+    Runaway,
+}
