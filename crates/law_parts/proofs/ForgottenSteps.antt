@@ -1,24 +1,23 @@
 -- Forgetting released futures commutes with the steps of tasks.
-use Rattle.std.proofs.Common.{◌≡◌, ℕ, zero, suc, ◌+◌, Bool, true, false, ◌||◌, cond, List, [], ◌∷◌, ◌++◌, Option, Some, None, length, slice_get, slice_set, refl, ap, sym, ◌∙◌, arith, if◌then◌else◌, Result, Ok, Err}
+use Rattle.std.proofs.Common.{◌≡◌, ℕ, zero, suc, ◌+◌, Bool, true, false, ◌||◌, cond, List, [], ◌∷◌, ◌++◌, Option, Some, None, length, slice_get, refl, ap, sym, ◌∙◌, arith, if◌then◌else◌, Result, Ok, Err}
 use Rattle.std.specs.Prelude.{◌==◌}
 use Rattle.std.specs.List.{list_any}
 use Rattle.std.specs.Option.{option_map, option_map_or}
 use Rattle.model_value.specs.Action.{Action, Circle}
-use Rattle.model_value.specs.declared.action.Action.TheVariants.{Step, StepInCircle, Wakeup}
+use Rattle.model_value.specs.declared.action.Action.TheVariants.{Wakeup}
 use Rattle.model_value.specs.declared.outcome.Outcome.TheVariants.{Cancelled, Value as Returned, Failed}
 use Rattle.model_value.specs.Value.{Outcome, Value, Exc}
 use Rattle.model_loop.specs.Parts.{FutureKind, Plain, OfTask, Many, Future, Task, Parts}
 use Rattle.model_loop.specs.Handles.{soon}
-use Rattle.model_loop.specs.Futures.{with_future, settle, register, registered, registered_on, make_future, next_future}
+use Rattle.model_loop.specs.Futures.{settle, register, registered, registered_on, make_future, next_future}
 use Rattle.model_loop.specs.Tasks.{change_task, spawn, next_task, future_of, set_waiter, unmark, is_marked, is_cancelled, finish}
 use Rattle.model_loop.specs.Cancel.{cancel}
 use Rattle.model_loop.specs.Circles.{passes, passes_at, passes_until, leads_within, leads, circle}
 use Rattle.model_loop.specs.Suspend.{wait_on, cancel_wait, suspend_unless, suspend}
-use Rattle.model_loop.specs.Ledger.{Booked}
 use Rattle.law_cancel.proofs.Lookups.{get-set_kept}
 use Rattle.law_cancel.proofs.Effects.{change_task-futures}
-use Rattle.law_parts.specs.Quiet.{stage_of, stage, stage_at}
-use Rattle.law_parts.specs.Forgotten.{released, forget_from, forgotten, forgotten_of, AreDone}
+use Rattle.law_parts.specs.Quiet.{stage_of, stage}
+use Rattle.law_parts.specs.Forgotten.{released, forget_from, forgotten, AreDone}
 use Rattle.law_parts.proofs.ForgottenLemmas.{forgotten_at, with-kept, change-forget, settle-forget, cancel-forget}
 
 module _ (gone : ℕ → Bool) where
@@ -68,8 +67,10 @@ module _ (gone : ℕ → Bool) where
 
   pub spawn-forget : (p : Parts) → gone (next_future p) ≡ false → spawn (forgotten gone p) ≡ forgotten gone (spawn p)
   spawn-forget p g =
-      rw (push-forget 0 p.futures (record { kind = OfTask (next_task p); outcome = None; callbacks = [] }) (next_kept p g),
-        length-forget 0 p.futures) refl
+      rw (
+        push-forget 0 p.futures (record { kind = OfTask (next_task p); outcome = None; callbacks = [] }) (next_kept p g),
+        length-forget 0 p.futures,
+      ) refl
 
   future_of-forget : (p : Parts) (task : ℕ) → future_of (forgotten gone p) task ≡ future_of p task
   future_of-forget p task =
@@ -106,8 +107,8 @@ module _ (gone : ℕ → Bool) where
   leads_within-forget p done (suc count) from to =
       ap (list_any (λ next. (next == to) || leads_within count (forgotten gone p) next to)) (passes-forget p done from)
       ∙ any_same (λ next. (next == to) || leads_within count (forgotten gone p) next to)
-        (λ next. (next == to) || leads_within count p next to)
-        (λ next. ap (λ b. (next == to) || b) (leads_within-forget p done count next to)) (passes p from)
+      (λ next. (next == to) || leads_within count p next to)
+      (λ next. ap (λ b. (next == to) || b) (leads_within-forget p done count next to)) (passes p from)
 
   leads-forget : (p : Parts) → AreDone gone p → (from to : ℕ) → leads (forgotten gone p) from to ≡ leads p from to
   leads-forget p done from to =
@@ -118,7 +119,7 @@ module _ (gone : ℕ → Bool) where
   circle-forget p done task on =
       let e = future_of-forget p task in
       let l : leads (forgotten gone p) on (future_of (forgotten gone p) task) ≡ leads p on (future_of p task) =
-              ap (leads (forgotten gone p) on) e ∙ leads-forget p done on (future_of p task) in
+      ap (leads (forgotten gone p) on) e ∙ leads-forget p done on (future_of p task) in
       rw (l, e) refl
 
   -- ---- the released stay done
@@ -162,8 +163,9 @@ module _ (gone : ℕ → Bool) where
       waited : (b : Bool)
           → cancel_wait b task on (forgotten gone (wait_on task on p))
           ≡ record {
-              parts = forgotten gone (cancel_wait b task on (wait_on task on p)).parts;
-              entries = (cancel_wait b task on (wait_on task on p)).entries }
+            parts = forgotten gone (cancel_wait b task on (wait_on task on p)).parts;
+            entries = (cancel_wait b task on (wait_on task on p)).entries;
+          }
       waited false = refl
       waited true =
           let r = cancel on (wait_on task on p) in
@@ -172,8 +174,9 @@ module _ (gone : ℕ → Bool) where
       go : (c : Option Circle)
           → suspend_unless c task on (forgotten gone p)
           ≡ record {
-              parts = forgotten gone (suspend_unless c task on p).parts;
-              entries = (suspend_unless c task on p).entries }
+            parts = forgotten gone (suspend_unless c task on p).parts;
+            entries = (suspend_unless c task on p).entries;
+          }
       go (Some c) = refl
       go None = ap (cancel_wait (is_marked p task) task on) (wait-forget task on p done) ∙ waited (is_marked p task)
 

@@ -1,5 +1,5 @@
 -- A request goes on within its room.
-use Rattle.std.proofs.Common.{◌≡◌, ℕ, suc, ◌+◌, ◌<◌, ◌≤◌, Bool, true, false, List, [], ◌∷◌, ◌++◌, Option, Some, None, length, map, reverse, slice_get, refl, ap, sym, ◌∙◌, arith, if◌then◌else◌}
+use Rattle.std.proofs.Common.{◌≡◌, ℕ, ◌<◌, ◌≤◌, Bool, true, false, List, [], ◌∷◌, ◌++◌, Option, Some, None, length, map, reverse, slice_get, refl, ap, sym, ◌∙◌, arith, if◌then◌else◌}
 use Rattle.std.specs.Option.{option_map}
 use Rattle.std.proofs.lemmas.List.{reverse-append, length-reverse}
 use Rattle.model_value.specs.Value.{Outcome}
@@ -17,9 +17,8 @@ use Rattle.law_parts.specs.declared.walk.Frame.{Frame}
 use Rattle.law_parts.specs.declared.walk.Frame.TheVariants.{Waits, Members}
 use Rattle.law_parts.specs.declared.walk.Go.{Go}
 use Rattle.law_parts.specs.declared.walk.Go.TheVariants.{Visit, Next, Answer}
-use Rattle.law_parts.specs.declared.walk.Stands.{Stands}
 use Rattle.law_parts.specs.declared.walk.Stands.TheVariants as stands
-use Rattle.law_parts.specs.Open.{is_inner, others, room_of, passing, passing_at, AllLead, id_of, frame_stands, OpenDown, Open, LeadTo, Walks, CanWalk}
+use Rattle.law_parts.specs.Open.{room_of, passing, passing_at, AllLead, id_of, frame_stands, OpenDown, CanWalk}
 use Rattle.law_parts.proofs.OpenLemmas.{down_count, lead_on, goes-passing, pass_waiter, pass_member}
 
 push-reverse : (frames : List Frame) (frame : Frame) → reverse (frames ++ frame ∷ []) ≡ frame ∷ reverse frames
@@ -85,7 +84,7 @@ plain_there {X} p id h use_it = at (slice_get p.futures id) refl h
 
 many_there : {X : Type 0} (p : Parts) (id : ℕ) → passing_at p id ≡ stands.Many
     → ((future : Future) (members : List ℕ) (asked : Bool) → slice_get p.futures id ≡ Some future → future.outcome ≡ None
-      → future.kind ≡ Many members asked → X) → X
+    → future.kind ≡ Many members asked → X) → X
 many_there {X} p id h use_it = at (slice_get p.futures id) refl h
   where
     until : (future : Future) → slice_get p.futures id ≡ Some future → (o : Option Outcome) (k : FutureKind) → future.outcome ≡ o
@@ -105,21 +104,23 @@ pub walk_settles : (room marks id : ℕ) (frames : List Frame) (s : List ℕ) (p
 walk_settles room marks id frames s p q answer c h e =
     rw e
     (plain_there p id h (λ future there pending kind.
-      answers_after room marks (Visit id) frames s s p (settle id Cancelled p) answer c (settles (c.1.row) id future there pending kind)))
+    answers_after room marks (Visit id) frames s s p (settle id Cancelled p) answer c (settles (c.1.row) id future there pending kind)))
 
 pub walk_opens : (room marks id : ℕ) (frames : List Frame) (s : List ℕ) (p : Parts) (any : Bool)
     → CanWalk room marks (Visit id) frames s p → stands.Many ≡ stands_at (slice_get p.futures id)
     → CanWalk room marks (Next id 0 any) frames s p
 walk_opens room marks id frames s p any c h =
-    let w = c.1 in
-    (c.0, record {
-      no_circle = w.no_circle;
-      row = w.row;
-      chain = w.chain;
-      leads = (w.leads, sym (goes-passing w.row id) ∙ sym (ap passing h));
-      fits = w.fits;
-      marked = w.marked;
-    })
+    let w = c.1 in (
+      c.0,
+      record {
+        no_circle = w.no_circle;
+        row = w.row;
+        chain = w.chain;
+        leads = (w.leads, sym (goes-passing w.row id) ∙ sym (ap passing h));
+        fits = w.fits;
+        marked = w.marked;
+      },
+    )
 
 -- a frame more, and what its future passes to
 pushed : (room marks next : ℕ) (go : Go) (frames : List Frame) (frame : Frame) (s t : List ℕ) (p q : Parts)
@@ -127,15 +128,17 @@ pushed : (room marks next : ℕ) (go : Go) (frames : List Frame) (frame : Frame)
     → passing_at c.0 (id_of frame) ≡ frame_stands frame → PassesTo c.0 (id_of frame) next → Goes [] c.0 t q
     → CanWalk room marks (Visit next) (frames ++ frame ∷ []) t q
 pushed room marks next go frames frame s t p q c lead st pass row =
-    let w = c.1 in
-    (c.0, record {
-      no_circle = w.no_circle;
-      row = row;
-      chain = rw (push-reverse frames frame) (w.chain, lead, st);
-      leads = rw (push-reverse frames frame) (lead_on c.0 (map id_of (reverse frames)) (id_of frame) next lead pass);
-      fits = w.fits;
-      marked = w.marked;
-    })
+    let w = c.1 in (
+      c.0,
+      record {
+        no_circle = w.no_circle;
+        row = row;
+        chain = rw (push-reverse frames frame) (w.chain, lead, st);
+        leads = rw (push-reverse frames frame) (lead_on c.0 (map id_of (reverse frames)) (id_of frame) next lead pass);
+        fits = w.fits;
+        marked = w.marked;
+      },
+    )
 
 task_there : {X : Type 0} (p : Parts) (task : ℕ) (waiter : Option ℕ) → Some waiter ≡ option_map (λ (it : Task). it.waiter) (slice_get p.tasks task)
     → ((it : Task) → slice_get p.tasks task ≡ Some it → X) → X
@@ -153,9 +156,9 @@ pub walk_waits : (room marks id task next : ℕ) (frames after : List Frame) (s 
 walk_waits room marks id task next frames after s t p q waiter c st unseen h is a e f =
     rw (a, e, f)
     (task_there p task waiter h (λ it there.
-      pushed room marks next (Visit id) frames (Waits id task) s (s ++ task ∷ []) p (raise_count task p) c c.1.leads
-      (sym (goes-passing c.1.row id) ∙ sym (ap passing st)) (pass_waiter c.1.row id task next waiter st h is)
-      (raises c.1.row task it unseen there)))
+    pushed room marks next (Visit id) frames (Waits id task) s (s ++ task ∷ []) p (raise_count task p) c c.1.leads
+    (sym (goes-passing c.1.row id) ∙ sym (ap passing st)) (pass_waiter c.1.row id task next waiter st h is)
+    (raises c.1.row task it unseen there)))
 
 pub walk_marks : (room marks id task : ℕ) (frames : List Frame) (s t : List ℕ) (p q r : Parts) (waiter : Option ℕ) (answer : Bool)
     → CanWalk room marks (Visit id) frames s p → has_seen s task ≡ false
@@ -165,8 +168,8 @@ pub walk_marks : (room marks id task : ℕ) (frames : List Frame) (s t : List �
 walk_marks room task_marks id task frames s t p q r waiter answer c unseen h e f g =
     rw (g, f, e)
     (task_there p task waiter h (λ it there.
-      answers_after room task_marks (Visit id) frames s (s ++ task ∷ []) p (mark task (raise_count task p)) answer c
-      (marking (raises c.1.row task it unseen there) task)))
+    answers_after room task_marks (Visit id) frames s (s ++ task ∷ []) p (mark task (raise_count task p)) answer c
+    (marking (raises c.1.row task it unseen there) task)))
 
 pub walk_member : (room marks id place next member : ℕ) (any : Bool) (frames after : List Frame) (s : List ℕ) (p : Parts)
     → CanWalk room marks (Next id place any) frames s p → Some member ≡ slice_get (members_at (slice_get p.futures id)) place
@@ -175,7 +178,7 @@ pub walk_member : (room marks id place next member : ℕ) (any : Bool) (frames a
 walk_member room marks id place next member any frames after s p c h l a =
     rw a
     (pushed room marks member (Next id place any) frames (Members id next any) s s p p c c.1.leads.0 c.1.leads.1
-      (pass_member c.1.row id member place c.1.leads.1 h l) c.1.row)
+    (pass_member c.1.row id member place c.1.leads.1 h l) c.1.row)
 
 pub walk_skips : (room marks id place next : ℕ) (any : Bool) (frames : List Frame) (s : List ℕ) (p : Parts)
     → CanWalk room marks (Next id place any) frames s p → CanWalk room marks (Next id next any) frames s p
@@ -190,8 +193,8 @@ walk_ends room marks id place false answer frames s p q c e = rw e (walk_answers
 walk_ends room marks id place true answer frames s p q c e =
     rw e
     (many_there p id (goes-passing c.1.row id ∙ c.1.leads.1) (λ future members asked there pending kind.
-      answers_after room marks (Next id place true) frames s s p (mark_asked id p) answer c
-      (asks c.1.row id future members asked there pending kind)))
+    answers_after room marks (Next id place true) frames s s p (mark_asked id p) answer c
+    (asks c.1.row id future members asked there pending kind)))
 
 -- the answer comes back to a task
 pub walk_back : (room marks id task : ℕ) (answer : Bool) (last : Bool) (frames : List Frame) (s : List ℕ) (p q : Parts)
@@ -200,9 +203,17 @@ pub walk_back : (room marks id task : ℕ) (answer : Bool) (last : Bool) (frames
 walk_back room task_marks id task answer last frames s p q c e =
     let w = c.1 in
     let chain : OpenDown c.0 (Waits id task ∷ reverse frames) = rw (push-reverse frames (Waits id task)) at w.chain in
-    rw e
-    (c.0, record {
-      no_circle = w.no_circle; row = go last; chain = chain.0; leads = tt; fits = w.fits; marked = w.marked })
+    rw e (
+      c.0,
+      record {
+        no_circle = w.no_circle;
+        row = go last;
+        chain = chain.0;
+        leads = tt;
+        fits = w.fits;
+        marked = w.marked;
+      },
+    )
   where
     go : (b : Bool) → Goes [] c.0 s (if b then p else mark task p)
     go true = c.1.row
@@ -214,6 +225,14 @@ pub walk_back_on : (room marks id place : ℕ) (any more last : Bool) (frames : 
     → CanWalk room marks (Next id place more) frames s p
 walk_back_on room marks id place any more last frames s p c =
     let w = c.1 in
-    let chain : OpenDown c.0 (Members id place any ∷ reverse frames) = rw (push-reverse frames (Members id place any)) at w.chain in
-    (c.0, record {
-      no_circle = w.no_circle; row = w.row; chain = chain.0; leads = (chain.1, chain.2); fits = w.fits; marked = w.marked })
+    let chain : OpenDown c.0 (Members id place any ∷ reverse frames) = rw (push-reverse frames (Members id place any)) at w.chain in (
+      c.0,
+      record {
+        no_circle = w.no_circle;
+        row = w.row;
+        chain = chain.0;
+        leads = (chain.1, chain.2);
+        fits = w.fits;
+        marked = w.marked;
+      },
+    )

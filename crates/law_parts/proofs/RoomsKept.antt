@@ -9,13 +9,12 @@ use Rattle.model_value.specs.Value.{Outcome}
 use Rattle.model_loop.specs.Parts.{FutureKind, Plain, OfTask, Many, Future, Task, Parts}
 use Rattle.model_loop.specs.Futures.{with_future, settle, settled, settled_as, register, registered, registered_on, mark_asked, make_future, asked_kind}
 use Rattle.model_loop.specs.Tasks.{change_task}
-use Rattle.model_loop.specs.Cancel.{cancel, has_seen}
-use Rattle.model_loop.specs.Handles.{soon}
-use Rattle.law_cancel.proofs.Lookups.{get-set_kept, get-set_same, get-set_other, get_within, get-push_last, get-push_other}
+use Rattle.model_loop.specs.Cancel.{cancel}
+use Rattle.law_cancel.proofs.Lookups.{get-set_kept, get-set_other, get-push_last, get-push_other}
 use Rattle.law_cancel.proofs.Effects.{soon_all-futures, done_as, asked_as, change_task-futures}
 use Rattle.law_cancel.proofs.Trace.{Goes, begins, settles, asks, raises, marks, with_row}
 use Rattle.law_parts.specs.Forgotten.{released}
-use Rattle.law_parts.specs.Open.{is_inner_kind, is_inner_at, is_inner, others, room_of}
+use Rattle.law_parts.specs.Open.{is_inner_kind, is_inner_at, others, room_of}
 
 others-same : (f g : ℕ → Bool) (n : ℕ) → ((j : ℕ) → j < n → f j ≡ g j) → others f n [] ≡ others g n []
 others-same f g zero h = refl
@@ -31,7 +30,6 @@ others-fewer f g (suc n) h = let ih = others-fewer f g n h in let a = go (f n) (
     go false b i = elim b as (λ x. 0 ≤ cond x 1 0) [ true ↦ omega arith | false ↦ omega arith ]
     go true b i = rw (i refl) (omega arith)
 
-
 -- a future that stays of its kind
 room_set : (fs : List Future) (id : ℕ) (old new : Future) → slice_get fs id ≡ Some old → is_inner_kind new.kind ≡ is_inner_kind old.kind
     → others (λ j. is_inner_at (slice_get (slice_set fs id new) j)) (length (slice_set fs id new)) []
@@ -39,8 +37,7 @@ room_set : (fs : List Future) (id : ℕ) (old new : Future) → slice_get fs id 
 room_set fs id old new e k =
     ap (λ n. others (λ j. is_inner_at (slice_get (slice_set fs id new) j)) n []) (length-set fs id new)
     ∙ others-same (λ j. is_inner_at (slice_get (slice_set fs id new) j)) (λ j. is_inner_at (slice_get fs j)) (length fs)
-      (λ j l. get-set_kept is_inner_at fs id j old new e k)
-
+    (λ j l. get-set_kept is_inner_at fs id j old new e k)
 
 pub settle-room : (id : ℕ) (outcome : Outcome) (p : Parts) → room_of (settle id outcome p) ≡ room_of p
 settle-room id outcome p = at (slice_get p.futures id) refl
@@ -50,7 +47,7 @@ settle-room id outcome p = at (slice_get p.futures id) refl
     until future e (Some done) = refl
     until future e None =
         ap (λ (fs : List Future). others (λ j. is_inner_at (slice_get fs j)) (length fs) [])
-          (soon_all-futures future.callbacks (with_future id (done_as outcome future) p))
+        (soon_all-futures future.callbacks (with_future id (done_as outcome future) p))
         ∙ room_set p.futures id future (done_as outcome future) e refl
 
     at : (o : Option Future) → slice_get p.futures id ≡ o → room_of (settled o id outcome p) ≡ room_of p
@@ -104,8 +101,8 @@ make-room kind p =
     let fs = p.futures in
     let l : length (fs ++ new ∷ []) ≡ suc (length fs) = length-append fs (new ∷ []) ∙ omega arith in
     let same : others (λ j. is_inner_at (slice_get (fs ++ new ∷ []) j)) (length fs) [] ≡ others (λ j. is_inner_at (slice_get fs j)) (length fs) [] =
-            others-same (λ j. is_inner_at (slice_get (fs ++ new ∷ []) j)) (λ j. is_inner_at (slice_get fs j)) (length fs)
-            (λ j b. ap is_inner_at (get-push_other fs new j (omega arith))) in
+    others-same (λ j. is_inner_at (slice_get (fs ++ new ∷ []) j)) (λ j. is_inner_at (slice_get fs j)) (length fs)
+    (λ j b. ap is_inner_at (get-push_other fs new j (omega arith))) in
     let last : is_inner_at (slice_get (fs ++ new ∷ []) (length fs)) ≡ is_inner_kind kind = ap is_inner_at (get-push_last fs new) in
     rw l (rw (last, same) (omega arith))
 
@@ -113,7 +110,7 @@ make-room kind p =
 pub release-room : (id : ℕ) (p : Parts) → room_of (with_future id released p) ≤ room_of p
 release-room id p =
     let a = others-fewer (λ j. is_inner_at (slice_get (slice_set p.futures id released) j)) (λ j. is_inner_at (slice_get p.futures j))
-            (length p.futures) (λ j h. go j (cases_eq id j) h) in
+    (length p.futures) (λ j h. go j (cases_eq id j) h) in
     rw (length-set p.futures id released) a
   where
     past : (fs : List Future) (i : ℕ) → is_inner_at (slice_get (slice_set fs i released) i) ≡ false

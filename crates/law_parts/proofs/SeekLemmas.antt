@@ -1,9 +1,9 @@
 -- A search for a circle finds exactly what leads there.
-use Rattle.std.proofs.Common.{◌≡◌, ◌≢◌, ℕ, zero, suc, ◌+◌, ◌<◌, ◌≤◌, ◌⊎◌, Bool, true, false, ◌||◌, List, [], ◌∷◌, ◌++◌, Option, Some, None, drop, length, slice_get, nat_lt, refl, ap, sym, ◌∙◌, subst, arith, inl, inr}
+use Rattle.std.proofs.Common.{◌≡◌, ◌≢◌, ℕ, zero, suc, ◌+◌, ◌<◌, ◌≤◌, ◌⊎◌, Bool, true, false, ◌||◌, List, [], ◌∷◌, ◌++◌, Option, Some, None, drop, slice_get, refl, ap, sym, ◌∙◌, subst, arith, inl, inr}
 use Rattle.std.specs.Prelude.{◌==◌}
 use Rattle.std.specs.List.{list_any}
 use Rattle.std.specs.Option.{option_map, option_map_or, option_to_list}
-use Rattle.std.proofs.lemmas.Bool.{cases_eq, eq-eqb, eqb-true, ne_eqb, lt-ltb, le-ltb}
+use Rattle.std.proofs.lemmas.Bool.{eq-eqb, eqb-true, lt-ltb, le-ltb}
 use Rattle.model_value.specs.Value.{Outcome}
 use Rattle.model_loop.specs.Parts.{FutureKind, Plain, OfTask, Many, Future, Task, Parts}
 use Rattle.model_loop.specs.Futures.{made_before}
@@ -13,17 +13,15 @@ use Rattle.model_loop.specs.Circles.{PassesTo, Leads, at_once, through, passes, 
 use Rattle.law_cancel.proofs.Seen.{has_seen-append, has_seen_last, has_seen_other}
 use Rattle.law_cancel.proofs.Reach.{leads_decides}
 use Rattle.law_parts.specs.Shape.{stands_of, stands_at, members_at}
-use Rattle.law_parts.specs.Walk.{rest_of}
 use Rattle.law_parts.specs.Quiet.{OnlyAdds}
 use Rattle.law_parts.specs.Open.{passing, passing_at, CanWalk}
 use Rattle.law_parts.specs.declared.walk.Frame.{Frame}
 use Rattle.law_parts.specs.declared.walk.Frame.TheVariants.{Waits, Members}
 use Rattle.law_parts.specs.declared.walk.Go.{Go}
 use Rattle.law_parts.specs.declared.walk.Go.TheVariants.{Visit, Next, Answer}
-use Rattle.law_parts.specs.declared.walk.Stands.{Stands}
 use Rattle.law_parts.specs.declared.walk.Stands.TheVariants as stands
 use Rattle.law_parts.specs.Seek.{in_rest, in_go, in_frame, in_frames, Pending, Seeks, CanSeek}
-use Rattle.law_parts.proofs.SearchLemmas.{leads_on, seen_split}
+use Rattle.law_parts.proofs.Leading.{leads_on, seen_split}
 use Rattle.law_parts.proofs.OpenLemmas.{pass_waiter, passes-task, passes-many}
 
 any_push : {X : Type 0} (f : X → Bool) (xs : List X) (y : X) → list_any f (xs ++ y ∷ []) ≡ (list_any f xs || f y)
@@ -69,17 +67,20 @@ module _ (p : Parts) (from to id : ℕ) (seen after_seen : List ℕ) (noted afte
   looked : ((x : ℕ) → in_go p x go ≡ true → PassesTo p id x)
       → ((next : ℕ) → PassesTo p id next → (has_seen (visited ++ id ∷ []) next ≡ true) ⊎ Pending p go frames next)
       → ((task : ℕ) → has_seen after_seen task ≡ true
-        → (x : ℕ) × (has_seen (visited ++ id ∷ []) x ≡ true) × (passing_at p x ≡ stands.OfTask task))
+      → (x : ℕ) × (has_seen (visited ++ id ∷ []) x ≡ true) × (passing_at p x ≡ stands.OfTask task))
       → ((i : ℕ) (again : Bool) → after_noted i ≡ Some again → has_seen (visited ++ id ∷ []) i ≡ true)
       → CanSeek p from to after_seen after_noted go frames
-  looked onward covered tasks notes = (visited ++ id ∷ [], record {
-    led = λ x h. led x h;
-    covers = reached from c.covers;
-    other = has_seen_other visited id to (λ e. ne (sym e)) ∙ c.other;
-    closed = λ x next h pass. closed x next (seen_split visited id x h) pass;
-    tasks = tasks;
-    notes = notes;
-  })
+  looked onward covered tasks notes = (
+    visited ++ id ∷ [],
+    record {
+      led = λ x h. led x h;
+      covers = reached from c.covers;
+      other = has_seen_other visited id to (λ e. ne (sym e)) ∙ c.other;
+      closed = λ x next h pass. closed x next (seen_split visited id x h) pass;
+      tasks = tasks;
+      notes = notes;
+    },
+  )
     where
       from_here : (x : ℕ) → PassesTo p id x → (id ≡ from) ⊎ Leads p from id → (x ≡ from) ⊎ Leads p from x
       from_here x pass (inl e) = inr (at_once (subst (λ y. PassesTo p y x) e pass))
@@ -135,8 +136,8 @@ again p from to id x seen noted answer frames c ne h e =
     looked p from to id seen seen noted noted (Answer answer) frames c.0 c.1 ne
     (λ y g. absurd (clash false g refl))
     (λ next pass.
-      reached p from to id seen seen noted noted (Answer answer) frames c.0 c.1 ne next
-      (c.1.closed x next h (rw e at pass)))
+    reached p from to id seen seen noted noted (Answer answer) frames c.0 c.1 ne next
+    (c.1.closed x next h (rw e at pass)))
     (old_tasks p from to id seen seen noted noted (Answer answer) frames c.0 c.1 ne)
     (old_notes p from to id seen seen noted noted (Answer answer) frames c.0 c.1 ne)
 
@@ -182,10 +183,10 @@ module _ (p : Parts) (from to id task : ℕ) (seen : List ℕ) (noted : ℕ → 
   seek_waiter w waiter after h e a =
       rw a
       (looked p from to id seen (seen ++ task ∷ []) noted noted (Visit w) frames c.0 c.1 ne
-        (λ x g. subst (λ y. PassesTo p id y) (eqb-true w x g) there)
-        (λ next pass. inr (inl (there_alone next pass)))
-        (λ t m. tasks t (seen_split seen task t m))
-        (old_notes p from to id seen (seen ++ task ∷ []) noted noted (Visit w) frames c.0 c.1 ne))
+      (λ x g. subst (λ y. PassesTo p id y) (eqb-true w x g) there)
+      (λ next pass. inr (inl (there_alone next pass)))
+      (λ t m. tasks t (seen_split seen task t m))
+      (old_notes p from to id seen (seen ++ task ∷ []) noted noted (Visit w) frames c.0 c.1 ne))
     where
       alone : passes p id ≡ w ∷ []
       alone = passes_on ∙ ap option_to_list (waiter_is p task waiter h ∙ e)
@@ -232,14 +233,17 @@ seek_opens p from to id seen noted after any put frames c ne st adds =
 regroup : (p : Parts) (from to : ℕ) (seen : List ℕ) (noted : ℕ → Option Bool) (go after : Go) (frames frames' : List Frame)
     → ((x : ℕ) → Pending p after frames' x → Pending p go frames x) → ((x : ℕ) → Pending p go frames x → Pending p after frames' x)
     → CanSeek p from to seen noted go frames → CanSeek p from to seen noted after frames'
-regroup p from to seen noted go after frames frames' back on c = (c.0, record {
-  led = λ x h. c.1.led x (back x h);
-  covers = right c.1.covers (on from);
-  other = c.1.other;
-  closed = λ x next h pass. right (c.1.closed x next h pass) (on next);
-  tasks = c.1.tasks;
-  notes = c.1.notes;
-})
+regroup p from to seen noted go after frames frames' back on c = (
+  c.0,
+  record {
+    led = λ x h. c.1.led x (back x h);
+    covers = right c.1.covers (on from);
+    other = c.1.other;
+    closed = λ x next h pass. right (c.1.closed x next h pass) (on next);
+    tasks = c.1.tasks;
+    notes = c.1.notes;
+  },
+)
   where
     right : {A B C : Type 0} → A ⊎ B → (B → C) → A ⊎ C
     right (inl a) f = inl a
@@ -369,14 +373,17 @@ seek_back_past p from to id task answer again seen noted frames c =
 -- ---- the beginning and the ends
 pub seek_begins : (p : Parts) (from to : ℕ) (noted : ℕ → Option Bool) → ((id : ℕ) → noted id ≡ None)
     → CanSeek p from to [] noted (Visit from) []
-seek_begins p from to noted none = ([], record {
-  led = λ x h. led x h;
-  covers = inr (inl (eq-eqb from from refl));
-  other = refl;
-  closed = λ x next h pass. absurd (clash false h refl);
-  tasks = λ t h. absurd (clash false h refl);
-  notes = λ id again h. absurd (no (noted id) again h (none id));
-})
+seek_begins p from to noted none = (
+  [],
+  record {
+    led = λ x h. led x h;
+    covers = inr (inl (eq-eqb from from refl));
+    other = refl;
+    closed = λ x next h pass. absurd (clash false h refl);
+    tasks = λ t h. absurd (clash false h refl);
+    notes = λ id again h. absurd (no (noted id) again h (none id));
+  },
+)
   where
     no : (o : Option Bool) (again : Bool) → o ≡ Some again → o ≡ None → ⊥
     no o again a b = absurd (cc)
@@ -426,12 +433,14 @@ pub walk_on : (room marks id task w : ℕ) (frames : List Frame) (p : Parts) (wa
     → Some waiter ≡ option_map (λ (it : Task). it.waiter) (slice_get p.tasks task) → waiter ≡ Some w
     → CanWalk room marks (Visit w) frames [] p
 walk_on room marks id task w frames p waiter c st h is =
-    let a = c.1 in
-    (c.0, record {
-      no_circle = a.no_circle;
-      row = a.row;
-      chain = a.chain;
-      leads = λ x q. leads_on w (a.leads x q) (pass_waiter a.row id task w waiter st h is);
-      fits = a.fits;
-      marked = a.marked;
-    })
+    let a = c.1 in (
+      c.0,
+      record {
+        no_circle = a.no_circle;
+        row = a.row;
+        chain = a.chain;
+        leads = λ x q. leads_on w (a.leads x q) (pass_waiter a.row id task w waiter st h is);
+        fits = a.fits;
+        marked = a.marked;
+      },
+    )
