@@ -42,7 +42,8 @@ module _ (gone : ℕ → Bool) where
   set_same (x ∷ xs) zero v e = let same : x ≡ v = cc in ap (λ z. z ∷ xs) (sym same)
   set_same (x ∷ xs) (suc k) v e = ap (λ ys. x ∷ ys) (set_same xs k v e)
 
-  pub forgotten_at : (p : Parts) (id : ℕ) → slice_get (forgotten gone p).futures id ≡ option_map (λ (f : Future). cond (gone id) released f) (slice_get p.futures id)
+  pub forgotten_at : (p : Parts) (id : ℕ)
+      → slice_get (forgotten gone p).futures id ≡ option_map (λ (f : Future). cond (gone id) released f) (slice_get p.futures id)
   forgotten_at p id = let e : 0 + id ≡ id = omega arith in get-forget 0 p.futures id ∙ rw e refl
 
   gone_at : (id : ℕ) (b : Bool) → gone id ≡ b → gone (0 + id) ≡ b

@@ -1,24 +1,23 @@
 -- Forgetting released futures commutes with the steps of tasks.
-use Rattle.std.proofs.Common.{◌≡◌, ℕ, zero, suc, ◌+◌, Bool, true, false, ◌||◌, cond, List, [], ◌∷◌, ◌++◌, Option, Some, None, length, slice_get, slice_set, refl, ap, sym, ◌∙◌, arith, if◌then◌else◌, Result, Ok, Err}
+use Rattle.std.proofs.Common.{◌≡◌, ℕ, zero, suc, ◌+◌, Bool, true, false, ◌||◌, cond, List, [], ◌∷◌, ◌++◌, Option, Some, None, length, slice_get, refl, ap, sym, ◌∙◌, arith, if◌then◌else◌, Result, Ok, Err}
 use Rattle.std.specs.Prelude.{◌==◌}
 use Rattle.std.specs.List.{list_any}
 use Rattle.std.specs.Option.{option_map, option_map_or}
 use Rattle.model_value.specs.Action.{Action, Circle}
-use Rattle.model_value.specs.declared.action.Action.TheVariants.{Step, StepInCircle, Wakeup}
+use Rattle.model_value.specs.declared.action.Action.TheVariants.{Wakeup}
 use Rattle.model_value.specs.declared.outcome.Outcome.TheVariants.{Cancelled, Value as Returned, Failed}
 use Rattle.model_value.specs.Value.{Outcome, Value, Exc}
 use Rattle.model_loop.specs.Parts.{FutureKind, Plain, OfTask, Many, Future, Task, Parts}
 use Rattle.model_loop.specs.Handles.{soon}
-use Rattle.model_loop.specs.Futures.{with_future, settle, register, registered, registered_on, make_future, next_future}
+use Rattle.model_loop.specs.Futures.{settle, register, registered, registered_on, make_future, next_future}
 use Rattle.model_loop.specs.Tasks.{change_task, spawn, next_task, future_of, set_waiter, unmark, is_marked, is_cancelled, finish}
 use Rattle.model_loop.specs.Cancel.{cancel}
 use Rattle.model_loop.specs.Circles.{passes, passes_at, passes_until, leads_within, leads, circle}
 use Rattle.model_loop.specs.Suspend.{wait_on, cancel_wait, suspend_unless, suspend}
-use Rattle.model_loop.specs.Ledger.{Booked}
 use Rattle.law_cancel.proofs.Lookups.{get-set_kept}
 use Rattle.law_cancel.proofs.Effects.{change_task-futures}
-use Rattle.law_parts.specs.Quiet.{stage_of, stage, stage_at}
-use Rattle.law_parts.specs.Forgotten.{released, forget_from, forgotten, forgotten_of, AreDone}
+use Rattle.law_parts.specs.Quiet.{stage_of, stage}
+use Rattle.law_parts.specs.Forgotten.{released, forget_from, forgotten, AreDone}
 use Rattle.law_parts.proofs.ForgottenLemmas.{forgotten_at, with-kept, change-forget, settle-forget, cancel-forget}
 
 module _ (gone : ℕ → Bool) where

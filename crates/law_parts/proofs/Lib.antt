@@ -1,7 +1,7 @@
 pub mod WalkLemmas
 pub mod WeightLemmas
 pub mod QuietLemmas
-pub mod SearchLemmas
+pub mod Leading
 pub mod SeekLemmas
 pub mod OpenLemmas
 pub mod RoomLemmas

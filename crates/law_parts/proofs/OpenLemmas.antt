@@ -1,30 +1,28 @@
 -- No more futures are open than are tasks' own or stand for several, where nothing waits in a circle.
-use Rattle.std.proofs.Common.{◌≡◌, ◌≢◌, ℕ, zero, suc, ◌+◌, ◌<◌, ◌≤◌, ◌⊎◌, Bool, true, false, ◌||◌, cond, List, [], ◌∷◌, ◌++◌, Option, Some, None, length, map, reverse, slice_get, slice_set, nat_eq, nat_lt, refl, ap, sym, ◌∙◌, subst, arith, inl, inr}
+use Rattle.std.proofs.Common.{◌≡◌, ℕ, zero, suc, ◌+◌, ◌<◌, ◌≤◌, ◌⊎◌, Bool, true, false, ◌||◌, cond, List, [], ◌∷◌, ◌++◌, Option, Some, None, length, map, reverse, slice_get, slice_set, nat_eq, nat_lt, refl, ap, sym, ◌∙◌, subst, arith, inl, inr}
 use Rattle.std.specs.List.{list_any}
 use Rattle.std.specs.Option.{option_map, option_map_or, option_to_list}
 use Rattle.std.specs.Prelude.{◌==◌}
-use Rattle.std.proofs.lemmas.Bool.{cases_eq, cases_Bool, eq-eqb, ne_eqb, lt-ltb}
-use Rattle.std.proofs.lemmas.List.{reverse-append, length-reverse}
+use Rattle.std.proofs.lemmas.Bool.{cases_eq, eq-eqb, ne_eqb, lt-ltb}
+use Rattle.std.proofs.lemmas.List.{reverse-append}
 use Rattle.model_value.specs.Value.{Outcome}
 use Rattle.model_value.specs.declared.outcome.Outcome.TheVariants.{Cancelled}
 use Rattle.model_loop.specs.Parts.{FutureKind, Plain, OfTask, Many, Future, Task, Parts}
-use Rattle.model_loop.specs.Futures.{made_before, settle, mark_asked}
-use Rattle.model_loop.specs.Tasks.{change_task, waiter_of, raise_count, mark}
+use Rattle.model_loop.specs.Futures.{made_before}
+use Rattle.model_loop.specs.Tasks.{change_task, waiter_of}
 use Rattle.model_loop.specs.Cancel.{has_seen}
 use Rattle.model_loop.specs.Circles.{PassesTo, Leads, at_once, passes, passes_at, passes_until}
 use Rattle.model_loop.specs.Sound.{HasNoCircle}
 use Rattle.law_cancel.proofs.Lookups.{get-set_kept, get_within}
 use Rattle.law_cancel.proofs.Effects.{settle-futures, settle-tasks, done_as, mark_asked-futures, mark_asked-tasks, asked_as, change_task-futures}
-use Rattle.law_cancel.proofs.Trace.{Goes, begins, settles, asks, raises, marks, goes-tasks}
+use Rattle.law_cancel.proofs.Trace.{Goes, begins, settles, asks, raises, marks}
 use Rattle.law_parts.specs.Shape.{stands_of, stands_at, members_at}
 use Rattle.law_parts.specs.declared.walk.Frame.{Frame}
 use Rattle.law_parts.specs.declared.walk.Frame.TheVariants.{Waits, Members}
-use Rattle.law_parts.specs.declared.walk.Go.{Go}
-use Rattle.law_parts.specs.declared.walk.Go.TheVariants.{Visit, Next, Answer}
 use Rattle.law_parts.specs.declared.walk.Stands.{Stands}
 use Rattle.law_parts.specs.declared.walk.Stands.TheVariants as stands
-use Rattle.law_parts.specs.Open.{is_inner_kind, is_inner_at, is_inner, others, room_of, passing, passing_at, AllLead, id_of, frame_stands, OpenDown, Open, LeadTo, Walks, CanWalk}
-use Rattle.law_parts.proofs.SearchLemmas.{leads_on}
+use Rattle.law_parts.specs.Open.{is_inner_kind, is_inner_at, is_inner, others, room_of, passing, passing_at, AllLead, id_of, frame_stands, OpenDown}
+use Rattle.law_parts.proofs.Leading.{leads_on}
 use Rattle.law_parts.proofs.WalkLemmas.{goes-members}
 
 -- ---- counting

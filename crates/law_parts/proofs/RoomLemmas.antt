@@ -1,5 +1,5 @@
 -- A request goes on within its room.
-use Rattle.std.proofs.Common.{◌≡◌, ℕ, suc, ◌+◌, ◌<◌, ◌≤◌, Bool, true, false, List, [], ◌∷◌, ◌++◌, Option, Some, None, length, map, reverse, slice_get, refl, ap, sym, ◌∙◌, arith, if◌then◌else◌}
+use Rattle.std.proofs.Common.{◌≡◌, ℕ, ◌<◌, ◌≤◌, Bool, true, false, List, [], ◌∷◌, ◌++◌, Option, Some, None, length, map, reverse, slice_get, refl, ap, sym, ◌∙◌, arith, if◌then◌else◌}
 use Rattle.std.specs.Option.{option_map}
 use Rattle.std.proofs.lemmas.List.{reverse-append, length-reverse}
 use Rattle.model_value.specs.Value.{Outcome}
@@ -17,9 +17,8 @@ use Rattle.law_parts.specs.declared.walk.Frame.{Frame}
 use Rattle.law_parts.specs.declared.walk.Frame.TheVariants.{Waits, Members}
 use Rattle.law_parts.specs.declared.walk.Go.{Go}
 use Rattle.law_parts.specs.declared.walk.Go.TheVariants.{Visit, Next, Answer}
-use Rattle.law_parts.specs.declared.walk.Stands.{Stands}
 use Rattle.law_parts.specs.declared.walk.Stands.TheVariants as stands
-use Rattle.law_parts.specs.Open.{is_inner, others, room_of, passing, passing_at, AllLead, id_of, frame_stands, OpenDown, Open, LeadTo, Walks, CanWalk}
+use Rattle.law_parts.specs.Open.{room_of, passing, passing_at, AllLead, id_of, frame_stands, OpenDown, CanWalk}
 use Rattle.law_parts.proofs.OpenLemmas.{down_count, lead_on, goes-passing, pass_waiter, pass_member}
 
 push-reverse : (frames : List Frame) (frame : Frame) → reverse (frames ++ frame ∷ []) ≡ frame ∷ reverse frames

@@ -9,13 +9,12 @@ use Rattle.model_value.specs.Value.{Outcome}
 use Rattle.model_loop.specs.Parts.{FutureKind, Plain, OfTask, Many, Future, Task, Parts}
 use Rattle.model_loop.specs.Futures.{with_future, settle, settled, settled_as, register, registered, registered_on, mark_asked, make_future, asked_kind}
 use Rattle.model_loop.specs.Tasks.{change_task}
-use Rattle.model_loop.specs.Cancel.{cancel, has_seen}
-use Rattle.model_loop.specs.Handles.{soon}
-use Rattle.law_cancel.proofs.Lookups.{get-set_kept, get-set_same, get-set_other, get_within, get-push_last, get-push_other}
+use Rattle.model_loop.specs.Cancel.{cancel}
+use Rattle.law_cancel.proofs.Lookups.{get-set_kept, get-set_other, get-push_last, get-push_other}
 use Rattle.law_cancel.proofs.Effects.{soon_all-futures, done_as, asked_as, change_task-futures}
 use Rattle.law_cancel.proofs.Trace.{Goes, begins, settles, asks, raises, marks, with_row}
 use Rattle.law_parts.specs.Forgotten.{released}
-use Rattle.law_parts.specs.Open.{is_inner_kind, is_inner_at, is_inner, others, room_of}
+use Rattle.law_parts.specs.Open.{is_inner_kind, is_inner_at, others, room_of}
 
 others-same : (f g : ℕ → Bool) (n : ℕ) → ((j : ℕ) → j < n → f j ≡ g j) → others f n [] ≡ others g n []
 others-same f g zero h = refl

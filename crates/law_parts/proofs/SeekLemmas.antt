@@ -1,9 +1,9 @@
 -- A search for a circle finds exactly what leads there.
-use Rattle.std.proofs.Common.{◌≡◌, ◌≢◌, ℕ, zero, suc, ◌+◌, ◌<◌, ◌≤◌, ◌⊎◌, Bool, true, false, ◌||◌, List, [], ◌∷◌, ◌++◌, Option, Some, None, drop, length, slice_get, nat_lt, refl, ap, sym, ◌∙◌, subst, arith, inl, inr}
+use Rattle.std.proofs.Common.{◌≡◌, ◌≢◌, ℕ, zero, suc, ◌+◌, ◌<◌, ◌≤◌, ◌⊎◌, Bool, true, false, ◌||◌, List, [], ◌∷◌, ◌++◌, Option, Some, None, drop, slice_get, refl, ap, sym, ◌∙◌, subst, arith, inl, inr}
 use Rattle.std.specs.Prelude.{◌==◌}
 use Rattle.std.specs.List.{list_any}
 use Rattle.std.specs.Option.{option_map, option_map_or, option_to_list}
-use Rattle.std.proofs.lemmas.Bool.{cases_eq, eq-eqb, eqb-true, ne_eqb, lt-ltb, le-ltb}
+use Rattle.std.proofs.lemmas.Bool.{eq-eqb, eqb-true, lt-ltb, le-ltb}
 use Rattle.model_value.specs.Value.{Outcome}
 use Rattle.model_loop.specs.Parts.{FutureKind, Plain, OfTask, Many, Future, Task, Parts}
 use Rattle.model_loop.specs.Futures.{made_before}
@@ -13,17 +13,15 @@ use Rattle.model_loop.specs.Circles.{PassesTo, Leads, at_once, through, passes, 
 use Rattle.law_cancel.proofs.Seen.{has_seen-append, has_seen_last, has_seen_other}
 use Rattle.law_cancel.proofs.Reach.{leads_decides}
 use Rattle.law_parts.specs.Shape.{stands_of, stands_at, members_at}
-use Rattle.law_parts.specs.Walk.{rest_of}
 use Rattle.law_parts.specs.Quiet.{OnlyAdds}
 use Rattle.law_parts.specs.Open.{passing, passing_at, CanWalk}
 use Rattle.law_parts.specs.declared.walk.Frame.{Frame}
 use Rattle.law_parts.specs.declared.walk.Frame.TheVariants.{Waits, Members}
 use Rattle.law_parts.specs.declared.walk.Go.{Go}
 use Rattle.law_parts.specs.declared.walk.Go.TheVariants.{Visit, Next, Answer}
-use Rattle.law_parts.specs.declared.walk.Stands.{Stands}
 use Rattle.law_parts.specs.declared.walk.Stands.TheVariants as stands
 use Rattle.law_parts.specs.Seek.{in_rest, in_go, in_frame, in_frames, Pending, Seeks, CanSeek}
-use Rattle.law_parts.proofs.SearchLemmas.{leads_on, seen_split}
+use Rattle.law_parts.proofs.Leading.{leads_on, seen_split}
 use Rattle.law_parts.proofs.OpenLemmas.{pass_waiter, passes-task, passes-many}
 
 any_push : {X : Type 0} (f : X → Bool) (xs : List X) (y : X) → list_any f (xs ++ y ∷ []) ≡ (list_any f xs || f y)

@@ -4,6 +4,5 @@ pub mod Placed
 pub mod Walk
 pub mod Weight
 pub mod Quiet
-pub mod Search
 pub mod Seek
 pub mod Open

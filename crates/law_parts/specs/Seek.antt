@@ -1,5 +1,5 @@
 -- The search for a circle, with what is left to look at on a stack. Each future is gone through once.
-use Rattle.std.specs.Prelude.{◌≡◌, ℕ, ◌⊎◌, Bool, true, false, ◌==◌, List, [], ◌∷◌, Option, Some}
+use Rattle.std.specs.Prelude.{◌≡◌, ℕ, ◌⊎◌, Bool, true, false, ◌==◌, List, Option, Some}
 use Rattle.std.specs.List.{list_any}
 use Rattle.model_loop.specs.Parts.{Parts}
 use Rattle.model_loop.specs.Cancel.{has_seen}
