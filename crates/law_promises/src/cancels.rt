@@ -10,7 +10,8 @@ ghost use Rattle.law_promises.specs.Reached.{WasReached, GoesOn};
 /// Each task that a request comes to is afterwards marked, or the request went on to what it waits for, which was cancelled,
 /// keeps that it was asked, or is the future of a task that the request came to.
 pub fn a_cancel_goes_on()
-    ensures { (id : ℕ) (p : Parts) → OwnsFutures p → (task : ℕ) → has_seen (cancel id p).seen task ≡ true
+    ensures { (id : ℕ) (p : Parts) → OwnsFutures p → (task : ℕ)
+        → has_seen (cancel id p).seen task ≡ true
         → GoesOn (cancel id p).parts (cancel id p).seen task }
 {}
 

@@ -14,11 +14,16 @@ ghost use Rattle.model_loop.specs.Sound.{IsSound};
 /// Once its exit has ended all tasks that were made in it are done, it was told of each of them once, and its errors are the
 /// failures of those that failed, in the order in which it was told, and last the body's.
 pub fn a_group_ends_after_its_children()
-    ensures done { (running : Option ℕ) (told : ℕ → List ℕ) (l : Loop) → IsSound running told l → (id : ℕ)
-        → (group_of l id).ended ≡ true → (task : ℕ) → 1 ≤ occurrences task (group_of l id).made → lives l.parts task ≡ false }
-    ensures told { (running : Option ℕ) (told : ℕ → List ℕ) (l : Loop) → IsSound running told l → (id : ℕ)
-        → (group_of l id).ended ≡ true → (task : ℕ) → occurrences task (told id) ≡ occurrences task (group_of l id).made }
-    ensures errors { (running : Option ℕ) (told : ℕ → List ℕ) (l : Loop) → IsSound running told l → (id : ℕ)
+    ensures done { (running : Option ℕ) (told : ℕ → List ℕ) (l : Loop) → IsSound running told l
+        → (id : ℕ)
+        → (group_of l id).ended ≡ true → (task : ℕ) → 1 ≤ occurrences task (group_of l id).made
+        → lives l.parts task ≡ false }
+    ensures told { (running : Option ℕ) (told : ℕ → List ℕ) (l : Loop) → IsSound running told l
+        → (id : ℕ)
+        → (group_of l id).ended ≡ true → (task : ℕ)
+        → occurrences task (told id) ≡ occurrences task (group_of l id).made }
+    ensures errors { (running : Option ℕ) (told : ℕ → List ℕ) (l : Loop) → IsSound running told l
+        → (id : ℕ)
         → (group_of l id).ended ≡ true
         → (group_of l id).errors ≡ failures l.parts (told id) ++ body_failure (group_of l id).body }
 {}
@@ -26,11 +31,14 @@ pub fn a_group_ends_after_its_children()
 /// Before that its errors are the failures of those that it was told of, each once, and it will be told once of each child
 /// that lives.
 pub fn a_group_is_told_once()
-    ensures once { (running : Option ℕ) (told : ℕ → List ℕ) (l : Loop) → IsSound running told l → (id task : ℕ)
+    ensures once { (running : Option ℕ) (told : ℕ → List ℕ) (l : Loop) → IsSound running told l
+        → (id task : ℕ)
         → occurrences task (told id) ≤ 1 }
-    ensures errors { (running : Option ℕ) (told : ℕ → List ℕ) (l : Loop) → IsSound running told l → (id : ℕ)
+    ensures errors { (running : Option ℕ) (told : ℕ → List ℕ) (l : Loop) → IsSound running told l
+        → (id : ℕ)
         → (group_of l id).ended ≡ false → (group_of l id).errors ≡ failures l.parts (told id) }
-    ensures child { (running : Option ℕ) (told : ℕ → List ℕ) (l : Loop) → IsSound running told l → (id task : ℕ)
+    ensures child { (running : Option ℕ) (told : ℕ → List ℕ) (l : Loop) → IsSound running told l
+        → (id task : ℕ)
         → lives l.parts task ≡ true → 1 ≤ occurrences task (group_of l id).children
         → count_by (tells id task) (callbacks_of l.parts (future_of l.parts task)) ≡ 1 }
 {}
@@ -38,8 +46,11 @@ pub fn a_group_is_told_once()
 /// An exit that ends where something failed raises the errors and the body's failure as one group, whose members they are,
 /// unless it would be too deep or too heavy.
 pub fn an_exit_raises_its_errors()
-    ensures answer { (errors : List Exc) (id : ℕ) (l : Loop) (kept : Option Exc) → (errors ≡ [] → kept ≡ None)
-        → (end_exit kept errors id l).answer ≡ raised_of (errors ++ body_failure (group_of l id).body) }
-    ensures members { (errors : List Exc) → is_bearable (exc ExceptionGroup group_text [] (excs errors)) ≡ true
+    ensures answer { (errors : List Exc) (id : ℕ) (l : Loop) (kept : Option Exc)
+        → (errors ≡ [] → kept ≡ None)
+        → (end_exit kept errors id l).answer ≡ raised_of
+        (errors ++ body_failure (group_of l id).body) }
+    ensures members { (errors : List Exc)
+        → is_bearable (exc ExceptionGroup group_text [] (excs errors)) ≡ true
         → exception_group errors ≡ exc ExceptionGroup group_text [] (excs errors) }
 {}

@@ -18,11 +18,14 @@ ghost use Rattle.model_loop.specs.Owning.{OwnsFutures};
 pub fn a_mark_falls()
     ensures begins { (id : ℕ) (input : Input) (p : Parts) (task : ℕ) → is_marked p task ≡ true
         → is_marked (begin_step id input p).parts task ≡ false
-        → (id ≡ task) × (fault : Exc) × ((begin_step id input p).input ≡ Throw fault) × (is_cancelled fault ≡ true) }
-    ensures returns { (id : ℕ) (end : Result Value Exc) (p : Parts) (task : ℕ) → lives p id ≡ true → is_marked p task ≡ true
+        → (id ≡ task) × (fault : Exc) × ((begin_step id input p).input ≡ Throw fault)
+        × (is_cancelled fault ≡ true) }
+    ensures returns { (id : ℕ) (end : Result Value Exc) (p : Parts) (task : ℕ) → lives p id ≡ true
+        → is_marked p task ≡ true
         → is_marked (finish id end p) task ≡ false
         → (id ≡ task) × (future_outcome (finish id end p) (future_of p id) ≡ Some Cancelled) }
-    ensures waits { (id on : ℕ) (p : Parts) → OwnsFutures p → is_pending p on ≡ true → lives p id ≡ true → (task : ℕ)
+    ensures waits { (id on : ℕ) (p : Parts) → OwnsFutures p → is_pending p on ≡ true
+        → lives p id ≡ true → (task : ℕ)
         → is_marked p task ≡ true → is_marked (suspend id on p).parts task ≡ false
         → (id ≡ task) × ((cancel on (wait_on id on p)).answer ≡ true) }
 {}

@@ -15,6 +15,7 @@ pub fn a_task_has_one_way_on()
 
 /// An active timeout has one live handle at most, and any other has none.
 pub fn a_timeout_has_one_handle_at_most()
-    ensures { (running : Option ℕ) (told : ℕ → List ℕ) (l : Loop) → IsSound running told l → (id : ℕ)
+    ensures { (running : Option ℕ) (told : ℕ → List ℕ) (l : Loop) → IsSound running told l
+        → (id : ℕ)
         → entries (fires_any id) l.parts ≤ one_if (is_active (timeout_of l id).state) }
 {}

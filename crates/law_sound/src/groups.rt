@@ -26,12 +26,14 @@ pub fn a_group_grows()
 pub fn a_group_is_told()
     ensures { (told : ℕ → List ℕ) (id task : ℕ) (handle : Handle) (rest : List Handle) (l : Loop)
         → l.parts.pending ≡ handle ∷ rest → handle.dead ≡ false → handle.action ≡ GroupDone id task
-        → IsSound None told l → IsSound None (told_more told id task) (child_done id task (in_parts (taken rest) l)) }
+        → IsSound None told l
+        → IsSound None (told_more told id task) (child_done id task (in_parts (taken rest) l)) }
 {}
 
 /// Its exit begins, and goes on after a wait.
 pub fn an_exit_goes_on()
-    ensures begins { (running : Option ℕ) (told : ℕ → List ℕ) (raised : Option Exc) (id : ℕ) (l : Loop)
+    ensures begins { (running : Option ℕ) (told : ℕ → List ℕ) (raised : Option Exc) (id : ℕ)
+        (l : Loop)
         → id < length l.groups → (group_of l id).entered ≡ true → (group_of l id).exiting ≡ false
         → IsSound running told l → IsSound running told (exit_begin raised id l).loop }
     ensures woken { (running : Option ℕ) (told : ℕ → List ℕ) (input : Input) (id : ℕ) (l : Loop)

@@ -8,8 +8,10 @@ ghost use Rattle.law_ledger.specs.Telling.{IsOther};
 
 /// A future's cancel is asked for, and a task's count falls.
 pub fn a_cancel_is_asked_and_taken_back()
-    ensures ask { (running : Option ℕ) (told : ℕ → List ℕ) (by : Origin) (id : ℕ) (l : Loop) → IsOther by
+    ensures ask { (running : Option ℕ) (told : ℕ → List ℕ) (by : Origin) (id : ℕ) (l : Loop)
+        → IsOther by
         → IsSound running told l → IsSound running told (book (ask_cancel by id) l) }
-    ensures uncancel { (running : Option ℕ) (told : ℕ → List ℕ) (by : Origin) (task : ℕ) (l : Loop) → IsOther by
+    ensures uncancel { (running : Option ℕ) (told : ℕ → List ℕ) (by : Origin) (task : ℕ) (l : Loop)
+        → IsOther by
         → IsSound running told l → IsSound running told (book (uncancel_by by task) l) }
 {}

@@ -30,11 +30,17 @@ pub fn a_handle_does_nothing()
 
 /// A sleep is scheduled on a plain future, ends, and is given up by a tag that nothing else has.
 pub fn a_sleep_passes()
-    ensures later { (running : Option ℕ) (told : ℕ → List ℕ) (when task future : ℕ) (l : Loop) → is_plain l.parts future ≡ true
-        → IsSound running told l → IsSound running told (in_parts (later when (SleepDone task future)) l) }
-    ensures done { (told : ℕ → List ℕ) (task future : ℕ) (outcome : Outcome) (handle : Handle) (rest : List Handle) (l : Loop)
-        → l.parts.pending ≡ handle ∷ rest → handle.dead ≡ false → handle.action ≡ SleepDone task future
-        → IsSound None told l → IsSound None told (in_parts (settle future outcome) (in_parts (taken rest) l)) }
-    ensures revoke { (running : Option ℕ) (told : ℕ → List ℕ) (tag : ℕ) (l : Loop) → entries (no_sleep_as tag) l.parts ≡ 0
+    ensures later { (running : Option ℕ) (told : ℕ → List ℕ) (when task future : ℕ) (l : Loop)
+        → is_plain l.parts future ≡ true
+        → IsSound running told l
+        → IsSound running told (in_parts (later when (SleepDone task future)) l) }
+    ensures done { (told : ℕ → List ℕ) (task future : ℕ) (outcome : Outcome) (handle : Handle)
+        (rest : List Handle) (l : Loop)
+        → l.parts.pending ≡ handle ∷ rest → handle.dead ≡ false
+        → handle.action ≡ SleepDone task future
+        → IsSound None told l
+        → IsSound None told (in_parts (settle future outcome) (in_parts (taken rest) l)) }
+    ensures revoke { (running : Option ℕ) (told : ℕ → List ℕ) (tag : ℕ) (l : Loop)
+        → entries (no_sleep_as tag) l.parts ≡ 0
         → IsSound running told l → IsSound running told (in_parts (revoke tag) l) }
 {}

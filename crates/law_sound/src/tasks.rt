@@ -16,9 +16,12 @@ ghost use Rattle.law_settling.specs.Frames.{taken};
 
 /// A step begins, by the handle that is taken out.
 pub fn a_step_begins()
-    ensures { (told : ℕ → List ℕ) (task : ℕ) (input : Input) (handle : Handle) (rest : List Handle) (l : Loop)
-        → l.parts.pending ≡ handle ∷ rest → handle.dead ≡ false → steps task handle.action ≡ true → IsSound None told l
-        → IsSound (Some task) told (record l { parts = (begin_step task input (taken rest l.parts)).parts }) }
+    ensures { (told : ℕ → List ℕ) (task : ℕ) (input : Input) (handle : Handle) (rest : List Handle)
+        (l : Loop)
+        → l.parts.pending ≡ handle ∷ rest → handle.dead ≡ false → steps task handle.action ≡ true
+        → IsSound None told l
+        → IsSound (Some task) told
+        (record l { parts = (begin_step task input (taken rest l.parts)).parts }) }
 {}
 
 /// It ends: the next one is called soon, or the task waits for a future that isn't done, or it is done. A task ends only
@@ -29,7 +32,8 @@ pub fn a_step_ends()
     ensures suspends { (told : ℕ → List ℕ) (task on : ℕ) (l : Loop) → is_pending l.parts on ≡ true
         → IsSound (Some task) told l → IsSound None told (book (suspend task on) l) }
     ensures finishes { (told : ℕ → List ℕ) (task : ℕ) (end : Result Value Exc) (l : Loop)
-        → ((g : ℕ) → (group_of l g).entered ≡ true → (group_of l g).ended ≡ false → task ≡ (group_of l g).parent → ⊥)
+        → ((g : ℕ) → (group_of l g).entered ≡ true → (group_of l g).ended ≡ false
+        → task ≡ (group_of l g).parent → ⊥)
         → IsSound (Some task) told l → IsSound None told (in_parts (finish task end) l) }
 {}
 
@@ -46,6 +50,7 @@ pub fn what_is_made()
 
 /// A plain future gets its outcome.
 pub fn a_future_is_resolved()
-    ensures { (running : Option ℕ) (told : ℕ → List ℕ) (id : ℕ) (outcome : Outcome) (l : Loop) → is_plain l.parts id ≡ true
+    ensures { (running : Option ℕ) (told : ℕ → List ℕ) (id : ℕ) (outcome : Outcome) (l : Loop)
+        → is_plain l.parts id ≡ true
         → IsSound running told l → IsSound running told (in_parts (settle id outcome) l) }
 {}

@@ -11,11 +11,14 @@ ghost use Rattle.law_ledger.specs.Telling.{is_open};
 
 /// Its block is entered, gets another deadline, and is left.
 pub fn a_timeout_is_entered_and_left()
-    ensures enter { (running : Option ℕ) (told : ℕ → List ℕ) (task : ℕ) (delay : Option ℤ) (l : Loop)
+    ensures enter { (running : Option ℕ) (told : ℕ → List ℕ) (task : ℕ) (delay : Option ℤ)
+        (l : Loop)
         → IsSound running told l → IsSound running told (enter_timeout task delay l) }
-    ensures reschedule { (running : Option ℕ) (told : ℕ → List ℕ) (id : ℕ) (when : Option ℤ) (l : Loop)
+    ensures reschedule { (running : Option ℕ) (told : ℕ → List ℕ) (id : ℕ) (when : Option ℤ)
+        (l : Loop)
         → IsSound running told l → IsSound running told (reschedule id when l) }
-    ensures exit { (running : Option ℕ) (told : ℕ → List ℕ) (raised : Option Exc) (id : ℕ) (l : Loop)
+    ensures exit { (running : Option ℕ) (told : ℕ → List ℕ) (raised : Option Exc) (id : ℕ)
+        (l : Loop)
         → id < length l.timeouts → is_open (timeout_of l id).state ≡ true
         → IsSound running told l → IsSound running told (exit_timeout raised id l).loop }
 {}

@@ -14,7 +14,8 @@ ghost use Rattle.law_settling.specs.Frames.{taken};
 /// A step begins, by the handle that runs.
 pub fn a_step_begins_sound()
     ensures { (task : ℕ) (input : Input) (handle : Handle) (rest : List Handle) (p : Parts)
-        → p.pending ≡ handle ∷ rest → handle.dead ≡ false → steps task handle.action ≡ true → ArePartsSound None None p
+        → p.pending ≡ handle ∷ rest → handle.dead ≡ false → steps task handle.action ≡ true
+        → ArePartsSound None None p
         → ArePartsSound (Some task) (Some task) (begin_step task input (taken rest p)).parts }
 {}
 
@@ -23,7 +24,8 @@ pub fn a_step_ends_sound()
     ensures pauses { (task : ℕ) (p : Parts)
         → ArePartsSound (Some task) (Some task) p → ArePartsSound None None (pause task p) }
     ensures suspends { (task on : ℕ) (p : Parts) → is_pending p on ≡ true
-        → ArePartsSound (Some task) (Some task) p → ArePartsSound None None (suspend task on p).parts }
+        → ArePartsSound (Some task) (Some task) p
+        → ArePartsSound None None (suspend task on p).parts }
     ensures finishes { (task : ℕ) (end : Result Value Exc) (p : Parts)
         → ArePartsSound (Some task) (Some task) p → ArePartsSound None None (finish task end p) }
 {}
@@ -31,5 +33,6 @@ pub fn a_step_ends_sound()
 /// The ways on that are counted over all futures are those at their homes.
 pub fn ways_are_one_by_one()
     ensures { (running : Option ℕ) (p : Parts) → ArePartsSound running running p
-        → ((task : ℕ) → count_by (λ (timer : Timer). steps task timer.action) p.timers ≡ 0) → HasOneWayOn running p }
+        → ((task : ℕ) → count_by (λ (timer : Timer). steps task timer.action) p.timers ≡ 0)
+        → HasOneWayOn running p }
 {}

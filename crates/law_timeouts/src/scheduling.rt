@@ -9,6 +9,7 @@ ghost use Rattle.model_loop.specs.Sound.{ArePartsSound};
 pub fn timers_keep_parts_sound()
     ensures due { (running excused : Option ℕ) (p : Parts)
         → AreTimed p → ArePartsSound running excused p → ArePartsSound running excused (due p) }
-    ensures revoke { (running excused : Option ℕ) (tag : ℕ) (p : Parts) → entries (no_sleep_as tag) p ≡ 0
+    ensures revoke { (running excused : Option ℕ) (tag : ℕ) (p : Parts)
+        → entries (no_sleep_as tag) p ≡ 0
         → ArePartsSound running excused p → ArePartsSound running excused (revoke tag p) }
 {}

@@ -14,16 +14,20 @@ ghost use Rattle.law_timeouts.specs.Tags.{HaveTags};
 
 /// An active timeout has one handle at most, and any other has none.
 pub fn a_timeout_has_one_handle_at_most()
-    ensures { (id : ℕ) (l : Loop) → HaveTags l → entries (fires_any id) l.parts ≤ one_if (is_active (timeout_of l id).state) }
+    ensures { (id : ℕ) (l : Loop) → HaveTags l
+        → entries (fires_any id) l.parts ≤ one_if (is_active (timeout_of l id).state) }
 {}
 
 /// Each timeout goes on having its tag, where one is entered, gets another deadline, fires, or its block is left.
 pub fn timeouts_keep_tags()
-    ensures enter { (task : ℕ) (delay : Option ℤ) (l : Loop) → HaveTags l → HaveTags (enter_timeout task delay l) }
-    ensures reschedule { (id : ℕ) (when : Option ℤ) (l : Loop) → HaveTags l → HaveTags (reschedule id when l) }
+    ensures enter { (task : ℕ) (delay : Option ℤ) (l : Loop) → HaveTags l
+        → HaveTags (enter_timeout task delay l) }
+    ensures reschedule { (id : ℕ) (when : Option ℤ) (l : Loop) → HaveTags l
+        → HaveTags (reschedule id when l) }
     ensures fire { (id : ℕ) (handle : Handle) (rest : List Handle) (l : Loop)
         → l.parts.pending ≡ handle ∷ rest → handle.dead ≡ false → handle.action ≡ Fires id
-        → ArePartsSound None None (taken rest l.parts) → HaveTags l → HaveTags (fire id (in_parts (taken rest) l)) }
+        → ArePartsSound None None (taken rest l.parts) → HaveTags l
+        → HaveTags (fire id (in_parts (taken rest) l)) }
     ensures exit { (raised : Option Exc) (id : ℕ) (l : Loop)
         → id < length l.timeouts → HaveTags l → HaveTags (exit_timeout raised id l).loop }
 {}
