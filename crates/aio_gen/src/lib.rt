@@ -11,6 +11,8 @@ mod requests;
 mod run;
 mod statements;
 mod targets;
+#[cfg(test)]
+mod tests;
 mod types;
 mod ways_out;
 
