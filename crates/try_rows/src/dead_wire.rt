@@ -1,5 +1,6 @@
 //! A wire that fails.
 ghost use Rattle.std.specs.Prelude.{None};
+ghost use Rattle.model_wire.specs.Told.{Going};
 
 use aio_base::Memory;
 use aio_wire::{Call, Reply, Wire};
@@ -22,6 +23,8 @@ impl Wire for DeadWire {
 
     ghost answers = { λ _. None };
 
+    ghost end = { λ _. Going };
+
     ghost fails = { λ _. Unit {0} };
 
     ghost keeps = { λ _ _. Unit {0} };
@@ -32,6 +35,8 @@ impl Wire for DeadWire {
         self.faults = self.faults.saturating_add(1);
         Ok(Reply::Failed)
     }
+
+    ghost end_agrees = { λ _. tt };
 
     ghost keeps_same = { λ _. tt };
 
