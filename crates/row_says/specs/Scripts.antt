@@ -1,13 +1,13 @@
 -- Scripts of the tape rows, each with its text, and the inputs and exceptions that the rows name.
 use Rattle.std.specs.Prelude.{ℕ, true, false, [], ◌∷◌}
 use Rattle.model_value.specs.declared.input.Input.TheVariants.{Send, Throw}
-use Rattle.model_value.specs.declared.kind.Kind.TheVariants.{CancelledError, Exception, LookupError, RuntimeError, RecursionError, TimeoutError, ValueError}
+use Rattle.model_value.specs.declared.kind.Kind.TheVariants.{BaseException, CancelledError, Exception, LookupError, RuntimeError, RecursionError, TimeoutError, ValueError, ZeroDivisionError}
 use Rattle.model_value.specs.Value.{Value, Nothing, Exc, exception_of}
 use Rattle.model_tree.specs.declared.function.Function.TheVariants.{Message}
 use Rattle.model_tree.specs.declared.request_name.RequestName.TheVariants.{Sleep}
 use Rattle.model_tree.specs.Syntax.{Apply, MakeError, Yield, Raise, Pass, If, statements, branch, Program}
 use Rattle.model_says.specs.Tape.{Resumed}
-use Rattle.row_says.specs.Written.{none, yes, int, text, var, list, ◌plus◌, ◌less◌, ◌over◌, ◌below◌, ◌:=◌, ◌:=from◌, yield_from, call, ask, print, return, when, while, try, try_finally, except, except_as, with_timeout, with_group, def, script}
+use Rattle.row_says.specs.Written.{none, yes, int, text, var, list, ◌plus◌, ◌less◌, ◌over◌, ◌below◌, ◌equals◌, ◌:=◌, ◌:=from◌, yield_from, call, ask, print, return, when, while, try, try_finally, except, except_as, with_timeout, with_group, def, script}
 
 -- the first input of a step: none, and an exception
 abbrev pub first : Resumed
@@ -171,6 +171,86 @@ timing =
     except_as TimeoutError "e" (print (var "e" ∷ []) ∷ [])
     ∷ [])
     ∷ return (var "t")
+    ∷ []) ∷ [])
+
+-- def main()
+--   while True
+--     try
+--       try
+--         return 1
+--       finally
+--         print "inner"
+--       end
+--     finally
+--       print "outer"
+--     end
+--   end
+-- end
+abbrev pub returning : Program
+returning =
+    script (def "main" [] (
+    while yes (
+    try_finally (
+    try_finally (return (int 1) ∷ []) (print (text "inner" ∷ []) ∷ [])
+    ∷ []) (print (text "outer" ∷ []) ∷ [])
+    ∷ [])
+    ∷ []) ∷ [])
+
+-- def main()
+--   try
+--     raise error(ValueError, "body")
+--   finally
+--     print "finally"
+--     raise error(RuntimeError, "finally")
+--   end
+-- end
+abbrev pub replacing : Program
+replacing =
+    script (def "main" [] (
+    try_finally (Raise (MakeError ValueError (text "body")) ∷ []) (
+    print (text "finally" ∷ [])
+    ∷ Raise (MakeError RuntimeError (text "finally"))
+    ∷ [])
+    ∷ []) ∷ [])
+
+-- def main()
+--   try
+--     e = yield from main()
+--   except BaseException as e
+--     pass
+--   end
+--   return e
+-- end
+abbrev pub catching : Program
+catching =
+    script (def "main" [] (
+    try ("e" :=from call "main" [] ∷ []) (except_as BaseException "e" (Pass ∷ []) ∷ [])
+    ∷ return (var "e")
+    ∷ []) ∷ [])
+
+-- def main()
+--   i = 1
+--   try
+--     while 1 // i == 1
+--       print i
+--       i = i - 1
+--     end
+--     print "never"
+--   except ZeroDivisionError
+--     return i
+--   end
+-- end
+abbrev pub dividing : Program
+dividing =
+    script (def "main" [] (
+    "i" := int 1
+    ∷ try (
+    while (int 1 over var "i" equals int 1) (
+    print (var "i" ∷ [])
+    ∷ "i" := var "i" less int 1
+    ∷ [])
+    ∷ print (text "never" ∷ [])
+    ∷ []) (except ZeroDivisionError (return (var "i") ∷ []) ∷ [])
     ∷ []) ∷ [])
 
 -- def main()

@@ -7,7 +7,7 @@ ghost use Rattle.model_says.specs.Blocks.{open_blocks};
 ghost use Rattle.model_says.specs.Endings.{Asks, Returns, Raises, Runaway, saying_of};
 ghost use Rattle.model_says.specs.Operations.{bad_operand, division_by_zero};
 ghost use Rattle.model_says.specs.Says.{course, says, too_many_frames};
-ghost use Rattle.row_says.specs.Scripts.{first, thrown, answered, refused, done, cancelled, timed_out, counting, cleaning, handling, leaving, descending, timing, grouping, counted, pausing, spinning};
+ghost use Rattle.row_says.specs.Scripts.{first, thrown, answered, refused, done, cancelled, timed_out, counting, cleaning, handling, leaving, returning, replacing, catching, dividing, descending, timing, grouping, counted, pausing, spinning};
 
 /// A loop with prints: each print is answered, and the loop goes on.
 #[tactic(auto, unfolding(model_says::specs::Says::course))]
@@ -53,6 +53,38 @@ pub fn a_return_through_finally()
     ensures raised { says leaving 0 (Truth true ∷ []) (first ∷ done ∷ []) ≡ Raises (exception_of ValueError (codes "finally")) }
     ensures passed { says leaving 0 (Truth false ∷ []) (first ∷ done ∷ []) ≡ Returns (Int (pos 1)) }
     ensures no_truth { says leaving 0 (Int (pos 1) ∷ []) (first ∷ done ∷ []) ≡ Raises bad_operand }
+{}
+
+/// A `return` out of a loop and two `finally`, the inner one first.
+#[tactic(auto, unfolding(model_says::specs::Says::course))]
+pub fn a_return_out_of_a_loop()
+    ensures inner { says returning 0 [] (first ∷ []) ≡ Asks (Print (Text (codes "inner") ∷ [])) }
+    ensures outer { says returning 0 [] (first ∷ done ∷ []) ≡ Asks (Print (Text (codes "outer") ∷ [])) }
+    ensures returned { says returning 0 [] (first ∷ done ∷ done ∷ []) ≡ Returns (Int (pos 1)) }
+    ensures cancelled { says returning 0 [] (first ∷ thrown cancelled ∷ []) ≡ Asks (Print (Text (codes "outer") ∷ [])) }
+    ensures raised { says returning 0 [] (first ∷ thrown cancelled ∷ done ∷ []) ≡ Raises cancelled }
+{}
+
+/// An exception out of `finally` takes the place of the one that was on its way.
+#[tactic(auto, unfolding(model_says::specs::Says::course))]
+pub fn an_exception_that_finally_replaces()
+    ensures waits { says replacing 0 [] (first ∷ []) ≡ Asks (Print (Text (codes "finally") ∷ [])) }
+    ensures replaced { says replacing 0 [] (first ∷ done ∷ [])
+        ≡ Raises (exception_of RuntimeError (codes "finally")) }
+    ensures thrown { says replacing 0 [] (first ∷ thrown cancelled ∷ []) ≡ Raises cancelled }
+{}
+
+/// What ends the recursion is an exception like others, which `except BaseException` catches.
+#[tactic(auto, unfolding(model_says::specs::Says::course))]
+pub fn recursion_that_is_caught()
+    ensures { says catching 0 [] (first ∷ []) ≡ Returns (Exception too_many_frames) }
+{}
+
+/// A loop that is left by an exception in its test.
+#[tactic(auto, unfolding(model_says::specs::Says::course))]
+pub fn a_test_that_raises()
+    ensures prints { says dividing 0 [] (first ∷ []) ≡ Asks (Print (Int (pos 1) ∷ [])) }
+    ensures left { says dividing 0 [] (first ∷ done ∷ []) ≡ Returns (Int (pos 0)) }
 {}
 
 /// The call in the 64th frame opens no frame. Its arguments are evaluated before that is tested.
