@@ -7,7 +7,7 @@ use Rattle.model_value.specs.declared.outcome.Outcome.TheVariants.{Value as Retu
 use Rattle.model_straight.specs.Straight.{Line}
 use Rattle.model_wire.specs.Call.{Call, Answer}
 use Rattle.model_wire.specs.Journal.{Entry, Answered, Refused}
-use Rattle.model_wire.specs.Told.{Agrees, Rose, SinkSeen, took}
+use Rattle.model_wire.specs.Told.{Agrees, Rose, SinkSeen, WireSeen, took}
 use Rattle.model_straight.specs.Program.{turn_limit}
 use Rattle.model_straight.specs.State.{State, Event, Called, start}
 use Rattle.model_straight.specs.Turn.{turn, call_of}
@@ -28,18 +28,18 @@ use Rattle.aio_run.proofs.Fronts.{append-nil, took-nil, took_on, failed_on}
 use Rattle.aio_run.proofs.Turning.{lines-append}
 
 -- A run of a program in which some turns were made: the history, the answers so far, and what was taken.
-pub record Running (program : List Line) (made : ℕ) (kernel : Kernel) (h : History) (past : List Entry) (first_told now_told : Option (List Entry))
-    (first now : SinkSeen) : Type 0 where
+pub record Running (program : List Line) (made : ℕ) (kernel : Kernel) (h : History) (past : List Entry) (first_wire : WireSeen)
+    (now_told : Option (List Entry)) (first now : SinkSeen) : Type 0 where
   pub same : plain_program kernel.program ≡ program
   pub fits : Fits kernel h
-  pub told : (rest : List Entry) → Agrees now_told rest → Agrees first_told (past ++ rest)
+  pub told : (rest : List Entry) → Agrees now_told rest → Agrees first_wire.left (past ++ rest)
   pub on : (rest : List Entry) → run program (past ++ rest) turn_limit ≡ run_on turn_limit made (state_of kernel h) rest
   pub sink : now ≡ took first (lines_of_events h.events)
 
 -- a run that begins
-pub running_first : (program : List Line) (kernel : Kernel) (told : Option (List Entry)) (sink : SinkSeen) → plain_program kernel.program ≡ program
-    → Fits kernel starting → state_of kernel starting ≡ start program → Running program 0 kernel starting [] told told sink sink
-running_first program kernel told sink same fits begins =
+pub running_first : (program : List Line) (kernel : Kernel) (wire : WireSeen) (sink : SinkSeen) → plain_program kernel.program ≡ program
+    → Fits kernel starting → state_of kernel starting ≡ start program → Running program 0 kernel starting [] wire wire.left sink sink
+running_first program kernel wire sink same fits begins =
     record {
       same = same;
       fits = fits;
@@ -119,8 +119,8 @@ told_behind past answer rest = sym (append_assoc past (Answered answer ∷ []) r
 abbrev Gives : Option (List Entry) → Answer → Option (List Entry) → Type 0
 Gives told answer next = (rest : List Entry) → Agrees next rest → Agrees told (Answered answer ∷ rest)
 
-module _ {program : List Line} {made : ℕ} {kernel : Kernel} {h : History} {past : List Entry} {first_told now_told : Option (List Entry)}
-    {first now : SinkSeen} (running : Running program made kernel h past first_told now_told first now) where
+module _ {program : List Line} {made : ℕ} {kernel : Kernel} {h : History} {past : List Entry} {first_wire : WireSeen}
+    {now_told : Option (List Entry)} {first now : SinkSeen} (running : Running program made kernel h past first_wire now_told first now) where
   -- what a run writes where it ends here
   ended_transcript : (ending : Ending) (ends : EndsHere now_told made kernel h ending)
       → lines_of_events h.events ++ line (ending_text ending) ≡ transcript (run program (past ++ ends.rest) turn_limit)
@@ -128,7 +128,7 @@ module _ {program : List Line} {made : ℕ} {kernel : Kernel} {h : History} {pas
       ap (λ (t : List ℕ). t ++ line (ending_text ending)) (sym ends.same) ∙ ap transcript (sym (running.on ends.rest ∙ ends.here))
 
   pub ends_run : (ending : Ending) (ends : EndsHere now_told made kernel h ending) (after : SinkSeen) (status : ℕ)
-      → after ≡ took now (line (ending_text ending)) → status ≡ status_of ending → Ran program first_told first after status
+      → after ≡ took now (line (ending_text ending)) → status ≡ status_of ending → Ran program first_wire.left first after status
   ends_run ending ends after status wrote is = (
     past ++ ends.rest,
     running.told ends.rest ends.agrees,
@@ -139,7 +139,7 @@ module _ {program : List Line} {made : ℕ} {kernel : Kernel} {h : History} {pas
 
   -- a front of the last line
   last_in_part : (ending : Ending) (ends : EndsHere now_told made kernel h ending) (front : List ℕ) → IsFrontOf front (line (ending_text ending))
-      → RanInPart program first_told (lines_of_events h.events ++ front)
+      → RanInPart program first_wire.left (lines_of_events h.events ++ front)
   last_in_part ending ends front part = (
     past ++ ends.rest,
     running.told ends.rest ends.agrees,
@@ -150,22 +150,22 @@ module _ {program : List Line} {made : ℕ} {kernel : Kernel} {h : History} {pas
     ),
   )
 
-  pub ends_stops : (ending : Ending) (ends : EndsHere now_told made kernel h ending) (after : SinkSeen) (wire_before wire_now : ℕ) (halt : Halt)
-      → StopsWriting (line (ending_text ending)) now after halt → Stopped program first_told first after wire_before wire_now halt
-  ends_stops ending ends after wire_before wire_now Memory stops = (
+  pub ends_stops : (ending : Ending) (ends : EndsHere now_told made kernel h ending) (after : SinkSeen) (wire_now : WireSeen) (halt : Halt)
+      → StopsWriting (line (ending_text ending)) now after halt → Stopped program first_wire wire_now first after halt
+  ends_stops ending ends after wire_now Memory stops = (
     lines_of_events h.events ++ stops.0,
     last_in_part ending ends stops.0 stops.1,
     took_on first now after (lines_of_events h.events) stops.0 running.sink stops.2,
   )
-  ends_stops ending ends after wire_before wire_now Sink stops = (
+  ends_stops ending ends after wire_now Sink stops = (
     lines_of_events h.events ++ stops.0,
     last_in_part ending ends stops.0 stops.1,
     failed_on first now after (lines_of_events h.events) stops.0 running.sink stops.2,
   )
-  ends_stops ending ends after wire_before wire_now Wire stops = absurd stops
+  ends_stops ending ends after wire_now Wire stops = absurd stops
 
   -- what was written before a call is a front of the whole
-  front_before : RanInPart program first_told (lines_of_events h.events)
+  front_before : RanInPart program first_wire.left (lines_of_events h.events)
   front_before =
       let (rest, agrees) = agreed now_told in
       let r = run_on turn_limit made (state_of kernel h) rest in
@@ -181,11 +181,11 @@ module _ {program : List Line} {made : ℕ} {kernel : Kernel} {h : History} {pas
       )
 
   -- a call for which there was no memory
-  pub call_stops : (wire_before wire_now : ℕ) → Stopped program first_told first now wire_before wire_now Memory
-  call_stops wire_before wire_now = (lines_of_events h.events, front_before, running.sink)
+  pub call_stops : (wire_now : WireSeen) → Stopped program first_wire wire_now first now Memory
+  call_stops wire_now = (lines_of_events h.events, front_before, running.sink)
 
   -- a wire that fails leaves the run at its next call
-  pub wire_failed : is_over kernel.phase ≡ false → made < turn_limit → RanSoFar program first_told first now
+  pub wire_failed : is_over kernel.phase ≡ false → made < turn_limit → RanSoFar program first_wire.left first now
   wire_failed over left =
       let (rest, agrees) = agreed now_told in
       let s = state_of kernel h in
@@ -202,7 +202,7 @@ module _ {program : List Line} {made : ℕ} {kernel : Kernel} {h : History} {pas
   -- a turn leads on
   pub turned_on : (new : Kernel) (new_told : Option (List Entry)) (after : SinkSeen) (answer : Answer) → is_over kernel.phase ≡ false
       → made < turn_limit → Gives now_told answer new_told → TurnWritten kernel new answer now after
-      → (goes : History) × (had : List Entry) × Running program (made + 1) new goes had first_told new_told first after
+      → (goes : History) × (had : List Entry) × Running program (made + 1) new goes had first_wire new_told first after
   turned_on new new_told after answer over left got written =
       let (goes, fits, led, (text, more, wrote)) = written.1 h running.fits in
       let none = goes_on (plain_program kernel.program) kernel.time kernel.phase h made over left in (
@@ -212,7 +212,7 @@ module _ {program : List Line} {made : ℕ} {kernel : Kernel} {h : History} {pas
           same = ap plain_program written.0 ∙ running.same;
           fits = fits;
           told = λ rest agrees.
-              subst (λ (es : List Entry). Agrees first_told es) (told_behind past answer rest) (running.told (Answered answer ∷ rest) (got rest agrees));
+              subst (λ (es : List Entry). Agrees first_wire.left es) (told_behind past answer rest) (running.told (Answered answer ∷ rest) (got rest agrees));
           on = λ rest.
               ap (λ (es : List Entry). run program es turn_limit) (sym (told_behind past answer rest)) ∙ running.on (Answered answer ∷ rest)
               ∙ run_on-turn turn_limit made (state_of kernel h) answer rest none ∙ ap (λ (s : State). run_on turn_limit (made + 1) s rest) led;
@@ -222,7 +222,7 @@ module _ {program : List Line} {made : ℕ} {kernel : Kernel} {h : History} {pas
 
   -- a front of a turn's lines
   turn_in_part : (new_told : Option (List Entry)) (answer : Answer) (front : List ℕ) → is_over kernel.phase ≡ false → made < turn_limit
-      → Gives now_told answer new_told → TurnInPart kernel answer front → RanInPart program first_told (lines_of_events h.events ++ front)
+      → Gives now_told answer new_told → TurnInPart kernel answer front → RanInPart program first_wire.left (lines_of_events h.events ++ front)
   turn_in_part new_told answer front over left got written =
       let (rest, agrees) = agreed new_told in
       let (behind, more) = written h running.fits in
@@ -248,19 +248,19 @@ module _ {program : List Line} {made : ℕ} {kernel : Kernel} {h : History} {pas
       regrouped a b c d e = simp append_assoc
 
   pub turn_stops_run : (halt : Halt) (new_told : Option (List Entry)) (after : SinkSeen) (answer : Answer) → is_over kernel.phase ≡ false
-      → made < turn_limit → Gives now_told answer new_told → (wire_before wire_now : ℕ) → StopsInTurn kernel answer now after halt
-      → Stopped program first_told first after wire_before wire_now halt
-  turn_stops_run Memory new_told after answer over left got wire_before wire_now stops = (
+      → made < turn_limit → Gives now_told answer new_told → (wire_now : WireSeen) → StopsInTurn kernel answer now after halt
+      → Stopped program first_wire wire_now first after halt
+  turn_stops_run Memory new_told after answer over left got wire_now stops = (
     lines_of_events h.events ++ stops.0,
     turn_in_part new_told answer stops.0 over left got stops.1,
     took_on first now after (lines_of_events h.events) stops.0 running.sink stops.2,
   )
-  turn_stops_run Sink new_told after answer over left got wire_before wire_now stops = (
+  turn_stops_run Sink new_told after answer over left got wire_now stops = (
     lines_of_events h.events ++ stops.0,
     turn_in_part new_told answer stops.0 over left got stops.1,
     failed_on first now after (lines_of_events h.events) stops.0 running.sink stops.2,
   )
-  turn_stops_run Wire new_told after answer over left got wire_before wire_now stops = absurd stops
+  turn_stops_run Wire new_told after answer over left got wire_now stops = absurd stops
 
 pub ends_finished : (now_told : Option (List Entry)) (made : ℕ) (kernel : Kernel) (h : History) → is_over kernel.phase ≡ true → EndsHere now_told made kernel h (Finished (Returned Nothing))
 ends_finished now_told made kernel h over =

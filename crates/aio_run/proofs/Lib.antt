@@ -1,5 +1,4 @@
 pub mod Driving
-pub mod Files
 pub mod Fronts
 pub mod Journals
 pub mod LinesLeft

@@ -9,7 +9,7 @@ use Rattle.model_text.specs.FirstPass.{fault_at}
 use Rattle.model_text.specs.Scripts.{script_of}
 use Rattle.model_text.specs.SecondPass.{Judged}
 use Rattle.model_wire.specs.Journal.{Entry, entries_of}
-use Rattle.model_wire.specs.Told.{Agrees, Rose, ShelfSeen, SinkSeen, NoneFailed, SinkFailed, grown, took}
+use Rattle.model_wire.specs.Told.{Agrees, Rose, ShelfSeen, SinkSeen, WireSeen, NoneFailed, SinkFailed, grown, took}
 use Rattle.model_machine.specs.Theorem.{Output, IsFrontOf, MayBegin, StopsShort, SinkStops, WritesWhole}
 use Rattle.model_straight.specs.Straight.{Line}
 use Rattle.model_straight.specs.StraightScripts.{straight_of}
@@ -19,7 +19,7 @@ use Rattle.model_straight.specs.Transcript.{line, lines_of_events}
 use Rattle.aio_run.specs.Drive.{Ran, RanInPart, RanSoFar, Stopped}
 use Rattle.aio_run.specs.JournalWire.{left_of}
 use Rattle.aio_run.specs.Outcome.{EndsEarly}
-use Rattle.aio_run.specs.Reading.{IsFront}
+use Rattle.aio_memwire.specs.Reading.{IsFront}
 use Rattle.aio_run.specs.Script.{SpellsScript, IsMissing, Tells, refusal_text}
 use Rattle.aio_run.specs.declared.script.NoScript.{NoScript}
 use Rattle.aio_run.specs.declared.script.NoScript.TheVariants.{Refused, Failed, Memory as NoMemory}
@@ -97,12 +97,16 @@ module _ (program : List Line) (old new : ShelfSeen) (journal : List ℕ) where
   failing_from first last (inr there) same none stops = (stops.0, part_from stops.0 there same stops.1, stops.2)
 
   -- a run that stops for want of memory or at the sink; that it stops at the wire is told apart before
-  pub early_from : (halt : Halt) (first last : SinkSeen) (before now : ℕ) → (halt ≡ Wire → ⊥) → new ≡ old
-      → (old.file journal ≡ Some None → last ≡ first) → Stopped program (left_of (old.file journal) None) first last before now halt
+  pub early_from : (halt : Halt) (first last : SinkSeen) (before now : WireSeen) → before.left ≡ left_of (old.file journal) None
+      → (halt ≡ Wire → ⊥) → new ≡ old → (old.file journal ≡ Some None → last ≡ first) → Stopped program before now first last halt
       → EndsEarly (MayRun old new program journal) (NoneFailed old new) first last halt
-  early_from Memory first last before now other same none stopped = short_from first last (missing_or (old.file journal)) same none stopped
-  early_from Sink first last before now other same none stopped = failing_from first last (missing_or (old.file journal)) same none stopped
-  early_from Wire first last before now other same none stopped = absurd (other refl)
+  early_from Memory first last before now told other same none stopped =
+      short_from first last (missing_or (old.file journal)) same none
+      (stopped.0, subst (λ (t : Option (List Entry)). RanInPart program t stopped.0) told stopped.1, stopped.2)
+  early_from Sink first last before now told other same none stopped =
+      failing_from first last (missing_or (old.file journal)) same none
+      (stopped.0, subst (λ (t : Option (List Entry)). RanInPart program t stopped.0) told stopped.1, stopped.2)
+  early_from Wire first last before now told other same none stopped = absurd (other refl)
 
   module _ (first mid last : SinkSeen) (fault_line : List ℕ) (rose : Rose (old.faults journal) (new.faults journal))
       (ran : RanSoFar program (left_of (old.file journal) None) first mid) (text : fault_line ≡ line (codes "! fault shelf")) where

@@ -2,7 +2,7 @@
 use Rattle.std.specs.Prelude.{◌≡◌, ℕ, List, ◌++◌, Option}
 use Rattle.model_straight.specs.Straight.{Line}
 use Rattle.model_wire.specs.Journal.{Entry}
-use Rattle.model_wire.specs.Told.{Agrees, Rose, SinkSeen, took, SinkFailed}
+use Rattle.model_wire.specs.Told.{Agrees, Rose, SinkSeen, WireSeen, took, SinkFailed}
 use Rattle.model_wire.specs.Call.{Answer}
 use Rattle.model_straight.specs.Program.{IsOver, turn_limit}
 use Rattle.model_straight.specs.Run.{run}
@@ -33,10 +33,10 @@ RanSoFar program told old new =
     × (new ≡ took old (lines_of_events (run program had turn_limit).events))
 
 -- A run stops for want of memory, or where the sink failed, or where the wire's count of faults rose.
-abbrev pub Stopped : List Line → Option (List Entry) → SinkSeen → SinkSeen → (before now : ℕ) → Halt → Type 0
-Stopped program told old new before now Memory = (front : List ℕ) × RanInPart program told front × (new ≡ took old front)
-Stopped program told old new before now Sink = (front : List ℕ) × RanInPart program told front × SinkFailed front old new
-Stopped program told old new before now Wire = RanSoFar program told old new × Rose before now
+abbrev pub Stopped : List Line → (before now : WireSeen) → SinkSeen → SinkSeen → Halt → Type 0
+Stopped program before now old new Memory = (front : List ℕ) × RanInPart program before.left front × (new ≡ took old front)
+Stopped program before now old new Sink = (front : List ℕ) × RanInPart program before.left front × SinkFailed front old new
+Stopped program before now old new Wire = RanSoFar program before.left old new × Rose before.faults now.faults
 
 -- a fact that holds unless the wire failed
 abbrev pub UnlessWire : Type 0 → Halt → Type 0

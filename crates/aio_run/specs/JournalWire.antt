@@ -1,9 +1,9 @@
 -- What a journal's wire tells of the answers that are left.
-use Rattle.std.specs.Prelude.{◌≡◌, refl, ℕ, List, [], ◌∷◌, Option, Some, None}
+use Rattle.std.specs.Prelude.{◌≡◌, refl, ℕ, false, List, [], ◌∷◌, Option, Some, None}
 use Rattle.model_wire.specs.Journal.{Entry, Answered, Refused, entries_of}
 use Rattle.std.proofs.Common.{sym}
 use Rattle.aio_wire.specs.Replied.{EndAgrees}
-use Rattle.model_wire.specs.Told.{Agrees, WireEnd, Going, OutOfAnswers, AtRefused}
+use Rattle.model_wire.specs.Told.{Agrees, ShelfSeen, WireSeen, WireEnd, Going, OutOfAnswers, AtRefused}
 use Rattle.aio_wire.specs.Told.{refused_of}
 use Rattle.aio_wire.specs.declared.wire.Reply.{Reply}
 use Rattle.aio_wire.specs.declared.wire.Reply.TheVariants.{Got, Over, Bad, Failed}
@@ -35,6 +35,17 @@ end_of_entries (Refused line cause ∷ entries) = AtRefused line cause
 abbrev pub end_of : Option (List Entry) → WireEnd
 end_of None = Going
 end_of (Some left) = end_of_entries left
+
+-- Its count is that of its shelf's file. It tells neither what it was asked nor what it handed on.
+abbrev pub seen_of : ShelfSeen → List ℕ → Option (List Entry) → WireSeen
+seen_of shelf name left = record {
+  left = left_of (shelf.file name) left;
+  asked = None;
+  handed = None;
+  end = end_of left;
+  fitting = false;
+  faults = shelf.faults name;
+}
 
 -- what is told outright is what it is
 told_outright : (left : List Entry) → Agrees (Some left) left

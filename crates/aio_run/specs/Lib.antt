@@ -5,7 +5,6 @@ pub mod Journal
 pub mod JournalWire
 pub mod Kernel
 pub mod Outcome
-pub mod Reading
 pub mod Stepping
 pub mod Words
 pub mod Writing

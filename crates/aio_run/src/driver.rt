@@ -23,11 +23,11 @@ pub fn drive<W: Wire, K: Sink>(
     wire: &mut W,
     out: &mut K,
 ) -> Result<u8, Halt>
-    ensures run { IfOk result (Ran (plain_program program) (W.answers wire.old) (K.seen out.old) (K.seen out.new)) }
+    ensures run { IfOk result (Ran (plain_program program) (W.seen wire.old).left (K.seen out.old) (K.seen out.new)) }
     ensures live { IfOk result (λ _. W.fails wire.old → ⊥) }
     ensures failing { W.fails wire.old → K.seen out.new ≡ K.seen out.old }
-    ensures stopped { IfErr result (Stopped (plain_program program) (W.answers wire.old) (K.seen out.old) (K.seen out.new)
-        (W.faults wire.old) (W.faults wire.new)) }
+    ensures stopped { IfErr result (Stopped (plain_program program) (W.seen wire.old) (W.seen wire.new)
+        (K.seen out.old) (K.seen out.new)) }
     ensures quiet { OnOk result (W.quiet wire.old wire.new) }
     ensures still { IfErr result (UnlessWire (W.quiet wire.old wire.new)) }
     ensures keeps { W.keeps wire.old wire.new }

@@ -3,8 +3,8 @@ ghost use Rattle.std.specs.Prelude.{◌≡◌, None};
 ghost use Rattle.aio_run.specs.JournalWire.{RepliesWith};
 
 use crate::journal::{Journal, NextEntry};
-use crate::reading::{ReadFault, read_file};
 use aio_base::Memory;
+use aio_memwire::{ReadFault, read_file};
 use aio_wire::{Call, Reply, Shelf, Wire};
 use std::alloc::Global;
 
@@ -52,13 +52,9 @@ impl<'a, F: Shelf> JournalWire<'a, F, Buffers> {
 
 impl<'a, F: Shelf> Wire for JournalWire<'a, F, Buffers> {
     ghost use Rattle.std.specs.Prelude.{◌≡◌, None, Some};
-    ghost use Rattle.aio_run.specs.JournalWire.{left_of, end_of};
+    ghost use Rattle.aio_run.specs.JournalWire.{seen_of};
 
-    ghost faults = { λ wire. (F.seen wire.shelf.now).faults wire.name.now };
-
-    ghost answers = { λ wire. left_of ((F.seen wire.shelf.now).file wire.name.now) wire.own.journal };
-
-    ghost end = { λ wire. end_of wire.own.journal };
+    ghost seen = { λ wire. seen_of (F.seen wire.shelf.now) wire.name.now wire.own.journal };
 
     ghost fails = { λ wire. (wire.own.journal ≡ None) × ((F.seen wire.shelf.now).file wire.name.now ≡ Some None) };
 

@@ -12,7 +12,6 @@ mod kernel;
 mod lines;
 mod phase;
 mod program;
-mod reading;
 mod replaying;
 mod script;
 mod stepping;

@@ -6,8 +6,8 @@ ghost use Rattle.aio_run.specs.Outcome.{EndsEarly};
 ghost use Rattle.aio_run.specs.Script.{SpellsScript, IsMissing, Tells, refusal_text};
 
 use crate::halt::Halt;
-use crate::reading::{ReadFault, read_front};
 use crate::writing::say;
+use aio_memwire::{ReadFault, read_front};
 use aio_script::{Program, ScriptFault, read};
 use aio_wire::{Shelf, Sink};
 use std::alloc::{AllocError, Global};

@@ -1,16 +1,13 @@
 //! Whole runs of the program, over files in memory.
 use crate::aio_main;
 use aio_base::Memory;
+use aio_memwire::{DeadWire, FailAt};
 use aio_wire::{MemShelf, MemSink, Shelf, Sink};
-use dead_wire::DeadWire;
-use fake_shelf::FakeShelf;
 use fake_sink::FakeSink;
 use std::alloc::Global;
 use std::test::Fail;
 
 mod checks;
-mod dead_wire;
-mod fake_shelf;
 mod fake_sink;
 
 const WORDS: [&str; 3] = ["replay", "s", "j"];
@@ -334,14 +331,14 @@ fn missing_files(rt: HostRuntime) -> Result<(), Fail> {
     Ok(())
 }
 
-// Whether a run whose shelf fails at a call, from 0, ends with this status and writes this.
-fn ends_on_fake_shelf(
+// Whether a run whose shelf fails at a call, from 1, ends with this status and writes this.
+fn ends_on_failing_shelf(
     alloc: Global,
     words: &[&str],
-    call: usize,
+    call: u64,
     want: (u8, &str),
 ) -> Result<bool, Memory> {
-    let mut shelf = FakeShelf::new(shelf_of(alloc, HELLO, JOURNAL)?, call);
+    let mut shelf = FailAt::new(shelf_of(alloc, HELLO, JOURNAL)?, vec![in alloc; call]?);
     let mut sink = MemSink::new(alloc);
     let status = status_of(alloc, words, &mut shelf, &mut sink)?;
     Ok(status == want.0 && sink.taken() == want.1.as_bytes())
@@ -349,13 +346,13 @@ fn ends_on_fake_shelf(
 
 #[test]
 fn shelf_fails(rt: HostRuntime) -> Result<(), Fail> {
-    for call in 0..4 {
+    for call in 1..5 {
         assert!(rt;
-            ends_on_fake_shelf(rt.alloc(), &WORDS, call, (9, "! fault shelf\n"))?,
+            ends_on_failing_shelf(rt.alloc(), &WORDS, call, (9, "! fault shelf\n"))?,
             "{call}"
         );
     }
-    assert!(rt; ends_on_fake_shelf(rt.alloc(), &WORDS, 4, (0, WHOLE))?);
+    assert!(rt; ends_on_failing_shelf(rt.alloc(), &WORDS, 5, (0, WHOLE))?);
     Ok(())
 }
 

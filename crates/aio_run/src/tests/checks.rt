@@ -1,5 +1,5 @@
 //! Runs of `check`.
-use super::{HELLO, ends, ends_on_fake_shelf, ends_on_fake_sink, status_of};
+use super::{HELLO, ends, ends_on_failing_shelf, ends_on_fake_sink, status_of};
 use aio_base::Memory;
 use aio_wire::{MemShelf, MemSink, Shelf};
 use std::alloc::Global;
@@ -111,13 +111,13 @@ fn lengths(rt: HostRuntime) -> Result<(), Fail> {
 fn outside_fails(rt: HostRuntime) -> Result<(), Fail> {
     let fault = (9, "! fault shelf\n");
     assert!(rt; ends(rt.alloc(), &["check", "q"], HELLO, "", fault)?);
-    for call in 0..2 {
+    for call in 1..3 {
         assert!(rt;
-            ends_on_fake_shelf(rt.alloc(), &WORDS, call, fault)?,
+            ends_on_failing_shelf(rt.alloc(), &WORDS, call, fault)?,
             "{call}"
         );
     }
-    assert!(rt; ends_on_fake_shelf(rt.alloc(), &WORDS, 2, (0, HELLO))?);
+    assert!(rt; ends_on_failing_shelf(rt.alloc(), &WORDS, 3, (0, HELLO))?);
     let whole = HELLO.as_bytes();
     for call in 0..whole.len() {
         assert!(rt;

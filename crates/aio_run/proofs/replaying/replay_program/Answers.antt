@@ -2,7 +2,8 @@ use Rattle.std.proofs.Common.{rules, List, Option, refl, subst}
 use Rattle.std.proofs.lemmas.Result.{IfOk-weaker, IfErr-weaker}
 use Rattle.model_wire.specs.Journal.{Entry}
 use Rattle.aio_straight.specs.Lines.{plain_program}
-use Rattle.aio_run.specs.Drive.{Ran, Stopped}
+use Rattle.aio_run.specs.Drive.{Ran, RanSoFar}
+use Rattle.aio_run.specs.JournalWire.{seen_of}
 use Rattle.aio_run.specs.declared.halt.Halt.TheVariants.{Memory, Sink, Wire}
 use Rattle.aio_run.proofs.Outcomes.{told_first, missing_first, whole_from, early_from, fault_from, fault_early, rose_here, seen_kept}
 use Rattle.aio_run.proofs.replaying.replay_program.Goals as goal
@@ -31,13 +32,12 @@ returns-in-Wire-clause-ok g c =
     let program = plain_program c.args.program in
     let first = told_first g.F.Shelf.seen w.shelf.now c.args.shelf.now w.name.now c.args.journal.now w.own.journal c.new-wire.ensures.held
     c.new-wire.ensures.name c.new-wire.ensures.unread in
-    let stopped = subst (λ (t : Option (List Entry)). Stopped program t (g.K.Sink.seen c.args.out.now) (g.K.Sink.seen c.drive.new.out)
-    ((g.F.Shelf.seen w.shelf.now).faults w.name.now) ((g.F.Shelf.seen c.drive.new.wire.shelf.now).faults c.drive.new.wire.name.now) Wire)
-    first (rw c.in-Wire.is at c.in-Err.ensures.stopped) in
+    let stopped = rw c.in-Wire.is at c.in-Err.ensures.stopped in
+    let ran = subst (λ (t : Option (List Entry)). RanSoFar program t (g.K.Sink.seen c.args.out.now) (g.K.Sink.seen c.drive.new.out)) first stopped.0 in
     IfOk-weaker c.say.result _ _ (λ status d. fault_from program old (g.F.Shelf.seen _) c.args.journal.now (g.K.Sink.seen c.args.out.now)
     (g.K.Sink.seen c.drive.new.out) (g.K.Sink.seen c.say.new.out) _
     (rose_here g.F.Shelf.seen c.args.shelf.now w.shelf.now c.drive.new.wire.shelf.now _ w.name.now c.drive.new.wire.name.now c.args.journal.now
-    c.new-wire.ensures.held (search rules) c.new-wire.ensures.name c.drive.ensures.keeps.1 stopped.1) stopped.0 refl status d.0 d.1) c.say.ensures.ok
+    c.new-wire.ensures.held (search rules) c.new-wire.ensures.name c.drive.ensures.keeps.1 stopped.1) ran refl status d.0 d.1) c.say.ensures.ok
 
 pub returns-in-Wire-clause-err : goal.returns-in-Wire-clause-err
 returns-in-Wire-clause-err g c =
@@ -46,13 +46,12 @@ returns-in-Wire-clause-err g c =
     let program = plain_program c.args.program in
     let first = told_first g.F.Shelf.seen w.shelf.now c.args.shelf.now w.name.now c.args.journal.now w.own.journal c.new-wire.ensures.held
     c.new-wire.ensures.name c.new-wire.ensures.unread in
-    let stopped = subst (λ (t : Option (List Entry)). Stopped program t (g.K.Sink.seen c.args.out.now) (g.K.Sink.seen c.drive.new.out)
-    ((g.F.Shelf.seen w.shelf.now).faults w.name.now) ((g.F.Shelf.seen c.drive.new.wire.shelf.now).faults c.drive.new.wire.name.now) Wire)
-    first (rw c.in-Wire.is at c.in-Err.ensures.stopped) in
+    let stopped = rw c.in-Wire.is at c.in-Err.ensures.stopped in
+    let ran = subst (λ (t : Option (List Entry)). RanSoFar program t (g.K.Sink.seen c.args.out.now) (g.K.Sink.seen c.drive.new.out)) first stopped.0 in
     IfErr-weaker c.say.result _ _ (λ halt d. fault_early program old (g.F.Shelf.seen _) c.args.journal.now (g.K.Sink.seen c.args.out.now)
     (g.K.Sink.seen c.drive.new.out) (g.K.Sink.seen c.say.new.out) _
     (rose_here g.F.Shelf.seen c.args.shelf.now w.shelf.now c.drive.new.wire.shelf.now _ w.name.now c.drive.new.wire.name.now c.args.journal.now
-    c.new-wire.ensures.held (search rules) c.new-wire.ensures.name c.drive.ensures.keeps.1 stopped.1) stopped.0 refl halt d) c.say.ensures.err
+    c.new-wire.ensures.held (search rules) c.new-wire.ensures.name c.drive.ensures.keeps.1 stopped.1) ran refl halt d) c.say.ensures.err
 
 pub returns-in-Memory-clause-err : goal.returns-in-Memory-clause-err
 returns-in-Memory-clause-err g c =
@@ -61,11 +60,11 @@ returns-in-Memory-clause-err g c =
     let program = plain_program c.args.program in
     let first = told_first g.F.Shelf.seen w.shelf.now c.args.shelf.now w.name.now c.args.journal.now w.own.journal c.new-wire.ensures.held
     c.new-wire.ensures.name c.new-wire.ensures.unread in
-    let stopped = subst (λ (t : Option (List Entry)). Stopped program t (g.K.Sink.seen c.args.out.now) (g.K.Sink.seen c.drive.new.out)
-    ((g.F.Shelf.seen w.shelf.now).faults w.name.now) ((g.F.Shelf.seen c.drive.new.wire.shelf.now).faults c.drive.new.wire.name.now) Memory)
-    first (rw c.in-Memory.is at c.in-Err.ensures.stopped) in
+    let stopped = rw c.in-Memory.is at c.in-Err.ensures.stopped in
+    let after = c.drive.new.wire in
     early_from program old (g.F.Shelf.seen _) c.args.journal.now Memory (g.K.Sink.seen c.args.out.now) (g.K.Sink.seen c.drive.new.out)
-    ((g.F.Shelf.seen w.shelf.now).faults w.name.now) ((g.F.Shelf.seen c.drive.new.wire.shelf.now).faults c.drive.new.wire.name.now) (λ e. cc e)
+    (seen_of (g.F.Shelf.seen w.shelf.now) w.name.now w.own.journal) (seen_of (g.F.Shelf.seen after.shelf.now) after.name.now after.own.journal) first
+    (λ e. cc e)
     (seen_kept g.F.Shelf.seen c.args.shelf.now w.shelf.now c.drive.new.wire.shelf.now _ c.new-wire.ensures.held (search rules) (rw c.in-Memory.is at c.in-Err.ensures.still))
     (λ missing. c.in-Err.ensures.failing (
       c.new-wire.ensures.unread,
@@ -80,11 +79,11 @@ returns-clause-err g c =
     let program = plain_program c.args.program in
     let first = told_first g.F.Shelf.seen w.shelf.now c.args.shelf.now w.name.now c.args.journal.now w.own.journal c.new-wire.ensures.held
     c.new-wire.ensures.name c.new-wire.ensures.unread in
-    let stopped = subst (λ (t : Option (List Entry)). Stopped program t (g.K.Sink.seen c.args.out.now) (g.K.Sink.seen c.drive.new.out)
-    ((g.F.Shelf.seen w.shelf.now).faults w.name.now) ((g.F.Shelf.seen c.drive.new.wire.shelf.now).faults c.drive.new.wire.name.now) Sink)
-    first (rw c.in-Sink.is at c.in-Err.ensures.stopped) in
+    let stopped = rw c.in-Sink.is at c.in-Err.ensures.stopped in
+    let after = c.drive.new.wire in
     early_from program old (g.F.Shelf.seen _) c.args.journal.now Sink (g.K.Sink.seen c.args.out.now) (g.K.Sink.seen c.drive.new.out)
-    ((g.F.Shelf.seen w.shelf.now).faults w.name.now) ((g.F.Shelf.seen c.drive.new.wire.shelf.now).faults c.drive.new.wire.name.now) (λ e. cc e)
+    (seen_of (g.F.Shelf.seen w.shelf.now) w.name.now w.own.journal) (seen_of (g.F.Shelf.seen after.shelf.now) after.name.now after.own.journal) first
+    (λ e. cc e)
     (seen_kept g.F.Shelf.seen c.args.shelf.now w.shelf.now c.drive.new.wire.shelf.now _ c.new-wire.ensures.held (search rules) (rw c.in-Sink.is at c.in-Err.ensures.still))
     (λ missing. c.in-Err.ensures.failing (
       c.new-wire.ensures.unread,
