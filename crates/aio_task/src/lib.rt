@@ -1,9 +1,11 @@
 //! The loop's parts in code: handles, timers, futures and tasks, and steps of tasks over them.
 #![tactic(auto)]
 
+mod awaits;
 mod parts;
 mod running;
 mod suspension;
+mod tasks;
 
 pub use aio_future::FutureId;
 pub use aio_ready::{HandleId, Name, Ticket};

@@ -1,5 +1,5 @@
 //! The loop's parts.
-ghost use Rattle.std.specs.Prelude.{◌≡◌, ◌≤◌, ◌<◌, ◌⊎◌, ◌++◌, [], ◌∷◌, true, false, not, None, Some, IfOk, OnOk, OnErr, IfSome, length, slice_get, slice_set, nat_lt, if◌then◌else◌};
+ghost use Rattle.std.specs.Prelude.{◌≡◌, ◌+◌, ◌≤◌, ◌<◌, ◌⊎◌, ◌++◌, [], ◌∷◌, true, false, not, None, Some, IfOk, OnOk, OnErr, IfSome, length, slice_get, slice_set, nat_lt, if◌then◌else◌};
 ghost use Rattle.std.specs.List.{All};
 ghost use Rattle.std.specs.Option.{option_copied, option_map};
 ghost use Rattle.model_value.specs.Number.{most};
@@ -13,7 +13,7 @@ ghost use Rattle.model_loop.specs.Owning.{owner_at};
 ghost use Rattle.model_loop.specs.Cancel as request;
 ghost use Rattle.model_loop.specs.Circles.{circle};
 ghost use Rattle.model_loop.specs.Spent.{is_spent};
-ghost use Rattle.model_loop.specs.Suspend.{suspend};
+ghost use Rattle.model_loop.specs.Suspend.{suspend as suspend_of};
 ghost use Rattle.law_parts.specs.Forgotten.{released};
 ghost use Rattle.aio_ready.specs.Queue as queue;
 ghost use Rattle.aio_ready.specs.declared.handle.Name.TheVariants as name;
@@ -23,10 +23,12 @@ ghost use Rattle.aio_future.specs.Settled.{settled, called, registered, soon_if_
 ghost use Rattle.aio_cancel.specs.Body.{Appended};
 ghost use Rattle.aio_task.specs.View.{parts, stepped_at, is_step, NamesNoStep, suspension_of, empty};
 
-use crate::running::Running;
+use crate::awaits::suspend;
+use crate::running::{Running, stepped};
 use crate::suspension::Suspension;
+use crate::tasks::{add, begin, cancels_of, finish, future_of, input_of, uncancel};
 use aio_base::{Action, Exc, Input, Memory, Outcome, Value};
-use aio_cancel::{Body, Marks, Notes, Stack, cancel, leads};
+use aio_cancel::{Body, Marks, Notes, Stack, cancel};
 use aio_future::FutureId;
 use aio_ready::{HandleId, Ticket};
 use aio_timer::{TimerId, Timers, Unplaced};
@@ -51,8 +53,6 @@ pub struct Parts {
 }
 
 impl Model for Parts {
-    ghost use Rattle.std.specs.Option.{option_map};
-    ghost use Rattle.aio_task.specs.declared.running.Running.{Running};
     ghost use Rattle.aio_task.specs.View.{View};
     ghost use Rattle.aio_task.specs.Code.{coded_view};
 
@@ -60,16 +60,12 @@ impl Model for Parts {
 
     ghost coded = { coded_view };
 
-    ghost view = { λ a. record {
-      time = a.time;
-      profile = a.profile;
-      queue = a.body.queue;
-      schedule = a.timers;
-      futures = a.body.futures;
-      tasks = a.body.tasks;
-      running = option_map (λ (it : Running). it.task) a.running;
-      called = a.called;
-    } };
+    ghost use Rattle.aio_task.specs.Kept.{view_of, IsKept, HasRoom};
+
+    ghost view = { λ a. view_of a.time a.profile a.body a.timers a.running a.called };
+
+    ghost invariant = { λ a. IsKept (view_of a.time a.profile a.body a.timers a.running a.called)
+        × HasRoom (view_of a.time a.profile a.body a.timers a.running a.called) a.stack a.seen a.notes };
 }
 
 impl Parts {
@@ -335,7 +331,10 @@ impl Parts {
         }) }
         ensures err { OnErr result (self.new ≡ self.old) }
     {
-        todo!()
+        let ticket = self.body.ready.ticket(alloc)?;
+        self.stack.announce()?;
+        self.seen.announce()?;
+        add(&mut self.body, alloc, ticket)
     }
 
     /// A task's step begins, by the handle that was taken from the queue: the task waits no more, and a mark is used up by
@@ -347,7 +346,10 @@ impl Parts {
         ensures after { parts self.new ≡ (tasks.begin_step task input (parts self.old)).parts }
         ensures beside { self.new ≡ record self.old { tasks = self.new.tasks; running = Some task; called = None } }
     {
-        todo!()
+        let marked = begin(&mut self.body, task);
+        self.called = None;
+        self.running = Some(Running { task, ticket });
+        input_of(marked, input)
     }
 
     /// A bare `yield`: the running task's next step is called soon. No task is running then.
@@ -357,7 +359,10 @@ impl Parts {
         ensures after { parts self.new ≡ tasks.pause task (parts self.old) }
         ensures beside { self.new ≡ record self.old { queue = queue.soon (action.Step task) self.old.queue; running = None } }
     {
-        todo!()
+        let Some(step) = self.running.take() else {
+            return;
+        };
+        let _id = self.body.ready.soon(step.ticket, Action::Step(task));
     }
 
     /// The running task awaits a pending future. An await that would never end is refused by a step that throws. No task is
@@ -367,7 +372,7 @@ impl Parts {
         requires running { self.old.running ≡ Some task }
         requires pending { is_pending_at (slice_get self.old.futures on) ≡ true }
         ensures answer { result ≡ suspension_of (circle (parts self.old) task on) }
-        ensures after { parts self.new ≡ (suspend task on (parts self.old)).parts }
+        ensures after { parts self.new ≡ (suspend_of task on (parts self.old)).parts }
         ensures queue { Appended self.old.queue self.new.queue }
         ensures beside { self.new ≡ record self.old {
           queue = self.new.queue;
@@ -376,7 +381,18 @@ impl Parts {
           running = None;
         } }
     {
-        todo!()
+        let Some(step) = self.running.take() else {
+            return Suspension::Suspended;
+        };
+        suspend(
+            task,
+            on,
+            step.ticket,
+            &mut self.body,
+            &mut self.seen,
+            &mut self.notes,
+            &mut self.stack,
+        )
     }
 
     /// The running task returned or raised, and is done. No task is running then.
@@ -392,7 +408,8 @@ impl Parts {
           running = None;
         } }
     {
-        todo!()
+        self.running = None;
+        finish(&mut self.body, task, end);
     }
 
     /// A request to cancel a future, a task's among them. The answer is false exactly where it can't reach anything.
@@ -408,14 +425,20 @@ impl Parts {
           tasks = self.new.tasks;
         } }
     {
-        todo!()
+        cancel(
+            target,
+            &mut self.body,
+            &mut self.seen,
+            &mut self.notes,
+            &mut self.stack,
+        )
     }
 
     /// How many requests to cancel a task count, those that were taken back not among them.
     pub fn cancelling(&self, task: u32) -> u64
         ensures { result ≡ tasks.cancelling (parts self.now) task }
     {
-        todo!()
+        cancels_of(&self.body, task)
     }
 
     /// A positive count falls by one, and the answer is the count then. What waits for the task's next step goes on waiting.
@@ -425,13 +448,14 @@ impl Parts {
         ensures answer { result ≡ tasks.cancelling (parts self.new) task }
         ensures beside { self.new ≡ record self.old { tasks = self.new.tasks } }
     {
-        todo!()
+        uncancel(&mut self.body, task);
+        cancels_of(&self.body, task)
     }
 
     /// A task's own future.
     pub fn future_of(&self, task: u32) -> FutureId
         ensures { result ≡ tasks.future_of (parts self.now) task }
     {
-        todo!()
+        future_of(&self.body, task)
     }
 }

@@ -1,4 +1,8 @@
 //! The step that is going on.
+ghost use Rattle.std.specs.Prelude.{◌≡◌};
+ghost use Rattle.aio_task.specs.View.{stepped};
+
+use aio_base::Action;
 use aio_ready::Ticket;
 
 /// A task whose step has begun and hasn't ended, with the memory of its next step or wakeup.
@@ -6,4 +10,16 @@ use aio_ready::Ticket;
 pub struct Running {
     pub task: u32,
     pub ticket: Ticket,
+}
+
+/// The task that an action steps.
+pub fn stepped(action: &Action) -> Option<u32>
+    ensures { result ≡ stepped action.now }
+{
+    match action {
+        Action::Step(task) => Some(*task),
+        Action::StepInCircle { task, circle: _ } => Some(*task),
+        Action::Wakeup(task) => Some(*task),
+        _ => None,
+    }
 }
