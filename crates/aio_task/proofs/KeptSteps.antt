@@ -40,11 +40,12 @@ use Rattle.aio_task.proofs.Keeping.{at_rest, rests, bare_no_circle, no_bare_circ
 use Rattle.aio_task.proofs.KeptFutures.{fallen_kept, moved_kept}
 use Rattle.aio_task.proofs.Queues.{live, live-pending, live-none, live-taken, live-other, any-taken, first_lives}
 
-pub spawn_kept : (v : View) (b : cancel.View) → v.called ≡ None → cancel.parts b ≡ spawn (parts v) → Appended v.queue b.queue → IsKept v
+pub spawn_kept : (v : View) (b : cancel.View) → v.called ≡ None → cancel.parts b ≡ spawn (parts v)
+    → b.queue ≡ queue.soon (Step (length v.tasks)) v.queue → IsKept v
     → IsKept (record v { queue = b.queue; futures = b.futures; tasks = b.tasks })
 spawn_kept v b idle same appended is =
     let sound = at_rest v.running v.called (parts v) idle is.sound in
-    moved_kept v b (spawn (parts v)) idle same appended
+    moved_kept v b (spawn (parts v)) idle same (Step (length v.tasks) ∷ [], appended)
     (no_bare_circle (spawn (parts v)) (subst HasNoCircle (spawn-bare (parts v))
     (spawn_no_circle v.running v.running (bare (parts v)) sound (bare_no_circle (parts v) is.no_circle))))
     (subst (ArePartsSound v.running v.running) (spawn-bare (parts v)) (spawn_sound v.running v.running (bare (parts v)) sound))

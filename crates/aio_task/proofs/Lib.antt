@@ -6,3 +6,4 @@ pub mod Keeping
 pub mod Releasing
 pub mod KeptFutures
 pub mod KeptSteps
+pub mod Nothing

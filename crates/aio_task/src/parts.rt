@@ -323,7 +323,7 @@ impl Parts {
         requires idle { self.old.called ≡ None }
         ensures number { IfOk result (λ task. task ≡ length self.old.tasks) }
         ensures after { OnOk result (parts self.new ≡ tasks.spawn (parts self.old)) }
-        ensures queue { OnOk result (Appended self.old.queue self.new.queue) }
+        ensures queue { OnOk result (self.new.queue ≡ queue.soon (action.Step (length self.old.tasks)) self.old.queue) }
         ensures beside { OnOk result (self.new ≡ record self.old {
           queue = self.new.queue;
           futures = self.new.futures;
@@ -331,10 +331,9 @@ impl Parts {
         }) }
         ensures err { OnErr result (self.new ≡ self.old) }
     {
-        let ticket = self.body.ready.ticket(alloc)?;
         self.stack.announce()?;
         self.seen.announce()?;
-        add(&mut self.body, alloc, ticket)
+        add(&mut self.body, alloc)
     }
 
     /// A task's step begins, by the handle that was taken from the queue: the task waits no more, and a mark is used up by

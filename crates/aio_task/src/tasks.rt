@@ -80,7 +80,7 @@ pub fn uncancel(body: &mut Body, task: u32)
 }
 
 /// A new task with its future, whose first step is called soon.
-pub fn add(body: &mut Body, alloc: Global, ticket: Ticket) -> Result<u32, Memory>
+pub fn add(body: &mut Body, alloc: Global) -> Result<u32, Memory>
     ensures number { IfOk result (λ task. task ≡ length body.old.tasks) }
     ensures after { OnOk result (parts body.new ≡ tasks.spawn (parts body.old)) }
     ensures queue { OnOk result (body.new.queue ≡ soon (action.Step (length body.old.tasks)) body.old.queue) }
@@ -89,6 +89,7 @@ pub fn add(body: &mut Body, alloc: Global, ticket: Ticket) -> Result<u32, Memory
     let Ok(task) = u32::try_from(body.tasks.len()) else {
         return Err(Memory);
     };
+    let ticket = body.ready.ticket(alloc)?;
     body.tasks.reserve(1)?;
     let future = body.futures.make(alloc, Kind::OfTask(task))?;
     let pushed = body.tasks.push(Task::new(future));
