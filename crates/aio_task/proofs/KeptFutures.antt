@@ -1,17 +1,17 @@
 -- What is done to futures keeps what the type keeps.
-use Rattle.std.proofs.Common.{◌≡◌, ℕ, zero, suc, ◌+◌, ◌<◌, ◌⊎◌, Bool, true, false, cond, List, [], ◌∷◌, ◌++◌, Option, Some, None, length, map, slice_get, slice_set, nat_lt, refl, ap, sym, subst, ◌∙◌, arith, inl, inr, if◌then◌else◌}
+use Rattle.std.proofs.Common.{◌≡◌, ℕ, zero, suc, ◌+◌, ◌<◌, ◌≤◌, ◌⊎◌, Bool, true, false, cond, List, [], ◌∷◌, ◌++◌, Option, Some, None, length, map, slice_get, slice_set, nat_lt, refl, ap, sym, subst, ◌∙◌, arith, inl, inr, Result, Ok, Err, OnOk, OnErr, if◌then◌else◌}
 use Rattle.std.specs.List.{list_any, count_by}
 use Rattle.std.specs.Option.{option_map, option_map_or}
 use Rattle.model_value.specs.Action.{Action}
 use Rattle.model_value.specs.declared.action.Action.TheVariants.{Step, StepInCircle, Wakeup, MainDone}
 use Rattle.model_value.specs.Value.{Outcome}
-use Rattle.model_loop.specs.Parts.{Future, Task, Parts}
+use Rattle.model_loop.specs.Parts.{FutureKind, Future, Task, Parts}
 use Rattle.model_loop.specs.Handles.{soon}
 use Rattle.model_loop.specs.Futures.{is_pending, is_pending_at, with_future, settle, settled, register, registered, registered_on, mark_asked}
 use Rattle.model_loop.specs.Tasks.{is_marked, waiter_of}
 use Rattle.model_loop.specs.Circles.{passes_at, passes_until}
 use Rattle.model_loop.specs.Totals.{callbacks_of, callbacks_at, pending_where}
-use Rattle.model_loop.specs.Owning.{owner_of, owner_at}
+use Rattle.model_loop.specs.Owning.{owner_of, owner_at, owner_in, OwnsFutures}
 use Rattle.model_loop.specs.Ways.{steps}
 use Rattle.model_loop.specs.Sound.{HasNoCircle, ArePartsSound}
 use Rattle.law_cancel.proofs.Circling.{no_circle_kept, passes-same, register-view}
@@ -20,23 +20,28 @@ use Rattle.law_cancel.proofs.Lookups.{get_within}
 use Rattle.law_made.proofs.Passing.{settle_no_circle}
 use Rattle.law_made.proofs.Registering.{callback_sound}
 use Rattle.law_parts.specs.Forgotten.{released}
+use Rattle.law_parts.specs.Open.{room_of, is_inner_kind}
+use Rattle.law_parts.proofs.RoomsKept.{settle-room, register-room, ask-room, make-room, release-room}
 use Rattle.law_settling.proofs.CancelSound.{is_no_task, same_sound, settle_sound}
 use Rattle.law_settling.proofs.Looks.{LooksSame, asked_looks_same, handles_look_same, same_no_circle}
 use Rattle.law_settling.proofs.Settling.{soon-where}
 use Rattle.law_settling.specs.Frames.{Follows}
+use Rattle.aio_base.specs.declared.memory.Memory.{Memory}
 use Rattle.aio_ready.specs.Queue as queue
 use Rattle.aio_ready.specs.Queue.{Queue}
 use Rattle.aio_future.specs.Settled.{called, registered as registered_in, soon_if_done, settled as settled_in, asked, asked_at}
 use Rattle.aio_cancel.specs.Body as cancel
 use Rattle.aio_cancel.specs.Body.{Appended, waiting}
+use Rattle.aio_cancel.specs.Noted.{Noted}
+use Rattle.aio_cancel.specs.Seen.{Marked, Stacked}
 use Rattle.aio_cancel.proofs.PartsLemmas.{settle-parts}
 use Rattle.aio_task.specs.Bare.{bare_action, bare_future, bare}
 use Rattle.aio_task.specs.View.{View, parts, body, is_step}
-use Rattle.aio_task.specs.Kept.{AreSound, IsKept, steps_as_timer}
+use Rattle.aio_task.specs.Kept.{AreSound, IsKept, HasRoom, steps_as_timer}
 use Rattle.aio_task.proofs.BareLemmas.{bare_at, with-bare, settle-bare, register-bare, ask-bare}
 use Rattle.aio_task.proofs.PartsLemmas.{register-parts, callback_appends}
 use Rattle.aio_task.proofs.Queues.{any-soon_all, bare_other}
-use Rattle.aio_task.proofs.Keeping.{at_rest, rests, bare_no_circle, no_bare_circle}
+use Rattle.aio_task.proofs.Keeping.{at_rest, rests, bare_no_circle, no_bare_circle, made_kept}
 use Rattle.aio_task.proofs.Releasing.{release_no_circle, release_sound}
 
 -- handles that were appended are no timer's
@@ -55,12 +60,16 @@ moved_kept v b q idle same appended none sound is = record {
 }
 
 -- ---- an outcome
-bare_owner : (p : Parts) (id : ℕ) → owner_of (bare p) id ≡ owner_of p id
+pub bare_owner : (p : Parts) (id : ℕ) → owner_of (bare p) id ≡ owner_of p id
 bare_owner p id = ap owner_at (bare_at p id) ∙ at (slice_get p.futures id)
   where
     at : (o : Option Future) → owner_at (option_map bare_future o) ≡ owner_at o
     at None = refl
     at (Some future) = refl
+
+pub bare_owns : (p : Parts) → OwnsFutures (bare p) → OwnsFutures p
+bare_owns p owns id task =
+    (λ h. (owns id task).0 (bare_owner p id ∙ h), λ h. sym (bare_owner p id) ∙ (owns id task).1 h)
 
 free_sound : (running : Option ℕ) (id : ℕ) (outcome : Outcome) (p : Parts) → owner_of p id ≡ None
     → ArePartsSound running running p → ArePartsSound running running (settle id outcome p)
@@ -206,3 +215,46 @@ released_kept v id idle free over is = there (nat_lt id (length v.futures))
     there : (b : Bool) → IsKept (record v { futures = if b then slice_set v.futures id released else v.futures })
     there true = gone (slice_get v.futures id) refl
     there false = is
+
+-- ---- the room that a request needs
+pub resolved_room : (v : View) (id : ℕ) (outcome : Outcome)
+    → room_of (parts (record v { futures = settled_in id outcome v.futures; queue = queue.soon_all (called id v.futures) v.queue }))
+    ≡ room_of (parts v)
+resolved_room v id outcome = ap room_of (sym (settle-parts id outcome (body v))) ∙ settle-room id outcome (parts v)
+
+pub on_done_room : (v : View) (id : ℕ) (action : Action)
+    → room_of (parts (record v { futures = registered_in id action v.futures; queue = soon_if_done id action v.futures v.queue }))
+    ≡ room_of (parts v)
+on_done_room v id action = ap room_of (sym (register-parts id action (body v))) ∙ register-room id action (parts v)
+
+pub asked_room : (v : View) (id : ℕ) → room_of (parts (record v { futures = asked id v.futures })) ≡ room_of (parts v)
+asked_room v id = ap room_of (sym (asked-parts v id)) ∙ ask-room id (parts v)
+
+pub release_room : (v : View) (id : ℕ)
+    → room_of (parts (record v { futures = if nat_lt id (length v.futures) then slice_set v.futures id released else v.futures }))
+    ≤ room_of (parts v)
+release_room v id = go (nat_lt id (length v.futures))
+  where
+    go : (b : Bool) → room_of (parts (record v { futures = if b then slice_set v.futures id released else v.futures })) ≤ room_of (parts v)
+    go true = release-room id (parts v)
+    go false = omega arith
+
+-- ---- a future is made, or memory was refused
+pub made_or_not : (v : View) (kind : FutureKind) (stack : Stacked) (seen : Marked) (notes : Noted) (result : Result ℕ Memory) (futures : List Future)
+    → v.called ≡ None → owner_in kind ≡ None
+    → OnOk result (futures ≡ v.futures ++ record { kind = kind; outcome = None; callbacks = [] } ∷ [])
+    → OnErr result (futures ≡ v.futures) → room_of (parts v) + cond (is_inner_kind kind) 1 0 ≤ stack.room
+    → HasRoom v stack seen notes → IsKept v
+    → IsKept (record v { futures = futures }) × HasRoom (record v { futures = futures }) stack seen notes
+made_or_not v kind stack seen notes (Ok id) futures idle free made err fits has is =
+    (subst (λ fs. IsKept (record v { futures = fs })) (sym made) (made_kept v kind idle free is),
+    subst (λ fs. HasRoom (record v { futures = fs }) stack seen notes) (sym made) (record {
+      empty = has.empty;
+      unseen = has.unseen;
+      unnoted = has.unnoted;
+      fits = subst (λ n. n ≤ stack.room) (sym (make-room kind (parts v))) fits;
+      marked = has.marked;
+    }))
+made_or_not v kind stack seen notes (Err fault) futures idle free made err fits has is =
+    (subst (λ fs. IsKept (record v { futures = fs })) (sym err) is,
+    subst (λ fs. HasRoom (record v { futures = fs }) stack seen notes) (sym err) has)

@@ -1,5 +1,5 @@
 -- The calls of tasks keep what the type keeps.
-use Rattle.std.proofs.Common.{◌≡◌, ℕ, ◌+◌, ◌==◌, Bool, true, false, not, ◌&&◌, cond, List, [], ◌∷◌, ◌++◌, Option, Some, None, length, map, drop, slice_get, refl, ap, sym, subst, ◌∙◌, arith, Result}
+use Rattle.std.proofs.Common.{◌≡◌, ℕ, ◌+◌, ◌==◌, Bool, true, false, not, ◌&&◌, cond, List, [], ◌∷◌, ◌++◌, Option, Some, None, length, map, drop, slice_get, refl, ap, sym, subst, ◌∙◌, arith, length-append, Result, Ok, Err, OnOk, OnErr}
 use Rattle.std.specs.List.{list_any}
 use Rattle.std.specs.Option.{option_map, option_map_or}
 use Rattle.std.proofs.lemmas.List.Sums.{sum_by-cons}
@@ -7,7 +7,7 @@ use Rattle.model_value.specs.Action.{Action}
 use Rattle.model_value.specs.Input.{Input}
 use Rattle.model_value.specs.Value.{Value, Exc}
 use Rattle.model_value.specs.declared.action.Action.TheVariants.{Step, StepInCircle, Wakeup, MainDone}
-use Rattle.model_loop.specs.Parts.{Handle, Future, Task, Parts}
+use Rattle.model_loop.specs.Parts.{OfTask, Handle, Future, Task, Parts}
 use Rattle.model_loop.specs.Futures.{is_pending, is_pending_at}
 use Rattle.model_loop.specs.Tasks.{spawn, begin_step, pause, finish, uncancel}
 use Rattle.model_loop.specs.Suspend.{suspend}
@@ -25,6 +25,11 @@ use Rattle.law_steps.proofs.Ending.{pause_sound, finish_sound}
 use Rattle.law_steps.proofs.Stepping.{begin_sound, uncancel_looks_same, uncancel_fewer}
 use Rattle.law_steps.proofs.Waiting.{suspend_sound}
 use Rattle.std.proofs.lemmas.Bool.{false≢true}
+use Rattle.law_parts.specs.Open.{room_of}
+use Rattle.law_parts.proofs.RoomsKept.{make-room}
+use Rattle.aio_base.specs.declared.memory.Memory.{Memory}
+use Rattle.aio_cancel.specs.Noted.{Noted}
+use Rattle.aio_cancel.specs.Seen.{Marked, Stacked}
 use Rattle.aio_ready.specs.declared.handle.Handle as code
 use Rattle.aio_ready.specs.Queue as queue
 use Rattle.aio_ready.specs.Queue.{Queue, from_live}
@@ -33,7 +38,7 @@ use Rattle.aio_cancel.specs.Body.{Appended, waiting, handles_from}
 use Rattle.aio_cancel.proofs.PartsLemmas.{soon-parts}
 use Rattle.aio_task.specs.Bare.{bare_action, bare_handle, bare_future, bare}
 use Rattle.aio_task.specs.View.{View, parts, body, is_step, stepped, stepped_at}
-use Rattle.aio_task.specs.Kept.{AreSound, IsKept, with_first, steps_as_timer}
+use Rattle.aio_task.specs.Kept.{AreSound, IsKept, HasRoom, with_first, steps_as_timer}
 use Rattle.aio_task.proofs.BareLemmas.{bare_at, spawn-bare, cancel-bare, change-bare}
 use Rattle.aio_task.proofs.BareSteps.{begin-bare, pause-bare, suspend-bare, finish-bare}
 use Rattle.aio_task.proofs.Keeping.{at_rest, rests, bare_no_circle, no_bare_circle}
@@ -50,6 +55,44 @@ spawn_kept v b idle same appended is =
     (spawn_no_circle v.running v.running (bare (parts v)) sound (bare_no_circle (parts v) is.no_circle))))
     (subst (ArePartsSound v.running v.running) (spawn-bare (parts v)) (spawn_sound v.running v.running (bare (parts v)) sound))
     is
+
+-- a task is made, or memory was refused, with room for one frame and one mark more
+pub spawned_or_not : (v : View) (b : cancel.View) (stack larger : Stacked) (seen more : Marked) (notes : Noted) (result : Result ℕ Memory)
+    → v.called ≡ None → OnOk result (cancel.parts b ≡ spawn (parts v))
+    → OnOk result (b.queue ≡ queue.soon (Step (length v.tasks)) v.queue) → OnErr result (b ≡ body v)
+    → larger ≡ record stack { room = stack.room + 1 } → more ≡ record seen { tasks = seen.tasks + 1 }
+    → HasRoom v stack seen notes → IsKept v
+    → IsKept (record v { queue = b.queue; futures = b.futures; tasks = b.tasks })
+    × HasRoom (record v { queue = b.queue; futures = b.futures; tasks = b.tasks }) larger more notes
+spawned_or_not v b stack larger seen more notes (Ok task) idle made queued err grown marks has is =
+    let wide : larger.room ≡ stack.room + 1 = ap (λ (s : Stacked). s.room) grown in
+    let tasks : more.tasks ≡ seen.tasks + 1 = ap (λ (s : Marked). s.tasks) marks in
+    let fits = has.fits in
+    let marked = has.marked in
+    let needs : room_of (cancel.parts b) ≡ room_of (parts v) + 1 = ap room_of made ∙ make-room (OfTask (length v.tasks)) (parts v) in
+    let count : length b.tasks ≡ length v.tasks + 1 =
+    ap (λ (p : Parts). length p.tasks) made
+    ∙ length-append v.tasks (record { future = length v.futures; waiter = None; cancels = 0; must_cancel = false } ∷ []) in
+    (spawn_kept v b idle made queued is, record {
+      empty = ap (λ (s : Stacked). s.frames) grown ∙ has.empty;
+      unseen = ap (λ (s : Marked). s.visited) marks ∙ has.unseen;
+      unnoted = has.unnoted;
+      fits = omega (arith, fits, wide, needs);
+      marked = omega (arith, marked, tasks, count);
+    })
+spawned_or_not v b stack larger seen more notes (Err fault) idle made queued err grown marks has is =
+    let wide : larger.room ≡ stack.room + 1 = ap (λ (s : Stacked). s.room) grown in
+    let tasks : more.tasks ≡ seen.tasks + 1 = ap (λ (s : Marked). s.tasks) marks in
+    let fits = has.fits in
+    let marked = has.marked in
+    (subst (λ (x : cancel.View). IsKept (record v { queue = x.queue; futures = x.futures; tasks = x.tasks })) (sym err) is,
+    subst (λ (x : cancel.View). HasRoom (record v { queue = x.queue; futures = x.futures; tasks = x.tasks }) larger more notes) (sym err) (record {
+      empty = ap (λ (s : Stacked). s.frames) grown ∙ has.empty;
+      unseen = ap (λ (s : Marked). s.visited) marks ∙ has.unseen;
+      unnoted = has.unnoted;
+      fits = omega (arith, fits, wide);
+      marked = omega (arith, marked, tasks);
+    }))
 
 pub cancel_kept : (v : View) (b : cancel.View) (target : ℕ) → v.called ≡ None → cancel.parts b ≡ (cancel target (parts v)).parts
     → Appended v.queue b.queue → IsKept v → IsKept (record v { queue = b.queue; futures = b.futures; tasks = b.tasks })
@@ -170,11 +213,11 @@ with_first_live test h handles alive =
     ∙ ap (λ n. cond (not false && test (bare_action h.action)) 1 0 + n) (live-pending test 0 handles)
     ∙ ap (λ d. cond (not d && test (bare_action h.action)) 1 0 + live test handles) (sym alive)
 
-pub next_kept : (v : View) → v.called ≡ None → IsKept v
-    → IsKept (record v { queue = queue.taken v.queue; called = stepped_at (queue.next_action v.queue) })
-next_kept v idle is = record {
+pub next_kept : (v : View) (called : Option ℕ) → called ≡ stepped_at (queue.next_action v.queue) → v.called ≡ None → IsKept v
+    → IsKept (record v { queue = queue.taken v.queue; called = called })
+next_kept v called next idle is = record {
   no_circle = same_tasks_no_circle (parts v) (parts after) refl refl is.no_circle;
-  sound = taken (from_live v.queue.below) refl;
+  sound = subst (λ x. AreSound v.running x (parts after)) (sym next) (taken (from_live v.queue.below) refl);
   timers = is.timers;
   fallen = any-taken steps_as_timer v.queue is.fallen;
 }

@@ -7,3 +7,4 @@ pub mod Releasing
 pub mod KeptFutures
 pub mod KeptSteps
 pub mod Nothing
+pub mod Sizes

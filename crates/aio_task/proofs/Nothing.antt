@@ -1,8 +1,9 @@
 -- Where nothing has happened, the type keeps what it keeps.
-use Rattle.std.proofs.Common.{◌≡◌, ℕ, ◌<◌, true, false, [], Some, None, refl, sym, arith}
+use Rattle.std.proofs.Common.{◌≡◌, ℕ, ◌<◌, ◌≤◌, true, false, [], Some, None, refl, sym, arith}
 use Rattle.std.proofs.lemmas.Bool.{false≢true}
 use Rattle.model_loop.specs.Circles.{Leads, at_once, through}
 use Rattle.model_loop.specs.Sound.{ArePartsSound}
+use Rattle.law_parts.specs.Open.{room_of}
 use Rattle.aio_task.specs.Bare.{bare}
 use Rattle.aio_task.specs.View.{View, parts, empty}
 use Rattle.aio_task.specs.Kept.{IsKept}
@@ -27,3 +28,6 @@ module _ (profile : ℕ) where
 
   pub nothing_kept : IsKept (empty profile)
   nothing_kept = record { no_circle = λ id l. leads_none id id l; sound = nothing_sound; timers = refl; fallen = refl }
+
+  pub nothing_needed : room_of (parts (empty profile)) ≤ 0
+  nothing_needed = omega arith

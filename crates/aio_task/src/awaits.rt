@@ -13,7 +13,7 @@ ghost use Rattle.aio_cancel.specs.Noted.{HasNoNotes};
 ghost use Rattle.aio_task.specs.View.{suspension_of};
 
 use crate::suspension::Suspension;
-use crate::tasks::{future_of, is_marked, unmark, wait};
+use crate::tasks::{call_soon, future_of, is_marked, unmark, wait};
 use aio_base::{Action, Circle};
 use aio_cancel::{Body, Marks, Notes, Stack, cancel, leads};
 use aio_future::FutureId;
@@ -101,7 +101,7 @@ pub fn suspend(
 {
     match find_circle(task, on, body, seen, notes, stack) {
         Some(circle) => {
-            let _id = body.ready.soon(ticket, Action::StepInCircle { task, circle });
+            call_soon(body, ticket, Action::StepInCircle { task, circle });
             Suspension::Cycle
         }
         None => {

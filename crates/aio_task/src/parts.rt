@@ -26,7 +26,7 @@ ghost use Rattle.aio_task.specs.View.{parts, stepped_at, is_step, NamesNoStep, s
 use crate::awaits::suspend;
 use crate::running::{Running, stepped};
 use crate::suspension::Suspension;
-use crate::tasks::{add, begin, cancels_of, finish, future_of, input_of, uncancel};
+use crate::tasks::{add, begin, call_soon, cancels_of, finish, future_of, input_of, uncancel};
 use aio_base::{Action, Exc, Input, Memory, Outcome, Value};
 use aio_cancel::{Body, Marks, Notes, Stack, cancel};
 use aio_future::FutureId;
@@ -361,7 +361,7 @@ impl Parts {
         let Some(step) = self.running.take() else {
             return;
         };
-        let _id = self.body.ready.soon(step.ticket, Action::Step(task));
+        call_soon(&mut self.body, step.ticket, Action::Step(task));
     }
 
     /// The running task awaits a pending future. An await that would never end is refused by a step that throws. No task is

@@ -1,5 +1,6 @@
 //! What steps change of the queue, the futures and the tasks.
 ghost use Rattle.std.specs.Prelude.{◌≡◌, ◌≤◌, true, false, None, Some, IfOk, OnOk, OnErr, Ok, Err, length, if◌then◌else◌};
+ghost use Rattle.model_loop.specs.Handles as handles;
 ghost use Rattle.model_loop.specs.Tasks as tasks;
 ghost use Rattle.model_loop.specs.Circles.{circle};
 ghost use Rattle.model_loop.specs.Cancel as request;
@@ -77,6 +78,14 @@ pub fn uncancel(body: &mut Body, task: u32)
     if let Some(task) = body.tasks.get_mut(task as usize) {
         task.lower();
     }
+}
+
+/// `call_soon`, in the memory of a ticket.
+pub fn call_soon(body: &mut Body, ticket: Ticket, action: Action)
+    ensures whole { body.new ≡ record body.old { queue = soon action body.old.queue } }
+    ensures after { parts body.new ≡ handles.soon action (parts body.old) }
+{
+    let _id = body.ready.soon(ticket, action);
 }
 
 /// A new task with its future, whose first step is called soon.

@@ -1,6 +1,3 @@
-use Rattle.aio_task.proofs.KeptSteps.{next_kept}
-use Rattle.aio_task.proofs.Nothing.{nothing_kept}
-use Rattle.aio_task.proofs.Keeping.{soon_kept}
 use Rattle.std.proofs.Common.{Some, sym, ap}
 use Rattle.model_value.specs.declared.action.Action.TheVariants.{Wakeup}
 use Rattle.model_loop.specs.Tasks.{set_waiter}

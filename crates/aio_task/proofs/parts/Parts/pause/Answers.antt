@@ -1,6 +1,6 @@
-use Rattle.std.proofs.Common.{refl, ap, sym, subst, ◌∙◌}
+use Rattle.std.proofs.Common.{[], refl, ap, sym, subst, ◌∙◌}
+use Rattle.aio_cancel.proofs.PartsLemmas.{soon-parts}
 use Rattle.aio_task.specs.View.{View}
-use Rattle.aio_task.specs.contracts.parts.Parts.{the_view, the_invariant}
 use Rattle.aio_task.proofs.Keeping.{room_same}
 use Rattle.aio_task.proofs.KeptSteps.{pause_kept}
 use Rattle.aio_task.proofs.parts.Parts.pause.Goals as goal

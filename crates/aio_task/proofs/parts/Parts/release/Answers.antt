@@ -1,9 +1,21 @@
-use Rattle.std.proofs.Common.{refl, ap, sym, subst, ◌∙◌}
+use Rattle.std.proofs.Common.{◌≡◌, ◌⊎◌, false, [], None, slice_get, refl, ap, sym, subst, ◌∙◌}
+use Rattle.model_loop.specs.Futures.{is_pending_at}
+use Rattle.model_loop.specs.Totals.{callbacks_at}
+use Rattle.model_loop.specs.Owning.{owner_at}
 use Rattle.aio_task.specs.View.{View}
 use Rattle.aio_task.specs.contracts.parts.Parts.{the_view, the_invariant}
-use Rattle.aio_task.proofs.Keeping.{room_same}
-use Rattle.aio_task.proofs.KeptFutures.{released_kept}
+use Rattle.aio_task.proofs.KeptFutures.{released_kept, release_room}
+use Rattle.aio_task.proofs.Sizes.{released_room, noted_less}
 use Rattle.aio_task.proofs.parts.Parts.release.Goals as goal
 
 pub invariant_of-self : goal.invariant_of-self
-invariant_of-self c = ?
+invariant_of-self c =
+    let old = subst the_invariant (sym c.self-inside.view_is) c.self.invariant in
+    let same = ap the_view c.self-inside.view_is ∙ c.self.view_is in
+    let idle = ap (λ (v : View). v.called) same ∙ c.requires.idle in
+    let free = subst (λ (v : View). owner_at (slice_get v.futures c.args.id) ≡ None) (sym same) c.requires.no_task in
+    let over = subst (λ (v : View). (is_pending_at (slice_get v.futures c.args.id) ≡ false) ⊎ (callbacks_at (slice_get v.futures c.args.id) ≡ []))
+        (sym same) c.requires.over in
+    rw c.release.ensures
+    (released_kept _ c.args.id idle free over old.0,
+    released_room _ _ _ _ _ _ (release_room _ c.args.id) refl (noted_less _ _ c.forget.ensures old.1.unnoted) old.1)

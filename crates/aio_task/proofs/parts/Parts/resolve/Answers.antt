@@ -1,13 +1,9 @@
-use Rattle.std.proofs.Common.{refl, ap, sym, subst, ◌∙◌}
+use Rattle.std.proofs.Common.{◌≡◌, None, slice_get, refl, ap, sym, subst, ◌∙◌}
 use Rattle.model_loop.specs.Owning.{owner_at}
-use Rattle.std.specs.Prelude.{slice_get, None}
-use Rattle.std.specs.Prelude.{◌≡◌}
-use Rattle.law_parts.proofs.RoomsKept.{settle-room}
-use Rattle.aio_cancel.proofs.PartsLemmas.{settle-parts}
 use Rattle.aio_task.specs.View.{View}
 use Rattle.aio_task.specs.contracts.parts.Parts.{the_view, the_invariant}
 use Rattle.aio_task.proofs.Keeping.{room_same}
-use Rattle.aio_task.proofs.KeptFutures.{resolve_kept}
+use Rattle.aio_task.proofs.KeptFutures.{resolve_kept, resolved_room}
 use Rattle.aio_task.proofs.parts.Parts.resolve.Goals as goal
 
 pub invariant_of-self : goal.invariant_of-self
@@ -17,4 +13,5 @@ invariant_of-self c =
     let idle = ap (λ (v : View). v.called) same ∙ c.requires.idle in
     let free = subst (λ (v : View). owner_at (slice_get v.futures c.args.id) ≡ None) (sym same) c.requires.no_task in
     rw (c.resolve.ensures.after, c.resolve.ensures.called)
-    (resolve_kept _ c.args.id c.args.outcome idle free old.0, room_same _ _ _ _ _ ? refl old.1)
+    (resolve_kept _ c.args.id c.args.outcome idle free old.0,
+    room_same _ _ _ _ _ (resolved_room _ c.args.id c.args.outcome) refl old.1)
