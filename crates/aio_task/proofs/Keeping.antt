@@ -1,5 +1,5 @@
 -- Each call keeps what the type keeps.
-use Rattle.std.proofs.Common.{◌≡◌, ℕ, suc, ◌+◌, ◌<◌, ◌≤◌, ◌⊎◌, Bool, true, false, List, [], ◌∷◌, ◌++◌, Option, Some, None, length, map, filter, cond, slice_get, slice_set, nat_lt, nat_le, refl, ap, sym, subst, ◌∙◌, arith, inl, inr, if◌then◌else◌}
+use Rattle.std.proofs.Common.{◌≡◌, ℕ, suc, ◌+◌, ◌<◌, ◌≤◌, ◌⊎◌, Bool, true, false, List, [], ◌∷◌, ◌++◌, Option, Some, None, length, map, filter, cond, slice_get, slice_set, nat_lt, nat_le, refl, ap, sym, subst, ◌∙◌, arith, inl, inr, Result, Ok, Err, IfOk, OnErr, if◌then◌else◌}
 use Rattle.std.specs.Prelude.{◌==◌, ◌&&◌}
 use Rattle.std.specs.List.{list_any}
 use Rattle.std.specs.Option.{option_map_or}
@@ -22,7 +22,7 @@ use Rattle.aio_ready.specs.Names.{is_same}
 use Rattle.aio_ready.specs.Queue as queue
 use Rattle.aio_ready.specs.Queue.{Queue}
 use Rattle.aio_timer.specs.declared.live.TimerId.{TimerId}
-use Rattle.aio_timer.specs.Schedule.{placed_after, without, is_of, lives, due_at, later_than, fallen}
+use Rattle.aio_timer.specs.Schedule.{Schedule, timer, placed_after, without, is_of, lives, due_at, later_than, fallen}
 use Rattle.law_parts.specs.Open.{room_of}
 use Rattle.aio_cancel.specs.Noted.{Noted}
 use Rattle.aio_cancel.specs.Seen.{Marked, Stacked}
@@ -175,6 +175,14 @@ at_kept v timer next none is = record {
   timers = any-placed timer v.schedule.live none is.timers;
   fallen = is.fallen;
 }
+
+-- a timer is made, or was not placed
+pub at_or_not : {E : Type 0} (v : View) (schedule : Schedule) (action : Action) (result : Result TimerId E) → is_step action ≡ false
+    → IfOk result (λ id. schedule ≡ record { live = placed_after (timer id action) v.schedule.live; next = v.schedule.next + 1 })
+    → OnErr result (schedule ≡ v.schedule) → IsKept v → IsKept (record v { schedule = schedule })
+at_or_not v schedule action (Ok id) none after err is =
+    subst (λ s. IsKept (record v { schedule = s })) (sym after) (at_kept v (timer id action) (v.schedule.next + 1) none is)
+at_or_not v schedule action (Err fault) none after err is = subst (λ s. IsKept (record v { schedule = s })) (sym err) is
 
 any-filter : (p : Timer → Bool) (timers : List Timer) → list_any steps_later timers ≡ false → list_any steps_later (filter p timers) ≡ false
 any-filter p [] none = refl

@@ -32,7 +32,7 @@ use Rattle.aio_ready.specs.Queue.{Queue}
 use Rattle.aio_future.specs.Settled.{called, registered as registered_in, soon_if_done, settled as settled_in, asked, asked_at}
 use Rattle.aio_cancel.specs.Body as cancel
 use Rattle.aio_cancel.specs.Body.{Appended, waiting}
-use Rattle.aio_cancel.specs.Noted.{Noted}
+use Rattle.aio_cancel.specs.Noted.{Noted, noted}
 use Rattle.aio_cancel.specs.Seen.{Marked, Stacked}
 use Rattle.aio_cancel.proofs.PartsLemmas.{settle-parts}
 use Rattle.aio_task.specs.Bare.{bare_action, bare_future, bare}
@@ -41,7 +41,8 @@ use Rattle.aio_task.specs.Kept.{AreSound, IsKept, HasRoom, steps_as_timer}
 use Rattle.aio_task.proofs.BareLemmas.{bare_at, with-bare, settle-bare, register-bare, ask-bare}
 use Rattle.aio_task.proofs.PartsLemmas.{register-parts, callback_appends}
 use Rattle.aio_task.proofs.Queues.{any-soon_all, bare_other}
-use Rattle.aio_task.proofs.Keeping.{at_rest, rests, bare_no_circle, no_bare_circle, made_kept}
+use Rattle.aio_task.proofs.Keeping.{at_rest, rests, bare_no_circle, no_bare_circle, made_kept, room_same}
+use Rattle.aio_task.proofs.Sizes.{released_room, noted_less}
 use Rattle.aio_task.proofs.Releasing.{release_no_circle, release_sound}
 
 -- handles that were appended are no timer's
@@ -70,6 +71,10 @@ bare_owner p id = ap owner_at (bare_at p id) ∙ at (slice_get p.futures id)
 pub bare_owns : (p : Parts) → OwnsFutures (bare p) → OwnsFutures p
 bare_owns p owns id task =
     (λ h. (owns id task).0 (bare_owner p id ∙ h), λ h. sym (bare_owner p id) ∙ (owns id task).1 h)
+
+-- each task's future is its own
+pub owns_of : (v : View) → v.called ≡ None → IsKept v → OwnsFutures (parts v)
+owns_of v idle is = bare_owns (parts v) (at_rest v.running v.called (parts v) idle is.sound).owns
 
 free_sound : (running : Option ℕ) (id : ℕ) (outcome : Outcome) (p : Parts) → owner_of p id ≡ None
     → ArePartsSound running running p → ArePartsSound running running (settle id outcome p)
@@ -238,6 +243,38 @@ release_room v id = go (nat_lt id (length v.futures))
     go : (b : Bool) → room_of (parts (record v { futures = if b then slice_set v.futures id released else v.futures })) ≤ room_of (parts v)
     go true = release-room id (parts v)
     go false = omega arith
+
+pub resolved_whole : (v : View) (stack : Stacked) (seen : Marked) (notes : Noted) (id : ℕ) (outcome : Outcome) → v.called ≡ None
+    → owner_at (slice_get v.futures id) ≡ None → IsKept v → HasRoom v stack seen notes
+    → IsKept (record v { futures = settled_in id outcome v.futures; queue = queue.soon_all (called id v.futures) v.queue })
+    × HasRoom (record v { futures = settled_in id outcome v.futures; queue = queue.soon_all (called id v.futures) v.queue }) stack seen notes
+resolved_whole v stack seen notes id outcome idle free is has =
+    (resolve_kept v id outcome idle free is, room_same v _ stack seen notes (resolved_room v id outcome) refl has)
+
+pub on_done_whole : (v : View) (stack : Stacked) (seen : Marked) (notes : Noted) (id : ℕ) (action : Action) → v.called ≡ None
+    → is_step action ≡ false → IsKept v → HasRoom v stack seen notes
+    → IsKept (record v { futures = registered_in id action v.futures; queue = soon_if_done id action v.futures v.queue })
+    × HasRoom (record v { futures = registered_in id action v.futures; queue = soon_if_done id action v.futures v.queue }) stack seen notes
+on_done_whole v stack seen notes id action idle none is has =
+    (on_done_kept v id action idle none is, room_same v _ stack seen notes (on_done_room v id action) refl has)
+
+pub asked_whole : (v : View) (stack : Stacked) (seen : Marked) (notes : Noted) (id : ℕ) → v.called ≡ None → IsKept v
+    → HasRoom v stack seen notes
+    → IsKept (record v { futures = asked id v.futures }) × HasRoom (record v { futures = asked id v.futures }) stack seen notes
+asked_whole v stack seen notes id idle is has = (asked_kept v id idle is, room_same v _ stack seen notes (asked_room v id) refl has)
+
+abbrev pub without_future : View → ℕ → View
+without_future v id =
+    record v { futures = if nat_lt id (length v.futures) then slice_set v.futures id released else v.futures }
+
+pub released_whole : (v : View) (stack : Stacked) (seen : Marked) (notes after : Noted) (id : ℕ) → v.called ≡ None
+    → owner_at (slice_get v.futures id) ≡ None
+    → (is_pending_at (slice_get v.futures id) ≡ false) ⊎ (callbacks_at (slice_get v.futures id) ≡ [])
+    → ((other : ℕ) (again : Bool) → noted after other ≡ Some again → noted notes other ≡ Some again)
+    → IsKept v → HasRoom v stack seen notes → IsKept (without_future v id) × HasRoom (without_future v id) stack seen after
+released_whole v stack seen notes after id idle free over less is has =
+    (released_kept v id idle free over is,
+    released_room v (without_future v id) stack seen notes after (release_room v id) refl (noted_less notes after less has.unnoted) has)
 
 -- ---- a future is made, or memory was refused
 pub made_or_not : (v : View) (kind : FutureKind) (stack : Stacked) (seen : Marked) (notes : Noted) (result : Result ℕ Memory) (futures : List Future)

@@ -115,10 +115,10 @@ uncancel_kept v b task idle same appended is =
     is
 
 -- ---- a step begins
-nat_same : (n : ℕ) → (n == n) ≡ true
+pub nat_same : (n : ℕ) → (n == n) ≡ true
 nat_same n = grind arith
 
-steps_it : (action : Action) (task : ℕ) → stepped action ≡ Some task → steps task (bare_action action) ≡ true
+pub steps_it : (action : Action) (task : ℕ) → stepped action ≡ Some task → steps task (bare_action action) ≡ true
 steps_it (Step other) task e = let same : other ≡ task = cc in rw same (nat_same task)
 steps_it (StepInCircle other circle) task e = let same : other ≡ task = cc in rw same (nat_same task)
 steps_it (Wakeup other) task e = let same : other ≡ task = cc in rw same (nat_same task)
@@ -154,7 +154,7 @@ ended_kept v b q idle same appended none sound is = record {
   fallen = fallen_kept v.queue b.queue appended is.fallen;
 }
 
-bare_pends : (p : Parts) (id : ℕ) → is_pending (bare p) id ≡ is_pending p id
+pub bare_pends : (p : Parts) (id : ℕ) → is_pending (bare p) id ≡ is_pending p id
 bare_pends p id = ap is_pending_at (bare_at p id) ∙ at (slice_get p.futures id)
   where
     at : (o : Option Future) → is_pending_at (option_map bare_future o) ≡ is_pending_at o

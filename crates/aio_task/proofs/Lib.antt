@@ -8,3 +8,4 @@ pub mod KeptFutures
 pub mod KeptSteps
 pub mod Nothing
 pub mod Sizes
+pub mod Plainly

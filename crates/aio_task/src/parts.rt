@@ -1,5 +1,5 @@
 //! The loop's parts.
-ghost use Rattle.std.specs.Prelude.{◌≡◌, ◌+◌, ◌≤◌, ◌<◌, ◌⊎◌, ◌++◌, [], ◌∷◌, true, false, not, None, Some, IfOk, OnOk, OnErr, IfSome, length, slice_get, slice_set, nat_lt, if◌then◌else◌};
+ghost use Rattle.std.specs.Prelude.{◌≡◌, ℕ, ◌+◌, ◌≤◌, ◌<◌, ◌⊎◌, ◌++◌, [], ◌∷◌, true, false, not, None, Some, IfOk, OnOk, OnErr, IfSome, length, slice_get, slice_set, nat_lt, if◌then◌else◌};
 ghost use Rattle.std.specs.List.{All};
 ghost use Rattle.std.specs.Option.{option_copied, option_map};
 ghost use Rattle.model_value.specs.Number.{most};
@@ -9,7 +9,11 @@ ghost use Rattle.model_loop.specs.Futures as futures;
 ghost use Rattle.model_loop.specs.Futures.{is_pending_at, is_pending, outcome_at};
 ghost use Rattle.model_loop.specs.Tasks as tasks;
 ghost use Rattle.model_loop.specs.Totals.{callbacks_at};
-ghost use Rattle.model_loop.specs.Owning.{owner_at};
+ghost use Rattle.model_loop.specs.Marks.{MarksWait};
+ghost use Rattle.model_loop.specs.Owning.{owner_at, OwnsFutures};
+ghost use Rattle.model_loop.specs.Sound.{HasNoCircle};
+ghost use Rattle.model_loop.specs.Tasks.{lives};
+ghost use Rattle.model_loop.specs.Ways.{HasOneWay, IsReady};
 ghost use Rattle.model_loop.specs.Cancel as request;
 ghost use Rattle.model_loop.specs.Circles.{circle};
 ghost use Rattle.model_loop.specs.Spent.{is_spent};
@@ -86,6 +90,20 @@ impl Parts {
             called: None,
             running: None,
         })
+    }
+
+    /// What holds at every moment: the type keeps it. It does nothing. Between two calls each task that lives has one way
+    /// on, the running one none, and a mark stands only where it may; nothing waits in a circle.
+    pub fn keeps(&self)
+        ensures one_way { self.now.called ≡ None → HasOneWay self.now.running (parts self.now) }
+        ensures ready { self.now.called ≡ None → IsReady (parts self.now) }
+        ensures marks { self.now.called ≡ None → MarksWait self.now.running (parts self.now) }
+        ensures no_circle { HasNoCircle (parts self.now) }
+        ensures owns { self.now.called ≡ None → OwnsFutures (parts self.now) }
+        ensures runs { (task : ℕ) → self.now.called ≡ None → self.now.running ≡ Some task → lives (parts self.now) task ≡ true }
+        ensures called { (task : ℕ) → self.now.called ≡ Some task → self.now.running ≡ None → lives (parts self.now) task ≡ true }
+    {
+        let _time = self.time;
     }
 
     /// The time, in milliseconds.
@@ -280,6 +298,13 @@ impl Parts {
         self.body
             .futures
             .on_done(id, ticket, action, &mut self.body.ready);
+    }
+
+    /// Whether a future was made and is not done.
+    pub fn is_pending(&self, id: FutureId) -> bool
+        ensures { result ≡ is_pending_at (slice_get self.now.futures id) }
+    {
+        self.body.futures.is_pending(id)
     }
 
     /// How a future ended. `None` exactly where it is pending, or was not made.

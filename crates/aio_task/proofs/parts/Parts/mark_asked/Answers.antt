@@ -1,8 +1,7 @@
 use Rattle.std.proofs.Common.{refl, ap, sym, subst, ◌∙◌}
 use Rattle.aio_task.specs.View.{View}
 use Rattle.aio_task.specs.contracts.parts.Parts.{the_view, the_invariant}
-use Rattle.aio_task.proofs.Keeping.{room_same}
-use Rattle.aio_task.proofs.KeptFutures.{asked_kept, asked_room}
+use Rattle.aio_task.proofs.KeptFutures.{asked_whole}
 use Rattle.aio_task.proofs.parts.Parts.mark_asked.Goals as goal
 
 pub invariant_of-self : goal.invariant_of-self
@@ -10,4 +9,4 @@ invariant_of-self c =
     let old = subst the_invariant (sym c.self-inside.view_is) c.self.invariant in
     let same = ap the_view c.self-inside.view_is ∙ c.self.view_is in
     let idle = ap (λ (v : View). v.called) same ∙ c.requires.idle in
-    rw c.mark_asked.ensures (asked_kept _ c.args.id idle old.0, room_same _ _ _ _ _ (asked_room _ c.args.id) refl old.1)
+    rw c.mark_asked.ensures (asked_whole _ _ _ _ c.args.id idle old.0 old.1)

@@ -1,8 +1,7 @@
 use Rattle.std.proofs.Common.{refl, ap, sym, subst, ◌∙◌}
 use Rattle.aio_task.specs.View.{View}
 use Rattle.aio_task.specs.contracts.parts.Parts.{the_view, the_invariant}
-use Rattle.aio_task.proofs.Keeping.{room_same}
-use Rattle.aio_task.proofs.KeptFutures.{on_done_kept, on_done_room}
+use Rattle.aio_task.proofs.KeptFutures.{on_done_whole}
 use Rattle.aio_task.proofs.parts.Parts.on_done.Goals as goal
 
 pub invariant_of-self : goal.invariant_of-self
@@ -11,5 +10,4 @@ invariant_of-self c =
     let same = ap the_view c.self-inside.view_is ∙ c.self.view_is in
     let idle = ap (λ (v : View). v.called) same ∙ c.requires.idle in
     rw (c.on_done.ensures.after, c.on_done.ensures.called)
-    (on_done_kept _ c.args.id c.args.action idle c.requires.no_step old.0,
-    room_same _ _ _ _ _ (on_done_room _ c.args.id c.args.action) refl old.1)
+    (on_done_whole _ _ _ _ c.args.id c.args.action idle c.requires.no_step old.0 old.1)

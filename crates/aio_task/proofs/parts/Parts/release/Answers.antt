@@ -4,8 +4,7 @@ use Rattle.model_loop.specs.Totals.{callbacks_at}
 use Rattle.model_loop.specs.Owning.{owner_at}
 use Rattle.aio_task.specs.View.{View}
 use Rattle.aio_task.specs.contracts.parts.Parts.{the_view, the_invariant}
-use Rattle.aio_task.proofs.KeptFutures.{released_kept, release_room}
-use Rattle.aio_task.proofs.Sizes.{released_room, noted_less}
+use Rattle.aio_task.proofs.KeptFutures.{released_whole}
 use Rattle.aio_task.proofs.parts.Parts.release.Goals as goal
 
 pub invariant_of-self : goal.invariant_of-self
@@ -17,5 +16,4 @@ invariant_of-self c =
     let over = subst (λ (v : View). (is_pending_at (slice_get v.futures c.args.id) ≡ false) ⊎ (callbacks_at (slice_get v.futures c.args.id) ≡ []))
         (sym same) c.requires.over in
     rw c.release.ensures
-    (released_kept _ c.args.id idle free over old.0,
-    released_room _ _ _ _ _ _ (release_room _ c.args.id) refl (noted_less _ _ c.forget.ensures old.1.unnoted) old.1)
+    (released_whole _ _ _ _ _ c.args.id idle free over c.forget.ensures old.0 old.1)
