@@ -1,6 +1,6 @@
 -- Each call keeps what the type keeps.
 use Rattle.std.proofs.Common.{◌≡◌, ℕ, suc, ◌+◌, ◌<◌, ◌≤◌, ◌⊎◌, Bool, true, false, List, [], ◌∷◌, ◌++◌, Option, Some, None, length, map, filter, cond, slice_get, slice_set, nat_lt, nat_le, refl, ap, sym, subst, ◌∙◌, arith, inl, inr, Result, Ok, Err, IfOk, OnErr, if◌then◌else◌}
-use Rattle.std.specs.Prelude.{◌==◌, ◌&&◌}
+use Rattle.std.specs.Prelude.{◌==◌, ◌&&◌, not}
 use Rattle.std.specs.List.{list_any}
 use Rattle.std.specs.Option.{option_map_or}
 use Rattle.model_value.specs.Action.{Action}
@@ -114,10 +114,12 @@ timer_named number (h ∷ handles) none =
     neither true c e = e
     neither false c e = refl
 
-    one : (n : Name) → (is_timer n && is_step h.action) ≡ false → (is_same (name.Timer number) n && is_step h.action) ≡ false
+    one : (n : Name) → (is_timer n && is_step h.action) ≡ false
+        → (is_same (name.Timer number) n && (not h.dead && is_step h.action)) ≡ false
     one name.Nameless e = refl
     one (name.Given other) e = refl
-    one (name.Timer other) e = neither (number == other) (is_step h.action) e
+    one (name.Timer other) e =
+        neither (number == other) (not h.dead && is_step h.action) (neither (not h.dead) (is_step h.action) e)
 
 any-without : (id : TimerId) (timers : List Timer) → list_any steps_later timers ≡ false → list_any steps_later (without id timers) ≡ false
 any-without id [] none = refl

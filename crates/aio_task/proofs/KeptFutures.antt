@@ -272,9 +272,10 @@ pub released_whole : (v : View) (stack : Stacked) (seen : Marked) (notes after :
     → (is_pending_at (slice_get v.futures id) ≡ false) ⊎ (callbacks_at (slice_get v.futures id) ≡ [])
     → ((other : ℕ) (again : Bool) → noted after other ≡ Some again → noted notes other ≡ Some again)
     → IsKept v → HasRoom v stack seen notes → IsKept (without_future v id) × HasRoom (without_future v id) stack seen after
-released_whole v stack seen notes after id idle free over less is has =
-    (released_kept v id idle free over is,
-    released_room v (without_future v id) stack seen notes after (release_room v id) refl (noted_less notes after less has.unnoted) has)
+released_whole v stack seen notes after id idle free over less is has = (
+  released_kept v id idle free over is,
+  released_room v (without_future v id) stack seen notes after (release_room v id) refl (noted_less notes after less has.unnoted) has,
+)
 
 -- ---- a future is made, or memory was refused
 pub made_or_not : (v : View) (kind : FutureKind) (stack : Stacked) (seen : Marked) (notes : Noted) (result : Result ℕ Memory) (futures : List Future)
@@ -283,15 +284,17 @@ pub made_or_not : (v : View) (kind : FutureKind) (stack : Stacked) (seen : Marke
     → OnErr result (futures ≡ v.futures) → room_of (parts v) + cond (is_inner_kind kind) 1 0 ≤ stack.room
     → HasRoom v stack seen notes → IsKept v
     → IsKept (record v { futures = futures }) × HasRoom (record v { futures = futures }) stack seen notes
-made_or_not v kind stack seen notes (Ok id) futures idle free made err fits has is =
-    (subst (λ fs. IsKept (record v { futures = fs })) (sym made) (made_kept v kind idle free is),
-    subst (λ fs. HasRoom (record v { futures = fs }) stack seen notes) (sym made) (record {
-      empty = has.empty;
-      unseen = has.unseen;
-      unnoted = has.unnoted;
-      fits = subst (λ n. n ≤ stack.room) (sym (make-room kind (parts v))) fits;
-      marked = has.marked;
-    }))
-made_or_not v kind stack seen notes (Err fault) futures idle free made err fits has is =
-    (subst (λ fs. IsKept (record v { futures = fs })) (sym err) is,
-    subst (λ fs. HasRoom (record v { futures = fs }) stack seen notes) (sym err) has)
+made_or_not v kind stack seen notes (Ok id) futures idle free made err fits has is = (
+  subst (λ fs. IsKept (record v { futures = fs })) (sym made) (made_kept v kind idle free is),
+  subst (λ fs. HasRoom (record v { futures = fs }) stack seen notes) (sym made) (record {
+    empty = has.empty;
+    unseen = has.unseen;
+    unnoted = has.unnoted;
+    fits = subst (λ n. n ≤ stack.room) (sym (make-room kind (parts v))) fits;
+    marked = has.marked;
+  }),
+)
+made_or_not v kind stack seen notes (Err fault) futures idle free made err fits has is = (
+  subst (λ fs. IsKept (record v { futures = fs })) (sym err) is,
+  subst (λ fs. HasRoom (record v { futures = fs }) stack seen notes) (sym err) has,
+)

@@ -72,27 +72,30 @@ spawned_or_not v b stack larger seen more notes (Ok task) idle made queued err g
     let needs : room_of (cancel.parts b) ≡ room_of (parts v) + 1 = ap room_of made ∙ make-room (OfTask (length v.tasks)) (parts v) in
     let count : length b.tasks ≡ length v.tasks + 1 =
     ap (λ (p : Parts). length p.tasks) made
-    ∙ length-append v.tasks (record { future = length v.futures; waiter = None; cancels = 0; must_cancel = false } ∷ []) in
-    (spawn_kept v b idle made queued is, record {
-      empty = ap (λ (s : Stacked). s.frames) grown ∙ has.empty;
-      unseen = ap (λ (s : Marked). s.visited) marks ∙ has.unseen;
-      unnoted = has.unnoted;
-      fits = omega (arith, fits, wide, needs);
-      marked = omega (arith, marked, tasks, count);
-    })
+    ∙ length-append v.tasks (record { future = length v.futures; waiter = None; cancels = 0; must_cancel = false } ∷ []) in (
+      spawn_kept v b idle made queued is,
+      record {
+        empty = ap (λ (s : Stacked). s.frames) grown ∙ has.empty;
+        unseen = ap (λ (s : Marked). s.visited) marks ∙ has.unseen;
+        unnoted = has.unnoted;
+        fits = omega (arith, fits, wide, needs);
+        marked = omega (arith, marked, tasks, count);
+      },
+    )
 spawned_or_not v b stack larger seen more notes (Err fault) idle made queued err grown marks has is =
     let wide : larger.room ≡ stack.room + 1 = ap (λ (s : Stacked). s.room) grown in
     let tasks : more.tasks ≡ seen.tasks + 1 = ap (λ (s : Marked). s.tasks) marks in
     let fits = has.fits in
-    let marked = has.marked in
-    (subst (λ (x : cancel.View). IsKept (record v { queue = x.queue; futures = x.futures; tasks = x.tasks })) (sym err) is,
-    subst (λ (x : cancel.View). HasRoom (record v { queue = x.queue; futures = x.futures; tasks = x.tasks }) larger more notes) (sym err) (record {
-      empty = ap (λ (s : Stacked). s.frames) grown ∙ has.empty;
-      unseen = ap (λ (s : Marked). s.visited) marks ∙ has.unseen;
-      unnoted = has.unnoted;
-      fits = omega (arith, fits, wide);
-      marked = omega (arith, marked, tasks);
-    }))
+    let marked = has.marked in (
+      subst (λ (x : cancel.View). IsKept (record v { queue = x.queue; futures = x.futures; tasks = x.tasks })) (sym err) is,
+      subst (λ (x : cancel.View). HasRoom (record v { queue = x.queue; futures = x.futures; tasks = x.tasks }) larger more notes) (sym err) (record {
+        empty = ap (λ (s : Stacked). s.frames) grown ∙ has.empty;
+        unseen = ap (λ (s : Marked). s.visited) marks ∙ has.unseen;
+        unnoted = has.unnoted;
+        fits = omega (arith, fits, wide);
+        marked = omega (arith, marked, tasks);
+      }),
+    )
 
 pub cancel_kept : (v : View) (b : cancel.View) (target : ℕ) → v.called ≡ None → cancel.parts b ≡ (cancel target (parts v)).parts
     → Appended v.queue b.queue → IsKept v → IsKept (record v { queue = b.queue; futures = b.futures; tasks = b.tasks })
@@ -242,10 +245,13 @@ next_kept v called next idle is = record {
         looks (bare (parts after)) refl refl
         (λ test follows. live-pending test 0 (waiting (queue.taken v.queue))
         ∙ sym (live-other test follows h (waiting (queue.taken v.queue)) (no_step h.action none)) ∙ live-taken test v.queue h rest e)
-    kept h rest e (Some task) one =
-        (h.action, one, looks (bare (with_first h.action (parts after))) refl refl
-        (λ test follows. with_first_live test h (waiting (queue.taken v.queue)) (first_lives v.queue.below h rest e)
-        ∙ live-taken test v.queue h rest e))
+    kept h rest e (Some task) one = (
+      h.action,
+      one,
+      looks (bare (with_first h.action (parts after))) refl refl
+          (λ test follows. with_first_live test h (waiting (queue.taken v.queue)) (first_lives v.queue.below h rest e)
+          ∙ live-taken test v.queue h rest e),
+    )
 
     taken : (hs : List code.Handle) → from_live v.queue.below ≡ hs → AreSound v.running (stepped_at (queue.first_action hs)) (parts after)
     taken [] e =

@@ -2,6 +2,7 @@
 use Rattle.std.proofs.Common.{◌≡◌, ℕ, zero, suc, ◌+◌, ◌<◌, ◌⊎◌, Bool, true, false, not, ◌&&◌, cond, List, [], ◌∷◌, Option, Some, None, length, map, slice_get, refl, ap, sym, subst, ◌∙◌, arith, inl, inr}
 use Rattle.std.proofs.lemmas.Bool.{false≢true, cases_Bool}
 use Rattle.std.proofs.lemmas.List.Sums.{sum_by-cons}
+use Rattle.std.proofs.lemmas.List.{length-map}
 use Rattle.std.specs.List.{count_by}
 use Rattle.std.specs.Option.{option_map}
 use Rattle.model_value.specs.Action.{Action}
@@ -129,6 +130,10 @@ module _ (v : View) (is : IsKept v) where
 
   pub kept_marks : v.called ≡ None → MarksWait v.running (parts v)
   kept_marks idle = marks_of v.running (parts v) (sound idle).marks
+
+  pub kept_waits : (task on : ℕ) → v.called ≡ None → waiter_of (parts v) task ≡ Some on → on < length v.futures
+  kept_waits task on idle waits =
+      subst (λ n. on < n) (length-map v.futures bare_future) ((sound idle).waits_made task on waits)
 
   pub kept_runs : (task : ℕ) → v.called ≡ None → v.running ≡ Some task → lives (parts v) task ≡ true
   kept_runs task idle runs =

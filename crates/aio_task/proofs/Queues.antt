@@ -88,7 +88,7 @@ any-appended p name action q h none =
     ∙ none_or (list_any p (waiting q)) (list_any p (handle ∷ [])) none (none_or (p handle) false h refl)
 
 -- ---- cancelled
-marked_counts : (test : Action → Bool) → Follows test → (dead same : Bool) (action : Action) → (same && is_step action) ≡ false
+marked_counts : (test : Action → Bool) → Follows test → (dead same : Bool) (action : Action) → (same && (not dead && is_step action)) ≡ false
     → one_where (not (dead || same) && test (bare_action action)) ≡ one_where (not dead && test (bare_action action))
 marked_counts test follows true same action h = refl
 marked_counts test follows false false action h = refl
@@ -107,7 +107,7 @@ pub live-cancelled : (test : Action → Bool) → Follows test → (name : Name)
     → list_any (steps_as name) (waiting q) ≡ false → live test (waiting (cancelled name q)) ≡ live test (waiting q)
 live-cancelled test follows name q none =
     let both = or_none (list_any (steps_as name) q.below) (list_any (steps_as name) q.after)
-        (sym (list_any-append (steps_as name) q.below q.after) ∙ none) in
+    (sym (list_any-append (steps_as name) q.below q.after) ∙ none) in
     let a = live-marked test follows name q.below both.0 in
     let b = live-marked test follows name q.after both.1 in
     let x = live-append test (map (marked name) q.below) (map (marked name) q.after) in

@@ -118,11 +118,13 @@ pub more_room : (v : View) (stack larger : Stacked) (seen : Marked) (notes after
     → HasRoom v larger seen after × (room_of (parts v) + 1 ≤ larger.room)
 more_room v stack larger seen notes after more unnoted has =
     let room : larger.room ≡ stack.room + 1 = ap (λ (s : Stacked). s.room) more in
-    let fits = has.fits in
-    (record {
-      empty = ap (λ (s : Stacked). s.frames) more ∙ has.empty;
-      unseen = has.unseen;
-      unnoted = unnoted;
-      fits = omega (arith, fits, room);
-      marked = has.marked;
-    }, omega (arith, fits, room))
+    let fits = has.fits in (
+      record {
+        empty = ap (λ (s : Stacked). s.frames) more ∙ has.empty;
+        unseen = has.unseen;
+        unnoted = unnoted;
+        fits = omega (arith, fits, room);
+        marked = has.marked;
+      },
+      omega (arith, fits, room),
+    )

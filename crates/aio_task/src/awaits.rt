@@ -43,7 +43,11 @@ fn find_circle(
     if on == own {
         return Some(Circle::Itself);
     }
-    if leads(on, own, body, seen, notes, stack) { Some(Circle::ItsWaiter) } else { None }
+    if leads(on, own, body, seen, notes, stack) {
+        Some(Circle::ItsWaiter)
+    } else {
+        None
+    }
 }
 
 // A task that is marked cancels what it waits for; where that can't be cancelled, it stays marked.

@@ -30,7 +30,9 @@ ghost use Rattle.aio_task.specs.View.{parts, stepped_at, is_step, NamesNoStep, s
 use crate::awaits::suspend;
 use crate::running::{Running, stepped};
 use crate::suspension::Suspension;
-use crate::tasks::{add, begin, call_soon, cancels_of, finish, future_of, input_of, uncancel};
+use crate::tasks::{
+    add, begin, call_soon, cancels_of, finish, future_of, input_of, uncancel, waiter_of,
+};
 use aio_base::{Action, Exc, Input, Memory, Outcome, Value};
 use aio_cancel::{Body, Marks, Notes, Stack, cancel};
 use aio_future::FutureId;
@@ -92,14 +94,16 @@ impl Parts {
         })
     }
 
-    /// What holds at every moment: the type keeps it. It does nothing. Between two calls each task that lives has one way
-    /// on, the running one none, and a mark stands only where it may; nothing waits in a circle.
+    /// What holds at every moment: the type keeps it, and this call does nothing but to say so. While no step is called, each
+    /// task that lives has one way on, the running one none, and a mark stands only where it may; nothing waits in a circle.
     pub fn keeps(&self)
         ensures one_way { self.now.called ≡ None → HasOneWay self.now.running (parts self.now) }
         ensures ready { self.now.called ≡ None → IsReady (parts self.now) }
         ensures marks { self.now.called ≡ None → MarksWait self.now.running (parts self.now) }
         ensures no_circle { HasNoCircle (parts self.now) }
         ensures owns { self.now.called ≡ None → OwnsFutures (parts self.now) }
+        ensures waits { (task on : ℕ) → self.now.called ≡ None → tasks.waiter_of (parts self.now) task ≡ Some on
+            → on < length self.now.futures }
         ensures runs { (task : ℕ) → self.now.called ≡ None → self.now.running ≡ Some task → lives (parts self.now) task ≡ true }
         ensures called { (task : ℕ) → self.now.called ≡ Some task → self.now.running ≡ None → lives (parts self.now) task ≡ true }
     {
@@ -203,10 +207,12 @@ impl Parts {
         requires idle { self.old.called ≡ None }
         requires no_step { is_step action ≡ false }
         ensures id { IfOk result (λ id. id ≡ record { number = self.old.schedule.next; when = when }) }
-        ensures after { IfOk result (λ id. self.new ≡ record self.old { schedule = record {
-          live = schedule.placed_after (schedule.timer id action) self.old.schedule.live;
-          next = self.old.schedule.next + 1;
-        } }) }
+        ensures after { IfOk result (λ id. self.new ≡ record self.old {
+          schedule = record {
+            live = schedule.placed_after (schedule.timer id action) self.old.schedule.live;
+            next = self.old.schedule.next + 1;
+          };
+        }) }
         ensures err { OnErr result (self.new ≡ self.old) }
     {
         self.timers.at(alloc, when, ticket, action)
@@ -218,7 +224,7 @@ impl Parts {
         ensures { self.new ≡ record self.old {
           schedule = record self.old.schedule { live = schedule.without id self.old.schedule.live };
           queue = (if schedule.lives id self.old.schedule.live then self.old.queue
-            else queue.cancelled (name.Timer id.number) self.old.queue);
+              else queue.cancelled (name.Timer id.number) self.old.queue);
         } }
     {
         self.timers.cancel(id, &mut self.body.ready);
@@ -281,9 +287,7 @@ impl Parts {
           queue = queue.soon_all (called id self.old.futures) self.old.queue;
         } }
     {
-        self.body
-            .futures
-            .resolve(id, outcome, &mut self.body.ready)
+        self.body.futures.resolve(id, outcome, &mut self.body.ready)
     }
 
     /// `add_done_callback`, of what is no step and no wakeup: of a pending future it waits, of a done one it is called soon.
@@ -474,6 +478,20 @@ impl Parts {
     {
         uncancel(&mut self.body, task);
         cancels_of(&self.body, task)
+    }
+
+    /// How many tasks were made.
+    pub fn tasks(&self) -> usize
+        ensures { result ≡ length self.now.tasks }
+    {
+        self.body.tasks.len()
+    }
+
+    /// What a task waits for.
+    pub fn waiter(&self, task: u32) -> Option<FutureId>
+        ensures { result ≡ tasks.waiter_of (parts self.now) task }
+    {
+        waiter_of(&self.body, task)
     }
 
     /// A task's own future.

@@ -37,6 +37,16 @@ pub fn cancels_of(body: &Body, task: u32) -> u64
     }
 }
 
+/// What a task waits for.
+pub fn waiter_of(body: &Body, task: u32) -> Option<FutureId>
+    ensures { result ≡ tasks.waiter_of (parts body.now) task }
+{
+    match body.tasks.get(task as usize) {
+        Some(task) => task.waiter(),
+        None => None,
+    }
+}
+
 /// Whether a cancel waits for a task's next step.
 pub fn is_marked(body: &Body, task: u32) -> bool
     ensures { result ≡ tasks.is_marked (parts body.now) task }
@@ -137,7 +147,11 @@ pub fn input_of(marked: bool, input: Input) -> Input
 fn cancelled(fault: Exc) -> Exc
     ensures { result ≡ (if tasks.is_cancelled fault then fault else tasks.cancelled_error) }
 {
-    if is_cancelled(&fault) { fault } else { Exc::bare(ExcKind::CancelledError) }
+    if is_cancelled(&fault) {
+        fault
+    } else {
+        Exc::bare(ExcKind::CancelledError)
+    }
 }
 
 // Whether an exception is a cancel's.
@@ -177,12 +191,20 @@ pub fn finish(body: &mut Body, task: u32, end: Result<Value, Exc>)
 fn returned(marked: bool, value: Value) -> Outcome
     ensures { result ≡ (if marked then outcome.Cancelled else outcome.Value value) }
 {
-    if marked { Outcome::Cancelled } else { Outcome::Value(value) }
+    if marked {
+        Outcome::Cancelled
+    } else {
+        Outcome::Value(value)
+    }
 }
 
 // How a task ends that raised.
 fn raised(fault: Exc) -> Outcome
     ensures { result ≡ (if tasks.is_cancelled fault then outcome.Cancelled else outcome.Failed fault) }
 {
-    if is_cancelled(&fault) { Outcome::Cancelled } else { Outcome::Failed(fault) }
+    if is_cancelled(&fault) {
+        Outcome::Cancelled
+    } else {
+        Outcome::Failed(fault)
+    }
 }

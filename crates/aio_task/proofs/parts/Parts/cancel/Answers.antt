@@ -11,9 +11,10 @@ pub invariant_of-self : goal.invariant_of-self
 invariant_of-self c =
     let old = c.self.invariant in
     let idle = ap (λ (v : View). v.called) c.self.view_is ∙ c.requires.idle in
-    rw (c.cancel.ensures.stack, c.cancel.ensures.seen)
-    (cancel_kept _ c.cancel.new.body c.args.target idle c.cancel.ensures.after c.cancel.ensures.queue old.0,
-    sized _ _ _ _ _ _ _ (size_cancel c.args.target _) c.cancel.ensures.after c.cancel.ensures.unnoted old.1)
+    rw (c.cancel.ensures.stack, c.cancel.ensures.seen) (
+      cancel_kept _ c.cancel.new.body c.args.target idle c.cancel.ensures.after c.cancel.ensures.queue old.0,
+      sized _ _ _ _ _ _ _ (size_cancel c.args.target _) c.cancel.ensures.after c.cancel.ensures.unnoted old.1,
+    )
 
 pub returns-clause-spent : goal.returns-clause-spent
 returns-clause-spent c =

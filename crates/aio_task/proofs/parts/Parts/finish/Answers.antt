@@ -8,6 +8,7 @@ pub invariant_of-self : goal.invariant_of-self
 invariant_of-self c =
     let old = c.self.invariant in
     let idle = ap (λ (v : View). v.called) c.self.view_is ∙ c.requires.idle in
-    let runs = ap (λ (v : View). v.running) c.self.view_is ∙ c.requires.running in
-    (finish_kept _ c.finish.new.body c.args.task c.args.end idle runs c.finish.ensures.after c.finish.ensures.queue old.0,
-    sized _ _ _ _ _ _ _ (size_finish c.args.task c.args.end _) c.finish.ensures.after old.1.unnoted old.1)
+    let runs = ap (λ (v : View). v.running) c.self.view_is ∙ c.requires.running in (
+      finish_kept _ c.finish.new.body c.args.task c.args.end idle runs c.finish.ensures.after c.finish.ensures.queue old.0,
+      sized _ _ _ _ _ _ _ (size_finish c.args.task c.args.end _) c.finish.ensures.after old.1.unnoted old.1,
+    )

@@ -1,7 +1,7 @@
 use Rattle.std.proofs.Common.{subst}
 use Rattle.aio_task.specs.Kept.{IsKept}
 use Rattle.aio_task.proofs.KeptFutures.{owns_of}
-use Rattle.aio_task.proofs.Plainly.{kept_one_way, kept_ready, kept_marks, kept_runs, kept_called}
+use Rattle.aio_task.proofs.Plainly.{kept_one_way, kept_ready, kept_marks, kept_waits, kept_runs, kept_called}
 use Rattle.aio_task.proofs.parts.Parts.keeps.Goals as goal
 
 pub returns : goal.returns
@@ -14,6 +14,7 @@ returns c =
       marks = kept_marks v is;
       no_circle = is.no_circle;
       owns = λ idle. owns_of v idle is;
+      waits = kept_waits v is;
       runs = kept_runs v is;
       called = kept_called v is;
     }

@@ -12,6 +12,6 @@ invariant_of-self-2 c =
     let same = ap the_view c.self-inside.view_is ∙ c.self.view_is in
     let idle = ap (λ (v : View). v.called) same ∙ c.requires.idle in
     let has = more_room _ _ _ _ _ _ c.in_ok-announce.ensures.after
-        (noted_less _ _ c.in_ok-announce-2.ensures.after old.1.unnoted) old.1 in
+    (noted_less _ _ c.in_ok-announce-2.ensures.after old.1.unnoted) old.1 in
     made_or_not _ (plain.Many c.args.members.items false) _ _ _ c.new_many.result c.new_many.new.self idle refl
     c.new_many.ensures.after c.new_many.ensures.err has.1 has.0 old.0

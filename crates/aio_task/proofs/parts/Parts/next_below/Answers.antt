@@ -19,6 +19,7 @@ invariant_of-self-2 c =
     let old = subst the_invariant (sym c.self-inside.view_is) c.self.invariant in
     let same = ap the_view c.self-inside.view_is ∙ c.self.view_is in
     let idle = ap (λ (v : View). v.called) same ∙ c.requires.idle in
-    rw c.in_ok-next.ensures.after
-    (next_kept _ _ (c.stepped-self-inside-inside.ensures ∙ ap stepped_at c.in_ok-next.ensures.action) idle old.0,
-    room_same _ _ _ _ _ refl refl old.1)
+    rw c.in_ok-next.ensures.after (
+      next_kept _ _ (c.stepped-self-inside-inside.ensures ∙ ap stepped_at c.in_ok-next.ensures.action) idle old.0,
+      room_same _ _ _ _ _ refl refl old.1,
+    )

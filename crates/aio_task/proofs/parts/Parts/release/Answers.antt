@@ -14,6 +14,6 @@ invariant_of-self c =
     let idle = ap (λ (v : View). v.called) same ∙ c.requires.idle in
     let free = subst (λ (v : View). owner_at (slice_get v.futures c.args.id) ≡ None) (sym same) c.requires.no_task in
     let over = subst (λ (v : View). (is_pending_at (slice_get v.futures c.args.id) ≡ false) ⊎ (callbacks_at (slice_get v.futures c.args.id) ≡ []))
-        (sym same) c.requires.over in
+    (sym same) c.requires.over in
     rw c.release.ensures
     (released_whole _ _ _ _ _ c.args.id idle free over c.forget.ensures old.0 old.1)

@@ -18,6 +18,7 @@ invariant_of-self-2 c =
     let idle = ap (λ (v : View). v.called) c.self.view_is ∙ c.requires.idle in
     let runs = ap (λ (v : View). v.running) c.self.view_is ∙ c.requires.running in
     let pending = subst (λ (v : View). is_pending_at (slice_get v.futures c.args.on) ≡ true) (sym c.self.view_is) c.requires.pending in
-    rw (c.take.ensures.after, c.suspend.ensures.stack, c.suspend.ensures.seen)
-    (suspend_kept _ c.suspend.new.body c.args.task c.args.on idle runs pending c.suspend.ensures.after c.suspend.ensures.queue old.0,
-    sized _ _ _ _ _ _ _ (size_suspend c.args.task c.args.on _) c.suspend.ensures.after c.suspend.ensures.unnoted old.1)
+    rw (c.take.ensures.after, c.suspend.ensures.stack, c.suspend.ensures.seen) (
+      suspend_kept _ c.suspend.new.body c.args.task c.args.on idle runs pending c.suspend.ensures.after c.suspend.ensures.queue old.0,
+      sized _ _ _ _ _ _ _ (size_suspend c.args.task c.args.on _) c.suspend.ensures.after c.suspend.ensures.unnoted old.1,
+    )
