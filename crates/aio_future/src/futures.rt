@@ -97,6 +97,13 @@ impl Futures {
         Ok(id)
     }
 
+    /// The number that the next future gets.
+    pub fn next(&self) -> FutureId
+        ensures { result ≡ length self.now }
+    {
+        self.next
+    }
+
     /// `set_result` and its kin: a pending future gets its outcome, and its callbacks are called soon, in order of
     /// registration. A done one stays as it is: false.
     pub fn resolve(&mut self, id: FutureId, outcome: Outcome, ready: &mut Ready) -> bool

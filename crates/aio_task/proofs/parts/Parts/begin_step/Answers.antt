@@ -1,0 +1,14 @@
+use Rattle.std.proofs.Common.{refl, ap, sym, subst, ◌∙◌}
+use Rattle.aio_task.specs.View.{View}
+use Rattle.aio_task.proofs.KeptSteps.{begin_kept}
+use Rattle.aio_task.proofs.Sizes.{sized, size_begin}
+use Rattle.aio_task.proofs.parts.Parts.begin_step.Goals as goal
+
+pub invariant_of-self : goal.invariant_of-self
+invariant_of-self c =
+    let old = c.self.invariant in
+    let called = ap (λ (v : View). v.called) c.self.view_is ∙ c.requires.called in
+    let alone = ap (λ (v : View). v.running) c.self.view_is ∙ c.requires.alone in (
+      begin_kept _ c.begin-marked.new.body c.args.task c.args.input called alone c.begin-marked.ensures.after c.begin-marked.ensures.queue old.0,
+      sized _ _ _ _ _ _ _ (size_begin c.args.task c.args.input _) c.begin-marked.ensures.after old.1.unnoted old.1,
+    )

@@ -1,0 +1,4 @@
+pub mod View
+pub mod Code
+pub mod Bare
+pub mod Kept

@@ -1,0 +1,117 @@
+//! A task's step ends with the await of a future that isn't done.
+ghost use Rattle.std.specs.Prelude.{◌≡◌, ◌≤◌, true, false, None, Some, [], length, slice_get, if◌then◌else◌};
+ghost use Rattle.model_loop.specs.Circles.{circle};
+ghost use Rattle.model_loop.specs.Futures.{is_pending_at};
+ghost use Rattle.model_loop.specs.Owning.{OwnsFutures};
+ghost use Rattle.model_loop.specs.Sound.{HasNoCircle};
+ghost use Rattle.model_loop.specs.Suspend.{suspend as suspend_of};
+ghost use Rattle.model_loop.specs.Tasks.{is_marked as is_marked_in};
+ghost use Rattle.model_loop.specs.Suspend.{cancel_wait};
+ghost use Rattle.law_parts.specs.Open.{room_of};
+ghost use Rattle.aio_cancel.specs.Body.{parts, Appended};
+ghost use Rattle.aio_cancel.specs.Noted.{HasNoNotes};
+ghost use Rattle.aio_task.specs.View.{suspension_of};
+
+use crate::suspension::Suspension;
+use crate::tasks::{call_soon, future_of, is_marked, unmark, wait};
+use aio_base::{Action, Circle};
+use aio_cancel::{Body, Marks, Notes, Stack, cancel, leads};
+use aio_future::FutureId;
+use aio_ready::Ticket;
+
+// Why a task can't wait for a future, if it can't.
+fn find_circle(
+    task: u32,
+    on: FutureId,
+    body: &Body,
+    seen: &mut Marks,
+    notes: &mut Notes,
+    stack: &mut Stack,
+) -> Option<Circle>
+    requires empty { stack.old.frames ≡ [] }
+    requires unseen { seen.old.visited ≡ [] }
+    requires unnoted { HasNoNotes notes.old }
+    requires no_circle { HasNoCircle (parts body.now) }
+    requires fits { room_of (parts body.now) ≤ stack.old.room }
+    requires marked { length body.now.tasks ≤ seen.old.tasks }
+    ensures answer { result ≡ circle (parts body.now) task on }
+    ensures stack { stack.new ≡ stack.old }
+    ensures seen { seen.new ≡ seen.old }
+    ensures unnoted { HasNoNotes notes.new }
+{
+    let own = future_of(body, task);
+    if on == own {
+        return Some(Circle::Itself);
+    }
+    if leads(on, own, body, seen, notes, stack) {
+        Some(Circle::ItsWaiter)
+    } else {
+        None
+    }
+}
+
+// A task that is marked cancels what it waits for; where that can't be cancelled, it stays marked.
+fn cancel_waiting(
+    task: u32,
+    on: FutureId,
+    body: &mut Body,
+    seen: &mut Marks,
+    notes: &mut Notes,
+    stack: &mut Stack,
+)
+    requires empty { stack.old.frames ≡ [] }
+    requires unseen { seen.old.visited ≡ [] }
+    requires unnoted { HasNoNotes notes.old }
+    requires no_circle { HasNoCircle (parts body.old) }
+    requires fits { room_of (parts body.old) ≤ stack.old.room }
+    requires marked { length body.old.tasks ≤ seen.old.tasks }
+    ensures after { parts body.new ≡ (cancel_wait (is_marked_in (parts body.old) task) task on (parts body.old)).parts }
+    ensures queue { Appended body.old.queue body.new.queue }
+    ensures stack { stack.new ≡ stack.old }
+    ensures seen { seen.new ≡ seen.old }
+    ensures unnoted { HasNoNotes notes.new }
+{
+    if !is_marked(body, task) {
+        return;
+    }
+    if cancel(on, body, seen, notes, stack) {
+        unmark(body, task);
+    }
+}
+
+/// A task awaits a pending future.
+pub fn suspend(
+    task: u32,
+    on: FutureId,
+    ticket: Ticket,
+    body: &mut Body,
+    seen: &mut Marks,
+    notes: &mut Notes,
+    stack: &mut Stack,
+) -> Suspension
+    requires empty { stack.old.frames ≡ [] }
+    requires unseen { seen.old.visited ≡ [] }
+    requires unnoted { HasNoNotes notes.old }
+    requires owns { OwnsFutures (parts body.old) }
+    requires no_circle { HasNoCircle (parts body.old) }
+    requires fits { room_of (parts body.old) ≤ stack.old.room }
+    requires marked { length body.old.tasks ≤ seen.old.tasks }
+    ensures answer { result ≡ suspension_of (circle (parts body.old) task on) }
+    ensures after { parts body.new ≡ (suspend_of task on (parts body.old)).parts }
+    ensures queue { Appended body.old.queue body.new.queue }
+    ensures stack { stack.new ≡ stack.old }
+    ensures seen { seen.new ≡ seen.old }
+    ensures unnoted { HasNoNotes notes.new }
+{
+    match find_circle(task, on, body, seen, notes, stack) {
+        Some(circle) => {
+            call_soon(body, ticket, Action::StepInCircle { task, circle });
+            Suspension::Cycle
+        }
+        None => {
+            wait(body, task, on, ticket);
+            cancel_waiting(task, on, body, seen, notes, stack);
+            Suspension::Suspended
+        }
+    }
+}
