@@ -1,0 +1,76 @@
+-- The loop's parts in code, as contracts see them: the time and the profile, the queue, the timers, the futures and the
+-- tasks, and whose step is going on.
+use Rattle.std.specs.Prelude.{◌≡◌, ℕ, Bool, true, false, not, ◌&&◌, List, [], Option, Some, None, slice_get}
+use Rattle.std.specs.List.{All}
+use Rattle.model_value.specs.Action.{Action, Circle}
+use Rattle.model_value.specs.declared.action.Action.TheVariants.{Step, StepInCircle, Wakeup}
+use Rattle.model_loop.specs.Parts.{Future, Task, Parts}
+use Rattle.aio_ready.specs.declared.handle.Handle.{Handle}
+use Rattle.aio_ready.specs.declared.handle.Name.{Name}
+use Rattle.aio_ready.specs.Names.{is_same}
+use Rattle.aio_ready.specs.Queue.{Queue, no_handles}
+use Rattle.aio_timer.specs.Schedule.{Schedule, no_timers}
+use Rattle.aio_cancel.specs.Body as cancel
+use Rattle.aio_cancel.specs.Body.{waiting}
+use Rattle.aio_task.specs.declared.suspension.Suspension.{Suspension}
+use Rattle.aio_task.specs.declared.suspension.Suspension.TheVariants.{Suspended, Cycle}
+
+-- `running` is the task whose step has begun and hasn't ended. `called` is the task whose step, or wakeup, was taken from
+-- the queue and hasn't begun: it counts as the running one.
+pub record View : Type 0 where
+  pub time : ℕ
+  pub profile : ℕ
+  pub queue : Queue
+  pub schedule : Schedule
+  pub futures : List Future
+  pub tasks : List Task
+  pub running : Option ℕ
+  pub called : Option ℕ
+
+-- what a request changes
+abbrev pub body : View → cancel.View
+body v = record { queue = v.queue; futures = v.futures; tasks = v.tasks }
+
+-- The parts as the definitions have them, without time and timers. Handles are stamped and named by their places.
+abbrev pub parts : View → Parts
+parts v = cancel.parts (body v)
+
+-- the task that an action steps
+abbrev pub stepped : Action → Option ℕ
+stepped (Step task) = Some task
+stepped (StepInCircle task circle) = Some task
+stepped (Wakeup task) = Some task
+stepped _ = None
+
+abbrev pub stepped_at : Option Action → Option ℕ
+stepped_at None = None
+stepped_at (Some action) = stepped action
+
+-- whether an action is a step or a wakeup of a task
+abbrev pub is_step : Action → Bool
+is_step (Step task) = true
+is_step (StepInCircle task circle) = true
+is_step (Wakeup task) = true
+is_step _ = false
+
+-- no handle of this name is a step or a wakeup
+abbrev pub NamesNoStep : Name → Queue → Type 0
+NamesNoStep name q = All (λ (handle : Handle). (is_same name handle.name && is_step handle.action) ≡ false) (waiting q)
+
+-- what became of an await
+abbrev pub suspension_of : Option Circle → Suspension
+suspension_of None = Suspended
+suspension_of (Some circle) = Cycle
+
+-- nothing has happened
+abbrev pub empty : ℕ → View
+empty profile = record {
+  time = 0;
+  profile = profile;
+  queue = no_handles;
+  schedule = no_timers;
+  futures = [];
+  tasks = [];
+  running = None;
+  called = None;
+}
