@@ -20,7 +20,7 @@ pub fn a_new_task_is_kept()
 pub fn a_begun_step_is_kept()
     ensures after { (t : Ties) (v w : View) (p : Parts) (task : ℕ) (input : Input) → Keeps t v p
         → Becomes v w (begin_step task input (parts v)).parts
-        → Kept t p w (begin_step task input p).parts }
+        → Keeps t w (begin_step task input p).parts }
     ensures input { (t : Ties) (v : View) (p : Parts) (task : ℕ) (input : Input) → Keeps t v p
         → (begin_step task input (parts v)).input ≡ (begin_step task input p).input }
 {}
@@ -40,7 +40,7 @@ pub fn an_ended_step_is_kept()
 /// A cancel is taken back.
 pub fn an_uncancel_is_kept()
     ensures { (t : Ties) (v w : View) (p : Parts) (task : ℕ) → Keeps t v p
-        → Becomes v w (uncancel task (parts v)) → Kept t p w (uncancel task p) }
+        → Becomes v w (uncancel task (parts v)) → Keeps t w (uncancel task p) }
 {}
 
 /// What tasks tell.
