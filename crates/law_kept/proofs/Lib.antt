@@ -6,3 +6,6 @@ pub mod PlacedSteps
 pub mod Becoming
 pub mod Calls
 pub mod Telling
+pub mod Running
+pub mod Skipping
+pub mod Deadlining

@@ -1,7 +1,8 @@
 -- What futures and tasks tell is the same in code.
-use Rattle.std.proofs.Common.{◌≡◌, ℕ, zero, suc, ◌+◌, ◌<◌, ◌⊎◌, ◌==◌, ◌||◌, Bool, true, false, cond, List, [], ◌∷◌, ◌++◌, Option, Some, None, length, slice_get, slice_set, refl, ap, sym, ◌∙◌, inl, inr, arith, if◌then◌else◌}
+use Rattle.std.proofs.Common.{◌≡◌, ℕ, zero, suc, ◌+◌, ◌<◌, ◌≤◌, ◌⊎◌, ◌==◌, ◌||◌, Bool, true, false, cond, List, [], ◌∷◌, ◌++◌, Option, Some, None, length, slice_get, slice_set, refl, ap, sym, ◌∙◌, inl, inr, arith, if◌then◌else◌}
 use Rattle.std.specs.Prelude.{nat_lt, not}
 use Rattle.std.specs.Option.{option_map, option_map_or}
+use Rattle.std.proofs.Math.Bool.{or-false}
 use Rattle.std.proofs.lemmas.Bool.{or_cases, or_right, eqb-true, eq-eqb, ne_eqb, cases_eq, lt-ltb, false_from_ne_true}
 use Rattle.model_value.specs.Action.{Circle}
 use Rattle.model_value.specs.Value.{Outcome}
@@ -11,6 +12,7 @@ use Rattle.model_loop.specs.Cancel.{cancel}
 use Rattle.model_loop.specs.Circles.{circle}
 use Rattle.model_loop.specs.Spent.{is_spent}
 use Rattle.model_loop.specs.Tasks.{future_of, lives}
+use Rattle.law_cancel.proofs.Answering.{with_answer_spent}
 use Rattle.law_parts.specs.Forgotten.{released, forget_from, forgotten, forgotten_of}
 use Rattle.law_parts.specs.Placed.{placed, placed_of}
 use Rattle.law_parts.specs.Quiet.{stage_of, stage}
@@ -41,6 +43,35 @@ over (Some future) s = go future.outcome s
     go : (o : Option Outcome) → is_pending_at (Some (record future { outcome = o })) ≡ false → stage_of o future.kind ≡ None
     go (Some outcome) s = refl
     go None s = absurd (cc)
+
+not_same : (a b : Bool) → not a ≡ not b → a ≡ b
+not_same true true e = refl
+not_same false false e = refl
+not_same true false e = absurd (cc)
+not_same false true e = absurd (cc)
+
+-- ---- one future more is let go
+forget_same : (gone other : ℕ → Bool) (number : ℕ) → ((id : ℕ) → number ≤ id → gone id ≡ other id) → (futures : List Future)
+    → forget_from gone number futures ≡ forget_from other number futures
+forget_same gone other number same [] = refl
+forget_same gone other number same (f ∷ futures) =
+    let e = same number (omega arith) in
+    let more = forget_same gone other (suc number) (λ id h. same id (omega arith)) futures in
+    rw (e, more) refl
+
+forget_one : (gone : ℕ → Bool) (number place id : ℕ) → id ≡ number + place → (futures : List Future) → place < length futures
+    → slice_set (forget_from gone number futures) place released ≡ forget_from (λ other. gone other || (other == id)) number futures
+forget_one gone number place id e [] h = absurd (omega arith)
+forget_one gone number zero id e (f ∷ futures) h =
+    let here : (gone number || (number == id)) ≡ true = or_right (gone number) (number == id) (eq-eqb number id (omega arith)) in
+    let more = forget_same gone (λ other. gone other || (other == id)) (suc number)
+        (λ other after. let n : (other == id) ≡ false = ne_eqb other id (omega arith) in rw n (sym (or-false (gone other)))) futures in
+    rw (here, more) refl
+forget_one gone number (suc place) id e (f ∷ futures) h =
+    let n : (number == id) ≡ false = ne_eqb number id (omega arith) in
+    let here : (gone number || (number == id)) ≡ gone number = rw n (or-false (gone number)) in
+    let more = forget_one gone (suc number) place id (omega arith) futures (omega arith) in
+    rw (here, more) refl
 
 module _ (t : Ties) (v : View) (p : Parts) (k : Keeps t v p) where
   pub next_kept : length v.futures ≡ next_future p
@@ -92,7 +123,9 @@ module _ (t : Ties) (v : View) (p : Parts) (k : Keeps t v p) where
       ∙ ap (λ r. r.answer) (cancel-forget t.gone id p k.done)
 
   pub spent_kept : (id : ℕ) → is_spent (parts v) id ≡ is_spent p id
-  spent_kept id = ?
+  spent_kept id =
+      not_same (is_spent (parts v) id) (is_spent p id)
+      (sym (with_answer_spent id [] (parts v)) ∙ answer_kept id ∙ with_answer_spent id [] p)
 
   -- ---- a future is let go
   pub keeps_release : (id : ℕ) → id < next_future p → is_pending p id ≡ false
@@ -103,13 +136,20 @@ module _ (t : Ties) (v : View) (p : Parts) (k : Keeps t v p) where
     timers = k.timers;
     deadlines = k.deadlines;
     names = k.names;
-    futures = ?;
+    futures = released_kept;
     made = λ other g. go_made other (or_cases (t.gone other) (other == id) g);
     done = λ other g. go_done other (or_cases (t.gone other) (other == id) g);
     tasks = k.tasks;
     numbered = k.numbered;
   }
     where
+      released_kept : (if nat_lt id (length v.futures) then slice_set v.futures id released else v.futures)
+          ≡ forget_from (λ other. t.gone other || (other == id)) 0 p.futures
+      released_kept =
+          let l : length v.futures ≡ next_future p = next_kept in
+          rw (lt-ltb id (length v.futures) (omega (arith, l, made)))
+          (ap (λ fs. slice_set fs id released) k.futures ∙ forget_one t.gone 0 id id (omega arith) p.futures made)
+
       go_made : (other : ℕ) → (t.gone other ≡ true) ⊎ ((other == id) ≡ true) → other < next_future p
       go_made other (inl g) = k.made other g
       go_made other (inr e) = let s : other ≡ id = eqb-true other id e in omega arith
