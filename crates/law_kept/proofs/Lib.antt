@@ -9,3 +9,4 @@ pub mod Telling
 pub mod Running
 pub mod Skipping
 pub mod Deadlining
+pub mod Scheduling

@@ -40,6 +40,9 @@ pub map_same : {A B : Type 0} (f g : A → B) (xs : List A) → All (λ x. f x �
 map_same f g [] a = refl
 map_same f g (x ∷ xs) a = let e = a.0 in let more = map_same f g xs a.1 in cc
 
+pub occurrences-cons : (k x : ℕ) (xs : List ℕ) → occurrences k (x ∷ xs) ≡ cond (nat_eq k x) 1 0 + occurrences k xs
+occurrences-cons k x xs = sum_by-cons (λ y. cond (nat_eq k y) 1 0) x xs
+
 -- numbers that stand nowhere from the next one on are below it
 pub all_below : {A : Type 0} (f : A → ℕ) (next : ℕ) (xs : List A) → ((k : ℕ) → next ≤ k → occurrences k (map f xs) ≡ 0)
     → All (λ x. f x < next) xs
@@ -47,7 +50,7 @@ all_below f next [] none = tt
 all_below {A} f next (x ∷ xs) none = (first (cases_lt (f x) next), all_below f next xs others)
   where
     cons : (k : ℕ) → occurrences k (f x ∷ map f xs) ≡ cond (nat_eq k (f x)) 1 0 + occurrences k (map f xs)
-    cons k = sum_by-cons (λ y. cond (nat_eq k y) 1 0) (f x) (map f xs)
+    cons k = occurrences-cons k (f x) (map f xs)
 
     first : (f x < next) ⊎ (next ≤ f x) → f x < next
     first (inl h) = h
