@@ -10,3 +10,4 @@ pub mod Running
 pub mod Skipping
 pub mod Deadlining
 pub mod Scheduling
+pub mod Requesting

@@ -4,11 +4,12 @@ use Rattle.std.specs.Prelude.{nat_lt, nat_le, nat_eq}
 use Rattle.std.specs.List.{AllByRecursion as All}
 use Rattle.std.proofs.lemmas.Bool.{cases_eq, eq-eqb, ne_eqb, eqb-true, false_from_ne_true, and_parts, and_from}
 use Rattle.std.proofs.lemmas.List.{map-append}
+use Rattle.std.proofs.lemmas.Option.{none-some, same_Some}
 use Rattle.model_value.specs.Action.{Action}
 use Rattle.model_loop.specs.Parts as plain
 use Rattle.model_loop.specs.Parts.{Timer, Parts}
 use Rattle.model_loop.specs.Handles.{later, revoke, due, fall_due, by_deadline, cancelled_if}
-use Rattle.model_loop.specs.Numbered.{occurrences, tags_of}
+use Rattle.model_loop.specs.Numbered.{occurrences, IsNumbered}
 use Rattle.law_numbers.proofs.Falling.{due_numbers}
 use Rattle.law_numbers.proofs.Numbering.{later_numbers, revoke_numbers, tagged, tag_of, timer_tag, one_at}
 use Rattle.aio_ready.specs.declared.handle.Handle.{Handle}
@@ -278,8 +279,8 @@ fallen-given [] q = refl
 fallen-given (x ∷ timers) q = fallen-given timers (appended (name.Timer x.tag) x.action q)
 
 name_is : (it : Known) (x : Timer) → IsTimer it x → name.Timer (number_of it) ≡ name_of it
-name_is (ByHandle id) x a = absurd a
-name_is (ByTimer id) x a = refl
+name_is (ByHandle other) x a = absurd a
+name_is (ByTimer other) x a = refl
 
 module _ (known : ℕ → Known) (bar : ℕ) where
   handles_one : (x : Timer) (q : Queue) (p : Parts) → IsTimer (known x.tag) x → KeepsHandles known bar q p
@@ -357,17 +358,57 @@ module _ (t : Ties) (v : View) (p : Parts) (k : Keeps t v p) where
   due_is = fall_due-beside (by_deadline early) rest
 
   keeps_due : Keeps t fell (due p)
-  keeps_due = record {
-    time = k.time ∙ sym (ap (λ (x : Parts). x.time) due_is);
-    handles = due_handles;
-    timers = later_live ∙ sym (ap (λ (x : Parts). map (timer_as t.known) (by_deadline x.timers)) due_is);
-    deadlines =
-        subst (λ ts. All (λ (x : Timer). IsTimer (t.known x.tag) x) ts) (sym (ap (λ (x : Parts). x.timers) due_is))
-        (all-filter (λ (x : Timer). IsTimer (t.known x.tag) x) (λ (x : Timer). nat_lt p.time x.when) p.timers k.deadlines);
-    names = ?;
-    futures = k.futures ∙ sym (ap (λ (x : Parts). forget_from t.gone 0 x.futures) due_is);
-    made = ?;
-    done = ?;
-    tasks = k.tasks ∙ sym (ap (λ (x : Parts). x.tasks) due_is);
-    numbered = due_numbers p k.numbered;
-  }
+  keeps_due =
+      subst (λ x. Keeps t fell x) (sym due_is)
+      (record {
+        time = k.time;
+        handles = subst (λ x. KeepsHandles t.known t.bar fell.queue x) due_is due_handles;
+        timers = later_live;
+        deadlines =
+            all-filter (λ (x : Timer). IsTimer (t.known x.tag) x) (λ (x : Timer). nat_lt p.time x.when) p.timers k.deadlines;
+        names = rw (fallen-given (due_at p.time v.schedule.live) v.queue) k.names;
+        futures = k.futures;
+        made = k.made;
+        done = k.done;
+        tasks = k.tasks;
+        numbered = subst IsNumbered due_is (due_numbers p k.numbered);
+      })
+
+pub keeps_fallen : (t : Ties) (v : View) (p : Parts) (now : ℕ) → Keeps t v p → now ≡ v.time
+    → Keeps t
+    (record v {
+      schedule = record v.schedule { live = later_than now v.schedule.live };
+      queue = fallen (due_at now v.schedule.live) v.queue;
+    })
+    (due p)
+keeps_fallen t v p now k e =
+    subst (λ n. Keeps t (record v {
+      schedule = record v.schedule { live = later_than n v.schedule.live };
+      queue = fallen (due_at n v.schedule.live) v.queue;
+    }) (due p)) (sym (e ∙ k.time)) (keeps_due t v p k)
+
+-- ---- the earliest
+first_as : (known : ℕ → Known) (timers : List Timer) → first_when (map (timer_as known) timers) ≡ first_when timers
+first_as known [] = refl
+first_as known (x ∷ timers) = refl
+
+module _ (t : Ties) (v : View) (p : Parts) (k : Keeps t v p) where
+  first_kept : first_when v.schedule.live ≡ first_when (by_deadline p.timers)
+  first_kept = ap first_when k.timers ∙ first_as t.known (by_deadline p.timers)
+
+  pub none_earliest : first_when v.schedule.live ≡ None → p.timers ≡ []
+  none_earliest e = go p.timers (sym first_kept ∙ e)
+    where
+      go : (timers : List Timer) → first_when (by_deadline timers) ≡ None → timers ≡ []
+      go [] h = refl
+      go (x ∷ timers) h = absurd (none-some (least x.when timers) (sym h ∙ first_least x timers))
+
+  pub some_earliest : (when : ℕ) → first_when v.schedule.live ≡ Some when
+      → (first : Timer) × (others : List Timer) × (p.timers ≡ first ∷ others) × (when ≡ least first.when others)
+  some_earliest when e = go p.timers (sym first_kept ∙ e)
+    where
+      go : (timers : List Timer) → first_when (by_deadline timers) ≡ Some when
+          → (first : Timer) × (others : List Timer) × (timers ≡ first ∷ others) × (when ≡ least first.when others)
+      go [] h = absurd (cc)
+      go (x ∷ timers) h =
+          (x, timers, refl, same_Some when (least x.when timers) (sym h ∙ first_least x timers))
