@@ -1,22 +1,20 @@
 -- What happens to queue, futures and tasks in code is what happens to the machine's parts.
-use Rattle.std.proofs.Common.{◌≡◌, ℕ, zero, suc, ◌<◌, ◌≤◌, Bool, true, false, List, [], ◌∷◌, ◌++◌, Option, Some, None, length, map, slice_get, refl, ap, sym, subst, ◌∙◌, arith, append_assoc, append-nil}
+use Rattle.std.proofs.Common.{◌≡◌, ℕ, suc, true, false, List, [], ◌∷◌, ◌++◌, length, map, refl, ap, sym, subst, ◌∙◌, arith, append_assoc, append-nil}
 use Rattle.std.proofs.lemmas.List.{map-append, append_cancel_left}
 use Rattle.model_value.specs.Action.{Action}
 use Rattle.model_loop.specs.Parts as plain
 use Rattle.model_loop.specs.Parts.{Future, Task, Parts}
-use Rattle.model_loop.specs.Futures.{next_future}
 use Rattle.model_loop.specs.Handles.{soon, soon_all}
 use Rattle.model_loop.specs.Numbered.{IsNumbered}
-use Rattle.law_parts.specs.Forgotten.{forget_from, forgotten, AreDone}
+use Rattle.law_parts.specs.Forgotten.{forget_from, forgotten}
 use Rattle.law_parts.specs.Placed.{placed_from, placed}
-use Rattle.law_parts.specs.Quiet.{stage, stage_at}
 use Rattle.aio_ready.specs.declared.handle.Handle.{Handle}
 use Rattle.aio_ready.specs.Queue as queue
 use Rattle.aio_ready.specs.Queue.{Queue, actions_of, next_name}
-use Rattle.aio_cancel.specs.Body.{handles_from, waiting, Appended}
+use Rattle.aio_cancel.specs.Body.{handles_from, waiting}
 use Rattle.aio_task.specs.View.{View, parts}
-use Rattle.aio_task.specs.Keeps.{Known, handle_as, Ties, KeepsHandles, Keeps, Extends, Kept, Becomes}
-use Rattle.law_kept.proofs.Appending.{waiting_kept, kept_soon_all}
+use Rattle.aio_task.specs.Keeps.{Known, handle_as, Ties, Keeps, Kept, Becomes}
+use Rattle.law_handles.proofs.Appending.{waiting_kept, kept_soon_all, moved}
 use Rattle.law_kept.proofs.Only.{OnlyAppends, OnlyChanges, appends}
 
 -- ---- the parts of a view
@@ -72,36 +70,7 @@ kept-actions : (known : ℕ → Known) (handles : List plain.Handle)
 kept-actions known [] = refl
 kept-actions known (h ∷ handles) = ap (λ row. h.action ∷ row) (kept-actions known handles)
 
--- ---- futures and tasks change
-pub moved : (t : Ties) (v w : View) (p : Parts) (futures : List Future) (tasks : List Task) → Keeps t v p
-    → w.time ≡ v.time → w.schedule ≡ v.schedule → w.queue ≡ v.queue → w.tasks ≡ tasks → w.futures ≡ forget_from t.gone 0 futures
-    → ((id : ℕ) → t.gone id ≡ true → id < length futures) → ((id : ℕ) → t.gone id ≡ true → stage (slice_get futures id) ≡ None)
-    → IsNumbered (record p { futures = futures; tasks = tasks })
-    → Keeps t w (record p { futures = futures; tasks = tasks })
-moved t v w p futures tasks k time schedule queue_is tasks_are futures_are made done numbered = record {
-  time = time ∙ k.time;
-  handles =
-      let h = k.handles in
-      record {
-        early = h.early;
-        late = h.late;
-        pending = h.pending;
-        below = ap (λ (q : Queue). q.below) queue_is ∙ h.below;
-        after = ap (λ (q : Queue). q.after) queue_is ∙ h.after;
-        before_bar = h.before_bar;
-        past_bar = h.past_bar;
-        bar_given = h.bar_given;
-      };
-  timers = ap (λ s. s.live) schedule ∙ k.timers;
-  deadlines = k.deadlines;
-  names = rw (schedule, queue_is) k.names;
-  futures = futures_are;
-  made = made;
-  done = done;
-  tasks = tasks_are;
-  numbered = numbered;
-}
-
+-- ---- a call
 module _ (t : Ties) (v w : View) (p q : Parts) (k : Keeps t v p) (only : OnlyAppends p q) (became : Becomes v w (placed (forgotten t.gone q))) where
   abbrev act : plain.Handle → Action
   act handle = handle.action

@@ -1,5 +1,5 @@
 -- Each call on queue, futures and tasks is the machine's operation.
-use Rattle.std.proofs.Common.{◌≡◌, ℕ, ◌+◌, ◌-◌, ◌<◌, Bool, true, false, List, [], ◌∷◌, ◌++◌, Option, Some, None, Result, length, slice_get, refl, ap, sym, ◌∙◌, arith}
+use Rattle.std.proofs.Common.{◌≡◌, ℕ, ◌<◌, false, List, [], ◌∷◌, ◌++◌, Option, Some, None, Result, slice_get, refl, ap, sym, ◌∙◌, arith}
 use Rattle.std.specs.List.{All}
 use Rattle.std.specs.Option.{option_map_or}
 use Rattle.std.proofs.lemmas.Bool.{false_from_ne_true}
@@ -18,7 +18,7 @@ use Rattle.law_numbers.proofs.CancelNumbers.{cancel_numbers}
 use Rattle.law_numbers.proofs.Falling.{new_plain_numbers, new_many_numbers, spawn_numbers}
 use Rattle.law_numbers.proofs.Numbering.{settle_numbers, register_numbers, mark_asked_numbers, change_task_numbers}
 use Rattle.law_numbers.proofs.StepNumbers.{begin_step_numbers, pause_numbers, suspend_numbers, finish_numbers}
-use Rattle.law_parts.specs.Forgotten.{forgotten, AreDone}
+use Rattle.law_parts.specs.Forgotten.{forgotten}
 use Rattle.law_parts.specs.Placed.{placed}
 use Rattle.law_parts.proofs.PlacedLemmas.{soon-placed, settle-placed, register-placed, ask-placed, spawn-placed, change-placed, cancel-placed}
 use Rattle.law_parts.proofs.ForgottenLemmas.{cancel-forget, settle-forget, ask-forget, change-forget}
@@ -26,7 +26,7 @@ use Rattle.law_parts.proofs.ForgottenSteps.{register-forget, make-forget, spawn-
 use Rattle.aio_ready.specs.Queue as queue
 use Rattle.aio_future.specs.Settled.{settled, called, registered, registered_at, registered_until, soon_if_done, soon_at, soon_until, asked, asked_at}
 use Rattle.aio_cancel.specs.Body.{Appended}
-use Rattle.aio_cancel.proofs.PartsLemmas.{soon-parts, settle-parts, nothing_appended}
+use Rattle.aio_cancel.proofs.PartsLemmas.{soon-parts, settle-parts}
 use Rattle.aio_task.specs.View.{View, body, parts}
 use Rattle.aio_task.specs.Keeps.{Ties, Keeps, Kept, Becomes}
 use Rattle.law_kept.proofs.Only.{OnlyAppends, OnlyChanges, only_soon, only_settle, only_register, changes_ask, changes_make, changes_task, only_spawn, only_cancel, changes_begin, only_finish, only_suspend}

@@ -12,7 +12,7 @@ use Rattle.model_value.specs.Value.{Outcome, Value, Exc}
 use Rattle.model_loop.specs.Parts.{FutureKind, OfTask, Future, Task, Parts}
 use Rattle.model_loop.specs.Handles.{soon, soon_all}
 use Rattle.model_loop.specs.Futures.{with_future, settle, settled, settled_as, register, registered, registered_on, mark_asked, make_future, next_future}
-use Rattle.model_loop.specs.Tasks.{change_task, spawn, next_task, set_waiter, unmark, is_marked, begin_step, pause, finish}
+use Rattle.model_loop.specs.Tasks.{change_task, spawn, next_task, set_waiter, unmark, is_marked, begin_step, finish, uncancel}
 use Rattle.model_loop.specs.Cancel.{cancel}
 use Rattle.model_loop.specs.Circles.{circle}
 use Rattle.model_loop.specs.Suspend.{wait_on, cancel_wait, suspend_unless, suspend}
@@ -20,6 +20,8 @@ use Rattle.law_cancel.proofs.Lookups.{get-set_same, get-set_other, get-push_othe
 use Rattle.law_cancel.proofs.Effects.{done_as, asked_as}
 use Rattle.law_cancel.proofs.Trace.{Goes, begins, settles, asks, raises, marks, with_row}
 use Rattle.law_parts.specs.Quiet.{stage_of, stage}
+use Rattle.aio_task.specs.Keeps.{Ties, Extends}
+use Rattle.law_handles.proofs.Appending.{extends_still}
 
 -- a future that was made and is done stays so
 abbrev StaysDone : List Future → List Future → Type 0
@@ -259,3 +261,19 @@ only_suspend task on p = at (circle p task on)
     at (Some why) = only_soon (StepInCircle task why) p
     at None =
         only_on p (wait_on task on p) _ (only_wait task on p) (only_cancel_wait (is_marked p task) task on (wait_on task on p))
+
+-- ---- where no tag is given
+changes_ties : (t : Ties) (p q : Parts) → OnlyChanges p q → Extends p t q t
+changes_ties t p q c = extends_still t p q (ap (λ (x : Parts). x.next_tag) c.is)
+
+pub ask_ties : (t : Ties) (p : Parts) (id : ℕ) → Extends p t (mark_asked id p) t
+ask_ties t p id = changes_ties t p (mark_asked id p) (changes_ask id p)
+
+pub make_ties : (t : Ties) (kind : FutureKind) (p : Parts) → Extends p t (make_future kind p) t
+make_ties t kind p = changes_ties t p (make_future kind p) (changes_make kind p)
+
+pub begin_ties : (t : Ties) (p : Parts) (task : ℕ) (input : Input) → Extends p t (begin_step task input p).parts t
+begin_ties t p task input = changes_ties t p (begin_step task input p).parts (changes_begin task input p)
+
+pub uncancel_ties : (t : Ties) (p : Parts) (task : ℕ) → Extends p t (uncancel task p) t
+uncancel_ties t p task = changes_ties t p (uncancel task p) (changes_task task _ p)

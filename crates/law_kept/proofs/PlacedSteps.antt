@@ -2,7 +2,7 @@
 use Rattle.std.proofs.Common.{◌≡◌, ℕ, zero, suc, Bool, true, false, ◌||◌, List, [], ◌∷◌, Option, Some, None, Result, Ok, Err, length, slice_get, refl, ap, ◌∙◌, if◌then◌else◌}
 use Rattle.std.specs.Prelude.{◌==◌}
 use Rattle.std.specs.List.{list_any}
-use Rattle.model_value.specs.Action.{Action, Circle}
+use Rattle.model_value.specs.Action.{Circle}
 use Rattle.model_value.specs.declared.action.Action.TheVariants.{Wakeup, StepInCircle}
 use Rattle.model_value.specs.declared.outcome.Outcome.TheVariants.{Cancelled, Value as Returned, Failed}
 use Rattle.model_value.specs.Input.{Input}

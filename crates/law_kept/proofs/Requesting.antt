@@ -1,5 +1,5 @@
 -- Requests one after the other.
-use Rattle.std.proofs.Common.{◌≡◌, ℕ, List, [], ◌∷◌, ◌++◌, refl, ap, sym, ◌∙◌, append_assoc, append-nil}
+use Rattle.std.proofs.Common.{◌≡◌, ℕ, List, [], ◌∷◌, ◌++◌, ap, sym, ◌∙◌, append_assoc, append-nil}
 use Rattle.model_loop.specs.Parts.{Parts}
 use Rattle.model_loop.specs.Ledger.{Origin, Booked, request_where, request_each}
 use Rattle.model_loop.specs.Tasks.{future_of, lives}

@@ -1,20 +1,19 @@
 -- What futures and tasks tell is the same in code.
-use Rattle.std.proofs.Common.{◌≡◌, ℕ, zero, suc, ◌+◌, ◌<◌, ◌≤◌, ◌⊎◌, ◌==◌, ◌||◌, Bool, true, false, cond, List, [], ◌∷◌, ◌++◌, Option, Some, None, length, slice_get, slice_set, refl, ap, sym, ◌∙◌, inl, inr, arith, if◌then◌else◌}
+use Rattle.std.proofs.Common.{◌≡◌, ℕ, zero, suc, ◌+◌, ◌<◌, ◌≤◌, ◌⊎◌, ◌==◌, ◌||◌, Bool, true, false, cond, List, [], ◌∷◌, Option, Some, None, length, slice_get, slice_set, refl, ap, sym, ◌∙◌, inl, inr, arith, if◌then◌else◌}
 use Rattle.std.specs.Prelude.{nat_lt, not}
 use Rattle.std.specs.Option.{option_map, option_map_or}
 use Rattle.std.proofs.Math.Bool.{or-false}
-use Rattle.std.proofs.lemmas.Bool.{or_cases, or_right, eqb-true, eq-eqb, ne_eqb, cases_eq, lt-ltb, false_from_ne_true}
-use Rattle.model_value.specs.Action.{Circle}
+use Rattle.std.proofs.lemmas.Bool.{or_cases, or_right, eqb-true, eq-eqb, ne_eqb, lt-ltb}
 use Rattle.model_value.specs.Value.{Outcome}
-use Rattle.model_loop.specs.Parts.{FutureKind, Plain, OfTask, Many, Future, Task, Parts}
+use Rattle.model_loop.specs.Parts.{Future, Task, Parts}
 use Rattle.model_loop.specs.Futures.{next_future, is_pending, is_pending_at, outcome_at, future_outcome}
 use Rattle.model_loop.specs.Cancel.{cancel}
+use Rattle.model_loop.specs.Owning.{owner_at, owner_of}
 use Rattle.model_loop.specs.Circles.{circle}
 use Rattle.model_loop.specs.Spent.{is_spent}
 use Rattle.model_loop.specs.Tasks.{future_of, lives}
 use Rattle.law_cancel.proofs.Answering.{with_answer_spent}
-use Rattle.law_parts.specs.Forgotten.{released, forget_from, forgotten, forgotten_of}
-use Rattle.law_parts.specs.Placed.{placed, placed_of}
+use Rattle.law_parts.specs.Forgotten.{released, forget_from, forgotten}
 use Rattle.law_parts.specs.Quiet.{stage_of, stage}
 use Rattle.law_parts.proofs.ForgottenLemmas.{forgotten_at, cancel-forget}
 use Rattle.law_parts.proofs.ForgottenSteps.{circle-forget}
@@ -65,7 +64,7 @@ forget_one gone number place id e [] h = absurd (omega arith)
 forget_one gone number zero id e (f ∷ futures) h =
     let here : (gone number || (number == id)) ≡ true = or_right (gone number) (number == id) (eq-eqb number id (omega arith)) in
     let more = forget_same gone (λ other. gone other || (other == id)) (suc number)
-        (λ other after. let n : (other == id) ≡ false = ne_eqb other id (omega arith) in rw n (sym (or-false (gone other)))) futures in
+    (λ other after. let n : (other == id) ≡ false = ne_eqb other id (omega arith) in rw n (sym (or-false (gone other)))) futures in
     rw (here, more) refl
 forget_one gone number (suc place) id e (f ∷ futures) h =
     let n : (number == id) ≡ false = ne_eqb number id (omega arith) in
@@ -102,6 +101,14 @@ module _ (t : Ties) (v : View) (p : Parts) (k : Keeps t v p) where
       go None b d = refl
       go (Some future) false d = refl
       go (Some future) true d = sym (d refl)
+
+  pub owner_kept : (id : ℕ) → owner_of p id ≡ None → owner_at (slice_get v.futures id) ≡ None
+  owner_kept id none = ap owner_at (at_kept id) ∙ go (slice_get p.futures id) (t.gone id) none
+    where
+      go : (o : Option Future) (b : Bool) → owner_at o ≡ None → owner_at (option_map (λ (f : Future). cond b released f) o) ≡ None
+      go None b e = refl
+      go (Some future) false e = e
+      go (Some future) true e = refl
 
   -- ---- tasks
   pub future_of_kept : (task : ℕ) → future_of (parts v) task ≡ future_of p task

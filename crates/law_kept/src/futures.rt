@@ -5,12 +5,13 @@ ghost use Rattle.model_value.specs.Action.{Action};
 ghost use Rattle.model_value.specs.Value.{Outcome};
 ghost use Rattle.model_loop.specs.Parts.{Plain, Many, Parts};
 ghost use Rattle.model_loop.specs.Futures.{settle, register, mark_asked, new_plain, new_many, next_future, is_pending, is_pending_at, outcome_at, future_outcome};
+ghost use Rattle.model_loop.specs.Owning.{owner_at, owner_of};
 ghost use Rattle.law_parts.specs.Forgotten.{released};
 ghost use Rattle.aio_ready.specs.Queue.{soon_all};
 ghost use Rattle.aio_future.specs.Settled as settled;
 ghost use Rattle.aio_future.specs.Settled.{called, registered, soon_if_done, asked};
 ghost use Rattle.aio_task.specs.View.{View};
-ghost use Rattle.aio_task.specs.Keeps.{Ties, Keeps, Kept, let_go};
+ghost use Rattle.aio_task.specs.Keeps.{Ties, Keeps, Extends, Kept, let_go};
 
 /// A future gets its outcome, or a callback; one that stands for several keeps that it was asked.
 pub fn changed_futures_are_kept()
@@ -51,6 +52,13 @@ pub fn new_futures_are_kept()
         → length v.futures ≡ next_future p }
 {}
 
+/// Neither gives a tag.
+pub fn ties_stay_at_futures()
+    ensures ask { (t : Ties) (p : Parts) (id : ℕ) → Extends p t (mark_asked id p) t }
+    ensures plain { (t : Ties) (p : Parts) → Extends p t (new_plain p) t }
+    ensures many { (t : Ties) (p : Parts) (members : List ℕ) → Extends p t (new_many members p) t }
+{}
+
 /// A future that is done is let go. The machine keeps it.
 pub fn a_released_future_is_kept()
     ensures { (t : Ties) (v : View) (p : Parts) (id : ℕ) → Keeps t v p → id < next_future p
@@ -58,7 +66,7 @@ pub fn a_released_future_is_kept()
         → Keeps (let_go id t)
         (record v {
           futures =
-            (if nat_lt id (length v.futures) then slice_set v.futures id released else v.futures);
+              (if nat_lt id (length v.futures) then slice_set v.futures id released else v.futures);
         })
         p }
 {}
@@ -71,6 +79,8 @@ pub fn told_futures_are_kept()
         → outcome_at (slice_get v.futures id) ≡ future_outcome p id }
     ensures there { (t : Ties) (v : View) (p : Parts) (id : ℕ) → Keeps t v p → t.gone id ≡ false
         → slice_get v.futures id ≡ slice_get p.futures id }
+    ensures owner { (t : Ties) (v : View) (p : Parts) (id : ℕ) → Keeps t v p → owner_of p id ≡ None
+        → owner_at (slice_get v.futures id) ≡ None }
     ensures gone { (t : Ties) (v : View) (p : Parts) (id : ℕ) → Keeps t v p → t.gone id ≡ true
         → is_pending p id ≡ false }
 {}

@@ -1,9 +1,6 @@
-//! Laws of what the loop's parts in code stand for: each call on them is the machine's operation.
+//! Laws of what futures and tasks in code stand for: each call on them is the machine's operation.
 #![tactic(auto)]
 
 pub mod futures;
-pub mod handles;
 pub mod requests;
 pub mod tasks;
-pub mod ties;
-pub mod timers;

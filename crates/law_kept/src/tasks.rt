@@ -7,7 +7,7 @@ ghost use Rattle.model_loop.specs.Circles.{circle};
 ghost use Rattle.model_loop.specs.Suspend.{suspend};
 ghost use Rattle.model_loop.specs.Tasks.{spawn, begin_step, pause, finish, uncancel, cancelling, future_of, waiter_of, is_marked, lives, next_task};
 ghost use Rattle.aio_task.specs.View.{View, parts};
-ghost use Rattle.aio_task.specs.Keeps.{Ties, Keeps, Kept, Becomes};
+ghost use Rattle.aio_task.specs.Keeps.{Ties, Keeps, Extends, Kept, Becomes};
 
 /// A task is made.
 pub fn a_new_task_is_kept()
@@ -23,6 +23,8 @@ pub fn a_begun_step_is_kept()
         → Keeps t w (begin_step task input p).parts }
     ensures input { (t : Ties) (v : View) (p : Parts) (task : ℕ) (input : Input) → Keeps t v p
         → (begin_step task input (parts v)).input ≡ (begin_step task input p).input }
+    ensures ties { (t : Ties) (p : Parts) (task : ℕ) (input : Input)
+        → Extends p t (begin_step task input p).parts t }
 {}
 
 /// A step ends: the next one is called soon, or the task waits, or it is done.
@@ -39,8 +41,9 @@ pub fn an_ended_step_is_kept()
 
 /// A cancel is taken back.
 pub fn an_uncancel_is_kept()
-    ensures { (t : Ties) (v w : View) (p : Parts) (task : ℕ) → Keeps t v p
+    ensures after { (t : Ties) (v w : View) (p : Parts) (task : ℕ) → Keeps t v p
         → Becomes v w (uncancel task (parts v)) → Keeps t w (uncancel task p) }
+    ensures ties { (t : Ties) (p : Parts) (task : ℕ) → Extends p t (uncancel task p) t }
 {}
 
 /// What tasks tell.
