@@ -1,5 +1,5 @@
 -- Handles that are appended.
-use Rattle.std.proofs.Common.{◌≡◌, ℕ, ◌+◌, ◌<◌, ◌≤◌, Bool, true, false, List, [], ◌∷◌, ◌++◌, None, length, map, slice_get, refl, ap, sym, ◌∙◌, arith, append_assoc}
+use Rattle.std.proofs.Common.{◌≡◌, ℕ, ◌<◌, ◌≤◌, true, false, List, [], ◌∷◌, ◌++◌, None, length, map, slice_get, refl, ap, sym, ◌∙◌, arith, append_assoc}
 use Rattle.std.specs.List.{AllByRecursion as All}
 use Rattle.std.proofs.lemmas.List.{map-append}
 use Rattle.model_value.specs.Action.{Action}
@@ -10,13 +10,11 @@ use Rattle.model_loop.specs.Numbered.{IsNumbered}
 use Rattle.law_numbers.proofs.Numbering.{soon_numbers}
 use Rattle.law_parts.specs.Forgotten.{forget_from}
 use Rattle.law_parts.specs.Quiet.{stage}
-use Rattle.aio_ready.specs.declared.handle.Handle.{Handle}
-use Rattle.aio_ready.specs.declared.handle.HandleId.{HandleId}
 use Rattle.aio_ready.specs.Queue as queue
 use Rattle.aio_ready.specs.Queue.{Queue, next_name, given_after}
 use Rattle.aio_cancel.specs.Body.{waiting}
 use Rattle.aio_task.specs.View.{View}
-use Rattle.aio_task.specs.Keeps.{Known, ByHandle, name_of, handle_as, timer_as, IsTimer, Ties, KeepsHandles, Keeps, Extends, Kept, Knows}
+use Rattle.aio_task.specs.Keeps.{Known, ByHandle, name_of, handle_as, IsTimer, Ties, KeepsHandles, Keeps, Extends, Kept, Knows}
 use Rattle.law_handles.proofs.Lists.{all-append, all_left, all_right, all_both}
 use Rattle.law_handles.proofs.Naming.{tags_pending, tags_timers, all-by_deadline, handles_same, timers_same, known_as, known_new, known_same, names_more, next_given, given_rises, next_fresh}
 

@@ -1,10 +1,10 @@
 -- Timers by deadline, and those that the machine has in order of scheduling.
-use Rattle.std.proofs.Common.{◌≡◌, ℕ, ◌+◌, ◌<◌, ◌≤◌, ◌⊎◌, ◌==◌, ◌&&◌, Bool, true, false, cond, not, List, [], ◌∷◌, ◌++◌, Option, Some, None, map, filter, min, refl, ap, sym, subst, ◌∙◌, inl, inr, arith}
-use Rattle.std.specs.Prelude.{nat_lt, nat_le}
+use Rattle.std.proofs.Common.{◌≡◌, ℕ, ◌+◌, ◌<◌, ◌≤◌, ◌⊎◌, Bool, true, false, cond, List, [], ◌∷◌, ◌++◌, Some, map, filter, min, refl, ap, sym, subst, ◌∙◌, inl, inr, arith}
+use Rattle.std.specs.Prelude.{nat_lt}
 use Rattle.std.specs.List.{AllByRecursion as All}
-use Rattle.std.proofs.lemmas.Bool.{cases_lt, lt-ltb, le-ltb, ltb-true, ltb-false}
+use Rattle.std.proofs.lemmas.Bool.{cases_lt, lt-ltb, le-ltb}
 use Rattle.std.proofs.lemmas.Option.{same_Some}
-use Rattle.model_loop.specs.Parts.{Timer, Parts}
+use Rattle.model_loop.specs.Parts.{Timer}
 use Rattle.model_loop.specs.Handles.{placed, by_deadline}
 use Rattle.model_loop.specs.Numbered.{occurrences}
 use Rattle.law_numbers.proofs.Numbering.{one_at, timer_tag}
@@ -140,7 +140,9 @@ pub filter-map : (test : Timer → Bool) (f : Timer → Timer) → ((x : Timer) 
 filter-map test f same [] = refl
 filter-map test f same (timer ∷ timers) = rw (same timer, filter-map test f same timers) (go (test timer))
   where
-    go : (b : Bool) → cond b (f timer ∷ map f (filter test timers)) (map f (filter test timers)) ≡ map f (cond b (timer ∷ filter test timers) (filter test timers))
+    go : (b : Bool)
+        → cond b (f timer ∷ map f (filter test timers)) (map f (filter test timers))
+        ≡ map f (cond b (timer ∷ filter test timers) (filter test timers))
     go true = refl
     go false = refl
 

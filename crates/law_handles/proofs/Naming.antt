@@ -1,17 +1,17 @@
 -- Names of tags, where one tag more is given.
-use Rattle.std.proofs.Common.{◌≡◌, ℕ, ◌+◌, ◌<◌, ◌≤◌, ◌⊎◌, ◌==◌, Bool, true, false, cond, List, [], ◌∷◌, ◌++◌, map, refl, ap, sym, ◌∙◌, inl, inr, arith}
+use Rattle.std.proofs.Common.{◌≡◌, ℕ, ◌+◌, ◌<◌, ◌≤◌, ◌⊎◌, ◌==◌, Bool, true, false, cond, List, [], ◌∷◌, map, refl, ap, sym, ◌∙◌, inl, inr, arith}
 use Rattle.std.specs.Prelude.{nat_eq, nat_lt}
 use Rattle.std.specs.List.{AllByRecursion as All}
-use Rattle.std.proofs.lemmas.Bool.{cases_eq, eq-eqb, ne_eqb, eqb-true, cases_lt, lt-ltb, le-ltb}
+use Rattle.std.proofs.lemmas.Bool.{cases_eq, eq-eqb, ne_eqb, eqb-true, lt-ltb}
 use Rattle.model_loop.specs.Parts.{Handle, Timer, Parts}
 use Rattle.model_loop.specs.Handles.{placed, by_deadline}
-use Rattle.model_loop.specs.Numbered.{IsNumbered, tags_of, occurrences}
+use Rattle.model_loop.specs.Numbered.{IsNumbered}
 use Rattle.law_numbers.proofs.Numbering.{tagged, tag_of, timer_tag}
 use Rattle.aio_ready.specs.declared.handle.Name.{Name}
 use Rattle.aio_ready.specs.declared.handle.Name.TheVariants.{Nameless, Given, Timer as OfTimer}
 use Rattle.aio_ready.specs.Names.{is_same}
 use Rattle.aio_ready.specs.Queue.{Queue, next_name, given_after, most_given}
-use Rattle.aio_task.specs.Keeps.{Known, ByHandle, ByTimer, name_of, number_of, handle_as, timer_as, IsTimer, WasGiven, AreNames}
+use Rattle.aio_task.specs.Keeps.{Known, name_of, number_of, handle_as, timer_as, WasGiven, AreNames}
 use Rattle.law_handles.proofs.Lists.{all_below, all_more, map_same}
 
 -- ---- tags are below the next one

@@ -1,29 +1,27 @@
 -- Handles are cancelled, stand before the bar, and are taken out.
-use Rattle.std.proofs.Common.{◌≡◌, ℕ, ◌+◌, ◌<◌, ◌≤◌, ◌⊎◌, ◌==◌, ◌||◌, Bool, true, false, cond, not, List, [], ◌∷◌, ◌++◌, Option, Some, None, drop, map, filter, refl, ap, sym, subst, ◌∙◌, inl, inr, arith, append-nil, append_assoc}
+use Rattle.std.proofs.Common.{◌≡◌, ℕ, ◌<◌, ◌≤◌, ◌⊎◌, ◌==◌, ◌||◌, Bool, true, false, cond, not, List, [], ◌∷◌, ◌++◌, drop, map, filter, refl, ap, sym, subst, ◌∙◌, inl, inr, arith, append-nil}
 use Rattle.std.specs.Prelude.{length, nat_lt}
 use Rattle.std.specs.List.{AllByRecursion as All, count_by}
 use Rattle.std.proofs.lemmas.List.Sums.{sum_by-cons}
 use Rattle.std.proofs.Math.Bool.{or-false}
-use Rattle.std.proofs.lemmas.Bool.{cases_eq, eq-eqb, ne_eqb, eqb-true, false_from_ne_true, or_right, lt-ltb, le-ltb}
+use Rattle.std.proofs.lemmas.Bool.{cases_eq, eq-eqb, ne_eqb, false_from_ne_true, or_right, lt-ltb, le-ltb}
 use Rattle.std.proofs.lemmas.List.{map-append}
-use Rattle.model_value.specs.Action.{Action}
 use Rattle.model_loop.specs.Parts as plain
 use Rattle.model_loop.specs.Parts.{Timer, Parts}
 use Rattle.model_loop.specs.Handles.{revoke, cancelled_if, by_deadline}
 use Rattle.law_numbers.proofs.Numbering.{revoke_numbers, taken_numbers, stamp_of}
 use Rattle.aio_ready.specs.declared.handle.Handle.{Handle}
 use Rattle.aio_ready.specs.declared.handle.HandleId.{HandleId}
-use Rattle.aio_ready.specs.declared.handle.Name.{Name}
 use Rattle.aio_ready.specs.Names.{is_same, marked}
 use Rattle.aio_ready.specs.Queue as queue
 use Rattle.aio_ready.specs.Queue.{Queue, cancelled}
 use Rattle.aio_cancel.specs.Body.{waiting}
 use Rattle.aio_task.specs.View.{View}
-use Rattle.aio_task.specs.Keeps.{Known, ByHandle, ByTimer, name_of, handle_as, timer_as, IsTimer, Ties, KeepsHandles, Keeps, Knows}
-use Rattle.law_handles.specs.Runs.{skipped, IsPastBar, Runs, Skips}
+use Rattle.aio_task.specs.Keeps.{Known, ByHandle, name_of, handle_as, timer_as, IsTimer, Ties, KeepsHandles, Keeps, Knows}
+use Rattle.law_handles.specs.Runs.{skipped}
 use Rattle.law_handles.proofs.Appending.{waiting_kept}
-use Rattle.law_handles.proofs.Lists.{all_left, all_right, all_below, all_both, all-append}
-use Rattle.law_handles.proofs.Naming.{tags_pending, tags_timers, same_sym}
+use Rattle.law_handles.proofs.Lists.{all_left, all_right, all_below}
+use Rattle.law_handles.proofs.Naming.{tags_pending}
 
 -- ---- a handle is cancelled
 cancelled_stamps : (P : ℕ → Type 0) (tag : ℕ) (handles : List plain.Handle) → All (λ (h : plain.Handle). P h.stamp) handles
@@ -35,7 +33,8 @@ cancelled_stamps P tag (h ∷ handles) a = (go (h.tag == tag), cancelled_stamps 
     go true = a.0
     go false = a.0
 
-module _ (t : Ties) (v : View) (p : Parts) (k : Keeps t v p) (tag : ℕ) (given : tag < p.next_tag) (named : is_same (name_of (t.known tag)) (name_of (t.known tag)) ≡ true) where
+module _ (t : Ties) (v : View) (p : Parts) (k : Keeps t v p) (tag : ℕ) (given : tag < p.next_tag)
+    (named : is_same (name_of (t.known tag)) (name_of (t.known tag)) ≡ true) where
   -- a handle has this name exactly where it has this tag
   name_tells : (other : ℕ) → other < p.next_tag → is_same (name_of (t.known tag)) (name_of (t.known other)) ≡ (other == tag)
   name_tells other below = go (cases_eq other tag)

@@ -1,5 +1,5 @@
 -- Timers are made, cancelled, and fall due.
-use Rattle.std.proofs.Common.{◌≡◌, ℕ, ◌+◌, ◌<◌, ◌≤◌, ◌⊎◌, ◌==◌, ◌&&◌, Bool, true, false, cond, not, List, [], ◌∷◌, ◌++◌, Option, Some, None, map, filter, refl, ap, sym, subst, ◌∙◌, inl, inr, arith, append_assoc, if◌then◌else◌}
+use Rattle.std.proofs.Common.{◌≡◌, ℕ, ◌+◌, ◌<◌, ◌≤◌, ◌⊎◌, ◌==◌, Bool, true, false, cond, not, List, [], ◌∷◌, ◌++◌, Some, None, map, filter, refl, ap, sym, subst, ◌∙◌, inl, inr, arith, append_assoc, if◌then◌else◌}
 use Rattle.std.specs.Prelude.{nat_lt, nat_le, nat_eq}
 use Rattle.std.specs.List.{AllByRecursion as All}
 use Rattle.std.proofs.lemmas.Bool.{cases_eq, eq-eqb, ne_eqb, eqb-true, false_from_ne_true, and_parts, and_from}
@@ -11,14 +11,11 @@ use Rattle.model_loop.specs.Parts.{Timer, Parts}
 use Rattle.model_loop.specs.Handles.{later, revoke, due, fall_due, by_deadline, cancelled_if}
 use Rattle.model_loop.specs.Numbered.{occurrences, IsNumbered}
 use Rattle.law_numbers.proofs.Falling.{due_numbers, fall_due-next}
-use Rattle.law_numbers.proofs.Numbering.{later_numbers, revoke_numbers, tagged, tag_of, timer_tag, one_at}
+use Rattle.law_numbers.proofs.Numbering.{later_numbers, revoke_numbers, tagged, tag_of, timer_tag}
 use Rattle.aio_ready.specs.declared.handle.Handle.{Handle}
-use Rattle.aio_ready.specs.declared.handle.Name.{Name}
 use Rattle.aio_ready.specs.declared.handle.Name.TheVariants as name
-use Rattle.aio_ready.specs.Names.{is_same}
 use Rattle.aio_ready.specs.Queue.{Queue, cancelled, appended}
 use Rattle.aio_timer.specs.declared.live.TimerId.{TimerId}
-use Rattle.aio_timer.specs.Schedule as schedule
 use Rattle.aio_timer.specs.Schedule.{timer, placed_after, is_of, lives, without, first_when, due_at, later_than, fallen}
 use Rattle.aio_task.specs.View.{View}
 use Rattle.aio_task.specs.Keeps.{Known, ByHandle, ByTimer, name_of, number_of, handle_as, timer_as, IsTimer, Ties, KeepsHandles, Keeps, Extends, Kept, Knows}
@@ -113,11 +110,15 @@ cancelled_none tag (h ∷ handles) none =
     let more = cancelled_none tag handles (omega (arith, none, c)) in
     go (cases_eq h.tag tag) c more
   where
-    go : (h.tag ≡ tag) ⊎ (h.tag ≡ tag → ⊥) → occurrences tag (h.tag ∷ map tag_of handles) ≡ cond (nat_eq tag h.tag) 1 0 + occurrences tag (map tag_of handles)
+    go : (h.tag ≡ tag) ⊎ (h.tag ≡ tag → ⊥)
+        → occurrences tag (h.tag ∷ map tag_of handles) ≡ cond (nat_eq tag h.tag) 1 0 + occurrences tag (map tag_of handles)
         → map (cancelled_if tag) handles ≡ handles → map (cancelled_if tag) (h ∷ handles) ≡ h ∷ handles
     go (inl e) c more =
         let one : ◌≡◌ {A = ℕ} (cond (nat_eq tag h.tag) 1 0) 1 = rw (eq-eqb tag h.tag (sym e)) refl in absurd (omega (arith, none, c, one))
     go (inr n) c more = rw (ne_eqb h.tag tag n, more) refl
+
+abbrev Counted : ℕ → Timer → List Timer → Type 0
+Counted tag x timers = occurrences tag (x.tag ∷ map timer_tag timers) ≡ cond (nat_eq tag x.tag) 1 0 + occurrences tag (map timer_tag timers)
 
 filter_none : (tag : ℕ) (timers : List Timer) → occurrences tag (map timer_tag timers) ≡ 0
     → filter (λ (x : Timer). not (x.tag == tag)) timers ≡ timers
@@ -127,7 +128,7 @@ filter_none tag (x ∷ timers) none =
     let more = filter_none tag timers (omega (arith, none, c)) in
     go (cases_eq x.tag tag) c more
   where
-    go : (x.tag ≡ tag) ⊎ (x.tag ≡ tag → ⊥) → occurrences tag (x.tag ∷ map timer_tag timers) ≡ cond (nat_eq tag x.tag) 1 0 + occurrences tag (map timer_tag timers)
+    go : (x.tag ≡ tag) ⊎ (x.tag ≡ tag → ⊥) → Counted tag x timers
         → filter (λ (x : Timer). not (x.tag == tag)) timers ≡ timers → filter (λ (x : Timer). not (x.tag == tag)) (x ∷ timers) ≡ x ∷ timers
     go (inl e) c more =
         let one : ◌≡◌ {A = ℕ} (cond (nat_eq tag x.tag) 1 0) 1 = rw (eq-eqb tag x.tag (sym e)) refl in absurd (omega (arith, none, c, one))
@@ -173,7 +174,7 @@ module _ (t : Ties) (v : View) (p : Parts) (k : Keeps t v p) (tag : ℕ) (id : T
       let c = occurrences-cons tag x.tag (map timer_tag timers) in
       go (cases_eq x.tag tag) c (without_kept timers a.1 (omega (arith, one, c)))
     where
-      go : (x.tag ≡ tag) ⊎ (x.tag ≡ tag → ⊥) → occurrences tag (x.tag ∷ map timer_tag timers) ≡ cond (nat_eq tag x.tag) 1 0 + occurrences tag (map timer_tag timers)
+      go : (x.tag ≡ tag) ⊎ (x.tag ≡ tag → ⊥) → Counted tag x timers
           → without id (map (timer_as t.known) timers) ≡ map (timer_as t.known) (filter (λ (x : Timer). not (x.tag == tag)) timers)
           → without id (map (timer_as t.known) (x ∷ timers)) ≡ map (timer_as t.known) (filter (λ (x : Timer). not (x.tag == tag)) (x ∷ timers))
       go (inl e) c more =
@@ -192,7 +193,7 @@ module _ (t : Ties) (v : View) (p : Parts) (k : Keeps t v p) (tag : ℕ) (id : T
       let c = occurrences-cons tag x.tag (map timer_tag timers) in
       go (cases_eq x.tag tag) c h (λ more. lives_once timers a.1 more)
     where
-      go : (x.tag ≡ tag) ⊎ (x.tag ≡ tag → ⊥) → occurrences tag (x.tag ∷ map timer_tag timers) ≡ cond (nat_eq tag x.tag) 1 0 + occurrences tag (map timer_tag timers)
+      go : (x.tag ≡ tag) ⊎ (x.tag ≡ tag → ⊥) → Counted tag x timers
           → lives id (map (timer_as t.known) (x ∷ timers)) ≡ true
           → (lives id (map (timer_as t.known) timers) ≡ true → 1 ≤ occurrences tag (map timer_tag timers))
           → 1 ≤ occurrences tag (map timer_tag (x ∷ timers))

@@ -13,7 +13,7 @@ ghost use Rattle.aio_task.specs.View.{View};
 ghost use Rattle.aio_task.specs.Keeps.{Ties, Keeps, Kept, Knows, ByHandle, handle_as};
 ghost use Rattle.law_handles.specs.Runs.{skipped, IsPastBar, Skips};
 
-/// Handles that are appended. Where a number is left, the machine's tag is known by the id that the call answers.
+/// Handles that are appended. The machine's tag is known by the id that the call answers.
 pub fn appended_handles_are_kept()
     ensures soon { (t : Ties) (v : View) (p : Parts) (action : Action) → Keeps t v p
         → (kept : Kept t p (record v { queue = queue.soon action v.queue }) (soon action p))
@@ -47,15 +47,16 @@ pub fn waiting_handles_are_kept()
         → (first : Handle) × (others : List Handle) × (p.pending ≡ first ∷ others) }
 {}
 
-/// The bar stands where the next stamp is. As many handles stand before it as have a stamp below it.
+/// The bar stands where the next stamp is. Those that stand before it have stamps below it.
 pub fn the_bar_is_kept()
     ensures set { (t : Ties) (v : View) (p : Parts) → Keeps t v p
         → Keeps (record t { bar = p.next_stamp }) (record v { queue = queue.barred v.queue }) p }
     ensures count { (t : Ties) (v : View) (p : Parts) → Keeps t v p
-        → length v.queue.below ≡ count_by (λ (handle : Handle). nat_lt handle.stamp t.bar) p.pending }
+        → length v.queue.below
+        ≡ count_by (λ (handle : Handle). nat_lt handle.stamp t.bar) p.pending }
 {}
 
-/// What runs next before the bar: in the machine each dead handle before it is taken out by a step of its own.
+/// What runs next before the bar. The machine takes each dead handle out by a step of its own.
 pub fn the_next_handle_is_kept()
     ensures dead { (t : Ties) (v : View) (p : Parts) (first : Handle) (others : List Handle)
         → Keeps t v p → p.pending ≡ first ∷ others → first.stamp < t.bar → first.dead ≡ true

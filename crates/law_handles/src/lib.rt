@@ -1,4 +1,4 @@
-//! Laws of what the queue and the timers in code stand for: each call on them is the machine's operation.
+//! Laws of what queue and timers in code stand for: each call on them is the machine's operation.
 #![tactic(auto)]
 
 pub mod handles;

@@ -1,4 +1,4 @@
-//! Laws of ties: how they begin, and that they go on. Each function has no body: its clauses are the laws.
+//! Laws of ties: how they begin and go on. Each function has no body: its clauses are the laws.
 ghost use Rattle.std.specs.Prelude.{◌≡◌, ℕ, false, List};
 ghost use Rattle.model_loop.specs.Parts.{Handle, Parts};
 ghost use Rattle.model_loop.specs.Handles.{revoke, due};
@@ -13,7 +13,7 @@ pub fn new_parts_are_kept()
         → Keeps (record { known = known; gone = λ id. false; bar = 0 }) (empty profile) no_parts }
 {}
 
-/// What the machine does with a handle or a timer leaves the ties as they are, where it gives no tag.
+/// Where the machine gives no tag, ties stay as they are.
 pub fn ties_stay()
     ensures revoke { (t : Ties) (p : Parts) (tag : ℕ) → Extends p t (revoke tag p) t }
     ensures due { (t : Ties) (p : Parts) → Extends p t (due p) t }
@@ -25,7 +25,8 @@ pub fn ties_stay()
 /// What a layer above keeps by a tag stays right.
 pub fn ties_go_on()
     ensures same { (t : Ties) (p : Parts) → Extends p t p t }
-    ensures on { (t u w : Ties) (p q r : Parts) → Extends p t q u → Extends q u r w → Extends p t r w }
+    ensures on { (t u w : Ties) (p q r : Parts) → Extends p t q u → Extends q u r w
+        → Extends p t r w }
     ensures known { (t u : Ties) (p q : Parts) (tag : ℕ) (it : Known)
         → Extends p t q u → Knows t p tag it → Knows u q tag it }
 {}

@@ -58,8 +58,8 @@ pub fn due_timers_are_kept()
 
 /// The earliest deadline.
 pub fn the_earliest_deadline_is_kept()
-    ensures none { (t : Ties) (v : View) (p : Parts) → Keeps t v p → first_when v.schedule.live ≡ None
-        → p.timers ≡ [] }
+    ensures none { (t : Ties) (v : View) (p : Parts) → Keeps t v p
+        → first_when v.schedule.live ≡ None → p.timers ≡ [] }
     ensures some { (t : Ties) (v : View) (p : Parts) (when : ℕ) → Keeps t v p
         → first_when v.schedule.live ≡ Some when
         → (first : Timer) × (others : List Timer) × (p.timers ≡ first ∷ others)

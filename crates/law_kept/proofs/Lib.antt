@@ -4,3 +4,4 @@ pub mod Becoming
 pub mod Calls
 pub mod Telling
 pub mod Requesting
+pub mod Waiting

@@ -4,3 +4,4 @@
 pub mod futures;
 pub mod requests;
 pub mod tasks;
+pub mod waits;

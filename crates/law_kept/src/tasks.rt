@@ -11,9 +11,10 @@ ghost use Rattle.aio_task.specs.Keeps.{Ties, Keeps, Extends, Kept, Becomes};
 
 /// A task is made.
 pub fn a_new_task_is_kept()
-    ensures after { (t : Ties) (v w : View) (p : Parts) → Keeps t v p → Becomes v w (spawn (parts v))
-        → Kept t p w (spawn p) }
-    ensures number { (t : Ties) (v : View) (p : Parts) → Keeps t v p → length v.tasks ≡ next_task p }
+    ensures after { (t : Ties) (v w : View) (p : Parts) → Keeps t v p
+        → Becomes v w (spawn (parts v)) → Kept t p w (spawn p) }
+    ensures number { (t : Ties) (v : View) (p : Parts) → Keeps t v p
+        → length v.tasks ≡ next_task p }
 {}
 
 /// A step begins, with what the coroutine is resumed with.
