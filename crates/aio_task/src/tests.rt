@@ -1,12 +1,85 @@
-//! Rows of calls of the loop's parts, and long chains of waits.
-ghost use Rattle.std.specs.Prelude.{◌≡◌, None, Some, IfOk};
-ghost use Rattle.aio_task.specs.View.{stepped};
+//! Rows of calls of the loop's parts, and long chains of waits. Between two rows no step is called and no task runs.
+ghost use Rattle.std.specs.Prelude.{◌≡◌, None, Some};
 
 use crate::running::stepped;
-use crate::{Parts, Suspension};
-use aio_base::{Action, Input, Memory, Outcome, Value};
+use crate::{FutureId, Parts, Suspension};
+use aio_base::{Input, Memory, Value};
 use std::alloc::Global;
 use std::test::Fail;
+
+fn spawned(alloc: Global, parts: &mut Parts) -> Result<u32, Memory>
+    requires idle { parts.old.called ≡ None }
+    requires alone { parts.old.running ≡ None }
+    ensures idle { parts.new.called ≡ None }
+    ensures alone { parts.new.running ≡ None }
+{
+    match parts.spawn(alloc) {
+        Ok(task) => Ok(task),
+        Err(memory) => Err(memory),
+    }
+}
+
+fn plain(alloc: Global, parts: &mut Parts) -> Result<FutureId, Memory>
+    requires idle { parts.old.called ≡ None }
+    requires alone { parts.old.running ≡ None }
+    ensures idle { parts.new.called ≡ None }
+    ensures alone { parts.new.running ≡ None }
+{
+    match parts.new_plain(alloc) {
+        Ok(id) => Ok(id),
+        Err(memory) => Err(memory),
+    }
+}
+
+fn many(
+    alloc: Global,
+    parts: &mut Parts,
+    one: FutureId,
+    other: FutureId,
+) -> Result<FutureId, Memory>
+    requires idle { parts.old.called ≡ None }
+    requires alone { parts.old.running ≡ None }
+    ensures idle { parts.new.called ≡ None }
+    ensures alone { parts.new.running ≡ None }
+{
+    let members = vec![in alloc; one, other]?;
+    match parts.new_many(alloc, members) {
+        Ok(id) => Ok(id),
+        Err(memory) => Err(memory),
+    }
+}
+
+fn cancelled(parts: &mut Parts, id: FutureId) -> bool
+    requires idle { parts.old.called ≡ None }
+    requires alone { parts.old.running ≡ None }
+    ensures idle { parts.new.called ≡ None }
+    ensures alone { parts.new.running ≡ None }
+{
+    parts.cancel(id)
+}
+
+// All that is pending may run.
+fn bar(parts: &mut Parts)
+    requires idle { parts.old.called ≡ None }
+    requires alone { parts.old.running ≡ None }
+    ensures idle { parts.new.called ≡ None }
+    ensures alone { parts.new.running ≡ None }
+{
+    parts.set_bar();
+}
+
+// A task awaits a future in its next step, or is done where that is done.
+fn next_awaits(parts: &mut Parts, on: FutureId) -> bool
+    requires idle { parts.old.called ≡ None }
+    requires alone { parts.old.running ≡ None }
+    ensures idle { parts.new.called ≡ None }
+    ensures alone { parts.new.running ≡ None }
+{
+    let Some(task) = begin_next(parts) else {
+        return false;
+    };
+    wait_for(parts, task, on)
+}
 
 // The next step begins, of the task that is answered.
 fn begin_next(parts: &mut Parts) -> Option<u32>
@@ -21,8 +94,7 @@ fn begin_next(parts: &mut Parts) -> Option<u32>
     Some(task)
 }
 
-// The running task awaits a future, or is done where that is.
-fn wait_for(parts: &mut Parts, task: u32, on: u64) -> bool
+fn wait_for(parts: &mut Parts, task: u32, on: FutureId) -> bool
     requires idle { parts.old.called ≡ None }
     requires running { parts.old.running ≡ Some task }
     ensures idle { parts.new.called ≡ None }
@@ -32,118 +104,67 @@ fn wait_for(parts: &mut Parts, task: u32, on: u64) -> bool
         parts.finish(task, Ok(Value::nothing()));
         return false;
     }
-    parts.suspend(task, on) == Suspension::Suspended
+    match parts.suspend(task, on) {
+        Suspension::Suspended => true,
+        Suspension::Cycle => false,
+    }
 }
 
 // Each task waits for the next one, the last for a future, and a cancel of the first goes down to it.
 fn chain(alloc: Global, count: u32) -> Result<bool, Memory> {
     let mut parts = Parts::new(alloc, 1)?;
-    let end = parts.new_plain(alloc)?;
-    for _ in 0..count {
-        let _task = parts.spawn(alloc)?;
-    }
-    parts.set_bar();
+    let end = plain(alloc, &mut parts)?;
     for number in 0..count {
-        let Some(task) = begin_next(&mut parts) else {
+        if spawned(alloc, &mut parts)? != number {
             return Ok(false);
-        };
-        let on = if number + 1 < count {
-            parts.future_of(number + 1)
-        } else {
-            end
-        };
-        if !wait_for(&mut parts, task, on) {
+        }
+    }
+    bar(&mut parts);
+    for place in 0..count {
+        let next = parts.future_of(place.saturating_add(1));
+        let on = if parts.is_pending(next) { next } else { end };
+        if !next_awaits(&mut parts, on) {
             return Ok(false);
         }
     }
     let first = parts.future_of(0);
-    let reached = parts.cancel(first) && !parts.is_pending(end);
-    Ok(reached && parts.cancelling(0) == 1 && parts.is_pending(first))
+    let reached = cancelled(&mut parts, first);
+    Ok(reached && !parts.is_pending(end) && parts.cancelling(0) == 1 && parts.is_pending(first))
 }
 
 // Each future stands for the one before twice, and a cancel goes through each once.
 fn many_of_manys(alloc: Global, count: u32) -> Result<bool, Memory> {
     let mut parts = Parts::new(alloc, 1)?;
-    let end = parts.new_plain(alloc)?;
+    let end = plain(alloc, &mut parts)?;
     let mut top = end;
-    for _ in 0..count {
-        top = parts.new_many(alloc, vec![in alloc; top, top]?)?;
+    for place in 0..count {
+        top = many(alloc, &mut parts, top, top)?;
+        if top <= u64::from(place) {
+            return Ok(false);
+        }
     }
-    Ok(parts.cancel(top) && !parts.is_pending(end) && parts.asked(top) && parts.is_pending(top))
+    let reached = cancelled(&mut parts, top);
+    Ok(reached && !parts.is_pending(end) && parts.asked(top) && parts.is_pending(top))
 }
 
 // A future that stands for a done one and a pending one is cancelled by the pending one.
 fn many_with_done_member(alloc: Global) -> Result<bool, Memory> {
     let mut parts = Parts::new(alloc, 1)?;
-    let done = parts.new_plain(alloc)?;
-    let pending = parts.new_plain(alloc)?;
-    let many = parts.new_many(alloc, vec![in alloc; done, pending]?)?;
-    let spent = parts.new_many(alloc, vec![in alloc; done]?)?;
-    let ended = parts.cancel(done) && !parts.cancel(done);
-    let reached = parts.cancel(many) && !parts.is_pending(pending) && parts.asked(many);
-    Ok(ended && reached && !parts.cancel(spent) && !parts.asked(spent))
-}
-
-// A task's life: its steps, a wait, a cancel that is taken back, and its end.
-fn life(alloc: Global) -> Result<bool, Memory> {
-    let mut parts = Parts::new(alloc, 1)?;
-    let task = parts.spawn(alloc)?;
-    let on = parts.new_plain(alloc)?;
-    parts.set_bar();
-    let first = begin_next(&mut parts);
-    if first != Some(task) {
-        return Ok(false);
-    }
-    let waits = wait_for(&mut parts, task, on) && parts.waiter(task) == Some(on);
-    let own = parts.future_of(task);
-    let asked = parts.cancel(own) && parts.uncancel(task) == 0 && !parts.is_empty();
-    parts.set_bar();
-    let again = begin_next(&mut parts);
-    if again != Some(task) {
-        return Ok(false);
-    }
-    parts.pause(task);
-    parts.set_bar();
-    let third = begin_next(&mut parts);
-    if third != Some(task) {
-        return Ok(false);
-    }
-    parts.finish(task, Ok(Value::int(7)));
-    let ended = matches!(parts.outcome(own), Some(Outcome::Value(_)));
-    Ok(waits && asked && ended && parts.is_empty() && parts.tasks() == 1 && parts.profile() == 1)
-}
-
-// Timers fall due by deadline, and a callback of a done future is called at once.
-fn timers(alloc: Global) -> Result<bool, Memory> {
-    let mut parts = Parts::new(alloc, 1)?;
-    let ticket = parts.ticket(alloc)?;
-    let Ok(late) = parts.at(alloc, 9, ticket, Action::Fires(1)) else {
-        return Err(Memory);
-    };
-    let ticket = parts.ticket(alloc)?;
-    let Ok(_early) = parts.at(alloc, 4, ticket, Action::Fires(2)) else {
-        return Err(Memory);
-    };
-    let least = parts.earliest() == Some(4);
-    parts.set_now(5);
-    parts.due(5);
-    parts.cancel_timer(late);
-    parts.set_bar();
-    let fell = matches!(parts.next_below(), Some((Action::Fires(2), _)));
-    Ok(least && fell && parts.now() == 5 && parts.earliest().is_none() && parts.given() == 0)
-}
-
-#[test]
-fn rows_of_calls(rt: HostRuntime) -> Result<(), Fail> {
-    assert!(rt; many_with_done_member(rt.alloc())?);
-    assert!(rt; life(rt.alloc())?);
-    assert!(rt; timers(rt.alloc())?);
-    Ok(())
+    let done = plain(alloc, &mut parts)?;
+    let pending = plain(alloc, &mut parts)?;
+    let both = many(alloc, &mut parts, done, pending)?;
+    let spent = many(alloc, &mut parts, done, done)?;
+    let ended = cancelled(&mut parts, done);
+    let reached = cancelled(&mut parts, both);
+    let nothing = cancelled(&mut parts, spent);
+    let asked = parts.asked(both) && !parts.asked(spent);
+    Ok(ended && reached && !nothing && asked && !parts.is_pending(pending))
 }
 
 #[test]
 fn long_chains_end(rt: HostRuntime) -> Result<(), Fail> {
-    assert!(rt; chain(rt.alloc(), 10_000)?);
-    assert!(rt; many_of_manys(rt.alloc(), 100)?);
+    assert!(rt; many_with_done_member(rt.alloc())?);
+    assert!(rt; chain(rt.alloc(), 100_000)?);
+    assert!(rt; many_of_manys(rt.alloc(), 1_000)?);
     Ok(())
 }
