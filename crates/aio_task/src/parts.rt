@@ -5,14 +5,12 @@ ghost use Rattle.std.specs.Option.{option_copied, option_map};
 ghost use Rattle.model_value.specs.Number.{most};
 ghost use Rattle.model_value.specs.declared.action.Action.TheVariants as action;
 ghost use Rattle.model_loop.specs.Parts as plain;
-ghost use Rattle.model_loop.specs.Futures as futures;
-ghost use Rattle.model_loop.specs.Futures.{is_pending_at, is_pending, outcome_at};
+ghost use Rattle.model_loop.specs.Futures.{is_pending_at, outcome_at};
 ghost use Rattle.model_loop.specs.Tasks as tasks;
 ghost use Rattle.model_loop.specs.Totals.{callbacks_at};
 ghost use Rattle.model_loop.specs.Marks.{MarksWait};
 ghost use Rattle.model_loop.specs.Owning.{owner_at, OwnsFutures};
 ghost use Rattle.model_loop.specs.Sound.{HasNoCircle};
-ghost use Rattle.model_loop.specs.Tasks.{lives};
 ghost use Rattle.model_loop.specs.Ways.{HasOneWay, IsReady};
 ghost use Rattle.model_loop.specs.Cancel as request;
 ghost use Rattle.model_loop.specs.Circles.{circle};
@@ -104,8 +102,8 @@ impl Parts {
         ensures owns { self.now.called ≡ None → OwnsFutures (parts self.now) }
         ensures waits { (task on : ℕ) → self.now.called ≡ None → tasks.waiter_of (parts self.now) task ≡ Some on
             → on < length self.now.futures }
-        ensures runs { (task : ℕ) → self.now.called ≡ None → self.now.running ≡ Some task → lives (parts self.now) task ≡ true }
-        ensures called { (task : ℕ) → self.now.called ≡ Some task → self.now.running ≡ None → lives (parts self.now) task ≡ true }
+        ensures runs { (task : ℕ) → self.now.called ≡ None → self.now.running ≡ Some task → tasks.lives (parts self.now) task ≡ true }
+        ensures called { (task : ℕ) → self.now.called ≡ Some task → self.now.running ≡ None → tasks.lives (parts self.now) task ≡ true }
     {
         let _time = self.time;
     }
