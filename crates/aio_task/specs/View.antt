@@ -1,6 +1,6 @@
 -- The loop's parts in code, as contracts see them: the time and the profile, the queue, the timers, the futures and the
 -- tasks, and whose step is going on.
-use Rattle.std.specs.Prelude.{◌≡◌, ℕ, Bool, true, false, ◌&&◌, List, [], Option, Some, None}
+use Rattle.std.specs.Prelude.{◌≡◌, ℕ, Bool, true, false, not, ◌&&◌, List, [], Option, Some, None}
 use Rattle.std.specs.List.{list_any}
 use Rattle.model_value.specs.Action.{Action, Circle}
 use Rattle.model_value.specs.declared.action.Action.TheVariants.{Step, StepInCircle, Wakeup}
@@ -53,11 +53,11 @@ is_step (StepInCircle task circle) = true
 is_step (Wakeup task) = true
 is_step _ = false
 
--- whether a handle has a name, and is a step or a wakeup
+-- whether a handle has a name, and is a step or a wakeup that isn't dead
 abbrev pub steps_as : Name → Handle → Bool
-steps_as name handle = is_same name handle.name && is_step handle.action
+steps_as name handle = is_same name handle.name && (not handle.dead && is_step handle.action)
 
--- no handle of this name is a step or a wakeup
+-- no handle of this name is a step or a wakeup, but for dead ones
 abbrev pub NamesNoStep : Name → Queue → Type 0
 NamesNoStep name q = list_any (steps_as name) (waiting q) ≡ false
 

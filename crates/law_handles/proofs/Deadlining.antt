@@ -1,7 +1,7 @@
 -- Timers by deadline, and those that the machine has in order of scheduling.
 use Rattle.std.proofs.Common.{◌≡◌, ℕ, ◌+◌, ◌<◌, ◌≤◌, ◌⊎◌, Bool, true, false, cond, List, [], ◌∷◌, ◌++◌, Some, map, filter, min, refl, ap, sym, subst, ◌∙◌, inl, inr, arith}
 use Rattle.std.specs.Prelude.{nat_lt}
-use Rattle.std.specs.List.{AllByRecursion as All}
+use Rattle.std.specs.List.{AllByRecursion as Each}
 use Rattle.std.proofs.lemmas.Bool.{cases_lt, lt-ltb, le-ltb}
 use Rattle.std.proofs.lemmas.Option.{same_Some}
 use Rattle.model_loop.specs.Parts.{Timer}
@@ -71,7 +71,7 @@ last-by_deadline (timer ∷ timers) new = ap (placed timer) (last-by_deadline ti
 
 -- ---- by deadline
 abbrev AreLater : ℕ → List Timer → Type 0
-AreLater when = All (λ (timer : Timer). when ≤ timer.when)
+AreLater when = Each (λ (timer : Timer). when ≤ timer.when)
 
 abbrev IsSorted : List Timer → Type 0
 IsSorted [] = Unit {0}

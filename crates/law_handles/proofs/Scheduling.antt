@@ -1,7 +1,7 @@
 -- Timers are made, cancelled, and fall due.
 use Rattle.std.proofs.Common.{◌≡◌, ℕ, ◌+◌, ◌<◌, ◌≤◌, ◌⊎◌, ◌==◌, Bool, true, false, cond, not, List, [], ◌∷◌, ◌++◌, Some, None, map, filter, refl, ap, sym, subst, ◌∙◌, inl, inr, arith, append_assoc, if◌then◌else◌}
 use Rattle.std.specs.Prelude.{nat_lt, nat_le, nat_eq}
-use Rattle.std.specs.List.{AllByRecursion as All}
+use Rattle.std.specs.List.{AllByRecursion as Each}
 use Rattle.std.proofs.lemmas.Bool.{cases_eq, eq-eqb, ne_eqb, eqb-true, false_from_ne_true, and_parts, and_from}
 use Rattle.std.proofs.lemmas.List.{map-append}
 use Rattle.std.proofs.lemmas.Option.{none-some, same_Some}
@@ -46,8 +46,8 @@ module _ (t : Ties) (v : View) (p : Parts) (k : Keeps t v p) (when : ℕ) (actio
   handles_later : KeepsHandles u t.bar v.queue (later when action p)
   handles_later =
       let h = k.handles in
-      let below : All (λ (h : plain.Handle). h.tag < p.next_tag) (h.early ++ h.late) =
-      subst (All (λ (h : plain.Handle). h.tag < p.next_tag)) h.pending (tags_pending p k.numbered) in
+      let below : Each (λ (h : plain.Handle). h.tag < p.next_tag) (h.early ++ h.late) =
+      subst (Each (λ (h : plain.Handle). h.tag < p.next_tag)) h.pending (tags_pending p k.numbered) in
       record {
         early = h.early;
         late = h.late;
@@ -167,7 +167,7 @@ module _ (t : Ties) (v : View) (p : Parts) (k : Keeps t v p) (tag : ℕ) (id : T
   tells : (x : Timer) → IsLive x → is_of id (timer_as t.known x) ≡ (x.tag == tag)
   tells x a = known_tells (t.known x.tag) x refl a.0 a.1
 
-  without_kept : (timers : List Timer) → All IsLive timers → occurrences tag (map timer_tag timers) ≤ 1
+  without_kept : (timers : List Timer) → Each IsLive timers → occurrences tag (map timer_tag timers) ≤ 1
       → without id (map (timer_as t.known) timers) ≡ map (timer_as t.known) (filter (λ (x : Timer). not (x.tag == tag)) timers)
   without_kept [] a one = refl
   without_kept (x ∷ timers) a one =
@@ -186,7 +186,7 @@ module _ (t : Ties) (v : View) (p : Parts) (k : Keeps t v p) (tag : ℕ) (id : T
           let here : is_of id (timer_as t.known x) ≡ false = tells x a.0 ∙ ne_eqb x.tag tag n in
           rw (here, ne_eqb x.tag tag n) (ap (λ xs. timer_as t.known x ∷ xs) more)
 
-  lives_once : (timers : List Timer) → All IsLive timers → lives id (map (timer_as t.known) timers) ≡ true
+  lives_once : (timers : List Timer) → Each IsLive timers → lives id (map (timer_as t.known) timers) ≡ true
       → 1 ≤ occurrences tag (map timer_tag timers)
   lives_once [] a h = absurd (cc)
   lives_once (x ∷ timers) a h =
@@ -204,7 +204,7 @@ module _ (t : Ties) (v : View) (p : Parts) (k : Keeps t v p) (tag : ℕ) (id : T
           let others : lives id (map (timer_as t.known) timers) ≡ true = rw here at h in
           let m = more others in omega (arith, c, m)
 
-  are_live : All IsLive (by_deadline p.timers)
+  are_live : Each IsLive (by_deadline p.timers)
   are_live =
       all-by_deadline IsLive p.timers
       (all_both (λ (x : Timer). IsTimer (t.known x.tag) x) (λ (x : Timer). x.tag < p.next_tag) IsLive (λ x a b. (a, b)) p.timers
@@ -306,7 +306,7 @@ module _ (known : ℕ → Known) (bar : ℕ) where
         bar_given = let b = h.bar_given in omega arith;
       }
 
-  handles_due : (timers : List Timer) (q : Queue) (p : Parts) → All (λ (x : Timer). IsTimer (known x.tag) x) timers → KeepsHandles known bar q p
+  handles_due : (timers : List Timer) (q : Queue) (p : Parts) → Each (λ (x : Timer). IsTimer (known x.tag) x) timers → KeepsHandles known bar q p
       → KeepsHandles known bar (fallen (map (timer_as known) timers) q) (fall_due timers p)
   handles_due [] q p a h = h
   handles_due (x ∷ timers) q p a h =
