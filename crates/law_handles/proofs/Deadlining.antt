@@ -9,7 +9,7 @@ use Rattle.model_loop.specs.Handles.{placed, by_deadline}
 use Rattle.model_loop.specs.Numbered.{occurrences}
 use Rattle.law_numbers.proofs.Numbering.{one_at, timer_tag}
 use Rattle.aio_timer.specs.Schedule.{placed_after, first_when}
-use Rattle.law_handles.specs.Deadlines.{least}
+use Rattle.model_machine.specs.Turn.{least}
 use Rattle.law_handles.proofs.Lists.{all-filter, occurrences-cons}
 use Rattle.law_handles.proofs.Naming.{all-placed}
 
