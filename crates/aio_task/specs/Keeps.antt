@@ -2,7 +2,7 @@
 -- each handle a stamp, has timers in order of scheduling, and keeps every future. The code has names, a bar and timers by
 -- deadline, and lets futures go.
 use Rattle.std.specs.Prelude.{◌≡◌, ℕ, ◌<◌, ◌≤◌, ◌==◌, ◌||◌, Bool, true, List, ◌++◌, map}
-use Rattle.std.specs.List.{AllByRecursion as All}
+use Rattle.std.specs.List.{AllByRecursion as Each}
 use Rattle.model_loop.specs.Parts as plain
 use Rattle.model_loop.specs.Parts.{Timer, Parts}
 use Rattle.model_loop.specs.Futures.{next_future}
@@ -51,8 +51,8 @@ pub record KeepsHandles (known : ℕ → Known) (bar : ℕ) (q : Queue) (p : Par
   pub pending : p.pending ≡ early ++ late
   pub below : q.below ≡ map (handle_as known) early
   pub after : q.after ≡ map (handle_as known) late
-  pub before_bar : All (λ (handle : plain.Handle). handle.stamp < bar) early
-  pub past_bar : All (λ (handle : plain.Handle). bar ≤ handle.stamp) late
+  pub before_bar : Each (λ (handle : plain.Handle). handle.stamp < bar) early
+  pub past_bar : Each (λ (handle : plain.Handle). bar ≤ handle.stamp) late
   pub bar_given : bar ≤ p.next_stamp
 
 -- ---- timers
@@ -84,7 +84,7 @@ pub record Keeps (t : Ties) (v : View) (p : Parts) : Type 0 where
   pub time : v.time ≡ p.time
   pub handles : KeepsHandles t.known t.bar v.queue p
   pub timers : v.schedule.live ≡ map (timer_as t.known) (by_deadline p.timers)
-  pub deadlines : All (λ (timer : Timer). IsTimer (t.known timer.tag) timer) p.timers
+  pub deadlines : Each (λ (timer : Timer). IsTimer (t.known timer.tag) timer) p.timers
   pub names : AreNames t.known p.next_tag v.queue.given v.schedule.next
   pub futures : v.futures ≡ forget_from t.gone 0 p.futures
   -- what was let go was made, and is done

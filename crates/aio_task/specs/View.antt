@@ -1,6 +1,6 @@
 -- The loop's parts in code, as contracts see them: the time and the profile, the queue, the timers, the futures and the
 -- tasks, and whose step is going on.
-use Rattle.std.specs.Prelude.{◌≡◌, ℕ, Bool, true, false, not, ◌&&◌, List, [], Option, Some, None, slice_get}
+use Rattle.std.specs.Prelude.{◌≡◌, ℕ, Bool, true, false, not, ◌&&◌, List, [], Option, Some, None}
 use Rattle.std.specs.List.{list_any}
 use Rattle.model_value.specs.Action.{Action, Circle}
 use Rattle.model_value.specs.declared.action.Action.TheVariants.{Step, StepInCircle, Wakeup}

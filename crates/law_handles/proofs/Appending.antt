@@ -1,6 +1,6 @@
 -- Handles that are appended.
 use Rattle.std.proofs.Common.{◌≡◌, ℕ, ◌<◌, ◌≤◌, true, false, List, [], ◌∷◌, ◌++◌, None, length, map, slice_get, refl, ap, sym, ◌∙◌, arith, append_assoc}
-use Rattle.std.specs.List.{AllByRecursion as All}
+use Rattle.std.specs.List.{AllByRecursion as Each}
 use Rattle.std.proofs.lemmas.List.{map-append}
 use Rattle.model_value.specs.Action.{Action}
 use Rattle.model_loop.specs.Parts.{Timer, Future, Task, Parts}
@@ -97,7 +97,7 @@ module _ (t : Ties) (v : View) (p : Parts) (k : Keeps t v p) (action : Action) w
   abbrev handle : plain.Handle
   handle = record { stamp = p.next_stamp; tag = p.next_tag; action = action; dead = false }
 
-  below : All (λ (h : plain.Handle). h.tag < p.next_tag) (k.handles.early ++ k.handles.late)
+  below : Each (λ (h : plain.Handle). h.tag < p.next_tag) (k.handles.early ++ k.handles.late)
   below = let a = tags_pending p k.numbered in let e = k.handles.pending in rw e at a
 
   handles_soon : KeepsHandles u t.bar (queue.soon action v.queue) (soon action p)

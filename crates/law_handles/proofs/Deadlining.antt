@@ -1,7 +1,7 @@
 -- Timers by deadline, and those that the machine has in order of scheduling.
 use Rattle.std.proofs.Common.{◌≡◌, ℕ, ◌+◌, ◌<◌, ◌≤◌, ◌⊎◌, Bool, true, false, cond, List, [], ◌∷◌, ◌++◌, Some, map, filter, min, refl, ap, sym, subst, ◌∙◌, inl, inr, arith}
 use Rattle.std.specs.Prelude.{nat_lt}
-use Rattle.std.specs.List.{AllByRecursion as All}
+use Rattle.std.specs.List.{AllByRecursion as Each}
 use Rattle.std.proofs.lemmas.Bool.{cases_lt, lt-ltb, le-ltb}
 use Rattle.std.proofs.lemmas.Option.{same_Some}
 use Rattle.model_loop.specs.Parts.{Timer}
@@ -9,7 +9,7 @@ use Rattle.model_loop.specs.Handles.{placed, by_deadline}
 use Rattle.model_loop.specs.Numbered.{occurrences}
 use Rattle.law_numbers.proofs.Numbering.{one_at, timer_tag}
 use Rattle.aio_timer.specs.Schedule.{placed_after, first_when}
-use Rattle.law_handles.specs.Deadlines.{least}
+use Rattle.model_machine.specs.Turn.{least}
 use Rattle.law_handles.proofs.Lists.{all-filter, occurrences-cons}
 use Rattle.law_handles.proofs.Naming.{all-placed}
 
@@ -71,7 +71,7 @@ last-by_deadline (timer ∷ timers) new = ap (placed timer) (last-by_deadline ti
 
 -- ---- by deadline
 abbrev AreLater : ℕ → List Timer → Type 0
-AreLater when = All (λ (timer : Timer). when ≤ timer.when)
+AreLater when = Each (λ (timer : Timer). when ≤ timer.when)
 
 abbrev IsSorted : List Timer → Type 0
 IsSorted [] = Unit {0}

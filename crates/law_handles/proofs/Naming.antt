@@ -1,7 +1,7 @@
 -- Names of tags, where one tag more is given.
 use Rattle.std.proofs.Common.{◌≡◌, ℕ, ◌+◌, ◌<◌, ◌≤◌, ◌⊎◌, ◌==◌, Bool, true, false, cond, List, [], ◌∷◌, map, refl, ap, sym, ◌∙◌, inl, inr, arith}
 use Rattle.std.specs.Prelude.{nat_eq, nat_lt}
-use Rattle.std.specs.List.{AllByRecursion as All}
+use Rattle.std.specs.List.{AllByRecursion as Each}
 use Rattle.std.proofs.lemmas.Bool.{cases_eq, eq-eqb, ne_eqb, eqb-true, lt-ltb}
 use Rattle.model_loop.specs.Parts.{Handle, Timer, Parts}
 use Rattle.model_loop.specs.Handles.{placed, by_deadline}
@@ -15,38 +15,38 @@ use Rattle.aio_task.specs.Keeps.{Known, name_of, number_of, handle_as, timer_as,
 use Rattle.law_handles.proofs.Lists.{all_below, all_more, map_same}
 
 -- ---- tags are below the next one
-pub tags_pending : (p : Parts) → IsNumbered p → All (λ (h : Handle). h.tag < p.next_tag) p.pending
+pub tags_pending : (p : Parts) → IsNumbered p → Each (λ (h : Handle). h.tag < p.next_tag) p.pending
 tags_pending p is =
     all_below tag_of p.next_tag p.pending
     (λ k h. let a = is.tags.below k h in let b = tagged k p in omega (arith, a, b))
 
-pub tags_timers : (p : Parts) → IsNumbered p → All (λ (timer : Timer). timer.tag < p.next_tag) p.timers
+pub tags_timers : (p : Parts) → IsNumbered p → Each (λ (timer : Timer). timer.tag < p.next_tag) p.timers
 tags_timers p is =
     all_below timer_tag p.next_tag p.timers
     (λ k h. let a = is.tags.below k h in let b = tagged k p in omega (arith, a, b))
 
-pub all-placed : (P : Timer → Type 0) (timer : Timer) (timers : List Timer) → P timer → All P timers → All P (placed timer timers)
+pub all-placed : (P : Timer → Type 0) (timer : Timer) (timers : List Timer) → P timer → Each P timers → Each P (placed timer timers)
 all-placed P timer [] h a = (h, tt)
 all-placed P timer (other ∷ others) h a = go (nat_lt other.when timer.when) (all-placed P timer others h a.1)
   where
-    go : (b : Bool) → All P (placed timer others) → All P (cond b (other ∷ placed timer others) (timer ∷ other ∷ others))
+    go : (b : Bool) → Each P (placed timer others) → Each P (cond b (other ∷ placed timer others) (timer ∷ other ∷ others))
     go true more = (a.0, more)
     go false more = (h, a)
 
-pub all-by_deadline : (P : Timer → Type 0) (timers : List Timer) → All P timers → All P (by_deadline timers)
+pub all-by_deadline : (P : Timer → Type 0) (timers : List Timer) → Each P timers → Each P (by_deadline timers)
 all-by_deadline P [] a = tt
 all-by_deadline P (timer ∷ timers) a = all-placed P timer (by_deadline timers) a.0 (all-by_deadline P timers a.1)
 
 -- ---- where names agree below the next tag
 module _ (known later : ℕ → Known) (next : ℕ) (same : (tag : ℕ) → tag < next → later tag ≡ known tag) where
-  pub handles_same : (handles : List Handle) → All (λ (h : Handle). h.tag < next) handles
+  pub handles_same : (handles : List Handle) → Each (λ (h : Handle). h.tag < next) handles
       → map (handle_as later) handles ≡ map (handle_as known) handles
   handles_same handles below =
       map_same (handle_as later) (handle_as known) handles
       (all_more (λ (h : Handle). h.tag < next) (λ (h : Handle). handle_as later h ≡ handle_as known h)
       (λ h b. ap (λ (k : Known). record { name = name_of k; action = h.action; dead = h.dead }) (same h.tag b)) handles below)
 
-  pub timers_same : (timers : List Timer) → All (λ (timer : Timer). timer.tag < next) timers
+  pub timers_same : (timers : List Timer) → Each (λ (timer : Timer). timer.tag < next) timers
       → map (timer_as later) timers ≡ map (timer_as known) timers
   timers_same timers below =
       map_same (timer_as later) (timer_as known) timers

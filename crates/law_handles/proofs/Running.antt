@@ -1,7 +1,7 @@
 -- Handles are cancelled, stand before the bar, and are taken out.
 use Rattle.std.proofs.Common.{◌≡◌, ℕ, ◌<◌, ◌≤◌, ◌⊎◌, ◌==◌, ◌||◌, Bool, true, false, cond, not, List, [], ◌∷◌, ◌++◌, drop, map, filter, refl, ap, sym, subst, ◌∙◌, inl, inr, arith, append-nil}
 use Rattle.std.specs.Prelude.{length, nat_lt}
-use Rattle.std.specs.List.{AllByRecursion as All, count_by}
+use Rattle.std.specs.List.{AllByRecursion as Each, count_by}
 use Rattle.std.proofs.lemmas.List.Sums.{sum_by-cons}
 use Rattle.std.proofs.Math.Bool.{or-false}
 use Rattle.std.proofs.lemmas.Bool.{cases_eq, eq-eqb, ne_eqb, false_from_ne_true, or_right, lt-ltb, le-ltb}
@@ -24,8 +24,8 @@ use Rattle.law_handles.proofs.Lists.{all_left, all_right, all_below}
 use Rattle.law_handles.proofs.Naming.{tags_pending}
 
 -- ---- a handle is cancelled
-cancelled_stamps : (P : ℕ → Type 0) (tag : ℕ) (handles : List plain.Handle) → All (λ (h : plain.Handle). P h.stamp) handles
-    → All (λ (h : plain.Handle). P h.stamp) (map (cancelled_if tag) handles)
+cancelled_stamps : (P : ℕ → Type 0) (tag : ℕ) (handles : List plain.Handle) → Each (λ (h : plain.Handle). P h.stamp) handles
+    → Each (λ (h : plain.Handle). P h.stamp) (map (cancelled_if tag) handles)
 cancelled_stamps P tag [] a = tt
 cancelled_stamps P tag (h ∷ handles) a = (go (h.tag == tag), cancelled_stamps P tag handles a.1)
   where
@@ -44,7 +44,7 @@ module _ (t : Ties) (v : View) (p : Parts) (k : Keeps t v p) (tag : ℕ) (given 
       go (inr n) =
           false_from_ne_true _ (λ s. n (sym (k.names.own tag other given below s))) ∙ sym (ne_eqb other tag n)
 
-  marks : (handles : List plain.Handle) → All (λ (h : plain.Handle). h.tag < p.next_tag) handles
+  marks : (handles : List plain.Handle) → Each (λ (h : plain.Handle). h.tag < p.next_tag) handles
       → map (marked (name_of (t.known tag))) (map (handle_as t.known) handles) ≡ map (handle_as t.known) (map (cancelled_if tag) handles)
   marks [] below = refl
   marks (h ∷ handles) below =
@@ -62,8 +62,8 @@ module _ (t : Ties) (v : View) (p : Parts) (k : Keeps t v p) (tag : ℕ) (given 
   pub handles_cancelled : KeepsHandles t.known t.bar (cancelled (name_of (t.known tag)) v.queue) (revoke tag p)
   handles_cancelled =
       let h = k.handles in
-      let below : All (λ (h : plain.Handle). h.tag < p.next_tag) (h.early ++ h.late) =
-      subst (All (λ (h : plain.Handle). h.tag < p.next_tag)) h.pending (tags_pending p k.numbered) in
+      let below : Each (λ (h : plain.Handle). h.tag < p.next_tag) (h.early ++ h.late) =
+      subst (Each (λ (h : plain.Handle). h.tag < p.next_tag)) h.pending (tags_pending p k.numbered) in
       record {
         early = map (cancelled_if tag) h.early;
         late = map (cancelled_if tag) h.late;
@@ -81,7 +81,7 @@ module _ (t : Ties) (v : View) (p : Parts) (k : Keeps t v p) (tag : ℕ) (given 
 
 -- no timer has the tag of what is known as a handle
 timers_other : (known : ℕ → Known) (tag : ℕ) (id : HandleId) → known tag ≡ ByHandle id → (timers : List Timer)
-    → All (λ (timer : Timer). IsTimer (known timer.tag) timer) timers → filter (λ (timer : Timer). not (timer.tag == tag)) timers ≡ timers
+    → Each (λ (timer : Timer). IsTimer (known timer.tag) timer) timers → filter (λ (timer : Timer). not (timer.tag == tag)) timers ≡ timers
 timers_other known tag id e [] a = refl
 timers_other known tag id e (timer ∷ timers) a =
     let n : (timer.tag == tag) ≡ false = ne_eqb timer.tag tag (λ s. let x = rw (s, e) at a.0 in x) in
@@ -150,8 +150,8 @@ keeps_barred t v p k = record {
   numbered = k.numbered;
 }
 
-counted : (bar : ℕ) (known : ℕ → Known) (early late : List plain.Handle) → All (λ (h : plain.Handle). h.stamp < bar) early
-    → All (λ (h : plain.Handle). bar ≤ h.stamp) late
+counted : (bar : ℕ) (known : ℕ → Known) (early late : List plain.Handle) → Each (λ (h : plain.Handle). h.stamp < bar) early
+    → Each (λ (h : plain.Handle). bar ≤ h.stamp) late
     → length (map (handle_as known) early) ≡ count_by (λ (h : plain.Handle). nat_lt h.stamp bar) (early ++ late)
 counted bar known [] [] a b = refl
 counted bar known [] (h ∷ late) a b =
@@ -212,7 +212,7 @@ module _ (t : Ties) (v : View) (p : Parts) (k : Keeps t v p) (first : plain.Hand
           ap (λ (q : Queue). q.below) queue_is
           ∙ ap (drop 1) (k.handles.below ∙ ap (map (handle_as t.known)) e.is);
       after = ap (λ (q : Queue). q.after) queue_is ∙ k.handles.after;
-      before_bar = (subst (All (λ (h : plain.Handle). h.stamp < t.bar)) e.is k.handles.before_bar).1;
+      before_bar = (subst (Each (λ (h : plain.Handle). h.stamp < t.bar)) e.is k.handles.before_bar).1;
       past_bar = k.handles.past_bar;
       bar_given = k.handles.bar_given;
     };

@@ -1,7 +1,7 @@
 -- Timers are made, cancelled, and fall due.
 use Rattle.std.proofs.Common.{◌≡◌, ℕ, ◌+◌, ◌<◌, ◌≤◌, ◌⊎◌, ◌==◌, Bool, true, false, cond, not, List, [], ◌∷◌, ◌++◌, Some, None, map, filter, refl, ap, sym, subst, ◌∙◌, inl, inr, arith, append_assoc, if◌then◌else◌}
 use Rattle.std.specs.Prelude.{nat_lt, nat_le, nat_eq}
-use Rattle.std.specs.List.{AllByRecursion as All}
+use Rattle.std.specs.List.{AllByRecursion as Each}
 use Rattle.std.proofs.lemmas.Bool.{cases_eq, eq-eqb, ne_eqb, eqb-true, false_from_ne_true, and_parts, and_from}
 use Rattle.std.proofs.lemmas.List.{map-append}
 use Rattle.std.proofs.lemmas.Option.{none-some, same_Some}
@@ -14,13 +14,15 @@ use Rattle.law_numbers.proofs.Falling.{due_numbers, fall_due-next}
 use Rattle.law_numbers.proofs.Numbering.{later_numbers, revoke_numbers, tagged, tag_of, timer_tag}
 use Rattle.aio_ready.specs.declared.handle.Handle.{Handle}
 use Rattle.aio_ready.specs.declared.handle.Name.TheVariants as name
-use Rattle.aio_ready.specs.Queue.{Queue, cancelled, appended}
+use Rattle.aio_ready.specs.Queue.{Queue, cancelled, appended, is_empty}
 use Rattle.aio_timer.specs.declared.live.TimerId.{TimerId}
 use Rattle.aio_timer.specs.Schedule.{timer, placed_after, is_of, lives, without, first_when, due_at, later_than, fallen}
 use Rattle.aio_task.specs.View.{View}
 use Rattle.aio_task.specs.Keeps.{Known, ByHandle, ByTimer, name_of, number_of, handle_as, timer_as, IsTimer, Ties, KeepsHandles, Keeps, Extends, Kept, Knows}
-use Rattle.law_handles.specs.Deadlines.{least}
-use Rattle.law_handles.proofs.Appending.{extends_still}
+use Rattle.model_machine.specs.Turn.{least, wait_for, wait_with, wait_of, nothing_comes}
+use Rattle.law_handles.specs.Waiting.{wait_by, stalls_by}
+use Rattle.aio_cancel.specs.Body.{waiting}
+use Rattle.law_handles.proofs.Appending.{extends_still, waiting_kept}
 use Rattle.law_handles.proofs.Lists.{all_left, all_right, all_both, all-append, all-filter, occurrences-cons}
 use Rattle.law_handles.proofs.Naming.{tags_pending, tags_timers, all-by_deadline, handles_same, timers_same, known_as, known_new, known_same, names_more, timer_fresh}
 use Rattle.law_handles.proofs.Deadlining.{last-by_deadline, filter-by_deadline, filter-map, placed-map, tags-by_deadline, first_least}
@@ -46,8 +48,8 @@ module _ (t : Ties) (v : View) (p : Parts) (k : Keeps t v p) (when : ℕ) (actio
   handles_later : KeepsHandles u t.bar v.queue (later when action p)
   handles_later =
       let h = k.handles in
-      let below : All (λ (h : plain.Handle). h.tag < p.next_tag) (h.early ++ h.late) =
-      subst (All (λ (h : plain.Handle). h.tag < p.next_tag)) h.pending (tags_pending p k.numbered) in
+      let below : Each (λ (h : plain.Handle). h.tag < p.next_tag) (h.early ++ h.late) =
+      subst (Each (λ (h : plain.Handle). h.tag < p.next_tag)) h.pending (tags_pending p k.numbered) in
       record {
         early = h.early;
         late = h.late;
@@ -167,7 +169,7 @@ module _ (t : Ties) (v : View) (p : Parts) (k : Keeps t v p) (tag : ℕ) (id : T
   tells : (x : Timer) → IsLive x → is_of id (timer_as t.known x) ≡ (x.tag == tag)
   tells x a = known_tells (t.known x.tag) x refl a.0 a.1
 
-  without_kept : (timers : List Timer) → All IsLive timers → occurrences tag (map timer_tag timers) ≤ 1
+  without_kept : (timers : List Timer) → Each IsLive timers → occurrences tag (map timer_tag timers) ≤ 1
       → without id (map (timer_as t.known) timers) ≡ map (timer_as t.known) (filter (λ (x : Timer). not (x.tag == tag)) timers)
   without_kept [] a one = refl
   without_kept (x ∷ timers) a one =
@@ -186,7 +188,7 @@ module _ (t : Ties) (v : View) (p : Parts) (k : Keeps t v p) (tag : ℕ) (id : T
           let here : is_of id (timer_as t.known x) ≡ false = tells x a.0 ∙ ne_eqb x.tag tag n in
           rw (here, ne_eqb x.tag tag n) (ap (λ xs. timer_as t.known x ∷ xs) more)
 
-  lives_once : (timers : List Timer) → All IsLive timers → lives id (map (timer_as t.known) timers) ≡ true
+  lives_once : (timers : List Timer) → Each IsLive timers → lives id (map (timer_as t.known) timers) ≡ true
       → 1 ≤ occurrences tag (map timer_tag timers)
   lives_once [] a h = absurd (cc)
   lives_once (x ∷ timers) a h =
@@ -204,7 +206,7 @@ module _ (t : Ties) (v : View) (p : Parts) (k : Keeps t v p) (tag : ℕ) (id : T
           let others : lives id (map (timer_as t.known) timers) ≡ true = rw here at h in
           let m = more others in omega (arith, c, m)
 
-  are_live : All IsLive (by_deadline p.timers)
+  are_live : Each IsLive (by_deadline p.timers)
   are_live =
       all-by_deadline IsLive p.timers
       (all_both (λ (x : Timer). IsTimer (t.known x.tag) x) (λ (x : Timer). x.tag < p.next_tag) IsLive (λ x a b. (a, b)) p.timers
@@ -306,7 +308,7 @@ module _ (known : ℕ → Known) (bar : ℕ) where
         bar_given = let b = h.bar_given in omega arith;
       }
 
-  handles_due : (timers : List Timer) (q : Queue) (p : Parts) → All (λ (x : Timer). IsTimer (known x.tag) x) timers → KeepsHandles known bar q p
+  handles_due : (timers : List Timer) (q : Queue) (p : Parts) → Each (λ (x : Timer). IsTimer (known x.tag) x) timers → KeepsHandles known bar q p
       → KeepsHandles known bar (fallen (map (timer_as known) timers) q) (fall_due timers p)
   handles_due [] q p a h = h
   handles_due (x ∷ timers) q p a h =
@@ -395,6 +397,10 @@ keeps_fallen t v p now k e =
     }) (due p)) (sym (e ∙ k.time)) (keeps_due t v p k)
 
 -- ---- the earliest
+abbrev is_empty_row : List plain.Handle → Bool
+is_empty_row [] = true
+is_empty_row (h ∷ handles) = false
+
 first_as : (known : ℕ → Known) (timers : List Timer) → first_when (map (timer_as known) timers) ≡ first_when timers
 first_as known [] = refl
 first_as known (x ∷ timers) = refl
@@ -419,3 +425,41 @@ module _ (t : Ties) (v : View) (p : Parts) (k : Keeps t v p) where
       go [] h = absurd (cc)
       go (x ∷ timers) h =
           (x, timers, refl, same_Some when (least x.when timers) (sym h ∙ first_least x timers))
+
+  -- how long a turn waits
+  empty_as : (handles : List plain.Handle) → is_empty (map (handle_as t.known) handles) ≡ is_empty_row handles
+  empty_as [] = refl
+  empty_as (h ∷ handles) = refl
+
+  seen : is_empty (waiting v.queue) ≡ is_empty_row p.pending
+  seen = ap is_empty (waiting_kept t v p k) ∙ empty_as p.pending
+
+  pub wait_kept : wait_of p ≡ wait_by (is_empty (waiting v.queue)) (first_when v.schedule.live) v.time
+  wait_kept =
+      go p.pending p.timers
+      ∙ sym (ap (λ b. wait_by b (first_when v.schedule.live) v.time) seen
+      ∙ ap (λ o. wait_by (is_empty_row p.pending) o v.time) first_kept
+      ∙ ap (wait_by (is_empty_row p.pending) (first_when (by_deadline p.timers))) k.time)
+    where
+      timed : (timers : List Timer) → wait_for timers p.time ≡ wait_by true (first_when (by_deadline timers)) p.time
+      timed [] = refl
+      timed (x ∷ timers) = ap (λ o. wait_by true o p.time) (sym (first_least x timers))
+
+      go : (handles : List plain.Handle) (timers : List Timer)
+          → wait_with handles (record p { timers = timers }) ≡ wait_by (is_empty_row handles) (first_when (by_deadline timers)) p.time
+      go [] timers = timed timers
+      go (h ∷ handles) timers = refl
+
+  pub stall_kept : (watches : Bool) → nothing_comes p.pending p.timers watches
+      ≡ stalls_by (is_empty (waiting v.queue)) (first_when v.schedule.live) watches
+  stall_kept watches =
+      go p.pending p.timers watches
+      ∙ sym (ap (λ b. stalls_by b (first_when v.schedule.live) watches) seen
+      ∙ ap (λ o. stalls_by (is_empty_row p.pending) o watches) first_kept)
+    where
+      go : (handles : List plain.Handle) (timers : List Timer) (watches : Bool)
+          → nothing_comes handles timers watches ≡ stalls_by (is_empty_row handles) (first_when (by_deadline timers)) watches
+      go (h ∷ handles) timers watches = refl
+      go [] (x ∷ timers) watches = ap (λ o. stalls_by true o watches) (sym (first_least x timers))
+      go [] [] true = refl
+      go [] [] false = refl

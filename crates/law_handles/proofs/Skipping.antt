@@ -1,6 +1,6 @@
 -- What runs next before the bar.
 use Rattle.std.proofs.Common.{◌≡◌, ℕ, ◌<◌, ◌≤◌, ◌⊎◌, Bool, true, false, cond, List, [], ◌∷◌, ◌++◌, Option, Some, None, drop, map, refl, ap, sym, subst, ◌∙◌, inl, inr, arith}
-use Rattle.std.specs.List.{AllByRecursion as All}
+use Rattle.std.specs.List.{AllByRecursion as Each}
 use Rattle.std.proofs.lemmas.Bool.{cases_lt}
 use Rattle.model_value.specs.Action.{Action}
 use Rattle.model_loop.specs.Parts as plain
@@ -69,7 +69,7 @@ module _ (t : Ties) (v : View) (p : Parts) (k : Keeps t v p) where
       go (first ∷ early) e =
           let x = ap (IsPastBar t.bar) (k.handles.pending ∙ ap (λ z. z ++ k.handles.late) e) in
           let late : t.bar ≤ first.stamp = subst (λ hs. IsPastBar t.bar hs) (k.handles.pending ∙ ap (λ z. z ++ k.handles.late) e) past in
-          let soon : first.stamp < t.bar = (subst (All (λ (h : plain.Handle). h.stamp < t.bar)) e k.handles.before_bar).0 in
+          let soon : first.stamp < t.bar = (subst (Each (λ (h : plain.Handle). h.stamp < t.bar)) e k.handles.before_bar).0 in
           absurd (omega (arith, late, soon))
 
   pub none_next : IsPastBar t.bar p.pending → (next_action v.queue ≡ None) × (taken v.queue ≡ v.queue)

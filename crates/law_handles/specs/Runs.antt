@@ -1,6 +1,6 @@
 -- How handles run: in code a call takes the first that lives, in the machine each is taken out by a step of its own.
 use Rattle.std.specs.Prelude.{◌≡◌, ℕ, ◌<◌, ◌≤◌, true, false, List, [], ◌∷◌, ◌++◌, Option, None, Some, drop}
-use Rattle.std.specs.List.{AllByRecursion as All}
+use Rattle.std.specs.List.{AllByRecursion as Each}
 use Rattle.model_value.specs.Action.{Action}
 use Rattle.model_loop.specs.Parts.{Handle, Parts}
 use Rattle.aio_ready.specs.Queue.{Queue}
@@ -28,5 +28,5 @@ pub record Skips (t : Ties) (w : View) (p : Parts) (next : Option Action) : Type
   pub dead : List Handle
   pub left : List Handle
   pub pending : p.pending ≡ dead ++ left
-  pub are_dead : All (λ (handle : Handle). (handle.dead ≡ true) × (handle.stamp < t.bar)) dead
+  pub are_dead : Each (λ (handle : Handle). (handle.dead ≡ true) × (handle.stamp < t.bar)) dead
   pub runs : Runs t w p next left

@@ -1,15 +1,17 @@
 //! Laws of the time and of timers. Each function has no body: its clauses are the laws.
-ghost use Rattle.std.specs.Prelude.{◌≡◌, ◌+◌, ℕ, [], ◌∷◌, List, None, Some, if◌then◌else◌};
+ghost use Rattle.std.specs.Prelude.{◌≡◌, ◌+◌, ℕ, Bool, [], ◌∷◌, List, None, Some, if◌then◌else◌};
 ghost use Rattle.model_value.specs.Action.{Action};
 ghost use Rattle.model_loop.specs.Parts.{Parts, Timer};
 ghost use Rattle.model_loop.specs.Handles.{later, revoke, due};
+ghost use Rattle.model_machine.specs.Turn.{least, wait_of, nothing_comes};
 ghost use Rattle.aio_ready.specs.declared.handle.Name.TheVariants as name;
-ghost use Rattle.aio_ready.specs.Queue.{cancelled};
+ghost use Rattle.aio_ready.specs.Queue.{cancelled, is_empty};
 ghost use Rattle.aio_timer.specs.declared.live.TimerId.{TimerId};
 ghost use Rattle.aio_timer.specs.Schedule.{timer, placed_after, without, lives, later_than, due_at, fallen, first_when};
+ghost use Rattle.aio_cancel.specs.Body.{waiting};
 ghost use Rattle.aio_task.specs.View.{View};
 ghost use Rattle.aio_task.specs.Keeps.{Ties, Keeps, Kept, Knows, ByTimer};
-ghost use Rattle.law_handles.specs.Deadlines.{least};
+ghost use Rattle.law_handles.specs.Waiting.{wait_by, stalls_by};
 
 /// The time is set.
 pub fn the_time_is_kept()
@@ -56,7 +58,7 @@ pub fn due_timers_are_kept()
         (due p) }
 {}
 
-/// The earliest deadline.
+/// The earliest deadline. By it a turn knows how long it waits, and whether anything can come.
 pub fn the_earliest_deadline_is_kept()
     ensures none { (t : Ties) (v : View) (p : Parts) → Keeps t v p
         → first_when v.schedule.live ≡ None → p.timers ≡ [] }
@@ -64,4 +66,9 @@ pub fn the_earliest_deadline_is_kept()
         → first_when v.schedule.live ≡ Some when
         → (first : Timer) × (others : List Timer) × (p.timers ≡ first ∷ others)
         × (when ≡ least first.when others) }
+    ensures wait { (t : Ties) (v : View) (p : Parts) → Keeps t v p
+        → wait_of p ≡ wait_by (is_empty (waiting v.queue)) (first_when v.schedule.live) v.time }
+    ensures stall { (t : Ties) (v : View) (p : Parts) (watches : Bool) → Keeps t v p
+        → nothing_comes p.pending p.timers watches
+        ≡ stalls_by (is_empty (waiting v.queue)) (first_when v.schedule.live) watches }
 {}
