@@ -1,5 +1,5 @@
 -- How long a turn waits, by what the code sees: whether nothing is pending, the first deadline, and the time.
-use Rattle.std.specs.Prelude.{ℕ, ◌-◌, Bool, true, false, not, ◌&&◌, Option, None, Some, is_none, min, option_map}
+use Rattle.std.specs.Prelude.{ℕ, ◌-◌, Bool, true, false, not, ◌&&◌, Option, Some, is_none, min, option_map}
 use Rattle.model_machine.specs.Turn.{longest_wait}
 
 abbrev pub wait_by : (idle : Bool) → Option ℕ → ℕ → Option ℕ

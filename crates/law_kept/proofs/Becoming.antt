@@ -3,7 +3,7 @@ use Rattle.std.proofs.Common.{◌≡◌, ℕ, suc, true, false, List, [], ◌∷
 use Rattle.std.proofs.lemmas.List.{map-append, append_cancel_left}
 use Rattle.model_value.specs.Action.{Action}
 use Rattle.model_loop.specs.Parts as plain
-use Rattle.model_loop.specs.Parts.{Future, Task, Parts}
+use Rattle.model_loop.specs.Parts.{Parts}
 use Rattle.model_loop.specs.Handles.{soon, soon_all}
 use Rattle.model_loop.specs.Numbered.{IsNumbered}
 use Rattle.law_parts.specs.Forgotten.{forget_from, forgotten}

@@ -45,8 +45,8 @@ pub fn new_futures_are_kept()
         → All (λ member. member < next_future p) members
         → Keeps t
         (record v {
-          futures =
-              v.futures ++ record { kind = Many members false; outcome = None; callbacks = [] } ∷ [];
+          futures = v.futures
+              ++ record { kind = Many members false; outcome = None; callbacks = [] } ∷ [];
         })
         (new_many members p) }
     ensures number { (t : Ties) (v : View) (p : Parts) → Keeps t v p
