@@ -1,0 +1,4 @@
+//! Laws of runs: every state of every run is sound.
+#![tactic(auto)]
+
+pub mod runs;
