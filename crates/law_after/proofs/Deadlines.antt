@@ -39,63 +39,63 @@ tag_no_step id tag l is e task =
     let b = (is.tags id).own tag e in
     omega (arith, a, b)
 
-module _ (test : Value → Bool) (nothing : test Nothing ≡ true) (excused timeout group : Option ℕ) where
-  bare_loop : (id : ℕ) (l : Loop) → HaveTags l → IsLoopAfter test excused timeout group l (without_handle id l)
+module _ (test : Value → Bool) (nothing : test Nothing ≡ true) (grown : Bool) (excused timeout group begun : Option ℕ) where
+  bare_loop : (id : ℕ) (l : Loop) → HaveTags l → IsLoopAfter test grown excused timeout group begun l (without_handle id l)
   bare_loop id l is =
-      loop_on test nothing excused timeout group l (in_parts (give_up (timeout_of l id).tag) l) _
-      (timeout_loop test nothing excused timeout group id _ (in_parts (give_up (timeout_of l id).tag) l) (record { task = refl; open_ = λ h. refl }))
-      (parts_loop test nothing excused timeout group l _ (at (timeout_of l id).tag refl))
+      loop_on test nothing grown excused timeout group begun l (in_parts (give_up (timeout_of l id).tag) l) _
+      (timeout_loop test nothing grown excused timeout group begun id _ (in_parts (give_up (timeout_of l id).tag) l) (record { task = refl; open_ = λ h. refl }))
+      (parts_loop test nothing grown excused timeout group begun l _ (at (timeout_of l id).tag refl))
     where
-      at : (o : Option ℕ) → (timeout_of l id).tag ≡ o → IsAfter test excused l.parts (give_up o l.parts)
-      at None e = refl_after test excused l.parts
-      at (Some tag) e = revoke_after test excused tag l.parts (tag_no_step id tag l is e)
+      at : (o : Option ℕ) → (timeout_of l id).tag ≡ o → IsAfter test grown excused l.parts (give_up o l.parts)
+      at None e = refl_after test grown excused l.parts
+      at (Some tag) e = revoke_after test grown excused tag l.parts (tag_no_step id tag l is e)
 
-  deadline_loop : (id : ℕ) (when : Option ℕ) (l : Loop) → IsLoopAfter test excused timeout group l (with_deadline id when l)
-  deadline_loop id None l = refl_loop test nothing excused timeout group l
+  deadline_loop : (id : ℕ) (when : Option ℕ) (l : Loop) → IsLoopAfter test grown excused timeout group begun l (with_deadline id when l)
+  deadline_loop id None l = refl_loop test nothing grown excused timeout group begun l
   deadline_loop id (Some when) l =
-      loop_on test nothing excused timeout group l (in_parts (fires_at id when) l) _
-      (timeout_loop test nothing excused timeout group id _ (in_parts (fires_at id when) l) (record { task = refl; open_ = λ h. refl }))
-      (parts_loop test nothing excused timeout group l (fires_at id when l.parts) (at (nat_le when l.parts.time)))
+      loop_on test nothing grown excused timeout group begun l (in_parts (fires_at id when) l) _
+      (timeout_loop test nothing grown excused timeout group begun id _ (in_parts (fires_at id when) l) (record { task = refl; open_ = λ h. refl }))
+      (parts_loop test nothing grown excused timeout group begun l (fires_at id when l.parts) (at (nat_le when l.parts.time)))
     where
-      at : (b : Bool) → IsAfter test excused l.parts (if b then soon (Fires id) l.parts else later when (Fires id) l.parts)
-      at true = soon_after test excused (Fires id) l.parts refl
-      at false = later_after test excused when (Fires id) l.parts
+      at : (b : Bool) → IsAfter test grown excused l.parts (if b then soon (Fires id) l.parts else later when (Fires id) l.parts)
+      at true = soon_after test grown excused (Fires id) l.parts refl
+      at false = later_after test grown excused when (Fires id) l.parts
 
-  pub schedule_loop : (id : ℕ) (when : Option ℕ) (l : Loop) → HaveTags l → IsLoopAfter test excused timeout group l (schedule id when l)
+  pub schedule_loop : (id : ℕ) (when : Option ℕ) (l : Loop) → HaveTags l → IsLoopAfter test grown excused timeout group begun l (schedule id when l)
   schedule_loop id when l is =
-      loop_on test nothing excused timeout group l (without_handle id l) _ (deadline_loop id when (without_handle id l)) (bare_loop id l is)
+      loop_on test nothing grown excused timeout group begun l (without_handle id l) _ (deadline_loop id when (without_handle id l)) (bare_loop id l is)
 
-  pub reschedule_loop : (id : ℕ) (when : Option ℤ) (l : Loop) → HaveTags l → IsLoopAfter test excused timeout group l (reschedule id when l)
+  pub reschedule_loop : (id : ℕ) (when : Option ℤ) (l : Loop) → HaveTags l → IsLoopAfter test grown excused timeout group begun l (reschedule id when l)
   reschedule_loop id when l is = at (is_active (timeout_of l id).state)
     where
-      at : (b : Bool) → IsLoopAfter test excused timeout group l (reschedule_where b id when l)
+      at : (b : Bool) → IsLoopAfter test grown excused timeout group begun l (reschedule_where b id when l)
       at true = schedule_loop id (option_map moment when) l is
-      at false = refl_loop test nothing excused timeout group l
+      at false = refl_loop test nothing grown excused timeout group begun l
 
   -- an open one fires, and stays open
-  pub fire_loop : (id : ℕ) (l : Loop) → is_open (timeout_of l id).state ≡ true → IsLoopAfter test excused timeout group l (fire id l)
+  pub fire_loop : (id : ℕ) (l : Loop) → is_open (timeout_of l id).state ≡ true → IsLoopAfter test grown excused timeout group begun l (fire id l)
   fire_loop id l open_ =
-      loop_on test nothing excused timeout group l (book (ask_cancel (ByTimeout id) (future_of l.parts (timeout_of l id).task)) l) _
-      (timeout_loop test nothing excused timeout group id _ (book (ask_cancel (ByTimeout id) (future_of l.parts (timeout_of l id).task)) l)
+      loop_on test nothing grown excused timeout group begun l (book (ask_cancel (ByTimeout id) (future_of l.parts (timeout_of l id).task)) l) _
+      (timeout_loop test nothing grown excused timeout group begun id _ (book (ask_cancel (ByTimeout id) (future_of l.parts (timeout_of l id).task)) l)
       (record { task = refl; open_ = λ h. sym open_ }))
-      (book_loop test nothing excused timeout group (ask_cancel (ByTimeout id) (future_of l.parts (timeout_of l id).task)) l
-      (cancel_after test excused (future_of l.parts (timeout_of l id).task) l.parts))
+      (book_loop test nothing grown excused timeout group begun (ask_cancel (ByTimeout id) (future_of l.parts (timeout_of l id).task)) l
+      (cancel_after test grown excused (future_of l.parts (timeout_of l id).task) l.parts))
 
 -- ---- the block is left
-module _ (test : Value → Bool) (nothing : test Nothing ≡ true) (excused group : Option ℕ) (raised : Option Exc) (id : ℕ) (l : Loop)
+module _ (test : Value → Bool) (nothing : test Nothing ≡ true) (grown : Bool) (excused group begun : Option ℕ) (raised : Option Exc) (id : ℕ) (l : Loop)
     (is : HaveTags l) where
-  left : (new : Timeout) (m : Loop) → new.task ≡ (timeout_of m id).task → IsLoopAfter test excused (Some id) group m (set_timeout id new m)
+  left : (new : Timeout) (m : Loop) → new.task ≡ (timeout_of m id).task → IsLoopAfter test grown excused (Some id) group begun m (set_timeout id new m)
   left new m task =
-      timeout_loop test nothing excused (Some id) group id new m
+      timeout_loop test nothing grown excused (Some id) group begun id new m
       (record { task = task; open_ = λ h. absurd (false≢true (sym h ∙ eq-eqb id id refl)) })
 
-  pub leave_loop : IsLoopAfter test excused (Some id) group l (exit_timeout raised id l).loop
+  pub leave_loop : IsLoopAfter test grown excused (Some id) group begun l (exit_timeout raised id l).loop
   leave_loop =
-      loop_on test nothing excused (Some id) group l (without_handle id l) _ (at (timeout_of l id).state)
-      (bare_loop test nothing excused (Some id) group id l is)
+      loop_on test nothing grown excused (Some id) group begun l (without_handle id l) _ (at (timeout_of l id).state)
+      (bare_loop test nothing grown excused (Some id) group begun id l is)
     where
       at : (state : TimeoutState)
-          → IsLoopAfter test excused (Some id) group (without_handle id l) (leave_from state raised id (without_handle id l)).loop
+          → IsLoopAfter test grown excused (Some id) group begun (without_handle id l) (leave_from state raised id (without_handle id l)).loop
       at Created = left _ (without_handle id l) refl
       at Active = left _ (without_handle id l) refl
       at Expired = left _ (without_handle id l) refl
@@ -103,15 +103,15 @@ module _ (test : Value → Bool) (nothing : test Nothing ≡ true) (excused grou
       at Expiring =
           let m = without_handle id l in
           let taken = book (uncancel_by (ByTimeout id) (timeout_of m id).task) m in
-          loop_on test nothing excused (Some id) group m taken _ (left _ taken refl)
-          (book_loop test nothing excused (Some id) group (uncancel_by (ByTimeout id) (timeout_of m id).task) m
-          (change_after test excused (timeout_of m id).task _ m.parts (λ t. refl)))
+          loop_on test nothing grown excused (Some id) group begun m taken _ (left _ taken refl)
+          (book_loop test nothing grown excused (Some id) group begun (uncancel_by (ByTimeout id) (timeout_of m id).task) m
+          (change_after test grown excused (timeout_of m id).task _ m.parts (λ t. refl)))
 
   pub leave_closes : id < length l.timeouts → is_open (timeout_of (exit_timeout raised id l).loop id).state ≡ false
   leave_closes within = at (timeout_of l id).state
     where
       there : id < length (without_handle id l).timeouts
-      there = let e = (bare_loop test nothing excused (Some id) group id l is).timeouts_made in omega (arith, e, within)
+      there = let e = (bare_loop test nothing grown excused (Some id) group begun id l is).timeouts_made in omega (arith, e, within)
 
       at : (state : TimeoutState) → is_open (timeout_of (leave_from state raised id (without_handle id l)).loop id).state ≡ false
       at Created = ap (λ (t : Timeout). is_open t.state) (timeout_same id _ (without_handle id l) there)

@@ -32,7 +32,7 @@ none_past (x ∷ xs) zero e = absurd (none-some x (sym e))
 none_past (x ∷ xs) (suc place) e = let a = none_past xs place e in omega (arith, a)
 
 -- ---- one future changes, and nothing that is looked at
-module _ (test : Value → Bool) (excused : Option ℕ) (id : ℕ) (p : Parts) (old new : Future) (e : slice_get p.futures id ≡ Some old) where
+module _ (test : Value → Bool) (grown : Bool) (excused : Option ℕ) (id : ℕ) (p : Parts) (old new : Future) (e : slice_get p.futures id ≡ Some old) where
   abbrev changed : Parts
   changed = with_future id new p
 
@@ -41,13 +41,14 @@ module _ (test : Value → Bool) (excused : Option ℕ) (id : ℕ) (p : Parts) (
   kept_view f same j = get-set_kept f p.futures id j old new e same
 
   pub future_after : new.outcome ≡ old.outcome → is_plain_kind new.kind ≡ is_plain_kind old.kind
-      → count_by is_main_done new.callbacks ≡ count_by is_main_done old.callbacks → IsAfter test excused p changed
+      → count_by is_main_done new.callbacks ≡ count_by is_main_done old.callbacks → IsAfter test grown excused p changed
   future_after outcome plain callbacks = record {
     next = le_refl _;
     tags = λ kind tag h. le_refl _;
     steps = λ task h. le_refl _;
     futures = omega (arith, length-set p.futures id new);
     tasks = le_refl _;
+    same = λ g. refl;
     owned = λ task h. own task;
     pends = λ j h. inl (sym (kept_view is_pending_at (ap (λ o. is_pending_at (Some (record old { outcome = o }))) outcome) j) ∙ h);
     plain = λ j h. kept_view is_plain_at plain j ∙ h;
@@ -65,24 +66,24 @@ module _ (test : Value → Bool) (excused : Option ℕ) (id : ℕ) (p : Parts) (
       own : (task : ℕ) → future_of changed task ≡ future_of p task
       own task = ap (λ n. option_map_or (λ (t : Task). t.future) (slice_get p.tasks task) n) (length-set p.futures id new)
 
-pub register_after : (test : Value → Bool) (excused : Option ℕ) (id : ℕ) (action : Action) (p : Parts) → is_main_done action ≡ false
-    → IsAfter test excused p (register id action p)
-register_after test excused id action p other = at (slice_get p.futures id) refl
+pub register_after : (test : Value → Bool) (grown : Bool) (excused : Option ℕ) (id : ℕ) (action : Action) (p : Parts) → is_main_done action ≡ false
+    → IsAfter test grown excused p (register id action p)
+register_after test grown excused id action p other = at (slice_get p.futures id) refl
   where
     until : (future : Future) → slice_get p.futures id ≡ Some future → (o : Option Outcome)
-        → IsAfter test excused p (registered_on o id future action p)
-    until future e (Some done) = soon_after test excused action p other
+        → IsAfter test grown excused p (registered_on o id future action p)
+    until future e (Some done) = soon_after test grown excused action p other
     until future e None =
-        future_after test excused id p future (record future { callbacks = future.callbacks ++ action ∷ [] }) e refl refl
+        future_after test grown excused id p future (record future { callbacks = future.callbacks ++ action ∷ [] }) e refl refl
         (let a = sum_by_push (λ (x : Action). cond (is_main_done x) 1 0) future.callbacks action in
         let b : ◌≡◌ {A = ℕ} (cond (is_main_done action) 1 0) 0 = ap (λ x. cond x 1 0) other in omega (arith, a, b))
 
-    at : (o : Option Future) → slice_get p.futures id ≡ o → IsAfter test excused p (registered o id action p)
-    at None e = refl_after test excused p
+    at : (o : Option Future) → slice_get p.futures id ≡ o → IsAfter test grown excused p (registered o id action p)
+    at None e = refl_after test grown excused p
     at (Some future) e = until future e future.outcome
 
-pub asked_after : (test : Value → Bool) (excused : Option ℕ) (id : ℕ) (p : Parts) → IsAfter test excused p (mark_asked id p)
-asked_after test excused id p = at (slice_get p.futures id) refl
+pub asked_after : (test : Value → Bool) (grown : Bool) (excused : Option ℕ) (id : ℕ) (p : Parts) → IsAfter test grown excused p (mark_asked id p)
+asked_after test grown excused id p = at (slice_get p.futures id) refl
   where
     plain : (kind : FutureKind) → is_plain_kind (asked_kind kind) ≡ is_plain_kind kind
     plain Plain = refl
@@ -90,12 +91,12 @@ asked_after test excused id p = at (slice_get p.futures id) refl
     plain (Many members asked) = refl
 
     at : (o : Option Future) → slice_get p.futures id ≡ o
-        → IsAfter test excused p (option_map_or (λ (f : Future). with_future id (asked_as f) p) o p)
-    at None e = refl_after test excused p
-    at (Some future) e = future_after test excused id p future (asked_as future) e refl (plain future.kind) refl
+        → IsAfter test grown excused p (option_map_or (λ (f : Future). with_future id (asked_as f) p) o p)
+    at None e = refl_after test grown excused p
+    at (Some future) e = future_after test grown excused id p future (asked_as future) e refl (plain future.kind) refl
 
 -- ---- what is made
-module _ (test : Value → Bool) (excused : Option ℕ) (p : Parts) where
+module _ (test : Value → Bool) (grown : Bool) (excused : Option ℕ) (p : Parts) where
   module _ (kind : FutureKind) where
     abbrev q : Parts
     q = make_future kind p
@@ -136,13 +137,14 @@ module _ (test : Value → Bool) (excused : Option ℕ) (p : Parts) where
         at (Some t) e = refl
         at None e = absurd (omega (arith, within, none_past p.tasks task e))
 
-    pub make_after : IsAfter test excused p q
+    pub make_after : IsAfter test grown excused p q
     make_after = record {
       next = le_refl _;
       tags = λ kind tag h. le_refl _;
       steps = λ task h. le_refl _;
       futures = let a = longer in omega (arith, a);
       tasks = le_refl _;
+      same = λ g. refl;
       owned = own;
       pends = is_new;
       plain = old_plain;
@@ -164,13 +166,14 @@ module _ (test : Value → Bool) (excused : Option ℕ) (p : Parts) where
   abbrev with_task : Task → Parts
   with_task it = record p { tasks = p.tasks ++ it ∷ [] }
 
-  pub task_after : (it : Task) → IsAfter test excused p (with_task it)
+  pub task_after : (it : Task) → IsAfter test true excused p (with_task it)
   task_after it = record {
     next = le_refl _;
     tags = λ kind tag h. le_refl _;
     steps = λ task h. le_refl _;
     futures = le_refl _;
     tasks = let a = length-append p.tasks (it ∷ []) in omega (arith, a);
+    same = λ g. absurd (false≢true (sym g));
     owned = λ task h. own task h;
     pends = λ j h. inl h;
     plain = λ j h. h;
@@ -188,15 +191,15 @@ module _ (test : Value → Bool) (excused : Option ℕ) (p : Parts) where
           ap (λ (o : Option Task). option_map_or (λ (t : Task). t.future) o (next_future p))
           (get-push_other p.tasks it task (λ e. absurd (omega (arith, h, e))))
 
-pub spawn_after : (test : Value → Bool) (excused : Option ℕ) (p : Parts) → IsAfter test excused p (spawn p)
+pub spawn_after : (test : Value → Bool) (excused : Option ℕ) (p : Parts) → IsAfter test true excused p (spawn p)
 spawn_after test excused p =
     let made = make_future (OfTask (next_task p)) p in
     let it : Task = record { future = next_future p; waiter = None; cancels = 0; must_cancel = false } in
-    after_on test excused p made (spawn p)
-    (after_on test excused made (record made { tasks = made.tasks ++ it ∷ [] }) (spawn p)
-    (soon_after test excused (Step (next_task p)) (record made { tasks = made.tasks ++ it ∷ [] }) refl)
-    (task_after test excused made it))
-    (make_after test excused p (OfTask (next_task p)))
+    after_on test true excused p made (spawn p)
+    (after_on test true excused made (record made { tasks = made.tasks ++ it ∷ [] }) (spawn p)
+    (soon_after test true excused (Step (next_task p)) (record made { tasks = made.tasks ++ it ∷ [] }) refl)
+    (task_after test true excused made it))
+    (make_after test true excused p (OfTask (next_task p)))
 
 -- ---- timers fall due
 module _ (test : ℕ → Action → Bool) where
@@ -283,9 +286,9 @@ due-handles kind p =
     let b = by_deadline-where kind (early p.time p.timers) in
     omega (arith, a, b)
 
-pub due_after : (test : Value → Bool) (excused : Option ℕ) (p : Parts) → AreTimed p → IsAfter test excused p (due p)
-due_after test excused p timed =
-    same_after test excused p (due p) (due-futures p) (ap length (due-tasks p))
+pub due_after : (test : Value → Bool) (grown : Bool) (excused : Option ℕ) (p : Parts) → AreTimed p → IsAfter test grown excused p (due p)
+due_after test grown excused p timed =
+    same_after test grown excused p (due p) (due-futures p) (ap length (due-tasks p))
     (λ task. ap (λ (l : List Task). option_map_or (λ (t : Task). t.future) (slice_get l task) (next_future (due p))) (due-tasks p)
     ∙ ap (λ (l : List Future). option_map_or (λ (t : Task). t.future) (slice_get p.tasks task) (length l)) (due-futures p))
     (let a = fall_due-next (fallen_due p) (without_due p) in omega (arith, a))

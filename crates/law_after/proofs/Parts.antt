@@ -28,15 +28,16 @@ use Rattle.law_timeouts.proofs.Entries.{of_tag, entries-soon, entries-later, ent
 use Rattle.law_timeouts.proofs.Quiet.{handles-first}
 use Rattle.law_after.specs.After.{is_step, HasIn, OutcomeIn, IsAfter}
 
-module _ (test : Value → Bool) where
+module _ (test : Value → Bool) (grown : Bool) where
   -- ---- one after another
-  pub refl_after : (excused : Option ℕ) (p : Parts) → IsAfter test excused p p
+  pub refl_after : (excused : Option ℕ) (p : Parts) → IsAfter test grown excused p p
   refl_after excused p = record {
     next = le_refl p.next_tag;
     tags = λ kind tag h. le_refl _;
     steps = λ task h. le_refl _;
     futures = le_refl _;
     tasks = le_refl _;
+    same = λ g. refl;
     owned = λ task h. refl;
     pends = λ id h. inl h;
     plain = λ id h. h;
@@ -44,7 +45,7 @@ module _ (test : Value → Bool) where
     main = λ h. h;
   }
 
-  pub after_on : (excused : Option ℕ) (p q r : Parts) → IsAfter test excused q r → IsAfter test excused p q → IsAfter test excused p r
+  pub after_on : (excused : Option ℕ) (p q r : Parts) → IsAfter test grown excused q r → IsAfter test grown excused p q → IsAfter test grown excused p r
   after_on excused p q r b a = record {
     next = let x = a.next in let y = b.next in omega (arith, x, y);
     tags = λ kind tag h.
@@ -55,6 +56,7 @@ module _ (test : Value → Bool) where
     steps = λ task h. let x = a.steps task h in let y = b.steps task h in omega (arith, x, y);
     futures = let x = a.futures in let y = b.futures in omega (arith, x, y);
     tasks = let x = a.tasks in let y = b.tasks in omega (arith, x, y);
+    same = λ g. b.same g ∙ a.same g;
     owned = λ task h. let n = a.tasks in b.owned task (omega (arith, h, n)) ∙ a.owned task h;
     pends = λ id h. before id (b.pends id h);
     plain = λ id h. b.plain id (a.plain id h);
@@ -67,13 +69,14 @@ module _ (test : Value → Bool) where
       before id (inr h) = let n = a.futures in inr (omega (arith, n, h))
 
   -- whom a step excuses no more
-  pub after_free : (excused : Option ℕ) (p q : Parts) → IsAfter test None p q → IsAfter test excused p q
+  pub after_free : (excused : Option ℕ) (p q : Parts) → IsAfter test grown None p q → IsAfter test grown excused p q
   after_free excused p q a = record {
     next = a.next;
     tags = a.tags;
     steps = λ task h. a.steps task refl;
     futures = a.futures;
     tasks = a.tasks;
+    same = a.same;
     owned = a.owned;
     pends = a.pends;
     plain = a.plain;
@@ -95,13 +98,14 @@ module _ (test : Value → Bool) where
       → ((task : ℕ) → future_of q task ≡ future_of p task) → p.next_tag ≤ q.next_tag
       → ((kind : ℕ → Action → Bool) (tag : ℕ) → tag < p.next_tag → entries (of_tag tag kind) q ≤ entries (of_tag tag kind) p)
       → ((task : ℕ) → is_running excused task ≡ false → pending_where (is_step task) p.pending ≤ pending_where (is_step task) q.pending)
-      → pending_where is_main_done q.pending ≤ pending_where is_main_done p.pending → IsAfter test excused p q
+      → pending_where is_main_done q.pending ≤ pending_where is_main_done p.pending → IsAfter test grown excused p q
   same_after excused p q fs ts own next tags steps fewer = record {
     next = next;
     tags = tags;
     steps = steps;
     futures = let b : next_future q ≡ next_future p = ap length fs in omega (arith, b);
     tasks = omega (arith, ts);
+    same = λ g. ts;
     owned = λ task h. own task;
     pends = λ id h. inl (sym (ap (λ (l : List Future). is_pending_at (slice_get l id)) fs) ∙ h);
     plain = λ id h. ap (λ (l : List Future). is_plain_at (slice_get l id)) fs ∙ h;
@@ -113,14 +117,14 @@ module _ (test : Value → Bool) where
   new_tag : (kind : ℕ → Action → Bool) (tag next : ℕ) (action : Action) → tag < next → ◌≡◌ {A = ℕ} (cond (of_tag tag kind next action) 1 0) 0
   new_tag kind tag next action h = ap (λ b. cond (b && kind next action) 1 0) (ne_eqb next tag (λ e. absurd (omega (arith, h, e))))
 
-  pub soon_after : (excused : Option ℕ) (action : Action) (p : Parts) → is_main_done action ≡ false → IsAfter test excused p (soon action p)
+  pub soon_after : (excused : Option ℕ) (action : Action) (p : Parts) → is_main_done action ≡ false → IsAfter test grown excused p (soon action p)
   soon_after excused action p other =
       same_after excused p (soon action p) refl refl (λ t. refl) (omega arith)
       (λ kind tag h. let a = entries-soon (of_tag tag kind) action p in let b = new_tag kind tag p.next_tag action h in omega (arith, a, b))
       (λ task h. let a = soon-where (is_step task) action p in omega (arith, a))
       (let a = soon-where is_main_done action p in let b : ◌≡◌ {A = ℕ} (cond (is_main_done action) 1 0) 0 = ap (λ x. cond x 1 0) other in omega (arith, a, b))
 
-  pub later_after : (excused : Option ℕ) (when : ℕ) (action : Action) (p : Parts) → IsAfter test excused p (later when action p)
+  pub later_after : (excused : Option ℕ) (when : ℕ) (action : Action) (p : Parts) → IsAfter test grown excused p (later when action p)
   later_after excused when action p =
       same_after excused p (later when action p) refl refl (λ t. refl) (omega arith)
       (λ kind tag h. let a = entries-later (of_tag tag kind) when action p in let b = new_tag kind tag p.next_tag action h in omega (arith, a, b))
@@ -128,7 +132,7 @@ module _ (test : Value → Bool) where
 
   -- a tag that names no step
   pub revoke_after : (excused : Option ℕ) (tag : ℕ) (p : Parts)
-      → ((task : ℕ) → entries (of_tag tag (λ other. is_step task)) p ≡ 0) → IsAfter test excused p (revoke tag p)
+      → ((task : ℕ) → entries (of_tag tag (λ other. is_step task)) p ≡ 0) → IsAfter test grown excused p (revoke tag p)
   revoke_after excused tag p none =
       same_after excused p (revoke tag p) refl refl (λ t. refl) (omega arith)
       (λ kind other h. let a = entries-revoke (of_tag other kind) tag p in omega (arith, a))
@@ -138,7 +142,7 @@ module _ (test : Value → Bool) where
   -- the first handle is taken out, a step of nobody else
   pub taken_after : (excused : Option ℕ) (handle : Handle) (rest : List Handle) (p : Parts) → p.pending ≡ handle ∷ rest
       → ((task : ℕ) → is_running excused task ≡ false → (not handle.dead && is_step task handle.action) ≡ false)
-      → IsAfter test excused p (taken rest p)
+      → IsAfter test grown excused p (taken rest p)
   taken_after excused handle rest p first none =
       same_after excused p (taken rest p) refl refl (λ t. refl) (omega arith)
       (λ kind tag h. let a = handles-first (of_tag tag kind) handle rest p first in omega (arith, a))
@@ -150,7 +154,7 @@ module _ (test : Value → Bool) where
 
   -- ---- tasks
   pub change_after : (excused : Option ℕ) (id : ℕ) (change : Task → Task) (p : Parts) → ((t : Task) → (change t).future ≡ t.future)
-      → IsAfter test excused p (change_task id change p)
+      → IsAfter test grown excused p (change_task id change p)
   change_after excused id change p future =
       same_after excused p (change_task id change p) (change_task-futures id change p) (length-change_task id change p) own next
       (λ kind tag h. entered kind tag)
@@ -291,13 +295,14 @@ module _ (test : Value → Bool) where
             (m.registered id (subst (λ o. 0 < count_by is_main_done (callbacks_at o)) (sym e) some)) is_done
         over (inr none) h = let c = called is_main_done in done_stays (future_of p 0) (m.pending (omega (arith, c, none, h)))
 
-    ended_after : (excused : Option ℕ) → OutcomeIn test outcome → IsAfter test excused p after
+    ended_after : (excused : Option ℕ) → OutcomeIn test outcome → IsAfter test grown excused p after
     ended_after excused good = record {
       next = soon_all-next future.callbacks (with_future id ended p);
       tags = λ kind tag h. soon_all-tags future.callbacks (with_future id ended p) kind tag h;
       steps = λ task h. let c = called (is_step task) in omega (arith, c);
       futures = let a = made in omega (arith, a);
       tasks = let b : next_task after ≡ next_task p = ap length ts in omega (arith, b);
+      same = λ g. ap length ts;
       owned = λ task h. own task;
       pends = λ j h. inl (pends j h);
       plain = λ j h. plains j ∙ h;
@@ -306,14 +311,14 @@ module _ (test : Value → Bool) where
     }
 
   pub settle_after : (excused : Option ℕ) (id : ℕ) (outcome : Outcome) (p : Parts) → OutcomeIn test outcome
-      → IsAfter test excused p (settle id outcome p)
+      → IsAfter test grown excused p (settle id outcome p)
   settle_after excused id outcome p good = at (slice_get p.futures id) refl
     where
       until : (future : Future) → slice_get p.futures id ≡ Some future → (o : Option Outcome) → future.outcome ≡ o
-          → IsAfter test excused p (settled_as o id future outcome p)
+          → IsAfter test grown excused p (settled_as o id future outcome p)
       until future e (Some done) o = refl_after excused p
       until future e None o = ended_after id outcome p future e o excused good
 
-      at : (o : Option Future) → slice_get p.futures id ≡ o → IsAfter test excused p (settled o id outcome p)
+      at : (o : Option Future) → slice_get p.futures id ≡ o → IsAfter test grown excused p (settled o id outcome p)
       at None e = refl_after excused p
       at (Some future) e = until future e future.outcome refl

@@ -31,8 +31,9 @@ abbrev pub OutcomeIn : (Value → Bool) → Outcome → Type 0
 OutcomeIn test (Returned value) = test value ≡ true
 OutcomeIn test _ = Unit {0}
 
--- `q` is after `p`, by something that may take a step of the excused task out. The test is of a kind of values.
-pub record IsAfter (test : Value → Bool) (excused : Option ℕ) (p q : Parts) : Type 0 where
+-- `q` is after `p`, by something that may make a task where `grown` says so, and may take a step of the excused task out. The
+-- test is of a kind of values.
+pub record IsAfter (test : Value → Bool) (grown : Bool) (excused : Option ℕ) (p q : Parts) : Type 0 where
   -- what a tag that was given names is what it named, or nothing
   pub next : p.next_tag ≤ q.next_tag
   pub tags : (kind : ℕ → Action → Bool) (tag : ℕ) → tag < p.next_tag → entries (of_tag tag kind) q ≤ entries (of_tag tag kind) p
@@ -42,6 +43,7 @@ pub record IsAfter (test : Value → Bool) (excused : Option ℕ) (p q : Parts) 
   -- tasks and futures stay, and what is done stays so
   pub futures : next_future p ≤ next_future q
   pub tasks : next_task p ≤ next_task q
+  pub same : grown ≡ false → next_task q ≡ next_task p
   pub owned : (task : ℕ) → task < next_task p → future_of q task ≡ future_of p task
   pub pends : (id : ℕ) → is_pending q id ≡ true → (is_pending p id ≡ true) ⊎ (next_future p ≤ id)
   pub plain : (id : ℕ) → is_plain p id ≡ true → is_plain q id ≡ true
@@ -53,17 +55,18 @@ pub record TimeoutAfter (left : Bool) (a b : Timeout) : Type 0 where
   pub task : b.task ≡ a.task
   pub open_ : left ≡ false → is_open b.state ≡ is_open a.state
 
--- of a group, whose exit may end
-pub record GroupAfter (left : Bool) (g h : Group) : Type 0 where
+-- of a group, whose exit may end, or begin
+pub record GroupAfter (left begun : Bool) (g h : Group) : Type 0 where
   pub parent : h.parent ≡ g.parent
   pub entered : h.entered ≡ g.entered
   pub ended : left ≡ false → h.ended ≡ g.ended
   pub exiting : g.exiting ≡ true → h.exiting ≡ true
+  pub still : begun ≡ false → h.exiting ≡ g.exiting
 
--- of the loop, where this timeout may be left, or this group, and none comes
-pub record IsLoopAfter (test : Value → Bool) (excused timeout group : Option ℕ) (l m : Loop) : Type 0 where
-  pub parts : IsAfter test excused l.parts m.parts
+-- of the loop, where this timeout may be left, this group may end, and the exit of this one may begin, and none comes
+pub record IsLoopAfter (test : Value → Bool) (grown : Bool) (excused timeout group begun : Option ℕ) (l m : Loop) : Type 0 where
+  pub parts : IsAfter test grown excused l.parts m.parts
   pub timeouts_made : length m.timeouts ≡ length l.timeouts
   pub groups_made : length m.groups ≡ length l.groups
   pub timeouts : (id : ℕ) → TimeoutAfter (is_running timeout id) (timeout_of l id) (timeout_of m id)
-  pub groups : (id : ℕ) → GroupAfter (is_running group id) (group_of l id) (group_of m id)
+  pub groups : (id : ℕ) → GroupAfter (is_running group id) (is_running begun id) (group_of l id) (group_of m id)

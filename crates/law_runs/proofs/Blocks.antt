@@ -37,9 +37,9 @@ own_kept l m ts gs tasks parents task (block ∷ blocks) h =
     one _ k = absurd k
 
 -- ---- where none is entered or left
-pub open_kept : (test : Value → Bool) (excused : Option ℕ) (l m : Loop) (B C : ℕ → List Value) → IsLoopAfter test excused None None l m
+pub open_kept : (test : Value → Bool) (grown : Bool) (excused begun : Option ℕ) (l m : Loop) (B C : ℕ → List Value) → IsLoopAfter test grown excused None None begun l m
     → ((task : ℕ) → C task ≡ B task) → AreOpenAt l B → AreOpenAt m C
-open_kept test excused l m B C a same is = record {
+open_kept test grown excused begun l m B C a same is = record {
   timeouts = λ id h.
       let t = a.timeouts id in
       t.open_ refl ∙ is.timeouts id (let e = a.timeouts_made in omega (arith, e, h))
@@ -146,9 +146,9 @@ module _ (l : Loop) (task : ℕ) (B C : ℕ → List Value) (others : (other : �
           (ne_eqb id (length l.timeouts) (λ e. n (sym e))) (timeout_of l id).task)
           ∙ ap (λ (t : TimeoutFields). list_any (equal (Timeout id)) (C t.task)) (sym (other_timeout task l id n))
 
-  pub timeout_left_open : (test : Value → Bool) (excused : Option ℕ) (m : Loop) (id : ℕ) → IsLoopAfter test excused (Some id) None l m
+  pub timeout_left_open : (test : Value → Bool) (grown : Bool) (excused begun : Option ℕ) (m : Loop) (id : ℕ) → IsLoopAfter test grown excused (Some id) None begun l m
       → is_open (timeout_of m id).state ≡ false → B task ≡ Timeout id ∷ C task → AreOpenAt m C
-  timeout_left_open test excused m id a closed less = record {
+  timeout_left_open test grown excused begun m id a closed less = record {
     timeouts = λ j h. at j h (cases_eq id j);
     groups = λ j h.
         let g = a.groups j in
@@ -230,9 +230,9 @@ module _ (l : Loop) (task : ℕ) (B C : ℕ → List Value) (others : (other : �
           (ne_eqb id (length l.groups) (λ e. n (sym e))) (group_of l id).parent)
           ∙ ap (λ (g : GroupFields). list_any (equal (Group id)) (C g.parent)) (sym (entered_old task l id within))
 
-  pub group_left_open : (test : Value → Bool) (excused : Option ℕ) (m : Loop) (id : ℕ) → IsLoopAfter test excused None (Some id) l m
+  pub group_left_open : (test : Value → Bool) (grown : Bool) (excused begun : Option ℕ) (m : Loop) (id : ℕ) → IsLoopAfter test grown excused None (Some id) begun l m
       → (group_of m id).ended ≡ true → B task ≡ Group id ∷ C task → AreOpenAt m C
-  group_left_open test excused m id a ended less = record {
+  group_left_open test grown excused begun m id a ended less = record {
     timeouts = λ j h.
         let t = a.timeouts j in
         t.open_ refl ∙ is.timeouts j (let e = a.timeouts_made in omega (arith, e, h))

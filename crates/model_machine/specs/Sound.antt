@@ -90,6 +90,12 @@ pub record StandsRightly {S : Type 0} (s : State S) (task : ℕ) : Type 0 where
   pub leaving_now : (id : ℕ) → (generator_of task s).standing ≡ Leaving id
       → ((group_of s.loop id).exiting && not (group_of s.loop id).ended) ≡ true
 
+-- a group whose exit has begun and hasn't ended is the one at whose exit its parent stands
+abbrev pub AreExitsStood : {S : Type 0} → State S → Type 0
+AreExitsStood s =
+    (id : ℕ) → ((group_of s.loop id).exiting && not (group_of s.loop id).ended) ≡ true
+    → (generator_of (group_of s.loop id).parent s).standing ≡ Leaving id
+
 -- ---- open blocks
 abbrev pub is_open : TimeoutState → Bool
 is_open Active = true
@@ -171,6 +177,7 @@ pub record IsStateSound {S : Type 0} (added : Extra S) (s : State S) : Type 0 wh
   pub loop : IsSound None (told_in s.events) s.loop
   pub tasks : AreTasksSound added s
   pub standing : (task : ℕ) → lives s.loop.parts task ≡ true → StandsRightly s task
+  pub exits : AreExitsStood s
   pub blocks : AreBlocksOpen s
   pub futures : AreScriptsFutures s
   pub made : AreTasksMade s
