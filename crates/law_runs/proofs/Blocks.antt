@@ -181,15 +181,15 @@ module _ (l : Loop) (task : ℕ) (B C : ℕ → List Value) (others : (other : �
 abbrev pub entered_new : ℕ → Loop → Loop
 entered_new task l = enter_group (length l.groups) (make_group task l)
 
-groups_longer : (task : ℕ) (l : Loop) → length (entered_new task l).groups ≡ length l.groups + 1
+pub groups_longer : (task : ℕ) (l : Loop) → length (entered_new task l).groups ≡ length l.groups + 1
 groups_longer task l = length-set (make_group task l).groups (length l.groups) _ ∙ length-append l.groups _
 
-entered_is : (task : ℕ) (l : Loop) → group_of (entered_new task l) (length l.groups) ≡ record (new_group task) { entered = true }
+pub entered_is : (task : ℕ) (l : Loop) → group_of (entered_new task l) (length l.groups) ≡ record (new_group task) { entered = true }
 entered_is task l =
     group_same (length l.groups) _ (make_group task l) (let e : length (make_group task l).groups ≡ length l.groups + 1 = length-append l.groups _ in omega (arith, e))
     ∙ ap (λ (g : GroupFields). record g { entered = true }) (push_last l.groups (new_group task) (new_group 0))
 
-entered_old : (task : ℕ) (l : Loop) (id : ℕ) → id < length l.groups → group_of (entered_new task l) id ≡ group_of l id
+pub entered_old : (task : ℕ) (l : Loop) (id : ℕ) → id < length l.groups → group_of (entered_new task l) id ≡ group_of l id
 entered_old task l id h =
     group_other (length l.groups) id _ (make_group task l) (λ e. absurd (omega (arith, h, e)))
     ∙ push_within l.groups (new_group task) id (new_group 0) h

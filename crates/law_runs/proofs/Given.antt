@@ -144,7 +144,7 @@ module _ {S : Type 0} (added : Extra S) (task coroutine : ℕ) (arguments : List
   count_is : length t.generators ≡ next_task s.loop.parts
   count_is = ap length tapes.generators ∙ is.generators
 
-  old_same : (other : ℕ) → other < next_task s.loop.parts → generator_of other u ≡ generator_of other s
+  pub old_same : (other : ℕ) → other < next_task s.loop.parts → generator_of other u ≡ generator_of other s
   old_same other h =
       added_same coroutine arguments t other (let c = count_is in omega (arith, h, c))
       ∙ ap (λ gs. slice_index_or gs other (generator 0 [])) tapes.generators

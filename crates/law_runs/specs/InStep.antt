@@ -1,5 +1,5 @@
 -- A sound state inside a step of a task: the same as between two callbacks, but for the task that runs.
-use Rattle.std.specs.Prelude.{◌≡◌, ℕ, Bool, true, false, not, ◌&&◌, List, [], Option, Some, None, length}
+use Rattle.std.specs.Prelude.{◌≡◌, ℕ, zero, suc, Bool, true, false, not, ◌&&◌, List, [], ◌∷◌, Option, Some, None, length}
 use Rattle.model_value.specs.declared.input.Input.TheVariants.{Send, Throw}
 use Rattle.model_value.specs.Request.{Request}
 use Rattle.model_says.specs.Endings.{Asks}
@@ -9,11 +9,13 @@ use Rattle.model_loop.specs.Sound.{IsSound}
 use Rattle.model_loop.specs.Tasks.{lives, next_task}
 use Rattle.model_loop.specs.Ways.{is_running}
 use Rattle.model_machine.specs.Extra.{Extra}
+use Rattle.model_machine.specs.Mids.{mids}
 use Rattle.model_machine.specs.Replies.{Reply, Answers, Raises, Rests, Halts}
 use Rattle.model_machine.specs.Sound.{AreBlocksOpen, AreScriptsFutures, AreTasksMade, IsAsking, IsMainTold, IsStateSound, IsUnbegun, StandsRightly}
 use Rattle.model_machine.specs.State.{Standing, Asked, Leaving, State, generator_of, resumed}
 use Rattle.model_machine.specs.Step.{says_of}
 use Rattle.model_machine.specs.Told.{told_in}
+use Rattle.model_machine.specs.Turn.{turn}
 use Rattle.model_machine.specs.Went.{Went, Goes, Stops}
 
 -- a group whose exit has begun and hasn't ended
@@ -61,3 +63,18 @@ RepliesInStep added fresh task (Halts end last) = Unit {0}
 abbrev pub LeavesStateSound : {S : Type 0} → Extra S → Went S → Type 0
 LeavesStateSound added (Goes now) = IsStateSound added now
 LeavesStateSound added (Stops end last) = Unit {0}
+
+-- all of these states are sound
+abbrev pub AreStatesSound : {S : Type 0} → Extra S → List (State S) → Type 0
+AreStatesSound added [] = Unit {0}
+AreStatesSound added (s ∷ states) = IsStateSound added s × AreStatesSound added states
+
+abbrev pub Afterwards : {S : Type 0} → (State S → Type 0) → Went S → Type 0
+Afterwards then_ (Goes now) = then_ now
+Afterwards then_ (Stops end last) = Unit {0}
+
+-- Of a run of so many turns from a state on: each state between two turns, and each between two callbacks of a turn, is sound.
+unfoldable pub IsRunSound : {S : Type 0} → Extra S → (turns : ℕ) → State S → Type 0
+IsRunSound added zero s = IsStateSound added s
+IsRunSound added (suc turns) s =
+    IsStateSound added s × AreStatesSound added (mids step_limit added s) × Afterwards (IsRunSound added turns) (turn step_limit added s)
