@@ -109,7 +109,7 @@ module _ {S : Type 0} (added : Extra S) (keeps : KeepsSound added) (task : ℕ) 
       (begins_in added s task input handle rest first live mine sound keeps given_)
 
 -- ---- what a task is woken with
-woken_made : {S : Type 0} (added : Extra S) (s : State S) → IsStateSound added s → (task : ℕ)
+pub woken_made : {S : Type 0} (added : Extra S) (s : State S) → IsStateSound added s → (task : ℕ)
     → sends_made (next_task s.loop.parts) (woken_with s.loop.parts task) ≡ true
 woken_made added s sound task = at (waiter_of s.loop.parts task)
   where

@@ -12,3 +12,5 @@ pub mod Replying
 pub mod Finishing
 pub mod Beginning
 pub mod Callbacks
+pub mod Turning
+pub mod Nothing

@@ -43,7 +43,7 @@ use Rattle.law_after.proofs.Exits.{exit_begin_loop, exit_begin_leaves, exit_begi
 use Rattle.law_after.proofs.Loops.{parts_loop}
 use Rattle.law_after.proofs.Requests.{finish_after, ResultIn}
 use Rattle.law_runs.specs.Added.{KeepsSound}
-use Rattle.law_runs.specs.InStep.{IsLeft, IsStepSound, IsAsked, RepliesInStep}
+use Rattle.law_runs.specs.InStep.{IsLeft, IsStepSound, IsAsked, RepliesInStep, is_added}
 use Rattle.law_runs.proofs.Answering.{half, alive, within, awaited_there, left_before, plain_futures, step_to}
 use Rattle.law_runs.proofs.Blocks.{open_kept}
 use Rattle.law_runs.proofs.Counts.{and_both, not_false, lives_before, lives_within}
@@ -54,11 +54,6 @@ use Rattle.law_runs.proofs.Innermost.{innermost_timeout, innermost_group}
 use Rattle.law_runs.proofs.Keeping.{joined, open_of, with_open, tapes_blocks, futures_kept, loop_keeps, stays_stood, leaves_none}
 use Rattle.law_runs.proofs.Table.{same_tapes, self, thrown, given_in, numbered_in, answered, valued, pauses_in, awaits_in, sleeps_in, result_in, settles_in, requests_in, uncancels_in, makes_future_in}
 use Rattle.law_runs.proofs.Tapes.{past_default}
-
--- what is added is served by itself
-abbrev pub is_added : Request → Bool
-is_added (request.Extra code arguments) = true
-is_added _ = false
 
 same_open : (state : TimeoutState) → is_open state ≡ true → is_open_there state ≡ true
 same_open Active h = refl

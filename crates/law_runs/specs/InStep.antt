@@ -1,6 +1,7 @@
 -- A sound state inside a step of a task: the same as between two callbacks, but for the task that runs.
 use Rattle.std.specs.Prelude.{◌≡◌, ℕ, zero, suc, Bool, true, false, not, ◌&&◌, List, [], ◌∷◌, Option, Some, None, length}
 use Rattle.model_value.specs.declared.input.Input.TheVariants.{Send, Throw}
+use Rattle.model_value.specs.declared.request.Request.TheVariants as request
 use Rattle.model_value.specs.Request.{Request}
 use Rattle.model_says.specs.Endings.{Asks}
 use Rattle.model_says.specs.Says.{step_limit}
@@ -78,3 +79,8 @@ unfoldable pub IsRunSound : {S : Type 0} → Extra S → (turns : ℕ) → State
 IsRunSound added zero s = IsStateSound added s
 IsRunSound added (suc turns) s =
     IsStateSound added s × AreStatesSound added (mids step_limit added s) × Afterwards (IsRunSound added turns) (turn step_limit added s)
+
+-- a request that is added to the loop's own
+abbrev pub is_added : Request → Bool
+is_added (request.Extra code arguments) = true
+is_added _ = false
