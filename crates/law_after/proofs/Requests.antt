@@ -13,7 +13,7 @@ use Rattle.model_loop.specs.Parts.{Parts}
 use Rattle.model_loop.specs.Suspend.{cancel_wait, suspend, suspend_unless, wait_on}
 use Rattle.model_loop.specs.Tasks.{begin_step, finish, future_of, is_cancelled, is_marked, lives, set_waiter, unmark}
 use Rattle.law_settling.proofs.Spreading.{Spreads, begins, settles, asks, raises, marks, with_spread}
-use Rattle.law_after.specs.After.{OutcomeIn, IsAfter}
+use Rattle.law_after.specs.After.{OutcomeIn, ResultIn, IsAfter}
 use Rattle.law_after.proofs.Parts.{refl_after, after_on, soon_after, change_after, settle_after}
 use Rattle.law_after.proofs.Made.{register_after, asked_after}
 
@@ -67,12 +67,7 @@ module _ (test : Value → Bool) (grown : Bool) (excused : Option ℕ) where
       at (Some it) = soon_after test grown excused (StepInCircle task it) p refl
       at None = after_on test grown excused p (wait_on task on p) _ (waits (is_marked p task) (wait_on task on p)) (waited_after task on p)
 
-  -- the end of a task, with a value that passes
-  abbrev pub ResultIn : Result Value Exc → Type 0
-  ResultIn (Ok value) = test value ≡ true
-  ResultIn (Err fault) = Unit {0}
-
-  pub finish_after : (task : ℕ) (end : Result Value Exc) (p : Parts) → ResultIn end → IsAfter test grown excused p (finish task end p)
+  pub finish_after : (task : ℕ) (end : Result Value Exc) (p : Parts) → ResultIn test end → IsAfter test grown excused p (finish task end p)
   finish_after task (Ok value) p good =
       after_on test grown excused p (unmark task p) _
       (settle_after test grown excused (future_of p task) (if is_marked p task then Cancelled else Returned value) (unmark task p) (at (is_marked p task)))

@@ -1,10 +1,10 @@
 -- What a step of the loop leaves to whoever looks from above: which handles are still to come, which tasks live and which
 -- futures are plain, which values futures have, and of timeouts and groups whether their blocks are open.
-use Rattle.std.specs.Prelude.{◌≡◌, ℕ, ◌≤◌, ◌<◌, ◌⊎◌, Bool, true, false, ◌==◌, Option, Some, None, length}
+use Rattle.std.specs.Prelude.{◌≡◌, ℕ, ◌≤◌, ◌<◌, ◌⊎◌, Bool, true, false, ◌==◌, Option, Some, None, Result, Ok, Err, length}
 use Rattle.model_value.specs.Action.{Action}
 use Rattle.model_value.specs.declared.action.Action.TheVariants.{Step}
 use Rattle.model_value.specs.declared.outcome.Outcome.TheVariants.{Value as Returned}
-use Rattle.model_value.specs.Value.{Value, Outcome}
+use Rattle.model_value.specs.Value.{Value, Exc, Outcome}
 use Rattle.model_loop.specs.Entries.{entries}
 use Rattle.model_loop.specs.Futures.{future_outcome, is_pending, next_future}
 use Rattle.model_loop.specs.Groups.{group_of}
@@ -30,6 +30,11 @@ HasIn test p = (id : ℕ) (value : Value) → future_outcome p id ≡ Some (Retu
 abbrev pub OutcomeIn : (Value → Bool) → Outcome → Type 0
 OutcomeIn test (Returned value) = test value ≡ true
 OutcomeIn test _ = Unit {0}
+
+-- the end of a task, with a value that passes
+abbrev pub ResultIn : (Value → Bool) → Result Value Exc → Type 0
+ResultIn test (Ok value) = test value ≡ true
+ResultIn test (Err fault) = Unit {0}
 
 -- `q` is after `p`, by something that may make a task where `grown` says so, and may take a step of the excused task out. The
 -- test is of a kind of values.

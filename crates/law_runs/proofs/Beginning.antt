@@ -42,17 +42,17 @@ use Rattle.law_after.proofs.Parts.{refl_after, after_on, taken_after, revoke_aft
 use Rattle.law_after.proofs.Requests.{begin_after}
 use Rattle.law_after.proofs.Loops.{parts_loop, refl_loop}
 use Rattle.law_after.proofs.Exits.{exit_woken_loop, exit_woken_leaves}
-use Rattle.law_runs.specs.Added.{KeepsSound}
-use Rattle.law_runs.specs.InStep.{IsLeft, IsStepSound, IsAsked, RepliesInStep}
-use Rattle.law_runs.proofs.Answering.{half, left_before, step_to}
-use Rattle.law_runs.proofs.Blocks.{open_kept}
-use Rattle.law_runs.proofs.Counts.{and_first, and_second, and_both, not_true, lives_before, lives_within, no_sleep_of, sleep_none}
-use Rattle.law_runs.proofs.Exiting.{group_there, exits_in, leaving_is}
-use Rattle.law_runs.proofs.Given.{asked_leaves}
-use Rattle.law_runs.proofs.Innermost.{innermost_group}
-use Rattle.law_runs.proofs.Keeping.{IsApart, SameTapes, apart_of, but_none, open_of, with_open, says_same, tapes_blocks, futures_kept, loop_keeps, stays_stood, leaves_none, stood_standing, stood_tape, stood_says, stood_blocks, stands_keeps}
-use Rattle.law_runs.proofs.Table.{same_tapes, sleeps_leaves}
-use Rattle.law_runs.proofs.Tapes.{past_default}
+use Rattle.law_replies.specs.Added.{KeepsSound}
+use Rattle.law_inside.specs.InStep.{IsLeft, IsStepSound, IsAsked, RepliesInStep, SameTapes}
+use Rattle.law_replies.proofs.Answering.{half, left_before, step_to}
+use Rattle.law_inside.proofs.Blocks.{open_kept}
+use Rattle.law_inside.proofs.Counts.{and_first, and_second, and_both, not_true, lives_before, lives_within, no_sleep_of, sleep_none}
+use Rattle.law_replies.proofs.Exiting.{group_there, exits_in, leaving_is}
+use Rattle.law_inside.proofs.Given.{asked_leaves}
+use Rattle.law_replies.proofs.Innermost.{innermost_group}
+use Rattle.law_inside.proofs.Keeping.{IsApart, apart_of, but_none, open_of, with_open, says_same, tapes_blocks, futures_kept, loop_keeps, stays_stood, leaves_none, stood_standing, stood_tape, stood_says, stood_blocks, stands_keeps}
+use Rattle.law_replies.proofs.Table.{same_tapes, sleeps_leaves}
+use Rattle.law_inside.proofs.Tapes.{past_default}
 
 -- ---- tests of handles
 step_steps : (task other : ℕ) (action : Action) → steps task action ≡ true → is_step other action ≡ true → task ≡ other

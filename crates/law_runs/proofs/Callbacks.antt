@@ -43,39 +43,16 @@ use Rattle.law_after.specs.After.{is_step, IsAfter, IsLoopAfter}
 use Rattle.law_after.proofs.Deadlines.{fire_loop}
 use Rattle.law_after.proofs.Loops.{child_done_loop, loop_on, parts_loop, refl_loop}
 use Rattle.law_after.proofs.Parts.{settle_after, taken_after}
-use Rattle.law_runs.specs.Added.{KeepsSound}
-use Rattle.law_runs.specs.InStep.{IsStepSound, LeavesStateSound, RepliesInStep}
+use Rattle.law_replies.specs.Added.{KeepsSound}
+use Rattle.law_inside.specs.InStep.{IsStepSound, LeavesStateSound, RepliesInStep}
 use Rattle.law_runs.proofs.Beginning.{begins_in}
-use Rattle.law_runs.proofs.Blocks.{open_kept}
-use Rattle.law_runs.proofs.Counts.{lives_before}
+use Rattle.law_inside.proofs.Blocks.{open_kept}
+use Rattle.law_inside.proofs.Counts.{lives_before}
 use Rattle.law_runs.proofs.Finishing.{returns_sound, raises_sound}
-use Rattle.law_runs.proofs.Given.{ended_made}
-use Rattle.law_runs.proofs.Keeping.{SameTapes, apart_of, but_none, open_of, with_open, whole, tapes_blocks, futures_kept, loop_keeps, stays_stood, leaves_none}
-use Rattle.law_runs.proofs.Replying.{reply_in}
-
--- ---- a step of the loop that resumes nobody
-module _ {S : Type 0} (added : Extra S) (s : State S) (sound : IsStateSound added s) where
-  pub nobody : (t : State S) → SameTapes s t → t.futures ≡ s.futures → (t.main_done ≡ true → lives t.loop.parts 0 ≡ false)
-      → IsLoopAfter (names_made (next_task s.loop.parts)) false None None None None s.loop t.loop → HasSoundLoop t → IsStateSound added t
-  nobody t tapes futures over a loop =
-      whole added t
-      (with_open added None None t
-      (loop_keeps added s t tapes None None None None a.parts (a.parts.same refl) loop (λ other f. f) over
-      (stays_stood added s t tapes None None None None _ _ None None None a (λ other id f e r. refl))
-      (leaves_none added s t tapes None None None None _ _ None None None a (λ id f. (refl, refl)))
-      (futures_kept s t futures (λ id h. a.parts.plain id h) sound.futures) (apart_of added None None s (but_none added s sound)))
-      (open_kept _ _ None None s.loop t.loop (blocks_of s) (blocks_of t) a (tapes_blocks added s t tapes None None None None)
-      (open_of added None None s sound.blocks)))
-
-  pub over_as : (l : Loop) → IsLoopAfter (names_made (next_task s.loop.parts)) false None None None None s.loop l → s.main_done ≡ true
-      → lives l.parts 0 ≡ false
-  over_as l a done = at (lives l.parts 0) refl
-    where
-      at : (b : Bool) → lives l.parts 0 ≡ b → lives l.parts 0 ≡ false
-      at false e = e
-      at true e =
-          absurd (false≢true (sym (sound.tasks.main_over done)
-          ∙ lives_before _ _ None s.loop.parts l.parts a.parts sound.loop.parts.owns 0 sound.tasks.main_told.made e))
+use Rattle.law_inside.proofs.Given.{ended_made}
+use Rattle.law_inside.proofs.Keeping.{apart_of, but_none}
+use Rattle.law_inside.proofs.Nobody.{nobody, over_as}
+use Rattle.law_replies.proofs.Replying.{reply_in}
 
 -- ---- a task's step
 module _ {S : Type 0} (added : Extra S) (keeps : KeepsSound added) (task : ℕ) where

@@ -25,17 +25,17 @@ use Rattle.law_cancel.proofs.Effects.{settle-pending}
 use Rattle.law_settling.proofs.Settling.{settle_effect}
 use Rattle.law_sound.proofs.Steps.{finish_step_sound}
 use Rattle.law_turns.specs.Fits.{HasNoOpenGroup}
-use Rattle.law_after.specs.After.{IsAfter, IsLoopAfter}
+use Rattle.law_after.specs.After.{IsAfter, IsLoopAfter, ResultIn}
 use Rattle.law_after.proofs.Loops.{parts_loop}
-use Rattle.law_after.proofs.Requests.{finish_after, ResultIn}
-use Rattle.law_runs.specs.InStep.{IsLeft, IsSoundBut, IsStepSound}
-use Rattle.law_runs.proofs.Answering.{left_before}
-use Rattle.law_runs.proofs.Blocks.{open_kept}
-use Rattle.law_runs.proofs.Counts.{lives_before, lives_within}
-use Rattle.law_runs.proofs.Given.{Made, said_made}
-use Rattle.law_runs.proofs.Keeping.{apart_of, joined, open_of, with_open, tapes_blocks, futures_kept, loop_keeps, stays_stood, leaves_none}
-use Rattle.law_runs.proofs.Tapes.{past_default}
-use Rattle.law_runs.proofs.Table.{same_tapes}
+use Rattle.law_after.proofs.Requests.{finish_after}
+use Rattle.law_inside.specs.InStep.{IsLeft, IsSoundBut, IsStepSound}
+use Rattle.law_replies.proofs.Answering.{left_before}
+use Rattle.law_inside.proofs.Blocks.{open_kept}
+use Rattle.law_inside.proofs.Counts.{lives_before, lives_within}
+use Rattle.law_inside.proofs.Given.{Made, said_made}
+use Rattle.law_inside.proofs.Keeping.{apart_of, joined, open_of, with_open, tapes_blocks, futures_kept, loop_keeps, stays_stood, leaves_none}
+use Rattle.law_inside.proofs.Tapes.{past_default}
+use Rattle.law_replies.proofs.Table.{same_tapes}
 
 settle_done : (id : ℕ) (outcome : Outcome) (p : Parts) → is_pending (settle id outcome p) id ≡ false
 settle_done id outcome p = at (slice_get p.futures id) refl
@@ -82,7 +82,7 @@ module _ {S : Type 0} (added : Extra S) (task : ℕ) (s : State S) (step : IsSte
   pub raised_free : (fault : Exc) → says_of step_limit added task s ≡ Raises fault → HasNoOpenGroup task s
   raised_free fault says = no_group (none_raised fault says)
 
-  module _ (end : Result Value Exc) (good : ResultIn (names_made (next_task s.loop.parts)) false None end) (free : HasNoOpenGroup task s) where
+  module _ (end : Result Value Exc) (good : ResultIn (names_made (next_task s.loop.parts)) end) (free : HasNoOpenGroup task s) where
     abbrev t : State S
     t = unbooked_in (finish task end) s
 

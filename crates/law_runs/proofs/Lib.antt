@@ -1,14 +1,3 @@
-pub mod Tapes
-pub mod Blocks
-pub mod Counts
-pub mod Keeping
-pub mod Given
-pub mod Answering
-pub mod Innermost
-pub mod Table
-pub mod Entering
-pub mod Exiting
-pub mod Replying
 pub mod Finishing
 pub mod Beginning
 pub mod Callbacks

@@ -12,10 +12,10 @@ use Rattle.model_machine.specs.Replies.{Reply, given, reply, serves, woken}
 use Rattle.model_machine.specs.Sound.{IsStateSound, names_made}
 use Rattle.model_machine.specs.State.{Standing, Asked, Leaving, Serving, State, resumed}
 use Rattle.law_after.proofs.Loops.{refl_loop}
-use Rattle.law_runs.specs.Added.{KeepsSound}
-use Rattle.law_runs.specs.InStep.{IsAsked, IsStepSound, RepliesInStep}
-use Rattle.law_runs.proofs.Answering.{step_to}
-use Rattle.law_runs.proofs.Table.{same_tapes, thrown}
+use Rattle.law_replies.specs.Added.{KeepsSound}
+use Rattle.law_inside.specs.InStep.{IsAsked, IsStepSound, RepliesInStep}
+use Rattle.law_replies.proofs.Answering.{step_to}
+use Rattle.law_replies.proofs.Table.{same_tapes, thrown}
 
 serving_leaves : (key id : ℕ) → Serving key ≡ Leaving id → ⊥
 serving_leaves key id e = absurd (cc)

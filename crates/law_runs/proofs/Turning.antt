@@ -43,9 +43,10 @@ use Rattle.law_after.proofs.Loops.{book_loop, parts_loop, refl_loop}
 use Rattle.law_after.proofs.Made.{due_after}
 use Rattle.law_after.proofs.Parts.{refl_after, after_on, same_after, soon_after}
 use Rattle.law_after.proofs.Requests.{each_after}
-use Rattle.law_runs.specs.Added.{KeepsSound}
-use Rattle.law_runs.specs.InStep.{AreStatesSound, Afterwards, IsAsked, IsRunSound, IsStepSound, LeavesStateSound, RepliesInStep}
-use Rattle.law_runs.proofs.Callbacks.{nobody, over_as, callback_in}
+use Rattle.law_replies.specs.Added.{KeepsSound}
+use Rattle.law_inside.specs.InStep.{AreStatesSound, Afterwards, IsAsked, IsRunSound, IsStepSound, LeavesStateSound, RepliesInStep}
+use Rattle.law_inside.proofs.Nobody.{nobody, over_as}
+use Rattle.law_runs.proofs.Callbacks.{callback_in}
 
 -- ---- what the outside is asked and answers tells no group
 told_call : (events : List Event) (call : Call) (group : ℕ) → told_in (events ++ event.Called call ∷ []) group ≡ told_in events group

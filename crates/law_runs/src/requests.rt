@@ -18,8 +18,8 @@ ghost use Rattle.model_machine.specs.State.{Standing, Asked, Serving, State, gen
 ghost use Rattle.model_machine.specs.Step.{given_up, says_of, serve, step};
 ghost use Rattle.law_turns.specs.Fits.{HasNoOpenGroup};
 ghost use Rattle.law_turns.specs.Replied.{HasPlainFutures, IsFit, IsStanding};
-ghost use Rattle.law_runs.specs.Added.{KeepsSound};
-ghost use Rattle.law_runs.specs.InStep.{IsAsked, IsStepSound, LeavesStateSound, RepliesInStep, is_added};
+ghost use Rattle.law_replies.specs.Added.{KeepsSound};
+ghost use Rattle.law_inside.specs.InStep.{IsAsked, IsStepSound, LeavesStateSound, RepliesInStep, is_added};
 
 /// A step begins by a handle that steps its task, with an input that names tasks that were made. The task lives, and stands as
 /// the loop needs it; the coroutine asks what it asked before; and what the input means is sound.
@@ -54,20 +54,6 @@ pub fn a_step_begins_sound<S>()
         (decides added standing task begun.input (stands Asked task (unbooked_in (λ p. begun.parts) gone))) }
     ensures woken { (added : Extra S) (s : State S) (task : ℕ) → IsStateSound added s
         → sends_made (next_task s.loop.parts) (woken_with s.loop.parts task) ≡ true }
-{}
-
-/// Each request that a task makes in its step is fit, and what it comes to is sound: inside the step once it was answered, and
-/// whole where it ends the step.
-pub fn requests_are_fit<S>()
-    ensures fit { (added : Extra S) (task : ℕ) (s : State S) → IsStepSound added task s
-        → (asked : Request) → says_of step_limit added task s ≡ Asks asked → is_added asked ≡ false
-        → IsFit asked s }
-    ensures futures { (added : Extra S) (task : ℕ) (s : State S) → IsStepSound added task s
-        → HasPlainFutures s }
-    ensures answered { (added : Extra S) → KeepsSound added
-        → (task : ℕ) (s : State S) → IsStepSound added task s
-        → (asked : Request) → says_of step_limit added task s ≡ Asks asked
-        → RepliesInStep added false task (reply added task asked s) }
 {}
 
 /// A task that returns or raises is the parent of no group whose block is open, and its end leaves a sound state.

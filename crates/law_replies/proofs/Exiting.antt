@@ -30,13 +30,13 @@ use Rattle.law_after.proofs.Deadlines.{leave_loop, leave_closes}
 use Rattle.law_after.proofs.Exits.{ExitLeaves}
 use Rattle.law_after.proofs.Loops.{loop_on, book_loop}
 use Rattle.law_after.proofs.Requests.{suspend_after}
-use Rattle.law_runs.specs.InStep.{IsLeft, IsStepSound, IsAsked, RepliesInStep}
-use Rattle.law_runs.proofs.Answering.{half, alive, within, left_before, rest_stood}
-use Rattle.law_runs.proofs.Blocks.{AreOpenAt, timeout_left_open, group_left_open}
-use Rattle.law_runs.proofs.Counts.{and_first, and_second, and_both, not_true, not_false, lives_before}
-use Rattle.law_runs.proofs.Given.{asked_leaves}
-use Rattle.law_runs.proofs.Keeping.{IsApart, open_of, with_open, says_same, tapes_blocks, futures_kept, loop_keeps, stays_stood, leaves_none, resumed_blocks, resumed_others, resumed_standing, resumed_begun, answer_keeps, stood_standing}
-use Rattle.law_runs.proofs.Table.{same_tapes}
+use Rattle.law_inside.specs.InStep.{IsLeft, IsStepSound, IsAsked, RepliesInStep}
+use Rattle.law_replies.proofs.Answering.{half, alive, within, left_before, rest_stood}
+use Rattle.law_inside.proofs.Blocks.{AreOpenAt, timeout_left_open, group_left_open}
+use Rattle.law_inside.proofs.Counts.{and_first, and_second, and_both, not_true, not_false, lives_before}
+use Rattle.law_inside.proofs.Given.{asked_leaves}
+use Rattle.law_inside.proofs.Keeping.{IsApart, open_of, with_open, says_same, tapes_blocks, futures_kept, loop_keeps, stays_stood, leaves_none, resumed_blocks, resumed_others, resumed_standing, resumed_begun, answer_keeps, stood_standing}
+use Rattle.law_replies.proofs.Table.{same_tapes}
 
 -- ---- one block less
 module _ {S : Type 0} (added : Extra S) (task : ℕ) (stood : Standing) (asked : Request) (s : State S) (is : IsAsked added task stood asked s)

@@ -13,7 +13,7 @@ use Rattle.model_machine.specs.Sound.{AreBlocksOf, IsBlockOf, is_open}
 use Rattle.law_told.proofs.Holding.{group_same, group_other}
 use Rattle.law_timeouts.proofs.Firing.{made_timeout, other_timeout}
 use Rattle.law_after.specs.After.{IsLoopAfter}
-use Rattle.law_runs.proofs.Tapes.{push_within, push_last}
+use Rattle.law_inside.proofs.Tapes.{push_within, push_last}
 
 -- `B` has the open blocks of each task
 pub record AreOpenAt (l : Loop) (B : ℕ → List Value) : Type 0 where

@@ -1,6 +1,6 @@
-use Rattle.law_runs.proofs.Answering.{plain_futures}
-use Rattle.law_runs.proofs.Replying.{fits_in, reply_in}
-use Rattle.law_runs.proofs.requests.requests_are_fit.Goals as goal
+use Rattle.law_replies.proofs.Answering.{plain_futures}
+use Rattle.law_replies.proofs.Replying.{fits_in, reply_in}
+use Rattle.law_replies.proofs.requests.requests_are_fit.Goals as goal
 
 pub returns-clause-fit : goal.returns-clause-fit
 returns-clause-fit g c = λ added task s step asked says own. fits_in added task s step asked says own

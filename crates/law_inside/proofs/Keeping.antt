@@ -26,10 +26,10 @@ use Rattle.model_machine.specs.State.{Standing, Asked, Sleeping, Leaving, Genera
 use Rattle.model_machine.specs.Step.{says_of}
 use Rattle.model_machine.specs.Told.{told_in}
 use Rattle.law_after.specs.After.{is_step, IsAfter, IsLoopAfter}
-use Rattle.law_runs.specs.InStep.{IsLeft, IsSoundBut}
-use Rattle.law_runs.proofs.Blocks.{AreOpenAt}
-use Rattle.law_runs.proofs.Counts.{and_first, and_second, and_both, not_true, not_false, lives_within, lives_before, unbegun_kept, sleep_kept, plain_of, of_plain}
-use Rattle.law_runs.proofs.Tapes.{set_same, set_other, set_length, exchanges_grow, blocks_grow}
+use Rattle.law_inside.specs.InStep.{IsLeft, IsSoundBut, SameTapes}
+use Rattle.law_inside.proofs.Blocks.{AreOpenAt}
+use Rattle.law_inside.proofs.Counts.{and_first, and_second, and_both, not_true, not_false, lives_within, lives_before, unbegun_kept, sleep_kept, plain_of, of_plain}
+use Rattle.law_inside.proofs.Tapes.{set_same, set_other, set_length, exchanges_grow, blocks_grow}
 
 -- ---- all but which blocks are open
 pub record IsApart {S : Type 0} (running excused : Option ℕ) (added : Extra S) (s : State S) : Type 0 where
@@ -191,10 +191,6 @@ module _ {S : Type 0} (added : Extra S) (s t : State S) (program : t.program ≡
       stands_same = ap (λ (g : Generator). g.standing) same
 
 -- ---- a step of the loop, which no coroutine hears
-pub record SameTapes {S : Type 0} (s t : State S) : Type 0 where
-  pub program : t.program ≡ s.program
-  pub generators : t.generators ≡ s.generators
-
 pub futures_kept : {S : Type 0} (s t : State S) → t.futures ≡ s.futures
     → ((id : ℕ) → is_plain s.loop.parts id ≡ true → is_plain t.loop.parts id ≡ true) → AreScriptsFutures s → AreScriptsFutures t
 futures_kept s t same plains is = record {

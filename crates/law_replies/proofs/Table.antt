@@ -36,11 +36,11 @@ use Rattle.law_after.proofs.Parts.{after_on, soon_after, later_after, change_aft
 use Rattle.law_after.proofs.Made.{make_after}
 use Rattle.law_after.proofs.Requests.{cancel_after, suspend_after}
 use Rattle.law_after.proofs.Loops.{refl_loop, loop_on, parts_loop, book_loop}
-use Rattle.law_runs.specs.InStep.{IsStepSound, IsAsked, RepliesInStep}
-use Rattle.law_runs.proofs.Answering.{half, left_before, within, plain_futures, step_to, rest_to, rest_stood}
-use Rattle.law_runs.proofs.Counts.{none_sleep, no_sleep_of, plain_of, sleep_kept}
-use Rattle.law_runs.proofs.Given.{ended_made, asked_leaves}
-use Rattle.law_runs.proofs.Keeping.{SameTapes, futures_kept, stood_standing}
+use Rattle.law_inside.specs.InStep.{IsStepSound, IsAsked, RepliesInStep, SameTapes}
+use Rattle.law_replies.proofs.Answering.{half, left_before, within, plain_futures, step_to, rest_to, rest_stood}
+use Rattle.law_inside.proofs.Counts.{none_sleep, no_sleep_of, plain_of, sleep_kept}
+use Rattle.law_inside.proofs.Given.{ended_made, asked_leaves}
+use Rattle.law_inside.proofs.Keeping.{futures_kept, stood_standing}
 
 sleeping_is : (a b : ℕ) → Sleeping a ≡ Sleeping b → a ≡ b
 sleeping_is a b e = ap (λ st. tag_in st) e

@@ -29,11 +29,11 @@ use Rattle.law_turns.specs.SoundState.{HasSoundLoop}
 use Rattle.law_blocks.specs.Given.{InSaying}
 use Rattle.law_after.specs.After.{IsAfter, IsLoopAfter}
 use Rattle.law_after.proofs.Loops.{refl_loop}
-use Rattle.law_runs.specs.InStep.{IsLeft, IsSoundBut, IsStepSound, IsAsked, RepliesInStep}
-use Rattle.law_runs.proofs.Blocks.{AreOpenAt, open_kept}
-use Rattle.law_runs.proofs.Counts.{get_there, and_first, and_second, and_both, lives_within, own_there, lives_before, of_plain}
-use Rattle.law_runs.proofs.Given.{Made, said_made, made_task, asked_sleeps, asked_leaves}
-use Rattle.law_runs.proofs.Keeping.{IsApart, apart_of, open_of, with_open, joined, says_same, SameTapes, tapes_blocks, loop_keeps, stays_stood, leaves_none, resumed_blocks, resumed_others, resumed_standing, resumed_begun, answer_keeps, stood_standing, stood_tape, stood_says, stood_blocks, stands_keeps}
+use Rattle.law_inside.specs.InStep.{IsLeft, IsSoundBut, IsStepSound, IsAsked, RepliesInStep, SameTapes}
+use Rattle.law_inside.proofs.Blocks.{AreOpenAt, open_kept}
+use Rattle.law_inside.proofs.Counts.{get_there, and_first, and_second, and_both, lives_within, own_there, lives_before, of_plain}
+use Rattle.law_inside.proofs.Given.{Made, said_made, made_task, asked_sleeps, asked_leaves}
+use Rattle.law_inside.proofs.Keeping.{IsApart, apart_of, open_of, with_open, joined, says_same, tapes_blocks, loop_keeps, stays_stood, leaves_none, resumed_blocks, resumed_others, resumed_standing, resumed_begun, answer_keeps, stood_standing, stood_tape, stood_says, stood_blocks, stands_keeps}
 
 -- ---- a future that isn't done is pending
 pub pending_of : {S : Type 0} (s : State S) (on : ℕ) (future : Future) → slice_get s.loop.parts.futures on ≡ Some future

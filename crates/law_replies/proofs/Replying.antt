@@ -41,19 +41,18 @@ use Rattle.law_after.specs.After.{IsAfter, IsLoopAfter}
 use Rattle.law_after.proofs.Deadlines.{reschedule_loop}
 use Rattle.law_after.proofs.Exits.{exit_begin_loop, exit_begin_leaves, exit_begin_marks}
 use Rattle.law_after.proofs.Loops.{parts_loop}
-use Rattle.law_after.proofs.Requests.{finish_after, ResultIn}
-use Rattle.law_runs.specs.Added.{KeepsSound}
-use Rattle.law_runs.specs.InStep.{IsLeft, IsStepSound, IsAsked, RepliesInStep, is_added}
-use Rattle.law_runs.proofs.Answering.{half, alive, within, awaited_there, left_before, plain_futures, step_to}
-use Rattle.law_runs.proofs.Blocks.{open_kept}
-use Rattle.law_runs.proofs.Counts.{and_both, not_false, lives_before, lives_within}
-use Rattle.law_runs.proofs.Entering.{spawns_in, creates_in, enters_timeout_in, enters_group_in}
-use Rattle.law_runs.proofs.Exiting.{timeout_there, timeout_open, exits_timeout_in, group_there, group_entered, group_its, group_unended, exits_in}
-use Rattle.law_runs.proofs.Given.{Made, asked_leaves, of_all, said_made, task_made}
-use Rattle.law_runs.proofs.Innermost.{innermost_timeout, innermost_group}
-use Rattle.law_runs.proofs.Keeping.{joined, open_of, with_open, tapes_blocks, futures_kept, loop_keeps, stays_stood, leaves_none}
-use Rattle.law_runs.proofs.Table.{same_tapes, self, thrown, given_in, numbered_in, answered, valued, pauses_in, awaits_in, sleeps_in, result_in, settles_in, requests_in, uncancels_in, makes_future_in}
-use Rattle.law_runs.proofs.Tapes.{past_default}
+use Rattle.law_replies.specs.Added.{KeepsSound}
+use Rattle.law_inside.specs.InStep.{IsLeft, IsStepSound, IsAsked, RepliesInStep, is_added}
+use Rattle.law_replies.proofs.Answering.{half, alive, within, awaited_there, left_before, plain_futures, step_to}
+use Rattle.law_inside.proofs.Blocks.{open_kept}
+use Rattle.law_inside.proofs.Counts.{and_both, not_false, lives_before, lives_within}
+use Rattle.law_replies.proofs.Entering.{spawns_in, creates_in, enters_timeout_in, enters_group_in}
+use Rattle.law_replies.proofs.Exiting.{timeout_there, timeout_open, exits_timeout_in, group_there, group_entered, group_its, group_unended, exits_in}
+use Rattle.law_inside.proofs.Given.{Made, asked_leaves, of_all, said_made, task_made}
+use Rattle.law_replies.proofs.Innermost.{innermost_timeout, innermost_group}
+use Rattle.law_inside.proofs.Keeping.{joined, open_of, with_open, tapes_blocks, futures_kept, loop_keeps, stays_stood, leaves_none}
+use Rattle.law_replies.proofs.Table.{same_tapes, self, thrown, given_in, numbered_in, answered, valued, pauses_in, awaits_in, sleeps_in, result_in, settles_in, requests_in, uncancels_in, makes_future_in}
+use Rattle.law_inside.proofs.Tapes.{past_default}
 
 same_open : (state : TimeoutState) → is_open state ≡ true → is_open_there state ≡ true
 same_open Active h = refl

@@ -25,10 +25,10 @@ use Rattle.model_loop.specs.Sound.{IsSound}
 use Rattle.law_blocks.specs.Given.{AllOf, IsIn, IsClosed, InInput, InTape, InSaying}
 use Rattle.law_blocks.proofs.Growing.{said_of_given}
 use Rattle.law_after.specs.After.{IsAfter, IsLoopAfter}
-use Rattle.law_runs.specs.InStep.{IsLeft}
-use Rattle.law_runs.proofs.Counts.{and_first, and_second, and_both, lives_within, lives_before, unbegun_kept}
-use Rattle.law_runs.proofs.Keeping.{IsApart, SameTapes, asking_kept, standing_kept, exchanges_same, blocks_same, futures_kept}
-use Rattle.law_runs.proofs.Tapes.{added_same, added_last, added_past, past_none, blocks_before, exchanges_before}
+use Rattle.law_inside.specs.InStep.{IsLeft, SameTapes}
+use Rattle.law_inside.proofs.Counts.{and_first, and_second, and_both, lives_within, lives_before, unbegun_kept}
+use Rattle.law_inside.proofs.Keeping.{IsApart, asking_kept, standing_kept, exchanges_same, blocks_same, futures_kept}
+use Rattle.law_inside.proofs.Tapes.{added_same, added_last, added_past, past_none, blocks_before, exchanges_before}
 
 -- ---- numbers of tasks
 pub task_made : (n id : ℕ) → id < n → names_made n (Task id) ≡ true

@@ -84,3 +84,8 @@ IsRunSound added (suc turns) s =
 abbrev pub is_added : Request → Bool
 is_added (request.Extra code arguments) = true
 is_added _ = false
+
+-- a step that no coroutine hears
+pub record SameTapes {S : Type 0} (s t : State S) : Type 0 where
+  pub program : t.program ≡ s.program
+  pub generators : t.generators ≡ s.generators

@@ -15,7 +15,7 @@ use Rattle.model_machine.specs.State.{State, generator_of}
 use Rattle.model_machine.specs.Step.{says_of}
 use Rattle.law_blocks.specs.Opened.{Block, OfTimeout, OfGroup, entered_as, opened, opened_with, opened_after}
 use Rattle.law_blocks.proofs.Growing.{leaves_innermost, same_blocks}
-use Rattle.law_runs.proofs.Counts.{and_first, and_second, and_both}
+use Rattle.law_inside.proofs.Counts.{and_first, and_second, and_both}
 
 -- a block that was entered as a timeout is one, and so of groups
 abbrev named_rightly : Block → Bool

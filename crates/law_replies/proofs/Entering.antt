@@ -35,14 +35,14 @@ use Rattle.law_after.proofs.Parts.{refl_after}
 use Rattle.law_after.proofs.Made.{register_after, spawn_after}
 use Rattle.law_after.proofs.Loops.{refl_loop, parts_loop, create_loop}
 use Rattle.law_after.proofs.Deadlines.{schedule_loop}
-use Rattle.law_runs.specs.InStep.{IsLeft, IsStepSound, IsAsked, RepliesInStep}
-use Rattle.law_runs.proofs.Answering.{half, alive, within, left_before}
-use Rattle.law_runs.proofs.Blocks.{AreOpenAt, open_kept, timeout_made_open, group_entered_open, entered_new, entered_is, entered_old, groups_longer}
-use Rattle.law_runs.proofs.Counts.{and_first, and_second, and_both, count_unbegun, lives_before, lives_within}
-use Rattle.law_runs.proofs.Given.{asked_leaves, task_made, spawn_keeps, spawned_blocks, old_same}
-use Rattle.law_runs.proofs.Keeping.{IsApart, open_of, with_open, says_same, SameTapes, tapes_blocks, futures_kept, loop_keeps, standing_kept, resumed_blocks, resumed_others, resumed_standing, resumed_begun, answer_keeps}
-use Rattle.law_runs.proofs.Table.{same_tapes, self, thrown}
-use Rattle.law_runs.proofs.Tapes.{push_past, past_default}
+use Rattle.law_inside.specs.InStep.{IsLeft, IsStepSound, IsAsked, RepliesInStep, SameTapes}
+use Rattle.law_replies.proofs.Answering.{half, alive, within, left_before}
+use Rattle.law_inside.proofs.Blocks.{AreOpenAt, open_kept, timeout_made_open, group_entered_open, entered_new, entered_is, entered_old, groups_longer}
+use Rattle.law_inside.proofs.Counts.{and_first, and_second, and_both, count_unbegun, lives_before, lives_within}
+use Rattle.law_inside.proofs.Given.{asked_leaves, task_made, spawn_keeps, spawned_blocks, old_same}
+use Rattle.law_inside.proofs.Keeping.{IsApart, open_of, with_open, says_same, tapes_blocks, futures_kept, loop_keeps, standing_kept, resumed_blocks, resumed_others, resumed_standing, resumed_begun, answer_keeps}
+use Rattle.law_replies.proofs.Table.{same_tapes, self, thrown}
+use Rattle.law_inside.proofs.Tapes.{push_past, past_default}
 
 -- ---- a new task's first step is pending
 spawned_step : (p : Parts) → 0 < pending_where (is_step (next_task p)) (spawn p).pending
