@@ -35,7 +35,7 @@ tag_no_step : (id tag : ℕ) (l : Loop) → HaveTags l → (timeout_of l id).tag
     → entries (of_tag tag (λ other. is_step task)) l.parts ≡ 0
 tag_no_step id tag l is e task =
     let a = entries-fewer (of_tag tag (λ other. is_step task)) (others_as id tag) l.parts
-        (λ k action h. both_true (k == tag) (is_step task action) (not (fires id action)) (λ x. step_fires_none task action x id) h) in
+    (λ k action h. both_true (k == tag) (is_step task action) (not (fires id action)) (λ x. step_fires_none task action x id) h) in
     let b = (is.tags id).own tag e in
     omega (arith, a, b)
 

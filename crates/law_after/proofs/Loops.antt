@@ -224,7 +224,7 @@ module _ (test : Value → Bool) (nothing : test Nothing ≡ true) (grown : Bool
   pub begin_loop : (raised : Option Exc) (id : ℕ) (l : Loop) → is_running begun id ≡ true → IsLoopAfter test grown excused timeout group begun l (exit_begun raised id l)
   begin_loop raised id l may =
       let marked : IsLoopAfter test grown excused timeout group begun l
-          (set_group id (record (group_of l id) { exiting = true; body = raised; kept = only_cancelled raised }) l) =
+      (set_group id (record (group_of l id) { exiting = true; body = raised; kept = only_cancelled raised }) l) =
       group_loop id _ l (record {
         parent = refl;
         entered = refl;

@@ -154,9 +154,9 @@ no_sleep_of task tag action = not (ends_sleep_of task action)
 pub sleep_none : (p : Parts) (task tag : ℕ) → NamesItsSleep p task tag → entries (of_tag tag (no_sleep_of task)) p ≡ 0
 sleep_none p task tag is =
     let a = count_none (λ (h : Handle). not h.dead && of_tag tag (no_sleep_of task) h.tag h.action) p.pending (λ place h e.
-        off h.dead h.tag (ends_sleep_of task h.action) (λ live same. is.pending place h e same live)) in
+    off h.dead h.tag (ends_sleep_of task h.action) (λ live same. is.pending place h e same live)) in
     let b = count_none (λ (t : Timer). of_tag tag (no_sleep_of task) t.tag t.action) p.timers (λ place t e.
-        off false t.tag (ends_sleep_of task t.action) (λ live same. is.in_time place t e same)) in
+    off false t.tag (ends_sleep_of task t.action) (λ live same. is.in_time place t e same)) in
     omega (arith, a, b)
   where
     off : (dead : Bool) (other : ℕ) (ends : Bool) → (dead ≡ false → other ≡ tag → ends ≡ true)

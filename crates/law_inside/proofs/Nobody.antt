@@ -35,4 +35,3 @@ module _ {S : Type 0} (added : Extra S) (s : State S) (sound : IsStateSound adde
       at true e =
           absurd (false≢true (sym (sound.tasks.main_over done)
           ∙ lives_before _ _ None s.loop.parts l.parts a.parts sound.loop.parts.owns 0 sound.tasks.main_told.made e))
-

@@ -79,7 +79,7 @@ module _ {S : Type 0} (added : Extra S) (task : ℕ) (stood : Standing) (asked :
   awaited_there (Fut id) on a e none = let f = is.others.futures.plain id on e in pending_of s on f.0 f.1 none
   awaited_there (Task id) on a e none =
       let made = subst (λ q. InSaying (Made (next_task s.loop.parts)) (Asks q)) a
-          (subst (InSaying (Made (next_task s.loop.parts))) is.says (said_made added (Some task) (Some task) s half task)) in
+      (subst (InSaying (Made (next_task s.loop.parts))) is.says (said_made added (Some task) (Some task) s half task)) in
       let there = own_there s.loop.parts is.others.loop.parts.owns id (made_task (next_task s.loop.parts) id made) in
       let same : future_of s.loop.parts id ≡ on = ap (λ o. option_map_or (λ (y : ℕ). y) o on) e in
       let f = get_there s.loop.parts.futures on (omega (arith, there, same)) in

@@ -79,7 +79,7 @@ module _ {S : Type 0} (added : Extra S) (task : ℕ) (s : State S)
       → (id : ℕ) × (value ≡ Timeout id) × ((outer : List Value) × (blocks_of s task ≡ Timeout id ∷ outer))
   innermost_timeout value raised says =
       let it = leaves_innermost step_limit s.program (generator_of task s).coroutine (generator_of task s).arguments (generator_of task s).tape
-          (request.TimeoutExit value raised) says in
+      (request.TimeoutExit value raised) says in
       let r = is_timeout value (and_first (named_rightly (OfTimeout value)) (list_all named_rightly it.0) (sym (ap (list_all named_rightly) it.1) ∙ right)) in
       (r.0, r.1, (map entered_as it.0, sym as_values ∙ ap (map entered_as) it.1 ∙ ap (λ v. v ∷ map entered_as it.0) r.1))
 
@@ -87,6 +87,6 @@ module _ {S : Type 0} (added : Extra S) (task : ℕ) (s : State S)
       → (id : ℕ) × (value ≡ Group id) × ((outer : List Value) × (blocks_of s task ≡ Group id ∷ outer))
   innermost_group value raised says =
       let it = leaves_innermost step_limit s.program (generator_of task s).coroutine (generator_of task s).arguments (generator_of task s).tape
-          (request.GroupExit value raised) says in
+      (request.GroupExit value raised) says in
       let r = is_group value (and_first (named_rightly (OfGroup value)) (list_all named_rightly it.0) (sym (ap (list_all named_rightly) it.1) ∙ right)) in
       (r.0, r.1, (map entered_as it.0, sym as_values ∙ ap (map entered_as) it.1 ∙ ap (λ v. v ∷ map entered_as it.0) r.1))

@@ -86,9 +86,10 @@ module _ {S : Type 0} (added : Extra S) (task : ℕ) (s : State S) (step : IsSte
       let same : r.0 ≡ id = some_is r.0 id (sym (ap as_timeout r.1) ∙ e) in
       let is : IsAsked added task Asked (request.TimeoutExit (Timeout r.0) raised) s =
       asked_is (request.TimeoutExit (Timeout r.0) raised) (says ∙ ap (λ v. Asks (request.TimeoutExit v raised)) r.1) in
-      subst (λ k. (k < length s.loop.timeouts) × (is_open_there (timeout_of s.loop k).state ≡ true)) same
-      (timeout_there added task s raised r.0 is r.2.0 r.2.1,
-      same_open (timeout_of s.loop r.0).state (timeout_open added task s raised r.0 is r.2.0 r.2.1))
+      subst (λ k. (k < length s.loop.timeouts) × (is_open_there (timeout_of s.loop k).state ≡ true)) same (
+        timeout_there added task s raised r.0 is r.2.0 r.2.1,
+        same_open (timeout_of s.loop r.0).state (timeout_open added task s raised r.0 is r.2.0 r.2.1),
+      )
 
   group_fit : (value : Value) (raised : Option Exc) → says_of step_limit added task s ≡ Asks (request.GroupExit value raised)
       → IsFit (request.GroupExit value raised) s
@@ -97,9 +98,11 @@ module _ {S : Type 0} (added : Extra S) (task : ℕ) (s : State S) (step : IsSte
       let same : r.0 ≡ id = some_is r.0 id (sym (ap as_group r.1) ∙ e) in
       let is : IsAsked added task Asked (request.GroupExit (Group r.0) raised) s =
       asked_is (request.GroupExit (Group r.0) raised) (says ∙ ap (λ v. Asks (request.GroupExit v raised)) r.1) in
-      subst (λ k. (k < length s.loop.groups) × ((group_of s.loop k).entered ≡ true) × ((group_of s.loop k).exiting ≡ false)) same
-      (group_there added task Asked s raised r.0 is r.2.0 r.2.1, group_entered added task Asked s raised r.0 is r.2.0 r.2.1,
-      unleft r.0 (group_unended added task Asked s raised r.0 is r.2.0 r.2.1) (sym (group_its added task Asked s raised r.0 is r.2.0 r.2.1)))
+      subst (λ k. (k < length s.loop.groups) × ((group_of s.loop k).entered ≡ true) × ((group_of s.loop k).exiting ≡ false)) same (
+        group_there added task Asked s raised r.0 is r.2.0 r.2.1,
+        group_entered added task Asked s raised r.0 is r.2.0 r.2.1,
+        unleft r.0 (group_unended added task Asked s raised r.0 is r.2.0 r.2.1) (sym (group_its added task Asked s raised r.0 is r.2.0 r.2.1)),
+      )
     where
       unleft : (k : ℕ) → (group_of s.loop k).ended ≡ false → task ≡ (group_of s.loop k).parent → (group_of s.loop k).exiting ≡ false
       unleft k open_ its = at (group_of s.loop k).exiting refl

@@ -96,7 +96,7 @@ module _ {S : Type 0} (added : Extra S) (task : ℕ) (s : State S) (asked : Requ
   alarm_named delay =
       none_sleep (alarmed task delay s.loop.parts) task s.loop.parts.next_tag (omega arith)
       (let a = entries-later (of_tag s.loop.parts.next_tag (no_sleep_of task)) (deadline s.loop.parts.time delay)
-          (SleepDone task (next_future s.loop.parts)) (new_plain s.loop.parts) in
+      (SleepDone task (next_future s.loop.parts)) (new_plain s.loop.parts) in
       let b : entries (of_tag s.loop.parts.next_tag (no_sleep_of task)) (new_plain s.loop.parts) ≡ 0 =
       entries-given (no_sleep_of task) s.loop.parts.next_tag s.loop.parts is.others.loop.numbered (le_refl _) in
       let c : ◌≡◌ {A = ℕ} (cond ((s.loop.parts.next_tag == s.loop.parts.next_tag) && not (task == task)) 1 0) 0 =
@@ -216,7 +216,7 @@ module _ {S : Type 0} (added : Extra S) (task : ℕ) (s : State S) (asked : Requ
       pub pauses_in : stands_at Asked asked ≡ true → RepliesSound task (pauses task s) → RepliesInStep added false task (pauses task s)
       pauses_in may h =
           let a = in_these (pause task s.loop.parts)
-              (soon_after (names_made (next_task s.loop.parts)) false (Some task) (Step task) s.loop.parts refl) in
+          (soon_after (names_made (next_task s.loop.parts)) false (Some task) (Step task) s.loop.parts refl) in
           rest_to added task Asked asked s is (unbooked_in (pause task) s) (same_tapes s (in_parts (pause task) s.loop))
           (scripts (in_parts (pause task) s.loop) a) refl refl a h asked_leaves begun may
 
@@ -228,7 +228,7 @@ module _ {S : Type 0} (added : Extra S) (task : ℕ) (s : State S) (asked : Requ
               replied_in (input_of outcome) (ended_made added (Some task) (Some task) s (half added task Asked asked s is) on outcome e)
           at None e h =
               let a = book_loop (names_made (next_task s.loop.parts)) refl false (Some task) None None None (suspend task on) s.loop
-                  (suspend_after (names_made (next_task s.loop.parts)) false (Some task) task on s.loop.parts) in
+              (suspend_after (names_made (next_task s.loop.parts)) false (Some task) task on s.loop.parts) in
               rest_to added task Asked asked s is (waits task on s) (same_tapes s (book (suspend task on) s.loop))
               (scripts (book (suspend task on) s.loop) a) refl (a.parts.same refl) a h asked_leaves begun may
 

@@ -193,7 +193,7 @@ module _ {S : Type 0} (added : Extra S) (s : State S) (task : ℕ) (input : Inpu
   sleep_named tag e kind harder =
       let a = sleep_none s.loop.parts task tag ((sound.standing task stepped_lives).sleeping tag e) in
       let b = entries-fewer (of_tag tag kind) (of_tag tag (no_sleep_of task)) s.loop.parts
-          (λ k action h. both_true (k == tag) (kind k action) (not (ends_sleep_of task action)) (harder k action) h) in
+      (λ k action h. both_true (k == tag) (kind k action) (not (ends_sleep_of task action)) (harder k action) h) in
       omega (arith, a, b)
 
   -- ---- the loop, once the step began

@@ -186,24 +186,24 @@ module _ {S : Type 0} (added : Extra S) (keeps : KeepsSound added) (s : State S)
   lively (action.SleepDone task future) is live =
       let a = taken_by (no_step (action.SleepDone task future) is (λ other. refl)) in
       let b = loop_on (names_made (next_task s.loop.parts)) refl false None None None None s.loop (in_parts (taken rest) s.loop) _
-          (parts_loop (names_made (next_task s.loop.parts)) refl false None None None None (in_parts (taken rest) s.loop)
-          (settle future (Returned Nothing) (taken rest s.loop.parts))
-          (settle_after (names_made (next_task s.loop.parts)) false None future (Returned Nothing) (taken rest s.loop.parts) refl)) a in
+      (parts_loop (names_made (next_task s.loop.parts)) refl false None None None None (in_parts (taken rest) s.loop)
+      (settle future (Returned Nothing) (taken rest s.loop.parts))
+      (settle_after (names_made (next_task s.loop.parts)) false None future (Returned Nothing) (taken rest s.loop.parts) refl)) a in
       nobody added s sound _ (record { program = refl; generators = refl }) refl
       (over_as added s sound (in_parts (settle future (Returned Nothing)) (in_parts (taken rest) s.loop)) b) b
       (loop_of (action.SleepDone task future) is live tt)
   lively (action.GroupDone group task) is live =
       let a = taken_by (no_step (action.GroupDone group task) is (λ other. refl)) in
       let b = loop_on (names_made (next_task s.loop.parts)) refl false None None None None s.loop (in_parts (taken rest) s.loop) _
-          (child_done_loop (names_made (next_task s.loop.parts)) refl false None None None None group task (in_parts (taken rest) s.loop)) a in
+      (child_done_loop (names_made (next_task s.loop.parts)) refl false None None None None group task (in_parts (taken rest) s.loop)) a in
       nobody added s sound _ (record { program = refl; generators = refl }) refl
       (over_as added s sound (child_done group task (in_parts (taken rest) s.loop)) b) b (loop_of (action.GroupDone group task) is live tt)
   lively (action.Fires timeout) is live =
       let a = taken_by (no_step (action.Fires timeout) is (λ other. refl)) in
       let b = loop_on (names_made (next_task s.loop.parts)) refl false None None None None s.loop (in_parts (taken rest) s.loop) _
-          (fire_loop (names_made (next_task s.loop.parts)) refl false None None None None timeout (in_parts (taken rest) s.loop)
-          (active_open (timeout_of s.loop timeout).state
-          (was_active timeout handle rest s.loop first live is (tags_of_sound None (told_in s.events) s.loop sound.loop)))) a in
+      (fire_loop (names_made (next_task s.loop.parts)) refl false None None None None timeout (in_parts (taken rest) s.loop)
+      (active_open (timeout_of s.loop timeout).state
+      (was_active timeout handle rest s.loop first live is (tags_of_sound None (told_in s.events) s.loop sound.loop)))) a in
       nobody added s sound _ (record { program = refl; generators = refl }) refl
       (over_as added s sound (fire timeout (in_parts (taken rest) s.loop)) b) b (loop_of (action.Fires timeout) is live tt)
   lively action.MainDone is live = main_in is live

@@ -138,7 +138,6 @@ pub record AreBlocksOpen {S : Type 0} (s : State S) : Type 0 where
       → is_open (timeout_of s.loop id).state ≡ has_open s (timeout_of s.loop id).task (Timeout id)
   pub groups : (id : ℕ) → id < length s.loop.groups
       → ((group_of s.loop id).entered && not (group_of s.loop id).ended) ≡ has_open s (group_of s.loop id).parent (Group id)
-
   pub entered : (task : ℕ) → list_all (λ exchange. names_block exchange.request exchange.answer) (exchanges_of s task) ≡ true
   pub own : (task : ℕ) → AreBlocksOf s.loop task (blocks_of s task)
 
