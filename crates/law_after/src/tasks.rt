@@ -14,21 +14,25 @@ ghost use Rattle.law_after.specs.After.{IsAfter, OutcomeIn, ResultIn};
 
 /// An outcome, a request to cancel, and one for each of several tasks.
 pub fn outcomes_and_requests_leave_the_rest()
-    ensures settle { (test : Value → Bool) (grown : Bool) (excused : Option ℕ) (id : ℕ) (outcome : Outcome)
+    ensures settle { (test : Value → Bool) (grown : Bool) (excused : Option ℕ) (id : ℕ)
+        (outcome : Outcome)
         (p : Parts) → OutcomeIn test outcome → IsAfter test grown excused p (settle id outcome p) }
     ensures cancel { (test : Value → Bool) (grown : Bool) (excused : Option ℕ) (id : ℕ) (p : Parts)
         → IsAfter test grown excused p (cancel id p).parts }
     ensures each { (test : Value → Bool) (grown : Bool) (excused : Option ℕ) (by : Origin)
-        (tasks : List ℕ) (p : Parts) → IsAfter test grown excused p (request_each by tasks p).parts }
+        (tasks : List ℕ) (p : Parts) → IsAfter test grown excused p
+        (request_each by tasks p).parts }
 {}
 
 /// A task is made, its step begins, and ends by a wait or by the end of the task.
 pub fn steps_of_tasks_leave_the_rest()
     ensures made { (test : Value → Bool) (excused : Option ℕ) (p : Parts)
         → IsAfter test true excused p (spawn p) }
-    ensures begins { (test : Value → Bool) (grown : Bool) (excused : Option ℕ) (task : ℕ) (input : Input)
+    ensures begins { (test : Value → Bool) (grown : Bool) (excused : Option ℕ) (task : ℕ)
+        (input : Input)
         (p : Parts) → IsAfter test grown excused p (begin_step task input p).parts }
-    ensures suspends { (test : Value → Bool) (grown : Bool) (excused : Option ℕ) (task on : ℕ) (p : Parts)
+    ensures suspends { (test : Value → Bool) (grown : Bool) (excused : Option ℕ) (task on : ℕ)
+        (p : Parts)
         → IsAfter test grown excused p (suspend task on p).parts }
     ensures finishes { (test : Value → Bool) (grown : Bool) (excused : Option ℕ) (task : ℕ)
         (end : Result Value Exc) (p : Parts) → ResultIn test end

@@ -13,7 +13,8 @@ ghost use Rattle.law_blocks.specs.Opened.{entered_as, opened_with, answered, ope
 /// An exit is asked only of the block that is open innermost, with what its entry was answered, and it is the exit that
 /// belongs to that entry.
 pub fn exits_are_of_the_innermost_block()
-    ensures { (limit : ℕ) (program : Program) (place : ℕ) (arguments : List Value) (tape : Tape) (asked : Request)
+    ensures { (limit : ℕ) (program : Program) (place : ℕ) (arguments : List Value) (tape : Tape)
+        (asked : Request)
         → saying_of (course limit program place arguments tape) ≡ Asks asked
         → Leaves asked (opened limit program place arguments tape) }
 {}
@@ -21,12 +22,14 @@ pub fn exits_are_of_the_innermost_block()
 /// An input answers the request that waited. So a block is open from the value that its entry is answered until its exit is
 /// answered, in whatever way, and no other answer opens or closes one. These are the open blocks of the definitions.
 pub fn answers_open_and_close_blocks()
-    ensures answers { (limit : ℕ) (program : Program) (place : ℕ) (arguments : List Value) (tape : Tape) (asked : Request)
+    ensures answers { (limit : ℕ) (program : Program) (place : ℕ) (arguments : List Value)
+        (tape : Tape) (asked : Request)
         (entry : Resumed)
         → saying_of (course limit program place arguments tape) ≡ Asks asked
         → answered limit program place arguments (tape ++ entry ∷ [])
         ≡ answered limit program place arguments tape ++ record { request = asked; answer = entry.input } ∷ [] }
-    ensures blocks { (limit : ℕ) (program : Program) (place : ℕ) (arguments : List Value) (tape : Tape) (asked : Request)
+    ensures blocks { (limit : ℕ) (program : Program) (place : ℕ) (arguments : List Value)
+        (tape : Tape) (asked : Request)
         (entry : Resumed)
         → saying_of (course limit program place arguments tape) ≡ Asks asked
         → opened limit program place arguments (tape ++ entry ∷ [])
@@ -37,10 +40,12 @@ pub fn answers_open_and_close_blocks()
 
 /// A coroutine that returned or raised has left all its blocks.
 pub fn what_is_over_left_its_blocks()
-    ensures returned { (limit : ℕ) (program : Program) (place : ℕ) (arguments : List Value) (tape : Tape) (value : Value)
+    ensures returned { (limit : ℕ) (program : Program) (place : ℕ) (arguments : List Value)
+        (tape : Tape) (value : Value)
         → saying_of (course limit program place arguments tape) ≡ Returns value
         → opened limit program place arguments tape ≡ [] }
-    ensures raised { (limit : ℕ) (program : Program) (place : ℕ) (arguments : List Value) (tape : Tape) (fault : Exc)
+    ensures raised { (limit : ℕ) (program : Program) (place : ℕ) (arguments : List Value)
+        (tape : Tape) (fault : Exc)
         → saying_of (course limit program place arguments tape) ≡ Raises fault
         → opened limit program place arguments tape ≡ [] }
 {}

@@ -24,11 +24,13 @@ ghost use Rattle.law_inside.specs.InStep.{IsAsked, IsStepSound, LeavesStateSound
 /// A step begins by a handle that steps its task, with an input that names tasks that were made. The task lives, and stands as
 /// the loop needs it; the coroutine asks what it asked before; and what the input means is sound.
 pub fn a_step_begins_sound<S>()
-    ensures lives { (added : Extra S) (s : State S) (task : ℕ) (handle : Handle) (rest : List Handle)
+    ensures lives { (added : Extra S) (s : State S) (task : ℕ) (handle : Handle)
+        (rest : List Handle)
         → s.loop.parts.pending ≡ handle ∷ rest → handle.dead ≡ false
         → steps task handle.action ≡ true → IsStateSound added s
         → lives s.loop.parts task ≡ true }
-    ensures standing { (added : Extra S) (s : State S) (task : ℕ) (handle : Handle) (rest : List Handle)
+    ensures standing { (added : Extra S) (s : State S) (task : ℕ) (handle : Handle)
+        (rest : List Handle)
         → s.loop.parts.pending ≡ handle ∷ rest → handle.dead ≡ false
         → steps task handle.action ≡ true → IsStateSound added s
         → ((key : ℕ) → (generator_of task s).standing ≡ Serving key → ⊥)
@@ -41,7 +43,8 @@ pub fn a_step_begins_sound<S>()
         let gone = noted (Ran handle.action) (unbooked_in (λ p. record p { pending = rest }) s) in
         let standing = (generator_of task s).standing in
         let begun = begin_step task input (given_up standing gone.loop.parts) in
-        IsAsked added task standing asked (stands Asked task (unbooked_in (λ p. begun.parts) gone)) }
+        IsAsked added task standing asked (stands Asked task (unbooked_in
+        (λ p. begun.parts) gone)) }
     ensures answered { (added : Extra S) → KeepsSound added
         → (s : State S) (task : ℕ) (input : Input) (handle : Handle) (rest : List Handle)
         → s.loop.parts.pending ≡ handle ∷ rest → handle.dead ≡ false
@@ -51,7 +54,8 @@ pub fn a_step_begins_sound<S>()
         let standing = (generator_of task s).standing in
         let begun = begin_step task input (given_up standing gone.loop.parts) in
         RepliesInStep added true task
-        (decides added standing task begun.input (stands Asked task (unbooked_in (λ p. begun.parts) gone))) }
+        (decides added standing task begun.input (stands Asked task (unbooked_in
+        (λ p. begun.parts) gone))) }
     ensures woken { (added : Extra S) (s : State S) (task : ℕ) → IsStateSound added s
         → sends_made (next_task s.loop.parts) (woken_with s.loop.parts task) ≡ true }
 {}

@@ -41,7 +41,8 @@ pub fn a_turn_keeps_it_sound<S>()
 /// Piece by piece: the call and its answer are noted, the time goes on and timers fall due, a callback runs, all before the bar
 /// run, and the turn ends.
 pub fn the_pieces_of_a_turn_keep_it_sound<S>()
-    ensures noted { (added : Extra S) (s : State S) (left : List Entry) (call : Call) (answer : Answer)
+    ensures noted { (added : Extra S) (s : State S) (left : List Entry) (call : Call)
+        (answer : Answer)
         → IsStateSound added s
         → IsStateSound added
         (noted (Got answer) (record (noted (Called call) s) { answers = left })) }
