@@ -43,7 +43,8 @@ module _ (test : Value → Bool) (nothing : test Nothing ≡ true) (grown : Bool
   bare_loop : (id : ℕ) (l : Loop) → HaveTags l → IsLoopAfter test grown excused timeout group begun l (without_handle id l)
   bare_loop id l is =
       loop_on test nothing grown excused timeout group begun l (in_parts (give_up (timeout_of l id).tag) l) _
-      (timeout_loop test nothing grown excused timeout group begun id _ (in_parts (give_up (timeout_of l id).tag) l) (record { task = refl; open_ = λ h. refl }))
+      (timeout_loop test nothing grown excused timeout group begun id _ (in_parts (give_up (timeout_of l id).tag) l)
+      (record { task = refl; open_ = λ h. refl }))
       (parts_loop test nothing grown excused timeout group begun l _ (at (timeout_of l id).tag refl))
     where
       at : (o : Option ℕ) → (timeout_of l id).tag ≡ o → IsAfter test grown excused l.parts (give_up o l.parts)

@@ -70,7 +70,8 @@ module _ (test : Value → Bool) (nothing : test Nothing ≡ true) (grown : Bool
       raised_ends (errors ++ body_failure (group_of l id).body) l _ (ap (λ (g : Group). g.ended) (group_same id _ l within))
   end_leaves (Some fault) [] l within = ap (λ (g : Group). g.ended) (group_same id _ l within)
   end_leaves (Some fault) (x ∷ xs) l within =
-      raised_ends (x ∷ xs ++ body_failure (group_of l id).body) l (end_exit (Some fault) (x ∷ xs) id l).loop (ap (λ (g : Group). g.ended) (group_same id _ l within))
+      raised_ends (x ∷ xs ++ body_failure (group_of l id).body) l (end_exit (Some fault) (x ∷ xs) id l).loop (ap (λ (g : Group). g.ended)
+      (group_same id _ l within))
 
   wait_or_end_leaves : (l : Loop) → id < length l.groups → ExitLeaves l (wait_or_end id l).answer (wait_or_end id l).loop
   wait_or_end_leaves l within = at (group_of l id).children
@@ -79,12 +80,14 @@ module _ (test : Value → Bool) (nothing : test Nothing ≡ true) (grown : Bool
       at [] = end_leaves (group_of l id).kept (group_of l id).errors l within
       at (child ∷ children) = wait_loop l
 
-  leaves_on : (l m : Loop) (answer : GroupExit) (n : Loop) → IsLoopAfter test grown excused timeout None begun l m → ExitLeaves m answer n → ExitLeaves l answer n
+  leaves_on : (l m : Loop) (answer : GroupExit) (n : Loop) → IsLoopAfter test grown excused timeout None begun l m → ExitLeaves m answer n
+      → ExitLeaves l answer n
   leaves_on l m (Waits on) n a h = loop_on test nothing grown excused timeout None begun l m n h a
   leaves_on l m Passes n a h = h
   leaves_on l m (Raises fault) n a h = h
 
-  pub exit_begin_loop : is_running begun id ≡ true → (raised : Option Exc) (l : Loop) → IsLoopAfter test grown excused timeout (Some id) begun l (exit_begin raised id l).loop
+  pub exit_begin_loop : is_running begun id ≡ true → (raised : Option Exc) (l : Loop) → IsLoopAfter test grown excused timeout (Some id) begun l
+      (exit_begin raised id l).loop
   exit_begin_loop may raised l =
       loop_on test nothing grown excused timeout (Some id) begun l (exit_begun test nothing grown excused timeout None begun raised id l) _
       (wait_or_end_loop (exit_begun test nothing grown excused timeout None begun raised id l))

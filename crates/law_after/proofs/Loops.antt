@@ -108,7 +108,8 @@ module _ (test : Value → Bool) (nothing : test Nothing ≡ true) (grown : Bool
       at : (j : ℕ) → (id ≡ j) ⊎ (id ≡ j → ⊥) → GroupAfter (is_running group j) (is_running begun j) (group_of l j) (group_of (set_group id new l) j)
       at j (inl same) =
           subst (λ k. GroupAfter (is_running group k) (is_running begun k) (group_of l k) (group_of (set_group id new l) k)) same
-          (set_there (GroupAfter (is_running group id) (is_running begun id)) (same_group (is_running group id) (is_running begun id)) l.groups id new (new_group 0) it)
+          (set_there (GroupAfter (is_running group id) (is_running begun id)) (same_group (is_running group id) (is_running begun id)) l.groups id new
+          (new_group 0) it)
       at j (inr n) = subst (GroupAfter (is_running group j) (is_running begun j) (group_of l j)) (sym (group_other id j new l n)) (same_group _ _ _)
 
   pub timeout_loop : (id : ℕ) (new : Timeout) (l : Loop) → TimeoutAfter (is_running timeout id) (timeout_of l id) new
@@ -221,7 +222,8 @@ module _ (test : Value → Bool) (nothing : test Nothing ≡ true) (grown : Bool
       at true q = abort_loop id q
       at false q = refl_loop q
 
-  pub begin_loop : (raised : Option Exc) (id : ℕ) (l : Loop) → is_running begun id ≡ true → IsLoopAfter test grown excused timeout group begun l (exit_begun raised id l)
+  pub begin_loop : (raised : Option Exc) (id : ℕ) (l : Loop) → is_running begun id ≡ true → IsLoopAfter test grown excused timeout group begun l
+      (exit_begun raised id l)
   begin_loop raised id l may =
       let marked : IsLoopAfter test grown excused timeout group begun l
       (set_group id (record (group_of l id) { exiting = true; body = raised; kept = only_cancelled raised }) l) =

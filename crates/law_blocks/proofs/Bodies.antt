@@ -155,10 +155,12 @@ module _ (P : Value → Type 0) (closed : IsClosed P) where
       well_run Pass = well_begun P closed Passes (well_passes P closed)
       well_run (If test body otherwise) =
           well_begun P closed (decided test (run_all limit program call body) (run_branch limit program call otherwise))
-          (well_decided P closed test (run_all limit program call body) (run_branch limit program call otherwise) (well_run_all body) (well_run_branch otherwise))
+          (well_decided P closed test (run_all limit program call body) (run_branch limit program call otherwise) (well_run_all body)
+          (well_run_branch otherwise))
       well_run (While test body) = well_looped limit test (run_all limit program call body) (well_run_all body)
       well_run (Try body handlers finally) =
-          well_begun P closed (λ now. finished (run_branch limit program call finally) (handled (run_handlers limit program call handlers) (run_all limit program call body now)))
+          well_begun P closed (λ now. finished (run_branch limit program call finally) (handled (run_handlers limit program call handlers)
+          (run_all limit program call body now)))
           (λ now clean. well_finished (run_branch limit program call finally) (well_run_branch finally) (opened_after now.exchanges)
           (handled (run_handlers limit program call handlers) (run_all limit program call body now))
           (well_handled (run_handlers limit program call handlers) (well_run_handlers handlers) (opened_after now.exchanges)

@@ -37,7 +37,8 @@ own_kept l m ts gs tasks parents task (block ∷ blocks) h =
     one _ k = absurd k
 
 -- ---- where none is entered or left
-pub open_kept : (test : Value → Bool) (grown : Bool) (excused begun : Option ℕ) (l m : Loop) (B C : ℕ → List Value) → IsLoopAfter test grown excused None None begun l m
+pub open_kept : (test : Value → Bool) (grown : Bool) (excused begun : Option ℕ) (l m : Loop) (B C : ℕ → List Value)
+    → IsLoopAfter test grown excused None None begun l m
     → ((task : ℕ) → C task ≡ B task) → AreOpenAt l B → AreOpenAt m C
 open_kept test grown excused begun l m B C a same is = record {
   timeouts = λ id h.
@@ -116,7 +117,12 @@ module _ (l : Loop) (task : ℕ) (B C : ℕ → List Value) (others : (other : �
     timeouts = λ id h. at id h (cases_eq (length l.timeouts) id);
     groups = λ id h. is.groups id h ∙ sym (more_any task B C (Timeout (length l.timeouts)) others more (Group id) refl (group_of l id).parent);
     own = own_others task B C (Timeout (length l.timeouts)) others (make_timeout task l) (λ other. kept other (B other) (is.own other))
-        (subst (AreBlocksOf (make_timeout task l) task) (sym more) (mine, fresh_timeout l task (length l.timeouts) (B task) (omega arith) (is.own task), kept task (B task) (is.own task)));
+        (subst (AreBlocksOf (make_timeout task l) task) (sym more) (
+          mine,
+          fresh_timeout l task (length l.timeouts) (B task) (omega arith)
+              (is.own task),
+          kept task (B task) (is.own task),
+        ));
   }
     where
       old : (id : ℕ) → id < length l.timeouts → timeout_of (make_timeout task l) id ≡ timeout_of l id
@@ -146,7 +152,8 @@ module _ (l : Loop) (task : ℕ) (B C : ℕ → List Value) (others : (other : �
           (ne_eqb id (length l.timeouts) (λ e. n (sym e))) (timeout_of l id).task)
           ∙ ap (λ (t : TimeoutFields). list_any (equal (Timeout id)) (C t.task)) (sym (other_timeout task l id n))
 
-  pub timeout_left_open : (test : Value → Bool) (grown : Bool) (excused begun : Option ℕ) (m : Loop) (id : ℕ) → IsLoopAfter test grown excused (Some id) None begun l m
+  pub timeout_left_open : (test : Value → Bool) (grown : Bool) (excused begun : Option ℕ) (m : Loop) (id : ℕ) → IsLoopAfter test grown excused
+      (Some id) None begun l m
       → is_open (timeout_of m id).state ≡ false → B task ≡ Timeout id ∷ C task → AreOpenAt m C
   timeout_left_open test grown excused begun m id a closed less = record {
     timeouts = λ j h. at j h (cases_eq id j);
@@ -186,7 +193,8 @@ groups_longer task l = length-set (make_group task l).groups (length l.groups) _
 
 pub entered_is : (task : ℕ) (l : Loop) → group_of (entered_new task l) (length l.groups) ≡ record (new_group task) { entered = true }
 entered_is task l =
-    group_same (length l.groups) _ (make_group task l) (let e : length (make_group task l).groups ≡ length l.groups + 1 = length-append l.groups _ in omega (arith, e))
+    group_same (length l.groups) _ (make_group task l) (let e : length (make_group task l).groups ≡ length l.groups + 1 = length-append l.groups _ in omega
+    (arith, e))
     ∙ ap (λ (g : GroupFields). record g { entered = true }) (push_last l.groups (new_group task) (new_group 0))
 
 pub entered_old : (task : ℕ) (l : Loop) (id : ℕ) → id < length l.groups → group_of (entered_new task l) id ≡ group_of l id
@@ -200,7 +208,12 @@ module _ (l : Loop) (task : ℕ) (B C : ℕ → List Value) (others : (other : �
     timeouts = λ id h. is.timeouts id h ∙ sym (more_any task B C (Group (length l.groups)) others more (Timeout id) refl (timeout_of l id).task);
     groups = λ id h. at id h (cases_eq (length l.groups) id);
     own = own_others task B C (Group (length l.groups)) others (entered_new task l) (λ other. kept other (B other) (is.own other))
-        (subst (AreBlocksOf (entered_new task l) task) (sym more) (mine, fresh_group l task (length l.groups) (B task) (omega arith) (is.own task), kept task (B task) (is.own task)));
+        (subst (AreBlocksOf (entered_new task l) task) (sym more) (
+          mine,
+          fresh_group l task (length l.groups) (B task) (omega arith)
+              (is.own task),
+          kept task (B task) (is.own task),
+        ));
   }
     where
       kept : (other : ℕ) (blocks : List Value) → AreBlocksOf l other blocks → AreBlocksOf (entered_new task l) other blocks
@@ -230,7 +243,8 @@ module _ (l : Loop) (task : ℕ) (B C : ℕ → List Value) (others : (other : �
           (ne_eqb id (length l.groups) (λ e. n (sym e))) (group_of l id).parent)
           ∙ ap (λ (g : GroupFields). list_any (equal (Group id)) (C g.parent)) (sym (entered_old task l id within))
 
-  pub group_left_open : (test : Value → Bool) (grown : Bool) (excused begun : Option ℕ) (m : Loop) (id : ℕ) → IsLoopAfter test grown excused None (Some id) begun l m
+  pub group_left_open : (test : Value → Bool) (grown : Bool) (excused begun : Option ℕ) (m : Loop) (id : ℕ) → IsLoopAfter test grown excused None
+      (Some id) begun l m
       → (group_of m id).ended ≡ true → B task ≡ Group id ∷ C task → AreOpenAt m C
   group_left_open test grown excused begun m id a ended less = record {
     timeouts = λ j h.

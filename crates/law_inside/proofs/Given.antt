@@ -203,7 +203,8 @@ module _ {S : Type 0} (added : Extra S) (task coroutine : ℕ) (arguments : List
     main_told = a.parts.main is.main_told;
     standing = λ other l f. standing other f (living other l);
     exits = λ id e f. left id e f;
-    entered = each (λ other g. list_all (λ exchange. names_block exchange.request exchange.answer) (exchanges_along t.program g.coroutine g.arguments g.tape) ≡ true)
+    entered = each (λ other g. list_all (λ exchange. names_block exchange.request exchange.answer)
+        (exchanges_along t.program g.coroutine g.arguments g.tape) ≡ true)
         (λ other h. ap (λ p. list_all (λ exchange. names_block exchange.request exchange.answer)
         (exchanges_along p (generator_of other s).coroutine (generator_of other s).arguments (generator_of other s).tape)) tapes.program ∙ is.entered other)
         (ap (list_all (λ exchange. names_block exchange.request exchange.answer)) (exchanges_before t.program coroutine arguments))
@@ -211,10 +212,12 @@ module _ {S : Type 0} (added : Extra S) (task coroutine : ℕ) (arguments : List
     futures = record { plain = scripts.plain; once = scripts.once };
     made = record {
       arguments = each (λ other g. list_all (names_made (next_task t.loop.parts)) g.arguments ≡ true)
-          (λ other h. list_up (next_task s.loop.parts) (next_task t.loop.parts) (omega (arith, more)) (generator_of other s).arguments (is.made.arguments other))
+          (λ other h. list_up (next_task s.loop.parts) (next_task t.loop.parts) (omega (arith, more)) (generator_of other s).arguments
+          (is.made.arguments other))
           (list_up (next_task s.loop.parts) (next_task t.loop.parts) (omega (arith, more)) arguments given_) (λ other h. refl);
       tape = each (λ other g. list_all (λ (x : Resumed). sends_made (next_task t.loop.parts) x.input) g.tape ≡ true)
-          (λ other h. tape_up (next_task s.loop.parts) (next_task t.loop.parts) (omega (arith, more)) (generator_of other s).tape (is.made.tape other)) refl (λ other h. refl);
+          (λ other h. tape_up (next_task s.loop.parts) (next_task t.loop.parts) (omega (arith, more)) (generator_of other s).tape (is.made.tape other)) refl
+          (λ other h. refl);
       outcomes = λ id value e.
           names_up (next_task s.loop.parts) (next_task t.loop.parts) (omega (arith, more)) value (a.parts.outcomes is.made.outcomes id value e);
     };
@@ -259,7 +262,8 @@ module _ {S : Type 0} (added : Extra S) (task coroutine : ℕ) (arguments : List
           at : (other < next_task s.loop.parts) ⊎ (next_task s.loop.parts ≤ other) → other < next_task s.loop.parts
           at (inl h) = h
           at (inr h) =
-              let d = past_none other s (let c = is.generators in omega (arith, h, c)) in absurd (asked_leaves id (sym (ap (λ (g : Generator). g.standing) d) ∙ e))
+              let d = past_none other s (let c = is.generators in omega (arith, h, c)) in absurd (asked_leaves id (sym (ap (λ
+              (g : Generator). g.standing) d) ∙ e))
 
       left : (id : ℕ) → IsLeft t id → is_running (Some task) (group_of t.loop id).parent ≡ false
           → (generator_of (group_of t.loop id).parent u).standing ≡ Leaving id

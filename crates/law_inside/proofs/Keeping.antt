@@ -176,7 +176,8 @@ module _ {S : Type 0} (added : Extra S) (s t : State S) (program : t.program ≡
     stands = ap (λ (g : Generator). stands_at g.standing is.asked) same ∙ is.stands;
   }
 
-  pub standing_kept : (test : Value → Bool) (grown : Bool) (excused timeout group begun : Option ℕ) → IsLoopAfter test grown excused timeout group begun s.loop t.loop
+  pub standing_kept : (test : Value → Bool) (grown : Bool) (excused timeout group begun : Option ℕ)
+      → IsLoopAfter test grown excused timeout group begun s.loop t.loop
       → ((id : ℕ) → (generator_of task s).standing ≡ Leaving id → is_running group id ≡ false) → StandsRightly s task → StandsRightly t task
   standing_kept test grown excused timeout group begun a free is = record {
     sleeping = λ tag e. sleep_kept test grown excused s.loop.parts t.loop.parts a.parts task tag (is.sleeping tag (sym stands_same ∙ e));
