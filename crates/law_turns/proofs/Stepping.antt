@@ -82,14 +82,14 @@ module _ {S : Type 0} (added : Extra S) (s : State S) (task : ℕ) (input : Inpu
       as_told running (told_in s.events) (told_in (s.events ++ event.Ran handle.action ∷ [])) l
       (tells_none s.events handle.action (step_tells_none task handle.action mine)) h
 
-  runs : (standing : Standing) → IsStanding standing s → RunsSound task (begun standing)
+  pub runs : (standing : Standing) → IsStanding standing s → RunsSound task (begun standing)
   runs Asked fit = told_as_before (Some task) _ (begun_plainly (told_in s.events) task handle rest s.loop first live mine sound input)
   runs (Sleeping tag) fit =
       told_as_before (Some task) _ (begun_awake (told_in s.events) task handle rest s.loop first live mine sound tag input fit)
   runs (Leaving id) fit = told_as_before (Some task) _ (begun_plainly (told_in s.events) task handle rest s.loop first live mine sound input)
   runs (Serving key) fit = absurd fit
 
-  leaves : (id : ℕ) (with_ : Input) (now : State S) → RunsSound task now
+  pub leaves : (id : ℕ) (with_ : Input) (now : State S) → RunsSound task now
       → (id < length now.loop.groups) × ((group_of now.loop id).exiting ≡ true) × ((group_of now.loop id).ended ≡ false)
       → RepliesSound task (exits_group (exit_woken with_ id now.loop) task id now)
   leaves id with_ now h open_ = at (exit_woken with_ id now.loop).answer refl

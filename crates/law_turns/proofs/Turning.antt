@@ -96,7 +96,7 @@ pub start_sound : {S : Type 0} (extra : S) (program : Program) (answers : List E
 start_sound extra program answers = first_sound
 
 -- ---- a turn up to its bar
-at_time_sound : (told : ℕ → List ℕ) (now : ℕ) (l : Loop) → IsSound None told l → IsSound None told (in_parts (at_time now) l)
+pub at_time_sound : (told : ℕ → List ℕ) (now : ℕ) (l : Loop) → IsSound None told l → IsSound None told (in_parts (at_time now) l)
 at_time_sound told now l s =
     parts_sound None None told l (at_time now l.parts) s
     (looks_carries l.parts (at_time now l.parts) (handles_look_same l.parts (at_time now l.parts) refl refl (λ test f. refl))
@@ -118,7 +118,7 @@ news_sound told it l unfollowed untimed_ s =
         let z : ◌≡◌ {A = ℕ} (cond (test it) 1 0) 0 = ap (λ b. cond b 1 0) (follows it unfollowed) in
         omega (arith, a, z)
 
-soon_all-append : (xs ys : List Action) (p : Parts) → soon_all (xs ++ ys) p ≡ soon_all ys (soon_all xs p)
+pub soon_all-append : (xs ys : List Action) (p : Parts) → soon_all (xs ++ ys) p ≡ soon_all ys (soon_all xs p)
 soon_all-append [] ys p = refl
 soon_all-append (x ∷ xs) ys p = soon_all-append xs ys (soon x p)
 
@@ -139,7 +139,7 @@ item_sound told (item.WritableChild child) l s = news_sound told (action.Writabl
 item_sound told (item.Child child what) l s = news_sound told (action.ChildItem child what) l refl refl s
 item_sound told (item.Extra code bytes) l s = news_sound told (action.ExtraItem code bytes) l refl refl s
 
-items_sound : (told : ℕ → List ℕ) (items : List Item) (l : Loop) → IsSound None told l
+pub items_sound : (told : ℕ → List ℕ) (items : List Item) (l : Loop) → IsSound None told l
     → IsSound None told (in_parts (soon_all (flat_map actions_of items)) l)
 items_sound told [] l s = s
 items_sound told (it ∷ items) l s =

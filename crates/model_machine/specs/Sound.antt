@@ -1,22 +1,27 @@
 -- A sound state of the machine, between any two callbacks of a run: its loop is sound, and each task stands where its tape
 -- says that it does.
-use Rattle.std.specs.Prelude.{◌≡◌, ℕ, ◌<◌, Bool, true, false, not, ◌&&◌, ◌==◌, List, [], Option, Some, None, length, slice_get}
-use Rattle.std.specs.List.{list_any}
-use Rattle.model_value.specs.declared.action.Action.TheVariants.{SleepDone, Step}
+use Rattle.std.specs.Prelude.{◌≡◌, ℕ, ◌<◌, Bool, true, false, not, ◌&&◌, ◌==◌, List, [], ◌∷◌, Option, Some, None, length, nat_lt, slice_get}
+use Rattle.std.specs.List.{count_by, list_all, list_any}
+use Rattle.model_value.specs.declared.action.Action.TheVariants.{MainDone, SleepDone, Step}
+use Rattle.model_value.specs.declared.input.Input.TheVariants.{Send, Throw}
+use Rattle.model_value.specs.declared.outcome.Outcome.TheVariants.{Value as Returned}
 use Rattle.model_value.specs.declared.request.Request.TheVariants as request
 use Rattle.model_value.specs.Action.{Action}
 use Rattle.model_value.specs.Equality.{equal}
+use Rattle.model_value.specs.Input.{Input}
 use Rattle.model_value.specs.Request.{Request}
-use Rattle.model_value.specs.Value.{Value, Group, Timeout}
+use Rattle.model_value.specs.Value.{Value, Values, no_values, value_then, Items, Task, Group, Timeout}
 use Rattle.model_says.specs.Blocks.{open_blocks}
-use Rattle.model_says.specs.Endings.{Asks}
-use Rattle.model_says.specs.Says.{step_limit}
+use Rattle.model_says.specs.Endings.{Asks, Exchange}
+use Rattle.model_says.specs.Says.{exchanges_along, step_limit}
+use Rattle.model_loop.specs.Futures.{future_outcome, next_future}
 use Rattle.model_loop.specs.Groups.{group_of}
-use Rattle.model_loop.specs.Loop.{TimeoutState, Active, Expiring}
+use Rattle.model_loop.specs.Loop.{Loop, TimeoutState, Active, Expiring}
 use Rattle.model_loop.specs.Parts.{Future, Handle, Parts, Plain, Timer}
 use Rattle.model_loop.specs.Sound.{IsSound}
-use Rattle.model_loop.specs.Tasks.{lives, next_task}
+use Rattle.model_loop.specs.Tasks.{future_of, lives, next_task}
 use Rattle.model_loop.specs.Timeouts.{timeout_of}
+use Rattle.model_loop.specs.Totals.{callbacks_of, pending_where}
 use Rattle.model_machine.specs.Extra.{Extra}
 use Rattle.model_machine.specs.State.{Standing, Asked, Sleeping, Leaving, Serving, Generator, State, generator_of}
 use Rattle.model_machine.specs.Step.{says_of}
@@ -47,11 +52,23 @@ pub record IsAsking {S : Type 0} (added : Extra S) (s : State S) (task : ℕ) : 
   pub says : says_of step_limit added task s ≡ Asks asked
   pub stands : stands_at (generator_of task s).standing asked ≡ true
 
+abbrev pub is_main_done : Action → Bool
+is_main_done MainDone = true
+is_main_done _ = false
+
+-- what is called when main is done is registered on main's future alone, and pending only then
+pub record IsMainTold (p : Parts) : Type 0 where
+  pub made : 0 < next_task p
+  pub there : future_of p 0 < next_future p
+  pub registered : (id : ℕ) → 0 < count_by is_main_done (callbacks_of p id) → id ≡ future_of p 0
+  pub pending : 0 < pending_where is_main_done p.pending → lives p 0 ≡ false
+
 pub record AreTasksSound {S : Type 0} (added : Extra S) (s : State S) : Type 0 where
   pub generators : length s.generators ≡ next_task s.loop.parts
   pub asking : (task : ℕ) → lives s.loop.parts task ≡ true → IsAsking added s task
   pub unbegun : (task : ℕ) → lives s.loop.parts task ≡ true → (generator_of task s).tape ≡ [] → IsUnbegun s.loop.parts task
   pub main_over : s.main_done ≡ true → lives s.loop.parts 0 ≡ false
+  pub main_told : IsMainTold s.loop.parts
 
 -- ---- what tasks stand at
 -- whether an action ends a sleep of the task
@@ -73,17 +90,47 @@ pub record StandsRightly {S : Type 0} (s : State S) (task : ℕ) : Type 0 where
   pub leaving_now : (id : ℕ) → (generator_of task s).standing ≡ Leaving id
       → ((group_of s.loop id).exiting && not (group_of s.loop id).ended) ≡ true
 
+-- a group whose exit has begun and hasn't ended is the one at whose exit its parent stands
+abbrev pub AreExitsStood : {S : Type 0} → State S → Type 0
+AreExitsStood s =
+    (id : ℕ) → ((group_of s.loop id).exiting && not (group_of s.loop id).ended) ≡ true
+    → (generator_of (group_of s.loop id).parent s).standing ≡ Leaving id
+
 -- ---- open blocks
 abbrev pub is_open : TimeoutState → Bool
 is_open Active = true
 is_open Expiring = true
 is_open _ = false
 
+-- the open blocks of a task's tape, and what was answered along it
+abbrev pub blocks_of : {S : Type 0} → State S → (task : ℕ) → List Value
+blocks_of s task = let it = generator_of task s in open_blocks s.program it.coroutine it.arguments it.tape
+
+abbrev pub exchanges_of : {S : Type 0} → State S → (task : ℕ) → List Exchange
+exchanges_of s task = let it = generator_of task s in exchanges_along s.program it.coroutine it.arguments it.tape
+
 -- whether this block is open on a task's tape
 abbrev pub has_open : {S : Type 0} → State S → (task : ℕ) → Value → Bool
-has_open s task block =
-    let it = generator_of task s in
-    list_any (equal block) (open_blocks s.program it.coroutine it.arguments it.tape)
+has_open s task block = list_any (equal block) (blocks_of s task)
+
+-- an entry that is answered by a value is answered by a timeout, or by a group
+abbrev pub names_block : Request → Input → Bool
+names_block (request.TimeoutEnter delay) (Send (Timeout id)) = true
+names_block (request.TimeoutEnter delay) (Send value) = false
+names_block request.GroupEnter (Send (Group id)) = true
+names_block request.GroupEnter (Send value) = false
+names_block _ _ = true
+
+-- such a block is the task's
+abbrev pub IsBlockOf : Loop → (task : ℕ) → Value → Type 0
+IsBlockOf l task (Timeout id) = (id < length l.timeouts) × ((timeout_of l id).task ≡ task)
+IsBlockOf l task (Group id) = (id < length l.groups) × ((group_of l id).parent ≡ task)
+IsBlockOf l task _ = ⊥
+
+-- each once
+abbrev pub AreBlocksOf : Loop → (task : ℕ) → List Value → Type 0
+AreBlocksOf l task [] = Unit {0}
+AreBlocksOf l task (block ∷ blocks) = IsBlockOf l task block × (list_any (equal block) blocks ≡ false) × AreBlocksOf l task blocks
 
 -- A timeout is active or expiring exactly while its block is open, and a group is entered and hasn't ended.
 pub record AreBlocksOpen {S : Type 0} (s : State S) : Type 0 where
@@ -91,6 +138,31 @@ pub record AreBlocksOpen {S : Type 0} (s : State S) : Type 0 where
       → is_open (timeout_of s.loop id).state ≡ has_open s (timeout_of s.loop id).task (Timeout id)
   pub groups : (id : ℕ) → id < length s.loop.groups
       → ((group_of s.loop id).entered && not (group_of s.loop id).ended) ≡ has_open s (group_of s.loop id).parent (Group id)
+  pub entered : (task : ℕ) → list_all (λ exchange. names_block exchange.request exchange.answer) (exchanges_of s task) ≡ true
+  pub own : (task : ℕ) → AreBlocksOf s.loop task (blocks_of s task)
+
+-- ---- values
+-- where so many tasks were made, each that a value names was
+abbrev mutual
+  pub names_made : ℕ → Value → Bool
+  names_made made (Items items) = all_made made items
+  names_made made (Task id) = nat_lt id made
+  names_made made _ = true
+
+  pub all_made : ℕ → Values → Bool
+  all_made made no_values = true
+  all_made made (value_then value others) = names_made made value && all_made made others
+
+abbrev pub sends_made : ℕ → Input → Bool
+sends_made made (Send value) = names_made made value
+sends_made made (Throw fault) = true
+
+-- The tasks that arguments, tapes and outcomes name were made. So no script has one that wasn't.
+pub record AreTasksMade {S : Type 0} (s : State S) : Type 0 where
+  pub arguments : (task : ℕ) → list_all (names_made (next_task s.loop.parts)) (generator_of task s).arguments ≡ true
+  pub tape : (task : ℕ) → list_all (λ entry. sends_made (next_task s.loop.parts) entry.input) (generator_of task s).tape ≡ true
+  pub outcomes : (id : ℕ) (value : Value) → future_outcome s.loop.parts id ≡ Some (Returned value)
+      → names_made (next_task s.loop.parts) value ≡ true
 
 -- ---- futures of `future()`
 -- each is a plain one, which it alone names
@@ -104,5 +176,7 @@ pub record IsStateSound {S : Type 0} (added : Extra S) (s : State S) : Type 0 wh
   pub loop : IsSound None (told_in s.events) s.loop
   pub tasks : AreTasksSound added s
   pub standing : (task : ℕ) → lives s.loop.parts task ≡ true → StandsRightly s task
+  pub exits : AreExitsStood s
   pub blocks : AreBlocksOpen s
   pub futures : AreScriptsFutures s
+  pub made : AreTasksMade s

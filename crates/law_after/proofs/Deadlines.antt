@@ -1,0 +1,125 @@
+-- What the steps of a timeout leave.
+use Rattle.std.proofs.Common.{◌≡◌, ℕ, ◌<◌, ◌⊎◌, Bool, true, false, not, ◌&&◌, ◌==◌, Option, Some, None, length, option_map, nat_le, if◌then◌else◌, refl, sym, ap, subst, ◌∙◌, arith, ℤ}
+use Rattle.std.proofs.lemmas.Bool.{eq-eqb, false≢true}
+use Rattle.model_value.specs.Action.{Action}
+use Rattle.model_value.specs.declared.action.Action.TheVariants.{Fires, Step}
+use Rattle.model_value.specs.Value.{Value, Nothing, Exc}
+use Rattle.model_loop.specs.Deadlines.{fires, others_as}
+use Rattle.model_loop.specs.Entries.{entries}
+use Rattle.model_loop.specs.Handles.{later, revoke, soon}
+use Rattle.model_loop.specs.Ledger.{ByTimeout, ask_cancel, uncancel_by}
+use Rattle.model_loop.specs.Loop.{TimeoutState, Created, Active, Expiring, Expired, Finished, Timeout, Loop, book, in_parts}
+use Rattle.model_loop.specs.Parts.{Parts}
+use Rattle.model_loop.specs.Tasks.{future_of}
+use Rattle.model_loop.specs.Timeouts.{exit_timeout, fire, fires_at, give_up, is_active, leave_from, moment, reschedule, reschedule_where, schedule, set_timeout, timeout_of, with_deadline, without_handle}
+use Rattle.model_loop.specs.Ways.{is_running}
+use Rattle.model_machine.specs.Sound.{is_open}
+use Rattle.law_timeouts.proofs.Entries.{entries-fewer, of_tag}
+use Rattle.law_timeouts.proofs.Tagging.{timeout_same}
+use Rattle.law_timeouts.specs.Tags.{HaveTags}
+use Rattle.law_after.specs.After.{is_step, IsAfter, TimeoutAfter, IsLoopAfter}
+use Rattle.law_after.proofs.Parts.{refl_after, after_on, soon_after, later_after, revoke_after, change_after}
+use Rattle.law_after.proofs.Requests.{cancel_after}
+use Rattle.law_after.proofs.Loops.{refl_loop, loop_on, parts_loop, book_loop, timeout_loop}
+
+step_fires_none : (task : ℕ) (action : Action) → is_step task action ≡ true → (id : ℕ) → not (fires id action) ≡ true
+step_fires_none task (Fires other) h id = absurd (false≢true h)
+step_fires_none task _ h id = refl
+
+both_true : (a b c : Bool) → (b ≡ true → c ≡ true) → (a && b) ≡ true → (a && c) ≡ true
+both_true true b c f h = f h
+both_true false b c f h = h
+
+-- a timeout's tag names no step
+tag_no_step : (id tag : ℕ) (l : Loop) → HaveTags l → (timeout_of l id).tag ≡ Some tag → (task : ℕ)
+    → entries (of_tag tag (λ other. is_step task)) l.parts ≡ 0
+tag_no_step id tag l is e task =
+    let a = entries-fewer (of_tag tag (λ other. is_step task)) (others_as id tag) l.parts
+    (λ k action h. both_true (k == tag) (is_step task action) (not (fires id action)) (λ x. step_fires_none task action x id) h) in
+    let b = (is.tags id).own tag e in
+    omega (arith, a, b)
+
+module _ (test : Value → Bool) (nothing : test Nothing ≡ true) (grown : Bool) (excused timeout group begun : Option ℕ) where
+  bare_loop : (id : ℕ) (l : Loop) → HaveTags l → IsLoopAfter test grown excused timeout group begun l (without_handle id l)
+  bare_loop id l is =
+      loop_on test nothing grown excused timeout group begun l (in_parts (give_up (timeout_of l id).tag) l) _
+      (timeout_loop test nothing grown excused timeout group begun id _ (in_parts (give_up (timeout_of l id).tag) l)
+      (record { task = refl; open_ = λ h. refl }))
+      (parts_loop test nothing grown excused timeout group begun l _ (at (timeout_of l id).tag refl))
+    where
+      at : (o : Option ℕ) → (timeout_of l id).tag ≡ o → IsAfter test grown excused l.parts (give_up o l.parts)
+      at None e = refl_after test grown excused l.parts
+      at (Some tag) e = revoke_after test grown excused tag l.parts (tag_no_step id tag l is e)
+
+  deadline_loop : (id : ℕ) (when : Option ℕ) (l : Loop) → IsLoopAfter test grown excused timeout group begun l (with_deadline id when l)
+  deadline_loop id None l = refl_loop test nothing grown excused timeout group begun l
+  deadline_loop id (Some when) l =
+      loop_on test nothing grown excused timeout group begun l (in_parts (fires_at id when) l) _
+      (timeout_loop test nothing grown excused timeout group begun id _ (in_parts (fires_at id when) l) (record { task = refl; open_ = λ h. refl }))
+      (parts_loop test nothing grown excused timeout group begun l (fires_at id when l.parts) (at (nat_le when l.parts.time)))
+    where
+      at : (b : Bool) → IsAfter test grown excused l.parts (if b then soon (Fires id) l.parts else later when (Fires id) l.parts)
+      at true = soon_after test grown excused (Fires id) l.parts refl
+      at false = later_after test grown excused when (Fires id) l.parts
+
+  pub schedule_loop : (id : ℕ) (when : Option ℕ) (l : Loop) → HaveTags l → IsLoopAfter test grown excused timeout group begun l (schedule id when l)
+  schedule_loop id when l is =
+      loop_on test nothing grown excused timeout group begun l (without_handle id l) _ (deadline_loop id when (without_handle id l)) (bare_loop id l is)
+
+  pub reschedule_loop : (id : ℕ) (when : Option ℤ) (l : Loop) → HaveTags l → IsLoopAfter test grown excused timeout group begun l (reschedule id when l)
+  reschedule_loop id when l is = at (is_active (timeout_of l id).state)
+    where
+      at : (b : Bool) → IsLoopAfter test grown excused timeout group begun l (reschedule_where b id when l)
+      at true = schedule_loop id (option_map moment when) l is
+      at false = refl_loop test nothing grown excused timeout group begun l
+
+  -- an open one fires, and stays open
+  pub fire_loop : (id : ℕ) (l : Loop) → is_open (timeout_of l id).state ≡ true → IsLoopAfter test grown excused timeout group begun l (fire id l)
+  fire_loop id l open_ =
+      loop_on test nothing grown excused timeout group begun l (book (ask_cancel (ByTimeout id) (future_of l.parts (timeout_of l id).task)) l) _
+      (timeout_loop test nothing grown excused timeout group begun id _ (book (ask_cancel (ByTimeout id) (future_of l.parts (timeout_of l id).task)) l)
+      (record { task = refl; open_ = λ h. sym open_ }))
+      (book_loop test nothing grown excused timeout group begun (ask_cancel (ByTimeout id) (future_of l.parts (timeout_of l id).task)) l
+      (cancel_after test grown excused (future_of l.parts (timeout_of l id).task) l.parts))
+
+-- ---- the block is left
+module _ (test : Value → Bool) (nothing : test Nothing ≡ true) (grown : Bool) (excused group begun : Option ℕ) (raised : Option Exc) (id : ℕ) (l : Loop)
+    (is : HaveTags l) where
+  left : (new : Timeout) (m : Loop) → new.task ≡ (timeout_of m id).task → IsLoopAfter test grown excused (Some id) group begun m (set_timeout id new m)
+  left new m task =
+      timeout_loop test nothing grown excused (Some id) group begun id new m
+      (record { task = task; open_ = λ h. absurd (false≢true (sym h ∙ eq-eqb id id refl)) })
+
+  pub leave_loop : IsLoopAfter test grown excused (Some id) group begun l (exit_timeout raised id l).loop
+  leave_loop =
+      loop_on test nothing grown excused (Some id) group begun l (without_handle id l) _ (at (timeout_of l id).state)
+      (bare_loop test nothing grown excused (Some id) group begun id l is)
+    where
+      at : (state : TimeoutState)
+          → IsLoopAfter test grown excused (Some id) group begun (without_handle id l) (leave_from state raised id (without_handle id l)).loop
+      at Created = left _ (without_handle id l) refl
+      at Active = left _ (without_handle id l) refl
+      at Expired = left _ (without_handle id l) refl
+      at Finished = left _ (without_handle id l) refl
+      at Expiring =
+          let m = without_handle id l in
+          let taken = book (uncancel_by (ByTimeout id) (timeout_of m id).task) m in
+          loop_on test nothing grown excused (Some id) group begun m taken _ (left _ taken refl)
+          (book_loop test nothing grown excused (Some id) group begun (uncancel_by (ByTimeout id) (timeout_of m id).task) m
+          (change_after test grown excused (timeout_of m id).task _ m.parts (λ t. refl)))
+
+  pub leave_closes : id < length l.timeouts → is_open (timeout_of (exit_timeout raised id l).loop id).state ≡ false
+  leave_closes within = at (timeout_of l id).state
+    where
+      there : id < length (without_handle id l).timeouts
+      there = let e = (bare_loop test nothing grown excused (Some id) group begun id l is).timeouts_made in omega (arith, e, within)
+
+      at : (state : TimeoutState) → is_open (timeout_of (leave_from state raised id (without_handle id l)).loop id).state ≡ false
+      at Created = ap (λ (t : Timeout). is_open t.state) (timeout_same id _ (without_handle id l) there)
+      at Active = ap (λ (t : Timeout). is_open t.state) (timeout_same id _ (without_handle id l) there)
+      at Expired = ap (λ (t : Timeout). is_open t.state) (timeout_same id _ (without_handle id l) there)
+      at Finished = ap (λ (t : Timeout). is_open t.state) (timeout_same id _ (without_handle id l) there)
+      at Expiring =
+          let m = without_handle id l in
+          ap (λ (t : Timeout). is_open t.state)
+          (timeout_same id (record (timeout_of m id) { state = Expired }) (book (uncancel_by (ByTimeout id) (timeout_of m id).task) m) there)

@@ -1,0 +1,4 @@
+pub mod Values
+pub mod Nesting
+pub mod Bodies
+pub mod Growing

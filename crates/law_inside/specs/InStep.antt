@@ -1,0 +1,91 @@
+-- A sound state inside a step of a task: the same as between two callbacks, but for the task that runs.
+use Rattle.std.specs.Prelude.{◌≡◌, ℕ, zero, suc, Bool, true, false, not, ◌&&◌, List, [], ◌∷◌, Option, Some, None, length}
+use Rattle.model_value.specs.declared.input.Input.TheVariants.{Send, Throw}
+use Rattle.model_value.specs.declared.request.Request.TheVariants as request
+use Rattle.model_value.specs.Request.{Request}
+use Rattle.model_says.specs.Endings.{Asks}
+use Rattle.model_says.specs.Says.{step_limit}
+use Rattle.model_loop.specs.Groups.{group_of}
+use Rattle.model_loop.specs.Sound.{IsSound}
+use Rattle.model_loop.specs.Tasks.{lives, next_task}
+use Rattle.model_loop.specs.Ways.{is_running}
+use Rattle.model_machine.specs.Extra.{Extra}
+use Rattle.model_machine.specs.Mids.{mids}
+use Rattle.model_machine.specs.Replies.{Reply, Answers, Raises, Rests, Halts}
+use Rattle.model_machine.specs.Sound.{AreBlocksOpen, AreScriptsFutures, AreTasksMade, IsAsking, IsMainTold, IsStateSound, IsUnbegun, StandsRightly}
+use Rattle.model_machine.specs.State.{Standing, Asked, Leaving, State, generator_of, resumed}
+use Rattle.model_machine.specs.Step.{says_of}
+use Rattle.model_machine.specs.Told.{told_in}
+use Rattle.model_machine.specs.Turn.{turn}
+use Rattle.model_machine.specs.Went.{Went, Goes, Stops}
+
+-- a group whose exit has begun and hasn't ended
+abbrev pub IsLeft : {S : Type 0} → State S → (group : ℕ) → Type 0
+IsLeft s id = ((group_of s.loop id).exiting && not (group_of s.loop id).ended) ≡ true
+
+-- A state that is sound while this task runs, but for what the excused task asks and stands at.
+pub record IsSoundBut {S : Type 0} (running excused : Option ℕ) (added : Extra S) (s : State S) : Type 0 where
+  pub loop : IsSound running (told_in s.events) s.loop
+  pub generators : length s.generators ≡ next_task s.loop.parts
+  pub asking : (task : ℕ) → lives s.loop.parts task ≡ true → is_running excused task ≡ false → IsAsking added s task
+  pub unbegun : (task : ℕ) → lives s.loop.parts task ≡ true → is_running excused task ≡ false → (generator_of task s).tape ≡ []
+      → IsUnbegun s.loop.parts task
+  pub main_over : s.main_done ≡ true → lives s.loop.parts 0 ≡ false
+  pub main_told : IsMainTold s.loop.parts
+  pub standing : (task : ℕ) → lives s.loop.parts task ≡ true → is_running excused task ≡ false → StandsRightly s task
+  pub exits : (id : ℕ) → IsLeft s id → is_running excused (group_of s.loop id).parent ≡ false
+      → (generator_of (group_of s.loop id).parent s).standing ≡ Leaving id
+  pub blocks : AreBlocksOpen s
+  pub futures : AreScriptsFutures s
+  pub made : AreTasksMade s
+
+-- Inside a step of a task, whose coroutine was resumed. None of its groups is being left: that ends the step.
+pub record IsStepSound {S : Type 0} (added : Extra S) (task : ℕ) (s : State S) : Type 0 where
+  pub others : IsSoundBut (Some task) (Some task) added s
+  pub standing : (generator_of task s).standing ≡ Asked
+  pub begun : (generator_of task s).tape ≡ [] → ⊥
+  pub exits : (id : ℕ) → IsLeft s id → task ≡ (group_of s.loop id).parent → ⊥
+
+-- The coroutine of the task that runs asks for this. The task stood there as its step began, or stands at nothing.
+pub record IsAsked {S : Type 0} (added : Extra S) (task : ℕ) (stood : Standing) (asked : Request) (s : State S) : Type 0 where
+  pub others : IsSoundBut (Some task) (Some task) added s
+  pub standing : (generator_of task s).standing ≡ Asked
+  pub says : says_of step_limit added task s ≡ Asks asked
+  pub exits : (id : ℕ) → IsLeft s id → task ≡ (group_of s.loop id).parent → stood ≡ Leaving id
+
+-- What a request comes to leaves a sound state: inside the step once the coroutine was answered, and whole where the step ends.
+abbrev pub RepliesInStep : {S : Type 0} → Extra S → (fresh : Bool) → (task : ℕ) → Reply S → Type 0
+RepliesInStep added fresh task (Answers value now) = IsStepSound added task (resumed fresh task (Send value) now)
+RepliesInStep added fresh task (Raises fault now) = IsStepSound added task (resumed fresh task (Throw fault) now)
+RepliesInStep added fresh task (Rests now) = IsStateSound added now
+RepliesInStep added fresh task (Halts end last) = Unit {0}
+
+-- what goes on leaves a sound state
+abbrev pub LeavesStateSound : {S : Type 0} → Extra S → Went S → Type 0
+LeavesStateSound added (Goes now) = IsStateSound added now
+LeavesStateSound added (Stops end last) = Unit {0}
+
+-- all of these states are sound
+abbrev pub AreStatesSound : {S : Type 0} → Extra S → List (State S) → Type 0
+AreStatesSound added [] = Unit {0}
+AreStatesSound added (s ∷ states) = IsStateSound added s × AreStatesSound added states
+
+abbrev pub Afterwards : {S : Type 0} → (State S → Type 0) → Went S → Type 0
+Afterwards then_ (Goes now) = then_ now
+Afterwards then_ (Stops end last) = Unit {0}
+
+-- Of a run of so many turns from a state on: each state between two turns, and each between two callbacks of a turn, is sound.
+unfoldable pub IsRunSound : {S : Type 0} → Extra S → (turns : ℕ) → State S → Type 0
+IsRunSound added zero s = IsStateSound added s
+IsRunSound added (suc turns) s =
+    IsStateSound added s × AreStatesSound added (mids step_limit added s) × Afterwards (IsRunSound added turns) (turn step_limit added s)
+
+-- a request that is added to the loop's own
+abbrev pub is_added : Request → Bool
+is_added (request.Extra code arguments) = true
+is_added _ = false
+
+-- a step that no coroutine hears
+pub record SameTapes {S : Type 0} (s t : State S) : Type 0 where
+  pub program : t.program ≡ s.program
+  pub generators : t.generators ≡ s.generators

@@ -1,0 +1,6 @@
+pub mod Answering
+pub mod Innermost
+pub mod Table
+pub mod Entering
+pub mod Exiting
+pub mod Replying

@@ -1,0 +1,5 @@
+pub mod Finishing
+pub mod Beginning
+pub mod Callbacks
+pub mod Turning
+pub mod Nothing
