@@ -1,9 +1,9 @@
 -- What a journal's wire tells.
-use Rattle.std.proofs.Common.{◌≡◌, ℕ, true, false, List, [], ◌∷◌, Option, Some, None, refl, ap, sym, ◌∙◌}
+use Rattle.std.proofs.Common.{◌≡◌, ℕ, true, false, List, [], ◌∷◌, Option, Some, None, refl, ap, sym, subst, ◌∙◌}
 use Rattle.std.proofs.lemmas.Bool.{false≢true}
 use Rattle.model_wire.specs.Call.{Call}
 use Rattle.model_wire.specs.Journal.{Entry, Answered, entries_of}
-use Rattle.model_wire.specs.Told.{Agrees, ShelfSeen}
+use Rattle.model_wire.specs.Told.{Agrees, ShelfSeen, WireSeen}
 use Rattle.aio_wire.specs.Replied.{Replied, Leaves, EndsAs, FitsCall, FailedIfRose}
 use Rattle.aio_wire.specs.Told.{refused_of}
 use Rattle.aio_wire.specs.declared.wire.Reply.{Reply}
@@ -49,18 +49,37 @@ fails_not before now old new Over replies = tt
 fails_not before now old new (Bad fault) replies = tt
 fails_not before now old new Failed replies = absurd replies
 
+-- what a journal's wire tells whose entries that are left are these, and whose file failed so often
+abbrev pub seen_with : (left : List Entry) (faults : ℕ) → WireSeen
+seen_with left faults = record {
+  left = Some left;
+  asked = None;
+  handed = None;
+  end = end_of_entries left;
+  fitting = false;
+  faults = faults;
+}
+
 -- the reply of a journal that agrees with what is told
-pub replied_from : (call : Call) (before now : ShelfSeen) (name late : List ℕ) (journal : Option (List Entry)) (old new : List Entry) (reply : Reply)
-    → Agrees (left_of (before.file name) journal) old → RepliesWith old new reply
-    → Replied call (seen_of before name journal) (seen_of now late (Some new)) reply
-replied_from call before now name late journal old new reply agrees replies = record {
+replied_from : (call : Call) (before : ShelfSeen) (faults : ℕ) (name : List ℕ) (journal : Option (List Entry))
+    (old new : List Entry) (reply : Reply) → Agrees (left_of (before.file name) journal) old → RepliesWith old new reply
+    → Replied call (seen_of before name journal) (seen_with new faults) reply
+replied_from call before faults name journal old new reply agrees replies = record {
   left = leaves_from (left_of (before.file name) journal) old new reply agrees replies;
   ends = ends_from old new reply replies;
   fits = fits_none call reply;
   asked = refl;
   handed = refl;
-  failed = fails_not (before.faults name) (now.faults late) old new reply replies;
+  failed = fails_not (before.faults name) faults old new reply replies;
 }
+
+-- the same of a wire that kept this of its journal
+pub replied_with : (call : Call) (before : ShelfSeen) (faults : ℕ) (name : List ℕ) (kept journal : Option (List Entry))
+    → journal ≡ kept → (old new : List Entry) (reply : Reply) → Agrees (left_of (before.file name) journal) old
+    → RepliesWith old new reply → Replied call (seen_of before name kept) (seen_with new faults) reply
+replied_with call before faults name kept journal same old new reply agrees replies =
+    subst (λ (held : Option (List Entry)). Replied call (seen_of before name held) (seen_with new faults) reply) same
+    (replied_from call before faults name journal old new reply agrees replies)
 
 -- a journal that was just read agrees with what was told of its file
 pub agrees_read : (file : Option (Option (List ℕ))) (text : List ℕ) → Agrees file (Some text) → Agrees (left_of file None) (entries_of text)
