@@ -12,6 +12,3 @@ pub use aio_ready::{HandleId, Name, Ticket};
 pub use aio_timer::{TimerId, Unplaced};
 pub use parts::Parts;
 pub use suspension::Suspension;
-
-#[cfg(test)]
-mod tests;
