@@ -1,0 +1,8 @@
+-- Code's commands as the definitions have them.
+use Rattle.model_machine.specs.Words as plain
+use Rattle.aio_words.specs.declared.command.Command.{Command}
+use Rattle.aio_words.specs.declared.command.Command.TheVariants.{Check, Replay}
+
+abbrev pub plain_command : Command → plain.Command
+plain_command (Check script) = plain.Check script.now
+plain_command (Replay script journal trace turns) = plain.Replay script.now journal.now trace turns
