@@ -1,6 +1,7 @@
 -- What driving a run leaves.
 use Rattle.std.specs.Prelude.{◌≡◌, ℕ, List, ◌++◌, ◌⊎◌}
 use Rattle.model_tree.specs.Syntax.{Program}
+use Rattle.model_wire.specs.Event.{Event}
 use Rattle.model_wire.specs.Journal.{Entry}
 use Rattle.model_wire.specs.Told.{Agrees, Rose, WireSeen}
 use Rattle.model_wire.specs.Trace.{End}
@@ -32,4 +33,5 @@ MayDrive program how fault before after undisturbed output =
 -- how a run ends that may make no further turn
 abbrev pub LastOf : Kernel → (turns : ℕ) → End → Type 0
 LastOf kernel turns end =
-    (s : State (Unit {0})) → StandsFor kernel s → end ≡ turns_over (is_stalled no_extra s) turns
+    (past : List Event) (answers : List Entry) (s : State (Unit {0})) → StandsFor past answers kernel s
+    → end ≡ turns_over (is_stalled no_extra s) turns

@@ -1,8 +1,8 @@
 //! Commands and their words.
-ghost use Rattle.std.specs.Prelude.{◌≡◌, [], ◌∷◌, map, string_bytes};
+ghost use Rattle.std.specs.Prelude.{◌≡◌, [], ◌∷◌, map, string_bytes, IfSome};
 ghost use Rattle.std.specs.Option.{option_map};
 ghost use Rattle.model_machine.specs.Words.{command_of as plain_command_of, check_of, replay_of, is_name};
-ghost use Rattle.aio_words.specs.Commands.{plain_command};
+ghost use Rattle.aio_words.specs.Commands.{AllowsSome, plain_command};
 
 use crate::given::{Given, command_from};
 
@@ -21,9 +21,10 @@ pub enum Command<'a> {
 }
 
 /// What the words ask for, where they ask for something: `check SCRIPT`, or `replay SCRIPT JOURNAL`, with `--trace` and
-/// `--turns N` among the names in any order. No name is empty or begins with a dash.
+/// `--turns N` among the names in any order. No name is empty or begins with a dash, and at least one turn is allowed.
 pub fn command_of(words: &[String]) -> Option<Command<'_>>
-    ensures { option_map plain_command result ≡ plain_command_of (map string_bytes words.now) }
+    ensures command { option_map plain_command result ≡ plain_command_of (map string_bytes words.now) }
+    ensures some { IfSome result AllowsSome }
 {
     match words {
         [] => None,
@@ -32,7 +33,8 @@ pub fn command_of(words: &[String]) -> Option<Command<'_>>
 }
 
 fn command_with<'a>(verb: &str, words: &'a [String]) -> Option<Command<'a>>
-    ensures { option_map plain_command result ≡ plain_command_of (verb.now ∷ map string_bytes words.now) }
+    ensures command { option_map plain_command result ≡ plain_command_of (verb.now ∷ map string_bytes words.now) }
+    ensures some { IfSome result AllowsSome }
 {
     if verb == "check" {
         check_of(words)
@@ -44,7 +46,8 @@ fn command_with<'a>(verb: &str, words: &'a [String]) -> Option<Command<'a>>
 }
 
 fn check_of(words: &[String]) -> Option<Command<'_>>
-    ensures { option_map plain_command result ≡ check_of (map string_bytes words.now) }
+    ensures command { option_map plain_command result ≡ check_of (map string_bytes words.now) }
+    ensures some { IfSome result AllowsSome }
 {
     match words {
         [script] => check_script(script.as_str()),
@@ -53,7 +56,8 @@ fn check_of(words: &[String]) -> Option<Command<'_>>
 }
 
 fn check_script(script: &str) -> Option<Command<'_>>
-    ensures { option_map plain_command result ≡ check_of (script.now ∷ []) }
+    ensures command { option_map plain_command result ≡ check_of (script.now ∷ []) }
+    ensures some { IfSome result AllowsSome }
 {
     if is_name(script) {
         Some(Command::Check { script })
@@ -63,7 +67,8 @@ fn check_script(script: &str) -> Option<Command<'_>>
 }
 
 fn replay_of(words: &[String]) -> Option<Command<'_>>
-    ensures { option_map plain_command result ≡ replay_of (map string_bytes words.now) }
+    ensures command { option_map plain_command result ≡ replay_of (map string_bytes words.now) }
+    ensures some { IfSome result AllowsSome }
 {
     command_from(Given::none(), words)
 }

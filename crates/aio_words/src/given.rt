@@ -1,8 +1,8 @@
 //! The words of a replay that were taken so far.
-ghost use Rattle.std.specs.Prelude.{◌≡◌, ◌∷◌, ℕ, true, [], List, Some, None, map, string_bytes, codes, MatchOption};
+ghost use Rattle.std.specs.Prelude.{◌≡◌, ◌≤◌, ◌∷◌, ℕ, true, [], List, Some, None, map, string_bytes, codes, IfSome, MatchOption};
 ghost use Rattle.std.specs.Option.{option_copied, option_map};
 ghost use Rattle.model_machine.specs.Words.{is_name, limit_of, replay_of, replay_with, turns_of};
-ghost use Rattle.aio_words.specs.Commands.{plain_command};
+ghost use Rattle.aio_words.specs.Commands.{AllowsSome, plain_command};
 ghost use Rattle.aio_words.specs.Given.{gathered, left, limits_of, traces_of, with_option};
 
 use crate::command::{Command, is_name};
@@ -103,7 +103,8 @@ impl<'a> Given<'a> {
 
     /// What was asked for, where no word is left.
     pub fn command(self) -> Option<Command<'a>>
-        ensures { option_map plain_command result ≡ left self.entry [] }
+        ensures command { option_map plain_command result ≡ left self.entry [] }
+        ensures some { IfSome result AllowsSome }
     {
         match self.names {
             Names::Both { script, journal } => replay(script, journal, self.trace, self.turns),
@@ -118,8 +119,9 @@ fn replay<'a>(
     trace: bool,
     turns: Option<&[u8]>,
 ) -> Option<Command<'a>>
-    ensures { option_map plain_command result
+    ensures command { option_map plain_command result
         ≡ replay_with (script.now ∷ journal.now ∷ []) (traces_of trace) (limits_of (option_copied turns.entry)) }
+    ensures some { IfSome result AllowsSome }
 {
     let turns = limit_of(turns)?;
     Some(Command::Replay {
@@ -132,7 +134,8 @@ fn replay<'a>(
 
 /// How many turns are allowed.
 fn limit_of(value: Option<&[u8]>) -> Option<u64>
-    ensures { result ≡ limit_of (limits_of (option_copied value.entry)) }
+    ensures limit { result ≡ limit_of (limits_of (option_copied value.entry)) }
+    ensures some { IfSome result (λ turns. 1 ≤ turns) }
 {
     match value {
         Some(value) => turns_of(value),
@@ -142,7 +145,8 @@ fn limit_of(value: Option<&[u8]>) -> Option<u64>
 
 /// How many turns a value allows: 1 to 13 digits, and a number from 1 to 1,099,511,627,776.
 fn turns_of(value: &[u8]) -> Option<u64>
-    ensures { result ≡ turns_of value.now }
+    ensures turns { result ≡ turns_of value.now }
+    ensures some { IfSome result (λ turns. 1 ≤ turns) }
 {
     if value.len() > 13 {
         return None;
@@ -155,7 +159,8 @@ fn turns_of(value: &[u8]) -> Option<u64>
 
 /// What a replay's words ask for, of which some were taken. It goes on for as many words as may stand.
 pub fn command_from<'a>(given: Given<'a>, rest: &'a [String]) -> Option<Command<'a>>
-    ensures { option_map plain_command result ≡ left given.entry (map string_bytes rest.now) }
+    ensures command { option_map plain_command result ≡ left given.entry (map string_bytes rest.now) }
+    ensures some { IfSome result AllowsSome }
 {
     if rest.is_empty() {
         return given.command();

@@ -2,8 +2,8 @@ use Rattle.std.proofs.Common.{Option, IfErr, refl, subst}
 use Rattle.std.proofs.lemmas.Result.{IfOk-weaker, IfErr-weaker}
 use Rattle.model_wire.specs.Told.{NoneFailed}
 use Rattle.model_machine.specs.Words.{Command}
-use Rattle.model_straight.specs.Program.{MayWrite, words_refused}
-use Rattle.aio_run.specs.Outcome.{EndsEarly}
+use Rattle.model_machine.specs.Program.{MayWrite, words_refused}
+use Rattle.aio_drive.specs.Outcome.{EndsEarly}
 use Rattle.aio_run.proofs.Outcomes.{line_early}
 use Rattle.aio_run.proofs.program.serve.Goals as goal
 

@@ -30,15 +30,15 @@ word_then rest word text is same more some other =
     ∙ ap (λ (t : List ℕ). t ∷ joined (map string_bytes (drop 1 rest))) (sym same)
     ∙ ap (λ (others : List (String Global)). text ∷ joined (map string_bytes others)) (sym (take_rest rest 1))
 
-pub returns-in_err-with_word-2 : goal.returns-in_err-with_word-2
-returns-in_err-with_word-2 t c =
+pub returns-in_err-with_word-2-clause-command : goal.returns-in_err-with_word-2-clause-command
+returns-in_err-with_word-2-clause-command t c =
     let on = word_then c.args.rest.now c.index-rest-0.result c.as_str-word.result.now c.index-rest-0.is c.as_str-word.ensures.value
     c.if-rest-eq1.false c.if-is_empty.ensures c.if-eq.ensures in
     ap (λ o. option_map plain_command o) c.from_residual-in_err-with_word-2.ensures
     ∙ sym (ap (gathered c.args.given) on ∙ c.in_err-with_word-2.ensures (after c.args.rest.now))
 
-pub returns-in_ok-with_word-2 : goal.returns-in_ok-with_word-2
-returns-in_ok-with_word-2 t c =
+pub returns-in_ok-with_word-2-clause-command : goal.returns-in_ok-with_word-2-clause-command
+returns-in_ok-with_word-2-clause-command t c =
     let on = word_then c.args.rest.now c.index-rest-0.result c.as_str-word.result.now c.index-rest-0.is c.as_str-word.ensures.value
     c.if-rest-eq1.false c.if-is_empty.ensures c.if-eq.ensures in
-    c.command_from-else-eq.ensures ∙ sym (ap (gathered c.args.given) on ∙ c.in_ok-with_word-2.ensures (after c.args.rest.now))
+    c.command_from-else-eq.ensures.command ∙ sym (ap (gathered c.args.given) on ∙ c.in_ok-with_word-2.ensures (after c.args.rest.now))
