@@ -2,15 +2,14 @@
 #![tactic(auto)]
 
 mod files;
-mod no_wire;
 mod output;
 #[cfg(test)]
 mod tests;
 
 use aio_base::Memory;
+use aio_memwire::DeadWire;
 use aio_run::aio_main;
 use files::Files;
-use no_wire::NoWire;
 use output::Output;
 use std::env;
 use std::io::ErrorKind;
@@ -26,7 +25,7 @@ fn main(rt: HostRuntime) -> ExitCode {
         return ExitCode::from(OUT_OF_MEMORY);
     };
     let mut files = Files::new(&rt);
-    let mut wire = NoWire::new();
+    let mut wire = DeadWire::new();
     let mut output = Output::new(&rt);
     ExitCode::from(aio_main(alloc, &words, &mut files, &mut wire, &mut output))
 }

@@ -10,7 +10,8 @@ use crate::answers::{exits_fit, read_answer};
 use crate::tokens::Token;
 use crate::words::Words;
 use aio_base::Memory;
-use aio_wire::{Answer, JournalFault, push_answer};
+use aio_wire::{Answer, JournalFault};
+use aio_written::push_answer;
 use std::alloc::Global;
 use thiserror::Error;
 

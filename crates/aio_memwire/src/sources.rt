@@ -1,15 +1,13 @@
 //! Sources and shelves of which chosen calls fail.
-ghost use Rattle.std.specs.Prelude.{◌+◌};
-
 use crate::fail_at::{FailAt, fails};
 use aio_base::Memory;
 use aio_wire::{Shelf, SinkTook, Source, SourceGot};
 use std::alloc::Global;
 
 impl<I: Source> Source for FailAt<I> {
-    ghost faults = { λ source. I.faults source.inner + source.faults };
+    ghost use Rattle.aio_memwire.specs.Sums.{source_with};
 
-    ghost left = { λ source. I.left source.inner };
+    ghost seen = { λ source. source_with source.faults (I.seen source.inner) };
 
     fn read(&mut self, alloc: Global, max: usize) -> Result<SourceGot, Memory> {
         if fails(self.calls.as_slice(), &mut self.made, &mut self.faults) {

@@ -1,21 +1,13 @@
 //! Wires of which chosen calls fail.
-ghost use Rattle.std.specs.Prelude.{◌≡◌, ◌+◌};
-
 use crate::fail_at::{FailAt, fails};
 use aio_base::Memory;
 use aio_wire::{Call, Reply, Wire};
 use std::alloc::Global;
 
 impl<I: Wire> Wire for FailAt<I> {
-    ghost faults = { λ wire. I.faults wire.inner + wire.faults };
+    ghost use Rattle.aio_memwire.specs.Sums.{wire_with};
 
-    ghost answers = { λ wire. I.answers wire.inner };
-
-    ghost end = { λ wire. I.end wire.inner };
-
-    ghost is_fitting = { λ wire. I.is_fitting wire.inner };
-
-    ghost handed = { λ wire. I.handed wire.inner };
+    ghost seen = { λ wire. wire_with wire.faults (I.seen wire.inner) };
 
     ghost fails = { λ wire. I.fails wire.inner };
 

@@ -5,7 +5,8 @@ ghost use Rattle.model_wire.specs.Trace.{line, end_text};
 
 use crate::actions::{push_id, push_number, push_text};
 use aio_base::{Exc, Memory, Value, show, show_exc};
-use aio_wire::{Call, push_call};
+use aio_wire::Call;
+use aio_written::push_call;
 use std::alloc::Global;
 
 /// What the last line of a transcript tells: one case for each.

@@ -5,7 +5,8 @@ ghost use Rattle.model_wire.specs.Trace.{line_of, lines_of_events};
 
 use crate::actions::{push_action, push_id, push_text};
 use aio_base::Memory;
-use aio_wire::{Event, Events, push_answer, push_call};
+use aio_wire::{Event, Events};
+use aio_written::{push_answer, push_call};
 use std::alloc::Global;
 
 /// Appends the lines of events, in order: those that tasks print, and with the trace each call, answer and handle. Want

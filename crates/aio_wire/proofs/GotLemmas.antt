@@ -2,8 +2,8 @@
 use Rattle.std.proofs.Common.{◌≡◌, ℕ, zero, suc, ◌≤◌, List, [], ◌∷◌, ◌++◌, length, take, drop, Some, refl, sym, ap, ◌∙◌, arith, length-take, length-drop}
 use Rattle.std.proofs.lemmas.List.{take_min, take-append-drop}
 use Rattle.std.proofs.Math.Seq.{drop-nil}
-use Rattle.model_wire.specs.Told.{ShelfSeen}
-use Rattle.aio_wire.specs.Got.{got_of, FitsRead, ReadLeaves, ReadLeavesShelf, ReadsAt, FailedIfRose}
+use Rattle.model_wire.specs.Told.{ShelfSeen, SourceSeen}
+use Rattle.aio_wire.specs.Got.{got_of, FitsRead, ReadLeaves, ReadLeavesShelf, ReadsAt}
 use Rattle.aio_wire.specs.declared.source.SourceGot.{SourceGot}
 use Rattle.aio_wire.specs.declared.source.SourceGot.TheVariants.{Bytes, End}
 
@@ -22,18 +22,18 @@ pub FitsRead-got_of : (max : ℕ) (left : List ℕ) → FitsRead max (got_of (ta
 FitsRead-got_of max left =
     got_of_cases (FitsRead max) (take max left) (λ none. tt) (λ some. (some, omega (arith, length-take max left)))
 
+-- a source that tells that this is left, and never failed
+abbrev pub telling : List ℕ → SourceSeen
+telling left = record { left = Some left; faults = 0 }
+
 -- the first of those that are left, which are then gone
-pub ReadLeaves-got_of : (max : ℕ) (left : List ℕ) → 1 ≤ max → ReadLeaves (Some left) (Some (drop max left)) (got_of (take max left))
+pub ReadLeaves-got_of : (max : ℕ) (left : List ℕ) → 1 ≤ max → ReadLeaves (telling left) (telling (drop max left)) (got_of (take max left))
 ReadLeaves-got_of max left some =
-    got_of_cases (ReadLeaves (Some left) (Some (drop max left))) (take max left)
+    got_of_cases (ReadLeaves (telling left) (telling (drop max left))) (take max left)
     (λ none. let empty = none_left max left some none in (λ held is. let same : left ≡ held = cc in sym same ∙ empty, rw (empty, drop-nil max)))
     (λ given rest new held is. let told : rest ≡ drop max left = sym (new (drop max left) refl) in let same : left ≡ held = cc in sym same ∙ sym (take-append-drop max left) ∙ ap (λ later. take max left ++ later) (sym told))
 
--- a read of bytes in memory never fails
-pub FailedIfRose-got_of : (before now : ℕ) (bytes : List ℕ) → FailedIfRose before now (got_of bytes)
-FailedIfRose-got_of before now bytes = got_of_cases (FailedIfRose before now) bytes (λ none. tt) (λ some. tt)
-
--- and leaves a shelf as it was
+-- a read of bytes in memory leaves a shelf as it was
 pub ReadLeavesShelf-got_of : (name : List ℕ) (old new : ShelfSeen) (bytes : List ℕ) → new ≡ old → ReadLeavesShelf name old new (got_of bytes)
 ReadLeavesShelf-got_of name old new bytes same = got_of_cases (ReadLeavesShelf name old new) bytes (λ none. same) (λ some. same)
 

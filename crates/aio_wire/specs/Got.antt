@@ -1,6 +1,6 @@
 -- What a read may give.
 use Rattle.std.specs.Prelude.{◌≡◌, ℕ, ◌≤◌, List, [], ◌∷◌, ◌++◌, Option, Some, length, drop, take}
-use Rattle.model_wire.specs.Told.{Agrees, Rose, ShelfSeen, FileFailed, NoneFell}
+use Rattle.model_wire.specs.Told.{Agrees, Rose, ShelfSeen, SourceSeen, FileFailed, NoneFell}
 use Rattle.aio_wire.specs.declared.source.SourceGot.{SourceGot}
 use Rattle.aio_wire.specs.declared.source.SourceGot.TheVariants.{Bytes, End, Failed}
 
@@ -15,17 +15,12 @@ FitsRead max (Bytes bytes) = (1 ≤ length bytes) × (length bytes ≤ max)
 FitsRead max End = Unit {0}
 FitsRead max Failed = Unit {0}
 
--- Bytes are the next of what is left, and are then gone; the end comes where nothing is left.
-abbrev pub ReadLeaves : Option (List ℕ) → Option (List ℕ) → SourceGot → Type 0
-ReadLeaves old new (Bytes bytes) = (rest : List ℕ) → Agrees new rest → Agrees old (bytes ++ rest)
-ReadLeaves old new End = Agrees old [] × (new ≡ old)
-ReadLeaves old new Failed = new ≡ old
-
--- a read fails only where the count of faults rose in the call
-abbrev pub FailedIfRose : ℕ → ℕ → SourceGot → Type 0
-FailedIfRose before now (Bytes bytes) = Unit {0}
-FailedIfRose before now End = Unit {0}
-FailedIfRose before now Failed = Rose before now
+-- Bytes are the next of what is left, and are then gone; the end comes where nothing is left; a read that failed takes
+-- nothing, and is counted.
+abbrev pub ReadLeaves : SourceSeen → SourceSeen → SourceGot → Type 0
+ReadLeaves old new (Bytes bytes) = (rest : List ℕ) → Agrees new.left rest → Agrees old.left (bytes ++ rest)
+ReadLeaves old new End = Agrees old.left [] × (new.left ≡ old.left)
+ReadLeaves old new Failed = (new.left ≡ old.left) × Rose old.faults new.faults
 
 -- What a read from a place gives of a file: its bytes there, or the end where none are there. A missing file gives
 -- neither.

@@ -7,4 +7,3 @@ pub mod Replied
 pub mod Shelved
 pub mod Told
 pub mod Took
-pub mod Watched

@@ -1,5 +1,5 @@
 -- What an ask of a port does: it asks the wire once, and notes the call and the answer.
-use Rattle.std.specs.Prelude.{◌≡◌, ℕ, Bool, List, ◌++◌, Result, Ok, Err, if◌then◌else◌}
+use Rattle.std.specs.Prelude.{◌≡◌, ℕ, List, ◌++◌, Result, Ok, Err, if◌then◌else◌, ◌⊎◌}
 use Rattle.model_wire.specs.declared.event.Event.TheVariants as event
 use Rattle.model_wire.specs.Call.{Call, Answer}
 use Rattle.model_wire.specs.Event.{Event}
@@ -32,3 +32,16 @@ Exchanges call old new result said = (new ≡ events_after old call said) × (re
 -- Memory was refused: no event is lost.
 abbrev pub StopsShort : EventList → EventList → Result Answer Stop → Type 0
 StopsShort old new result = (result ≡ Err stop.Memory) × ((more : List Event) × (new.events ≡ old.events ++ more))
+
+-- each answer is that the wire failed, but where memory was refused
+abbrev pub AlwaysFails : Call → Result Answer Stop → Type 0
+AlwaysFails call result = (result ≡ Err (stop.Failed call)) ⊎ (result ≡ Err stop.Memory)
+
+-- a fact that holds unless the wire failed
+abbrev pub UnlessStopped : Type 0 → Result Answer Stop → Type 0
+UnlessStopped fact (Ok answer) = fact
+UnlessStopped fact (Err (stop.Over call)) = fact
+UnlessStopped fact (Err (stop.Bad fault)) = fact
+UnlessStopped fact (Err (stop.Mismatch count call)) = fact
+UnlessStopped fact (Err (stop.Failed call)) = Unit {0}
+UnlessStopped fact (Err stop.Memory) = fact

@@ -19,7 +19,6 @@ mod stop;
 mod tests;
 mod window;
 mod wire;
-mod writing;
 
 pub use aio_base::ChildItem;
 pub use call::{Answer, Call};
@@ -37,4 +36,3 @@ pub use sink::{Sink, SinkTook};
 pub use source::{Source, SourceGot};
 pub use stop::Stop;
 pub use wire::{JournalFault, Reply, Wire};
-pub use writing::{push_answer, push_call};

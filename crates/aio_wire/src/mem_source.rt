@@ -31,9 +31,7 @@ impl MemSource {
 }
 
 impl Source for MemSource {
-    ghost faults = { λ _. 0 };
-
-    ghost left = { λ source. Some source };
+    ghost seen = { λ source. record { left = Some source; faults = 0 } };
 
     fn read(&mut self, alloc: Global, max: usize) -> Result<SourceGot, Memory>
         ensures next { IfOk result (λ got. got ≡ got_of (take max self.old)) }

@@ -1,7 +1,7 @@
 //! Where the loop asks the outside.
-ghost use Rattle.std.specs.Prelude.{◌≡◌, ◌≤◌, ◌⊎◌};
-ghost use Rattle.aio_wire.specs.Port.{Exchanges, StopsShort};
-ghost use Rattle.aio_wire.specs.Replied.{Replied, FailedIfRose, EndsAs, asked_after, handed_after};
+ghost use Rattle.std.specs.Prelude.{◌≡◌, ◌⊎◌};
+ghost use Rattle.aio_wire.specs.Port.{Exchanges, StopsShort, AlwaysFails, UnlessStopped};
+ghost use Rattle.aio_wire.specs.Replied.{Replied, MayHaveReplied, Stays};
 ghost use Rattle.aio_wire.specs.declared.wire.Reply.{Reply as AnyReply};
 
 use crate::call::{Answer, Call};
@@ -42,15 +42,13 @@ impl<'a, W: Wire> Port<'a, W> {
         ensures wire_name { self.new.wire.ghost_name ≡ self.old.wire.ghost_name }
         ensures events_name { self.new.events.ghost_name ≡ self.old.events.ghost_name }
         ensures asks { ((said : AnyReply) × Exchanges call self.old.events.now self.new.events.now result said
-            × Replied (W.answers self.old.wire.now) (W.answers self.new.wire.now) said
-            × EndsAs (W.end self.new.wire.now) said
-            × FailedIfRose (W.faults self.old.wire.now) (W.faults self.new.wire.now) said
-            × (W.asked self.new.wire.now ≡ asked_after (W.asked self.old.wire.now) call)
-            × (W.handed self.new.wire.now ≡ handed_after (W.handed self.old.wire.now) call said))
-            ⊎ StopsShort self.old.events.now self.new.events.now result }
-        ensures fitting { W.is_fitting self.new.wire.now ≡ W.is_fitting self.old.wire.now }
-        ensures later { W.faults self.old.wire.now ≤ W.faults self.new.wire.now }
+            × Replied call (W.seen self.old.wire.now) (W.seen self.new.wire.now) said)
+            ⊎ (StopsShort self.old.events.now self.new.events.now result
+            × MayHaveReplied call (W.seen self.old.wire.now) (W.seen self.new.wire.now)) }
+        ensures stays { Stays (W.seen self.old.wire.now) (W.seen self.new.wire.now) }
+        ensures fails { W.fails self.old.wire.now → AlwaysFails call result }
         ensures keeps { W.keeps self.old.wire.now self.new.wire.now }
+        ensures quiet { UnlessStopped (W.quiet self.old.wire.now self.new.wire.now) result }
     {
         let noted = copy_of_call(alloc, &call)?;
         self.events.push(Event::Called(noted))?;

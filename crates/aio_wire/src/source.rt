@@ -1,7 +1,7 @@
 //! Where bytes come from.
-ghost use Rattle.std.specs.Prelude.{◌≡◌, ℕ, ◌≤◌, List, Option, IfOk, IfErr, OnErr, IsOk};
-ghost use Rattle.model_wire.specs.Told.{Agrees};
-ghost use Rattle.aio_wire.specs.Got.{FitsRead, ReadLeaves, FailedIfRose};
+ghost use Rattle.std.specs.Prelude.{◌≡◌, ◌≤◌, IfOk, OnErr};
+ghost use Rattle.model_wire.specs.Told.{SourceSeen};
+ghost use Rattle.aio_wire.specs.Got.{FitsRead, ReadLeaves};
 
 use aio_base::{Blob, Memory};
 use std::alloc::Global;
@@ -19,18 +19,15 @@ pub enum SourceGot {
 
 /// A source of bytes. Source: the library reference, `io.RawIOBase.read`.
 pub trait Source {
-    /// How often it failed; the count never falls.
-    ghost faults: { Self → ℕ };
+    /// What is left, where that is told, and how often it failed.
+    ghost seen: { Self → SourceSeen };
 
-    /// What is left, where that is told.
-    ghost left: { Self → Option (List ℕ) };
-
-    /// The next bytes, at most so many. Want of memory changes nothing.
+    /// The next bytes, at most so many. Where it failed, its count rose; the count never falls. Want of memory changes
+    /// nothing, and is no failure.
     fn read(&mut self, alloc: Global, max: usize) -> Result<SourceGot, Memory>
         requires { 1 ≤ max }
         ensures size { IfOk result (FitsRead max) }
-        ensures left { IfOk result (ReadLeaves (left self.old) (left self.new)) }
-        ensures failed { IfOk result (FailedIfRose (faults self.old) (faults self.new)) }
-        ensures later { faults self.old ≤ faults self.new }
-        ensures err { OnErr result (left self.new ≡ left self.old) };
+        ensures left { IfOk result (ReadLeaves (seen self.old) (seen self.new)) }
+        ensures later { (seen self.old).faults ≤ (seen self.new).faults }
+        ensures err { OnErr result (seen self.new ≡ seen self.old) };
 }

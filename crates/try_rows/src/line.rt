@@ -13,6 +13,8 @@ pub enum RowLine<'a> {
     Written,
     /// `status NUMBER`: how the program must end.
     Status(&'a str),
+    /// `fails CALL`: a call of the outside that fails, as `shelf 2` or `sink 1`.
+    Fails(&'a str),
     /// `|TEXT`: a line of the text that began last.
     Text(&'a [u8]),
     /// `:TEXT`: the end of the text that began last, without a newline.
@@ -39,6 +41,7 @@ fn head_of(words: &str) -> RowLine<'_> {
         Some(("word", word)) => RowLine::Word(word),
         Some(("file", name)) => RowLine::File(name),
         Some(("status", number)) => RowLine::Status(number),
+        Some(("fails", call)) => RowLine::Fails(call),
         _ if words == "written" => RowLine::Written,
         _ => RowLine::Comment,
     }

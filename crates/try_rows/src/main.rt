@@ -2,7 +2,6 @@
 //! out otherwise it prints a line, and at the end how many rows there were.
 #![tactic(auto)]
 
-mod dead_wire;
 mod line;
 mod row;
 mod stopped;

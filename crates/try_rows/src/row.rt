@@ -1,8 +1,9 @@
 //! A row: words, files, and what must come of them.
-use crate::dead_wire::DeadWire;
 use crate::line::RowLine;
 use aio_base::Memory;
+use aio_memwire::{DeadWire, FailAt};
 use aio_run::aio_main;
+use aio_text::number;
 use aio_wire::{MemShelf, MemSink, Shelf};
 use std::alloc::Global;
 
@@ -14,12 +15,14 @@ enum Into {
     Written,
 }
 
-/// The words of one call of the program, its files, what it must write and how it must end.
+/// The words of one call of the program, its files, which calls of the outside fail, what it must write and how it must
+/// end.
 #[derive(Drop)]
 pub struct Row {
     pub name: String,
     words: Vec<String>,
-    shelf: MemShelf,
+    shelf: FailAt<MemShelf>,
+    out: FailAt<MemSink>,
     file: String,
     into: Into,
     written: Vec<u8>,
@@ -42,7 +45,8 @@ impl Row {
         Ok(Row {
             name: String::from_str(alloc, name)?,
             words: Vec::new(alloc),
-            shelf: MemShelf::new(alloc),
+            shelf: FailAt::new(MemShelf::new(alloc), Vec::new(alloc)),
+            out: FailAt::new(MemSink::new(alloc), Vec::new(alloc)),
             file: String::new(alloc),
             into: Into::Nowhere,
             written: Vec::new(alloc),
@@ -70,6 +74,7 @@ impl Row {
                 self.into = Into::Written;
                 Ok(())
             }
+            RowLine::Fails(call) => self.add_failing(call),
             RowLine::Text(text) => {
                 self.add_text(alloc, text)?;
                 self.add_text(alloc, b"\n")
@@ -77,6 +82,22 @@ impl Row {
             RowLine::End(text) => self.add_text(alloc, text),
             RowLine::Row(_) | RowLine::Comment => Ok(()),
         }
+    }
+
+    /// Notes a call that fails: of the shelf or of the sink, counted from 1 over all calls that the program makes on it.
+    fn add_failing(&mut self, call: &str) -> Result<(), Memory> {
+        let Some((of, words)) = call.split_once(' ') else {
+            return Ok(());
+        };
+        let Some(number) = number(words.as_bytes()) else {
+            return Ok(());
+        };
+        match of {
+            "shelf" => self.shelf.calls.push(number)?,
+            "sink" => self.out.calls.push(number)?,
+            _ => {}
+        }
+        Ok(())
     }
 
     fn add_text(&mut self, alloc: Global, text: &[u8]) -> Result<(), Memory> {
@@ -87,7 +108,7 @@ impl Row {
                 Ok(())
             }
             Into::File => {
-                self.shelf.append(alloc, self.file.as_str(), text)?;
+                self.shelf.inner.append(alloc, self.file.as_str(), text)?;
                 Ok(())
             }
         }
@@ -95,18 +116,17 @@ impl Row {
 
     /// Runs the program over the row's words and files.
     pub fn run(&mut self, alloc: Global) -> Verdict {
-        let mut out = MemSink::new(alloc);
         let status = aio_main(
             alloc,
             &self.words,
             &mut self.shelf,
             &mut DeadWire::new(),
-            &mut out,
+            &mut self.out,
         );
-        if aio_text::number(&self.status) != Some(u64::from(status)) {
+        if number(&self.status) != Some(u64::from(status)) {
             return Verdict::OtherStatus(status);
         }
-        match first_difference(out.taken(), &self.written) {
+        match first_difference(self.out.inner.taken(), &self.written) {
             Some(at) => Verdict::OtherText(at),
             None => Verdict::Right,
         }

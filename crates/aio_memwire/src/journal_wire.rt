@@ -1,0 +1,170 @@
+//! A journal on a shelf, as a wire.
+ghost use Rattle.std.specs.Prelude.{◌≡◌, ◌≤◌, true, false, [], Some, None, IfOk, OnOk, OnErr, IsErr};
+ghost use Rattle.aio_wire.specs.Replied.{Replied, Unreplied, Stays, UnlessFailed, Leaves, EndsAs, FailedIfRose};
+ghost use Rattle.aio_wire.specs.declared.wire.Reply.TheVariants.{Failed};
+ghost use Rattle.aio_memwire.specs.Held.{held};
+ghost use Rattle.aio_memwire.specs.JournalWire.{left_of, end_of, seen_of};
+
+use crate::buffers::Buffers;
+use crate::handed::HandedBytes;
+use crate::journal::Journal;
+use crate::reading::{ReadFault, read_file};
+use aio_base::Memory;
+use aio_wire::{Call, Reply, Shelf, Wire, copy_of_call};
+use model_wire::Handed;
+use std::alloc::Global;
+
+/// A wire whose answers are the lines of a shelf's file. The file is read whole at the first ask, so it fails in that
+/// call or not at all. It keeps the calls that it was asked and the bytes that it handed on, and after a want of memory
+/// it answers nothing more.
+pub struct JournalWire<'a, F, B = Buffers> {
+    pub shelf: &'a mut F,
+    pub name: &'a str,
+    pub own: B,
+}
+
+impl<'a, F, B: Drop> Drop for JournalWire<'a, F, B> {
+    fn drop(self)
+        ensures { self.exit.0.now ≡ self.entry.shelf.now }
+    {
+        let JournalWire {
+            shelf: _,
+            name: _,
+            own: _,
+        } = self;
+    }
+}
+
+impl<'a, F: Shelf> JournalWire<'a, F, Buffers> {
+    /// The wire of the shelf's file of this name. Nothing is read yet.
+    pub fn new(alloc: Global, shelf: &'a mut F, name: &'a str) -> JournalWire<'a, F, Buffers>
+        ensures shelf { result.shelf.ghost_name ≡ shelf.entry.ghost_name }
+        ensures kept { result.shelf.now ≡ shelf.old }
+        ensures name { result.name.now ≡ name.now }
+        ensures unread { result.own.journal ≡ None }
+        ensures unasked { result.own.asked.items ≡ [] }
+        ensures unhanded { held result.own.handed ≡ λ _. [] }
+        ensures unspent { result.own.is_spent ≡ false }
+    {
+        JournalWire {
+            shelf,
+            name,
+            own: Buffers {
+                journal: None,
+                asked: Vec::new(alloc),
+                handed: HandedBytes::new(alloc),
+                is_spent: false,
+            },
+        }
+    }
+
+    /// The bytes that a connection or a child was handed, none for a number that was never made.
+    pub fn handed(&self, of: Handed) -> &[u8]
+        ensures { result.now ≡ held self.now.own.handed of }
+    {
+        self.own.handed.of(of)
+    }
+}
+
+impl<'a, F: Shelf> Wire for JournalWire<'a, F, Buffers> {
+    ghost use Rattle.std.specs.Prelude.{◌≡◌, None, Some};
+    ghost use Rattle.aio_memwire.specs.JournalWire.{seen_of};
+
+    ghost seen = { λ wire. seen_of (F.seen wire.shelf.now) wire.name.now wire.own };
+
+    ghost fails = { λ wire. (wire.own.journal ≡ None)
+        × ((F.seen wire.shelf.now).file wire.name.now ≡ Some None) };
+
+    ghost keeps = { λ old new. (new.shelf.ghost_name ≡ old.shelf.ghost_name)
+        × (new.name.now ≡ old.name.now)
+        × ((F.seen new.shelf.now).file ≡ (F.seen old.shelf.now).file) };
+
+    ghost quiet = { λ old new. F.seen new.shelf.now ≡ F.seen old.shelf.now };
+
+    ghost use Rattle.aio_memwire.specs.JournalWire.{ends_as_left};
+
+    ghost end_agrees = { λ wire.
+        ends_as_left ((F.seen wire.shelf.now).file wire.name.now) wire.own.journal };
+
+    ghost use Rattle.std.specs.Prelude.{refl};
+    ghost use Rattle.std.proofs.Common.{◌∙◌};
+
+    ghost keeps_same = { λ wire. (refl, refl, refl) };
+
+    ghost keeps_on = { λ before between after first second.
+        (second.0 ∙ first.0, second.1 ∙ first.1, second.2 ∙ first.2) };
+
+    ghost quiet_same = { λ wire. refl };
+
+    ghost quiet_on = { λ before between after first second. second ∙ first };
+
+    fn ask(&mut self, alloc: Global, call: &Call) -> Result<Reply, Memory>
+        ensures replied { IfOk result (Replied call.now
+            (seen_of (F.seen self.old.shelf.now) self.old.name.now self.old.own)
+            (seen_of (F.seen self.new.shelf.now) self.new.name.now self.new.own)) }
+        ensures unreplied { OnErr result (Unreplied call.now
+            (seen_of (F.seen self.old.shelf.now) self.old.name.now self.old.own)
+            (seen_of (F.seen self.new.shelf.now) self.new.name.now self.new.own)) }
+        ensures later { (F.seen self.old.shelf.now).faults self.old.name.now
+            ≤ (F.seen self.new.shelf.now).faults self.old.name.now }
+        ensures missing { self.old.own.journal ≡ None
+            → (F.seen self.old.shelf.now).file self.old.name.now ≡ Some None
+            → IfOk result (λ reply. reply ≡ Failed) }
+        ensures shelf { self.new.shelf.ghost_name ≡ self.old.shelf.ghost_name }
+        ensures name { self.new.name.now ≡ self.old.name.now }
+        ensures files { (F.seen self.new.shelf.now).file ≡ (F.seen self.old.shelf.now).file }
+        ensures quiet { IfOk result
+            (UnlessFailed (F.seen self.new.shelf.now ≡ F.seen self.old.shelf.now)) }
+        ensures err { OnErr result (F.seen self.new.shelf.now ≡ F.seen self.old.shelf.now) }
+        ensures spends { OnErr result (self.new.own.is_spent ≡ true) }
+        ensures spent { self.old.own.is_spent ≡ true → IsErr result }
+    {
+        if self.own.is_spent {
+            return Err(Memory);
+        }
+        self.own.is_spent = true;
+        self.own.asked.push(copy_of_call(alloc, call)?)?;
+        let reply = next_reply(alloc, self.shelf, self.name, &mut self.own.journal)?;
+        self.own.handed.hand(alloc, call, &reply)?;
+        self.own.is_spent = false;
+        Ok(reply)
+    }
+}
+
+/// What a journal's wire replies next. The file is read where it wasn't yet.
+fn next_reply<F: Shelf>(
+    alloc: Global,
+    shelf: &mut F,
+    name: &str,
+    journal: &mut Option<Journal>,
+) -> Result<Reply, Memory>
+    ensures left { IfOk result (Leaves (left_of ((F.seen shelf.old).file name.now) journal.old)
+        (left_of ((F.seen shelf.new).file name.now) journal.new)) }
+    ensures ends { IfOk result (EndsAs (end_of journal.new)) }
+    ensures failed { IfOk result (FailedIfRose ((F.seen shelf.old).faults name.now)
+        ((F.seen shelf.new).faults name.now)) }
+    ensures later { (F.seen shelf.old).faults name.now ≤ (F.seen shelf.new).faults name.now }
+    ensures missing { journal.old ≡ None → (F.seen shelf.old).file name.now ≡ Some None
+        → IfOk result (λ reply. reply ≡ Failed) }
+    ensures files { (F.seen shelf.new).file ≡ (F.seen shelf.old).file }
+    ensures quiet { IfOk result (UnlessFailed (F.seen shelf.new ≡ F.seen shelf.old)) }
+    ensures err { OnErr result (F.seen shelf.new ≡ F.seen shelf.old) }
+{
+    match journal.take() {
+        Some(mut read) => {
+            let reply = read.next(alloc);
+            *journal = Some(read);
+            reply
+        }
+        None => match read_file(alloc, shelf, name) {
+            Ok(text) => {
+                let mut read = Journal::new(text);
+                let reply = read.next(alloc);
+                *journal = Some(read);
+                reply
+            }
+            Err(ReadFault::Memory) => Err(Memory),
+            Err(ReadFault::Failed) => Ok(Reply::Failed),
+        },
+    }
+}
