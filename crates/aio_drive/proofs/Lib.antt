@@ -1,3 +1,4 @@
 pub mod Driving
+pub mod Exits
 pub mod Fronts
 pub mod Turns

@@ -14,12 +14,12 @@ EndsAs end (next.Ends said) = said ≡ end
 EndsAs end _ = ⊥
 
 abbrev pub NextOf : Went → Next → Type 0
-NextOf went.Went next = next ≡ next.Turn
-NextOf (went.Finished outcome) next = EndsAs (end_of outcome) next
-NextOf went.Stalled next = EndsAs end.Stalled next
-NextOf (went.Runaway task) next = EndsAs (end.Runaway task) next
-NextOf (went.Stopped (stop.Over call)) next = EndsAs (end.Over call) next
-NextOf (went.Stopped (stop.Bad fault)) next = EndsAs (end.JournalRefused fault.line fault.cause) next
-NextOf (went.Stopped (stop.Mismatch count call)) next = EndsAs (end.Mismatch count call) next
-NextOf (went.Stopped (stop.Failed call)) next = next ≡ next.Fails
-NextOf (went.Stopped stop.Memory) next = next ≡ next.Nothing
+NextOf went.Went what = what ≡ next.Turn
+NextOf (went.Finished outcome) what = EndsAs (end_of outcome) what
+NextOf went.Stalled what = EndsAs end.Stalled what
+NextOf (went.Runaway task) what = EndsAs (end.Runaway task) what
+NextOf (went.Stopped (stop.Over call)) what = EndsAs (end.Over call) what
+NextOf (went.Stopped (stop.Bad fault)) what = EndsAs (end.JournalRefused fault.line fault.cause) what
+NextOf (went.Stopped (stop.Mismatch count call)) what = EndsAs (end.Mismatch count call) what
+NextOf (went.Stopped (stop.Failed call)) what = what ≡ next.Fails
+NextOf (went.Stopped stop.Memory) what = what ≡ next.Nothing

@@ -1,5 +1,6 @@
 //! How runs end, and their exit status.
 ghost use Rattle.std.specs.Prelude.{◌≡◌};
+ghost use Rattle.model_machine.specs.Outcomes.{end_of};
 ghost use Rattle.model_machine.specs.Transcript.{status_of};
 ghost use Rattle.aio_drive.specs.Ending.{NextOf};
 
