@@ -1,5 +1,5 @@
 -- What is known of a turn by what comes next.
-use Rattle.std.proofs.Common.{◌≡◌, ℕ, zero, suc, ◌+◌, List, [], ◌∷◌, ◌++◌, Option, ◌⊎◌, inl, inr, refl, ap, sym, ◌∙◌, subst, arith}
+use Rattle.std.proofs.Common.{◌≡◌, ℕ, zero, suc, ◌+◌, Bool, List, [], ◌∷◌, ◌++◌, Option, ◌⊎◌, inl, inr, refl, ap, sym, ◌∙◌, subst, arith}
 use Rattle.model_tree.specs.Syntax.{Program}
 use Rattle.model_says.specs.Says.{step_limit}
 use Rattle.model_wire.specs.declared.event.End.TheVariants as end
@@ -9,17 +9,18 @@ use Rattle.model_wire.specs.Journal.{Entry}
 use Rattle.model_wire.specs.Told.{Rose, SinkSeen, WireSeen, took}
 use Rattle.model_wire.specs.Trace.{End, end_text, line, lines_of_events}
 use Rattle.model_machine.specs.Extra.{no_extra}
+use Rattle.model_machine.specs.Run.{turns_over}
 use Rattle.model_machine.specs.State.{State, start}
 use Rattle.model_machine.specs.Theorem.{Output}
-use Rattle.model_machine.specs.Turn.{turn}
+use Rattle.model_machine.specs.Turn.{is_stalled, turn}
 use Rattle.model_machine.specs.Went.{Stops}
 use Rattle.aio_wire.specs.declared.stop.Stop.TheVariants as stop
-use Rattle.aio_core.specs.Turned.{Is, OfFailing, TurnsTo, UnlessFailed, untaken}
+use Rattle.aio_core.specs.Turned.{OfFailing, StallsAs, StandsFor, TurnedBy, TurnsTo, UnlessFailed, untaken}
 use Rattle.aio_core.specs.declared.kernel.Kernel.{Kernel}
 use Rattle.aio_core.specs.declared.went.Went as code
 use Rattle.aio_core.specs.declared.went.Went.TheVariants as went
-use Rattle.aio_drive.specs.Drive.{MayDrive, Undisturbed}
-use Rattle.aio_drive.specs.Ending.{NextOf}
+use Rattle.aio_drive.specs.Drive.{LastOf, MayDrive, Undisturbed}
+use Rattle.aio_drive.specs.Ending.{LastSays, NextOf}
 use Rattle.aio_drive.specs.Outcome.{EndsEarly}
 use Rattle.aio_drive.specs.declared.driver.Manner.{Manner}
 use Rattle.aio_drive.specs.declared.ending.Next.{Next}
@@ -69,6 +70,28 @@ ended-quiet said end fact is quiet = at (failed_or said)
     at : ((call : Call) × (said ≡ went.Stopped (stop.Failed call))) ⊎ ((fact : Type 0) → UnlessFailed fact said → fact) → fact
     at (inl (call, failed)) = absurd (cc (subst (λ (w : code.Went). NextOf w (next.Ends end)) failed is))
     at (inr holds) = holds fact quiet
+
+-- ---- where no further turn may be made
+last_by : (said : code.Went) (turns : ℕ) (end : End) (stalled : Bool) → StallsAs stalled said → LastSays said turns end → end ≡ turns_over stalled turns
+last_by went.Stalled turns end stalled stalls is = is ∙ ap (λ b. turns_over b turns) (sym stalls)
+last_by went.Went turns end stalled stalls is = is ∙ ap (λ b. turns_over b turns) (sym stalls)
+last_by (went.Finished outcome) turns end stalled stalls is = is ∙ ap (λ b. turns_over b turns) (sym stalls)
+last_by (went.Runaway task) turns end stalled stalls is = is ∙ ap (λ b. turns_over b turns) (sym stalls)
+last_by (went.Stopped (stop.Over call)) turns end stalled stalls is = is ∙ ap (λ b. turns_over b turns) (sym stalls)
+last_by (went.Stopped (stop.Bad fault)) turns end stalled stalls is = is ∙ ap (λ b. turns_over b turns) (sym stalls)
+last_by (went.Stopped (stop.Mismatch count call)) turns end stalled stalls is = is ∙ ap (λ b. turns_over b turns) (sym stalls)
+last_by (went.Stopped (stop.Failed call)) turns end stalled stalls is = is ∙ ap (λ b. turns_over b turns) (sym stalls)
+last_by (went.Stopped stop.Memory) turns end stalled stalls is = absurd is
+
+pub last_as : {fails quiet : Type 0} {before after : WireSeen} {old new : Kernel} {result said : code.Went}
+    → TurnedBy fails quiet before after old new result said → (turns : ℕ) (end : End) → LastSays result turns end → LastOf old turns end
+last_as {old = old} {result = result} {said = said} by turns end is = λ past answers s stands. at past answers s stands by.either
+  where
+    at : (past : List Event) (answers : List Entry) (s : State (Unit {0})) → StandsFor past answers old s
+        → (result ≡ said) ⊎ (result ≡ went.Stopped stop.Memory) → end ≡ turns_over (is_stalled no_extra s) turns
+    at past answers s stands (inl same) =
+        last_by said turns end (is_stalled no_extra s) (by.stalls past answers s stands) (subst (λ (w : code.Went). LastSays w turns end) same is)
+    at past answers s stands (inr none) = absurd (subst (λ (w : code.Went). LastSays w turns end) none is)
 
 module _ {program : Program} {how : Manner} {made left : ℕ} {kernel new : Kernel} {past : List Entry} {taken : List Event}
     {first_told now_told new_told : Option (List Entry)} {first sink : SinkSeen} {before after : ℕ}

@@ -1,5 +1,5 @@
 -- What comes after a turn, as the definitions have it.
-use Rattle.std.specs.Prelude.{◌≡◌}
+use Rattle.std.specs.Prelude.{◌≡◌, ℕ}
 use Rattle.model_wire.specs.declared.event.End.TheVariants as end
 use Rattle.model_wire.specs.Trace.{End}
 use Rattle.model_machine.specs.Outcomes.{end_of}
@@ -23,3 +23,9 @@ NextOf (went.Stopped (stop.Bad fault)) what = EndsAs (end.JournalRefused fault.l
 NextOf (went.Stopped (stop.Mismatch count call)) what = EndsAs (end.Mismatch count call) what
 NextOf (went.Stopped (stop.Failed call)) what = what ≡ next.Fails
 NextOf (went.Stopped stop.Memory) what = what ≡ next.Nothing
+
+-- how a run ends that may make no further turn, by what came of a turn more
+abbrev pub LastSays : Went → (turns : ℕ) → End → Type 0
+LastSays went.Stalled turns said = said ≡ end.Stalled
+LastSays (went.Stopped stop.Memory) turns said = ⊥
+LastSays _ turns said = said ≡ end.Turns turns

@@ -4,15 +4,15 @@ ghost use Rattle.model_machine.specs.Theorem.{WritesWhole};
 ghost use Rattle.aio_drive.specs.Drive.{LastOf, MayDrive, Undisturbed};
 ghost use Rattle.aio_drive.specs.Outcome.{EndsEarly};
 
-use crate::ending::{Next, next_of};
+use crate::ending::{Next, last_says, next_of};
 use crate::halt::Halt;
 use crate::lines::{write_end, write_events};
 use crate::silent::Silent;
 use aio_base::Memory;
-use aio_core::{Kernel, Went};
+use aio_core::Kernel;
 use aio_program::Program;
 use aio_trace::End;
-use aio_wire::{Events, Sink, Stop, Wire};
+use aio_wire::{Events, Sink, Wire};
 use std::alloc::Global;
 
 /// How a run is driven: with the trace or without it, and of at most so many turns.
@@ -61,11 +61,6 @@ pub fn drive<W: Wire, K: Sink>(
 fn last_of(alloc: Global, kernel: &mut Kernel, turns: u64) -> Result<End, Memory>
     ensures { IfOk result (LastOf kernel.old turns) }
 {
-    match kernel.turn(alloc, &mut Silent) {
-        Went::Stalled => Ok(End::Stalled),
-        Went::Stopped(Stop::Memory) => Err(Memory),
-        Went::Went | Went::Finished(_) | Went::Runaway(_) | Went::Stopped(_) => {
-            Ok(End::Turns(turns))
-        }
-    }
+    let went = kernel.turn(alloc, &mut Silent);
+    last_says(went, turns)
 }

@@ -1,10 +1,10 @@
 //! How runs end, and their exit status.
-ghost use Rattle.std.specs.Prelude.{◌≡◌};
+ghost use Rattle.std.specs.Prelude.{◌≡◌, IfOk};
 ghost use Rattle.model_machine.specs.Outcomes.{end_of};
 ghost use Rattle.model_machine.specs.Transcript.{status_of};
-ghost use Rattle.aio_drive.specs.Ending.{NextOf};
+ghost use Rattle.aio_drive.specs.Ending.{LastSays, NextOf};
 
-use aio_base::Outcome;
+use aio_base::{Memory, Outcome};
 use aio_core::Went;
 use aio_trace::End;
 use aio_wire::Stop;
@@ -57,6 +57,31 @@ fn end_of(outcome: Outcome) -> End
         Outcome::Value(value) => End::Returned(value),
         Outcome::Failed(fault) => End::Raised(fault),
         Outcome::Cancelled => End::Cancelled,
+    }
+}
+
+/// How a run ends that may make no further turn, of which so many were allowed, by what came of a turn more.
+pub fn last_says(went: Went, turns: u64) -> Result<End, Memory>
+    ensures { IfOk result (LastSays went turns) }
+{
+    match went {
+        Went::Stalled => Ok(End::Stalled),
+        Went::Stopped(stop) => last_of_stop(stop, turns),
+        Went::Went => Ok(End::Turns(turns)),
+        Went::Finished(_) => Ok(End::Turns(turns)),
+        Went::Runaway(_) => Ok(End::Turns(turns)),
+    }
+}
+
+fn last_of_stop(stop: Stop, turns: u64) -> Result<End, Memory>
+    ensures { IfOk result (LastSays (Went.Stopped stop) turns) }
+{
+    match stop {
+        Stop::Memory => Err(Memory),
+        Stop::Over(_) => Ok(End::Turns(turns)),
+        Stop::Bad(_) => Ok(End::Turns(turns)),
+        Stop::Mismatch(_, _) => Ok(End::Turns(turns)),
+        Stop::Failed(_) => Ok(End::Turns(turns)),
     }
 }
 

@@ -17,7 +17,8 @@ use Rattle.model_wire.specs.Trace.{line}
 use Rattle.model_machine.specs.Program.{Manner, script_refused, script_failed, FileSays, JournalSays, JournalBegins, MayRun, MayRunIf, MayRunScript, MayReplay, MayCheck, checked}
 use Rattle.model_machine.specs.Served.{is_served}
 use Rattle.model_machine.specs.Theorem.{Output, MayBegin, WritesWhole}
-use Rattle.aio_memwire.specs.JournalWire.{left_of}
+use Rattle.aio_memwire.specs.declared.buffers.Buffers.{Buffers}
+use Rattle.aio_memwire.specs.JournalWire.{left_of, seen_of}
 use Rattle.aio_memwire.specs.Reading.{IsFront}
 use Rattle.aio_drive.specs.Drive.{MayDrive, Undisturbed}
 use Rattle.aio_drive.specs.Outcome.{EndsEarly}
@@ -117,6 +118,40 @@ module _ (may might : Output → Type 0) (none nothing : Type 0) (wider : (outpu
   early_wider Memory old new early = (early.0, widened early.0 early.1, early.2)
   early_wider Sink old new early = (early.0, widened early.0 early.1, early.2)
   
+-- A program's run that was driven over the journal's wire of a shelf: `held` is the shelf as the wire was made, and `now` as it
+-- was left.
+module _ {F : Type 0} (seen : F → ShelfSeen) (first held now after : F) (name late journal : List ℕ) (own own_last : Buffers) (program : Program)
+    (how : code.Manner) (kept : held ≡ first) (left : now ≡ after) (named : name ≡ journal) (late_name : late ≡ name) (unread : own.journal ≡ None) where
+  abbrev Fails : Type 0
+  Fails = (own.journal ≡ None) × ((seen held).file name ≡ Some None)
+
+  abbrev Quiet : Type 0
+  Quiet = seen now ≡ seen held
+
+  abbrev Drives : Output → Type 0
+  Drives = MayDrive program how end.ShelfFault (seen_of (seen held) name own) (seen_of (seen now) late own_last) (Undisturbed Fails Quiet)
+
+  abbrev Runs : Output → Type 0
+  Runs = MayRun (seen first) (seen after) program (manner_of journal how)
+
+  runs : (output : Output) → Drives output → Runs output
+  runs =
+      may_run program how journal (seen first) (seen after) (seen_of (seen held) name own) (seen_of (seen now) late own_last) Fails Quiet
+      (told_first seen held first name journal own.journal kept named unread)
+      (λ missing. (unread, missing_first seen held first name journal kept named missing))
+      (seen_kept seen first held now after kept left)
+      (rose_here seen first held now after name late journal kept left named late_name)
+
+  none_then : Quiet → NoneFailed (seen first) (seen after)
+  none_then quiet = none_failed (seen first) (seen after) (seen_kept seen first held now after kept left quiet)
+
+  pub run_whole : (old new : SinkSeen) (status : ℕ) → WritesWhole Drives old new status → WritesWhole Runs old new status
+  run_whole = whole_wider Drives Runs Quiet (NoneFailed (seen first) (seen after)) runs none_then
+
+  pub run_early : (halt : Halt) (old new : SinkSeen) → EndsEarly Drives Quiet old new halt
+      → EndsEarly Runs (NoneFailed (seen first) (seen after)) old new halt
+  run_early = early_wider Drives Runs Quiet (NoneFailed (seen first) (seen after)) runs none_then
+
 -- nothing was written, for want of memory
 pub nothing_yet : (may : Output → Type 0) (none : Type 0) (sink : SinkSeen) → none → EndsEarly may none sink sink Memory
 nothing_yet may none sink holds = ([], inl (refl, holds), sym (took-nil sink))
