@@ -125,7 +125,7 @@ module _ {program : Program} {how : Manner} {made left : ℕ} {kernel : Kernel} 
   -- where no turn is left
   pub ends_last : left ≡ 0 → (end : End)
       → ((past : List Event) (answers : List Entry) (s : State (Unit {0})) → StandsFor past answers kernel s
-        → end ≡ turns_over (is_stalled no_extra s) how.turns)
+      → end ≡ turns_over (is_stalled no_extra s) how.turns)
       → EndsHere program how first_told taken end
   ends_last none end is =
       let (rest, agrees) = agreed now_told in

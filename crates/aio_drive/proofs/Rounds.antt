@@ -68,8 +68,7 @@ module _ {program : Program} {how : Manner} {made left : ℕ} {kernel new : Kern
   goes_at is =
       let what = of_said result said next.Turn turned.either is (λ e. cc e) in
       let went = going said what in
-      let (had, (takes, goes)) = subst (λ (w : code.Went). TurnsTo now.left last.left now.faults last.faults kernel new w) went turned.turns in
-      (
+      let (had, (takes, goes)) = subst (λ (w : code.Went). TurnsTo now.left last.left now.faults last.faults kernel new w) went turned.turns in (
         had,
         (
           takes,
@@ -147,7 +146,7 @@ module _ {program : Program} {how : Manner} {made left : ℕ} {kernel new : Kern
         → ((past : List Event) (answers : List Entry) (s : State (Unit {0})) → StandsFor past answers new s → StandsFor (past ++ untaken new) answers after s)
         → untaken after ≡ [] → final ≡ took sink lines
         → (left_then : ℕ) × (past_then : List Entry) × (taken_then : List Event)
-          × Running program how (made + 1) left_then after past_then taken_then seen.left last.left first final
+        × Running program how (made + 1) left_then after past_then taken_then seen.left last.left first final
     goes_on is after takes_out none wrote =
         let (had, (takes, (goes, still))) = goes_at is in (
           left,

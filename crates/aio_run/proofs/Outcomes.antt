@@ -117,7 +117,7 @@ module _ (may might : Output → Type 0) (none nothing : Type 0) (wider : (outpu
   pub early_wider : (halt : Halt) (old new : SinkSeen) → EndsEarly may none old new halt → EndsEarly might nothing old new halt
   early_wider Memory old new early = (early.0, widened early.0 early.1, early.2)
   early_wider Sink old new early = (early.0, widened early.0 early.1, early.2)
-  
+
 -- A program's run that was driven over the journal's wire of a shelf: `held` is the shelf as the wire was made, and `now` as it
 -- was left.
 module _ {F : Type 0} (seen : F → ShelfSeen) (first held now after : F) (name late journal : List ℕ) (own own_last : Buffers) (program : Program)

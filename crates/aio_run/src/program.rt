@@ -60,12 +60,14 @@ fn serve<F: Shelf, K: Sink>(
 {
     match command_of(words) {
         Some(Command::Check { script }) => check(alloc, script, shelf, out),
-        Some(Command::Replay {
-            script,
-            journal,
-            trace,
-            turns,
-        }) => replay(alloc, script, journal, Manner { trace, turns }, shelf, out),
+        Some(
+            Command::Replay {
+                script,
+                journal,
+                trace,
+                turns,
+            },
+        ) => replay(alloc, script, journal, Manner { trace, turns }, shelf, out),
         None => say(alloc, "! words\n", 2, out),
     }
 }

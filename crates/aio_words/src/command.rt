@@ -10,7 +10,9 @@ use crate::given::{Given, command_from};
 #[derive(Clone, Copy, Debug)]
 pub enum Command<'a> {
     /// Writes a script's canonical text.
-    Check { script: &'a str },
+    Check {
+        script: &'a str,
+    },
     /// Runs a script over a journal's answers, of at most so many turns.
     Replay {
         script: &'a str,
