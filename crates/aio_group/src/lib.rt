@@ -1,0 +1,15 @@
+//! Task groups over the loop's parts.
+#![tactic(auto)]
+
+mod created;
+mod exit;
+mod failures;
+mod group;
+mod groups;
+mod abort;
+mod children;
+mod exits;
+
+pub use created::Created;
+pub use exit::GroupExit;
+pub use groups::Groups;
