@@ -6,7 +6,7 @@ use Rattle.model_loop.specs.Owning.{owner_at}
 use Rattle.law_cancel.proofs.Lookups.{get-set_same, get-set_other, get-push_other, get-push_last}
 use Rattle.aio_task.specs.View.{View, parts}
 use Rattle.aio_group.specs.GoesOn.{Moves}
-use Rattle.aio_group.specs.Held.{Held}
+use Rattle.aio_group.specs.Held.{Held, new_held}
 use Rattle.aio_group.specs.Stands.{IsOwn, Belongs, AllBelong}
 use Rattle.aio_group.proofs.Listing.{all_to, all_filter, all_push}
 
@@ -53,3 +53,18 @@ all_belong_set v groups id old new e all is j held d = go (cases_eq id j)
         let is_new : new ≡ held = cc in
         subst (λ h. Belongs v h) is_new is
     go (inr n) = all j held (sym (get-set_other groups id j new n) ∙ d)
+
+pub all_belong_push : (v : View) (groups : List Held) (parent : ℕ) → AllBelong v groups → AllBelong v (groups ++ new_held parent ∷ [])
+all_belong_push v groups parent all id held e = go (cases_eq id (length groups))
+  where
+    fresh : Belongs v (new_held parent)
+    fresh = record { children = tt; exit = λ future d. absurd (cc) }
+
+    go : (id ≡ length groups) ⊎ (id ≡ length groups → ⊥) → Belongs v held
+    go (inl last) =
+        let at : slice_get (groups ++ new_held parent ∷ []) id ≡ Some (new_held parent) =
+            ap (slice_get (groups ++ new_held parent ∷ [])) last ∙ get-push_last groups (new_held parent) in
+        let there : Some (new_held parent) ≡ Some held = sym at ∙ e in
+        let is_new : new_held parent ≡ held = cc in
+        subst (λ h. Belongs v h) is_new fresh
+    go (inr n) = all id held (sym (get-push_other groups (new_held parent) id n) ∙ e)

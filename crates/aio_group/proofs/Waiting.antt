@@ -376,34 +376,37 @@ begun_passes raised id l made all at =
     then_passes (λ k. take_back id (begin_exit raised id k)) (abort_if_raised raised id) l second
     (record { same = third.same; leaves = third.leaves })
 
+module _ (fault : Exc) (id : ℕ) (l : Loop) (at : slice_get l.groups id ≡ Some (group_of l id)) where
+  abbrev woken : Group
+  woken = record (group_of l id) { exit_future = None }
+
+  abbrev awake : Loop
+  awake = set_group id woken l
+
+  abbrev kept : Loop
+  kept = set_group id (record (group_of awake id) { kept = Some fault }) awake
+
+  woken_there : group_of awake id ≡ woken
+  woken_there = group_same id woken l at
+
+  at_awake : slice_get awake.groups id ≡ Some (group_of awake id)
+  at_awake = get-set_same l.groups id (group_of l id) woken at ∙ ap Some (sym woken_there)
+
+  kept_children : (group_of kept id).children ≡ (group_of l id).children
+  kept_children =
+      ap (λ (h : Group). h.children) (group_same id (record (group_of awake id) { kept = Some fault }) awake at_awake)
+      ∙ ap (λ (h : Group). h.children) woken_there
+
+  aborted : WaitsMade l.parts → AreMade id l → Passes (abort id) kept
+  aborted made all = abort_passes id kept made (subst (λ cs. All (IsMade l.parts) cs) (sym kept_children) all)
+
+  heard_unless : (b : Bool) → WaitsMade l.parts → AreMade id l → Passes (λ m. keep_and_abort_unless b fault id (set_group id woken m)) l
+  heard_unless true made all = record { same = refl; leaves = same_leaves l.parts }
+  heard_unless false made all = let a = aborted made all in record { same = a.same; leaves = a.leaves }
+
 pub heard_passes : (input : Input) (id : ℕ) (l : Loop) → WaitsMade l.parts → AreMade id l → slice_get l.groups id ≡ Some (group_of l id)
     → Passes (heard input id) l
 heard_passes (Send value) id l made all at = record { same = refl; leaves = same_leaves l.parts }
-heard_passes (Throw fault) id l made all at = go (group_of awake id).aborting refl
-  where
-    abbrev g : Group
-    g = record (group_of l id) { exit_future = None }
-
-    abbrev awake : Loop
-    awake = set_group id g l
-
-    abbrev kept : Loop
-    kept = set_group id (record (group_of awake id) { kept = Some fault }) awake
-
-    there : group_of awake id ≡ g
-    there = group_same id g l at
-
-    at_awake : slice_get awake.groups id ≡ Some (group_of awake id)
-    at_awake = get-set_same l.groups id (group_of l id) g at ∙ ap Some (sym there)
-
-    children : (group_of kept id).children ≡ (group_of l id).children
-    children =
-        ap (λ (h : Group). h.children) (group_same id (record (group_of awake id) { kept = Some fault }) awake at_awake)
-        ∙ ap (λ (h : Group). h.children) there
-
-    aborted : Passes (abort id) kept
-    aborted = abort_passes id kept made (subst (λ cs. All (IsMade l.parts) cs) (sym children) all)
-
-    go : (b : Bool) → (group_of awake id).aborting ≡ b → Passes (heard (Throw fault) id) l
-    go true e = record { same = rw e refl; leaves = rw e (same_leaves l.parts) }
-    go false e = record { same = rw e aborted.same; leaves = rw e aborted.leaves }
+heard_passes (Throw fault) id l made all at =
+    let p = heard_unless fault id l at (group_of (awake fault id l at) id).aborting made all in
+    record { same = p.same; leaves = p.leaves }
