@@ -28,7 +28,7 @@ use Rattle.aio_group.proofs.Standing.{then_extends}
 use Rattle.aio_group.proofs.Stepping.{becomes, moves_by}
 
 -- a new task's own future is the next one
-own_future_of : (p : Parts) (task : ℕ) → task ≡ next_task p → future_of (spawn p) task ≡ next_future p
+pub own_future_of : (p : Parts) (task : ℕ) → task ≡ next_task p → future_of (spawn p) task ≡ next_future p
 own_future_of p task e =
     let new : Task = record { future = next_future p; waiter = None; cancels = 0; must_cancel = false } in
     ap (future_of (spawn p)) e
