@@ -1,0 +1,12 @@
+pub mod Code
+pub mod Gens
+pub mod Stands
+pub mod StepSound
+pub mod Asked
+pub mod Named
+pub mod Outcomes
+pub mod Slots
+pub mod Alarm
+pub mod Stepping
+pub mod Turning
+pub mod Effects

@@ -1,0 +1,18 @@
+//! What the kernel keeps of a run that goes on.
+use crate::parts::{FutureId, Parts};
+use crate::standing::Slot;
+use aio_flat::Code;
+use aio_wire::Events;
+
+/// What the kernel keeps of a run that goes on. Coroutines are numbered as the tasks are.
+#[derive(Drop)]
+pub struct Body {
+    pub code: Code,
+    pub parts: Parts,
+    pub slots: Vec<Slot>,
+    /// The futures that `future()` made, in order of making.
+    pub futures: Vec<FutureId>,
+    /// Whether main's callback ran.
+    pub main_done: bool,
+    pub events: Events,
+}
