@@ -17,6 +17,7 @@ use std::alloc::Global;
 
 impl Body {
     /// `future()`.
+    #[tactic(none)]
     pub fn make_future(&mut self, alloc: Global) -> Result<Reply, Memory>
         requires { SomeGoes self.old }
         ensures { (task : ℕ) → Serves task request.MakeFuture self.old self.new result }
@@ -30,6 +31,7 @@ impl Body {
         Ok(Reply::Answers(Value::fut(made as u32)))
     }
 
+    #[tactic(none)]
     pub fn set(&mut self, alloc: Global, future: &Value, value: Value) -> Result<Reply, Memory>
         requires { SomeGoes self.old }
         ensures { (task : ℕ) → Serves task (request.Set future.now value) self.old self.new result }
@@ -37,6 +39,7 @@ impl Body {
         self.settle(alloc, future, Some(Outcome::Value(value)))
     }
 
+    #[tactic(none)]
     pub fn fail(&mut self, alloc: Global, future: &Value, fault: &Value) -> Result<Reply, Memory>
         requires { SomeGoes self.old }
         ensures { (task : ℕ) → Serves task (request.Fail future.now fault.now) self.old self.new result }
@@ -49,6 +52,7 @@ impl Body {
     }
 
     // A done future is refused.
+    #[tactic(none)]
     fn settle(
         &mut self,
         alloc: Global,
@@ -72,6 +76,7 @@ impl Body {
         Ok(Reply::Answers(Value::nothing()))
     }
 
+    #[tactic(none)]
     pub fn is_done(&self, alloc: Global, x: &Value) -> Result<Reply, Memory>
         ensures { (task : ℕ) → Serves task (request.IsDone x.now) self.now self.now result }
     {

@@ -9,6 +9,7 @@ mod generator;
 mod groups;
 mod handles;
 mod kernel;
+pub mod laws;
 mod parts;
 mod reply;
 mod running;

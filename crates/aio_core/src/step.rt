@@ -49,6 +49,7 @@ pub struct Started {
 
 impl Body {
     /// A step of a task, by the handle whose memory the ticket is.
+    #[tactic(none)]
     pub fn step(
         &mut self,
         alloc: Global,
@@ -76,6 +77,7 @@ impl Body {
     }
 
     // The step begins, and what the task runs is taken out.
+    #[tactic(none)]
     fn begin(&mut self, task: u32, ticket: Ticket, input: Input) -> Started
         requires { MayBegin task self.old }
         ensures { (c : Setting) (s : State (Unit {0})) → IsCalled task c self.old s
@@ -97,6 +99,7 @@ impl Body {
         }
     }
 
+    #[tactic(none)]
     fn take(&mut self, task: u32) -> Slot
         requires { task < length self.old.slots.items }
         ensures slot { slice_get self.old.slots.items task ≡ Some result }
@@ -113,6 +116,7 @@ impl Body {
         )
     }
 
+    #[tactic(none)]
     fn put_back(&mut self, task: u32, coroutine: Gen)
         requires { task < length self.old.slots.items }
         ensures beside { self.new ≡ record self.old { slots = self.new.slots } }
@@ -123,6 +127,7 @@ impl Body {
     }
 
     // The timer of a sleep is given up as its task is resumed, and its future is let go.
+    #[tactic(none)]
     fn give_up(&mut self, standing: Standing) {
         match standing {
             Standing::Asked => {}
@@ -137,6 +142,7 @@ impl Body {
     }
 
     // What the request at which a task stood makes of the input that its step begins with.
+    #[tactic(none)]
     fn decide(
         &mut self,
         alloc: Global,
@@ -159,6 +165,7 @@ impl Body {
     }
 
     // The coroutine says on until the step ends.
+    #[tactic(none)]
     fn serve(
         &mut self,
         alloc: Global,
@@ -190,6 +197,7 @@ impl Body {
     }
 
     // The coroutine is resumed, and what it says is served.
+    #[tactic(none)]
     fn serve_one(
         &mut self,
         alloc: Global,

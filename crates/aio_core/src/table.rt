@@ -8,6 +8,7 @@ use std::alloc::Global;
 
 impl Body {
     /// Serves a request of the task whose step goes on.
+    #[tactic(none)]
     pub fn reply(&mut self, alloc: Global, task: u32, request: Request) -> Result<Reply, Memory>
         requires { MayAsk task request self.old }
         ensures { Serves task request self.old self.new result }

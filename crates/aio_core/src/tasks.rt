@@ -16,6 +16,7 @@ use crate::generator::Gen;
 use std::alloc::Global;
 
 impl Body {
+    #[tactic(none)]
     pub fn cancel(&mut self, alloc: Global, x: &Value) -> Result<Reply, Memory>
         requires { SomeGoes self.old }
         ensures { (task : ℕ) → Serves task (request.Cancel x.now) self.old self.new result }
@@ -26,6 +27,7 @@ impl Body {
         }
     }
 
+    #[tactic(none)]
     pub fn cancelling(&self, alloc: Global, x: &Value) -> Result<Reply, Memory>
         requires { SomeGoes self.now }
         ensures { (task : ℕ) → Serves task (request.Cancelling x.now) self.now self.now result }
@@ -36,6 +38,7 @@ impl Body {
         }
     }
 
+    #[tactic(none)]
     pub fn uncancel(&mut self, alloc: Global, x: &Value) -> Result<Reply, Memory>
         requires { SomeGoes self.old }
         ensures { (task : ℕ) → Serves task (request.Uncancel x.now) self.old self.new result }
@@ -46,6 +49,7 @@ impl Body {
         }
     }
 
+    #[tactic(none)]
     pub fn spawn(
         &mut self,
         alloc: Global,
@@ -64,6 +68,7 @@ impl Body {
     }
 
     /// The coroutine of the task that is made next.
+    #[tactic(none)]
     pub fn hold(
         &mut self,
         alloc: Global,

@@ -14,6 +14,7 @@ use aio_wire::Event;
 use std::alloc::Global;
 
 impl Body {
+    #[tactic(none)]
     pub fn time(&self) -> Reply
         requires { SomeGoes self.now }
         ensures { (task : ℕ) → Serves task request.Time self.now self.now (Ok result) }
@@ -21,6 +22,7 @@ impl Body {
         Reply::Answers(Value::int(self.parts.now() as i64))
     }
 
+    #[tactic(none)]
     pub fn print(&mut self, alloc: Global, task: u32, values: &ValueList) -> Result<Reply, Memory>
         ensures { Serves task (request.Print values.now) self.old self.new result }
     {

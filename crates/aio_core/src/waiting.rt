@@ -20,6 +20,7 @@ const MOST: u64 = 0x7FFF_FFFF_FFFF_FFFF;
 
 impl Body {
     /// A bare `yield`.
+    #[tactic(none)]
     pub fn pause(&mut self, task: u32) -> Reply
         requires { MayGo task self.old }
         ensures { Replies task (pauses task) self.old self.new (Ok result) }
@@ -29,6 +30,7 @@ impl Body {
     }
 
     /// What is done is awaited at once.
+    #[tactic(none)]
     pub fn await_value(&mut self, alloc: Global, task: u32, x: &Value) -> Result<Reply, Memory>
         requires { MayAsk task (request.Await x.now) self.old }
         ensures { Serves task (request.Await x.now) self.old self.new result }
@@ -44,6 +46,7 @@ impl Body {
     }
 
     /// A sleep of 0 or less is a bare `yield`.
+    #[tactic(none)]
     pub fn sleep(&mut self, alloc: Global, task: u32, delay: &Value) -> Result<Reply, Memory>
         requires { MayGo task self.old }
         ensures { Serves task (request.Sleep delay.now) self.old self.new result }
@@ -55,6 +58,7 @@ impl Body {
         }
     }
 
+    #[tactic(none)]
     fn sleep_for(&mut self, alloc: Global, task: u32, delay: u64) -> Result<Reply, Memory>
         requires { MayGo task self.old }
         ensures { Replies task (sleeps_for task (pos delay)) self.old self.new result }
@@ -66,6 +70,7 @@ impl Body {
     }
 
     // A future of a sleep, which a timer's handle will resolve.
+    #[tactic(none)]
     fn alarm(
         &mut self,
         alloc: Global,
@@ -86,6 +91,7 @@ impl Body {
     }
 
     /// The request at which a task stands.
+    #[tactic(none)]
     pub fn stand(&mut self, task: u32, standing: Standing)
         requires { task < length self.old.slots.items }
         ensures beside { self.new ≡ record self.old { slots = self.new.slots } }

@@ -1,0 +1,105 @@
+-- Stand-ins: what the laws beneath say. Each is a clause of law_kept (Telling, Calls, Waiting), law_handles or law_runs, or follows from
+-- law_after, and is to be replaced by that.
+use Rattle.std.proofs.Common.{◌≡◌, ◌⊎◌, ℕ, ◌+◌, Bool, true, false, List, [], ◌∷◌, ◌++◌, Option, Some, None, length, slice_get}
+use Rattle.model_value.specs.Action.{Action}
+use Rattle.model_value.specs.Value.{Outcome, Value}
+use Rattle.model_value.specs.Request.{Request}
+use Rattle.model_says.specs.Endings.{Asks}
+use Rattle.model_says.specs.Says.{step_limit}
+use Rattle.model_value.specs.declared.action.Action.TheVariants.{SleepDone}
+use Rattle.model_loop.specs.Parts.{Plain, Parts}
+use Rattle.model_loop.specs.Cancel.{cancel}
+use Rattle.model_loop.specs.Futures.{future_outcome, is_pending, is_pending_at, new_plain, next_future, outcome_at, settle}
+use Rattle.model_loop.specs.Handles.{later}
+use Rattle.model_loop.specs.Ledger.{Origin, request}
+use Rattle.model_loop.specs.Owning.{is_plain, owner_at, owner_of}
+use Rattle.model_loop.specs.Sound.{IsSound}
+use Rattle.model_loop.specs.Suspend.{suspend}
+use Rattle.model_loop.specs.Tasks.{cancelling, future_of, pause, uncancel, waiter_of}
+use Rattle.model_machine.specs.Arguments.{as_awaited}
+use Rattle.model_machine.specs.Extra.{no_extra}
+use Rattle.model_machine.specs.State.{State}
+use Rattle.model_machine.specs.Step.{says_of}
+use Rattle.model_value.specs.declared.request.Request.TheVariants.{Await}
+use Rattle.aio_ready.specs.Queue.{soon_all}
+use Rattle.aio_future.specs.Settled as settled
+use Rattle.aio_future.specs.Settled.{called}
+use Rattle.aio_timer.specs.declared.live.TimerId.{TimerId}
+use Rattle.aio_timer.specs.Schedule.{timer, placed_after}
+use Rattle.aio_task.specs.View.{View, parts}
+use Rattle.aio_task.specs.Keeps.{Ties, Keeps, Kept, Knows, ByTimer, Becomes}
+use Rattle.aio_core.specs.StepSound.{IsStepSound}
+use Rattle.aio_core.proofs.Leaving.{Leaves}
+
+-- ---- law_kept, Telling
+module _ (t : Ties) (v : View) (p : Parts) (k : Keeps t v p) where
+  pub next_kept : length v.futures ≡ next_future p
+  next_kept = ?
+
+  pub outcome_kept : (id : ℕ) → t.gone id ≡ false → outcome_at (slice_get v.futures id) ≡ future_outcome p id
+  outcome_kept id g = ?
+
+  pub pending_kept : (id : ℕ) → is_pending_at (slice_get v.futures id) ≡ is_pending p id
+  pending_kept id = ?
+
+  pub owner_kept : (id : ℕ) → owner_of p id ≡ None → owner_at (slice_get v.futures id) ≡ None
+  owner_kept id o = ?
+
+  pub future_of_kept : (task : ℕ) → future_of (parts v) task ≡ future_of p task
+  future_of_kept task = ?
+
+  pub count_kept : (task : ℕ) → cancelling (parts v) task ≡ cancelling p task
+  count_kept task = ?
+
+  pub answer_kept : (by : Origin) (id : ℕ) → (cancel id (parts v)).answer ≡ (request by id p).answer
+  answer_kept by id = ?
+
+-- ---- law_kept, Calls, and law_handles
+module _ (t : Ties) (v w : View) (p : Parts) (k : Keeps t v p) where
+  pub kept_pause : (task : ℕ) → Becomes v w (pause task (parts v)) → Kept t p w (pause task p)
+  kept_pause task b = ?
+
+  pub kept_suspend : (task on : ℕ) → Becomes v w (suspend task on (parts v)).parts → Kept t p w (suspend task on p).parts
+  kept_suspend task on b = ?
+
+  pub kept_request : (by : Origin) (id : ℕ) → Becomes v w (cancel id (parts v)).parts → Kept t p w (request by id p).booked.parts
+  kept_request by id b = ?
+
+  pub kept_uncancel : (task : ℕ) → Becomes v w (uncancel task (parts v)) → Kept t p w (uncancel task p)
+  kept_uncancel task b = ?
+
+module _ (t : Ties) (v : View) (p : Parts) (k : Keeps t v p) where
+  pub kept_plain : Kept t p (record v { futures = v.futures ++ record { kind = Plain; outcome = None; callbacks = [] } ∷ [] }) (new_plain p)
+  kept_plain = ?
+
+  pub kept_settle : (id : ℕ) (outcome : Outcome)
+      → Kept t p (record v { futures = settled.settled id outcome v.futures; queue = soon_all (called id v.futures) v.queue }) (settle id outcome p)
+  kept_settle id outcome = ?
+
+-- ---- law_after, with law_kept's Waiting
+pub leaves_pause : (task : ℕ) (p : Parts) → Leaves None p (pause task p)
+leaves_pause task p = ?
+
+pub leaves_plain : (p : Parts) → Leaves None p (new_plain p)
+leaves_plain p = ?
+
+pub leaves_settle : (id : ℕ) (outcome : Outcome) (p : Parts) → owner_of p id ≡ None → Leaves None p (settle id outcome p)
+leaves_settle id outcome p o = ?
+
+pub leaves_request : (by : Origin) (id : ℕ) (p : Parts) → Leaves None p (request by id p).booked.parts
+leaves_request by id p = ?
+
+pub leaves_uncancel : (task : ℕ) (p : Parts) → Leaves None p (uncancel task p)
+leaves_uncancel task p = ?
+
+pub leaves_suspend : (task on : ℕ) (p : Parts) → Leaves (Some (task, on)) p (suspend task on p).parts
+leaves_suspend task on p = ?
+
+-- ---- law_runs
+pub awaited_pends : (task : ℕ) (x : Value) (s : State (Unit {0})) → IsStepSound no_extra task s → says_of step_limit no_extra task s ≡ Asks (Await x)
+    → (on : ℕ) → as_awaited s x ≡ Some on → future_outcome s.loop.parts on ≡ None → is_pending s.loop.parts on ≡ true
+awaited_pends task x s sound says on named none = ?
+
+pub plain_named : (task : ℕ) (s : State (Unit {0})) → IsStepSound no_extra task s
+    → (place id : ℕ) → slice_get s.futures place ≡ Some id → is_plain s.loop.parts id ≡ true
+plain_named task s sound place id found = ?

@@ -1,0 +1,7 @@
+//! What the proofs rest on.
+ghost use Rattle.std.specs.Prelude.{◌≡◌, ℕ};
+
+/// Nothing yet.
+pub fn nothing_yet()
+    ensures { (n : ℕ) → n ≡ n }
+{}
