@@ -1,10 +1,11 @@
 -- Stand-ins: what the laws beneath say. Each is a clause of law_kept (Telling, Calls, Waiting), law_handles or law_runs, or follows from
 -- law_after, and is to be replaced by that.
-use Rattle.std.proofs.Common.{◌≡◌, ◌⊎◌, ℕ, ◌+◌, Bool, true, false, List, [], ◌∷◌, ◌++◌, Option, Some, None, length, slice_get}
+use Rattle.std.proofs.Common.{◌≡◌, ◌⊎◌, ℕ, ◌+◌, ◌<◌, refl, Result, Ok, Err, Bool, true, false, List, [], ◌∷◌, ◌++◌, Option, Some, None, length, slice_get}
 use Rattle.model_value.specs.Action.{Action}
-use Rattle.model_value.specs.Value.{Outcome, Value}
+use Rattle.std.proofs.lemmas.Bool.{eq-eqb}
+use Rattle.model_value.specs.Value.{Outcome, Value, Exc}
 use Rattle.model_value.specs.Request.{Request}
-use Rattle.model_says.specs.Endings.{Asks}
+use Rattle.model_says.specs.Endings.{Asks, Returns, Raises as Raised}
 use Rattle.model_says.specs.Says.{step_limit}
 use Rattle.model_value.specs.declared.action.Action.TheVariants.{SleepDone}
 use Rattle.model_loop.specs.Parts.{Plain, Parts}
@@ -15,11 +16,13 @@ use Rattle.model_loop.specs.Ledger.{Origin, request}
 use Rattle.model_loop.specs.Owning.{is_plain, owner_at, owner_of}
 use Rattle.model_loop.specs.Sound.{IsSound}
 use Rattle.model_loop.specs.Suspend.{suspend}
-use Rattle.model_loop.specs.Tasks.{cancelling, future_of, pause, uncancel, waiter_of}
+use Rattle.model_loop.specs.Tasks.{cancelling, finish, future_of, lives, pause, uncancel, waiter_of}
 use Rattle.model_machine.specs.Arguments.{as_awaited}
 use Rattle.model_machine.specs.Extra.{no_extra}
-use Rattle.model_machine.specs.State.{State}
-use Rattle.model_machine.specs.Step.{says_of}
+use Rattle.model_machine.specs.Replies.{reply}
+use Rattle.model_machine.specs.Sound.{IsStateSound}
+use Rattle.model_machine.specs.State.{State, generator_of, unbooked_in}
+use Rattle.model_machine.specs.Step.{most_answers, says_of, serve}
 use Rattle.model_value.specs.declared.request.Request.TheVariants.{Await}
 use Rattle.aio_ready.specs.Queue.{soon_all}
 use Rattle.aio_future.specs.Settled as settled
@@ -28,7 +31,7 @@ use Rattle.aio_timer.specs.declared.live.TimerId.{TimerId}
 use Rattle.aio_timer.specs.Schedule.{timer, placed_after}
 use Rattle.aio_task.specs.View.{View, parts}
 use Rattle.aio_task.specs.Keeps.{Ties, Keeps, Kept, Knows, ByTimer, Becomes}
-use Rattle.aio_core.specs.StepSound.{IsStepSound}
+use Rattle.aio_core.specs.StepSound.{IsStepSound, RepliesInStep}
 use Rattle.aio_core.proofs.Leaving.{Leaves}
 
 -- ---- law_kept, Telling
@@ -103,3 +106,37 @@ awaited_pends task x s sound says on named none = ?
 pub plain_named : (task : ℕ) (s : State (Unit {0})) → IsStepSound no_extra task s
     → (place id : ℕ) → slice_get s.futures place ≡ Some id → is_plain s.loop.parts id ≡ true
 plain_named task s sound place id found = ?
+
+pub requests_sound : (task : ℕ) (asked : Request) (s : State (Unit {0})) → IsStepSound no_extra task s → says_of step_limit no_extra task s ≡ Asks asked
+    → RepliesInStep no_extra false task (reply no_extra task asked s)
+requests_sound task asked s sound says = ?
+
+pub returned_sound : (task : ℕ) (value : Value) (s : State (Unit {0})) → IsStepSound no_extra task s → says_of step_limit no_extra task s ≡ Returns value
+    → IsStateSound no_extra (unbooked_in (finish task (Ok value)) s)
+returned_sound task value s sound says = ?
+
+pub raised_sound : (task : ℕ) (fault : Exc) (s : State (Unit {0})) → IsStepSound no_extra task s → says_of step_limit no_extra task s ≡ Raised fault
+    → IsStateSound no_extra (unbooked_in (finish task (Err fault)) s)
+raised_sound task fault s sound says = ?
+
+-- the task that runs lives
+pub runs_living : (task : ℕ) (s : State (Unit {0})) → IsStepSound no_extra task s → lives s.loop.parts task ≡ true
+runs_living task s sound = sound.loop.parts.runs task (eq-eqb task task refl)
+
+-- ---- law_machine
+pub ends_by_itself : (task more : ℕ) (s : State (Unit {0})) → task < length s.generators
+    → serve step_limit no_extra (most_answers step_limit (generator_of task s).tape + more) task s
+    ≡ serve step_limit no_extra (most_answers step_limit (generator_of task s).tape) task s
+ends_by_itself task more s within = ?
+
+-- ---- law_kept
+pub kept_finish : (t : Ties) (v w : View) (p : Parts) → Keeps t v p → (task : ℕ) (end : Result Value Exc) → Becomes v w (finish task end (parts v))
+    → Kept t p w (finish task end p)
+kept_finish t v w p k task end b = ?
+
+pub leaves_finish : (task : ℕ) (end : Result Value Exc) (p : Parts) → Leaves None p (finish task end p)
+leaves_finish task end p = ?
+
+-- a task that was finished is done
+pub finish_done : (task : ℕ) (end : Result Value Exc) (p : Parts) → lives (finish task end p) task ≡ false
+finish_done task end p = ?

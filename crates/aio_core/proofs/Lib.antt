@@ -6,3 +6,5 @@ pub mod Given
 pub mod Telling
 pub mod May
 pub mod Rooms
+pub mod Serving
+pub mod Resuming

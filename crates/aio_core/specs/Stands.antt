@@ -43,24 +43,33 @@ abbrev pub WaitsAs : Program → Code → Generator → Option Gen → Type 0
 WaitsAs program code it None = ⊥
 WaitsAs program code it (Some coroutine) = StandsFor program code it.coroutine it.arguments it.tape coroutine
 
--- a task's slot; while its step goes on its coroutine is taken out
-pub record IsSlotOf (out : Option ℕ) (ties : Ties) (code : Code) (s : State (Unit {0})) (task : ℕ) (slot : Slot) : Type 0 where
-  pub waits : is_running out task ≡ false → WaitsAs s.program code (generator_of task s) slot.coroutine
+-- the coroutine of a slot, or the one that was taken out of it
+abbrev pub coroutine_in : (is_out : Bool) → (taken own : Option Gen) → Option Gen
+coroutine_in true taken own = taken
+coroutine_in false taken own = own
+
+-- a task's slot
+pub record IsSlotOf (out : Option ℕ) (taken : Option Gen) (ties : Ties) (code : Code) (s : State (Unit {0})) (task : ℕ) (slot : Slot) : Type 0 where
+  pub waits : WaitsAs s.program code (generator_of task s) (coroutine_in (is_running out task) taken slot.coroutine)
   pub standing : StandsAt ties s.loop.parts s.futures task slot.standing (generator_of task s).standing
 
 -- a task has its slot
-pub record HasSlot (out : Option ℕ) (ties : Ties) (code : Code) (slots : List Slot) (s : State (Unit {0})) (task : ℕ) : Type 0 where
+pub record HasSlot (out : Option ℕ) (taken : Option Gen) (ties : Ties) (code : Code) (slots : List Slot) (s : State (Unit {0})) (task : ℕ) : Type 0 where
   pub slot : Slot
   pub found : slice_get slots task ≡ Some slot
-  pub right : IsSlotOf out ties code s task slot
+  pub right : IsSlotOf out taken ties code s task slot
 
 -- What stays while handles run: which events were taken out before, what the outside has left to answer, how many handles
--- stand before the bar, and below which stamp they do.
+-- stand before the bar, and below which stamp they do; and in a step of a task its coroutine, which is taken out.
 pub record Setting : Type 0 where
   pub past : List Event
   pub answers : List Entry
   pub left : ℕ
   pub bar : ℕ
+  pub coroutine : Option Gen
+
+abbrev pub holding : Gen → Setting → Setting
+holding coroutine c = record c { coroutine = Some coroutine }
 
 -- What is kept stands for a state. `out` is the task whose coroutine is taken out, if one is.
 pub record Stands (out : Option ℕ) (c : Setting) (body : Body) (s : State (Unit {0})) : Type 0 where
@@ -73,7 +82,7 @@ pub record Stands (out : Option ℕ) (c : Setting) (body : Body) (s : State (Uni
   pub made : length body.slots.items ≡ next_task s.loop.parts
   pub told : length s.generators ≡ next_task s.loop.parts
   pub few : length body.slots.items < 2 ^ 32
-  pub held : (task : ℕ) → lives s.loop.parts task ≡ true → HasSlot out ties body.code body.slots.items s task
+  pub held : (task : ℕ) → lives s.loop.parts task ≡ true → HasSlot out c.coroutine ties body.code body.slots.items s task
   -- what was let go was the future of a sleep that is over
   pub gone : (id : ℕ) → ties.gone id ≡ true → IsOwnSleep s.loop.parts s.futures None id
   pub futures : body.futures.items ≡ s.futures

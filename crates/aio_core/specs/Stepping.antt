@@ -26,7 +26,7 @@ use Rattle.aio_core.specs.declared.step.Started.{Started}
 use Rattle.aio_core.specs.declared.step.Stepped as stepped
 use Rattle.aio_core.specs.declared.step.Stepped.TheVariants as went
 use Rattle.aio_core.specs.Asked.{IsInStep, HasRested}
-use Rattle.aio_core.specs.Stands.{Setting, Stands, IsBetween, WaitsAs}
+use Rattle.aio_core.specs.Stands.{Setting, Stands, IsBetween, holding}
 use Rattle.aio_core.specs.StepSound.{IsStepSound}
 
 -- ---- what a step comes to
@@ -70,8 +70,7 @@ DecidesAs (standing.Leaving group) (plain.Leaving id) = group ≡ id
 DecidesAs _ _ = ⊥
 
 pub record HasBegun (task : ℕ) (input : Input) (c : Setting) (s : State (Unit {0})) (started : Started) (body : Body) : Type 0 where
-  pub in_step : IsInStep task c body (begun_in task input s)
-  pub waits : WaitsAs s.program body.code (generator_of task s) (Some started.coroutine)
+  pub in_step : IsInStep task (holding started.coroutine c) body (begun_in task input s)
   pub heard : started.input ≡ (begun_by task input s).input
   pub decides : DecidesAs started.standing (generator_of task s).standing
 
@@ -79,8 +78,7 @@ pub record HasBegun (task : ℕ) (input : Input) (c : Setting) (s : State (Unit 
 -- the coroutine is to be resumed with this
 pub record IsServing (task : ℕ) (fresh : Bool) (input : Input) (c : Setting) (body : Body) (coroutine : Gen)
     (s : State (Unit {0})) : Type 0 where
-  pub in_step : IsInStep task c body s
-  pub waits : WaitsAs s.program body.code (generator_of task s) (Some coroutine)
+  pub in_step : IsInStep task (holding coroutine c) body s
   pub sound : IsStepSound no_extra task (resumed fresh task input s)
 
 abbrev pub MayServe : ℕ → Bool → Input → Body → Gen → Type 0
@@ -100,8 +98,7 @@ pub record GoesOnWith (task : ℕ) (next : Input) (c : Setting) (body : Body) (c
 
 pub record RestsAt (task : ℕ) (c : Setting) (body : Body) (coroutine : Gen) (s : State (Unit {0})) : Type 0 where
   pub now : State (Unit {0})
-  pub rested : HasRested task c body now
-  pub waits : WaitsAs now.program body.code (generator_of task now) (Some coroutine)
+  pub rested : HasRested task (holding coroutine c) body now
   pub sound : IsStateSound no_extra now
   pub goes : ServedAs task s (λ go_on. Goes now)
 

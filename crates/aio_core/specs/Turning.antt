@@ -86,7 +86,7 @@ Turned c body _ _ = ⊥
 -- between two turns, where the outside has these left to answer
 abbrev pub IsAtRest : List Event → List Entry → Body → State (Unit {0}) → Type 0
 IsAtRest past answers body s =
-    (bar : ℕ) × IsBetween (record { past = past; answers = answers; left = 0; bar = bar }) body s
+    (bar : ℕ) × IsBetween (record { past = past; answers = answers; left = 0; bar = bar; coroutine = None }) body s
 
 -- what a turn took of what the wire told
 abbrev pub Takes : (before after : Option (List Entry)) → List Answer → Type 0

@@ -86,6 +86,7 @@ impl Body {
         }
     }
 
+    #[tactic(none)]
     pub fn is_cancelled(&self, alloc: Global, x: &Value) -> Result<Reply, Memory>
         ensures { (task : ℕ) → Serves task (request.IsCancelled x.now) self.now self.now result }
     {
@@ -95,6 +96,7 @@ impl Body {
         }
     }
 
+    #[tactic(none)]
     pub fn result_of(&self, alloc: Global, x: &Value) -> Result<Reply, Memory>
         ensures { (task : ℕ) → Serves task (request.ResultOf x.now) self.now self.now result }
     {

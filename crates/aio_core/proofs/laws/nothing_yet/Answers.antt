@@ -6,6 +6,8 @@ use Rattle.aio_core.proofs.Slotting.{stands_standing}
 use Rattle.aio_core.proofs.Telling.{awaited_named}
 use Rattle.aio_core.proofs.May.{idle_of}
 use Rattle.aio_core.proofs.Rooms.{pauses_so}
+use Rattle.aio_core.proofs.Serving.{leads_on}
+use Rattle.aio_core.proofs.Resuming.{says_out}
 use Rattle.aio_core.proofs.laws.nothing_yet.Goals as goal
 
 pub returns : goal.returns
