@@ -1,6 +1,6 @@
 -- Stand-ins: what the laws beneath say. Each is a clause of law_kept (Telling, Calls, Waiting), law_handles or law_runs, or follows from
 -- law_after, and is to be replaced by that.
-use Rattle.std.proofs.Common.{◌≡◌, ◌⊎◌, ℕ, ◌+◌, ◌<◌, refl, Result, Ok, Err, Bool, true, false, List, [], ◌∷◌, ◌++◌, Option, Some, None, length, slice_get}
+use Rattle.std.proofs.Common.{inl, ◌≡◌, ◌⊎◌, ℕ, ◌+◌, ◌<◌, ◌≤◌, refl, Result, Ok, Err, Bool, true, false, List, [], ◌∷◌, ◌++◌, Option, Some, None, length, slice_get}
 use Rattle.model_value.specs.Action.{Action}
 use Rattle.std.proofs.lemmas.Bool.{eq-eqb}
 use Rattle.model_value.specs.Value.{Outcome, Value, Exc}
@@ -8,15 +8,15 @@ use Rattle.model_value.specs.Request.{Request}
 use Rattle.model_says.specs.Endings.{Asks, Returns, Raises as Raised}
 use Rattle.model_says.specs.Says.{step_limit}
 use Rattle.model_value.specs.declared.action.Action.TheVariants.{SleepDone}
-use Rattle.model_loop.specs.Parts.{Plain, Parts}
+use Rattle.model_loop.specs.Parts.{Handle, Plain, Parts}
 use Rattle.model_loop.specs.Cancel.{cancel}
 use Rattle.model_loop.specs.Futures.{future_outcome, is_pending, is_pending_at, new_plain, next_future, outcome_at, settle}
-use Rattle.model_loop.specs.Handles.{later}
+use Rattle.model_loop.specs.Handles.{later, revoke}
 use Rattle.model_loop.specs.Ledger.{Origin, request}
 use Rattle.model_loop.specs.Owning.{is_plain, owner_at, owner_of}
 use Rattle.model_loop.specs.Sound.{IsSound}
 use Rattle.model_loop.specs.Suspend.{suspend}
-use Rattle.model_loop.specs.Tasks.{cancelling, finish, future_of, lives, pause, uncancel, waiter_of}
+use Rattle.model_loop.specs.Tasks.{begin_step, cancelling, finish, future_of, lives, pause, uncancel, waiter_of}
 use Rattle.model_machine.specs.Arguments.{as_awaited}
 use Rattle.model_machine.specs.Extra.{no_extra}
 use Rattle.model_machine.specs.Replies.{reply}
@@ -24,13 +24,18 @@ use Rattle.model_machine.specs.Sound.{IsStateSound}
 use Rattle.model_machine.specs.State.{State, generator_of, unbooked_in}
 use Rattle.model_machine.specs.Step.{most_answers, says_of, serve}
 use Rattle.model_value.specs.declared.request.Request.TheVariants.{Await}
+use Rattle.std.specs.List.{AllByRecursion as Each, count_by}
+use Rattle.std.specs.Prelude.{nat_lt}
+use Rattle.aio_ready.specs.Queue as queue
 use Rattle.aio_ready.specs.Queue.{soon_all}
 use Rattle.aio_future.specs.Settled as settled
 use Rattle.aio_future.specs.Settled.{called}
 use Rattle.aio_timer.specs.declared.live.TimerId.{TimerId}
 use Rattle.aio_timer.specs.Schedule.{timer, placed_after}
 use Rattle.aio_task.specs.View.{View, parts}
-use Rattle.aio_task.specs.Keeps.{Ties, Keeps, Kept, Knows, ByTimer, Becomes}
+use Rattle.aio_task.specs.Keeps.{Ties, Keeps, Kept, Knows, ByTimer, Becomes, let_go}
+use Rattle.model_value.specs.Input.{Input}
+use Rattle.aio_core.specs.GivingUp.{timer_cancelled, let_go_of}
 use Rattle.aio_core.specs.StepSound.{IsStepSound, RepliesInStep}
 use Rattle.aio_core.proofs.Leaving.{Leaves}
 
@@ -140,3 +145,68 @@ leaves_finish task end p = ?
 -- a task that was finished is done
 pub finish_done : (task : ℕ) (end : Result Value Exc) (p : Parts) → lives (finish task end p) task ≡ false
 finish_done task end p = ?
+
+-- ---- law_handles, Runs and Skipping
+abbrev pub IsPastBar : ℕ → List Handle → Type 0
+IsPastBar bar [] = Unit {0}
+IsPastBar bar (handle ∷ handles) = bar ≤ handle.stamp
+
+abbrev pub Runs : Ties → View → Parts → Option Action → List Handle → Type 0
+Runs t w p None left = IsPastBar t.bar left × Keeps t w (record p { pending = left })
+Runs t w p (Some action) [] = ⊥
+Runs t w p (Some action) (handle ∷ handles) =
+    (handle.stamp < t.bar) × (handle.dead ≡ false) × (handle.action ≡ action) × Keeps t w (record p { pending = handles })
+
+pub record Skips (t : Ties) (w : View) (p : Parts) (next : Option Action) : Type 0 where
+  pub dead : List Handle
+  pub left : List Handle
+  pub pending : p.pending ≡ dead ++ left
+  pub are_dead : Each (λ (handle : Handle). (handle.dead ≡ true) × (handle.stamp < t.bar)) dead
+  pub runs : Runs t w p next left
+
+pub keeps_next : (t : Ties) (v : View) (p : Parts) (called : Option ℕ) → Keeps t v p
+    → Skips t (record v { queue = queue.taken v.queue; called = called }) p (queue.next_action v.queue)
+keeps_next t v p called k = ?
+
+pub count_early : (t : Ties) (v : View) (p : Parts) → Keeps t v p
+    → length v.queue.below ≡ count_by (λ (h : Handle). nat_lt h.stamp t.bar) p.pending
+count_early t v p k = ?
+
+-- ---- law_runs
+pub dead_sound : (s : State (Unit {0})) (handle : Handle) (rest : List Handle) → IsStateSound no_extra s → s.loop.parts.pending ≡ handle ∷ rest
+    → handle.dead ≡ true → IsStateSound no_extra (unbooked_in (λ p. record p { pending = rest }) s)
+dead_sound s handle rest sound pending dead = ?
+
+-- ---- law_kept and law_handles, of a step that begins
+pub kept_begin : (t : Ties) (v w : View) (p : Parts) → Keeps t v p → (task : ℕ) (input : Input) → Becomes v w (begin_step task input (parts v)).parts
+    → Kept t p w (begin_step task input p).parts
+kept_begin t v w p k task input b = ?
+
+pub input_kept : (t : Ties) (v : View) (p : Parts) → Keeps t v p → (task : ℕ) (input : Input)
+    → (begin_step task input (parts v)).input ≡ (begin_step task input p).input
+input_kept t v p k task input = ?
+
+pub kept_revoked : (t : Ties) (v : View) (p : Parts) → Keeps t v p → (tag : ℕ) (id : TimerId) → Knows t p tag (ByTimer id)
+    → Kept t p (timer_cancelled id v) (revoke tag p)
+kept_revoked t v p k tag id knows = ?
+
+pub keeps_release : (t : Ties) (v : View) (p : Parts) → Keeps t v p → (id : ℕ) → id < next_future p → is_pending p id ≡ false
+    → Keeps (let_go id t) (let_go_of id v) p
+keeps_release t v p k id within done = ?
+
+pub leaves_begin : (task : ℕ) (input : Input) (p : Parts) → Leaves None p (begin_step task input p).parts
+leaves_begin task input p = ?
+
+-- a step's task waits for nothing
+pub begun_waits : (task : ℕ) (input : Input) (p : Parts) → waiter_of (begin_step task input p).parts task ≡ None
+begun_waits task input p = ?
+
+pub leaves_revoke : (tag : ℕ) (p : Parts) → Leaves None p (revoke tag p)
+leaves_revoke tag p = record {
+  tasks = refl;
+  living = λ task l. l;
+  plain = λ id e. e;
+  waits = λ task id e. inl e;
+  time = refl;
+  counts = λ h. h;
+}

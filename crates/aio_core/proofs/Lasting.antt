@@ -59,16 +59,16 @@ stands_at_on new t u p q named task (Leaving group) (plain.Sleeping tag) leaves 
 stands_at_on new t u p q named task (Leaving group) (plain.Leaving id) leaves spares e h = h
 stands_at_on new t u p q named task (Leaving group) (plain.Serving key) leaves spares e h = h
 
--- An operation on the parts alone, whose view is `v` then.
-pub stands_on : (new : Option (ℕ × ℕ)) (out : Option ℕ) (c : Setting) (old : Body) (s : State (Unit {0})) (v : View) (change : Loop → Loop)
+-- An operation on the parts alone, whose view is `v` then, with as many handles before the bar as that has.
+pub stands_left : (new : Option (ℕ × ℕ)) (out : Option ℕ) (c : Setting) (old : Body) (s : State (Unit {0})) (v : View) (change : Loop → Loop)
     → (h : Stands out c old s) → Kept h.ties s.loop.parts v (change s.loop).parts → Leaves new s.loop.parts (change s.loop).parts
-    → Spares new s.loop.parts s.futures → length v.queue.below ≡ length old.parts.queue.below
-    → Stands out c (record old { parts = v }) (in_loop change s)
-stands_on new out c old s v change h kept leaves spares below = record {
+    → Spares new s.loop.parts s.futures
+    → Stands out (record c { left = length v.queue.below }) (record old { parts = v }) (in_loop change s)
+stands_left new out c old s v change h kept leaves spares = record {
   ties = kept.ties;
   code = h.code;
   keeps = kept.keeps;
-  left = below ∙ h.left;
+  left = refl;
   bar = kept.extends.bar ∙ h.bar;
   made = h.made ∙ sym leaves.tasks;
   told = h.told ∙ sym leaves.tasks;
@@ -93,3 +93,12 @@ stands_on new out c old s v change h kept leaves spares below = record {
   rest = h.rest;
   count = h.count;
 }
+
+-- where those stay as many
+pub stands_on : (new : Option (ℕ × ℕ)) (out : Option ℕ) (c : Setting) (old : Body) (s : State (Unit {0})) (v : View) (change : Loop → Loop)
+    → (h : Stands out c old s) → Kept h.ties s.loop.parts v (change s.loop).parts → Leaves new s.loop.parts (change s.loop).parts
+    → Spares new s.loop.parts s.futures → length v.queue.below ≡ length old.parts.queue.below
+    → Stands out c (record old { parts = v }) (in_loop change s)
+stands_on new out c old s v change h kept leaves spares below =
+    subst (λ n. Stands out (record c { left = n }) (record old { parts = v }) (in_loop change s)) (below ∙ h.left)
+    (stands_left new out c old s v change h kept leaves spares)

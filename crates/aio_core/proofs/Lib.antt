@@ -8,3 +8,7 @@ pub mod May
 pub mod Rooms
 pub mod Serving
 pub mod Resuming
+pub mod Below
+pub mod Beginning
+pub mod Opening
+pub mod Making

@@ -10,3 +10,4 @@ pub mod Alarm
 pub mod Stepping
 pub mod Turning
 pub mod Effects
+pub mod GivingUp

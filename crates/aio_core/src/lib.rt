@@ -1,5 +1,5 @@
 //! The kernel: a loop's turns over an outside.
-#![tactic(auto)]
+#![tactic(none)]
 
 mod arguments;
 mod body;

@@ -7,6 +7,7 @@ ghost use Rattle.model_machine.specs.State as plain;
 ghost use Rattle.model_machine.specs.State.{State, resumed, generator_of};
 ghost use Rattle.model_machine.specs.Step.{step, serve_all};
 ghost use Rattle.aio_core.specs.Asked.{IsInStep, Says};
+ghost use Rattle.aio_core.specs.GivingUp.{IsNoTasks, given_up_in};
 ghost use Rattle.aio_core.specs.Outcomes.{reply_of};
 ghost use Rattle.aio_core.specs.Slots.{no_slot, put_back};
 ghost use Rattle.aio_core.specs.Stands.{Setting};
@@ -128,7 +129,11 @@ impl Body {
 
     // The timer of a sleep is given up as its task is resumed, and its future is let go.
     #[tactic(none)]
-    fn give_up(&mut self, standing: Standing) {
+    fn give_up(&mut self, standing: Standing)
+        requires idle { self.old.parts.called ≡ None }
+        requires no_task { IsNoTasks standing self.old.parts }
+        ensures { self.new ≡ record self.old { parts = given_up_in standing self.old.parts } }
+    {
         match standing {
             Standing::Asked => {}
             Standing::Sleeping { timer, future } => {

@@ -8,6 +8,10 @@ use Rattle.aio_core.proofs.May.{idle_of}
 use Rattle.aio_core.proofs.Rooms.{pauses_so}
 use Rattle.aio_core.proofs.Serving.{leads_on}
 use Rattle.aio_core.proofs.Resuming.{says_out}
+use Rattle.aio_core.proofs.Below.{all_dead}
+use Rattle.aio_core.proofs.Beginning.{stands_taken}
+use Rattle.aio_core.proofs.Opening.{gives_up}
+use Rattle.aio_core.proofs.Making.{makes_so}
 use Rattle.aio_core.proofs.laws.nothing_yet.Goals as goal
 
 pub returns : goal.returns
