@@ -1,8 +1,9 @@
 -- The handles before the bar: one call takes the next that lives, and the machine takes the dead ones before it one by one.
-use Rattle.std.proofs.Common.{◌≡◌, ℕ, zero, suc, ◌+◌, ◌<◌, ◌≤◌, Bool, true, false, List, [], ◌∷◌, ◌++◌, Option, Some, None, length, ltb, ◌∙◌, refl, sym, ap, subst, arith, inl}
+use Rattle.std.proofs.Common.{◌≡◌, ℕ, zero, suc, ◌+◌, ◌<◌, ◌≤◌, Bool, true, false, List, [], ◌∷◌, ◌++◌, Option, Some, None, length, ltb, cond, ◌∙◌, refl, sym, ap, subst, arith, inl}
 use Rattle.std.specs.List.{AllByRecursion as Each, count_by}
 use Rattle.std.specs.Prelude.{nat_lt}
 use Rattle.std.proofs.lemmas.Bool.{lt-ltb, le-ltb}
+use Rattle.std.proofs.lemmas.List.Sums.{sum_by-cons}
 use Rattle.model_value.specs.Action.{Action}
 use Rattle.model_says.specs.Says.{step_limit}
 use Rattle.model_wire.specs.declared.event.Event.TheVariants as event
@@ -88,8 +89,9 @@ pub count_dead : (bar : ℕ) (dead left : List Handle) → AreDead bar dead
 count_dead bar [] left are = omega arith
 count_dead bar (h ∷ dead) left are =
     let more = count_dead bar dead left are.1 in
-    let one = lt-ltb h.stamp bar are.0.1 in
-    grind (arith, more, one)
+    let c = sum_by-cons (λ (x : Handle). cond (nat_lt x.stamp bar) 1 0) h (dead ++ left) in
+    let one : ◌≡◌ {A = ℕ} (cond (nat_lt h.stamp bar) 1 0) 1 = rw (lt-ltb h.stamp bar are.0.1) refl in
+    omega (arith, more, c, one)
 
 -- ---- what is kept
 pub pending_leaves : (p : Parts) (handles : List Handle) → Leaves None p (record p { pending = handles })
@@ -121,20 +123,16 @@ pub record IsRunning (action : Action) (c : Setting) (body : Body) (w : View) (s
 abbrev pub left_by : View → View
 left_by v = record v { queue = queue.taken v.queue; called = stepped_at (queue.next_action v.queue) }
 
-pub next_runs : (c : Setting) (body : Body) (s : State (Unit {0})) (w : View) (action : Action) → IsBetween c body s
-    → queue.next_action body.parts.queue ≡ Some action → w ≡ left_by body.parts → IsRunning action c body w s
-next_runs c body s w action h next is =
-    at skips.left skips.pending
-    (subst (λ n. Runs t w p n skips.left) next (subst (λ x. Runs t x p (queue.next_action body.parts.queue) skips.left) (sym is) skips.runs))
+pub next_runs : (c : Setting) (body : Body) (s : State (Unit {0})) (w : View) (action : Action) → (h : IsBetween c body s)
+    → (skips : Skips h.stands.ties w s.loop.parts (Some action)) → w ≡ left_by body.parts → queue.next_action body.parts.queue ≡ Some action
+    → IsRunning action c body w s
+next_runs c body s w action h skips is next = at skips.left skips.pending skips.runs
   where
     t : Ties
     t = h.stands.ties
 
     p : Parts
     p = s.loop.parts
-
-    skips : Skips t (left_by body.parts) p (queue.next_action body.parts.queue)
-    skips = keeps_next t body.parts p (stepped_at (queue.next_action body.parts.queue)) h.stands.keeps
 
     at : (left : List Handle) → p.pending ≡ skips.dead ++ left → Runs t w p (Some action) left → IsRunning action c body w s
     at [] pending runs = absurd runs
@@ -173,9 +171,10 @@ next_runs c body s w action h next is =
             let all = count_early t body.parts p h.stands.keeps in
             let dead = ap (count_by (λ (x : Handle). nat_lt x.stamp t.bar)) pending ∙ count_dead t.bar skips.dead (handle ∷ handles) skips.are_dead in
             let rest = count_early t w (record p { pending = handles }) runs.3 in
-            let first = lt-ltb handle.stamp t.bar runs.0 in
+            let more = sum_by-cons (λ (x : Handle). cond (nat_lt x.stamp t.bar) 1 0) handle handles in
+            let one : ◌≡◌ {A = ℕ} (cond (nat_lt handle.stamp t.bar) 1 0) 1 = rw (lt-ltb handle.stamp t.bar runs.0) refl in
             let few = h.stands.left in
-            grind (arith, all, dead, rest, first, few)
+            omega (arith, all, dead, rest, more, one, few)
 
 -- where it gave none, none is left
 pub record IsAtBar (c : Setting) (body : Body) (w : View) (s : State (Unit {0})) : Type 0 where
@@ -183,13 +182,14 @@ pub record IsAtBar (c : Setting) (body : Body) (w : View) (s : State (Unit {0}))
   pub between : IsBetween (record c { left = length w.queue.below }) (record body { parts = w }) now
   pub goes : run_below step_limit no_extra c.bar c.left s ≡ Goes now
 
-pub next_none : (c : Setting) (body : Body) (s : State (Unit {0})) (w : View) → IsBetween c body s
-    → queue.next_action body.parts.queue ≡ None → w ≡ left_by body.parts → IsAtBar c body w s
-next_none c body s w h next is = record {
+pub next_none : (c : Setting) (body : Body) (s : State (Unit {0})) (w : View) → (h : IsBetween c body s)
+    → (skips : Skips h.stands.ties w s.loop.parts None) → w ≡ left_by body.parts → queue.next_action body.parts.queue ≡ None
+    → IsAtBar c body w s
+next_none c body s w h skips is next = record {
   now = with_pending skips.left s;
   between = record {
     stands =
-        stands_left None None c body s w (in_parts (λ q. record q { pending = skips.left })) h.stands (pending_kept t w p skips.left runs.1)
+        stands_left None None c body s w (in_parts (λ q. record q { pending = skips.left })) h.stands (pending_kept t w p skips.left skips.runs.1)
         (pending_leaves p skips.left) (spares_none p s.futures);
     called = ap (λ (x : View). x.called) is ∙ ap stepped_at next;
     running = ap (λ (x : View). x.running) is ∙ h.running;
@@ -199,7 +199,7 @@ next_none c body s w h next is = record {
       subst (λ b. run_below step_limit no_extra b c.left s ≡ Goes (with_pending skips.left s)) h.stands.bar
       (ap (λ k. run_below step_limit no_extra t.bar k s) many
       ∙ all_dead t.bar (length w.queue.below) skips.dead skips.left s skips.pending skips.are_dead
-      ∙ none_left t.bar (length w.queue.below) (with_pending skips.left s) runs.0);
+      ∙ none_left t.bar (length w.queue.below) (with_pending skips.left s) skips.runs.0);
 }
   where
     t : Ties
@@ -208,16 +208,18 @@ next_none c body s w h next is = record {
     p : Parts
     p = s.loop.parts
 
-    skips : Skips t (left_by body.parts) p (queue.next_action body.parts.queue)
-    skips = keeps_next t body.parts p (stepped_at (queue.next_action body.parts.queue)) h.stands.keeps
-
-    runs : Runs t w p None skips.left
-    runs = subst (λ n. Runs t w p n skips.left) next (subst (λ x. Runs t x p (queue.next_action body.parts.queue) skips.left) (sym is) skips.runs)
-
     many : c.left ≡ length skips.dead + length w.queue.below
     many =
         let all = count_early t body.parts p h.stands.keeps in
         let dead = ap (count_by (λ (x : Handle). nat_lt x.stamp t.bar)) skips.pending ∙ count_dead t.bar skips.dead skips.left skips.are_dead in
-        let rest = count_early t w (record p { pending = skips.left }) runs.1 in
+        let rest = count_early t w (record p { pending = skips.left }) skips.runs.1 in
         let few = h.stands.left in
         omega (arith, all, dead, rest, few)
+
+-- what the parts beneath say of this call
+pub skipped : (c : Setting) (body : Body) (s : State (Unit {0})) (w : View) (next : Option Action) → (h : IsBetween c body s)
+    → w ≡ left_by body.parts → queue.next_action body.parts.queue ≡ next → Skips h.stands.ties w s.loop.parts next
+skipped c body s w next h is same =
+    subst (λ n. Skips h.stands.ties w s.loop.parts n) same
+    (subst (λ x. Skips h.stands.ties x s.loop.parts (queue.next_action body.parts.queue)) (sym is)
+    (keeps_next h.stands.ties body.parts s.loop.parts (stepped_at (queue.next_action body.parts.queue)) h.stands.keeps))

@@ -210,3 +210,20 @@ leaves_revoke tag p = record {
   time = refl;
   counts = λ h. h;
 }
+
+-- ---- law_handles and law_after, of a timer
+pub kept_later : (t : Ties) (v : View) (p : Parts) → Keeps t v p → (when : ℕ) (action : Action)
+    → Kept t p
+    (record v { schedule = record { live = placed_after (timer (record { number = v.schedule.next; when = when }) action) v.schedule.live; next = v.schedule.next + 1 } })
+    (later when action p)
+kept_later t v p k when action = ?
+
+pub leaves_later : (when : ℕ) (action : Action) (p : Parts) → Leaves None p (later when action p)
+leaves_later when action p = record {
+  tasks = refl;
+  living = λ task l. l;
+  plain = λ id e. e;
+  waits = λ task id e. inl e;
+  time = refl;
+  counts = λ h. h;
+}

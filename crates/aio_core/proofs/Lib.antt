@@ -12,3 +12,4 @@ pub mod Below
 pub mod Beginning
 pub mod Opening
 pub mod Making
+pub mod Asleep

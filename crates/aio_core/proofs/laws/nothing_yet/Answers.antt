@@ -12,6 +12,7 @@ use Rattle.aio_core.proofs.Below.{all_dead}
 use Rattle.aio_core.proofs.Beginning.{stands_taken}
 use Rattle.aio_core.proofs.Opening.{gives_up}
 use Rattle.aio_core.proofs.Making.{makes_so}
+use Rattle.aio_core.proofs.Asleep.{fresh_spares}
 use Rattle.aio_core.proofs.laws.nothing_yet.Goals as goal
 
 pub returns : goal.returns
