@@ -1,5 +1,6 @@
 -- A step begins, as a whole: what the parts, the slot and the machine come to.
-use Rattle.std.proofs.Common.{◌≡◌, ℕ, ◌<◌, Bool, true, false, List, Option, Some, None, length, length-map, slice_get, slice_set, ◌∙◌, refl, sym, ap, subst, arith, if◌then◌else◌}
+use Rattle.std.proofs.Common.{◌≡◌, ℕ, ◌<◌, Bool, true, false, List, Option, Some, None, length, slice_get, slice_set, ◌∙◌, refl, sym, ap, subst, arith, if◌then◌else◌}
+use Rattle.std.proofs.lemmas.List.{length-map}
 use Rattle.std.specs.Prelude.{is_some}
 use Rattle.model_value.specs.Input.{Input}
 use Rattle.model_value.specs.Value.{Outcome}
