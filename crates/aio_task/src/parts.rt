@@ -137,8 +137,7 @@ impl Parts {
         self.body.ready.ticket(alloc)
     }
 
-    /// `call_soon`, of what is no step and no wakeup. Where no number is left, the answer names no handle, and a cancel of
-    /// it does nothing.
+    /// `call_soon`, of what is no step and no wakeup. Where no number is left, a cancel of the answer does nothing.
     pub fn soon(&mut self, ticket: Ticket, action: Action) -> HandleId
         requires idle { self.old.called ≡ None }
         requires no_step { is_step action ≡ false }
@@ -391,8 +390,7 @@ impl Parts {
         call_soon(&mut self.body, step.ticket, Action::Step(task));
     }
 
-    /// The running task awaits a pending future. An await that would never end is refused by a step that throws. No task is
-    /// running then.
+    /// The running task awaits a pending future, and runs no more. An await without an end is refused by a step that throws.
     pub fn suspend(&mut self, task: u32, on: FutureId) -> Suspension
         requires idle { self.old.called ≡ None }
         requires running { self.old.running ≡ Some task }
