@@ -1,0 +1,7 @@
+pub mod Found
+pub mod Owed
+pub mod Asking
+pub mod Loops
+pub mod Groups
+pub mod Replies
+pub mod Turns
