@@ -1,7 +1,3 @@
-pub mod Found
-pub mod Owed
-pub mod Asking
-pub mod Loops
-pub mod Groups
+pub mod Reading
 pub mod Replies
 pub mod Turns

@@ -37,10 +37,11 @@ use Rattle.law_inside.proofs.Tapes.{past_default}
 use Rattle.law_replies.proofs.Innermost.{innermost_timeout}
 use Rattle.law_replies.proofs.Replying.{fits_in}
 use Rattle.law_done.proofs.Later.{later_plain, later_same, later_then}
-use Rattle.law_taken.proofs.Asking.{hand_covers}
-use Rattle.law_taken.proofs.Groups.{begin_covers, begin_right, easy_create, easy_woken, enter_group_covers, woken_right}
-use Rattle.law_taken.proofs.Loops.{IsGood, all_good, easy_request, easy_reschedule, easy_settle, easy_spawn, easy_suspend, enter_covers, exit_covers}
-use Rattle.law_taken.proofs.Owed.{IsCovered, IsRight, is_expiring, owed, owes_timeout, owes_group, count_cons, covers, easy_parts, easy_then}
+use Rattle.law_owed.proofs.Asking.{hand_covers}
+use Rattle.law_owed.proofs.Groups.{begin_covers, begin_right, easy_create, easy_woken, enter_group_covers, woken_right}
+use Rattle.law_owed.proofs.Loops.{IsGood, all_good, easy_request, easy_reschedule, easy_settle, easy_spawn, easy_suspend, enter_covers, exit_covers}
+use Rattle.law_owed.proofs.Owed.{count_cons, covers, easy_parts, easy_then}
+use Rattle.law_owed.specs.Owed.{IsCovered, IsRight, is_expiring, owed, owes_timeout, owes_group}
 
 -- ---- nothing is owed to a task that wasn't made
 off : (b : Bool) → (b && false) ≡ false

@@ -42,10 +42,11 @@ use Rattle.law_runs.proofs.Turning.{noted_in, pending_in, turn_in, woken_in}
 use Rattle.law_done.proofs.Later.{any, later_begin, later_due, later_same, later_soon_all, later_then}
 use Rattle.law_done.proofs.Replies.{later_given_up}
 use Rattle.law_taken.specs.Taken.{EachAfter, HasRightLedgers}
-use Rattle.law_taken.proofs.Found.{reads_right}
-use Rattle.law_taken.proofs.Groups.{child_covers}
-use Rattle.law_taken.proofs.Loops.{IsGood, all_good, begin_counts, easy_end, easy_finish, easy_settle, fire_covers}
-use Rattle.law_taken.proofs.Owed.{IsCovered, IsRight, covers, easy_parts, right_on, same_counts}
+use Rattle.law_taken.proofs.Reading.{reads_right}
+use Rattle.law_owed.proofs.Groups.{child_covers}
+use Rattle.law_owed.proofs.Loops.{IsGood, all_good, begin_counts, easy_end, easy_finish, easy_settle, fire_covers}
+use Rattle.law_owed.proofs.Owed.{covers, easy_parts, right_on, same_counts}
+use Rattle.law_owed.specs.Owed.{IsCovered, IsRight}
 use Rattle.law_taken.proofs.Replies.{Covers, decides_in, reply_in, right_of}
 
 given_counts : (st : Standing) (p : Parts) (task : ℕ) → cancelling p task ≤ cancelling (given_up st p) task

@@ -1,24 +1,14 @@
 -- What is taken back was there: a timeout or a group that takes its request back finds the task's count above 0, unless somebody
 -- else called `uncancel` on the task before.
-use Rattle.std.specs.Prelude.{◌≡◌, ℕ, zero, suc, ◌==◌, Bool, true, false, ◌&&◌, List, ◌∷◌, ◌++◌}
+use Rattle.std.specs.Prelude.{◌≡◌, ℕ, zero, suc, true, false, List, ◌∷◌, ◌++◌}
 use Rattle.std.specs.List.{list_any}
 use Rattle.model_says.specs.Says.{step_limit}
-use Rattle.model_loop.specs.Ledger.{Origin, ByScript, ByExtra, LedgerEntry, Took}
+use Rattle.model_loop.specs.Ledger.{Origin, LedgerEntry, Took}
+use Rattle.law_owed.specs.Owed.{is_by_hand, uncancels}
 use Rattle.model_machine.specs.Extra.{Extra}
 use Rattle.model_machine.specs.State.{State}
 use Rattle.model_machine.specs.Turn.{turn}
 use Rattle.model_machine.specs.Went.{Went, Goes, Stops}
-
--- a script, or what serves further requests
-abbrev pub is_by_hand : Origin → Bool
-is_by_hand (ByScript task) = true
-is_by_hand (ByExtra key) = true
-is_by_hand _ = false
-
--- whether an entry is an `uncancel` of the task by one of them
-abbrev pub uncancels : (task : ℕ) → LedgerEntry → Bool
-uncancels task (Took other by lowered) = (other == task) && is_by_hand by
-uncancels task _ = false
 
 -- Where a timeout or a group took its request back and lowered nothing, such an `uncancel` of the same task stands before.
 abbrev pub TakesWhatWasThere : List LedgerEntry → Type 0

@@ -1,47 +1,21 @@
 -- What timeouts and groups will take back of a task's count, and that the count is at least that where nobody else took of it.
-use Rattle.std.proofs.Common.{◌≡◌, ℕ, zero, suc, ◌+◌, ◌≤◌, ◌<◌, ◌⊎◌, inl, inr, Bool, true, false, cond, not, ◌&&◌, ◌||◌, ◌==◌, List, [], ◌∷◌, ◌++◌, length, slice_get, slice_index_or, slice_set, refl, sym, ap, subst, ◌∙◌, le_refl, append_assoc, append-nil, length-set, arith}
+use Rattle.std.proofs.Common.{◌≡◌, ℕ, zero, suc, ◌+◌, ◌≤◌, ◌<◌, ◌⊎◌, inl, inr, Bool, true, false, cond, ◌||◌, List, [], ◌∷◌, ◌++◌, length, slice_get, slice_index_or, slice_set, refl, sym, ap, subst, ◌∙◌, le_refl, append_assoc, append-nil, length-set, arith}
 use Rattle.std.specs.List.{count_by, list_any}
 use Rattle.std.specs.Option.{option_map_or}
 use Rattle.std.proofs.lemmas.Bool.{cases_lt, or_parts, false≢true}
 use Rattle.std.proofs.lemmas.List.Folds.{list_any-append}
 use Rattle.std.proofs.lemmas.List.Sums.{sum_by-cons}
 use Rattle.model_loop.specs.Balance.{Balances, lowers}
-use Rattle.model_loop.specs.Futures.{is_pending, next_future}
+use Rattle.model_loop.specs.Futures.{is_pending}
 use Rattle.model_loop.specs.Groups.{group_of, new_group, set_group}
 use Rattle.model_loop.specs.Ledger.{LedgerEntry, Asked, Raised, Took, Began, Booked}
-use Rattle.model_loop.specs.Loop.{TimeoutState, Expiring, Timeout, Group, Loop, book}
+use Rattle.model_loop.specs.Loop.{Timeout, Group, Loop, book}
 use Rattle.model_loop.specs.Parts.{Parts, Task}
 use Rattle.model_loop.specs.Tasks.{cancelling, future_of, lives, next_task}
 use Rattle.model_loop.specs.Timeouts.{no_timeout, set_timeout, timeout_of}
-use Rattle.model_machine.specs.Replies.{most_ids}
 use Rattle.law_done.proofs.Later.{IsLater, later_refl, later_then}
-use Rattle.law_taken.specs.Taken.{uncancels}
-use Rattle.law_taken.proofs.Found.{AreFound, found_on, is_took, none_found}
-
-abbrev pub is_expiring : TimeoutState → Bool
-is_expiring Expiring = true
-is_expiring _ = false
-
--- whether this timeout, or this group, asked for the task's cancel and may take that back
-abbrev pub owes_timeout : ℕ → Timeout → Bool
-owes_timeout task it = is_expiring it.state && (it.task == task)
-
-abbrev pub owes_group : ℕ → Group → Bool
-owes_group task it = it.entered && (it.requested && (not it.exiting && (it.parent == task)))
-
-abbrev pub owed : Loop → ℕ → ℕ
-owed l task = count_by (owes_timeout task) l.timeouts + count_by (owes_group task) l.groups
-
-pub record IsCovered (l : Loop) : Type 0 where
-  pub timeouts_few : length l.timeouts ≤ most_ids
-  pub groups_few : length l.groups ≤ most_ids
-  pub covered : (task : ℕ) → lives l.parts task ≡ true → list_any (uncancels task) l.ledger ≡ false → owed l task ≤ cancelling l.parts task
-  pub found : AreFound [] l.ledger
-
--- each task's future was made, and nothing is owed to a task that wasn't
-pub record IsRight (l : Loop) : Type 0 where
-  pub made : (task : ℕ) → task < next_task l.parts → future_of l.parts task < next_future l.parts
-  pub fresh : (task : ℕ) → next_task l.parts ≤ task → owed l task ≡ 0
+use Rattle.law_owed.specs.Owed.{AreFound, IsCovered, IsRight, owed, owes_group, owes_timeout, uncancels}
+use Rattle.law_owed.proofs.Found.{found_on, is_took, none_found}
 
 -- a step that takes nothing back, and after which no more is owed
 pub record IsEasy (l q : Loop) : Type 0 where

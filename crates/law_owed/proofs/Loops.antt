@@ -25,8 +25,9 @@ use Rattle.law_ledger.proofs.Balancing.{request_balances, request_each_balances,
 use Rattle.law_ledger.proofs.LoopBalance.{spawn_counts}
 use Rattle.law_after.proofs.Requests.{cancel_after}
 use Rattle.law_done.proofs.Later.{any, later_same, later_cancel, later_end, later_finish, later_made, later_settle, later_spawn, later_suspend, later_uncancel}
-use Rattle.law_taken.proofs.Asking.{ask_covers, take_covers, hand_covers, request_took, each_took, suspend_took}
-use Rattle.law_taken.proofs.Owed.{IsCovered, IsEasy, IsRight, is_expiring, owed, owes_timeout, covers, easy_book, easy_parts, easy_refl, easy_then, easy_timeout, right_on, same_counts, timeout_owed}
+use Rattle.law_owed.proofs.Asking.{ask_covers, take_covers, hand_covers, request_took, each_took, suspend_took}
+use Rattle.law_owed.proofs.Owed.{IsEasy, covers, easy_book, easy_parts, easy_refl, easy_then, easy_timeout, right_on, same_counts, timeout_owed}
+use Rattle.law_owed.specs.Owed.{IsCovered, IsRight, is_expiring, owed, owes_timeout}
 
 abbrev count_in : Option Task → ℕ
 count_in o = option_map_or (λ (task : Task). task.cancels) o 0

@@ -1,17 +1,9 @@
 -- The ledger from its beginning: what each entry needs of those before it.
-use Rattle.std.proofs.Common.{◌≡◌, Bool, true, false, List, [], ◌∷◌, ◌++◌, sym, ap, subst, ◌∙◌, append_assoc, append-nil}
+use Rattle.std.proofs.Common.{◌≡◌, Bool, true, false, List, [], ◌∷◌, ◌++◌, sym, subst, append_assoc, append-nil}
 use Rattle.std.specs.List.{list_any}
 use Rattle.std.proofs.lemmas.Bool.{false≢true}
 use Rattle.model_loop.specs.Ledger.{LedgerEntry, Asked, Raised, Took, Began}
-use Rattle.law_taken.specs.Taken.{TakesWhatWasThere, is_by_hand, uncancels}
-
-abbrev pub IsFound : List LedgerEntry → LedgerEntry → Type 0
-IsFound before (Took task by false) = is_by_hand by ≡ false → list_any (uncancels task) before ≡ true
-IsFound before _ = Unit {0}
-
-abbrev pub AreFound : (before entries : List LedgerEntry) → Type 0
-AreFound before [] = Unit {0}
-AreFound before (entry ∷ entries) = IsFound before entry × AreFound (before ++ entry ∷ []) entries
+use Rattle.law_owed.specs.Owed.{AreFound}
 
 pub found_on : (before xs ys : List LedgerEntry) → AreFound before xs → AreFound (before ++ xs) ys → AreFound before (xs ++ ys)
 found_on before [] ys a b = subst (λ (l : List LedgerEntry). AreFound l ys) (append-nil before) b
@@ -29,12 +21,3 @@ none_found before (Asked by ∷ more) h = (tt, none_found (before ++ Asked by �
 none_found before (Raised task by ∷ more) h = (tt, none_found (before ++ Raised task by ∷ []) more h)
 none_found before (Began group ∷ more) h = (tt, none_found (before ++ Began group ∷ []) more h)
 none_found before (Took task by lowered ∷ more) h = absurd (false≢true (sym h))
-
--- so the ledger is right
-pub reads_right : (ledger : List LedgerEntry) → AreFound [] ledger → TakesWhatWasThere ledger
-reads_right ledger found before after task by e hand =
-    at [] before (subst (AreFound []) e found)
-  where
-    at : (read rest : List LedgerEntry) → AreFound read (rest ++ Took task by false ∷ after) → list_any (uncancels task) (read ++ rest) ≡ true
-    at read [] a = ap (list_any (uncancels task)) (append-nil read) ∙ a.0 hand
-    at read (x ∷ rest) a = sym (ap (list_any (uncancels task)) (append_assoc read (x ∷ []) rest)) ∙ at (read ++ x ∷ []) rest a.1

@@ -27,9 +27,9 @@ use Rattle.law_steps.proofs.Waiting.{task_there}
 use Rattle.law_after.proofs.Requests.{cancel_after}
 use Rattle.law_inside.proofs.Counts.{lives_within}
 use Rattle.law_done.proofs.Later.{any, later_cancel, later_uncancel}
-use Rattle.law_taken.specs.Taken.{is_by_hand, uncancels}
-use Rattle.law_taken.proofs.Found.{AreFound, IsFound, found_on, is_took, none_found}
-use Rattle.law_taken.proofs.Owed.{IsCovered, IsRight, owed, owes_timeout, owes_group, back, count_cons, first_none, no_lowers}
+use Rattle.law_owed.specs.Owed.{is_by_hand, uncancels, AreFound, IsFound, IsCovered, IsRight, owed, owes_timeout, owes_group}
+use Rattle.law_owed.proofs.Found.{found_on, is_took, none_found}
+use Rattle.law_owed.proofs.Owed.{back, count_cons, first_none, no_lowers}
 
 -- ---- requests take nothing back
 raised_took : (by : Origin) (tasks : List ℕ) → list_any is_took (map (λ t. Raised t by) tasks) ≡ false

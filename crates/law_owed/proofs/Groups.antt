@@ -27,8 +27,9 @@ use Rattle.law_told.proofs.Holding.{group_same}
 use Rattle.law_after.proofs.Exits.{exit_begin_loop, exit_woken_loop}
 use Rattle.law_after.proofs.Requests.{each_after}
 use Rattle.law_done.proofs.Later.{IsLater, any, later_create, later_exit_begin, later_exit_woken, later_of, later_plain, later_refl, later_settle, later_uncancel}
-use Rattle.law_taken.proofs.Asking.{ask_covers, each_took, take_covers}
-use Rattle.law_taken.proofs.Owed.{IsCovered, IsEasy, IsRight, owed, owes_group, covers, easy_book, easy_group, easy_parts, easy_refl, easy_then, group_owed, right_on, same_counts}
+use Rattle.law_owed.proofs.Asking.{ask_covers, each_took, take_covers}
+use Rattle.law_owed.proofs.Owed.{IsEasy, covers, easy_book, easy_group, easy_parts, easy_refl, easy_then, group_owed, right_on, same_counts}
+use Rattle.law_owed.specs.Owed.{IsCovered, IsRight, owed, owes_group}
 
 -- ---- who has which future stays
 owns_spread : {s : List ℕ} {p : Parts} {t : List ℕ} {q : Parts} → Spreads s p t q → OwnsFutures p → OwnsFutures q
