@@ -1,0 +1,3 @@
+pub mod Alarm
+pub mod Left
+pub mod GoneOn
