@@ -1,0 +1,78 @@
+//! The kernel.
+ghost use Rattle.aio_core.specs.Turning.{AliveUnless};
+
+use crate::begin::begin;
+use crate::ending::{end, keep};
+use crate::turns::turn;
+use crate::went::Went;
+use aio_base::Memory;
+use aio_body::Body;
+use aio_program::Program;
+use aio_wire::{Events, Wire};
+use std::alloc::Global;
+
+/// A run of a program, between two turns. After any answer of a turn but `Went` the run has ended.
+#[derive(Drop)]
+pub struct Kernel {
+    body: Body,
+    // how the run ended
+    ended: Option<Went>,
+    ghost alive: { ∥ AliveUnless ended body ∥₁ },
+}
+
+impl Kernel {
+    ghost use Rattle.std.specs.Prelude.{◌≡◌, ◌≤◌, List, [], ◌++◌, None, IfOk, IfSome};
+    ghost use Rattle.model_wire.specs.Event.{Event};
+    ghost use Rattle.model_wire.specs.Journal.{Entry};
+    ghost use Rattle.model_loop.specs.Tasks.{next_task};
+    ghost use Rattle.model_machine.specs.State.{State};
+    ghost use Rattle.aio_core.specs.declared.went.Went.{Went as AnyWent};
+    ghost use Rattle.aio_core.specs.Turned.{StandsFor, Begins, TurnedBy, KeepsEnd, ended, untaken};
+    ghost use Rattle.aio_core.specs.Again.{Again};
+
+    /// A run begins at time 0, with main's task, whose first step is pending.
+    pub fn new(alloc: Global, program: &Program) -> Result<Kernel, Memory>
+        ensures { IfOk result (Begins program.now) }
+    {
+        let body = begin(alloc, program)?;
+        Ok(Kernel { body, ended: None })
+    }
+
+    /// A turn. After any answer but `Went` it answers that again, or that memory was refused, and asks nothing.
+    pub fn turn<W: Wire>(&mut self, alloc: Global, wire: &mut W) -> Went
+        ensures turned { ended self.old ≡ None → (said : AnyWent) × TurnedBy (W.fails wire.old) (W.quiet wire.old wire.new)
+            (W.seen wire.old) (W.seen wire.new) self.old self.new result said }
+        ensures keeps { W.keeps wire.old wire.new }
+        ensures later { (W.seen wire.old).faults ≤ (W.seen wire.new).faults }
+        ensures kept { KeepsEnd result (ended self.new) }
+        ensures again { IfSome (ended self.old) (λ went. Again went result) }
+        ensures still { IfSome (ended self.old) (λ went. wire.new ≡ wire.old) }
+    {
+        if let Some(ended) = self.ended.take() {
+            return end(alloc, &mut self.ended, ended);
+        }
+        match turn(&mut self.body, alloc, wire) {
+            Ok(went) => keep(alloc, &mut self.ended, went),
+            Err(stop) => keep(alloc, &mut self.ended, Went::Stopped(stop)),
+        }
+    }
+
+    /// Takes the events out that came since the last call.
+    pub fn events(&mut self) -> Events
+        ensures taken { result.events ≡ untaken self.old }
+        ensures left { untaken self.new ≡ [] }
+        ensures ended { ended self.new ≡ ended self.old }
+        ensures stands { (past : List Event) (answers : List Entry) (s : State (Unit {0}))
+            → StandsFor past answers self.old s → StandsFor (past ++ untaken self.old) answers self.new s }
+    {
+        self.body.events.take()
+    }
+
+    /// How many tasks were made so far.
+    pub fn tasks(&self) -> u32
+        ensures { (past : List Event) (answers : List Entry) (s : State (Unit {0}))
+            → StandsFor past answers self.now s → result ≡ next_task s.loop.parts }
+    {
+        u32::try_from(self.body.slots.len()).unwrap_or(u32::MAX)
+    }
+}

@@ -1,0 +1,13 @@
+//! The kernel: a loop's turns over an outside.
+#![tactic(auto)]
+
+mod begin;
+mod effect;
+mod ending;
+mod handles;
+mod kernel;
+mod turns;
+mod went;
+
+pub use kernel::Kernel;
+pub use went::Went;
