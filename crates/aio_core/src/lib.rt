@@ -1,0 +1,11 @@
+//! The kernel: a loop's turns over an outside.
+#![tactic(auto)]
+
+mod effect;
+mod handles;
+mod kernel;
+mod turns;
+mod went;
+
+pub use kernel::Kernel;
+pub use went::Went;

@@ -1,0 +1,11 @@
+pub mod Blocks
+pub mod Leaving
+pub mod Lasting
+pub mod Noting
+pub mod Slotting
+pub mod Given
+pub mod Telling
+pub mod May
+pub mod Rooms
+pub mod Making
+pub mod Asleep
