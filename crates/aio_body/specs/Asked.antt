@@ -7,6 +7,7 @@ use Rattle.model_says.specs.Says.{step_limit}
 use Rattle.model_machine.specs.Extra.{no_extra}
 use Rattle.model_machine.specs.Replies as plain
 use Rattle.model_machine.specs.Replies.{reply}
+use Rattle.model_machine.specs.State as standing
 use Rattle.model_machine.specs.State.{State}
 use Rattle.model_machine.specs.Step.{says_of}
 use Rattle.aio_base.specs.declared.memory.Memory.{Memory}
@@ -14,7 +15,7 @@ use Rattle.aio_body.specs.declared.body.Body.{Body}
 use Rattle.aio_body.specs.declared.reply.Reply.{Reply}
 use Rattle.aio_body.specs.declared.reply.Reply.TheVariants.{Answers, Raises, Rests}
 use Rattle.aio_body.specs.Stands.{Setting, Stands}
-use Rattle.law_inside.specs.InStep.{IsStepSound}
+use Rattle.law_inside.specs.InStep.{IsAsked, IsStepSound}
 
 -- a task's step goes on, and its coroutine is taken out
 pub record IsInStep (task : ℕ) (c : Setting) (body : Body) (s : State (Unit {0})) : Type 0 where
@@ -38,12 +39,21 @@ pub record IsAsking (task : ℕ) (request : Request) (c : Setting) (body : Body)
   pub going : IsGoing task c body s
   pub says : says_of step_limit no_extra task s ≡ Asks request
 
+-- A step has begun: the request at which the task stood decides what the input means.
+pub record IsDeciding (task : ℕ) (stood : standing.Standing) (c : Setting) (body : Body) (s : State (Unit {0})) : Type 0 where
+  pub in_step : IsInStep task c body s
+  pub request : Request
+  pub asked : IsAsked no_extra task stood request s
+
 -- There is such a state. Which one it is doesn't matter to what a call may do.
 abbrev pub MayGo : ℕ → Body → Type 0
 MayGo task body = ∥ ((c : Setting) × ((s : State (Unit {0})) × IsGoing task c body s)) ∥₁
 
 abbrev pub MayAsk : ℕ → Request → Body → Type 0
 MayAsk task request body = ∥ ((c : Setting) × ((s : State (Unit {0})) × IsAsking task request c body s)) ∥₁
+
+abbrev pub MayDecide : ℕ → standing.Standing → Body → Type 0
+MayDecide task stood body = ∥ ((c : Setting) × ((s : State (Unit {0})) × IsDeciding task stood c body s)) ∥₁
 
 -- a step of some task goes on
 abbrev pub SomeGoes : Body → Type 0

@@ -4,3 +4,4 @@ pub mod Named
 pub mod Outcomes
 pub mod Slots
 pub mod GivingUp
+pub mod Taken

@@ -19,7 +19,7 @@ use Rattle.aio_task.specs.View.{View, stepped, stepped_at}
 use Rattle.aio_task.specs.Keeps.{Ties, Keeps, Kept, Extends}
 use Rattle.aio_body.specs.declared.body.Body.{Body}
 use Rattle.aio_body.specs.Stands.{Setting, Stands, IsBetween}
-use Rattle.aio_core.specs.Turning.{IsNext}
+use Rattle.aio_body.specs.Taken.{IsNext}
 use Rattle.law_body.proofs.Given.{IsPastBar, Runs, Skips, keeps_next, count_early, dead_sound}
 use Rattle.law_body.proofs.Lasting.{spares_none, stands_left}
 use Rattle.law_body.proofs.Leaving.{Leaves}

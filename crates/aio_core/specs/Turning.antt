@@ -1,71 +1,25 @@
 -- A turn, piece by piece.
 use Rattle.std.specs.Prelude.{◌≡◌, ℕ, ◌-◌, ◌^◌, Bool, false, List, [], ◌∷◌, ◌++◌, Option, Some, None, Result, Ok, Err, map, min}
-use Rattle.model_value.specs.Action.{Action}
 use Rattle.model_value.specs.Value.{Outcome}
 use Rattle.model_says.specs.Says.{step_limit}
 use Rattle.model_wire.specs.declared.event.End.TheVariants as end
-use Rattle.model_wire.specs.declared.event.Event.TheVariants as event
 use Rattle.model_wire.specs.Call.{Answer, Call}
 use Rattle.model_wire.specs.Event.{Event}
 use Rattle.model_wire.specs.Journal.{Entry, Answered}
 use Rattle.model_wire.specs.Told.{Agrees, Rose, WireSeen}
 use Rattle.model_wire.specs.Trace.{End}
-use Rattle.model_loop.specs.Parts.{Handle}
 use Rattle.model_machine.specs.Extra.{no_extra}
 use Rattle.model_machine.specs.Outcomes.{end_of}
-use Rattle.model_machine.specs.Sound.{IsStateSound}
-use Rattle.model_machine.specs.State.{State, noted, unbooked_in}
+use Rattle.model_machine.specs.State.{State}
 use Rattle.model_machine.specs.Turn.{turn}
 use Rattle.model_machine.specs.Went.{Went, Goes, Stops}
-use Rattle.aio_task.specs.View.{stepped}
 use Rattle.aio_wire.specs.Told.{refused_of}
 use Rattle.aio_wire.specs.declared.stop.Stop.{Stop}
 use Rattle.aio_wire.specs.declared.stop.Stop.TheVariants as stop
 use Rattle.aio_body.specs.declared.body.Body.{Body}
 use Rattle.aio_core.specs.declared.went.Went as code
 use Rattle.aio_core.specs.declared.went.Went.TheVariants as went
-use Rattle.aio_body.specs.Stands.{Setting, Stands, IsBetween}
-
--- ---- handles
--- A handle was taken from the queue and is about to run.
-pub record IsNext (action : Action) (c : Setting) (body : Body) (s : State (Unit {0})) : Type 0 where
-  pub before : State (Unit {0})
-  pub handle : Handle
-  pub rest : List Handle
-  pub pending : before.loop.parts.pending ≡ handle ∷ rest
-  pub live : handle.dead ≡ false
-  pub runs : handle.action ≡ action
-  pub sound : IsStateSound no_extra before
-  pub after : s ≡ unbooked_in (λ p. record p { pending = rest }) before
-  pub stands : Stands None c body s
-  pub called : body.parts.called ≡ stepped action
-  pub running : body.parts.running ≡ None
-
-abbrev pub MayRun : Action → Body → Type 0
-MayRun action body = ∥ ((c : Setting) × ((s : State (Unit {0})) × IsNext action c body s)) ∥₁
-
--- It was noted that it runs.
-pub record IsTaken (action : Action) (c : Setting) (body : Body) (s : State (Unit {0})) : Type 0 where
-  pub before : State (Unit {0})
-  pub handle : Handle
-  pub rest : List Handle
-  pub pending : before.loop.parts.pending ≡ handle ∷ rest
-  pub live : handle.dead ≡ false
-  pub runs : handle.action ≡ action
-  pub sound : IsStateSound no_extra before
-  pub after : s ≡ noted (event.Ran action) (unbooked_in (λ p. record p { pending = rest }) before)
-  pub stands : Stands None c body s
-  pub called : body.parts.called ≡ stepped action
-  pub running : body.parts.running ≡ None
-
-abbrev pub MayTake : Action → Body → Type 0
-MayTake action body = ∥ ((c : Setting) × ((s : State (Unit {0})) × IsTaken action c body s)) ∥₁
-
--- after a callback that steps no task
-pub record IsAfter (c : Setting) (body : Body) (s : State (Unit {0})) : Type 0 where
-  pub stands : Stands None c body s
-  pub called : body.parts.called ≡ None
-  pub running : body.parts.running ≡ None
+use Rattle.aio_body.specs.Stands.{Setting, IsBetween}
 
 abbrev pub IsAlive : Body → Type 0
 IsAlive body = ∥ ((c : Setting) × ((s : State (Unit {0})) × IsBetween c body s)) ∥₁

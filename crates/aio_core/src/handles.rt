@@ -9,7 +9,8 @@ ghost use Rattle.model_machine.specs.State.{State, noted};
 ghost use Rattle.model_machine.specs.Turn.{effect, run_below};
 ghost use Rattle.aio_body.specs.Stands.{Setting, IsBetween};
 ghost use Rattle.aio_step.specs.Stepping.{Steps, IsCalled};
-ghost use Rattle.aio_core.specs.Turning.{IsAlive, IsNext, MayRun, IsTaken, MayTake, at_bar};
+ghost use Rattle.aio_body.specs.Taken.{IsNext, MayRun, IsTaken, MayTake};
+ghost use Rattle.aio_core.specs.Turning.{IsAlive, at_bar};
 
 use crate::effect::{Effect, effect_of};
 use aio_base::{Action, Circle, Exc, Input, Kind, Memory, Outcome, Value, exception};
@@ -47,7 +48,11 @@ fn run(body: &mut Body, alloc: Global, action: Action, ticket: Ticket) -> Result
 }
 
 // What a handle does.
-fn act(body: &mut Body, alloc: Global, effect: Effect, ticket: Ticket) -> Result<Stepped, Memory> {
+fn act(body: &mut Body, alloc: Global, effect: Effect, ticket: Ticket) -> Result<Stepped, Memory>
+    requires { MayAct effect body.old }
+    ensures { IfOk result (λ went. (c : Setting) (s : State (Unit {0})) (action : Action) → effect ≡ effect_of action
+        → IsTaken action c body.old s → Steps c body.new went (effect step_limit no_extra action s)) }
+{
     match effect {
         Effect::Step(task) => step(body, alloc, task, ticket, Input::Send(Value::nothing())),
         Effect::StepInCircle { task, circle } => {

@@ -7,9 +7,9 @@ ghost use Rattle.model_machine.specs.Extra.{no_extra};
 ghost use Rattle.model_machine.specs.Replies.{decides};
 ghost use Rattle.model_loop.specs.Groups.{child_done};
 ghost use Rattle.model_machine.specs.State.{State, Leaving, in_loop};
-ghost use Rattle.aio_body.specs.Asked.{MayAsk, MayGo, SomeGoes, Serves, IsInStep, Says};
+ghost use Rattle.aio_body.specs.Asked.{MayAsk, MayDecide, MayGo, SomeGoes, Serves, IsDeciding, Says};
 ghost use Rattle.aio_body.specs.Stands.{Setting};
-ghost use Rattle.aio_body.specs.Turning.{IsTaken, IsAfter};
+ghost use Rattle.aio_body.specs.Taken.{IsTaken, IsAfter, MayTake};
 
 use aio_base::{Exc, Input, Memory, Value, ValueList};
 use aio_body::{Body, Reply};
@@ -56,7 +56,8 @@ pub fn leave_group(
     group: u32,
     input: Input,
 ) -> Result<Reply, Memory>
-    ensures { IfOk result (λ said. (c : Setting) (s : State (Unit {0})) → IsInStep task c body.old s
+    requires { MayDecide task (Leaving group) body.old }
+    ensures { IfOk result (λ said. (c : Setting) (s : State (Unit {0})) → IsDeciding task (Leaving group) c body.old s
         → Says task c body.new said (decides no_extra (Leaving group) task input s)) }
 {
     Err(Memory)
@@ -64,6 +65,7 @@ pub fn leave_group(
 
 /// A task of a group is done.
 pub fn child_done(body: &mut Body, _alloc: Global, group: u32, task: u32) -> Result<(), Memory>
+    requires { MayTake (GroupDone group task) body.old }
     ensures { OnOk result ((c : Setting) (s : State (Unit {0})) → IsTaken (GroupDone group task) c body.old s
         → IsAfter c body.new (in_loop (child_done group task) s)) }
 {

@@ -7,7 +7,7 @@ ghost use Rattle.model_loop.specs.Timeouts.{fire};
 ghost use Rattle.model_machine.specs.State.{State, in_loop};
 ghost use Rattle.aio_body.specs.Asked.{MayAsk, MayGo, SomeGoes, Serves};
 ghost use Rattle.aio_body.specs.Stands.{Setting};
-ghost use Rattle.aio_body.specs.Turning.{IsTaken, IsAfter};
+ghost use Rattle.aio_body.specs.Taken.{IsTaken, IsAfter, MayTake};
 
 use aio_base::{Exc, Memory, Value};
 use aio_body::{Body, Reply};
@@ -58,6 +58,7 @@ pub fn expired(body: &Body, _alloc: Global, timeout: &Value) -> Result<Reply, Me
 
 /// The time of a timeout is over.
 pub fn fire(body: &mut Body, _alloc: Global, timeout: u32) -> Result<(), Memory>
+    requires { MayTake (Fires timeout) body.old }
     ensures { OnOk result ((c : Setting) (s : State (Unit {0})) → IsTaken (Fires timeout) c body.old s
         → IsAfter c body.new (in_loop (fire timeout) s)) }
 {

@@ -25,7 +25,7 @@ use Rattle.aio_step.specs.declared.steps.Served.TheVariants as code
 use Rattle.aio_step.specs.declared.steps.Started.{Started}
 use Rattle.aio_step.specs.declared.steps.Stepped as stepped
 use Rattle.aio_step.specs.declared.steps.Stepped.TheVariants as went
-use Rattle.aio_body.specs.Asked.{IsInStep, HasRested}
+use Rattle.aio_body.specs.Asked.{IsInStep, HasRested, IsDeciding}
 use Rattle.aio_body.specs.Stands.{Setting, Stands, IsBetween, holding}
 use Rattle.law_inside.specs.InStep.{IsStepSound}
 
@@ -69,8 +69,12 @@ DecidesAs (standing.Sleeping timer future) (plain.Sleeping tag) = Unit {0}
 DecidesAs (standing.Leaving group) (plain.Leaving id) = group ≡ id
 DecidesAs _ _ = ⊥
 
+abbrev pub MayDecideAs : ℕ → Standing → Body → Type 0
+MayDecideAs task code body =
+    ∥ ((stood : plain.Standing) × (DecidesAs code stood × ((c : Setting) × ((s : State (Unit {0})) × IsDeciding task stood c body s)))) ∥₁
+
 pub record HasBegun (task : ℕ) (input : Input) (c : Setting) (s : State (Unit {0})) (started : Started) (body : Body) : Type 0 where
-  pub in_step : IsInStep task (holding started.coroutine c) body (begun_in task input s)
+  pub deciding : IsDeciding task (generator_of task s).standing (holding started.coroutine c) body (begun_in task input s)
   pub heard : started.input ≡ (begun_by task input s).input
   pub decides : DecidesAs started.standing (generator_of task s).standing
 

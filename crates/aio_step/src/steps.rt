@@ -6,9 +6,9 @@ ghost use Rattle.model_machine.specs.Replies.{decides};
 ghost use Rattle.model_machine.specs.State as plain;
 ghost use Rattle.model_machine.specs.State.{State, resumed};
 ghost use Rattle.model_machine.specs.Step.{step, serve_all};
-ghost use Rattle.aio_body.specs.Asked.{IsInStep, Says};
+ghost use Rattle.aio_body.specs.Asked.{IsDeciding, Says};
 ghost use Rattle.aio_body.specs.Stands.{Setting};
-ghost use Rattle.aio_step.specs.Stepping.{Steps, served_by, IsCalled, MayBegin, DecidesAs, HasBegun, IsServing, MayServe, ServesOne};
+ghost use Rattle.aio_step.specs.Stepping.{Steps, served_by, IsCalled, MayBegin, DecidesAs, MayDecideAs, HasBegun, IsServing, MayServe, ServesOne};
 
 use aio_base::{Input, Memory};
 use aio_body::{Body, Reply, Slot, Standing, reply_of};
@@ -101,8 +101,9 @@ fn decide(
     standing: Standing,
     input: Input,
 ) -> Result<Reply, Memory>
+    requires { MayDecideAs task standing body.old }
     ensures { IfOk result (λ said. (c : Setting) (s : State (Unit {0})) (stood : plain.Standing)
-        → IsInStep task c body.old s → DecidesAs standing stood
+        → IsDeciding task stood c body.old s → DecidesAs standing stood
         → Says task c body.new said (decides no_extra stood task input s)) }
 {
     match standing {
