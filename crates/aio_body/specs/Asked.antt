@@ -1,7 +1,6 @@
 -- A request of the task whose step goes on, and what it comes to.
-use Rattle.std.specs.Prelude.{◌≡◌, ℕ, List, Option, Some, None, Result, IfOk}
+use Rattle.std.specs.Prelude.{◌≡◌, ℕ, Some, None, Result, IfOk}
 use Rattle.model_value.specs.Request.{Request}
-use Rattle.model_value.specs.Value.{Value, Exc}
 use Rattle.model_says.specs.Endings.{Asks}
 use Rattle.model_says.specs.Says.{step_limit}
 use Rattle.model_machine.specs.Extra.{no_extra}
@@ -15,7 +14,7 @@ use Rattle.aio_body.specs.declared.body.Body.{Body}
 use Rattle.aio_body.specs.declared.reply.Reply.{Reply}
 use Rattle.aio_body.specs.declared.reply.Reply.TheVariants.{Answers, Raises, Rests}
 use Rattle.aio_body.specs.Stands.{Setting, Stands}
-use Rattle.law_inside.specs.InStep.{IsAsked, IsStepSound}
+use Rattle.law_inside.specs.InStep.{IsAsked, IsLeft, IsStepSound}
 
 -- a task's step goes on, and its coroutine is taken out
 pub record IsInStep (task : ℕ) (c : Setting) (body : Body) (s : State (Unit {0})) : Type 0 where
@@ -44,6 +43,8 @@ pub record IsDeciding (task : ℕ) (stood : standing.Standing) (c : Setting) (bo
   pub in_step : IsInStep task c body s
   pub request : Request
   pub asked : IsAsked no_extra task stood request s
+  -- the group at whose exit the task stood goes on being left
+  pub leaving : (id : ℕ) → stood ≡ standing.Leaving id → IsLeft s id
 
 -- There is such a state. Which one it is doesn't matter to what a call may do.
 abbrev pub MayGo : ℕ → Body → Type 0

@@ -1,5 +1,5 @@
 -- What giving up a sleep leaves of the parts: its timer is cancelled, and its future is let go if it is done.
-use Rattle.std.specs.Prelude.{◌≡◌, ℕ, Bool, true, false, Option, None, length, is_some, nat_lt, slice_get, slice_set, if◌then◌else◌}
+use Rattle.std.specs.Prelude.{◌≡◌, ℕ, Bool, true, false, None, length, is_some, nat_lt, slice_get, slice_set, if◌then◌else◌}
 use Rattle.model_loop.specs.Futures.{outcome_at}
 use Rattle.model_loop.specs.Owning.{owner_at}
 use Rattle.law_parts.specs.Forgotten.{released}
@@ -8,7 +8,6 @@ use Rattle.aio_ready.specs.declared.handle.Name.TheVariants as name
 use Rattle.aio_timer.specs.Schedule as schedule
 use Rattle.aio_timer.specs.declared.live.TimerId.{TimerId}
 use Rattle.aio_task.specs.View.{View}
-use Rattle.aio_body.specs.declared.body.Body.{Body}
 use Rattle.aio_body.specs.declared.standing.Standing.{Standing}
 use Rattle.aio_body.specs.declared.standing.Standing.TheVariants.{Asked, Sleeping, Leaving}
 

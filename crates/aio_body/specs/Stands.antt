@@ -1,6 +1,6 @@
 -- How the kernel stands for a state of the machine. It keeps no history: of the past a state has its tapes, the events that
 -- were taken out, the tags of its handles, its ledger, and the futures that the code let go.
-use Rattle.std.specs.Prelude.{◌≡◌, ℕ, ◌-◌, ◌^◌, ◌<◌, ◌≤◌, Bool, true, false, List, [], ◌++◌, Option, Some, None, length, min, slice_get}
+use Rattle.std.specs.Prelude.{◌≡◌, ℕ, ◌-◌, ◌^◌, ◌<◌, ◌≤◌, Bool, true, false, List, ◌++◌, Option, Some, None, length, min, slice_get}
 use Rattle.model_value.specs.Number.{most}
 use Rattle.model_tree.specs.Syntax.{Program}
 use Rattle.model_wire.specs.Event.{Event}
@@ -65,9 +65,9 @@ pub record HasSlot (out : Option ℕ) (taken : Option Gen) (ties : Ties) (code :
   pub right : IsSlotOf out taken ties code s task slot
 
 -- The timeouts and the groups stand for a loop's.
-pub record AreBlocks (t : Ties) (timeouts : List Timeout) (groups : List Held) (l : Loop) : Type 0 where
-  pub timeouts : AreTimeouts t l.parts timeouts l.timeouts
-  pub groups : (id : ℕ) → KeepsAt t l.parts (slice_get groups id) (slice_get l.groups id)
+pub record AreBlocks (t : Ties) (cut_off : List Timeout) (held : List Held) (l : Loop) : Type 0 where
+  pub timeouts : AreTimeouts t l.parts cut_off l.timeouts
+  pub groups : (id : ℕ) → KeepsAt t l.parts (slice_get held id) (slice_get l.groups id)
 
 -- What stays while handles run: which events were taken out before, what the outside has left to answer, how many handles
 -- stand before the bar, and below which stamp they do; and in a step of a task its coroutine, which is taken out.

@@ -1,5 +1,5 @@
 -- A handle that was taken from the queue, as it runs.
-use Rattle.std.specs.Prelude.{◌≡◌, ℕ, false, List, ◌∷◌, None}
+use Rattle.std.specs.Prelude.{◌≡◌, false, List, ◌∷◌, None}
 use Rattle.model_value.specs.Action.{Action}
 use Rattle.model_wire.specs.declared.event.Event.TheVariants as event
 use Rattle.model_loop.specs.Parts.{Handle}

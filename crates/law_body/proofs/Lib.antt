@@ -1,9 +1,13 @@
 pub mod Blocks
 pub mod Leaving
 pub mod Lasting
+pub mod Kept
+pub mod Left
+pub mod Sound
+pub mod Given
 pub mod Noting
 pub mod Slotting
-pub mod Given
+pub mod Spawned
 pub mod Telling
 pub mod May
 pub mod Rooms

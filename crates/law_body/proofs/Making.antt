@@ -4,11 +4,12 @@ use Rattle.std.proofs.lemmas.Bool.{cases_eq}
 use Rattle.model_value.specs.Value.{Outcome}
 use Rattle.model_loop.specs.Futures.{new_plain, next_future, settle}
 use Rattle.model_loop.specs.Loop.{in_parts}
-use Rattle.model_loop.specs.Owning.{owner_of}
+use Rattle.model_loop.specs.Owning.{OwnsFutures, owner_of}
 use Rattle.model_loop.specs.Parts.{Plain, Parts}
 use Rattle.model_machine.specs.State as plain
 use Rattle.model_machine.specs.State.{State, generator_of, unbooked_in}
 use Rattle.law_cancel.proofs.Lookups.{get-push_last, get-push_other}
+use Rattle.law_inside.proofs.Counts.{own_there}
 use Rattle.law_settling.proofs.CancelSound.{plain_within}
 use Rattle.aio_ready.specs.Queue.{soon_all}
 use Rattle.aio_future.specs.Settled as settled
@@ -20,8 +21,10 @@ use Rattle.aio_body.specs.declared.standing.Standing.{Standing}
 use Rattle.aio_body.specs.declared.standing.Standing.TheVariants.{Asked, Sleeping, Leaving}
 use Rattle.aio_body.specs.Asked.{IsInStep}
 use Rattle.aio_body.specs.Stands.{Setting, Stands, IsOwnSleep, StandsAt}
-use Rattle.law_body.proofs.Given.{kept_plain, kept_settle, leaves_plain, leaves_settle}
+use Rattle.law_kept.proofs.Calls.{kept_settle}
+use Rattle.law_body.proofs.Kept.{kept_plain}
 use Rattle.law_body.proofs.Lasting.{spares_none, stands_on}
+use Rattle.law_body.proofs.Left.{leaves_plain, leaves_settle}
 use Rattle.law_body.proofs.Rooms.{below_soon_all}
 
 -- ---- a future is settled
@@ -121,18 +124,18 @@ stands_named out c old new s h beside items few = subst (λ b. Stands out c b no
     at_named task (Leaving group) (plain.Leaving id) a = a
     at_named task (Leaving group) (plain.Serving key) a = a
 
-pub makes_so : (task : ℕ) (c : Setting) (old new : Body) (s : State (Unit {0})) (v : View) → IsInStep task c old s
+pub makes_so : (task : ℕ) (c : Setting) (old new : Body) (s : State (Unit {0})) (v : View) → IsInStep task c old s → OwnsFutures s.loop.parts
     → v ≡ record old.parts { futures = old.parts.futures ++ record { kind = Plain; outcome = None; callbacks = [] } ∷ [] }
     → new ≡ record old { parts = v; futures = new.futures } → new.futures.items ≡ old.futures.items ++ next_future s.loop.parts ∷ []
     → length s.futures + 1 < 2 ^ 32
     → IsInStep task c new (unbooked_in new_plain (record s { futures = s.futures ++ next_future s.loop.parts ∷ [] }))
-makes_so task c old new s v h is beside items few =
+makes_so task c old new s v h owns is beside items few =
     subst (λ b. IsInStep task c b (unbooked_in new_plain (record s { futures = s.futures ++ next_future s.loop.parts ∷ [] }))) (sym beside) (record {
       stands =
           stands_on None (Some task) c (record old { futures = new.futures }) (record s { futures = s.futures ++ next_future s.loop.parts ∷ [] }) v
           (in_parts new_plain) named
           (subst (λ x. Kept named.ties s.loop.parts x (new_plain s.loop.parts)) (sym is) (kept_plain named.ties old.parts s.loop.parts named.keeps))
-          (leaves_plain s.loop.parts) (spares_none s.loop.parts (s.futures ++ next_future s.loop.parts ∷ [])) (refl, refl) (ap (λ (x : View). length x.queue.below) is);
+          (leaves_plain s.loop.parts (own_there s.loop.parts owns)) (spares_none s.loop.parts (s.futures ++ next_future s.loop.parts ∷ [])) (refl, refl) (ap (λ (x : View). length x.queue.below) is);
       called = ap (λ (x : View). x.called) is ∙ h.called;
       running = ap (λ (x : View). x.running) is ∙ h.running;
     })

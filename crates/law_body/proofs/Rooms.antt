@@ -20,8 +20,9 @@ use Rattle.aio_task.specs.Keeps.{Becomes}
 use Rattle.aio_body.specs.declared.body.Body.{Body}
 use Rattle.aio_body.specs.Asked.{IsInStep, HasRested}
 use Rattle.aio_body.specs.Stands.{Setting, Stands}
-use Rattle.law_body.proofs.Given.{kept_pause, kept_suspend, kept_request, leaves_pause, leaves_suspend, leaves_request}
+use Rattle.law_kept.proofs.Calls.{kept_pause, kept_request, kept_suspend}
 use Rattle.law_body.proofs.Lasting.{Spares, spares_none, stands_on}
+use Rattle.law_body.proofs.Left.{leaves_pause, leaves_request, leaves_suspend}
 
 pub below_soon_all : (actions : List Action) (q : Queue) → (soon_all actions q).below ≡ q.below
 below_soon_all [] q = refl

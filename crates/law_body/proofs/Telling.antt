@@ -13,7 +13,7 @@ use Rattle.aio_task.specs.View.{parts}
 use Rattle.aio_body.specs.declared.body.Body.{Body}
 use Rattle.aio_body.specs.Named.{future_in, awaited_in}
 use Rattle.aio_body.specs.Stands.{Setting, Stands}
-use Rattle.law_body.proofs.Given.{future_of_kept}
+use Rattle.law_kept.proofs.Telling.{future_of_kept}
 
 module _ (out : Option ℕ) (c : Setting) (body : Body) (s : State (Unit {0})) (h : Stands out c body s) where
   pub future_named : (x : Value) → future_in body.futures.items x ≡ as_future s x
