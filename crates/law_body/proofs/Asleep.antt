@@ -1,10 +1,9 @@
 -- A sleep: a future, a timer and a wait, as one.
-use Rattle.std.proofs.Common.{◌≡◌, ℕ, ◌+◌, ◌<◌, ◌⊎◌, Bool, true, false, List, [], ◌∷◌, ◌++◌, Option, Some, None, length, slice_get, ◌∙◌, refl, sym, ap, subst, inl, inr, arith}
+use Rattle.std.proofs.Common.{◌≡◌, ℕ, ◌+◌, ◌<◌, ◌⊎◌, true, List, [], ◌∷◌, ◌++◌, Option, Some, None, length, slice_get, ◌∙◌, refl, sym, ap, subst, inl, inr, arith}
 use Rattle.std.specs.Prelude.{min, pos}
 use Rattle.model_value.specs.Number.{most}
 use Rattle.model_value.specs.declared.action.Action.TheVariants.{SleepDone}
 use Rattle.model_loop.specs.Futures.{new_plain, next_future}
-use Rattle.model_loop.specs.Handles.{later}
 use Rattle.model_loop.specs.Loop.{Loop, book, in_parts}
 use Rattle.model_loop.specs.Owning.{OwnsFutures, is_plain}
 use Rattle.model_loop.specs.Parts.{Parts, Plain}
@@ -22,7 +21,7 @@ use Rattle.law_settling.proofs.CancelSound.{plain_within}
 use Rattle.aio_cancel.specs.Body.{Appended}
 use Rattle.aio_timer.specs.declared.live.TimerId.{TimerId}
 use Rattle.aio_timer.specs.Schedule.{placed_after, timer}
-use Rattle.aio_task.specs.Keeps.{Becomes, ByTimer, Keeps, Kept, Knows, Ties}
+use Rattle.aio_task.specs.Keeps.{ByTimer, Keeps, Kept, Knows, Ties}
 use Rattle.aio_task.specs.View.{View, parts}
 use Rattle.aio_body.specs.Asked.{HasRested, IsInStep}
 use Rattle.aio_body.specs.Slots.{standing_at}
@@ -37,7 +36,7 @@ use Rattle.law_body.proofs.Rooms.{below_appended}
 use Rattle.law_body.proofs.Slotting.{stands_standing}
 
 -- one kept after another
-pub kept_then : (t : Ties) (p q r : Parts) (v w : View) (a : Kept t p v q) → Kept a.ties q w r → Kept t p w r
+abbrev pub kept_then : (t : Ties) (p q r : Parts) (v w : View) (a : Kept t p v q) → Kept a.ties q w r → Kept t p w r
 kept_then t p q r v w a b = record {
   ties = b.ties;
   keeps = b.keeps;

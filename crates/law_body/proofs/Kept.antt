@@ -1,5 +1,5 @@
 -- What the parts in code stand for goes on by each call: laws of the parts in the words of a step.
-use Rattle.std.proofs.Common.{◌≡◌, ℕ, ◌+◌, ◌<◌, ◌++◌, Bool, false, List, [], ◌∷◌, Option, Some, None, slice_get, refl, ap, if◌then◌else◌}
+use Rattle.std.proofs.Common.{◌≡◌, ℕ, ◌+◌, ◌<◌, ◌++◌, false, List, [], ◌∷◌, None, slice_get, refl, ap, if◌then◌else◌}
 use Rattle.std.specs.Option.{option_map_or}
 use Rattle.model_value.specs.Action.{Action}
 use Rattle.model_value.specs.Input.{Input}

@@ -1,20 +1,19 @@
 -- What is stood for goes on: through operations of the loop, and changes of what a task stands at.
-use Rattle.std.proofs.Common.{◌≡◌, ℕ, ◌+◌, ◌<◌, ◌≤◌, ◌⊎◌, Bool, true, false, List, [], ◌∷◌, ◌++◌, Option, Some, None, length, slice_get, ◌∙◌, refl, sym, ap, subst, inl, inr, arith}
+use Rattle.std.proofs.Common.{◌≡◌, ℕ, ◌≤◌, ◌⊎◌, true, List, Option, Some, None, length, ◌∙◌, refl, sym, ap, subst, inl, inr, arith}
 use Rattle.model_value.specs.Number.{most}
 use Rattle.model_loop.specs.Loop.{Loop}
 use Rattle.model_loop.specs.Owning.{is_plain}
 use Rattle.model_loop.specs.Parts.{Parts}
-use Rattle.model_loop.specs.Tasks.{lives, waiter_of}
+use Rattle.model_loop.specs.Tasks.{waiter_of}
 use Rattle.model_machine.specs.State as plain
 use Rattle.model_machine.specs.State.{State, generator_of, in_loop}
 use Rattle.aio_timer.specs.declared.live.TimerId.{TimerId}
-use Rattle.aio_task.specs.Keeps.{Ties, Keeps, Extends, Kept, Knows, ByTimer}
+use Rattle.aio_task.specs.Keeps.{Ties, Extends, Kept, Knows, ByTimer}
 use Rattle.aio_task.specs.View.{View}
 use Rattle.aio_body.specs.declared.body.Body.{Body}
-use Rattle.aio_body.specs.declared.standing.Slot.{Slot}
 use Rattle.aio_body.specs.declared.standing.Standing.{Standing}
 use Rattle.aio_body.specs.declared.standing.Standing.TheVariants.{Asked, Sleeping, Leaving}
-use Rattle.aio_body.specs.Stands.{Setting, Stands, IsOwnSleep, StandsAt, IsSlotOf, HasSlot}
+use Rattle.aio_body.specs.Stands.{Setting, Stands, IsOwnSleep, StandsAt}
 use Rattle.law_body.proofs.Blocks.{blocks_on}
 use Rattle.law_body.proofs.Leaving.{IsNew, Leaves}
 

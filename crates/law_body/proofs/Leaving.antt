@@ -1,5 +1,5 @@
 -- What an operation of the loop leaves of tasks, of what they wait for, and of numbers.
-use Rattle.std.proofs.Common.{◌≡◌, ℕ, ◌≤◌, ◌⊎◌, Bool, true, false, Option, Some, None, ◌∙◌, refl, inl, inr}
+use Rattle.std.proofs.Common.{◌≡◌, ℕ, ◌≤◌, ◌⊎◌, true, Option, Some, None, ◌∙◌, refl, inl, inr}
 use Rattle.model_value.specs.Number.{most}
 use Rattle.model_loop.specs.Owning.{is_plain}
 use Rattle.model_loop.specs.Parts.{Parts}

@@ -1,34 +1,34 @@
 -- What each operation on the parts leaves.
-use Rattle.std.proofs.Common.{◌≡◌, ℕ, ◌+◌, ◌-◌, ◌<◌, ◌≤◌, ◌⊎◌, Bool, true, false, cond, not, ◌==◌, List, [], ◌∷◌, ◌++◌, Option, Some, None, Result, Ok, Err, length, map, filter, slice_get, slice_set, length-set, refl, sym, ap, subst, ◌∙◌, inl, inr, arith, if◌then◌else◌}
-use Rattle.std.specs.Prelude.{is_none, nat_lt}
+use Rattle.std.proofs.Common.{◌≡◌, ℕ, ◌-◌, ◌<◌, ◌≤◌, ◌⊎◌, Bool, true, false, cond, List, [], ◌∷◌, ◌++◌, Option, Some, None, Result, Ok, Err, length, slice_get, slice_set, length-set, refl, sym, ap, subst, ◌∙◌, inl, inr, arith, if◌then◌else◌}
+use Rattle.std.specs.Prelude.{is_none}
 use Rattle.std.specs.Option.{option_map_or}
 use Rattle.std.proofs.lemmas.Bool.{cases_eq, cases_lt, false≢true, le-ltb, lt-ltb}
 use Rattle.model_value.specs.Number.{most}
 use Rattle.model_value.specs.Action.{Action, Circle}
 use Rattle.model_value.specs.Input.{Input}
 use Rattle.model_value.specs.Value.{Value, Exc, Outcome}
-use Rattle.model_value.specs.declared.action.Action.TheVariants.{Step, StepInCircle, Wakeup}
+use Rattle.model_value.specs.declared.action.Action.TheVariants.{StepInCircle, Wakeup}
 use Rattle.model_value.specs.declared.outcome.Outcome.TheVariants.{Value as Returned, Failed, Cancelled}
 use Rattle.model_loop.specs.Cancel.{cancel, has_seen}
 use Rattle.model_loop.specs.Circles.{circle}
-use Rattle.model_loop.specs.Futures.{future_outcome, is_pending, is_pending_at, new_plain, next_future, outcome_at, register, registered, registered_on, settle, settled, settled_as}
+use Rattle.model_loop.specs.Futures.{is_pending, is_pending_at, new_plain, next_future, outcome_at, register, registered, registered_on, settle, settled, settled_as}
 use Rattle.model_loop.specs.Handles.{later, revoke, soon, soon_all}
 use Rattle.model_loop.specs.Ledger.{Origin, request}
-use Rattle.model_loop.specs.Owning.{is_plain, is_plain_at, owner_at, owner_of}
+use Rattle.model_loop.specs.Owning.{is_plain_at, owner_at, owner_of}
 use Rattle.model_loop.specs.Parts.{Future, Parts, Plain, Task}
 use Rattle.model_loop.specs.Suspend.{cancel_wait, suspend, suspend_unless, wait_on}
-use Rattle.model_loop.specs.Tasks.{begin_step, cancelled_error, cancelling, change_task, finish, future_of, is_cancelled, is_marked, lives, next_task, one_more, pause, set_waiter, uncancel, unmark, waiter_of}
+use Rattle.model_loop.specs.Tasks.{begin_step, cancelling, change_task, finish, future_of, is_marked, lives, next_task, one_more, pause, set_waiter, uncancel, unmark, waiter_of}
 use Rattle.law_cancel.proofs.Counting.{change_task-kept, goes-counts}
 use Rattle.law_cancel.proofs.Effects.{change_task-futures, length-change_task, register-tasks, settle-pending, settle-tasks}
 use Rattle.law_cancel.proofs.Lookups.{get-set_other, get-set_same, get_within}
 use Rattle.law_cancel.proofs.Trace.{with_row}
-use Rattle.law_settling.proofs.Settling.{IsSettled, settle_cases, settle_effect}
+use Rattle.law_settling.proofs.Settling.{settle_cases, settle_effect}
 use Rattle.law_settling.proofs.Spreading.{with_spread}
 use Rattle.law_steps.proofs.Stepping.{waits_none}
 use Rattle.law_told.proofs.Holding.{cancels_names}
 use Rattle.law_after.specs.After.{IsAfter, OutcomeIn, ResultIn}
 use Rattle.law_after.proofs.Made.{make_after}
-use Rattle.law_after.proofs.Parts.{change_after, later_after, settle_after, soon_after}
+use Rattle.law_after.proofs.Parts.{change_after, settle_after}
 use Rattle.law_after.proofs.Requests.{begin_after, cancel_after, finish_after, suspend_after}
 use Rattle.law_inside.proofs.Counts.{lives_within}
 use Rattle.law_kept.specs.Waits.{WaitedBefore}
@@ -36,7 +36,7 @@ use Rattle.law_kept.proofs.Only.{OnlyAppends, appends, changes_begin, changes_ta
 use Rattle.law_kept.proofs.Waiting.{before_begin, before_cancel, before_finish, before_settle, before_uncancel, waits_suspend}
 use Rattle.aio_group.specs.GoesOn.{GoesOn}
 use Rattle.aio_group.proofs.Going.{cancel_on, new_plain_on, register_on, settle_on, then_on, uncancel_on}
-use Rattle.law_body.proofs.Leaving.{IsNew, Leaves}
+use Rattle.law_body.proofs.Leaving.{Leaves}
 
 -- ---- values of every kind
 abbrev pub any : Value → Bool

@@ -4,7 +4,6 @@ pub mod Lasting
 pub mod Kept
 pub mod Left
 pub mod Sound
-pub mod Given
 pub mod Noting
 pub mod Slotting
 pub mod Spawned

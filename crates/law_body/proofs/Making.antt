@@ -1,5 +1,5 @@
 -- Futures that scripts make and settle.
-use Rattle.std.proofs.Common.{◌≡◌, ℕ, ◌+◌, ◌^◌, ◌<◌, ◌⊎◌, Bool, true, false, List, [], ◌∷◌, ◌++◌, Option, Some, None, length, length-append, slice_get, ◌∙◌, refl, sym, ap, subst, inl, inr, arith}
+use Rattle.std.proofs.Common.{◌≡◌, ℕ, ◌+◌, ◌^◌, ◌<◌, ◌⊎◌, List, [], ◌∷◌, ◌++◌, Option, Some, None, length, length-append, slice_get, ◌∙◌, refl, sym, ap, subst, inl, inr, arith}
 use Rattle.std.proofs.lemmas.Bool.{cases_eq}
 use Rattle.model_value.specs.Value.{Outcome}
 use Rattle.model_loop.specs.Futures.{new_plain, next_future, settle}
@@ -15,7 +15,7 @@ use Rattle.aio_ready.specs.Queue.{soon_all}
 use Rattle.aio_future.specs.Settled as settled
 use Rattle.aio_future.specs.Settled.{called}
 use Rattle.aio_task.specs.View.{View}
-use Rattle.aio_task.specs.Keeps.{Ties, Kept}
+use Rattle.aio_task.specs.Keeps.{Kept}
 use Rattle.aio_body.specs.declared.body.Body.{Body}
 use Rattle.aio_body.specs.declared.standing.Standing.{Standing}
 use Rattle.aio_body.specs.declared.standing.Standing.TheVariants.{Asked, Sleeping, Leaving}

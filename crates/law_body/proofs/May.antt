@@ -1,14 +1,10 @@
 -- What is known where there is a state that is stood for.
-use Rattle.std.proofs.Common.{◌≡◌, ℕ, ◌≤◌, Option, Some, None}
+use Rattle.std.proofs.Common.{◌≡◌, ℕ, Option, Some, None}
 use Rattle.std.proofs.Math.Logic.{∥∥₁_elim, ∥∥₁_map}
 use Rattle.std.proofs.Props.{props}
-use Rattle.std.specs.Coded.{le_prop}
-use Rattle.model_value.specs.Number.{most}
 use Rattle.model_value.specs.Request.{Request}
-use Rattle.model_machine.specs.State.{State}
 use Rattle.aio_body.specs.declared.body.Body.{Body}
-use Rattle.aio_body.specs.Asked.{MayGo, MayAsk, SomeGoes, IsGoing, IsAsking}
-use Rattle.aio_body.specs.Stands.{Setting}
+use Rattle.aio_body.specs.Asked.{MayGo, MayAsk, SomeGoes}
 
 pub same_prop : (a b : Option ℕ) → IsProp (a ≡ b)
 same_prop a b = hlevel props

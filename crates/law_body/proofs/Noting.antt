@@ -1,5 +1,5 @@
 -- Events that are noted.
-use Rattle.std.proofs.Common.{◌≡◌, ℕ, zero, suc, ◌+◌, ◌-◌, ◌^◌, min, List, [], ◌∷◌, ◌++◌, Option, append_assoc, refl, sym, ap, subst, ◌∙◌, arith}
+use Rattle.std.proofs.Common.{◌≡◌, ℕ, ◌+◌, ◌-◌, ◌^◌, min, List, [], ◌∷◌, ◌++◌, Option, append_assoc, sym, ap, ◌∙◌, arith}
 use Rattle.model_wire.specs.Event.{Event}
 use Rattle.model_wire.specs.declared.event.Event.TheVariants as event
 use Rattle.model_machine.specs.State.{State, noted}

@@ -1,25 +1,21 @@
 -- What requests come to, by what the calls of the parts left.
-use Rattle.std.proofs.Common.{◌≡◌, ℕ, Bool, true, false, List, [], ◌∷◌, ◌++◌, Option, Some, None, length, slice_get, ◌∙◌, refl, sym, ap, subst}
+use Rattle.std.proofs.Common.{◌≡◌, ℕ, List, [], ◌∷◌, Some, None, length, ◌∙◌, refl, ap}
 use Rattle.model_value.specs.Action.{Action}
-use Rattle.model_value.specs.Value.{Outcome}
 use Rattle.model_value.specs.declared.action.Action.TheVariants as action
-use Rattle.model_loop.specs.Futures.{settle, new_plain}
-use Rattle.model_loop.specs.Ledger.{Origin, request, uncancel_by}
-use Rattle.model_loop.specs.Loop.{Loop, book, in_parts}
+use Rattle.model_loop.specs.Ledger.{Origin, request}
+use Rattle.model_loop.specs.Loop.{book, in_parts}
 use Rattle.model_loop.specs.Cancel.{cancel}
-use Rattle.model_loop.specs.Owning.{owner_of}
 use Rattle.model_loop.specs.Suspend.{suspend}
-use Rattle.model_loop.specs.Tasks.{pause, uncancel}
+use Rattle.model_loop.specs.Tasks.{pause}
 use Rattle.model_machine.specs.Replies.{waits}
 use Rattle.model_machine.specs.State.{State, in_loop, unbooked_in}
 use Rattle.aio_ready.specs.Queue as queue
 use Rattle.aio_ready.specs.Queue.{Queue, soon_all}
 use Rattle.aio_cancel.specs.Body.{Appended}
 use Rattle.aio_task.specs.View.{View, parts}
-use Rattle.aio_task.specs.Keeps.{Becomes}
 use Rattle.aio_body.specs.declared.body.Body.{Body}
 use Rattle.aio_body.specs.Asked.{IsInStep, HasRested}
-use Rattle.aio_body.specs.Stands.{Setting, Stands}
+use Rattle.aio_body.specs.Stands.{Setting}
 use Rattle.law_kept.proofs.Calls.{kept_pause, kept_request, kept_suspend}
 use Rattle.law_body.proofs.Lasting.{Spares, spares_none, stands_on}
 use Rattle.law_body.proofs.Left.{leaves_pause, leaves_request, leaves_suspend}

@@ -1,5 +1,5 @@
 -- Changes of the slot of the task whose coroutine is taken out.
-use Rattle.std.proofs.Common.{◌≡◌, ℕ, ◌^◌, ◌<◌, ◌⊎◌, Bool, true, false, ◌==◌, List, [], ◌∷◌, ◌++◌, Option, Some, None, length, slice_get, slice_set, length-set, ◌∙◌, refl, sym, ap, subst, inl, inr, arith}
+use Rattle.std.proofs.Common.{◌≡◌, ℕ, ◌^◌, ◌<◌, ◌⊎◌, Bool, true, false, List, [], ◌∷◌, ◌++◌, Option, Some, None, length, slice_get, slice_set, length-set, ◌∙◌, refl, sym, ap, subst, inl, inr}
 use Rattle.std.specs.Option.{option_map_or}
 use Rattle.std.proofs.lemmas.Bool.{cases_eq, eq-eqb, ne_eqb, false≢true}
 use Rattle.std.proofs.lemmas.List.{get_or-set_same, get_or-set_other}
@@ -8,14 +8,14 @@ use Rattle.model_loop.specs.Ways.{is_running}
 use Rattle.model_machine.specs.State as plain
 use Rattle.model_value.specs.Input.{Input}
 use Rattle.model_machine.specs.State.{Generator, State, generator, generator_of, resumed, with_generator, stands}
-use Rattle.law_cancel.proofs.Lookups.{get-set_same, get-set_other, get_within}
+use Rattle.law_cancel.proofs.Lookups.{get-set_same, get-set_other}
 use Rattle.aio_gen.specs.declared.generator.Gen.{Gen}
 use Rattle.aio_body.specs.declared.body.Body.{Body}
 use Rattle.aio_body.specs.declared.standing.Slot.{Slot}
 use Rattle.aio_body.specs.declared.standing.Standing.{Standing}
 use Rattle.aio_gen.specs.Gens.{StandsFor}
 use Rattle.aio_body.specs.Slots.{with_slot, standing_at, put_back}
-use Rattle.aio_body.specs.Stands.{Setting, Stands, StandsAt, IsSlotOf, HasSlot, WaitsAs, coroutine_in, holding}
+use Rattle.aio_body.specs.Stands.{Setting, Stands, StandsAt, HasSlot, WaitsAs, coroutine_in, holding}
 
 -- ---- generators
 pub set_same : (task : ℕ) (it : Generator) (s : State (Unit {0})) → task < length s.generators → generator_of task (with_generator task it s) ≡ it

@@ -1,5 +1,5 @@
 -- A task that is made: with its slot, and with what it runs.
-use Rattle.std.proofs.Common.{◌≡◌, ℕ, ◌+◌, ◌^◌, ◌<◌, ◌≤◌, ◌⊎◌, Bool, true, false, List, [], ◌∷◌, ◌++◌, Option, Some, None, length, length-append, slice_get, ◌∙◌, refl, sym, ap, subst, inl, inr, arith}
+use Rattle.std.proofs.Common.{◌≡◌, ℕ, ◌+◌, ◌^◌, ◌<◌, ◌≤◌, ◌⊎◌, true, false, List, [], ◌∷◌, ◌++◌, Option, Some, None, length, length-append, slice_get, ◌∙◌, refl, sym, ap, subst, inl, inr, arith}
 use Rattle.std.specs.Option.{option_map_or}
 use Rattle.std.proofs.lemmas.Bool.{cases_eq}
 use Rattle.model_value.specs.Number.{most}
@@ -27,8 +27,6 @@ use Rattle.aio_body.specs.Slots.{HoldsMore}
 use Rattle.aio_body.specs.Stands.{AreBlocks, HasSlot, IsOwnSleep, Setting, Stands, StandsAt, WaitsAs, coroutine_in}
 use Rattle.aio_body.specs.declared.body.Body.{Body}
 use Rattle.aio_body.specs.declared.standing.Slot.{Slot}
-use Rattle.aio_body.specs.declared.standing.Standing.{Standing}
-use Rattle.aio_body.specs.declared.standing.Standing.TheVariants.{Asked}
 use Rattle.law_body.proofs.Lasting.{own_by, stands_at_by}
 use Rattle.law_body.proofs.Left.{AreOwnMade, any, living_made}
 
@@ -41,6 +39,9 @@ pub record LeavesMore (p q : Parts) : Type 0 where
   pub time : q.time ≡ p.time
   pub counts : ((task : ℕ) → cancelling p task ≤ most) → (task : ℕ) → cancelling q task ≤ most
   pub goes_on : GoesOn p q
+
+abbrev count_at : Option Task → ℕ
+count_at o = option_map_or (λ (x : Task). x.cancels) o 0
 
 pub leaves_spawn : (p : Parts) → AreOwnMade p → LeavesMore p (spawn p)
 leaves_spawn p made = record {
@@ -55,9 +56,6 @@ leaves_spawn p made = record {
   where
     it : Task
     it = record { future = next_future p; waiter = None; cancels = 0; must_cancel = false }
-
-    abbrev count_at : Option Task → ℕ
-    count_at o = option_map_or (λ (x : Task). x.cancels) o 0
 
     a : IsAfter any true None p (spawn p)
     a = spawn_after any None p

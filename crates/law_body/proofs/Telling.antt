@@ -1,11 +1,11 @@
 -- What the code reads is what the machine reads, where a state is stood for.
-use Rattle.std.proofs.Common.{◌≡◌, ℕ, ◌<◌, Bool, true, false, List, Option, Some, None, length, slice_get, ◌∙◌, refl, sym, ap, subst, arith}
+use Rattle.std.proofs.Common.{◌≡◌, ℕ, true, false, List, Option, Some, None, length, slice_get, ◌∙◌, refl, ap, subst, arith}
 use Rattle.std.specs.Option.{option_map, option_map_or}
 use Rattle.std.proofs.lemmas.Bool.{false_from_ne_true}
 use Rattle.model_value.specs.Value.{Value, Fut, Task as TaskId}
 use Rattle.model_loop.specs.Parts.{Parts, Task}
 use Rattle.model_loop.specs.Owning.{OwnsFutures, owner_of, own_future}
-use Rattle.model_loop.specs.Tasks.{future_of, next_task}
+use Rattle.model_loop.specs.Tasks.{future_of}
 use Rattle.model_machine.specs.Arguments.{as_future, as_awaited}
 use Rattle.model_machine.specs.State.{State}
 use Rattle.law_settling.proofs.CancelSound.{plain_within}

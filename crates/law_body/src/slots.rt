@@ -24,8 +24,8 @@ pub fn a_coroutine_goes_on()
     ensures resumed { (c : Setting) (body : Body) (s : State (Unit {0})) (task : ℕ) (fresh : Bool) (input : Input) (before now : Gen)
         → Stands (Some task) (holding before c) body s → task < next_task s.loop.parts
         → (StandsFor s.program body.code (generator_of task s).coroutine (generator_of task s).arguments (generator_of task s).tape before
-            → StandsFor s.program body.code (generator_of task s).coroutine (generator_of task s).arguments
-            ((generator_of task s).tape ++ record { input = input; fresh = fresh } ∷ []) now)
+        → StandsFor s.program body.code (generator_of task s).coroutine (generator_of task s).arguments
+        ((generator_of task s).tape ++ record { input = input; fresh = fresh } ∷ []) now)
         → Stands (Some task) (holding now c) body (resumed fresh task input s) }
     ensures back { (c : Setting) (old new : Body) (s : State (Unit {0})) (task : ℕ) (coroutine : Gen)
         → Stands (Some task) (holding coroutine c) old s → new ≡ record old { slots = new.slots }
