@@ -1,1 +1,2 @@
-pub mod Turned
+pub mod Effects
+pub mod Turning

@@ -1,7 +1,10 @@
-//! Stand-in of the kernel: its contracts alone.
+//! The kernel: a loop's turns over an outside.
 #![tactic(auto)]
 
+mod effect;
+mod handles;
 mod kernel;
+mod turns;
 mod went;
 
 pub use kernel::Kernel;

@@ -1,6 +1,7 @@
 //! What a turn comes to.
-use aio_base::Outcome;
-use aio_wire::Stop;
+use aio_base::{Memory, Outcome};
+use aio_wire::{Stop, copy_of_call};
+use std::alloc::Global;
 
 /// What a turn comes to: the run goes on, or how it ended.
 #[derive(Debug, Drop)]
@@ -14,4 +15,27 @@ pub enum Went {
     Runaway(u32),
     /// A call of the outside has no answer that fits.
     Stopped(Stop),
+}
+
+impl Went {
+    /// A copy of it.
+    pub fn copy(&self, alloc: Global) -> Result<Went, Memory> {
+        match self {
+            Went::Went => Ok(Went::Went),
+            Went::Finished(outcome) => Ok(Went::Finished(outcome.clone()?)),
+            Went::Stalled => Ok(Went::Stalled),
+            Went::Runaway(task) => Ok(Went::Runaway(*task)),
+            Went::Stopped(stop) => Ok(Went::Stopped(copy_of_stop(alloc, stop)?)),
+        }
+    }
+}
+
+fn copy_of_stop(alloc: Global, stop: &Stop) -> Result<Stop, Memory> {
+    match stop {
+        Stop::Over(call) => Ok(Stop::Over(copy_of_call(alloc, call)?)),
+        Stop::Bad(fault) => Ok(Stop::Bad(*fault)),
+        Stop::Mismatch(count, call) => Ok(Stop::Mismatch(*count, copy_of_call(alloc, call)?)),
+        Stop::Failed(call) => Ok(Stop::Failed(copy_of_call(alloc, call)?)),
+        Stop::Memory => Ok(Stop::Memory),
+    }
 }

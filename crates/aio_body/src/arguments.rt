@@ -1,0 +1,105 @@
+//! What the arguments of requests name, where they are of the kind that is wanted.
+ghost use Rattle.std.specs.Prelude.{◌≡◌, IfOk, is_some};
+ghost use Rattle.model_machine.specs.Arguments.{as_task as task_of, as_timeout as timeout_of, as_group as group_of, as_int as int_of, as_delay as delay_of, as_failure as failure_of, as_list};
+ghost use Rattle.model_value.specs.Value.{Exception};
+ghost use Rattle.aio_task.specs.View.{parts};
+ghost use Rattle.aio_body.specs.Named.{future_in, awaited_in};
+
+use crate::body::Body;
+use aio_base::{Exc, Kind, Memory, Value, ValueCase, kind_matches};
+use aio_task::FutureId;
+
+impl Body {
+    /// A future of `future()`.
+    pub fn as_future(&self, value: &Value) -> Option<FutureId>
+        ensures { result ≡ future_in self.now.futures.items value.now }
+    {
+        match value.case() {
+            ValueCase::Fut(id) => self.futures.get(id as usize).copied(),
+            _ => None,
+        }
+    }
+
+    /// Such a future, or a task's own.
+    pub fn as_awaited(&self, value: &Value) -> Option<FutureId>
+        ensures { result ≡ awaited_in self.now.futures.items (parts self.now.parts) value.now }
+    {
+        match value.case() {
+            ValueCase::Fut(id) => self.futures.get(id as usize).copied(),
+            ValueCase::Task(id) => Some(self.parts.future_of(id)),
+            _ => None,
+        }
+    }
+}
+
+pub fn as_task(value: &Value) -> Option<u32>
+    ensures { result ≡ task_of value.now }
+{
+    match value.case() {
+        ValueCase::Task(id) => Some(id),
+        _ => None,
+    }
+}
+
+pub fn as_timeout(value: &Value) -> Option<u32>
+    ensures { result ≡ timeout_of value.now }
+{
+    match value.case() {
+        ValueCase::Timeout(id) => Some(id),
+        _ => None,
+    }
+}
+
+pub fn as_group(value: &Value) -> Option<u32>
+    ensures { result ≡ group_of value.now }
+{
+    match value.case() {
+        ValueCase::Group(id) => Some(id),
+        _ => None,
+    }
+}
+
+pub fn as_int(value: &Value) -> Option<i64>
+    ensures { result ≡ int_of value.now }
+{
+    match value.case() {
+        ValueCase::Int(number) => Some(number),
+        _ => None,
+    }
+}
+
+/// An Int, or None.
+pub fn as_delay(value: &Value) -> Option<Option<i64>>
+    ensures { result ≡ delay_of value.now }
+{
+    match value.case() {
+        ValueCase::Int(number) => Some(Some(number)),
+        ValueCase::Nothing => Some(None),
+        _ => None,
+    }
+}
+
+/// An exception that a future may fail with: not CancelledError, by which it would be cancelled.
+pub fn as_failure(value: &Value) -> Result<Option<Exc>, Memory>
+    ensures { IfOk result (λ fault. fault ≡ failure_of value.now) }
+{
+    match value.case() {
+        ValueCase::Exc(fault) => failing_with(fault),
+        _ => Ok(None),
+    }
+}
+
+fn failing_with(fault: &Exc) -> Result<Option<Exc>, Memory>
+    ensures { IfOk result (λ it. it ≡ failure_of (Exception fault.now)) }
+{
+    if kind_matches(Kind::CancelledError, fault) {
+        return Ok(None);
+    }
+    Ok(Some(fault.clone()?))
+}
+
+pub fn is_list(value: &Value) -> bool
+    ensures { result ≡ is_some (as_list value.now) }
+{
+    matches!(value.case(), ValueCase::List(_))
+}

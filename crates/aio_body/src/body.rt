@@ -1,0 +1,22 @@
+//! What the kernel keeps of a run that goes on.
+use crate::standing::Slot;
+use aio_flat::Code;
+use aio_group::Groups;
+use aio_task::{FutureId, Parts};
+use aio_timeout::Timeouts;
+use aio_wire::Events;
+
+/// What the kernel keeps of a run that goes on. Coroutines are numbered as the tasks are.
+#[derive(Drop)]
+pub struct Body {
+    pub code: Code,
+    pub parts: Parts,
+    pub slots: Vec<Slot>,
+    pub timeouts: Timeouts,
+    pub groups: Groups,
+    /// The futures that `future()` made, in order of making.
+    pub futures: Vec<FutureId>,
+    /// Whether main's callback ran.
+    pub main_done: bool,
+    pub events: Events,
+}

@@ -1,0 +1,16 @@
+//! What the kernel keeps of a run that goes on, and how that stands for a state of the machine.
+#![tactic(auto)]
+
+mod arguments;
+mod body;
+mod reply;
+mod slots;
+mod standing;
+
+pub use arguments::{as_delay, as_failure, as_group, as_int, as_task, as_timeout, is_list};
+pub use body::Body;
+pub use reply::{
+    MOST_IDS, Reply, bad_argument, cancelled_error, input_of, out_of_range, raises, replied,
+    reply_of, undefined,
+};
+pub use standing::{Slot, Standing};

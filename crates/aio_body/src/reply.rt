@@ -1,0 +1,84 @@
+//! What a task's request comes to.
+ghost use Rattle.std.specs.Prelude.{◌≡◌, codes, IfOk};
+ghost use Rattle.model_value.specs.Value.{exception_of};
+ghost use Rattle.model_says.specs.Operations.{out_of_range as plain_out_of_range};
+ghost use Rattle.model_says.specs.Requests.{bad_argument as plain_bad_argument};
+ghost use Rattle.model_machine.specs.Replies.{undefined as plain_undefined};
+ghost use Rattle.model_loop.specs.Tasks.{cancelled_error as plain_cancelled_error};
+ghost use Rattle.model_machine.specs.Outcomes.{input_of as plain_input_of};
+ghost use Rattle.aio_body.specs.Outcomes.{RepliesAs, reply_of as plain_reply_of};
+
+use aio_base::{Exc, Input, Kind, Memory, Outcome, Value, exception};
+use std::alloc::Global;
+
+/// What a request comes to: the coroutine goes on with a value, or with an exception that is raised in it, or the task's
+/// step ends.
+#[derive(Drop)]
+pub enum Reply {
+    Answers(Value),
+    Raises(Exc),
+    Rests,
+}
+
+/// How many tasks, futures of `future()`, timeouts or groups can be made.
+pub const MOST_IDS: usize = 0xFFFF_FFFF;
+
+/// An exception of this kind with this text.
+pub fn raises(alloc: Global, kind: Kind, text: &str) -> Result<Reply, Memory>
+    ensures { IfOk result (λ said. said ≡ Reply.Raises (exception_of kind text.now)) }
+{
+    Ok(Reply::Raises(exception(alloc, kind, text)?))
+}
+
+pub fn bad_argument(alloc: Global) -> Result<Reply, Memory>
+    ensures { IfOk result (λ said. said ≡ Reply.Raises plain_bad_argument) }
+{
+    raises(alloc, Kind::TypeError, "bad argument")
+}
+
+pub fn out_of_range(alloc: Global) -> Result<Reply, Memory>
+    ensures { IfOk result (λ said. said ≡ Reply.Raises plain_out_of_range) }
+{
+    raises(alloc, Kind::OverflowError, "out of range")
+}
+
+pub fn undefined(alloc: Global) -> Result<Reply, Memory>
+    ensures { IfOk result (λ said. said ≡ Reply.Raises plain_undefined) }
+{
+    raises(alloc, Kind::NameError, "connections and children")
+}
+
+/// What an input is to the coroutine that it answers.
+pub fn reply_of(input: Input) -> Reply
+    ensures { result ≡ plain_reply_of input }
+{
+    match input {
+        Input::Send(value) => Reply::Answers(value),
+        Input::Throw(fault) => Reply::Raises(fault),
+    }
+}
+
+/// What an outcome is to a task that is woken with it.
+pub fn input_of(outcome: &Outcome) -> Result<Input, Memory>
+    ensures { IfOk result (λ input. input ≡ plain_input_of outcome.now) }
+{
+    match outcome {
+        Outcome::Value(value) => Ok(Input::Send(value.clone()?)),
+        Outcome::Failed(fault) => Ok(Input::Throw(fault.clone()?)),
+        Outcome::Cancelled => Ok(Input::Throw(cancelled_error())),
+    }
+}
+
+/// The exception that a cancel throws, which has no text.
+pub fn cancelled_error() -> Exc
+    ensures { result ≡ plain_cancelled_error }
+{
+    Exc::bare(Kind::CancelledError)
+}
+
+/// What an outcome is to whoever asks for it.
+pub fn replied(outcome: &Outcome) -> Result<Reply, Memory>
+    ensures { IfOk result (RepliesAs outcome.now) }
+{
+    Ok(reply_of(input_of(outcome)?))
+}

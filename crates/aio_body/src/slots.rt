@@ -1,0 +1,95 @@
+//! What tasks run and stand at.
+ghost use Rattle.std.specs.Prelude.{◌≡◌, ◌<◌, None, Some, IfOk, OnOk, length, slice_get, slice_set};
+ghost use Rattle.aio_body.specs.GivingUp.{IsNoTasks, given_up_in};
+ghost use Rattle.aio_body.specs.Slots.{HoldsMore, no_slot, put_back, standing_at};
+
+use crate::body::Body;
+use crate::standing::{Slot, Standing};
+use aio_base::{Memory, Value, ValueList};
+use aio_gen::Gen;
+use std::alloc::Global;
+
+impl Body {
+    /// The coroutine of the task that is made next.
+    pub fn hold(
+        &mut self,
+        alloc: Global,
+        coroutine: u32,
+        arguments: &ValueList,
+    ) -> Result<(), Memory>
+        ensures { OnOk result (HoldsMore coroutine arguments.now self.old self.new) }
+    {
+        let arguments = copies(alloc, arguments.items())?;
+        let coroutine = Gen::start(alloc, &self.code, coroutine, arguments)?;
+        self.slots.push(Slot {
+            coroutine: Some(coroutine),
+            standing: Standing::Asked,
+        })?;
+        Ok(())
+    }
+
+    /// What a task runs is taken out.
+    pub fn take(&mut self, task: u32) -> Slot
+        requires { task < length self.old.slots.items }
+        ensures slot { slice_get self.old.slots.items task ≡ Some result }
+        ensures beside { self.new ≡ record self.old { slots = self.new.slots } }
+        ensures slots { self.new.slots.items ≡ slice_set self.old.slots.items task no_slot }
+    {
+        let slot = &mut self.slots[task as usize];
+        std::mem::replace(
+            slot,
+            Slot {
+                coroutine: None,
+                standing: Standing::Asked,
+            },
+        )
+    }
+
+    /// The coroutine of a task is put back.
+    pub fn put_back(&mut self, task: u32, coroutine: Gen)
+        requires { task < length self.old.slots.items }
+        ensures beside { self.new ≡ record self.old { slots = self.new.slots } }
+        ensures slots { self.new.slots.items ≡ put_back task coroutine self.old.slots.items }
+    {
+        let slot = &mut self.slots[task as usize];
+        slot.coroutine = Some(coroutine);
+    }
+
+    /// The request at which a task stands.
+    pub fn stand(&mut self, task: u32, standing: Standing)
+        requires { task < length self.old.slots.items }
+        ensures beside { self.new ≡ record self.old { slots = self.new.slots } }
+        ensures slots { self.new.slots.items ≡ standing_at task standing self.old.slots.items }
+    {
+        let slot = &mut self.slots[task as usize];
+        slot.standing = standing;
+    }
+
+    /// The timer of a sleep is given up as its task is resumed, and its future is let go.
+    pub fn give_up(&mut self, standing: Standing)
+        requires idle { self.old.parts.called ≡ None }
+        requires no_task { IsNoTasks standing self.old.parts }
+        ensures { self.new ≡ record self.old { parts = given_up_in standing self.old.parts } }
+    {
+        match standing {
+            Standing::Asked => {}
+            Standing::Sleeping { timer, future } => {
+                self.parts.cancel_timer(timer);
+                if self.parts.outcome(future).is_some() {
+                    self.parts.release(future);
+                }
+            }
+            Standing::Leaving(_) => {}
+        }
+    }
+}
+
+fn copies(alloc: Global, values: &[Value]) -> Result<Vec<Value>, Memory>
+    ensures { IfOk result (λ copies. copies.items ≡ values.now) }
+{
+    let mut copies = Vec::new(alloc);
+    for value in values {
+        copies.push(value.clone()?)?;
+    }
+    Ok(copies)
+}

@@ -1,0 +1,15 @@
+-- What a handle does, by its action.
+use Rattle.model_value.specs.Action.{Action}
+use Rattle.model_value.specs.declared.action.Action.TheVariants as action
+use Rattle.aio_core.specs.declared.effect.Effect.{Effect}
+use Rattle.aio_core.specs.declared.effect.Effect.TheVariants as code
+
+abbrev pub effect_of : Action → Effect
+effect_of (action.Step task) = code.Step task
+effect_of (action.StepInCircle task circle) = code.StepInCircle task circle
+effect_of (action.Wakeup task) = code.Wakeup task
+effect_of (action.SleepDone task future) = code.SleepDone task future
+effect_of (action.GroupDone group task) = code.GroupDone group task
+effect_of (action.Fires timeout) = code.Fires timeout
+effect_of action.MainDone = code.MainDone
+effect_of _ = code.Nothing

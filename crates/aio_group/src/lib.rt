@@ -1,0 +1,12 @@
+//! Task groups over the loop's parts.
+#![tactic(auto)]
+
+mod created;
+mod exit;
+mod failures;
+mod group;
+mod groups;
+
+pub use created::Created;
+pub use exit::GroupExit;
+pub use groups::Groups;

@@ -1,0 +1,111 @@
+//! Requests of futures.
+ghost use Rattle.std.specs.Prelude.{◌≡◌, ℕ, IfOk};
+ghost use Rattle.model_value.specs.declared.request.Request.TheVariants as request;
+ghost use Rattle.model_machine.specs.Arguments.{as_future};
+ghost use Rattle.model_machine.specs.Replies.{given, settles, is_cancelled_as, result_of as plain_result_of};
+ghost use Rattle.model_machine.specs.Replies as plain;
+ghost use Rattle.model_loop.specs.Tasks.{cancelled_error as plain_cancelled_error};
+ghost use Rattle.std.specs.Option.{option_copied};
+ghost use Rattle.aio_body.specs.Asked.{SomeGoes, Replies, Serves};
+ghost use Rattle.aio_body.specs.Outcomes.{RepliesAs};
+
+use aio_base::{Exc, Kind, Memory, Outcome, Value};
+use aio_body::{Body, MOST_IDS, Reply, as_failure, bad_argument, out_of_range, raises};
+use std::alloc::Global;
+
+/// `future()`.
+pub fn make_future(body: &mut Body, alloc: Global) -> Result<Reply, Memory>
+    requires { SomeGoes body.old }
+    ensures { (task : ℕ) → Serves task request.MakeFuture body.old body.new result }
+{
+    let made = body.futures.len();
+    if made >= MOST_IDS {
+        return out_of_range(alloc);
+    }
+    let id = body.parts.new_plain(alloc)?;
+    body.futures.push(id)?;
+    Ok(Reply::Answers(Value::fut(made as u32)))
+}
+
+pub fn set(body: &mut Body, alloc: Global, future: &Value, value: Value) -> Result<Reply, Memory>
+    requires { SomeGoes body.old }
+    ensures { (task : ℕ) → Serves task (request.Set future.now value) body.old body.new result }
+{
+    settle(body, alloc, future, Some(Outcome::Value(value)))
+}
+
+pub fn fail(body: &mut Body, alloc: Global, future: &Value, fault: &Value) -> Result<Reply, Memory>
+    requires { SomeGoes body.old }
+    ensures { (task : ℕ) → Serves task (request.Fail future.now fault.now) body.old body.new result }
+{
+    let outcome = match as_failure(fault)? {
+        Some(fault) => Some(Outcome::Failed(fault)),
+        None => None,
+    };
+    settle(body, alloc, future, outcome)
+}
+
+// A done future is refused.
+fn settle(
+    body: &mut Body,
+    alloc: Global,
+    future: &Value,
+    outcome: Option<Outcome>,
+) -> Result<Reply, Memory>
+    requires { SomeGoes body.old }
+    ensures { (task : ℕ) → Replies task
+        (λ s. given (as_future s future.now) (λ on. given outcome (settles on)) s) body.old body.new result }
+{
+    let Some(on) = body.as_future(future) else {
+        return bad_argument(alloc);
+    };
+    let Some(outcome) = outcome else {
+        return bad_argument(alloc);
+    };
+    if body.parts.outcome(on).is_some() {
+        return raises(alloc, Kind::InvalidStateError, "invalid state");
+    }
+    let _was_pending = body.parts.resolve(on, outcome);
+    Ok(Reply::Answers(Value::nothing()))
+}
+
+pub fn is_done(body: &Body, alloc: Global, x: &Value) -> Result<Reply, Memory>
+    ensures { (task : ℕ) → Serves task (request.IsDone x.now) body.now body.now result }
+{
+    match body.as_awaited(x) {
+        Some(on) => Ok(Reply::Answers(Value::bool(body.parts.outcome(on).is_some()))),
+        None => bad_argument(alloc),
+    }
+}
+
+pub fn is_cancelled(body: &Body, alloc: Global, x: &Value) -> Result<Reply, Memory>
+    ensures { (task : ℕ) → Serves task (request.IsCancelled x.now) body.now body.now result }
+{
+    match body.as_awaited(x) {
+        Some(on) => Ok(Reply::Answers(Value::bool(is_cancelled(body.parts.outcome(on))))),
+        None => bad_argument(alloc),
+    }
+}
+
+pub fn result_of(body: &Body, alloc: Global, x: &Value) -> Result<Reply, Memory>
+    ensures { (task : ℕ) → Serves task (request.ResultOf x.now) body.now body.now result }
+{
+    let Some(on) = body.as_awaited(x) else {
+        return bad_argument(alloc);
+    };
+    match body.parts.outcome(on) {
+        Some(outcome) => replied(outcome),
+        None => raises(alloc, Kind::InvalidStateError, "Result is not set."),
+    }
+}
+
+fn is_cancelled(outcome: Option<&Outcome>) -> bool
+    ensures { result ≡ is_cancelled_as (option_copied outcome.entry) }
+{
+    match outcome {
+        Some(Outcome::Cancelled) => true,
+        Some(Outcome::Value(_)) => false,
+        Some(Outcome::Failed(_)) => false,
+        None => false,
+    }
+}

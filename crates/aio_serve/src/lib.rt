@@ -1,0 +1,14 @@
+//! The requests of tasks, as the kernel serves them.
+#![tactic(auto)]
+
+mod futures;
+mod groups;
+mod table;
+mod tasks;
+mod time;
+mod timeouts;
+mod waiting;
+
+pub use groups::{child_done, leave_group};
+pub use table::reply;
+pub use timeouts::fire;

@@ -1,0 +1,69 @@
+//! The table of requests.
+ghost use Rattle.aio_body.specs.Asked.{MayAsk, Serves};
+
+use crate::futures;
+use crate::groups;
+use crate::tasks;
+use crate::time;
+use crate::timeouts;
+use crate::waiting;
+use aio_base::{Memory, Request, Value};
+use aio_body::{Body, Reply, undefined};
+use std::alloc::Global;
+
+/// Serves a request of the task whose step goes on.
+pub fn reply(body: &mut Body, alloc: Global, task: u32, request: Request) -> Result<Reply, Memory>
+    requires { MayAsk task request body.old }
+    ensures { Serves task request body.old body.new result }
+{
+    match request {
+        Request::Pause => Ok(waiting::pause(body, task)),
+        Request::Await(x) => waiting::await_value(body, alloc, task, &x),
+        Request::Print(values) => time::print(body, alloc, task, &values),
+        Request::MakeFuture => futures::make_future(body, alloc),
+        Request::Set { future, value } => futures::set(body, alloc, &future, value),
+        Request::Fail { future, fault } => futures::fail(body, alloc, &future, &fault),
+        Request::IsDone(x) => futures::is_done(body, alloc, &x),
+        Request::IsCancelled(x) => futures::is_cancelled(body, alloc, &x),
+        Request::ResultOf(x) => futures::result_of(body, alloc, &x),
+        Request::Cancel(x) => tasks::cancel(body, alloc, &x),
+        Request::Cancelling(x) => tasks::cancelling(body, alloc, &x),
+        Request::Uncancel(x) => tasks::uncancel(body, alloc, &x),
+        Request::Current => Ok(Reply::Answers(Value::task(task))),
+        Request::Time => Ok(time::time_now(body)),
+        Request::Spawn {
+            coroutine,
+            arguments,
+        } => tasks::spawn(body, alloc, coroutine, &arguments),
+        Request::Sleep(delay) => waiting::sleep(body, alloc, task, &delay),
+        Request::TimeoutEnter(delay) => timeouts::enter_timeout(body, alloc, task, &delay),
+        Request::TimeoutExit { timeout, fault } => timeouts::exit_timeout(body, alloc, task, &timeout, fault),
+        Request::Reschedule { timeout, when } => timeouts::reschedule(body, alloc, &timeout, &when),
+        Request::Expired(timeout) => timeouts::expired(body, alloc, &timeout),
+        Request::GroupEnter => groups::enter_group(body, alloc, task),
+        Request::GroupExit { group, fault } => groups::exit_group(body, alloc, task, &group, fault),
+        Request::Create {
+            group,
+            coroutine,
+            arguments,
+        } => groups::create(body, alloc, &group, coroutine, &arguments),
+        Request::Extra { code, arguments } => time::extra(body, alloc, &code, &arguments),
+        Request::Listen { .. }
+        | Request::Connect(_)
+        | Request::Write { .. }
+        | Request::WriteEof(_)
+        | Request::Close(_)
+        | Request::WaitClosed(_)
+        | Request::Drain(_)
+        | Request::Limits { .. }
+        | Request::Read { .. }
+        | Request::ReadExactly { .. }
+        | Request::ReadUntil { .. }
+        | Request::ReadLine(_)
+        | Request::Launch(_)
+        | Request::StandardError(_)
+        | Request::WaitChild(_)
+        | Request::ReturnCode(_)
+        | Request::Kill(_) => undefined(alloc),
+    }
+}

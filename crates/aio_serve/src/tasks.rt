@@ -1,0 +1,67 @@
+//! Requests of tasks, and their cancels.
+ghost use Rattle.std.specs.Prelude.{◌≡◌, ℕ, pos, ◌≤◌, IfOk, OnOk};
+ghost use Rattle.model_value.specs.Number.{most};
+ghost use Rattle.model_value.specs.Value.{Int};
+ghost use Rattle.model_value.specs.declared.request.Request.TheVariants as request;
+ghost use Rattle.aio_body.specs.declared.reply.Reply.TheVariants.{Answers};
+ghost use Rattle.aio_body.specs.Asked.{SomeGoes, Serves};
+ghost use Rattle.aio_body.specs.Slots.{HoldsMore};
+
+use aio_base::{Memory, Value, ValueList};
+use aio_body::{Body, MOST_IDS, Reply, Slot, Standing, as_task, bad_argument, out_of_range};
+use aio_gen::Gen;
+use std::alloc::Global;
+
+pub fn cancel(body: &mut Body, alloc: Global, x: &Value) -> Result<Reply, Memory>
+    requires { SomeGoes body.old }
+    ensures { (task : ℕ) → Serves task (request.Cancel x.now) body.old body.new result }
+{
+    match body.as_awaited(x) {
+        Some(on) => Ok(Reply::Answers(Value::bool(body.parts.cancel(on)))),
+        None => bad_argument(alloc),
+    }
+}
+
+pub fn cancelling(body: &Body, alloc: Global, x: &Value) -> Result<Reply, Memory>
+    requires { SomeGoes body.now }
+    ensures { (task : ℕ) → Serves task (request.Cancelling x.now) body.now body.now result }
+{
+    match as_task(x) {
+        Some(task) => Ok(counted(body.parts.cancelling(task))),
+        None => bad_argument(alloc),
+    }
+}
+
+pub fn uncancel(body: &mut Body, alloc: Global, x: &Value) -> Result<Reply, Memory>
+    requires { SomeGoes body.old }
+    ensures { (task : ℕ) → Serves task (request.Uncancel x.now) body.old body.new result }
+{
+    match as_task(x) {
+        Some(task) => Ok(counted(body.parts.uncancel(task))),
+        None => bad_argument(alloc),
+    }
+}
+
+pub fn spawn(
+    body: &mut Body,
+    alloc: Global,
+    coroutine: u32,
+    arguments: &ValueList,
+) -> Result<Reply, Memory>
+    requires { SomeGoes body.old }
+    ensures { (task : ℕ) → Serves task (request.Spawn coroutine arguments.now) body.old body.new result }
+{
+    if body.slots.len() >= MOST_IDS {
+        return out_of_range(alloc);
+    }
+    body.hold(alloc, coroutine, arguments)?;
+    let task = body.parts.spawn(alloc)?;
+    Ok(Reply::Answers(Value::task(task)))
+}
+
+fn counted(count: u64) -> Reply
+    requires { count ≤ most }
+    ensures { result ≡ Answers (Int (pos count)) }
+{
+    Reply::Answers(Value::int(count as i64))
+}

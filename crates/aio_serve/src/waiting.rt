@@ -1,0 +1,81 @@
+//! Requests that may end a task's step: a pause, an await, a sleep.
+ghost use Rattle.std.specs.Prelude.{◌≡◌, ℕ, pos, ◌<◌, Ok, IfOk, OnOk, length, slice_get, slice_set};
+ghost use Rattle.model_value.specs.declared.request.Request.TheVariants as request;
+ghost use Rattle.model_machine.specs.Replies.{pauses, sleeps_for};
+ghost use Rattle.aio_body.specs.Asked.{MayGo, MayAsk, Replies, Serves};
+ghost use Rattle.aio_serve.specs.Alarm.{IsAlarmed};
+ghost use Rattle.aio_body.specs.Slots.{standing_at};
+
+use aio_base::{Action, Memory, Value};
+use aio_body::{Body, Reply, Standing, as_int, bad_argument, replied};
+use aio_task::{FutureId, TimerId};
+use std::alloc::Global;
+
+/// The greatest number of a script.
+const MOST: u64 = 0x7FFF_FFFF_FFFF_FFFF;
+
+/// A bare `yield`.
+pub fn pause(body: &mut Body, task: u32) -> Reply
+    requires { MayGo task body.old }
+    ensures { Replies task (pauses task) body.old body.new (Ok result) }
+{
+    body.parts.pause(task);
+    Reply::Rests
+}
+
+/// What is done is awaited at once.
+pub fn await_value(body: &mut Body, alloc: Global, task: u32, x: &Value) -> Result<Reply, Memory>
+    requires { MayAsk task (request.Await x.now) body.old }
+    ensures { Serves task (request.Await x.now) body.old body.new result }
+{
+    let Some(on) = body.as_awaited(x) else {
+        return bad_argument(alloc);
+    };
+    if let Some(outcome) = body.parts.outcome(on) {
+        return replied(outcome);
+    }
+    let _suspension = body.parts.suspend(task, on);
+    Ok(Reply::Rests)
+}
+
+/// A sleep of 0 or less is a bare `yield`.
+pub fn sleep(body: &mut Body, alloc: Global, task: u32, delay: &Value) -> Result<Reply, Memory>
+    requires { MayGo task body.old }
+    ensures { Serves task (request.Sleep delay.now) body.old body.new result }
+{
+    match as_int(delay) {
+        Some(delay) if delay > 0 => sleep_for(body, alloc, task, delay as u64),
+        Some(_) => Ok(pause(body, task)),
+        None => bad_argument(alloc),
+    }
+}
+
+fn sleep_for(body: &mut Body, alloc: Global, task: u32, delay: u64) -> Result<Reply, Memory>
+    requires { MayGo task body.old }
+    ensures { Replies task (sleeps_for task (pos delay)) body.old body.new result }
+{
+    let (timer, future) = alarm(body, alloc, task, delay)?;
+    let _suspension = body.parts.suspend(task, future);
+    body.stand(task, Standing::Sleeping { timer, future });
+    Ok(Reply::Rests)
+}
+
+// A future of a sleep, which a timer's handle will resolve.
+fn alarm(
+    body: &mut Body,
+    alloc: Global,
+    task: u32,
+    delay: u64,
+) -> Result<(TimerId, FutureId), Memory>
+    requires { MayGo task body.old }
+    ensures { IfOk result (λ made. IsAlarmed task delay made.0 made.1 body.old body.new) }
+{
+    let future = body.parts.new_plain(alloc)?;
+    let when = body.parts.now().saturating_add(delay).min(MOST);
+    let ticket = body.parts.ticket(alloc)?;
+    let action = Action::SleepDone { task, future };
+    match body.parts.at(alloc, when, ticket, action) {
+        Ok(timer) => Ok((timer, future)),
+        Err(unplaced) => Err(unplaced.cause),
+    }
+}

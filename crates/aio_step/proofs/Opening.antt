@@ -1,0 +1,99 @@
+-- A step begins, as a whole: what the parts, the slot and the machine come to.
+use Rattle.std.proofs.Common.{◌≡◌, ℕ, ◌<◌, Bool, true, false, List, Option, Some, None, length, slice_get, slice_set, ◌∙◌, refl, sym, ap, subst, arith, if◌then◌else◌}
+use Rattle.std.proofs.lemmas.List.{length-map}
+use Rattle.std.specs.Prelude.{is_some}
+use Rattle.model_value.specs.Input.{Input}
+use Rattle.model_value.specs.Value.{Outcome}
+use Rattle.model_loop.specs.Futures.{is_pending, is_pending_at, outcome_at}
+use Rattle.model_loop.specs.Handles.{revoke}
+use Rattle.model_loop.specs.Loop.{in_parts}
+use Rattle.model_loop.specs.Parts.{Future, Task, Parts}
+use Rattle.model_loop.specs.Tasks.{begin_step, lives, next_task, set_waiter, unmark, waiter_of}
+use Rattle.model_machine.specs.Step.{given_up}
+use Rattle.aio_timer.specs.Schedule as schedule
+use Rattle.aio_ready.specs.declared.handle.Name.TheVariants as name
+use Rattle.model_machine.specs.State as plain
+use Rattle.model_machine.specs.State.{State, generator_of, stands, unbooked_in}
+use Rattle.aio_ready.specs.Queue as queue
+use Rattle.aio_ready.specs.Queue.{Queue}
+use Rattle.aio_ready.specs.Names.{marked}
+use Rattle.aio_ready.specs.declared.handle.Name.{Name}
+use Rattle.aio_timer.specs.declared.live.TimerId.{TimerId}
+use Rattle.aio_task.specs.View.{View, parts}
+use Rattle.aio_task.specs.Keeps.{Ties, Kept, Becomes}
+use Rattle.aio_body.specs.declared.body.Body.{Body}
+use Rattle.aio_gen.specs.declared.generator.Gen.{Gen}
+use Rattle.aio_body.specs.declared.standing.Slot.{Slot}
+use Rattle.aio_body.specs.declared.standing.Standing.{Standing}
+use Rattle.aio_body.specs.declared.standing.Standing.TheVariants.{Asked, Sleeping, Leaving}
+use Rattle.aio_body.specs.GivingUp.{given_up_in, let_go_if, let_go_of, timer_cancelled}
+use Rattle.aio_body.specs.Stands.{Setting, Stands, StandsAt}
+use Rattle.aio_step.proofs.Beginning.{change_revoke, stands_released}
+use Rattle.law_body.proofs.Given.{begun_waits, kept_begin, kept_revoked, leaves_begin, leaves_revoke, pending_kept}
+use Rattle.law_body.proofs.Lasting.{own_on, spares_none, stands_at_on, stands_on}
+
+-- ---- the machine
+pub begin_revoke : (task : ℕ) (input : Input) (tag : ℕ) (p : Parts) → (begin_step task input (revoke tag p)).parts ≡ revoke tag (begin_step task input p).parts
+begin_revoke task input tag p =
+    ap (λ q. unmarked q) (change_revoke task waits_no_more tag p) ∙ change_revoke task no_mark tag (waiting p)
+  where
+    waits_no_more : Task → Task
+    waits_no_more it = record it { waiter = None }
+
+    no_mark : Task → Task
+    no_mark it = record it { must_cancel = false }
+
+    waiting : Parts → Parts
+    waiting q = set_waiter task None q
+
+    unmarked : Parts → Parts
+    unmarked q = unmark task q
+
+-- ---- the view
+pub below_cancelled : (b : Bool) (name : Name) (q : Queue) → length (if b then q else queue.cancelled name q).below ≡ length q.below
+below_cancelled true name q = refl
+below_cancelled false name q = length-map q.below (marked name)
+
+done_at : (o : Option Future) → is_some (outcome_at o) ≡ true → is_pending_at o ≡ false
+done_at None e = absurd (cc)
+done_at (Some future) e = at future.outcome e
+  where
+    at : (o : Option Outcome) → is_some o ≡ true → is_pending_at (Some (record future { outcome = o })) ≡ false
+    at None e = absurd (cc)
+    at (Some it) e = refl
+
+-- A state in which the task waits for nothing: what it stood at is given up, in code and in the machine.
+pub gives_up : (c : Setting) (body : Body) (s : State (Unit {0})) (task : ℕ) (code : Standing) (standing : plain.Standing) → (h : Stands None c body s)
+    → StandsAt h.ties s.loop.parts s.futures task code standing → waiter_of s.loop.parts task ≡ None
+    → Stands None c (record body { parts = given_up_in code body.parts }) (unbooked_in (given_up standing) s)
+gives_up c body s task Asked plain.Asked h at none = h
+gives_up c body s task Asked (plain.Sleeping tag) h at none = absurd at
+gives_up c body s task Asked (plain.Leaving id) h at none = absurd at
+gives_up c body s task Asked (plain.Serving key) h at none = absurd at
+gives_up c body s task (Leaving group) plain.Asked h at none = absurd at
+gives_up c body s task (Leaving group) (plain.Sleeping tag) h at none = absurd at
+gives_up c body s task (Leaving group) (plain.Leaving id) h at none = h
+gives_up c body s task (Leaving group) (plain.Serving key) h at none = absurd at
+gives_up c body s task (Sleeping timer future) plain.Asked h at none = absurd at
+gives_up c body s task (Sleeping timer future) (plain.Leaving id) h at none = absurd at
+gives_up c body s task (Sleeping timer future) (plain.Serving key) h at none = absurd at
+gives_up c body s task (Sleeping timer future) (plain.Sleeping tag) h at none = go (is_some (outcome_at (slice_get body.parts.futures future))) refl
+  where
+    p : Parts
+    p = s.loop.parts
+
+    cancelled : View
+    cancelled = timer_cancelled timer body.parts
+
+    revoked : Stands None c (record body { parts = cancelled }) (unbooked_in (revoke tag) s)
+    revoked =
+        stands_on None None c body s cancelled (in_parts (revoke tag)) h (kept_revoked h.ties body.parts p h.keeps tag timer at.0) (leaves_revoke tag p)
+        (spares_none p s.futures) (refl, refl) (below_cancelled (schedule.lives timer body.parts.schedule.live) (name.Timer timer.number) body.parts.queue)
+
+    go : (b : Bool) → is_some (outcome_at (slice_get body.parts.futures future)) ≡ b
+        → Stands None c (record body { parts = let_go_if b future cancelled }) (unbooked_in (revoke tag) s)
+    go false e = revoked
+    go true e =
+        stands_released None c (record body { parts = cancelled }) (unbooked_in (revoke tag) s) task future revoked
+        (own_on None p (revoke tag p) s.futures (Some task) future (leaves_revoke tag p) (spares_none p s.futures) at.1) none
+        (sym (pending_kept h.ties body.parts p h.keeps future) ∙ done_at (slice_get body.parts.futures future) e)

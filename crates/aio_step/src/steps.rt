@@ -1,0 +1,186 @@
+//! A step of a task.
+ghost use Rattle.std.specs.Prelude.{◌≡◌, true, IfOk};
+ghost use Rattle.model_says.specs.Says.{step_limit};
+ghost use Rattle.model_machine.specs.Extra.{no_extra};
+ghost use Rattle.model_machine.specs.Replies.{decides};
+ghost use Rattle.model_machine.specs.State as plain;
+ghost use Rattle.model_machine.specs.State.{State, resumed};
+ghost use Rattle.model_machine.specs.Step.{step, serve_all};
+ghost use Rattle.aio_body.specs.Asked.{IsDeciding, Says};
+ghost use Rattle.aio_body.specs.Stands.{Setting};
+ghost use Rattle.aio_step.specs.Stepping.{Steps, served_by, IsCalled, MayBegin, DecidesAs, MayDecideAs, HasBegun, IsServing, MayServe, ServesOne};
+
+use aio_base::{Input, Memory};
+use aio_body::{Body, Reply, Slot, Standing, reply_of};
+use aio_gen::{Gen, GenOut};
+use aio_serve::{leave_group, reply};
+use aio_task::Ticket;
+use std::alloc::Global;
+
+/// What serving what a coroutine says comes to.
+#[derive(Drop)]
+pub enum Served {
+    /// The coroutine goes on with this input.
+    GoesOn(Input),
+    /// The step ends, and the coroutine waits.
+    Rests,
+    /// The task is done.
+    Ends,
+    Runaway,
+}
+
+/// How a step ends: the task waits or is done, or it ran away.
+#[derive(Clone, Copy)]
+pub enum Stepped {
+    Goes,
+    Runaway(u32),
+}
+
+/// A step that has begun: the task's coroutine, at what it stood, and what its input came to.
+#[derive(Drop)]
+pub struct Started {
+    pub coroutine: Gen,
+    pub standing: Standing,
+    pub input: Input,
+}
+
+/// A step of a task, by the handle whose memory the ticket is.
+pub fn step(
+    body: &mut Body,
+    alloc: Global,
+    task: u32,
+    ticket: Ticket,
+    input: Input,
+) -> Result<Stepped, Memory>
+    requires { MayBegin task body.old }
+    ensures { IfOk result (λ went. (c : Setting) (s : State (Unit {0})) → IsCalled task c body.old s
+        → Steps c body.new went (step step_limit no_extra task input s)) }
+{
+    let Started {
+        coroutine,
+        standing,
+        input,
+    } = begin(body, task, ticket, input);
+    match decide(body, alloc, task, standing, input)? {
+        Reply::Answers(value) => serve(body, alloc, task, coroutine, Input::Send(value)),
+        Reply::Raises(fault) => serve(body, alloc, task, coroutine, Input::Throw(fault)),
+        Reply::Rests => {
+            body.put_back(task, coroutine);
+            Ok(Stepped::Goes)
+        }
+    }
+}
+
+// The step begins, and what the task runs is taken out.
+fn begin(body: &mut Body, task: u32, ticket: Ticket, input: Input) -> Started
+    requires { MayBegin task body.old }
+    ensures { (c : Setting) (s : State (Unit {0})) → IsCalled task c body.old s
+        → HasBegun task input c s result body.new }
+{
+    let input = body.parts.begin_step(task, ticket, input);
+    let Slot {
+        coroutine,
+        standing,
+    } = body.take(task);
+    body.give_up(standing);
+    let Some(coroutine) = coroutine else {
+        unreachable!()
+    };
+    Started {
+        coroutine,
+        standing,
+        input,
+    }
+}
+
+// What the request at which a task stood makes of the input that its step begins with.
+fn decide(
+    body: &mut Body,
+    alloc: Global,
+    task: u32,
+    standing: Standing,
+    input: Input,
+) -> Result<Reply, Memory>
+    requires { MayDecideAs task standing body.old }
+    ensures { IfOk result (λ said. (c : Setting) (s : State (Unit {0})) (stood : plain.Standing)
+        → IsDeciding task stood c body.old s → DecidesAs standing stood
+        → Says task c body.new said (decides no_extra stood task input s)) }
+{
+    match standing {
+        Standing::Asked => Ok(reply_of(input)),
+        Standing::Sleeping {
+            timer: _,
+            future: _,
+        } => Ok(reply_of(input)),
+        Standing::Leaving(group) => leave_group(body, alloc, task, group, input),
+    }
+}
+
+// The coroutine says on until the step ends.
+fn serve(
+    body: &mut Body,
+    alloc: Global,
+    task: u32,
+    coroutine: Gen,
+    input: Input,
+) -> Result<Stepped, Memory>
+    requires { MayServe task true input body.old coroutine }
+    ensures { IfOk result (λ went. (c : Setting) (s : State (Unit {0}))
+        → IsServing task true input c body.old coroutine s
+        → Steps c body.new went (serve_all step_limit no_extra task (resumed true task input s))) }
+{
+    let mut coroutine = coroutine;
+    let mut input = input;
+    let mut fresh = true;
+    for _answered in 0..u64::MAX {
+        match serve_one(body, alloc, task, &mut coroutine, input, fresh)? {
+            Served::GoesOn(next) => input = next,
+            Served::Rests => {
+                body.put_back(task, coroutine);
+                return Ok(Stepped::Goes);
+            }
+            Served::Ends => return Ok(Stepped::Goes),
+            Served::Runaway => return Ok(Stepped::Runaway(task)),
+        }
+        fresh = false;
+    }
+    Err(Memory)
+}
+
+// The coroutine is resumed, and what it says is served.
+fn serve_one(
+    body: &mut Body,
+    alloc: Global,
+    task: u32,
+    coroutine: &mut Gen,
+    input: Input,
+    fresh: bool,
+) -> Result<Served, Memory>
+    requires { MayServe task fresh input body.old coroutine.old }
+    ensures { IfOk result (λ told. (c : Setting) (s : State (Unit {0}))
+        → IsServing task fresh input c body.old coroutine.old s
+        → ServesOne task c body.new coroutine.new told (resumed fresh task input s)) }
+{
+    match coroutine.resume(alloc, &body.code, input, fresh)? {
+        GenOut::Asks(request) => Ok(next_of(reply(body, alloc, task, request)?)),
+        GenOut::Returns(value) => {
+            body.parts.finish(task, Ok(value));
+            Ok(Served::Ends)
+        }
+        GenOut::Raises(fault) => {
+            body.parts.finish(task, Err(fault));
+            Ok(Served::Ends)
+        }
+        GenOut::Runaway => Ok(Served::Runaway),
+    }
+}
+
+fn next_of(reply: Reply) -> Served
+    ensures { result ≡ served_by reply }
+{
+    match reply {
+        Reply::Answers(value) => Served::GoesOn(Input::Send(value)),
+        Reply::Raises(fault) => Served::GoesOn(Input::Throw(fault)),
+        Reply::Rests => Served::Rests,
+    }
+}

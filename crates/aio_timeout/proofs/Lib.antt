@@ -1,0 +1,5 @@
+pub mod Zips
+pub mod Loops
+pub mod Handlers
+pub mod Keeping
+pub mod Naming

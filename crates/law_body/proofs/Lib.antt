@@ -1,0 +1,14 @@
+pub mod Blocks
+pub mod Leaving
+pub mod Lasting
+pub mod Kept
+pub mod Left
+pub mod Sound
+pub mod Noting
+pub mod Slotting
+pub mod Spawned
+pub mod Telling
+pub mod May
+pub mod Rooms
+pub mod Making
+pub mod Asleep

@@ -1,0 +1,5 @@
+use Rattle.law_body.proofs.Rooms.{pauses_so}
+use Rattle.law_body.proofs.steps.a_pause_rests.Goals as goal
+
+pub returns : goal.returns
+returns c = pauses_so
