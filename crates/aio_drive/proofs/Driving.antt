@@ -2,7 +2,7 @@
 use Rattle.std.proofs.Common.{◌≡◌, ℕ, zero, suc, ◌+◌, ◌-◌, ◌^◌, ◌<◌, ◌≤◌, Bool, true, false, List, [], ◌∷◌, ◌++◌, Option, Some, None, map, min, ◌⊎◌, inl, inr, refl, ap, sym, ◌∙◌, subst, append_assoc, arith}
 use Rattle.model_tree.specs.Syntax.{Program}
 use Rattle.model_says.specs.Says.{step_limit}
-use Rattle.model_wire.specs.declared.event.End.TheVariants as end
+use Rattle.model_wire.specs.declared.event.End.TheVariants as ends
 use Rattle.model_wire.specs.Call.{Answer, Call}
 use Rattle.model_wire.specs.Event.{Event}
 use Rattle.model_wire.specs.Journal.{Entry, Answered}
@@ -66,7 +66,7 @@ running_first program how kernel told sink begins =
     record {
       at = λ rest. record { s = start tt program rest; stands = begins rest; on = refl; begun = λ none. refl };
       none = none-taken kernel (start tt program []) refl (begins []).events;
-      turns = refl;
+      turns = omega arith;
       told = λ rest agrees. agrees;
       sink = sym (took-nil sink);
       got = omega arith;
@@ -92,7 +92,7 @@ pub record FailsHere (program : Program) (how : Manner) (first_told : Option (Li
   pub had : List Entry
   pub told : (rest : List Entry) × Agrees first_told (had ++ rest)
   pub call : Call
-  pub is : run program had how.turns ≡ record { events = events; end = end.Over call }
+  pub is : run program had how.turns ≡ record { events = events; end = ends.Over call }
 
 -- the events go on from these, over entries that agree with what was told
 pub record GoesOnHere (program : Program) (how : Manner) (first_told : Option (List Entry)) (events : List Event) : Type 0 where
@@ -140,8 +140,8 @@ module _ {program : Program} {how : Manner} {made left : ℕ} {kernel : Kernel} 
       }
 
 -- a turn, by what was said of it
-module _ {program : Program} {how : Manner} {made left : ℕ} {kernel new : Kernel} {past : List Entry} {taken : List Event}
-    {first_told now_told new_told : Option (List Entry)} {first sink : SinkSeen}
+module _ {program : Program} {how : Manner} {made left : ℕ} {kernel : Kernel} {past : List Entry} {taken : List Event}
+    {first_told now_told : Option (List Entry)} {first sink : SinkSeen} (new : Kernel) (new_told : Option (List Entry))
     (running : Running program how made (suc left) kernel past taken first_told now_told first sink) where
   -- what happened so far
   abbrev so_far : List Event
@@ -190,13 +190,13 @@ module _ {program : Program} {how : Manner} {made left : ℕ} {kernel new : Kern
 
   ends_misfit : how.turns ≤ 2 ^ 64 - 1 → (had : List Answer) (count : ℕ) (call : Call) → Takes now_told new_told had
       → EndsAs had AnyLeft (IsMismatch count call) kernel new
-      → (end : End) → end ≡ end.Mismatch count call → EndsHere program how first_told so_far end
+      → (end : End) → end ≡ ends.Mismatch count call → EndsHere program how first_told so_far end
   ends_misfit fits had count call takes turns end is =
       let (rest, agrees) = agreed new_told in
       let it = ends_after had (IsMismatch count call) takes turns rest agrees in
       let count_is : count ≡ answers_in it.last.events = it.way.1 ∙ counted fits (map Answered had ++ rest) it.end it.last it.stops in
       ends_over (map Answered had ++ rest) (IsMismatch count call) (takes rest agrees) it end
-      (is ∙ ap (λ n. end.Mismatch n call) count_is ∙ sym it.way.0)
+      (is ∙ ap (λ n. ends.Mismatch n call) count_is ∙ sym it.way.0)
 
   pub ended : how.turns ≤ 2 ^ 64 - 1 → (before after : ℕ) (said : code.Went) → TurnsTo now_told new_told before after kernel new said
       → (end : End) → NextOf said (next.Ends end) → EndsHere program how first_told so_far end
@@ -205,18 +205,18 @@ module _ {program : Program} {how : Manner} {made left : ℕ} {kernel new : Kern
   ended fits before after went.Stalled (same, turns) end is =
       let (rest, agrees) = agreed now_told in
       let it = turns taken rest (running.at rest).s tt (running.at rest).stands in
-      ends_over rest (Is end.Stalled) agrees it end (is ∙ sym it.way)
-  ended fits before after (went.Runaway task) (had, (takes, turns)) end is = ends_so had (end.Runaway task) takes turns end is
+      ends_over rest (Is ends.Stalled) agrees it end (is ∙ sym it.way)
+  ended fits before after (went.Runaway task) (had, (takes, turns)) end is = ends_so had (ends.Runaway task) takes turns end is
   ended fits before after (went.Stopped (stop.Mismatch count call)) (had, (takes, turns)) end is = ends_misfit fits had count call takes turns end is
   ended fits before after (went.Stopped (stop.Over call)) (had, (agrees, turns)) end is =
       let entries = map Answered had ++ [] in
       let it = turns taken [] (running.at entries).s refl (running.at entries).stands in
-      ends_over entries (Is (end.Over call))
+      ends_over entries (Is (ends.Over call))
       (subst (λ (es : List Entry). Agrees now_told es) (sym (append-nil (map Answered had))) agrees) it end (is ∙ sym it.way)
   ended fits before after (went.Stopped (stop.Bad fault)) (had, ((rest, agrees), turns)) end is =
       let entries = map Answered had ++ refused_of fault ∷ rest in
       let it = turns taken (refused_of fault ∷ rest) (running.at entries).s (rest, refl) (running.at entries).stands in
-      ends_over entries (Is (end.JournalRefused fault.line fault.cause)) agrees it end (is ∙ sym it.way)
+      ends_over entries (Is (ends.JournalRefused fault.line fault.cause)) agrees it end (is ∙ sym it.way)
   ended fits before after (went.Stopped (stop.Failed call)) comes end is = absurd (cc is)
   ended fits before after (went.Stopped stop.Memory) comes end is = absurd (cc is)
 
@@ -236,7 +236,7 @@ module _ {program : Program} {how : Manner} {made left : ℕ} {kernel new : Kern
           subst (λ (es : List Entry). Agrees first_told es) (had_so_far had rest) (running.told (map Answered had ++ rest) (takes rest agrees)),
         );
         call = call;
-        is = ends_with entries (Is (end.Over call)) it ∙ ap (λ (e : End). record { events = so_far; end = e }) it.way;
+        is = ends_with entries (Is (ends.Over call)) it ∙ ap (λ (e : End). record { events = so_far; end = e }) it.way;
       }
 
   pub fails : (before after : ℕ) (said : code.Went) → TurnsTo now_told new_told before after kernel new said → NextOf said next.Fails
@@ -248,7 +248,7 @@ module _ {program : Program} {how : Manner} {made left : ℕ} {kernel new : Kern
   fails before after (went.Stopped (stop.Mismatch count call)) comes is = absurd is
   fails before after (went.Stopped (stop.Over call)) comes is = absurd is
   fails before after (went.Stopped (stop.Bad fault)) comes is = absurd is
-  fails before after (went.Stopped (stop.Failed call)) comes is = (fails_so before after call comes, comes.1.1.1)
+  fails before after (went.Stopped (stop.Failed call)) comes is = (fails_so before after call comes, comes.1.2)
   fails before after (went.Stopped stop.Memory) comes is = absurd (cc is)
 
   module _ (had : List Answer) (takes : Takes now_told new_told had) (goes : GoesOn had kernel new) where

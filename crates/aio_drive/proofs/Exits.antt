@@ -2,7 +2,7 @@
 use Rattle.std.proofs.Common.{◌≡◌, ℕ, zero, suc, ◌+◌, Bool, List, [], ◌∷◌, ◌++◌, Option, ◌⊎◌, inl, inr, refl, ap, sym, ◌∙◌, subst, arith}
 use Rattle.model_tree.specs.Syntax.{Program}
 use Rattle.model_says.specs.Says.{step_limit}
-use Rattle.model_wire.specs.declared.event.End.TheVariants as end
+use Rattle.model_wire.specs.declared.event.End.TheVariants as ends
 use Rattle.model_wire.specs.Call.{Call}
 use Rattle.model_wire.specs.Event.{Event}
 use Rattle.model_wire.specs.Journal.{Entry}
@@ -30,7 +30,7 @@ use Rattle.aio_drive.proofs.Driving.{GoesOnHere, Running, fails_silent, fails_so
 use Rattle.aio_drive.proofs.Fronts.{append-nil, took-nil}
 
 -- a run that begins asks
-pub start-asks : (program : Program) (last : State (Unit {0})) → turn step_limit no_extra (start tt program []) ≡ Stops end.Stalled last → ⊥
+pub start-asks : (program : Program) (last : State (Unit {0})) → turn step_limit no_extra (start tt program []) ≡ Stops ends.Stalled last → ⊥
 unfolding turn
 start-asks program last e = cc e
 
@@ -52,24 +52,24 @@ going (went.Stopped (stop.Failed call)) is = absurd (cc is)
 going (went.Stopped stop.Memory) is = absurd (cc is)
 
 -- whether the wire failed in it
-pub failed_or : (said : code.Went) → ((call : Call) × (said ≡ went.Stopped (stop.Failed call))) ⊎ ((fact : Type 0) → UnlessFailed fact said → fact)
-failed_or went.Went = inr (λ fact is. is)
-failed_or (went.Finished outcome) = inr (λ fact is. is)
-failed_or went.Stalled = inr (λ fact is. is)
-failed_or (went.Runaway task) = inr (λ fact is. is)
-failed_or (went.Stopped (stop.Over call)) = inr (λ fact is. is)
-failed_or (went.Stopped (stop.Bad fault)) = inr (λ fact is. is)
-failed_or (went.Stopped (stop.Mismatch count call)) = inr (λ fact is. is)
-failed_or (went.Stopped (stop.Failed call)) = inl (call, refl)
-failed_or (went.Stopped stop.Memory) = inr (λ fact is. is)
+pub failed_or : (said : code.Went) (fact : Type 0) → UnlessFailed fact said → ((call : Call) × (said ≡ went.Stopped (stop.Failed call))) ⊎ fact
+failed_or went.Went fact is = inr is
+failed_or (went.Finished outcome) fact is = inr is
+failed_or went.Stalled fact is = inr is
+failed_or (went.Runaway task) fact is = inr is
+failed_or (went.Stopped (stop.Over call)) fact is = inr is
+failed_or (went.Stopped (stop.Bad fault)) fact is = inr is
+failed_or (went.Stopped (stop.Mismatch count call)) fact is = inr is
+failed_or (went.Stopped (stop.Failed call)) fact is = inl (call, refl)
+failed_or (went.Stopped stop.Memory) fact is = inr is
 
 -- it didn't where the run ended
 pub ended-quiet : (said : code.Went) (end : End) (fact : Type 0) → NextOf said (next.Ends end) → UnlessFailed fact said → fact
-ended-quiet said end fact is quiet = at (failed_or said)
+ended-quiet said end fact is quiet = at (failed_or said fact quiet)
   where
-    at : ((call : Call) × (said ≡ went.Stopped (stop.Failed call))) ⊎ ((fact : Type 0) → UnlessFailed fact said → fact) → fact
+    at : ((call : Call) × (said ≡ went.Stopped (stop.Failed call))) ⊎ fact → fact
     at (inl (call, failed)) = absurd (cc (subst (λ (w : code.Went). NextOf w (next.Ends end)) failed is))
-    at (inr holds) = holds fact quiet
+    at (inr holds) = holds
 
 -- ---- where no further turn may be made
 last_by : (said : code.Went) (turns : ℕ) (end : End) (stalled : Bool) → StallsAs stalled said → LastSays said turns end → end ≡ turns_over stalled turns
@@ -93,8 +93,8 @@ last_as {old = old} {result = result} {said = said} by turns end is = λ past an
         last_by said turns end (is_stalled no_extra s) (by.stalls past answers s stands) (subst (λ (w : code.Went). LastSays w turns end) same is)
     at past answers s stands (inr none) = absurd (subst (λ (w : code.Went). LastSays w turns end) none is)
 
-module _ {program : Program} {how : Manner} {made left : ℕ} {kernel new : Kernel} {past : List Entry} {taken : List Event}
-    {first_told now_told new_told : Option (List Entry)} {first sink : SinkSeen} {before after : ℕ}
+module _ {program : Program} {how : Manner} {made left : ℕ} {kernel : Kernel} {past : List Entry} {taken : List Event}
+    {first_told now_told : Option (List Entry)} {first sink : SinkSeen} (new : Kernel) (new_told : Option (List Entry)) (before after : ℕ)
     (running : Running program how made (suc left) kernel past taken first_told now_told first sink) where
   -- no run ends in its first turn over a wire that fails at each call
   pub alive : (said : code.Went) → TurnsTo now_told new_told before after kernel new said → (end : End) → NextOf said (next.Ends end)
@@ -105,7 +105,7 @@ module _ {program : Program} {how : Manner} {made left : ℕ} {kernel new : Kern
       let here = running.at [] in
       let it = turns taken [] here.s tt here.stands in
       start-asks program it.last
-      (subst (λ (s : State (Unit {0})). turn step_limit no_extra s ≡ Stops end.Stalled it.last) (here.begun none)
+      (subst (λ (s : State (Unit {0})). turn step_limit no_extra s ≡ Stops ends.Stalled it.last) (here.begun none)
       (it.stops ∙ ap (λ (e : End). Stops e it.last) it.way))
   alive (went.Runaway task) comes end is failing none = failing
   alive (went.Stopped (stop.Over call)) comes end is failing none = failing
@@ -115,8 +115,9 @@ module _ {program : Program} {how : Manner} {made left : ℕ} {kernel new : Kern
   alive (went.Stopped stop.Memory) comes end is failing none = cc is
 
 -- memory was refused in the turn, or after it
-module _ {program : Program} {how : Manner} {made left : ℕ} {kernel new : Kernel} {past : List Entry} {taken : List Event}
-    {now_told new_told : Option (List Entry)} {first sink : SinkSeen} {before after : ℕ} (seen last : WireSeen) (fault : End) (fails quiet : Type 0)
+module _ {program : Program} {how : Manner} {made left : ℕ} {kernel : Kernel} {past : List Entry} {taken : List Event}
+    {now_told : Option (List Entry)} {first sink : SinkSeen} (new : Kernel) (new_told : Option (List Entry)) (before after : ℕ)
+    (seen last : WireSeen) (fault : End) (fails quiet : Type 0)
     (running : Running program how made (suc left) kernel past taken seen.left now_told first sink) (rose : Rose before after → Rose seen.faults last.faults)
     (first_turn : fails → made ≡ 0) where
   abbrev May : Output → Type 0
@@ -132,12 +133,11 @@ module _ {program : Program} {how : Manner} {made left : ℕ} {kernel new : Kern
 
   pub refused : (said : code.Went) → TurnsTo now_told new_told before after kernel new said → UnlessFailed quiet said
       → EndsEarly May quiet first sink Memory
-  refused said comes still = at (failed_or said)
+  refused said comes still = at (failed_or said quiet still)
     where
-      at : ((call : Call) × (said ≡ went.Stopped (stop.Failed call))) ⊎ ((fact : Type 0) → UnlessFailed fact said → fact)
-          → EndsEarly May quiet first sink Memory
+      at : ((call : Call) × (said ≡ went.Stopped (stop.Failed call))) ⊎ quiet → EndsEarly May quiet first sink Memory
       at (inl (call, failed)) =
           let so = subst (λ (w : code.Went). TurnsTo now_told new_told before after kernel new w) failed comes in
           fails_silent program how fault seen last (Undisturbed fails quiet) quiet first sink sink taken (untaken new) running.sink
-          (fails_so running before after call so) (rose so.1.1.1)
-      at (inr holds) = by_turns (holds quiet still) made refl
+          (fails_so new new_told running before after call so) (rose so.1.2)
+      at (inr holds) = by_turns holds made refl

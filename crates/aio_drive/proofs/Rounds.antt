@@ -40,7 +40,7 @@ none_left running most = let turns = running.turns in omega arith
 
 -- `seen` is the wire as the run began, `now` as the turn did, and `last` after it.
 module _ {program : Program} {how : Manner} {made left : ℕ} {kernel new : Kernel} {past : List Entry} {taken : List Event}
-    {seen now last : WireSeen} {first sink : SinkSeen} {fails_first fails_now quiet_now quiet : Type 0} {result said : code.Went}
+    {now last : WireSeen} {first sink : SinkSeen} {fails_first fails_now quiet_now quiet : Type 0} {result said : code.Went} (seen : WireSeen)
     (running : Running program how made (suc left) kernel past taken seen.left now.left first sink)
     (fails_then : fails_first → (made ≡ 0) × fails_now) (later : seen.faults ≤ now.faults)
     (turned : TurnedBy fails_now quiet_now now last kernel new result said) (quietly : quiet_now → quiet) where
@@ -48,11 +48,11 @@ module _ {program : Program} {how : Manner} {made left : ℕ} {kernel new : Kern
       → EndsHere program how seen.left (taken ++ untaken new) end × Undisturbed fails_first quiet
   ends_at fits end is =
       let what = of_said result said (next.Ends end) turned.either is (λ e. cc e) in (
-        ended running fits now.faults last.faults said turned.turns end what,
+        ended new last.left running fits now.faults last.faults said turned.turns end what,
         (
           λ fails.
               let (none, here) = fails_then fails in
-              alive running said turned.turns end what (turned.failing here) none,
+              alive new last.left now.faults last.faults running said turned.turns end what (turned.failing here) none,
           quietly (ended-quiet said end quiet_now what turned.still),
         ),
       )
@@ -60,7 +60,7 @@ module _ {program : Program} {how : Manner} {made left : ℕ} {kernel new : Kern
   pub fails_at : NextOf result next.Fails → FailsHere program how seen.left (taken ++ untaken new) × Rose seen.faults last.faults
   fails_at is =
       let what = of_said result said next.Fails turned.either is (λ e. cc e) in
-      let (here, rose) = fails running now.faults last.faults said turned.turns what in
+      let (here, rose) = fails new last.left running now.faults last.faults said turned.turns what in
       (here, rose_earlier seen.faults now.faults last.faults later rose)
 
   pub goes_at : NextOf result next.Turn
@@ -84,7 +84,7 @@ module _ {program : Program} {how : Manner} {made left : ℕ} {kernel new : Kern
 
   pub refused_at : (fault : End) → EndsEarly (MayDrive program how fault seen last (Undisturbed fails_first quiet)) quiet first sink Memory
   refused_at fault =
-      refused seen last fault fails_first quiet running (rose_earlier seen.faults now.faults last.faults later)
+      refused new last.left now.faults last.faults seen last fault fails_first quiet running (rose_earlier seen.faults now.faults last.faults later)
       (λ fails. (fails_then fails).0) said turned.turns (still_as said turned.still)
     where
       still_as : (w : code.Went) → UnlessFailed quiet_now w → UnlessFailed quiet w
@@ -138,7 +138,7 @@ module _ {program : Program} {how : Manner} {made left : ℕ} {kernel new : Kern
     goes_err is halt stops =
         let (had, (takes, (goes, still))) = goes_at is in
         goes_early program how fault seen last (Undisturbed fails_first quiet) quiet first sink final taken (untaken new) running.sink
-        (goes_further running had takes goes) still halt
+        (goes_further new last.left running had takes goes) still halt
         (subst (λ (es : List Event). StopsWriting (lines_of_events how.trace es) sink final halt) out stops)
 
     -- the run is under way after it
@@ -152,12 +152,12 @@ module _ {program : Program} {how : Manner} {made left : ℕ} {kernel new : Kern
           left,
           past ++ map Answered had,
           taken ++ untaken new,
-          turned_on running had takes goes after final takes_out none (wrote ∙ ap (λ (es : List Event). took sink (lines_of_events how.trace es)) out),
+          turned_on new last.left running had takes goes after final takes_out none (wrote ∙ ap (λ (es : List Event). took sink (lines_of_events how.trace es)) out),
         )
 
 -- where no turn is left
-module _ {program : Program} {how : Manner} {made left : ℕ} {kernel : Kernel} {past : List Entry} {taken : List Event} {seen now : WireSeen}
-    {first sink : SinkSeen} {fails_first quiet : Type 0} (running : Running program how made left kernel past taken seen.left now.left first sink)
+module _ {program : Program} {how : Manner} {made left : ℕ} {kernel : Kernel} {past : List Entry} {taken : List Event} {first sink : SinkSeen}
+    {fails_first quiet : Type 0} (seen now : WireSeen) (running : Running program how made left kernel past taken seen.left now.left first sink)
     (most : how.turns ≤ made) (still : Undisturbed fails_first quiet) (fault : End) (final : SinkSeen) where
   abbrev LastDrives : Output → Type 0
   LastDrives = MayDrive program how fault seen now (Undisturbed fails_first quiet)

@@ -8,6 +8,6 @@ mod lines;
 mod silent;
 mod writing;
 
-pub use driver::drive;
+pub use driver::{Manner, drive};
 pub use halt::Halt;
 pub use writing::{say, tell, write_all};
