@@ -1,25 +1,24 @@
 -- Parts go on by each operation.
-use Rattle.std.proofs.Common.{◌≡◌, ◌≢◌, ℕ, zero, suc, ◌+◌, ◌-◌, ◌<◌, ◌≤◌, ◌⊎◌, Bool, true, false, List, [], ◌∷◌, ◌++◌, Option, Some, None, length, slice_get, slice_set, refl, ap, sym, subst, ◌∙◌, inl, inr, arith, length-append}
+use Rattle.std.proofs.Common.{◌≡◌, ℕ, zero, suc, ◌+◌, ◌-◌, ◌<◌, ◌⊎◌, Bool, true, false, List, [], ◌∷◌, ◌++◌, Option, Some, None, length, slice_get, slice_set, refl, ap, sym, subst, ◌∙◌, inl, inr, arith, length-append}
 use Rattle.std.proofs.Math.ListN.{length-set}
 use Rattle.std.proofs.lemmas.Bool.{cases_eq, false≢true}
 use Rattle.std.specs.Option.{option_map_or}
 use Rattle.model_value.specs.Action.{Action}
 use Rattle.model_value.specs.declared.action.Action.TheVariants.{GroupDone}
 use Rattle.model_value.specs.declared.outcome.Outcome.TheVariants.{Failed}
-use Rattle.model_value.specs.Value.{Outcome, Exc}
+use Rattle.model_value.specs.Value.{Outcome}
 use Rattle.model_loop.specs.Cancel.{cancel}
-use Rattle.model_loop.specs.Futures.{outcome_at, future_outcome, is_pending_at, is_pending, next_future, new_plain, make_future, register, registered, registered_on, settle}
+use Rattle.model_loop.specs.Futures.{outcome_at, future_outcome, is_pending_at, is_pending, next_future, new_plain, register, registered, registered_on, settle}
 use Rattle.model_loop.specs.Groups.{with_child}
 use Rattle.model_loop.specs.Ledger.{Origin, request_where, request_each}
-use Rattle.model_loop.specs.Owning.{owner_at, owner_of}
+use Rattle.model_loop.specs.Owning.{owner_at}
 use Rattle.model_loop.specs.Parts as plain
 use Rattle.model_loop.specs.Parts.{OfTask, FutureKind, Future, Task, Parts}
 use Rattle.model_loop.specs.Tasks.{future_of, lives, next_task, spawn, uncancel}
 use Rattle.law_cancel.proofs.Counting.{goes-done}
-use Rattle.law_cancel.proofs.Effects.{length-change_task}
 use Rattle.law_cancel.proofs.Lookups.{get_within, get-push_other, get-set_kept}
 use Rattle.law_cancel.proofs.Trace.{goes-tasks}
-use Rattle.law_settling.proofs.Looks.{LooksSame, future_of-same, change_looks_same}
+use Rattle.law_settling.proofs.Looks.{future_of-same, change_looks_same}
 use Rattle.law_settling.proofs.Settling.{IsSettled, settle_cases}
 use Rattle.law_settling.proofs.Spreading.{as_row, with_spread}
 use Rattle.law_told.proofs.Holding.{Names, settled_names, looks_names, cancels_names}

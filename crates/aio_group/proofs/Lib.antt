@@ -1,3 +1,11 @@
+pub mod Laws
 pub mod Going
 pub mod Listing
 pub mod Standing
+pub mod Stepping
+pub mod Waiting
+pub mod Exiting
+pub mod Belonging
+pub mod Spawning
+pub mod Numbering
+pub mod Calls

@@ -1,5 +1,5 @@
 -- What groups in code stand for goes on with the parts, and with a change of one group.
-use Rattle.std.proofs.Common.{◌≡◌, ℕ, ◌+◌, ◌<◌, ◌≤◌, ◌⊎◌, Bool, true, false, List, [], ◌∷◌, ◌++◌, Option, Some, None, length, map, slice_get, slice_set, refl, ap, sym, subst, ◌∙◌, inl, inr, arith}
+use Rattle.std.proofs.Common.{◌≡◌, ℕ, ◌≤◌, ◌⊎◌, List, [], ◌∷◌, Option, Some, None, map, slice_get, slice_set, refl, ap, sym, subst, ◌∙◌, inl, inr, arith}
 use Rattle.std.proofs.lemmas.Bool.{cases_eq}
 use Rattle.std.specs.List.{AllByRecursion as All}
 use Rattle.model_value.specs.declared.outcome.Outcome.TheVariants.{Value as Returned, Failed, Cancelled}
@@ -10,11 +10,11 @@ use Rattle.model_loop.specs.Loop.{Group, Loop}
 use Rattle.model_loop.specs.Parts.{Parts}
 use Rattle.model_loop.specs.Tasks.{future_of}
 use Rattle.law_cancel.proofs.Lookups.{get-set_same, get-set_other}
-use Rattle.aio_task.specs.View.{View, parts}
+use Rattle.aio_task.specs.View.{View}
 use Rattle.aio_task.specs.Keeps.{Ties, Keeps, Kept, Extends}
 use Rattle.aio_group.specs.GoesOn.{GoesOn}
 use Rattle.aio_group.specs.Held.{Held}
-use Rattle.aio_group.specs.Stands.{IsLive, KeepsFaults, KeepsGroup, KeepsAt, StandsFor, Stands, Came, Steps}
+use Rattle.aio_group.specs.Stands.{IsLive, KeepsGroup, KeepsAt, StandsFor, Stands, Came, Steps}
 use Rattle.aio_group.proofs.Going.{same_on, then_on}
 use Rattle.aio_group.proofs.Listing.{set-set, set-same, index_at, all_to}
 
@@ -134,8 +134,10 @@ set_stands t groups v l id held new group e s is = record { keeps = s.keeps; eac
         → KeepsAt t l.parts (slice_get (slice_set groups id new) j) (slice_get (slice_set l.groups id group) j)
     at j (inl same) =
         subst (λ i. KeepsAt t l.parts (slice_get (slice_set groups id new) i) (slice_get (slice_set l.groups id group) i)) same
-        (rw (get-set_same groups id held new e,
-          get-set_same l.groups id (group_of l id) group (there t groups v l id held e s).at) is)
+        (rw (
+          get-set_same groups id held new e,
+          get-set_same l.groups id (group_of l id) group (there t groups v l id held e s).at,
+        ) is)
     at j (inr n) = rw (get-set_other groups id j new n, get-set_other l.groups id j group n) (s.each j)
 
 pub group_same : (id : ℕ) (group : Group) (l : Loop) → slice_get l.groups id ≡ Some (group_of l id)

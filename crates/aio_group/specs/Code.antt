@@ -22,8 +22,13 @@ coded_rest =
 abbrev pub coded_held : Coded Held
 coded_held =
     code_by (ℕ × (Flags × Rest)) (coded× coded_ℕ (coded× coded_flags coded_rest))
-    (λ h. (h.parent, ((h.entered, (h.exiting, (h.ended, (h.aborting, h.requested)))),
-      (h.children, (h.failed, (h.body, (h.kept, h.exit_future)))))))
+    (λ h. (
+      h.parent,
+      (
+        (h.entered, (h.exiting, (h.ended, (h.aborting, h.requested)))),
+        (h.children, (h.failed, (h.body, (h.kept, h.exit_future)))),
+      ),
+    ))
     (λ p. record {
       parent = p.0;
       entered = p.1.0.0;

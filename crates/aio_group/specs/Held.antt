@@ -1,6 +1,6 @@
 -- Groups as code holds them. What the machine keeps as history is left out: which tasks were made in a group, and with what
 -- an exit ended. Of a child that failed its number is kept, since the exception stands in the child's own future.
-use Rattle.std.specs.Prelude.{ℕ, Bool, true, false, List, [], ◌∷◌, Option, Some, None, slice_index_or, if◌then◌else◌}
+use Rattle.std.specs.Prelude.{ℕ, Bool, false, List, [], ◌∷◌, Option, Some, None, slice_index_or, if◌then◌else◌}
 use Rattle.model_value.specs.Value.{Exc}
 use Rattle.model_loop.specs.Loop.{Group}
 use Rattle.model_loop.specs.Tasks.{is_cancelled}

@@ -1,5 +1,5 @@
 -- How groups in code stand for the machine's, beside the parts.
-use Rattle.std.specs.Prelude.{◌≡◌, ℕ, ◌<◌, Bool, true, false, List, [], ◌++◌, Option, Some, None, length, map, slice_get, slice_set}
+use Rattle.std.specs.Prelude.{◌≡◌, ℕ, ◌<◌, true, false, List, [], Option, Some, None, length, map, slice_get, slice_set}
 use Rattle.std.specs.List.{AllByRecursion as All}
 use Rattle.model_loop.specs.Parts.{Parts}
 use Rattle.model_loop.specs.Loop.{Group, Loop}

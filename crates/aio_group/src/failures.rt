@@ -76,7 +76,11 @@ fn grouped(alloc: Global, members: Vec<Exc>) -> Result<Exc, Memory>
     let fault = exception(alloc, Kind::ExceptionGroup, TEXT)?;
     let members = Rc::new(alloc, ExcList::of(members))?;
     let whole = fault.clone()?.with_members(members);
-    if is_bearable(&whole) { Ok(whole) } else { Ok(fault) }
+    if is_bearable(&whole) {
+        Ok(whole)
+    } else {
+        Ok(fault)
+    }
 }
 
 /// The exception of all failures: those of these tasks, in order, and the body's last. `None` where there are none.

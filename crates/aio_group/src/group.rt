@@ -156,7 +156,11 @@ impl Group {
         if self.exiting && self.children.is_empty() {
             return Some(Created::Finished);
         }
-        if self.aborting { Some(Created::ShuttingDown) } else { None }
+        if self.aborting {
+            Some(Created::ShuttingDown)
+        } else {
+            None
+        }
     }
 
     /// A child whose number is greater than all others, and the place of its failure.

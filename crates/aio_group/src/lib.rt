@@ -1,8 +1,11 @@
 //! Task groups over the loop's parts.
 #![tactic(auto)]
 
+mod abort;
+mod children;
 mod created;
 mod exit;
+mod exits;
 mod failures;
 mod group;
 mod groups;

@@ -1,5 +1,5 @@
 -- The future of a sleep with its timer.
-use Rattle.std.specs.Prelude.{◌≡◌, ℕ, ◌+◌, List, [], ◌∷◌, ◌++◌, None, length, min}
+use Rattle.std.specs.Prelude.{◌≡◌, ℕ, ◌+◌, [], ◌∷◌, ◌++◌, None, length, min}
 use Rattle.model_value.specs.Number.{most}
 use Rattle.model_value.specs.declared.action.Action.TheVariants.{SleepDone}
 use Rattle.model_loop.specs.Parts.{Plain}

@@ -1,16 +1,14 @@
 //! Requests of futures.
-ghost use Rattle.std.specs.Prelude.{◌≡◌, ℕ, IfOk};
+ghost use Rattle.std.specs.Prelude.{◌≡◌, ℕ, option_map};
 ghost use Rattle.model_value.specs.declared.request.Request.TheVariants as request;
+ghost use Rattle.model_value.specs.declared.outcome.Outcome.TheVariants.{Failed};
 ghost use Rattle.model_machine.specs.Arguments.{as_future};
-ghost use Rattle.model_machine.specs.Replies.{given, settles, is_cancelled_as, result_of as plain_result_of};
-ghost use Rattle.model_machine.specs.Replies as plain;
-ghost use Rattle.model_loop.specs.Tasks.{cancelled_error as plain_cancelled_error};
+ghost use Rattle.model_machine.specs.Replies.{given, settles, is_cancelled_as};
 ghost use Rattle.std.specs.Option.{option_copied};
 ghost use Rattle.aio_body.specs.Asked.{SomeGoes, Replies, Serves};
-ghost use Rattle.aio_body.specs.Outcomes.{RepliesAs};
 
 use aio_base::{Exc, Kind, Memory, Outcome, Value};
-use aio_body::{Body, MOST_IDS, Reply, as_failure, bad_argument, out_of_range, raises};
+use aio_body::{Body, MOST_IDS, Reply, as_failure, bad_argument, out_of_range, raises, replied};
 use std::alloc::Global;
 
 /// `future()`.
@@ -38,11 +36,14 @@ pub fn fail(body: &mut Body, alloc: Global, future: &Value, fault: &Value) -> Re
     requires { SomeGoes body.old }
     ensures { (task : ℕ) → Serves task (request.Fail future.now fault.now) body.old body.new result }
 {
-    let outcome = match as_failure(fault)? {
-        Some(fault) => Some(Outcome::Failed(fault)),
-        None => None,
-    };
+    let outcome = failed_with(as_failure(fault)?);
     settle(body, alloc, future, outcome)
+}
+
+fn failed_with(fault: Option<Exc>) -> Option<Outcome>
+    ensures { result ≡ option_map Failed fault }
+{
+    fault.map(Outcome::Failed)
 }
 
 // A done future is refused.
@@ -82,7 +83,7 @@ pub fn is_cancelled(body: &Body, alloc: Global, x: &Value) -> Result<Reply, Memo
     ensures { (task : ℕ) → Serves task (request.IsCancelled x.now) body.now body.now result }
 {
     match body.as_awaited(x) {
-        Some(on) => Ok(Reply::Answers(Value::bool(is_cancelled(body.parts.outcome(on))))),
+        Some(on) => Ok(Reply::Answers(Value::bool(ended_cancelled(body.parts.outcome(on))))),
         None => bad_argument(alloc),
     }
 }
@@ -99,7 +100,7 @@ pub fn result_of(body: &Body, alloc: Global, x: &Value) -> Result<Reply, Memory>
     }
 }
 
-fn is_cancelled(outcome: Option<&Outcome>) -> bool
+fn ended_cancelled(outcome: Option<&Outcome>) -> bool
     ensures { result ≡ is_cancelled_as (option_copied outcome.entry) }
 {
     match outcome {

@@ -1,12 +1,7 @@
 //! The table of requests.
 ghost use Rattle.aio_body.specs.Asked.{MayAsk, Serves};
 
-use crate::futures;
-use crate::groups;
-use crate::tasks;
-use crate::time;
-use crate::timeouts;
-use crate::waiting;
+use crate::{futures, groups, tasks, time, timeouts, waiting};
 use aio_base::{Memory, Request, Value};
 use aio_body::{Body, Reply, undefined};
 use std::alloc::Global;
@@ -37,7 +32,9 @@ pub fn reply(body: &mut Body, alloc: Global, task: u32, request: Request) -> Res
         } => tasks::spawn(body, alloc, coroutine, &arguments),
         Request::Sleep(delay) => waiting::sleep(body, alloc, task, &delay),
         Request::TimeoutEnter(delay) => timeouts::enter_timeout(body, alloc, task, &delay),
-        Request::TimeoutExit { timeout, fault } => timeouts::exit_timeout(body, alloc, task, &timeout, fault),
+        Request::TimeoutExit { timeout, fault } => timeouts::exit_timeout(
+            body, alloc, task, &timeout, fault,
+        ),
         Request::Reschedule { timeout, when } => timeouts::reschedule(body, alloc, &timeout, &when),
         Request::Expired(timeout) => timeouts::expired(body, alloc, &timeout),
         Request::GroupEnter => groups::enter_group(body, alloc, task),

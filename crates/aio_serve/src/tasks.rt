@@ -1,15 +1,13 @@
 //! Requests of tasks, and their cancels.
-ghost use Rattle.std.specs.Prelude.{◌≡◌, ℕ, pos, ◌≤◌, IfOk, OnOk};
+ghost use Rattle.std.specs.Prelude.{◌≡◌, ℕ, pos, ◌≤◌};
 ghost use Rattle.model_value.specs.Number.{most};
 ghost use Rattle.model_value.specs.Value.{Int};
 ghost use Rattle.model_value.specs.declared.request.Request.TheVariants as request;
 ghost use Rattle.aio_body.specs.declared.reply.Reply.TheVariants.{Answers};
 ghost use Rattle.aio_body.specs.Asked.{SomeGoes, Serves};
-ghost use Rattle.aio_body.specs.Slots.{HoldsMore};
 
 use aio_base::{Memory, Value, ValueList};
-use aio_body::{Body, MOST_IDS, Reply, Slot, Standing, as_task, bad_argument, out_of_range};
-use aio_gen::Gen;
+use aio_body::{Body, MOST_IDS, Reply, as_task, bad_argument, out_of_range};
 use std::alloc::Global;
 
 pub fn cancel(body: &mut Body, alloc: Global, x: &Value) -> Result<Reply, Memory>
@@ -27,7 +25,7 @@ pub fn cancelling(body: &Body, alloc: Global, x: &Value) -> Result<Reply, Memory
     ensures { (task : ℕ) → Serves task (request.Cancelling x.now) body.now body.now result }
 {
     match as_task(x) {
-        Some(task) => Ok(counted(body.parts.cancelling(task))),
+        Some(task) => Ok(number(body.parts.cancelling(task))),
         None => bad_argument(alloc),
     }
 }
@@ -37,7 +35,7 @@ pub fn uncancel(body: &mut Body, alloc: Global, x: &Value) -> Result<Reply, Memo
     ensures { (task : ℕ) → Serves task (request.Uncancel x.now) body.old body.new result }
 {
     match as_task(x) {
-        Some(task) => Ok(counted(body.parts.uncancel(task))),
+        Some(task) => Ok(number(body.parts.uncancel(task))),
         None => bad_argument(alloc),
     }
 }
@@ -59,7 +57,8 @@ pub fn spawn(
     Ok(Reply::Answers(Value::task(task)))
 }
 
-fn counted(count: u64) -> Reply
+/// A number that a script can have.
+pub fn number(count: u64) -> Reply
     requires { count ≤ most }
     ensures { result ≡ Answers (Int (pos count)) }
 {

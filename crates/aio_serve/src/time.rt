@@ -6,6 +6,7 @@ ghost use Rattle.model_machine.specs.Replies.{shown_after, shown_all as shown_of
 ghost use Rattle.aio_body.specs.declared.reply.Reply.TheVariants.{Raises};
 ghost use Rattle.aio_body.specs.Asked.{SomeGoes, Serves};
 
+use crate::tasks::number;
 use aio_base::{Blob, Kind, Memory, Value, ValueList, show};
 use aio_body::{Body, Reply, as_int, bad_argument, is_list, raises};
 use aio_wire::Event;
@@ -15,7 +16,7 @@ pub fn time_now(body: &Body) -> Reply
     requires { SomeGoes body.now }
     ensures { (task : ℕ) → Serves task request.Time body.now body.now (Ok result) }
 {
-    Reply::Answers(Value::int(body.parts.now() as i64))
+    number(body.parts.now())
 }
 
 pub fn print(body: &mut Body, alloc: Global, task: u32, values: &ValueList) -> Result<Reply, Memory>
@@ -30,10 +31,13 @@ pub fn print(body: &mut Body, alloc: Global, task: u32, values: &ValueList) -> R
 pub fn extra(body: &Body, alloc: Global, code: &Value, arguments: &Value) -> Result<Reply, Memory>
     ensures { (task : ℕ) → Serves task (request.Extra code.now arguments.now) body.now body.now result }
 {
-    match as_int(code) {
-        Some(code) if is_list(arguments) => unknown(alloc, code),
-        _ => bad_argument(alloc),
+    let Some(code) = as_int(code) else {
+        return bad_argument(alloc);
+    };
+    if !is_list(arguments) {
+        return bad_argument(alloc);
     }
+    unknown(alloc, code)
 }
 
 fn unknown(alloc: Global, code: i64) -> Result<Reply, Memory>

@@ -7,6 +7,7 @@ use Rattle.model_value.specs.Value.{Outcome}
 use Rattle.model_loop.specs.Futures.{is_pending, is_pending_at, outcome_at}
 use Rattle.model_loop.specs.Handles.{revoke}
 use Rattle.model_loop.specs.Loop.{in_parts}
+use Rattle.model_loop.specs.Owning.{OwnsFutures}
 use Rattle.model_loop.specs.Parts.{Future, Task, Parts}
 use Rattle.model_loop.specs.Tasks.{change_task, lives, next_task, waiter_of}
 use Rattle.model_loop.specs.Ways.{is_running}
@@ -25,7 +26,7 @@ use Rattle.aio_body.specs.GivingUp.{let_go_of}
 use Rattle.aio_body.specs.Slots.{no_slot}
 use Rattle.aio_body.specs.Stands.{Setting, Stands, IsOwnSleep, StandsAt, HasSlot, WaitsAs, coroutine_in, holding}
 use Rattle.law_body.proofs.Blocks.{blocks_released}
-use Rattle.law_body.proofs.Given.{keeps_release}
+use Rattle.law_body.proofs.Kept.{keeps_release}
 use Rattle.law_body.proofs.Slotting.{set_same, set_other, set_length, runs_itself, runs_no_other}
 
 -- ---- the machine: which comes first doesn't matter
@@ -53,13 +54,13 @@ own_for p named task id own none = record {
     at other e same = let n = subst (λ k. waiter_of p k ≡ None) same none in absurd (cc)
 
 pub stands_released : (out : Option ℕ) (c : Setting) (body : Body) (s : State (Unit {0})) (task id : ℕ) → (h : Stands out c body s)
-    → IsOwnSleep s.loop.parts s.futures (Some task) id → waiter_of s.loop.parts task ≡ None → is_pending s.loop.parts id ≡ false
-    → Stands out c (record body { parts = let_go_of id body.parts }) s
-stands_released out c body s task id h own none done = record {
+    → OwnsFutures s.loop.parts → IsOwnSleep s.loop.parts s.futures (Some task) id → waiter_of s.loop.parts task ≡ None
+    → is_pending s.loop.parts id ≡ false → Stands out c (record body { parts = let_go_of id body.parts }) s
+stands_released out c body s task id h owns own none done = record {
   ties = let_go id h.ties;
   code = h.code;
   keeps = keeps_release h.ties body.parts s.loop.parts h.keeps id (plain_within s.loop.parts id own.plain).1 done;
-  blocks = blocks_released h.ties body.timeouts body.groups s.loop id own.plain h.blocks;
+  blocks = blocks_released h.ties body.timeouts body.groups s.loop id owns own.plain h.blocks;
   left = h.left;
   bar = h.bar;
   made = h.made;

@@ -1,4 +1,11 @@
+pub mod Called
 pub mod Serving
 pub mod Resuming
+pub mod Resumed
+pub mod Going
 pub mod Beginning
 pub mod Opening
+pub mod Begun
+pub mod First
+pub mod Ready
+pub mod Whole

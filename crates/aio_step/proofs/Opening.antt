@@ -7,6 +7,7 @@ use Rattle.model_value.specs.Value.{Outcome}
 use Rattle.model_loop.specs.Futures.{is_pending, is_pending_at, outcome_at}
 use Rattle.model_loop.specs.Handles.{revoke}
 use Rattle.model_loop.specs.Loop.{in_parts}
+use Rattle.model_loop.specs.Owning.{OwnsFutures}
 use Rattle.model_loop.specs.Parts.{Future, Task, Parts}
 use Rattle.model_loop.specs.Tasks.{begin_step, lives, next_task, set_waiter, unmark, waiter_of}
 use Rattle.model_machine.specs.Step.{given_up}
@@ -29,7 +30,9 @@ use Rattle.aio_body.specs.declared.standing.Standing.TheVariants.{Asked, Sleepin
 use Rattle.aio_body.specs.GivingUp.{given_up_in, let_go_if, let_go_of, timer_cancelled}
 use Rattle.aio_body.specs.Stands.{Setting, Stands, StandsAt}
 use Rattle.aio_step.proofs.Beginning.{change_revoke, stands_released}
-use Rattle.law_body.proofs.Given.{begun_waits, kept_begin, kept_revoked, leaves_begin, leaves_revoke, pending_kept}
+use Rattle.law_kept.proofs.Telling.{pending_kept}
+use Rattle.law_body.proofs.Kept.{kept_revoked}
+use Rattle.law_body.proofs.Left.{leaves_revoke}
 use Rattle.law_body.proofs.Lasting.{own_on, spares_none, stands_at_on, stands_on}
 
 -- ---- the machine
@@ -64,20 +67,20 @@ done_at (Some future) e = at future.outcome e
 
 -- A state in which the task waits for nothing: what it stood at is given up, in code and in the machine.
 pub gives_up : (c : Setting) (body : Body) (s : State (Unit {0})) (task : ℕ) (code : Standing) (standing : plain.Standing) → (h : Stands None c body s)
-    → StandsAt h.ties s.loop.parts s.futures task code standing → waiter_of s.loop.parts task ≡ None
+    → OwnsFutures s.loop.parts → StandsAt h.ties s.loop.parts s.futures task code standing → waiter_of s.loop.parts task ≡ None
     → Stands None c (record body { parts = given_up_in code body.parts }) (unbooked_in (given_up standing) s)
-gives_up c body s task Asked plain.Asked h at none = h
-gives_up c body s task Asked (plain.Sleeping tag) h at none = absurd at
-gives_up c body s task Asked (plain.Leaving id) h at none = absurd at
-gives_up c body s task Asked (plain.Serving key) h at none = absurd at
-gives_up c body s task (Leaving group) plain.Asked h at none = absurd at
-gives_up c body s task (Leaving group) (plain.Sleeping tag) h at none = absurd at
-gives_up c body s task (Leaving group) (plain.Leaving id) h at none = h
-gives_up c body s task (Leaving group) (plain.Serving key) h at none = absurd at
-gives_up c body s task (Sleeping timer future) plain.Asked h at none = absurd at
-gives_up c body s task (Sleeping timer future) (plain.Leaving id) h at none = absurd at
-gives_up c body s task (Sleeping timer future) (plain.Serving key) h at none = absurd at
-gives_up c body s task (Sleeping timer future) (plain.Sleeping tag) h at none = go (is_some (outcome_at (slice_get body.parts.futures future))) refl
+gives_up c body s task Asked plain.Asked h owns at none = h
+gives_up c body s task Asked (plain.Sleeping tag) h owns at none = absurd at
+gives_up c body s task Asked (plain.Leaving id) h owns at none = absurd at
+gives_up c body s task Asked (plain.Serving key) h owns at none = absurd at
+gives_up c body s task (Leaving group) plain.Asked h owns at none = absurd at
+gives_up c body s task (Leaving group) (plain.Sleeping tag) h owns at none = absurd at
+gives_up c body s task (Leaving group) (plain.Leaving id) h owns at none = h
+gives_up c body s task (Leaving group) (plain.Serving key) h owns at none = absurd at
+gives_up c body s task (Sleeping timer future) plain.Asked h owns at none = absurd at
+gives_up c body s task (Sleeping timer future) (plain.Leaving id) h owns at none = absurd at
+gives_up c body s task (Sleeping timer future) (plain.Serving key) h owns at none = absurd at
+gives_up c body s task (Sleeping timer future) (plain.Sleeping tag) h owns at none = go (is_some (outcome_at (slice_get body.parts.futures future))) refl
   where
     p : Parts
     p = s.loop.parts
@@ -94,6 +97,6 @@ gives_up c body s task (Sleeping timer future) (plain.Sleeping tag) h at none = 
         → Stands None c (record body { parts = let_go_if b future cancelled }) (unbooked_in (revoke tag) s)
     go false e = revoked
     go true e =
-        stands_released None c (record body { parts = cancelled }) (unbooked_in (revoke tag) s) task future revoked
+        stands_released None c (record body { parts = cancelled }) (unbooked_in (revoke tag) s) task future revoked owns
         (own_on None p (revoke tag p) s.futures (Some task) future (leaves_revoke tag p) (spares_none p s.futures) at.1) none
         (sym (pending_kept h.ties body.parts p h.keeps future) ∙ done_at (slice_get body.parts.futures future) e)

@@ -26,16 +26,15 @@ use Rattle.aio_body.specs.Asked.{IsInStep, IsAsking}
 use Rattle.aio_gen.specs.Gens.{StandsFor}
 use Rattle.aio_body.specs.Stands.{Setting, Stands, IsBetween, holding}
 use Rattle.aio_step.specs.Stepping.{IsServing, EndsAt, RunsAway}
-use Rattle.law_body.proofs.Given.{runs_living, kept_finish, leaves_finish, finish_done}
+use Rattle.law_kept.proofs.Calls.{kept_finish}
+use Rattle.law_body.proofs.Sound.{runs_living}
+use Rattle.law_body.proofs.Left.{finish_done, leaves_finish}
 use Rattle.law_body.proofs.Lasting.{spares_none, stands_on}
 use Rattle.law_body.proofs.Rooms.{below_appended}
 use Rattle.law_body.proofs.Slotting.{set_same, stands_resumed, stands_over, stands_dead, stood}
 
 module _ (task : ℕ) (fresh : Bool) (input : Input) (c : Setting) (body : Body) (before : Gen) (s : State (Unit {0}))
     (h : IsServing task fresh input c body before s) where
-  pub after : State (Unit {0})
-  after = resumed fresh task input s
-
   its_lives : lives s.loop.parts task ≡ true
   its_lives = runs_living task (resumed fresh task input s) h.sound
 
@@ -45,7 +44,7 @@ module _ (task : ℕ) (fresh : Bool) (input : Input) (c : Setting) (body : Body)
   its_stood : StandsFor s.program body.code (generator_of task s).coroutine (generator_of task s).arguments (generator_of task s).tape before
   its_stood = stood c body s task before h.in_step.stands its_lives
 
-  its_inside : task < length s.generators
+  pub its_inside : task < length s.generators
   its_inside = subst (λ n. task < n) (sym h.in_step.stands.told) its_within
 
   -- what the coroutine says

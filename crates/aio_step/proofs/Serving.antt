@@ -20,8 +20,9 @@ use Rattle.aio_body.specs.declared.reply.Reply.TheVariants as said
 use Rattle.aio_body.specs.Asked.{IsInStep, HasRested, Says}
 use Rattle.aio_body.specs.Stands.{Setting, holding}
 use Rattle.aio_step.specs.Stepping.{ServedAs, ServesOne, GoesOnWith, RestsAt, served_by}
+use Rattle.law_machine.proofs.Kept.{IsKept, reply_state, reply-keeps}
 use Rattle.law_inside.specs.InStep.{IsStepSound, RepliesInStep}
-use Rattle.law_body.proofs.Given.{ends_by_itself}
+use Rattle.law_body.proofs.Sound.{ends_by_itself}
 
 -- after so many answers the step goes on here
 pub record Leads (task : ℕ) (first now : State (Unit {0})) : Type 0 where
@@ -57,37 +58,43 @@ leads_end task first now went l goes within =
 
 -- What a reply makes of the step: `s` is the state in which it was asked.
 pub answered : (task : ℕ) (c : Setting) (body : Body) (coroutine : Gen) (it : Reply) (s : State (Unit {0})) (request : Request)
-    → says_of step_limit no_extra task s ≡ Asks request
+    → task < length s.generators → says_of step_limit no_extra task s ≡ Asks request
     → Says task (holding coroutine c) body it (reply no_extra task request s)
     → RepliesInStep no_extra false task (reply no_extra task request s)
     → ServesOne task c body coroutine (served_by it) s
-answered task c body coroutine it s request asks says sound =
-    at it (reply no_extra task request s) (λ go_on. ap (λ saying. served step_limit no_extra saying task go_on s) asks) says sound
+answered task c body coroutine it s request made asks says sound =
+    at it (reply no_extra task request s) (reply-keeps no_extra task request s) (λ go_on. ap (λ saying. served step_limit no_extra saying task go_on s) asks) says sound
   where
-    at : (it : Reply) (machine : plain.Reply (Unit {0}))
+    at : (it : Reply) (machine : plain.Reply (Unit {0})) → IsKept task s (reply_state machine)
         → ((go_on : State (Unit {0}) → Went (Unit {0}))
         → served step_limit no_extra (says_of step_limit no_extra task s) task go_on s ≡ taken_as machine false task go_on)
         → Says task (holding coroutine c) body it machine → RepliesInStep no_extra false task machine
         → ServesOne task c body coroutine (served_by it) s
-    at (said.Answers value) (plain.Answers v now) goes h sound =
+    at (said.Answers value) (plain.Answers v now) kept goes h sound =
         subst (λ x. GoesOnWith task (Send x) c body coroutine s) (sym h.0) (record {
           now = now;
           serving = record { in_step = h.1; sound = sound };
           goes = goes;
         })
-    at (said.Raises fault) (plain.Raises f now) goes h sound =
+    at (said.Raises fault) (plain.Raises f now) kept goes h sound =
         subst (λ x. GoesOnWith task (Throw x) c body coroutine s) (sym h.0) (record {
           now = now;
           serving = record { in_step = h.1; sound = sound };
           goes = goes;
         })
-    at said.Rests (plain.Rests now) goes h sound = record { now = now; rested = h; sound = sound; goes = goes }
-    at (said.Answers value) (plain.Raises f now) goes h sound = absurd h
-    at (said.Answers value) (plain.Rests now) goes h sound = absurd h
-    at (said.Answers value) (plain.Halts e last) goes h sound = absurd h
-    at (said.Raises fault) (plain.Answers v now) goes h sound = absurd h
-    at (said.Raises fault) (plain.Rests now) goes h sound = absurd h
-    at (said.Raises fault) (plain.Halts e last) goes h sound = absurd h
-    at said.Rests (plain.Answers v now) goes h sound = absurd h
-    at said.Rests (plain.Raises f now) goes h sound = absurd h
-    at said.Rests (plain.Halts e last) goes h sound = absurd h
+    at said.Rests (plain.Rests now) kept goes h sound = record {
+      now = now;
+      rested = h;
+      made = let more = kept.generators in omega (arith, made, more);
+      sound = sound;
+      goes = goes;
+    }
+    at (said.Answers value) (plain.Raises f now) kept goes h sound = absurd h
+    at (said.Answers value) (plain.Rests now) kept goes h sound = absurd h
+    at (said.Answers value) (plain.Halts e last) kept goes h sound = absurd h
+    at (said.Raises fault) (plain.Answers v now) kept goes h sound = absurd h
+    at (said.Raises fault) (plain.Rests now) kept goes h sound = absurd h
+    at (said.Raises fault) (plain.Halts e last) kept goes h sound = absurd h
+    at said.Rests (plain.Answers v now) kept goes h sound = absurd h
+    at said.Rests (plain.Raises f now) kept goes h sound = absurd h
+    at said.Rests (plain.Halts e last) kept goes h sound = absurd h

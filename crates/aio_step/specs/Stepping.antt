@@ -1,5 +1,5 @@
 -- A step of a task, piece by piece.
-use Rattle.std.specs.Prelude.{◌≡◌, ℕ, true, false, Bool, List, ◌∷◌, ◌++◌, Option, Some, None, Result, IfOk}
+use Rattle.std.specs.Prelude.{◌≡◌, ℕ, ◌<◌, true, false, Bool, List, ◌∷◌, ◌++◌, Option, Some, None, Result, IfOk, length}
 use Rattle.model_value.specs.Input.{Input}
 use Rattle.model_value.specs.declared.input.Input.TheVariants.{Send, Throw}
 use Rattle.model_says.specs.Says.{step_limit}
@@ -9,7 +9,7 @@ use Rattle.model_loop.specs.Parts.{Handle}
 use Rattle.model_loop.specs.Tasks.{Begun, begin_step}
 use Rattle.model_loop.specs.Ways.{steps}
 use Rattle.model_machine.specs.Extra.{no_extra}
-use Rattle.model_machine.specs.Sound.{IsStateSound}
+use Rattle.model_machine.specs.Sound.{IsStateSound, sends_made}
 use Rattle.model_machine.specs.State as plain
 use Rattle.model_machine.specs.State.{State, generator_of, noted, resumed, stands, unbooked_in}
 use Rattle.model_machine.specs.Step.{given_up, says_of, served}
@@ -54,6 +54,10 @@ pub record IsCalled (task : ℕ) (c : Setting) (body : Body) (s : State (Unit {0
 
 abbrev pub MayBegin : ℕ → Body → Type 0
 MayBegin task body = ∥ ((c : Setting) × ((s : State (Unit {0})) × IsCalled task c body s)) ∥₁
+
+-- the tasks that an input names were made
+abbrev pub HearsMade : Input → Body → Type 0
+HearsMade input body = sends_made (length body.slots.items) input ≡ true
 
 -- the machine's step, as it has begun
 abbrev pub begun_by : ℕ → Input → State (Unit {0}) → Begun
@@ -103,6 +107,7 @@ pub record GoesOnWith (task : ℕ) (next : Input) (c : Setting) (body : Body) (c
 pub record RestsAt (task : ℕ) (c : Setting) (body : Body) (coroutine : Gen) (s : State (Unit {0})) : Type 0 where
   pub now : State (Unit {0})
   pub rested : HasRested task (holding coroutine c) body now
+  pub made : task < length now.generators
   pub sound : IsStateSound no_extra now
   pub goes : ServedAs task s (λ go_on. Goes now)
 

@@ -8,7 +8,7 @@ ghost use Rattle.model_machine.specs.State.{State, resumed};
 ghost use Rattle.model_machine.specs.Step.{step, serve_all};
 ghost use Rattle.aio_body.specs.Asked.{IsDeciding, Says};
 ghost use Rattle.aio_body.specs.Stands.{Setting};
-ghost use Rattle.aio_step.specs.Stepping.{Steps, served_by, IsCalled, MayBegin, DecidesAs, MayDecideAs, HasBegun, IsServing, MayServe, ServesOne};
+ghost use Rattle.aio_step.specs.Stepping.{Steps, served_by, IsCalled, MayBegin, HearsMade, DecidesAs, MayDecideAs, HasBegun, IsServing, MayServe, ServesOne};
 
 use aio_base::{Input, Memory};
 use aio_body::{Body, Reply, Slot, Standing, reply_of};
@@ -52,7 +52,8 @@ pub fn step(
     ticket: Ticket,
     input: Input,
 ) -> Result<Stepped, Memory>
-    requires { MayBegin task body.old }
+    requires called { MayBegin task body.old }
+    requires made { HearsMade input body.old }
     ensures { IfOk result (λ went. (c : Setting) (s : State (Unit {0})) → IsCalled task c body.old s
         → Steps c body.new went (step step_limit no_extra task input s)) }
 {

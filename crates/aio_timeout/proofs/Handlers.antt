@@ -1,10 +1,9 @@
 -- The handle that a timeout keeps: it goes on being the machine's, and is no step of a task.
-use Rattle.std.proofs.Common.{◌≡◌, ℕ, ◌+◌, ◌-◌, ◌<◌, ◌≤◌, ◌^◌, Bool, true, false, not, ◌&&◌, ◌||◌, ◌==◌, List, [], ◌∷◌, ◌++◌, Option, Some, None, nat_le, nat_lt, slice_get, slice_set, refl, ap, sym, subst, ◌∙◌, arith, append_assoc, if◌then◌else◌}
+use Rattle.std.proofs.Common.{◌≡◌, ℕ, ◌+◌, ◌-◌, ◌<◌, ◌≤◌, Bool, true, false, ◌||◌, [], ◌∷◌, ◌++◌, Option, Some, None, slice_get, slice_set, refl, ap, sym, subst, ◌∙◌, arith, append_assoc, if◌then◌else◌}
 use Rattle.std.specs.List.{list_any}
 use Rattle.std.specs.Option.{option_map_or}
-use Rattle.std.proofs.lemmas.Bool.{lt-ltb, le-leb, lt-leb, eq-eqb, and_right}
+use Rattle.std.proofs.lemmas.Bool.{le-leb, lt-leb, and_right}
 use Rattle.std.proofs.lemmas.List.Folds.{list_any-append}
-use Rattle.model_value.specs.Action.{Action}
 use Rattle.model_value.specs.declared.action.Action.TheVariants.{Fires}
 use Rattle.model_loop.specs.Parts.{Task, Parts}
 use Rattle.model_loop.specs.Handles.{soon, later, revoke}
@@ -21,10 +20,10 @@ use Rattle.aio_timer.specs.declared.live.TimerId.{TimerId}
 use Rattle.aio_timer.specs.Schedule.{timer, placed_after, without, lives}
 use Rattle.aio_cancel.specs.Body.{waiting}
 use Rattle.aio_task.specs.View.{View, steps_as}
-use Rattle.aio_task.specs.Keeps.{Known, Ties, Keeps, Kept, Extends, Knows, ByHandle, ByTimer}
+use Rattle.aio_task.specs.Keeps.{Known, Ties, Keeps, Extends, Knows, ByHandle}
 use Rattle.aio_timeout.specs.declared.handler.Handler.{Handler}
 use Rattle.aio_timeout.specs.declared.handler.Handler.TheVariants.{Soon, At}
-use Rattle.aio_timeout.specs.Kept.{known_of, IsNamed, IsHandler, StepsNone}
+use Rattle.aio_timeout.specs.Kept.{known_of, IsHandler, StepsNone}
 use Rattle.aio_timeout.specs.Scheduled.{Made, fires_if, tag_if}
 use Rattle.law_handles.proofs.Appending.{extends_same, extends_still, kept_same, kept_soon}
 use Rattle.law_handles.proofs.Naming.{next_named}

@@ -1,6 +1,5 @@
 -- Each call of timeouts keeps the relation to the machine's.
-use Rattle.std.proofs.Common.{◌≡◌, ℕ, ℤ, ◌<◌, ◌≤◌, Bool, true, false, ◌&&◌, List, [], ◌∷◌, ◌++◌, Option, Some, None, length, nat_le, option_map, slice_set, slice_get, slice_index_or, refl, ap, sym, subst, ◌∙◌, arith}
-use Rattle.std.specs.List.{AllZip}
+use Rattle.std.proofs.Common.{◌≡◌, ℕ, zero, suc, ℤ, ◌<◌, ◌≤◌, Bool, true, false, ◌&&◌, List, [], ◌∷◌, ◌++◌, Option, Some, None, length, nat_le, option_map, slice_set, slice_get, slice_index_or, refl, ap, sym, subst, ◌∙◌, arith}
 use Rattle.std.specs.Option.{option_map_or}
 use Rattle.std.proofs.lemmas.Option.{slice_get_within, get_or_from_slice_get}
 use Rattle.model_value.specs.Value.{Exc}
@@ -265,3 +264,20 @@ untagged t p timeouts them id are none = at (slice_get timeouts id) refl
         let own : IsTimeout t p timeout (slice_index_or them id no_timeout) =
         subst (λ (it : Timeout). IsTimeout t p it (slice_index_or them id no_timeout)) read is in
         rw e (handler timeout.handler (slice_index_or them id no_timeout).tag own.handler none)
+
+-- whether a new deadline is refused
+pub told_refusal : (t : Ties) (l : Loop) (timeouts : List Timeout) (id : ℕ) (timeout : Timeout) → AreTimeouts t l.parts timeouts l.timeouts
+    → id < length timeouts → timeout ≡ slice_index_or timeouts id timeout → refusal (state_of timeout.state) ≡ refusal (timeout_of l id).state
+told_refusal t l timeouts id timeout are within read = ap refusal (timeout_is t l timeouts id timeout are within read).state
+
+-- ---- the handle that a timeout keeps
+pub handler_is : (timeouts : List Timeout) (id : ℕ) (timeout : Timeout) → id < length timeouts → timeout ≡ slice_index_or timeouts id timeout
+    → handler_at id timeouts ≡ timeout.handler
+handler_is [] id timeout within read = absurd (omega arith)
+handler_is (first ∷ others) zero timeout within read = ap (λ (it : Timeout). it.handler) (sym read)
+handler_is (first ∷ others) (suc id) timeout within read = handler_is others id timeout (omega arith) read
+
+pub given_up_at : (timeouts : List Timeout) (id : ℕ) (timeout : Timeout) → timeout.handler ≡ None → handler_at id (slice_set timeouts id timeout) ≡ None
+given_up_at [] id timeout e = refl
+given_up_at (first ∷ others) zero timeout e = e
+given_up_at (first ∷ others) (suc id) timeout e = given_up_at others id timeout e

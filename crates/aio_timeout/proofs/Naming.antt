@@ -1,29 +1,26 @@
 -- Where each timeout of the machine has its tag to itself, no handle that is kept steps a task.
-use Rattle.std.proofs.Common.{◌≡◌, ℕ, ◌+◌, ◌<◌, ◌≤◌, ◌⊎◌, Bool, true, false, not, cond, ◌&&◌, ◌||◌, ◌==◌, List, [], ◌∷◌, ◌++◌, Option, Some, None, length, map, nat_eq, slice_get, slice_index_or, refl, ap, sym, subst, ◌∙◌, arith, inl, inr}
+use Rattle.std.proofs.Common.{◌≡◌, ℕ, ◌+◌, ◌<◌, ◌⊎◌, Bool, true, false, not, cond, ◌&&◌, ◌==◌, List, [], ◌∷◌, Option, Some, None, length, map, slice_get, slice_index_or, refl, ap, sym, ◌∙◌, arith, inl, inr}
 use Rattle.std.specs.List.{AllByRecursion, list_any}
-use Rattle.std.proofs.lemmas.Bool.{cases_Bool, cases_lt, eqb-true, eq-eqb, false≢true, and_from, and_parts, or_from}
+use Rattle.std.proofs.lemmas.Bool.{cases_Bool, eq-eqb, false≢true, and_from, and_parts, or_from}
 use Rattle.std.proofs.lemmas.List.Sums.{sum_by-cons}
 use Rattle.std.proofs.lemmas.Option.{slice_get_within, get_or_from_slice_get}
 use Rattle.model_value.specs.Action.{Action}
-use Rattle.model_value.specs.declared.action.Action.TheVariants.{Step, StepInCircle, Wakeup, Fires}
+use Rattle.model_value.specs.declared.action.Action.TheVariants.{Step, StepInCircle, Wakeup}
 use Rattle.model_loop.specs.Parts as plain
 use Rattle.model_loop.specs.Parts.{Parts}
-use Rattle.model_loop.specs.Loop as loop
 use Rattle.model_loop.specs.Loop.{Loop}
-use Rattle.model_loop.specs.Timeouts.{no_timeout, timeout_of}
+use Rattle.model_loop.specs.Timeouts.{timeout_of}
 use Rattle.model_loop.specs.Deadlines.{fires, others_as, HasTag}
 use Rattle.model_loop.specs.Entries.{handles_where, entries}
-use Rattle.aio_ready.specs.declared.handle.Handle.{Handle}
 use Rattle.aio_ready.specs.declared.handle.HandleId.{HandleId}
 use Rattle.aio_ready.specs.declared.handle.Name.{Name}
 use Rattle.aio_ready.specs.Names.{is_same}
-use Rattle.aio_cancel.specs.Body.{waiting}
 use Rattle.aio_task.specs.View.{View, is_step, steps_as, NamesNoStep}
 use Rattle.aio_task.specs.Keeps.{Ties, Keeps, Knows, ByHandle, handle_as, name_of}
 use Rattle.aio_timeout.specs.declared.handler.Handler.{Handler}
 use Rattle.aio_timeout.specs.declared.handler.Handler.TheVariants.{Soon, At}
 use Rattle.aio_timeout.specs.declared.timeout.Timeout.{Timeout}
-use Rattle.aio_timeout.specs.Kept.{IsHandler, IsTimeout, KeepsTimeouts, StepsNone, handler_at}
+use Rattle.aio_timeout.specs.Kept.{IsHandler, KeepsTimeouts, StepsNone, handler_at}
 use Rattle.law_handles.proofs.Appending.{waiting_kept}
 use Rattle.law_handles.proofs.Naming.{tags_pending}
 use Rattle.aio_timeout.proofs.Keeping.{timeout_is}

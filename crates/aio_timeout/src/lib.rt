@@ -1,13 +1,18 @@
 //! Timeouts: blocks of tasks that are cut off at a deadline.
 #![tactic(auto)]
 
+mod delay;
 mod handler;
 pub mod laws;
 mod state;
 mod timeout;
 mod timeouts;
 
+pub use delay::deadline;
 pub use handler::Handler;
 pub use state::{Rescheduled, TimeoutExit, TimeoutState, timeout_fault};
 pub use timeout::Timeout;
 pub use timeouts::Timeouts;
+
+#[cfg(test)]
+mod tests;

@@ -60,6 +60,11 @@ keeps_release t v p k id within done = telling.keeps_release t v p k id within d
 
 pub kept_later : (t : Ties) (v : View) (p : Parts) → Keeps t v p → (when : ℕ) (action : Action)
     → Kept t p
-    (record v { schedule = record { live = placed_after (timer (record { number = v.schedule.next; when = when }) action) v.schedule.live; next = v.schedule.next + 1 } })
+    (record v {
+      schedule = record {
+        live = placed_after (timer (record { number = v.schedule.next; when = when }) action) v.schedule.live;
+        next = v.schedule.next + 1;
+      };
+    })
     (later when action p)
 kept_later t v p k when action = (scheduling.kept_later t v p k when action).0

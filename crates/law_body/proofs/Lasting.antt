@@ -101,8 +101,8 @@ stands_by new out c old s v change h kept leaves spares same left below = record
     right = record {
       waits = it.right.waits;
       standing =
-          stands_at_on new h.ties kept.ties s.loop.parts (change s.loop).parts s.futures task it.slot.standing (generator_of task s).standing leaves spares kept.extends
-          it.right.standing;
+          stands_at_on new h.ties kept.ties s.loop.parts (change s.loop).parts s.futures task it.slot.standing (generator_of task s).standing leaves spares
+          kept.extends it.right.standing;
     };
   };
   gone = λ id e. own_on new s.loop.parts (change s.loop).parts s.futures None id leaves spares (h.gone id (sym (ap (λ f. f id) kept.extends.gone) ∙ e));

@@ -135,7 +135,8 @@ makes_so task c old new s v h owns is beside items few =
           stands_on None (Some task) c (record old { futures = new.futures }) (record s { futures = s.futures ++ next_future s.loop.parts ∷ [] }) v
           (in_parts new_plain) named
           (subst (λ x. Kept named.ties s.loop.parts x (new_plain s.loop.parts)) (sym is) (kept_plain named.ties old.parts s.loop.parts named.keeps))
-          (leaves_plain s.loop.parts (own_there s.loop.parts owns)) (spares_none s.loop.parts (s.futures ++ next_future s.loop.parts ∷ [])) (refl, refl) (ap (λ (x : View). length x.queue.below) is);
+          (leaves_plain s.loop.parts (own_there s.loop.parts owns)) (spares_none s.loop.parts (s.futures ++ next_future s.loop.parts ∷ [])) (refl, refl)
+          (ap (λ (x : View). length x.queue.below) is);
       called = ap (λ (x : View). x.called) is ∙ h.called;
       running = ap (λ (x : View). x.running) is ∙ h.running;
     })

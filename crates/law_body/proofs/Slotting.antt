@@ -61,7 +61,8 @@ pub runs_no_other : (task other : ℕ) → (task ≡ other → ⊥) → is_runni
 runs_no_other task other n = ne_eqb task other n
 
 -- What a task stands at changes, in code and in the machine, while its coroutine is taken out.
-pub stands_standing : (c : Setting) (old new : Body) (s : State (Unit {0})) (task : ℕ) (code : Standing) (standing : plain.Standing) → (h : Stands (Some task) c old s)
+pub stands_standing : (c : Setting) (old new : Body) (s : State (Unit {0})) (task : ℕ) (code : Standing) (standing : plain.Standing)
+    → (h : Stands (Some task) c old s)
     → StandsAt h.ties s.loop.parts s.futures task code standing → new ≡ record old { slots = new.slots }
     → new.slots.items ≡ standing_at task code old.slots.items → task < next_task s.loop.parts
     → Stands (Some task) c new (stands standing task s)
@@ -110,7 +111,8 @@ stands_standing c old new s task code standing h at_it beside items within = sub
             old_one.right.standing;
       };
     }
-    has other l (inl same) = subst (λ k. HasSlot (Some task) c.coroutine h.ties old.code new.slots.items now k) same (own (h.held task (subst (λ k. lives s.loop.parts k ≡ true) (sym same) l)))
+    has other l (inl same) = subst (λ k. HasSlot (Some task) c.coroutine h.ties old.code new.slots.items now k) same
+        (own (h.held task (subst (λ k. lives s.loop.parts k ≡ true) (sym same) l)))
       where
         own : HasSlot (Some task) c.coroutine h.ties old.code old.slots.items s task → HasSlot (Some task) c.coroutine h.ties old.code new.slots.items now task
         own old_one = record {
@@ -166,7 +168,8 @@ stands_back c old new s task coroutine h beside items = subst (λ b. Stands None
         standing = old_one.right.standing;
       };
     }
-    has other l (inl same) = subst (λ k. HasSlot None c.coroutine h.ties old.code new.slots.items s k) same (own (h.held task (subst (λ k. lives s.loop.parts k ≡ true) (sym same) l)))
+    has other l (inl same) = subst (λ k. HasSlot None c.coroutine h.ties old.code new.slots.items s k) same
+        (own (h.held task (subst (λ k. lives s.loop.parts k ≡ true) (sym same) l)))
       where
         own : HasSlot (Some task) (Some coroutine) h.ties old.code old.slots.items s task → HasSlot None c.coroutine h.ties old.code new.slots.items s task
         own old_one = record {
@@ -181,7 +184,8 @@ stands_back c old new s task coroutine h beside items = subst (λ b. Stands None
         }
 
 -- A task that is done needs no coroutine.
-pub stands_over : (c : Setting) (body : Body) (s : State (Unit {0})) (task : ℕ) (coroutine : Gen) → (h : Stands (Some task) (holding coroutine c) body s) → lives s.loop.parts task ≡ false
+pub stands_over : (c : Setting) (body : Body) (s : State (Unit {0})) (task : ℕ) (coroutine : Gen)
+    → (h : Stands (Some task) (holding coroutine c) body s) → lives s.loop.parts task ≡ false
     → Stands None c body s
 stands_over c body s task coroutine h done = record {
   ties = h.ties;
@@ -297,7 +301,8 @@ stands_resumed c body s task fresh input before now h within goes = record {
         waits =
             subst (λ g. WaitsAs s.program body.code g (coroutine_in (is_running (Some task) other) (Some now) old_one.slot.coroutine))
             (sym (set_other task other it s n))
-            (subst (λ b. WaitsAs s.program body.code (generator_of other s) (coroutine_in b (Some now) old_one.slot.coroutine)) (sym (runs_no_other task other n))
+            (subst (λ b. WaitsAs s.program body.code (generator_of other s) (coroutine_in b (Some now) old_one.slot.coroutine))
+            (sym (runs_no_other task other n))
             (subst (λ b. WaitsAs s.program body.code (generator_of other s) (coroutine_in b (Some before) old_one.slot.coroutine)) (runs_no_other task other n)
             old_one.right.waits));
         standing =
@@ -309,13 +314,15 @@ stands_resumed c body s task fresh input before now h within goes = record {
         subst (λ k. HasSlot (Some task) (Some now) h.ties body.code body.slots.items after k) same
         (own (h.held task (subst (λ k. lives s.loop.parts k ≡ true) (sym same) l)))
       where
-        own : HasSlot (Some task) (Some before) h.ties body.code body.slots.items s task → HasSlot (Some task) (Some now) h.ties body.code body.slots.items after task
+        own : HasSlot (Some task) (Some before) h.ties body.code body.slots.items s task
+            → HasSlot (Some task) (Some now) h.ties body.code body.slots.items after task
         own old_one = record {
           slot = old_one.slot;
           found = old_one.found;
           right = record {
             waits =
-                subst (λ g. WaitsAs s.program body.code g (coroutine_in (is_running (Some task) task) (Some now) old_one.slot.coroutine)) (sym (set_same task it s inside))
+                subst (λ g. WaitsAs s.program body.code g (coroutine_in (is_running (Some task) task) (Some now) old_one.slot.coroutine))
+                (sym (set_same task it s inside))
                 (subst (λ b. WaitsAs s.program body.code it (coroutine_in b (Some now) old_one.slot.coroutine)) (sym (runs_itself task))
                 (goes (subst (λ b. WaitsAs s.program body.code (generator_of task s) (coroutine_in b (Some before) old_one.slot.coroutine)) (runs_itself task)
                 old_one.right.waits)));

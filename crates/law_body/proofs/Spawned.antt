@@ -119,7 +119,8 @@ stands_made out c old held s v groups change coroutine arguments h kept more blo
     has : (task : ℕ) → (lives p task ≡ true) ⊎ (task ≡ next_task p) → HasSlot out c.coroutine kept.ties old.code held.slots.items now task
     has task (inl l) = record {
       slot = one.slot;
-      found = ap (λ (xs : List Slot). slice_get xs task) holds.slots ∙ get-push_other old.slots.items holds.slot task (λ e. absurd (omega (arith, e, within, made))) ∙ one.found;
+      found = ap (λ (xs : List Slot). slice_get xs task) holds.slots
+          ∙ get-push_other old.slots.items holds.slot task (λ e. absurd (omega (arith, e, within, made))) ∙ one.found;
       right = record {
         waits = subst (λ g. WaitsAs s.program old.code g (coroutine_in (is_running out task) c.coroutine one.slot.coroutine)) (sym same) one.right.waits;
         standing =

@@ -1,0 +1,30 @@
+use Rattle.std.proofs.Common.{subst, sym}
+use Rattle.model_loop.specs.Groups.{begin_exit, take_back, abort_if_raised}
+use Rattle.aio_group.specs.Stands.{Steps}
+use Rattle.aio_group.proofs.Going.{then_moves}
+use Rattle.aio_group.proofs.Standing.{then_steps}
+use Rattle.aio_group.proofs.Stepping.{begin_steps}
+use Rattle.aio_group.proofs.Exiting.{begun_same}
+use Rattle.aio_group.proofs.exits.begin.Goals as goal
+
+pub returns-clause-same : goal.returns-clause-same
+returns-clause-same c =
+    begun_same c.args.group.now c.set_exiting.new.self c.take_back.new.group c.abort_if.new.group _ _ c.set_exiting.ensures
+    c.take_back.ensures.same c.abort_if.ensures.same
+
+pub returns-clause-moves : goal.returns-clause-moves
+returns-clause-moves c =
+    then_moves c.args.parts.now c.take_back.new.parts c.abort_if.new.parts c.take_back.ensures.moves c.abort_if.ensures.moves
+
+pub returns-clause-steps : goal.returns-clause-steps
+returns-clause-steps c =
+    let a = c.args.group.now in
+    let b = c.set_exiting.new.self in
+    let d = c.take_back.new.group in
+    let v = c.args.parts.now in
+    let w = c.take_back.new.parts in
+    let raised = c.args.raised in
+    let first : Steps a v b v (begin_exit raised) = subst (λ h. Steps a v h v (begin_exit raised)) (sym c.set_exiting.ensures) (begin_steps a v raised) in
+    then_steps a d c.abort_if.new.group v w c.abort_if.new.parts (λ id l. take_back id (begin_exit raised id l)) (abort_if_raised raised)
+    (then_steps a b d v v w (begin_exit raised) take_back first c.take_back.ensures.steps)
+    (c.abort_if.ensures.steps raised c.is_some-failed.ensures)

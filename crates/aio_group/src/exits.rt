@@ -1,0 +1,179 @@
+//! A group's exit.
+ghost use Rattle.std.specs.Prelude.{◌≡◌, ◌++◌, ◌&&◌, not, is_some, ◌∷◌, [], ℕ, true, false, None, Some, Option, IfOk, OnOk, OnErr, length};
+ghost use Rattle.std.specs.Option.{option_copied};
+ghost use Rattle.model_value.specs.Value.{Exc as PlainExc};
+ghost use Rattle.model_value.specs.declared.input.Input.TheVariants as input;
+ghost use Rattle.model_loop.specs.Children.{failures};
+ghost use Rattle.model_loop.specs.Groups as plain;
+ghost use Rattle.model_loop.specs.Parts.{Plain};
+ghost use Rattle.model_loop.specs.Tasks.{waiter_of};
+ghost use Rattle.aio_task.specs.View.{parts as parts_of};
+ghost use Rattle.aio_group.specs.Held.{listed, failing};
+ghost use Rattle.aio_group.specs.Answers.{fault_of, exit_of};
+ghost use Rattle.aio_group.specs.GoesOn.{Moves};
+ghost use Rattle.aio_group.specs.Exits.{begun, heard, IsNext, Exits};
+ghost use Rattle.aio_group.specs.Stands.{Belongs, Steps};
+ghost use Rattle.aio_group.specs.declared.exit.Next.TheVariants as next;
+
+use crate::abort::abort;
+use crate::exit::{GroupExit, Next};
+use crate::failures::{fault_of, is_cancelled};
+use crate::group::Group;
+use aio_base::{Exc, Input, Memory};
+use aio_task::Parts;
+use std::alloc::Global;
+
+// How the exit goes on, with all the memory that it takes. What comes before it cancels tasks and makes none, so the
+// future that is made here has the number of one made last.
+fn next(alloc: Global, group: &Group, body: Option<&Exc>, parts: &mut Parts) -> Result<Next, Memory>
+    requires idle { parts.old.called ≡ None }
+    ensures moves { Moves parts.old parts.new }
+    ensures next { IfOk result (λ next. IsNext group.now (option_copied body.entry) parts.old next parts.new) }
+    ensures err { OnErr result (parts.new ≡ parts.old) }
+{
+    if group.is_empty() {
+        let fault = fault_of(alloc, group.failed(), body, parts)?;
+        Ok(Next::Ends(fault))
+    } else {
+        parts.keeps();
+        let future = parts.new_plain(alloc)?;
+        Ok(Next::Waits(future))
+    }
+}
+
+// The exception with which the block ended, where it is a failure.
+fn failure_in(raised: &Option<Exc>) -> Option<&Exc>
+    ensures { option_copied result ≡ failing raised.now }
+{
+    match raised {
+        Some(fault) if !is_cancelled(fault) => Some(fault),
+        _ => None,
+    }
+}
+
+// The group's own request is taken back. Where no other cancel of the parent is left, nothing is kept.
+fn take_back(group: &mut Group, parts: &mut Parts)
+    requires idle { parts.old.called ≡ None }
+    ensures same { group.new ≡ record group.old { kept = group.new.kept } }
+    ensures moves { Moves parts.old parts.new }
+    ensures steps { Steps group.old parts.old group.new parts.new plain.take_back }
+{
+    if !group.has_requested() {
+        return;
+    }
+    let left = parts.uncancel(group.parent());
+    if left == 0 {
+        group.drop_kept();
+    }
+}
+
+// A body that raised aborts the group.
+fn abort_if(failed: bool, group: &mut Group, parts: &mut Parts)
+    requires idle { parts.old.called ≡ None }
+    ensures same { group.new ≡ record group.old { aborting = group.new.aborting } }
+    ensures moves { Moves parts.old parts.new }
+    ensures steps { (raised : Option PlainExc) → failed ≡ is_some raised
+        → Steps group.old parts.old group.new parts.new (plain.abort_if_raised raised) }
+{
+    if !failed {
+        return;
+    }
+    if group.aborts() {
+        return;
+    }
+    abort(group, parts);
+}
+
+// What the block's end does before the exit waits or ends.
+fn begin(group: &mut Group, raised: Option<Exc>, parts: &mut Parts)
+    requires idle { parts.old.called ≡ None }
+    ensures same { group.new ≡ record group.old {
+      exiting = true;
+      aborting = group.new.aborting;
+      body = failing raised;
+      kept = group.new.kept;
+    } }
+    ensures moves { Moves parts.old parts.new }
+    ensures steps { Steps group.old parts.old group.new parts.new (begun raised) }
+{
+    let failed = raised.is_some();
+    group.set_exiting(raised);
+    take_back(group, parts);
+    abort_if(failed, group, parts);
+}
+
+// A cancel of the parent is kept and aborts the group, unless the group aborts already.
+fn hear_cancel(group: &mut Group, fault: Exc, parts: &mut Parts)
+    requires idle { parts.old.called ≡ None }
+    ensures same { group.new ≡ record group.old {
+      aborting = group.new.aborting;
+      kept = group.new.kept;
+      exit_future = None;
+    } }
+    ensures moves { Moves parts.old parts.new }
+    ensures steps { Steps group.old parts.old group.new parts.new (heard (input.Throw fault)) }
+{
+    group.wake();
+    if group.aborts() {
+        return;
+    }
+    group.keep(fault);
+    abort(group, parts);
+}
+
+// What wakes the exit is heard.
+fn hear(group: &mut Group, input: Input, parts: &mut Parts)
+    requires idle { parts.old.called ≡ None }
+    ensures same { group.new ≡ record group.old {
+      aborting = group.new.aborting;
+      kept = group.new.kept;
+      exit_future = None;
+    } }
+    ensures moves { Moves parts.old parts.new }
+    ensures steps { Steps group.old parts.old group.new parts.new (heard input) }
+{
+    match input {
+        Input::Send(_value) => group.wake(),
+        Input::Throw(fault) => hear_cancel(group, fault, parts),
+    }
+}
+
+/// The block ends, by an exception or by none.
+pub fn exit_begin(
+    alloc: Global,
+    raised: Option<Exc>,
+    group: &mut Group,
+    parts: &mut Parts,
+) -> Result<GroupExit, Memory>
+    requires idle { parts.old.called ≡ None }
+    requires belongs { Belongs parts.old group.old }
+    requires fresh { group.old.exiting ≡ false }
+    ensures moves { Moves parts.old parts.new }
+    ensures belongs { Belongs parts.new group.new }
+    ensures steps { IfOk result (λ exit. Exits group.old parts.old group.new parts.new (plain.exit_begin raised) exit) }
+    ensures err { OnErr result ((group.new ≡ group.old) × (parts.new ≡ parts.old)) }
+{
+    let next = next(alloc, group, failure_in(&raised), parts)?;
+    begin(group, raised, parts);
+    Ok(group.go_on(next))
+}
+
+/// The exit goes on after its wait.
+pub fn exit_woken(
+    alloc: Global,
+    input: Input,
+    group: &mut Group,
+    parts: &mut Parts,
+) -> Result<GroupExit, Memory>
+    requires idle { parts.old.called ≡ None }
+    requires belongs { Belongs parts.old group.old }
+    requires going { (group.old.exiting && not group.old.ended) ≡ true }
+    ensures moves { Moves parts.old parts.new }
+    ensures belongs { Belongs parts.new group.new }
+    ensures steps { IfOk result (λ exit. Exits group.old parts.old group.new parts.new (plain.exit_woken input) exit) }
+    ensures err { OnErr result ((group.new ≡ group.old) × (parts.new ≡ parts.old)) }
+{
+    let next = next(alloc, group, group.body(), parts)?;
+    hear(group, input, parts);
+    Ok(group.go_on(next))
+}

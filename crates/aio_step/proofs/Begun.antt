@@ -1,0 +1,190 @@
+-- A step has begun: what the parts, the task's slot and the machine come to.
+use Rattle.std.proofs.Common.{◌≡◌, ℕ, ◌<◌, Bool, true, false, List, [], Option, Some, None, length, slice_get, slice_set, if◌then◌else◌, ◌∙◌, refl, sym, ap, subst}
+use Rattle.std.specs.Option.{option_map_or}
+use Rattle.std.specs.Prelude.{is_some}
+use Rattle.std.proofs.lemmas.Bool.{eq-eqb}
+use Rattle.model_value.specs.Input.{Input}
+use Rattle.model_loop.specs.Futures.{outcome_at}
+use Rattle.model_loop.specs.Loop.{in_parts}
+use Rattle.model_loop.specs.Owning.{OwnsFutures}
+use Rattle.model_loop.specs.Parts.{Future, Parts, Task}
+use Rattle.model_loop.specs.Tasks.{begin_step, cancelling_input, is_marked, lives, next_task, waiter_of}
+use Rattle.model_machine.specs.Extra.{no_extra}
+use Rattle.model_machine.specs.State as plain
+use Rattle.model_machine.specs.State.{State, generator_of, stands, unbooked_in}
+use Rattle.model_machine.specs.Step.{given_up}
+use Rattle.law_cancel.proofs.Effects.{change_task-futures}
+use Rattle.aio_task.specs.View.{View, parts}
+use Rattle.aio_task.specs.Keeps.{Ties, Becomes}
+use Rattle.aio_gen.specs.declared.generator.Gen.{Gen}
+use Rattle.aio_body.specs.declared.body.Body.{Body}
+use Rattle.aio_body.specs.declared.standing.Slot.{Slot}
+use Rattle.aio_body.specs.declared.standing.Standing.{Standing}
+use Rattle.aio_body.specs.declared.standing.Standing.TheVariants.{Asked, Sleeping, Leaving}
+use Rattle.aio_body.specs.Asked.{IsInStep}
+use Rattle.aio_body.specs.GivingUp.{given_up_in, let_go_if, timer_cancelled}
+use Rattle.aio_body.specs.Slots.{no_slot}
+use Rattle.aio_body.specs.Stands.{Setting, Stands, HasSlot, StandsAt, holding}
+use Rattle.law_body.proofs.Kept.{input_kept, kept_begin}
+use Rattle.law_body.proofs.Left.{begun_waits, leaves_begin}
+use Rattle.law_body.proofs.Lasting.{spares_none, stands_on}
+use Rattle.aio_step.specs.Stepping.{IsCalled, DecidesAs, HasBegun, begun_by, begun_in}
+use Rattle.aio_step.proofs.Beginning.{stands_taken}
+use Rattle.aio_step.proofs.Called.{called_asked, called_asking, called_leaving, called_within}
+use Rattle.aio_step.proofs.Opening.{begin_revoke, gives_up}
+
+-- ---- the machine gives up first
+given_up_begun : (standing : plain.Standing) (task : ℕ) (input : Input) (p : Parts)
+    → given_up standing (begin_step task input p).parts ≡ (begin_step task input (given_up standing p)).parts
+given_up_begun plain.Asked task input p = refl
+given_up_begun (plain.Sleeping tag) task input p = sym (begin_revoke task input tag p)
+given_up_begun (plain.Leaving group) task input p = refl
+given_up_begun (plain.Serving key) task input p = refl
+
+given_up_heard : (standing : plain.Standing) (task : ℕ) (input : Input) (p : Parts)
+    → (begin_step task input p).input ≡ (begin_step task input (given_up standing p)).input
+given_up_heard plain.Asked task input p = refl
+given_up_heard (plain.Sleeping tag) task input p = refl
+given_up_heard (plain.Leaving group) task input p = refl
+given_up_heard (plain.Serving key) task input p = refl
+
+given_up_tasks : (standing : plain.Standing) (p : Parts) → next_task (given_up standing p) ≡ next_task p
+given_up_tasks plain.Asked p = refl
+given_up_tasks (plain.Sleeping tag) p = refl
+given_up_tasks (plain.Leaving group) p = refl
+given_up_tasks (plain.Serving key) p = refl
+
+given_up_lives : (standing : plain.Standing) (p : Parts) (task : ℕ) → lives (given_up standing p) task ≡ lives p task
+given_up_lives plain.Asked p task = refl
+given_up_lives (plain.Sleeping tag) p task = refl
+given_up_lives (plain.Leaving group) p task = refl
+given_up_lives (plain.Serving key) p task = refl
+
+given_up_owns : (standing : plain.Standing) (p : Parts) → OwnsFutures (given_up standing p) → OwnsFutures p
+given_up_owns plain.Asked p owns = owns
+given_up_owns (plain.Sleeping tag) p owns = owns
+given_up_owns (plain.Leaving group) p owns = owns
+given_up_owns (plain.Serving key) p owns = owns
+
+-- ---- the view
+let_go_calls : (b : Bool) (id : ℕ) (v : View) → (let_go_if b id v).called ≡ v.called
+let_go_calls true id v = refl
+let_go_calls false id v = refl
+
+let_go_runs : (b : Bool) (id : ℕ) (v : View) → (let_go_if b id v).running ≡ v.running
+let_go_runs true id v = refl
+let_go_runs false id v = refl
+
+given_calls : (standing : Standing) (v : View) → (given_up_in standing v).called ≡ v.called
+given_calls Asked v = refl
+given_calls (Sleeping timer future) v = let_go_calls (is_some (outcome_at (slice_get v.futures future))) future (timer_cancelled timer v)
+given_calls (Leaving group) v = refl
+
+given_runs : (standing : Standing) (v : View) → (given_up_in standing v).running ≡ v.running
+given_runs Asked v = refl
+given_runs (Sleeping timer future) v = let_go_runs (is_some (outcome_at (slice_get v.futures future))) future (timer_cancelled timer v)
+given_runs (Leaving group) v = refl
+
+-- ---- what it stood at
+pub stood_decides : (t : Ties) (p : Parts) (named : List ℕ) (task : ℕ) (code : Standing) (standing : plain.Standing)
+    → StandsAt t p named task code standing → DecidesAs code standing
+stood_decides t p named task Asked plain.Asked at = tt
+stood_decides t p named task Asked (plain.Sleeping tag) at = at
+stood_decides t p named task Asked (plain.Leaving id) at = at
+stood_decides t p named task Asked (plain.Serving key) at = at
+stood_decides t p named task (Sleeping timer future) plain.Asked at = at
+stood_decides t p named task (Sleeping timer future) (plain.Sleeping tag) at = tt
+stood_decides t p named task (Sleeping timer future) (plain.Leaving id) at = at
+stood_decides t p named task (Sleeping timer future) (plain.Serving key) at = at
+stood_decides t p named task (Leaving group) plain.Asked at = at
+stood_decides t p named task (Leaving group) (plain.Sleeping tag) at = at
+stood_decides t p named task (Leaving group) (plain.Leaving id) at = at
+stood_decides t p named task (Leaving group) (plain.Serving key) at = at
+
+module _ (task : ℕ) (input : Input) (c : Setting) (body : Body) (s : State (Unit {0})) (h : IsCalled task c body s)
+    (v : View) (after : parts v ≡ (begin_step task input (parts body.parts)).parts)
+    (beside : v ≡ record body.parts { tasks = v.tasks; running = Some task; called = None }) where
+  abbrev stood : plain.Standing
+  stood = (generator_of task s).standing
+
+  -- the loop's step, before anything is given up
+  abbrev begun : State (Unit {0})
+  begun = unbooked_in (λ p. (begin_step task input p).parts) s
+
+  stands_begun : Stands None c (record body { parts = v }) begun
+  stands_begun =
+      stands_on None None c body s v (in_parts (λ p. (begin_step task input p).parts)) h.stands
+      (kept_begin h.stands.ties body.parts v s.loop.parts h.stands.keeps task input (record {
+        parts = after;
+        queue = ([], ap (λ (x : View). x.queue) beside);
+        time = ap (λ (x : View). x.time) beside;
+        schedule = ap (λ (x : View). x.schedule) beside;
+      }))
+      (leaves_begin task input s.loop.parts) (spares_none s.loop.parts s.futures) (refl, refl)
+      (ap (λ (x : View). length x.queue.below) beside)
+
+  same_parts : given_up stood begun.loop.parts ≡ (begun_by task input s).parts
+  same_parts = given_up_begun stood task input s.loop.parts
+
+  begun_lives : lives begun.loop.parts task ≡ true
+  begun_lives =
+      sym (given_up_lives stood begun.loop.parts task) ∙ ap (λ q. lives q task) same_parts
+      ∙ (called_asked task c body s h input).others.loop.parts.runs task (eq-eqb task task refl)
+
+  begun_owns : OwnsFutures begun.loop.parts
+  begun_owns =
+      given_up_owns stood begun.loop.parts
+      (subst OwnsFutures (sym same_parts) (called_asked task c body s h input).others.loop.parts.owns)
+
+  abbrev begun_has : HasSlot None c.coroutine stands_begun.ties body.code body.slots.items begun task
+  begun_has = stands_begun.held task begun_lives
+
+  some_is : (a b : Slot) → Some a ≡ Some b → a ≡ b
+  some_is a b e = cc
+
+  module _ (slot : Slot) (coroutine : Gen) (there : slice_get body.slots.items task ≡ Some slot) (its : slot.coroutine ≡ Some coroutine) where
+    stood_at : StandsAt stands_begun.ties begun.loop.parts s.futures task slot.standing (generator_of task s).standing
+    stood_at =
+        subst (λ (x : Slot). StandsAt stands_begun.ties begun.loop.parts s.futures task x.standing (generator_of task s).standing)
+        (some_is begun_has.slot slot (sym begun_has.found ∙ there)) begun_has.right.standing
+
+    abbrev given : Body
+    given = record body { parts = given_up_in slot.standing v }
+
+    stands_given : Stands None c given (unbooked_in (λ p. (begun_by task input s).parts) s)
+    stands_given =
+        subst (λ q. Stands None c given (unbooked_in (λ p. q) s)) same_parts
+        (gives_up c (record body { parts = v }) begun task slot.standing (generator_of task s).standing stands_begun begun_owns stood_at (begun_waits task input s.loop.parts))
+
+    within : task < next_task (begun_by task input s).parts
+    within = subst (λ n. task < n) (sym h.stands.told ∙ stands_given.told) (called_within task c body s h)
+
+    begins_so : (new : Body) → new ≡ record body { parts = given_up_in slot.standing v; slots = new.slots }
+        → new.slots.items ≡ slice_set body.slots.items task no_slot
+        → HasBegun task input c s (record { coroutine = coroutine; standing = slot.standing; input = (begin_step task input (parts body.parts)).input }) new
+    begins_so new same items = record {
+      deciding = record {
+        in_step = record {
+          stands =
+              stands_taken c given new (unbooked_in (λ p. (begun_by task input s).parts) s) task slot coroutine stands_given there its within same items;
+          called = ap (λ (x : Body). x.parts.called) same ∙ given_calls slot.standing v ∙ ap (λ (x : View). x.called) beside;
+          running = ap (λ (x : Body). x.parts.running) same ∙ given_runs slot.standing v ∙ ap (λ (x : View). x.running) beside;
+        };
+        request = (called_asking task c body s h).asked;
+        asked = called_asked task c body s h input;
+        leaving = called_leaving task c body s h input;
+      };
+      heard = input_kept h.stands.ties body.parts s.loop.parts h.stands.keeps task input ∙ given_up_heard (generator_of task s).standing task input s.loop.parts;
+      decides = stood_decides stands_begun.ties begun.loop.parts s.futures task slot.standing (generator_of task s).standing stood_at;
+    }
+
+    -- by what taking the coroutine out leaves, and then giving up
+    pub begins_as : (taken new : Body) → taken ≡ record body { parts = v; slots = taken.slots }
+        → taken.slots.items ≡ slice_set body.slots.items task no_slot → new ≡ record taken { parts = given_up_in slot.standing taken.parts }
+        → HasBegun task input c s (record { coroutine = coroutine; standing = slot.standing; input = (begin_step task input (parts body.parts)).input }) new
+    begins_as taken new beside items gives =
+        begins_so new (whole ∙ ap (λ x. record body { parts = given_up_in slot.standing v; slots = x }) (sym (ap (λ (b : Body). b.slots) whole)))
+        (ap (λ (b : Body). b.slots.items) gives ∙ items)
+      where
+        whole : new ≡ record body { parts = given_up_in slot.standing v; slots = taken.slots }
+        whole = gives ∙ ap (λ (b : Body). record b { parts = given_up_in slot.standing b.parts }) beside

@@ -1,0 +1,89 @@
+-- What a call may do where there is a state that is stood for, whichever it is.
+use Rattle.std.proofs.Common.{◌≡◌, ℕ, ◌<◌, Bool, true, false, List, Option, Some, None, length, slice_get, ◌∙◌, refl, sym, ap, subst}
+use Rattle.std.proofs.Math.Logic.{∥∥₁_elim, ∥∥₁_map}
+use Rattle.std.specs.Coded.{le_prop, Unit-prop}
+use Rattle.model_value.specs.Input.{Input}
+use Rattle.model_value.specs.Request.{Request}
+use Rattle.model_loop.specs.Owning.{owner_at}
+use Rattle.model_loop.specs.Parts.{Parts}
+use Rattle.model_machine.specs.State as plain
+use Rattle.model_machine.specs.State.{State, generator_of}
+use Rattle.law_cancel.proofs.Lookups.{get_within}
+use Rattle.law_kept.proofs.Telling.{owner_kept}
+use Rattle.law_settling.proofs.CancelSound.{plain_within}
+use Rattle.aio_gen.specs.declared.generator.Gen.{Gen}
+use Rattle.aio_task.specs.Keeps.{Ties, Keeps}
+use Rattle.aio_task.specs.View.{View}
+use Rattle.aio_timer.specs.declared.live.TimerId.{TimerId}
+use Rattle.aio_body.specs.declared.body.Body.{Body}
+use Rattle.aio_body.specs.declared.standing.Slot.{Slot}
+use Rattle.aio_body.specs.declared.standing.Standing.{Standing}
+use Rattle.aio_body.specs.declared.standing.Standing.TheVariants.{Asked, Sleeping, Leaving}
+use Rattle.aio_body.specs.Asked.{IsDeciding, MayDecide}
+use Rattle.aio_body.specs.GivingUp.{IsNoTasks}
+use Rattle.aio_body.specs.Stands.{Setting, StandsAt, WaitsAs, holding}
+use Rattle.law_body.proofs.May.{same_prop}
+use Rattle.aio_step.specs.declared.steps.Started.{Started}
+use Rattle.aio_step.specs.Stepping.{DecidesAs, HasBegun, IsCalled, IsServing, MayBegin, MayDecideAs, MayServe, begun_in}
+use Rattle.aio_step.proofs.Called.{called_own, called_slot, own_slot}
+use Rattle.aio_step.proofs.First.{leaving_is}
+
+-- ---- a step begins
+module _ (task : ℕ) (body : Body) (may : MayBegin task body) where
+  pub begin_called : body.parts.called ≡ Some task
+  begin_called = ∥∥₁_elim may (same_prop body.parts.called (Some task)) (λ w. w.1.1.called)
+
+  pub begin_alone : body.parts.running ≡ None
+  begin_alone = ∥∥₁_elim may (same_prop body.parts.running None) (λ w. w.1.1.running)
+
+  pub begin_there : task < length body.slots.items
+  begin_there = ∥∥₁_elim may le_prop (λ w. called_slot task w.0 body w.1.0 w.1.1)
+
+  -- the future of a sleep is no task's
+  at_sleep : (t : Ties) (p : Parts) (named : List ℕ) (timer : TimerId) (future : ℕ) (v : View) → Keeps t v p → (standing : plain.Standing)
+      → StandsAt t p named task (Sleeping timer future) standing → owner_at (slice_get v.futures future) ≡ None
+  at_sleep t p named timer future v k (plain.Sleeping tag) at = owner_kept t v p k future (plain_within p future at.1.plain).0
+  at_sleep t p named timer future v k plain.Asked at = absurd at
+  at_sleep t p named timer future v k (plain.Leaving id) at = absurd at
+  at_sleep t p named timer future v k (plain.Serving key) at = absurd at
+
+  of_sleep : (timer : TimerId) (future : ℕ) (slot : Slot) → slot.standing ≡ Sleeping timer future → slice_get body.slots.items task ≡ Some slot
+      → owner_at (slice_get body.parts.futures future) ≡ None
+  of_sleep timer future slot e there =
+      ∥∥₁_elim may (same_prop (owner_at (slice_get body.parts.futures future)) None) (λ w.
+      let h : IsCalled task w.0 body w.1.0 = w.1.1 in
+      let has = own_slot task w.0 body w.1.0 h in
+      at_sleep h.stands.ties w.1.0.loop.parts w.1.0.futures timer future body.parts h.stands.keeps (generator_of task w.1.0).standing
+      (subst (λ x. StandsAt h.stands.ties w.1.0.loop.parts w.1.0.futures task x (generator_of task w.1.0).standing)
+      (sym (ap (λ (x : Slot). x.standing) (called_own task w.0 body w.1.0 h slot there)) ∙ e) has.right.standing))
+
+  pub begin_no_task : (v : View) → v.futures ≡ body.parts.futures → (slot : Slot) → slice_get body.slots.items task ≡ Some slot
+      → IsNoTasks slot.standing v
+  begin_no_task v same slot there = at slot.standing refl
+    where
+      at : (standing : Standing) → slot.standing ≡ standing → IsNoTasks standing v
+      at Asked e = tt
+      at (Leaving group) e = tt
+      at (Sleeping timer future) e = ap (λ fs. owner_at (slice_get fs future)) same ∙ of_sleep timer future slot e there
+
+  -- there is a coroutine
+  pub begin_held : (slot : Slot) → slice_get body.slots.items task ≡ Some slot → slot.coroutine ≡ None → ⊥
+  begin_held slot there none =
+      ∥∥₁_elim may (λ x y. absurd x) (λ w.
+      let has = own_slot task w.0 body w.1.0 w.1.1 in
+      no_waits w.1.0 has.slot.coroutine (sym (ap (λ (x : Slot). x.coroutine) (called_own task w.0 body w.1.0 w.1.1 slot there)) ∙ none) has.right.waits)
+    where
+      no_waits : (s : State (Unit {0})) (o : Option Gen) → o ≡ None → WaitsAs s.program body.code (generator_of task s) o → ⊥
+      no_waits s None e h = h
+      no_waits s (Some coroutine) e h = absurd (cc)
+
+-- ---- what its input means
+pub decide_of : (task : ℕ) (input : Input) (old new : Body) (started : Started) → MayBegin task old
+    → ((c : Setting) (s : State (Unit {0})) → IsCalled task c old s → HasBegun task input c s started new) → MayDecideAs task started.standing new
+decide_of task input old new started may begun =
+    ∥∥₁_map may (λ w. let b = begun w.0 w.1.0 w.1.1 in
+    ((generator_of task w.1.0).standing, (b.decides, (holding started.coroutine w.0, (begun_in task input w.1.0, b.deciding)))))
+
+pub leave_of : (task group : ℕ) (body : Body) → MayDecideAs task (Leaving group) body → MayDecide task (plain.Leaving group) body
+leave_of task group body may =
+    ∥∥₁_map may (λ w. (w.1.1.0, (w.1.1.1.0, subst (λ st. IsDeciding task st w.1.1.0 body w.1.1.1.0) (sym (leaving_is group w.0 w.1.0)) w.1.1.1.1)))
