@@ -4,3 +4,4 @@ pub mod Reading
 pub mod Changing
 pub mod Resting
 pub mod Spawning
+pub mod Timing

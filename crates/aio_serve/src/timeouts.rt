@@ -1,33 +1,46 @@
 //! Requests of timeouts.
-ghost use Rattle.std.specs.Prelude.{ℕ};
-ghost use Rattle.model_value.specs.declared.request.Request.TheVariants as request;
-ghost use Rattle.std.specs.Prelude.{OnOk};
+ghost use Rattle.std.specs.Prelude.{◌≡◌, ℕ, Ok, IfOk};
 ghost use Rattle.model_value.specs.declared.action.Action.TheVariants.{Fires};
-ghost use Rattle.model_loop.specs.Timeouts.{fire};
+ghost use Rattle.model_value.specs.declared.request.Request.TheVariants as request;
+ghost use Rattle.model_loop.specs.Loop.{Loop};
+ghost use Rattle.model_loop.specs.Timeouts.{fire, has_expired, reschedule_fault, timeout_of};
 ghost use Rattle.model_machine.specs.State.{State, in_loop};
+ghost use Rattle.aio_task.specs.Keeps.{Ties};
+ghost use Rattle.aio_timeout.specs.Kept.{AreTimeouts};
+ghost use Rattle.aio_timeout.specs.States.{state_of};
+ghost use Rattle.aio_body.specs.declared.reply.Reply.TheVariants.{Raises};
 ghost use Rattle.aio_body.specs.Asked.{MayAsk, MayGo, SomeGoes, Serves};
 ghost use Rattle.aio_body.specs.Stands.{Setting};
 ghost use Rattle.aio_body.specs.Taken.{IsTaken, IsAfter, MayTake};
+ghost use Rattle.aio_serve.specs.Left.{left_as};
 
 use aio_base::{Exc, Memory, Value};
-use aio_body::{Body, Reply};
+use aio_body::{Body, MOST_IDS, Reply, as_delay, as_timeout, bad_argument, out_of_range};
+use aio_timeout::{Rescheduled, TimeoutExit, TimeoutState, timeout_fault};
 use std::alloc::Global;
 
 pub fn enter_timeout(
     body: &mut Body,
-    _alloc: Global,
+    alloc: Global,
     task: u32,
     delay: &Value,
 ) -> Result<Reply, Memory>
     requires { MayGo task body.old }
     ensures { Serves task (request.TimeoutEnter delay.now) body.old body.new result }
 {
-    Err(Memory)
+    let Some(delay) = as_delay(delay) else {
+        return bad_argument(alloc);
+    };
+    if body.timeouts.count() >= MOST_IDS {
+        return out_of_range(alloc);
+    }
+    let id = body.timeouts.enter(alloc, task, delay, &mut body.parts)?;
+    Ok(Reply::Answers(Value::timeout(id)))
 }
 
 pub fn exit_timeout(
     body: &mut Body,
-    _alloc: Global,
+    alloc: Global,
     task: u32,
     timeout: &Value,
     fault: Option<Exc>,
@@ -35,32 +48,78 @@ pub fn exit_timeout(
     requires { MayAsk task (request.TimeoutExit timeout.now fault) body.old }
     ensures { Serves task (request.TimeoutExit timeout.now fault) body.old body.new result }
 {
-    Err(Memory)
+    let Some(id) = as_timeout(timeout) else {
+        return bad_argument(alloc);
+    };
+    let exit = body.timeouts.exit(id, fault, &mut body.parts);
+    Ok(left(exit))
 }
 
+// How the coroutine goes on after a block that was left.
+fn left(exit: TimeoutExit) -> Reply
+    ensures { result ≡ left_as exit }
+{
+    match exit {
+        TimeoutExit::Passes => Reply::Answers(Value::nothing()),
+        TimeoutExit::TimedOut => Reply::Raises(timeout_fault()),
+    }
+}
+
+/// A value may name a timeout that was not made: such a one is finished.
 pub fn reschedule(
     body: &mut Body,
-    _alloc: Global,
+    alloc: Global,
     timeout: &Value,
     when: &Value,
 ) -> Result<Reply, Memory>
     requires { SomeGoes body.old }
     ensures { (task : ℕ) → Serves task (request.Reschedule timeout.now when.now) body.old body.new result }
 {
-    Err(Memory)
+    let Some(id) = as_timeout(timeout) else {
+        return bad_argument(alloc);
+    };
+    let Some(when) = as_delay(when) else {
+        return bad_argument(alloc);
+    };
+    if id as usize >= body.timeouts.count() {
+        return refused(alloc, TimeoutState::Finished);
+    }
+    match body.timeouts.reschedule(alloc, id, when, &mut body.parts)? {
+        Rescheduled::Set => Ok(Reply::Answers(Value::nothing())),
+        Rescheduled::BadState(state) => refused(alloc, state),
+    }
 }
 
-pub fn expired(body: &Body, _alloc: Global, timeout: &Value) -> Result<Reply, Memory>
+fn refused(alloc: Global, state: TimeoutState) -> Result<Reply, Memory>
+    ensures { IfOk result (λ said. said ≡ Raises (reschedule_fault (state_of state))) }
+{
+    Ok(Reply::Raises(state.fault(alloc)?))
+}
+
+pub fn expired(body: &Body, alloc: Global, timeout: &Value) -> Result<Reply, Memory>
     ensures { (task : ℕ) → Serves task (request.Expired timeout.now) body.now body.now result }
 {
-    Err(Memory)
+    match as_timeout(timeout) {
+        Some(id) => Ok(Reply::Answers(Value::bool(has_expired(body, id)))),
+        None => bad_argument(alloc),
+    }
+}
+
+fn has_expired(body: &Body, id: u32) -> bool
+    ensures { (t : Ties) (l : Loop) → AreTimeouts t l.parts body.now.timeouts l.timeouts
+        → result ≡ has_expired (timeout_of l id).state }
+{
+    if id as usize >= body.timeouts.count() {
+        return false;
+    }
+    body.timeouts.expired(id)
 }
 
 /// The time of a timeout is over.
-pub fn fire(body: &mut Body, _alloc: Global, timeout: u32) -> Result<(), Memory>
+pub fn fire(body: &mut Body, timeout: u32)
     requires { MayTake (Fires timeout) body.old }
-    ensures { OnOk result ((c : Setting) (s : State (Unit {0})) → IsTaken (Fires timeout) c body.old s
-        → IsAfter c body.new (in_loop (fire timeout) s)) }
+    ensures { (c : Setting) (s : State (Unit {0})) → IsTaken (Fires timeout) c body.old s
+        → IsAfter c body.new (in_loop (fire timeout) s) }
 {
-    Err(Memory)
+    body.timeouts.fire(timeout, &mut body.parts);
 }

@@ -12,3 +12,4 @@ pub mod May
 pub mod Rooms
 pub mod Making
 pub mod Asleep
+pub mod TimeoutsOn

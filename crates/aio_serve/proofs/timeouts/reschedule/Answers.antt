@@ -1,0 +1,77 @@
+use Rattle.std.proofs.Common.{◌≤◌, length, sym, ap, ◌∙◌, arith}
+use Rattle.std.proofs.lemmas.Result.{IfOk-weaker}
+use Rattle.model_says.specs.Requests.{bad_argument}
+use Rattle.model_loop.specs.Timeouts.{reschedule}
+use Rattle.aio_timeout.specs.States.{refused, state_of}
+use Rattle.aio_body.specs.declared.reply.Reply.TheVariants.{Answers}
+use Rattle.law_body.proofs.May.{idle_some}
+use Rattle.law_body.proofs.TimeoutsOn.{goes_timed, leaves_reschedule, reschedule_groups, timeouts_of}
+use Rattle.aio_serve.proofs.Saying.{raises_so}
+use Rattle.aio_serve.proofs.Timing.{deadline_unfit, finished_so, refused_so, reschedule_unfit, rescheduled_so, steps_none_some}
+use Rattle.aio_serve.proofs.timeouts.reschedule.Goals as goal
+
+pub returns-in_default : goal.returns-in_default
+returns-in_default c task =
+    IfOk-weaker c.bad_argument.result _ _ (λ said e at s h.
+    raises_so task at c.args.body.now s said _ bad_argument e
+    (reschedule_unfit task s c.args.timeout.now c.args.when.now (sym c.as_timeout.ensures ∙ c.in_default.is)) h.going.in_step)
+    c.bad_argument.ensures
+
+pub returns-in_default-as_delay : goal.returns-in_default-as_delay
+returns-in_default-as_delay c task =
+    IfOk-weaker c.bad_argument-in_default-as_delay.result _ _ (λ said e at s h.
+    raises_so task at c.args.body.now s said _ bad_argument e
+    (deadline_unfit task s c.args.timeout.now c.args.when.now c.in-Some.id (sym c.as_timeout.ensures ∙ c.in-Some.is)
+    (sym c.as_delay.ensures ∙ c.in_default-as_delay.is)) h.going.in_step)
+    c.bad_argument-in_default-as_delay.ensures
+
+pub returns-then-id-count : goal.returns-then-id-count
+returns-then-id-count c task =
+    let body = c.args.body.now in
+    let past : length body.timeouts ≤ c.in-Some.id = omega (arith, c.count.ensures, c.if-id-count.true) in
+    IfOk-weaker c.refused.result _ _ (λ said e at s h.
+    finished_so task at body s c.args.timeout.now c.args.when.now c.in-Some.id c.in-Some-as_delay.when
+    (sym c.as_timeout.ensures ∙ c.in-Some.is) (sym c.as_delay.ensures ∙ c.in-Some-as_delay.is) past h.going.in_step said e)
+    c.refused.ensures
+
+pub reschedule-requires-clause-idle : goal.reschedule-requires-clause-idle
+reschedule-requires-clause-idle c = idle_some c.args.body.now c.requires
+
+pub reschedule-requires-clause-live : goal.reschedule-requires-clause-live
+reschedule-requires-clause-live c = omega (arith, c.count.ensures, c.if-id-count.false)
+
+pub reschedule-requires-clause-steps_none : goal.reschedule-requires-clause-steps_none
+reschedule-requires-clause-steps_none c = steps_none_some c.args.body.now c.in-Some.id c.requires
+
+pub returns-in-Set : goal.returns-in-Set
+returns-in-Set c task at s h =
+    let body = c.args.body.now in
+    let id = c.in-Some.id in
+    let when = c.in-Some-as_delay.when in
+    let in_step = h.going.in_step in
+    let keeps = timeouts_of _ at body s in_step.stands in
+    rescheduled_so task at (record body { parts = c.reschedule.new.parts; timeouts = c.reschedule.new.self }) s
+    c.args.timeout.now c.args.when.now id when
+    (sym c.as_timeout.ensures ∙ c.in-Some.is) (sym c.as_delay.ensures ∙ c.in-Some-as_delay.is)
+    (sym (ap refused c.in-Set.is) ∙ c.in_ok-reschedule.ensures.answer in_step.stands.ties s.loop keeps.timeouts)
+    (goes_timed task at body s c.reschedule.new.parts c.reschedule.new.self (reschedule id when s.loop) in_step
+    (c.in_ok-reschedule.ensures.after in_step.stands.ties s.loop keeps)
+    (leaves_reschedule id when s.loop) (reschedule_groups id when s.loop) c.in_ok-reschedule.ensures.below c.in_ok-reschedule.ensures.step)
+    _ (ap Answers c.nothing.ensures)
+
+pub returns-in-BadState : goal.returns-in-BadState
+returns-in-BadState c task =
+    let body = c.args.body.now in
+    let id = c.in-Some.id in
+    let when = c.in-Some-as_delay.when in
+    IfOk-weaker c.refused-in-BadState.result _ _ (λ said e at s h.
+    let in_step = h.going.in_step in
+    let keeps = timeouts_of _ at body s in_step.stands in
+    refused_so task at (record body { parts = c.reschedule.new.parts; timeouts = c.reschedule.new.self }) s
+    c.args.timeout.now c.args.when.now id when (state_of c.in-BadState.state)
+    (sym c.as_timeout.ensures ∙ c.in-Some.is) (sym c.as_delay.ensures ∙ c.in-Some-as_delay.is)
+    (sym (ap refused c.in-BadState.is) ∙ c.in_ok-reschedule.ensures.answer in_step.stands.ties s.loop keeps.timeouts)
+    (goes_timed task at body s c.reschedule.new.parts c.reschedule.new.self (reschedule id when s.loop) in_step
+    (c.in_ok-reschedule.ensures.after in_step.stands.ties s.loop keeps)
+    (leaves_reschedule id when s.loop) (reschedule_groups id when s.loop) c.in_ok-reschedule.ensures.below c.in_ok-reschedule.ensures.step)
+    said e) c.refused-in-BadState.ensures
