@@ -1,22 +1,18 @@
 -- A step begins: the task waits no more, the handle of its sleep is given up, and its coroutine is taken out.
-use Rattle.std.proofs.Common.{◌≡◌, ℕ, ◌^◌, ◌<◌, ◌⊎◌, ◌||◌, ◌==◌, Bool, true, false, List, Option, Some, None, length, slice_get, slice_set, length-set, ◌∙◌, refl, sym, ap, subst, inl, inr, arith}
+use Rattle.std.proofs.Common.{◌≡◌, ℕ, ◌^◌, ◌<◌, ◌⊎◌, ◌==◌, true, false, List, Option, Some, None, length, slice_get, slice_set, length-set, ◌∙◌, refl, sym, ap, subst, inl, inr}
 use Rattle.std.specs.Option.{option_map_or}
-use Rattle.std.specs.Prelude.{is_some}
-use Rattle.std.proofs.lemmas.Bool.{cases_eq, or_cases, eqb-true, false≢true}
-use Rattle.model_value.specs.Value.{Outcome}
-use Rattle.model_loop.specs.Futures.{is_pending, is_pending_at, outcome_at}
+use Rattle.std.proofs.lemmas.Bool.{cases_eq, or_cases, eqb-true}
+use Rattle.model_loop.specs.Futures.{is_pending}
 use Rattle.model_loop.specs.Handles.{revoke}
-use Rattle.model_loop.specs.Loop.{in_parts}
 use Rattle.model_loop.specs.Owning.{OwnsFutures}
-use Rattle.model_loop.specs.Parts.{Future, Task, Parts}
+use Rattle.model_loop.specs.Parts.{Task, Parts}
 use Rattle.model_loop.specs.Tasks.{change_task, lives, next_task, waiter_of}
 use Rattle.model_loop.specs.Ways.{is_running}
 use Rattle.model_machine.specs.State as plain
 use Rattle.model_machine.specs.State.{Generator, State, generator_of, stands, unbooked_in}
 use Rattle.law_cancel.proofs.Lookups.{get-set_same, get-set_other}
 use Rattle.law_settling.proofs.CancelSound.{plain_within}
-use Rattle.aio_task.specs.View.{View}
-use Rattle.aio_task.specs.Keeps.{Ties, Keeps, Knows, let_go}
+use Rattle.aio_task.specs.Keeps.{let_go}
 use Rattle.aio_body.specs.declared.body.Body.{Body}
 use Rattle.aio_gen.specs.declared.generator.Gen.{Gen}
 use Rattle.aio_body.specs.declared.standing.Slot.{Slot}

@@ -1,34 +1,30 @@
 -- A step has begun: what the parts, the task's slot and the machine come to.
-use Rattle.std.proofs.Common.{◌≡◌, ℕ, ◌<◌, Bool, true, false, List, [], Option, Some, None, length, slice_get, slice_set, if◌then◌else◌, ◌∙◌, refl, sym, ap, subst}
-use Rattle.std.specs.Option.{option_map_or}
+use Rattle.std.proofs.Common.{◌≡◌, ℕ, ◌<◌, Bool, true, false, List, [], Some, None, length, slice_get, slice_set, ◌∙◌, refl, sym, ap, subst}
 use Rattle.std.specs.Prelude.{is_some}
 use Rattle.std.proofs.lemmas.Bool.{eq-eqb}
 use Rattle.model_value.specs.Input.{Input}
 use Rattle.model_loop.specs.Futures.{outcome_at}
 use Rattle.model_loop.specs.Loop.{in_parts}
 use Rattle.model_loop.specs.Owning.{OwnsFutures}
-use Rattle.model_loop.specs.Parts.{Future, Parts, Task}
-use Rattle.model_loop.specs.Tasks.{begin_step, cancelling_input, is_marked, lives, next_task, waiter_of}
-use Rattle.model_machine.specs.Extra.{no_extra}
+use Rattle.model_loop.specs.Parts.{Parts}
+use Rattle.model_loop.specs.Tasks.{begin_step, lives, next_task}
 use Rattle.model_machine.specs.State as plain
 use Rattle.model_machine.specs.State.{State, generator_of, stands, unbooked_in}
 use Rattle.model_machine.specs.Step.{given_up}
-use Rattle.law_cancel.proofs.Effects.{change_task-futures}
 use Rattle.aio_task.specs.View.{View, parts}
-use Rattle.aio_task.specs.Keeps.{Ties, Becomes}
+use Rattle.aio_task.specs.Keeps.{Ties}
 use Rattle.aio_gen.specs.declared.generator.Gen.{Gen}
 use Rattle.aio_body.specs.declared.body.Body.{Body}
 use Rattle.aio_body.specs.declared.standing.Slot.{Slot}
 use Rattle.aio_body.specs.declared.standing.Standing.{Standing}
 use Rattle.aio_body.specs.declared.standing.Standing.TheVariants.{Asked, Sleeping, Leaving}
-use Rattle.aio_body.specs.Asked.{IsInStep}
 use Rattle.aio_body.specs.GivingUp.{given_up_in, let_go_if, timer_cancelled}
 use Rattle.aio_body.specs.Slots.{no_slot}
-use Rattle.aio_body.specs.Stands.{Setting, Stands, HasSlot, StandsAt, holding}
+use Rattle.aio_body.specs.Stands.{Setting, Stands, HasSlot, StandsAt}
 use Rattle.law_body.proofs.Kept.{input_kept, kept_begin}
 use Rattle.law_body.proofs.Left.{begun_waits, leaves_begin}
 use Rattle.law_body.proofs.Lasting.{spares_none, stands_on}
-use Rattle.aio_step.specs.Stepping.{IsCalled, DecidesAs, HasBegun, begun_by, begun_in}
+use Rattle.aio_step.specs.Stepping.{IsCalled, DecidesAs, HasBegun, begun_by}
 use Rattle.aio_step.proofs.Beginning.{stands_taken}
 use Rattle.aio_step.proofs.Called.{called_asked, called_asking, called_leaving, called_within}
 use Rattle.aio_step.proofs.Opening.{begin_revoke, gives_up}

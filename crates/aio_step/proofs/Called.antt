@@ -1,6 +1,5 @@
 -- A task's step that was called: it lives, has its slot, and stands as the machine says.
-use Rattle.std.proofs.Common.{◌≡◌, ℕ, ◌<◌, Bool, true, false, List, Option, Some, None, length, slice_get, ◌∙◌, refl, sym, ap, subst}
-use Rattle.std.specs.Prelude.{not}
+use Rattle.std.proofs.Common.{◌≡◌, ℕ, ◌<◌, true, Some, None, length, slice_get, ◌∙◌, sym, ap, subst}
 use Rattle.model_value.specs.Input.{Input}
 use Rattle.model_value.specs.Value.{Nothing}
 use Rattle.model_value.specs.declared.input.Input.TheVariants.{Send}
@@ -17,9 +16,7 @@ use Rattle.law_runs.proofs.Nothing.{nothing_keeps}
 use Rattle.law_steps.proofs.Waiting.{task_there}
 use Rattle.aio_body.specs.declared.body.Body.{Body}
 use Rattle.aio_body.specs.declared.standing.Slot.{Slot}
-use Rattle.aio_body.specs.declared.standing.Standing.{Standing}
-use Rattle.aio_body.specs.declared.standing.Standing.TheVariants.{Asked, Sleeping, Leaving}
-use Rattle.aio_body.specs.Stands.{Setting, Stands, HasSlot}
+use Rattle.aio_body.specs.Stands.{Setting, HasSlot}
 use Rattle.aio_step.specs.Stepping.{IsCalled, HearsMade, begun_by, begun_in}
 
 module _ (task : ℕ) (c : Setting) (body : Body) (s : State (Unit {0})) (h : IsCalled task c body s) where

@@ -1,6 +1,5 @@
 -- What the input of a step means, at the request at which its task stood, and how the step goes on by it.
-use Rattle.std.proofs.Common.{◌≡◌, ℕ, ◌<◌, Bool, true, List, Option, Some, None, Result, Ok, Err, length, ◌∙◌, refl, sym, ap, subst, arith}
-use Rattle.std.specs.Prelude.{IfOk}
+use Rattle.std.proofs.Common.{◌≡◌, ℕ, ◌<◌, true, length, ◌∙◌, refl, sym, ap, subst, arith}
 use Rattle.std.proofs.lemmas.Bool.{eq-eqb}
 use Rattle.model_value.specs.Input.{Input}
 use Rattle.model_value.specs.Value.{Value, Exc}
@@ -16,17 +15,16 @@ use Rattle.model_machine.specs.Step.{taken_as}
 use Rattle.model_machine.specs.Went.{Went, Goes}
 use Rattle.law_inside.proofs.Counts.{lives_within}
 use Rattle.law_inside.specs.InStep.{RepliesInStep}
-use Rattle.law_machine.proofs.Kept.{IsKept, reply_state, decides-keeps}
+use Rattle.law_machine.proofs.Kept.{reply_state, decides-keeps}
 use Rattle.aio_timer.specs.declared.live.TimerId.{TimerId}
 use Rattle.aio_gen.specs.declared.generator.Gen.{Gen}
 use Rattle.aio_body.specs.declared.body.Body.{Body}
 use Rattle.aio_body.specs.declared.reply.Reply.{Reply}
 use Rattle.aio_body.specs.declared.reply.Reply.TheVariants as said
 use Rattle.aio_body.specs.declared.standing.Standing.TheVariants.{Asked, Sleeping, Leaving}
-use Rattle.aio_body.specs.Asked.{IsInStep, HasRested, IsDeciding, MayDecide, Says}
+use Rattle.aio_body.specs.Asked.{IsInStep, HasRested, IsDeciding, Says}
 use Rattle.aio_body.specs.Outcomes.{reply_of}
 use Rattle.aio_body.specs.Stands.{Setting, holding}
-use Rattle.aio_body.specs.declared.standing.Standing.{Standing}
 use Rattle.aio_step.specs.declared.steps.Started.{Started}
 use Rattle.aio_step.specs.Stepping.{DecidesAs, HasBegun, HearsMade, IsCalled, IsServing, begun_by, begun_in}
 use Rattle.aio_step.proofs.Called.{called_sound}

@@ -1,5 +1,5 @@
 -- The coroutine says on until the step ends.
-use Rattle.std.proofs.Common.{◌≡◌, ℕ, ◌<◌, Bool, true, false, List, ◌++◌, Option, Some, None, length, ◌∙◌, refl, sym, ap, subst, arith}
+use Rattle.std.proofs.Common.{◌≡◌, ℕ, ◌<◌, Bool, true, false, length, ◌∙◌, refl, sym, ap, subst}
 use Rattle.std.proofs.Math.Logic.{∥∥₁_elim, ∥∥₁_map}
 use Rattle.std.specs.Coded.{le_prop}
 use Rattle.model_value.specs.Input.{Input}
@@ -9,7 +9,7 @@ use Rattle.model_machine.specs.Extra.{no_extra}
 use Rattle.model_machine.specs.Sound.{IsStateSound}
 use Rattle.model_machine.specs.State.{State, resumed}
 use Rattle.model_machine.specs.Step.{serve_all}
-use Rattle.model_machine.specs.Went.{Went, Goes, Stops}
+use Rattle.model_machine.specs.Went.{Goes, Stops}
 use Rattle.aio_gen.specs.declared.generator.Gen.{Gen}
 use Rattle.aio_body.specs.declared.body.Body.{Body}
 use Rattle.aio_body.specs.Asked.{HasRested}

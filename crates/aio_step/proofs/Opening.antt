@@ -1,15 +1,15 @@
 -- A step begins, as a whole: what the parts, the slot and the machine come to.
-use Rattle.std.proofs.Common.{◌≡◌, ℕ, ◌<◌, Bool, true, false, List, Option, Some, None, length, slice_get, slice_set, ◌∙◌, refl, sym, ap, subst, arith, if◌then◌else◌}
+use Rattle.std.proofs.Common.{◌≡◌, ℕ, Bool, true, false, Option, Some, None, length, slice_get, ◌∙◌, refl, sym, ap, if◌then◌else◌}
 use Rattle.std.proofs.lemmas.List.{length-map}
 use Rattle.std.specs.Prelude.{is_some}
 use Rattle.model_value.specs.Input.{Input}
 use Rattle.model_value.specs.Value.{Outcome}
-use Rattle.model_loop.specs.Futures.{is_pending, is_pending_at, outcome_at}
+use Rattle.model_loop.specs.Futures.{is_pending_at, outcome_at}
 use Rattle.model_loop.specs.Handles.{revoke}
 use Rattle.model_loop.specs.Loop.{in_parts}
 use Rattle.model_loop.specs.Owning.{OwnsFutures}
 use Rattle.model_loop.specs.Parts.{Future, Task, Parts}
-use Rattle.model_loop.specs.Tasks.{begin_step, lives, next_task, set_waiter, unmark, waiter_of}
+use Rattle.model_loop.specs.Tasks.{begin_step, set_waiter, unmark, waiter_of}
 use Rattle.model_machine.specs.Step.{given_up}
 use Rattle.aio_timer.specs.Schedule as schedule
 use Rattle.aio_ready.specs.declared.handle.Name.TheVariants as name
@@ -19,21 +19,17 @@ use Rattle.aio_ready.specs.Queue as queue
 use Rattle.aio_ready.specs.Queue.{Queue}
 use Rattle.aio_ready.specs.Names.{marked}
 use Rattle.aio_ready.specs.declared.handle.Name.{Name}
-use Rattle.aio_timer.specs.declared.live.TimerId.{TimerId}
-use Rattle.aio_task.specs.View.{View, parts}
-use Rattle.aio_task.specs.Keeps.{Ties, Kept, Becomes}
+use Rattle.aio_task.specs.View.{View}
 use Rattle.aio_body.specs.declared.body.Body.{Body}
-use Rattle.aio_gen.specs.declared.generator.Gen.{Gen}
-use Rattle.aio_body.specs.declared.standing.Slot.{Slot}
 use Rattle.aio_body.specs.declared.standing.Standing.{Standing}
 use Rattle.aio_body.specs.declared.standing.Standing.TheVariants.{Asked, Sleeping, Leaving}
-use Rattle.aio_body.specs.GivingUp.{given_up_in, let_go_if, let_go_of, timer_cancelled}
+use Rattle.aio_body.specs.GivingUp.{given_up_in, let_go_if, timer_cancelled}
 use Rattle.aio_body.specs.Stands.{Setting, Stands, StandsAt}
 use Rattle.aio_step.proofs.Beginning.{change_revoke, stands_released}
 use Rattle.law_kept.proofs.Telling.{pending_kept}
 use Rattle.law_body.proofs.Kept.{kept_revoked}
 use Rattle.law_body.proofs.Left.{leaves_revoke}
-use Rattle.law_body.proofs.Lasting.{own_on, spares_none, stands_at_on, stands_on}
+use Rattle.law_body.proofs.Lasting.{own_on, spares_none, stands_on}
 
 -- ---- the machine
 pub begin_revoke : (task : ℕ) (input : Input) (tag : ℕ) (p : Parts) → (begin_step task input (revoke tag p)).parts ≡ revoke tag (begin_step task input p).parts

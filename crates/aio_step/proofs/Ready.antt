@@ -1,14 +1,12 @@
 -- What a call may do where there is a state that is stood for, whichever it is.
-use Rattle.std.proofs.Common.{◌≡◌, ℕ, ◌<◌, Bool, true, false, List, Option, Some, None, length, slice_get, ◌∙◌, refl, sym, ap, subst}
+use Rattle.std.proofs.Common.{◌≡◌, ℕ, ◌<◌, List, Option, Some, None, length, slice_get, ◌∙◌, refl, sym, ap, subst}
 use Rattle.std.proofs.Math.Logic.{∥∥₁_elim, ∥∥₁_map}
-use Rattle.std.specs.Coded.{le_prop, Unit-prop}
+use Rattle.std.specs.Coded.{le_prop}
 use Rattle.model_value.specs.Input.{Input}
-use Rattle.model_value.specs.Request.{Request}
 use Rattle.model_loop.specs.Owning.{owner_at}
 use Rattle.model_loop.specs.Parts.{Parts}
 use Rattle.model_machine.specs.State as plain
 use Rattle.model_machine.specs.State.{State, generator_of}
-use Rattle.law_cancel.proofs.Lookups.{get_within}
 use Rattle.law_kept.proofs.Telling.{owner_kept}
 use Rattle.law_settling.proofs.CancelSound.{plain_within}
 use Rattle.aio_gen.specs.declared.generator.Gen.{Gen}
@@ -24,7 +22,7 @@ use Rattle.aio_body.specs.GivingUp.{IsNoTasks}
 use Rattle.aio_body.specs.Stands.{Setting, StandsAt, WaitsAs, holding}
 use Rattle.law_body.proofs.May.{same_prop}
 use Rattle.aio_step.specs.declared.steps.Started.{Started}
-use Rattle.aio_step.specs.Stepping.{DecidesAs, HasBegun, IsCalled, IsServing, MayBegin, MayDecideAs, MayServe, begun_in}
+use Rattle.aio_step.specs.Stepping.{HasBegun, IsCalled, MayBegin, MayDecideAs, begun_in}
 use Rattle.aio_step.proofs.Called.{called_own, called_slot, own_slot}
 use Rattle.aio_step.proofs.First.{leaving_is}
 

@@ -1,5 +1,5 @@
 -- What the coroutine says as it is resumed, and what comes of it.
-use Rattle.std.proofs.Common.{◌≡◌, ℕ, ◌<◌, Bool, true, false, List, [], ◌∷◌, ◌++◌, Option, Some, None, Result, Ok, Err, length, ◌∙◌, refl, sym, ap, subst}
+use Rattle.std.proofs.Common.{◌≡◌, ℕ, ◌<◌, Bool, List, [], ◌∷◌, ◌++◌, Some, None, Ok, Err, length, ◌∙◌, sym, ap, subst}
 use Rattle.std.proofs.Math.Logic.{∥∥₁_elim, ∥∥₁_map}
 use Rattle.model_value.specs.Input.{Input}
 use Rattle.model_value.specs.Request.{Request}
@@ -12,7 +12,7 @@ use Rattle.model_says.specs.Tape.{Tape}
 use Rattle.model_loop.specs.Tasks.{finish}
 use Rattle.model_machine.specs.Extra.{no_extra}
 use Rattle.model_machine.specs.Replies.{reply}
-use Rattle.model_machine.specs.State.{Generator, State, generator_of, resumed}
+use Rattle.model_machine.specs.State.{State, resumed}
 use Rattle.model_machine.specs.Step.{says_of, served}
 use Rattle.aio_cancel.specs.Body.{Appended}
 use Rattle.aio_flat.specs.Code.{IsCodeOf}
@@ -28,7 +28,6 @@ use Rattle.aio_body.specs.Stands.{Setting, holding}
 use Rattle.law_body.proofs.May.{same_prop}
 use Rattle.law_body.proofs.Slotting.{set_length}
 use Rattle.law_body.proofs.Sound.{raised_sound, requests_sound, returned_sound}
-use Rattle.aio_step.specs.declared.steps.Served.TheVariants as code
 use Rattle.aio_step.specs.Stepping.{EndsAt, IsServing, MayServe, RunsAway, ServesOne, served_by}
 use Rattle.aio_step.proofs.Resuming.{asks_out, ends_out, its_inside, runs_out, says_out}
 use Rattle.aio_step.proofs.Serving.{answered}

@@ -1,20 +1,19 @@
 -- A coroutine is resumed, and what it says is served.
-use Rattle.std.proofs.Common.{◌≡◌, ℕ, ◌<◌, Bool, true, false, List, [], ◌∷◌, ◌++◌, Option, Some, None, Result, Ok, Err, length, ◌∙◌, refl, sym, ap, subst, arith}
+use Rattle.std.proofs.Common.{◌≡◌, ℕ, ◌<◌, Bool, true, List, [], ◌∷◌, ◌++◌, Some, None, Result, length, ◌∙◌, refl, sym, ap, subst}
 use Rattle.model_value.specs.Input.{Input}
 use Rattle.model_value.specs.Request.{Request}
 use Rattle.model_value.specs.Value.{Value, Exc}
 use Rattle.model_tree.specs.Syntax.{Program}
-use Rattle.model_says.specs.Endings.{Saying, Asks, Returns, Raises, Runaway, saying_of}
+use Rattle.model_says.specs.Endings.{Saying, Asks, Runaway, saying_of}
 use Rattle.model_says.specs.Says.{course, says, step_limit}
 use Rattle.model_says.specs.Tape.{Tape}
-use Rattle.model_wire.specs.declared.event.End.TheVariants as end
 use Rattle.model_loop.specs.Loop.{in_parts}
 use Rattle.model_loop.specs.Tasks.{finish, lives, next_task}
 use Rattle.model_machine.specs.Extra.{no_extra}
 use Rattle.model_machine.specs.Sound.{IsStateSound}
 use Rattle.model_machine.specs.State.{Generator, State, generator_of, resumed, unbooked_in}
 use Rattle.model_machine.specs.Step.{says_of, served}
-use Rattle.model_machine.specs.Went.{Went, Goes, Stops}
+use Rattle.model_machine.specs.Went.{Went, Goes}
 use Rattle.law_steps.proofs.Waiting.{task_there}
 use Rattle.law_cancel.proofs.Lookups.{get_within}
 use Rattle.aio_cancel.specs.Body.{Appended}
@@ -22,9 +21,9 @@ use Rattle.aio_flat.specs.Code.{IsCodeOf}
 use Rattle.aio_task.specs.View.{View, parts}
 use Rattle.aio_body.specs.declared.body.Body.{Body}
 use Rattle.aio_gen.specs.declared.generator.Gen.{Gen}
-use Rattle.aio_body.specs.Asked.{IsInStep, IsAsking}
+use Rattle.aio_body.specs.Asked.{IsAsking}
 use Rattle.aio_gen.specs.Gens.{StandsFor}
-use Rattle.aio_body.specs.Stands.{Setting, Stands, IsBetween, holding}
+use Rattle.aio_body.specs.Stands.{Setting, holding}
 use Rattle.aio_step.specs.Stepping.{IsServing, EndsAt, RunsAway}
 use Rattle.law_kept.proofs.Calls.{kept_finish}
 use Rattle.law_body.proofs.Sound.{runs_living}

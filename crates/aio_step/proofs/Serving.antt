@@ -1,27 +1,24 @@
 -- A task is served until its step ends: what one answer after another leads to.
-use Rattle.std.proofs.Common.{◌≡◌, ℕ, suc, ◌+◌, ◌<◌, Bool, true, false, List, ◌++◌, Option, Some, None, length, ◌∙◌, refl, sym, ap, subst, arith}
-use Rattle.model_value.specs.Input.{Input}
+use Rattle.std.proofs.Common.{◌≡◌, ℕ, suc, ◌+◌, ◌<◌, false, length, ◌∙◌, sym, ap, subst, arith}
 use Rattle.model_value.specs.Request.{Request}
-use Rattle.model_value.specs.Value.{Value, Exc}
 use Rattle.model_value.specs.declared.input.Input.TheVariants.{Send, Throw}
-use Rattle.model_says.specs.Endings.{Saying, Asks}
+use Rattle.model_says.specs.Endings.{Asks}
 use Rattle.model_says.specs.Says.{step_limit}
 use Rattle.model_machine.specs.Extra.{no_extra}
 use Rattle.model_machine.specs.Replies as plain
 use Rattle.model_machine.specs.Replies.{reply}
-use Rattle.model_machine.specs.Sound.{IsStateSound}
-use Rattle.model_machine.specs.State.{State, generator_of, resumed}
+use Rattle.model_machine.specs.State.{State, generator_of}
 use Rattle.model_machine.specs.Step.{most_answers, says_of, serve, serve_all, served, taken_as}
-use Rattle.model_machine.specs.Went.{Went, Goes, Stops}
+use Rattle.model_machine.specs.Went.{Went}
 use Rattle.aio_body.specs.declared.body.Body.{Body}
 use Rattle.aio_gen.specs.declared.generator.Gen.{Gen}
 use Rattle.aio_body.specs.declared.reply.Reply.{Reply}
 use Rattle.aio_body.specs.declared.reply.Reply.TheVariants as said
-use Rattle.aio_body.specs.Asked.{IsInStep, HasRested, Says}
+use Rattle.aio_body.specs.Asked.{Says}
 use Rattle.aio_body.specs.Stands.{Setting, holding}
-use Rattle.aio_step.specs.Stepping.{ServedAs, ServesOne, GoesOnWith, RestsAt, served_by}
+use Rattle.aio_step.specs.Stepping.{ServedAs, ServesOne, GoesOnWith, served_by}
 use Rattle.law_machine.proofs.Kept.{IsKept, reply_state, reply-keeps}
-use Rattle.law_inside.specs.InStep.{IsStepSound, RepliesInStep}
+use Rattle.law_inside.specs.InStep.{RepliesInStep}
 use Rattle.law_body.proofs.Sound.{ends_by_itself}
 
 -- after so many answers the step goes on here
