@@ -1,7 +1,8 @@
 -- From a driven run to what the program may write.
 use Rattle.std.specs.Prelude.{codes}
 use Rattle.std.specs.Fmt.{decimal}
-use Rattle.std.proofs.Common.{◌≡◌, ℕ, Bool, true, List, [], ◌∷◌, ◌++◌, Option, Some, None, ◌⊎◌, refl, ap, sym, ◌∙◌, subst, inl, inr}
+use Rattle.std.proofs.lemmas.Fmt.{decimal_digit}
+use Rattle.std.proofs.Common.{◌≡◌, ℕ, Bool, true, List, [], ◌∷◌, ◌++◌, Option, Some, None, ◌⊎◌, refl, ap, sym, ◌∙◌, subst, inl, inr, arith}
 use Rattle.model_tree.specs.Syntax.{Program}
 use Rattle.model_text.specs.declared.cause.Cause.{Cause}
 use Rattle.model_text.specs.Canonical.{canonical}
@@ -14,7 +15,7 @@ use Rattle.model_wire.specs.Journal.{Entry}
 use Rattle.model_wire.specs.JournalText.{entries_of}
 use Rattle.model_wire.specs.Told.{Agrees, FileFailed, Rose, ShelfSeen, SinkSeen, WireSeen, NoneFailed, took}
 use Rattle.model_wire.specs.Trace.{line}
-use Rattle.model_machine.specs.Program.{Manner, script_refused, script_failed, FileSays, JournalSays, JournalBegins, MayRun, MayRunIf, MayRunScript, MayReplay, MayCheck, checked}
+use Rattle.model_machine.specs.Program.{Manner, script_refused, script_failed, FileSays, JournalSays, JournalBegins, MayRun, MayRunIf, MayRunScript, MayReplay, MayCheck, checked, not_run}
 use Rattle.model_machine.specs.Served.{is_served}
 use Rattle.model_machine.specs.Theorem.{Output, MayBegin, WritesWhole}
 use Rattle.aio_memwire.specs.declared.buffers.Buffers.{Buffers}
@@ -165,6 +166,12 @@ line_early Sink may none output text old new allowed same stops = (stops.0, inr 
 -- none of it was written, for want of memory
 pub line_unwritten : (may : Output → Type 0) (none : Type 0) (output : Output) (sink : SinkSeen) → may output → EndsEarly may none sink sink Memory
 line_unwritten may none output sink allowed = ([], inr (output, allowed, (output.text, refl)), sym (took-nil sink))
+
+-- the line of a script that doesn't run so far
+pub not_run_text : not_run.text ≡ codes "! script 1 9\n"
+not_run_text =
+    ap (λ (digits : List ℕ). line (codes "! script " ++ digits ++ codes " " ++ decimal 9)) (decimal_digit 1 (omega arith))
+    ∙ ap (λ (digits : List ℕ). line (codes "! script 1 " ++ digits)) (decimal_digit 9 (omega arith))
 
 -- ---- scripts
 says_all : (held : Option (List ℕ)) (all : List ℕ) → held ≡ Some all → FileSays (Some held) all

@@ -1,12 +1,12 @@
-use Rattle.std.proofs.Common.{◌≡◌, ◌∙◌, Bool, IfErr, IfOk, refl, subst, sym}
+use Rattle.std.proofs.Common.{◌≡◌, ℕ, ◌∙◌, Bool, IfErr, IfOk, List, ap, refl, subst, sym}
 use Rattle.std.proofs.lemmas.Result.{IfOk-weaker, IfErr-weaker}
-use Rattle.model_wire.specs.Told.{NoneFailed}
+use Rattle.model_wire.specs.Told.{NoneFailed, took}
 use Rattle.model_machine.specs.Program.{MayRunIf, not_run}
 use Rattle.model_machine.specs.Served.{is_served}
 use Rattle.model_machine.specs.Theorem.{WritesWhole}
 use Rattle.aio_drive.specs.Outcome.{EndsEarly}
 use Rattle.aio_run.specs.Manner.{manner_of}
-use Rattle.aio_run.proofs.Outcomes.{line_early}
+use Rattle.aio_run.proofs.Outcomes.{line_early, not_run_text}
 use Rattle.aio_run.proofs.replaying.replay_program.Goals as goal
 
 pub returns-then-is_served-clause-ok : goal.returns-then-is_served-clause-ok
@@ -33,7 +33,7 @@ returns-else-is_served-clause-ok g c =
     let how = manner_of c.args.journal.now c.args.manner in
     let served = sym c.if-is_served.false ∙ c.is_served.ensures in
     let may = subst (λ (b : Bool). MayRunIf shelf shelf b c.args.program.now how not_run) served (refl, refl) in
-    IfOk-weaker c.say-else-is_served.result _ _ (λ status d. (not_run, may, d.1, d.0)) c.say-else-is_served.ensures.ok
+    IfOk-weaker c.say.result _ _ (λ status d. (not_run, may, d.1 ∙ ap (λ (t : List ℕ). took (g.K.Sink.seen c.args.out.now) t) (sym not_run_text), d.0)) c.say.ensures.ok
 
 pub returns-else-is_served-clause-err : goal.returns-else-is_served-clause-err
 returns-else-is_served-clause-err g c =
@@ -41,6 +41,6 @@ returns-else-is_served-clause-err g c =
     let how = manner_of c.args.journal.now c.args.manner in
     let served = sym c.if-is_served.false ∙ c.is_served.ensures in
     let may = subst (λ (b : Bool). MayRunIf shelf shelf b c.args.program.now how not_run) served (refl, refl) in
-    IfErr-weaker c.say-else-is_served.result _ _ (λ halt d. line_early halt (MayRunIf shelf shelf (is_served c.args.program.now) c.args.program.now how)
-    (NoneFailed shelf shelf) not_run _ (g.K.Sink.seen c.args.out.now) (g.K.Sink.seen c.say-else-is_served.new.out) may refl d)
-    c.say-else-is_served.ensures.err
+    IfErr-weaker c.say.result _ _ (λ halt d. line_early halt (MayRunIf shelf shelf (is_served c.args.program.now) c.args.program.now how)
+    (NoneFailed shelf shelf) not_run _ (g.K.Sink.seen c.args.out.now) (g.K.Sink.seen c.say.new.out) may (sym not_run_text) d)
+    c.say.ensures.err
