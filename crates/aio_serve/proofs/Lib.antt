@@ -5,3 +5,9 @@ pub mod Changing
 pub mod Resting
 pub mod Spawning
 pub mod Timing
+pub mod Appending
+pub mod GroupsOn
+pub mod GroupsNeed
+pub mod GroupExits
+pub mod Grouping
+pub mod Creating

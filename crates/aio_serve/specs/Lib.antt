@@ -1,2 +1,3 @@
 pub mod Alarm
 pub mod Left
+pub mod GoneOn

@@ -1,30 +1,39 @@
 //! Requests of task groups.
-ghost use Rattle.std.specs.Prelude.{ℕ};
-ghost use Rattle.model_value.specs.declared.request.Request.TheVariants as request;
-ghost use Rattle.std.specs.Prelude.{IfOk, OnOk};
+ghost use Rattle.std.specs.Prelude.{◌≡◌, ◌<◌, ℕ, true, None, Some, IfOk, length, slice_get};
 ghost use Rattle.model_value.specs.declared.action.Action.TheVariants.{GroupDone};
+ghost use Rattle.model_value.specs.declared.request.Request.TheVariants as request;
+ghost use Rattle.model_loop.specs.Futures.{is_pending_at};
+ghost use Rattle.model_loop.specs.Groups.{child_done};
 ghost use Rattle.model_machine.specs.Extra.{no_extra};
 ghost use Rattle.model_machine.specs.Replies.{decides};
-ghost use Rattle.model_loop.specs.Groups.{child_done};
 ghost use Rattle.model_machine.specs.State.{State, Leaving, in_loop};
+ghost use Rattle.aio_group.specs.declared.exit.GroupExit.TheVariants.{Waits};
 ghost use Rattle.aio_body.specs.Asked.{MayAsk, MayDecide, MayGo, SomeGoes, Serves, IsDeciding, Says};
 ghost use Rattle.aio_body.specs.Stands.{Setting};
 ghost use Rattle.aio_body.specs.Taken.{IsTaken, IsAfter, MayTake};
+ghost use Rattle.aio_serve.specs.GoneOn.{GoneOn};
 
 use aio_base::{Exc, Input, Memory, Value, ValueList};
-use aio_body::{Body, Reply};
+use aio_body::{Body, MOST_IDS, Reply, Standing, as_group, bad_argument, out_of_range};
+use aio_group::GroupExit;
 use std::alloc::Global;
 
-pub fn enter_group(body: &mut Body, _alloc: Global, task: u32) -> Result<Reply, Memory>
+/// The group is made and entered at once.
+pub fn enter_group(body: &mut Body, alloc: Global, task: u32) -> Result<Reply, Memory>
     requires { MayGo task body.old }
     ensures { Serves task request.GroupEnter body.old body.new result }
 {
-    Err(Memory)
+    if body.groups.len() >= MOST_IDS {
+        return out_of_range(alloc);
+    }
+    let id = body.groups.make(alloc, task)?;
+    body.groups.enter(id);
+    Ok(Reply::Answers(Value::group(id)))
 }
 
 pub fn exit_group(
     body: &mut Body,
-    _alloc: Global,
+    alloc: Global,
     task: u32,
     group: &Value,
     fault: Option<Exc>,
@@ -32,12 +41,36 @@ pub fn exit_group(
     requires { MayAsk task (request.GroupExit group.now fault) body.old }
     ensures { Serves task (request.GroupExit group.now fault) body.old body.new result }
 {
-    Err(Memory)
+    let Some(id) = as_group(group) else {
+        return bad_argument(alloc);
+    };
+    let exit = body.groups.exit_begin(alloc, id, fault, &mut body.parts)?;
+    Ok(go_on(body, task, id, exit))
+}
+
+// An exit that waits suspends its task.
+fn go_on(body: &mut Body, task: u32, group: u32, exit: GroupExit) -> Reply
+    requires idle { body.old.parts.called ≡ None }
+    requires running { body.old.parts.running ≡ Some task }
+    requires within { task < length body.old.slots.items }
+    requires pending { (future : ℕ) → exit ≡ Waits future
+        → is_pending_at (slice_get body.old.parts.futures future) ≡ true }
+    ensures { GoneOn task group exit body.old body.new result }
+{
+    match exit {
+        GroupExit::Waits(future) => {
+            let _suspension = body.parts.suspend(task, future);
+            body.stand(task, Standing::Leaving(group));
+            Reply::Rests
+        }
+        GroupExit::Passes => Reply::Answers(Value::nothing()),
+        GroupExit::Raises(fault) => Reply::Raises(fault),
+    }
 }
 
 pub fn create(
     body: &mut Body,
-    _alloc: Global,
+    alloc: Global,
     group: &Value,
     coroutine: u32,
     arguments: &ValueList,
@@ -45,13 +78,25 @@ pub fn create(
     requires { SomeGoes body.old }
     ensures { (task : ℕ) → Serves task (request.Create group.now coroutine arguments.now) body.old body.new result }
 {
-    Err(Memory)
+    let Some(id) = as_group(group) else {
+        return bad_argument(alloc);
+    };
+    let made = body.slots.len();
+    if made >= MOST_IDS {
+        return out_of_range(alloc);
+    }
+    let created = body.groups.create(alloc, id, &mut body.parts)?;
+    if let Some(fault) = created.fault(alloc)? {
+        return Ok(Reply::Raises(fault));
+    }
+    body.hold(alloc, coroutine, arguments)?;
+    Ok(Reply::Answers(Value::task(made as u32)))
 }
 
 /// The exit of a group goes on after its wait.
 pub fn leave_group(
     body: &mut Body,
-    _alloc: Global,
+    alloc: Global,
     task: u32,
     group: u32,
     input: Input,
@@ -60,14 +105,17 @@ pub fn leave_group(
     ensures { IfOk result (λ said. (c : Setting) (s : State (Unit {0})) → IsDeciding task (Leaving group) c body.old s
         → Says task c body.new said (decides no_extra (Leaving group) task input s)) }
 {
-    Err(Memory)
+    let exit = body
+        .groups
+        .exit_woken(alloc, group, input, &mut body.parts)?;
+    Ok(go_on(body, task, group, exit))
 }
 
 /// A task of a group is done.
-pub fn child_done(body: &mut Body, _alloc: Global, group: u32, task: u32) -> Result<(), Memory>
+pub fn child_done(body: &mut Body, group: u32, task: u32)
     requires { MayTake (GroupDone group task) body.old }
-    ensures { OnOk result ((c : Setting) (s : State (Unit {0})) → IsTaken (GroupDone group task) c body.old s
-        → IsAfter c body.new (in_loop (child_done group task) s)) }
+    ensures { (c : Setting) (s : State (Unit {0})) → IsTaken (GroupDone group task) c body.old s
+        → IsAfter c body.new (in_loop (child_done group task) s) }
 {
-    Err(Memory)
+    body.groups.child_done(group, task, &mut body.parts);
 }

@@ -1,0 +1,293 @@
+-- Steps of groups: what they leave, and how what is stood for goes on where groups change.
+use Rattle.std.proofs.Common.{◌≡◌, ℕ, zero, suc, ◌<◌, ◌≤◌, Bool, true, false, not, ◌&&◌, ◌||◌, ◌==◌, List, [], ◌∷◌, ◌++◌, Option, Some, None, filter, length, slice_set, ◌∙◌, refl, sym, ap, subst, arith, if◌then◌else◌}
+use Rattle.std.specs.Prelude.{is_some, slice_index_or}
+use Rattle.model_value.specs.Input.{Input}
+use Rattle.model_value.specs.declared.input.Input.TheVariants.{Send, Throw}
+use Rattle.model_value.specs.declared.outcome.Outcome.TheVariants.{Value as Returned}
+use Rattle.model_value.specs.Number.{most}
+use Rattle.model_value.specs.Value.{Nothing, Exc}
+use Rattle.model_loop.specs.Children.{HasPlainExit}
+use Rattle.model_loop.specs.Futures.{new_plain, settle}
+use Rattle.model_loop.specs.Groups.{abort, abort_and_request_unless, abort_if_raised, abort_where, begin_exit, blame, child_done, end_exit, exit_begin, exit_woken, failure_of, group_of, hear, keep_and_abort_unless, new_group, request_parent, set_group, take_back, take_back_where, wait_for_children, wait_or_end, wait_or_end_with, wake_exit, wake_if_last, without_child}
+use Rattle.model_loop.specs.Ledger.{ByAbort, ByGroup, Origin, request, request_each, request_where, uncancel_by}
+use Rattle.model_loop.specs.Loop.{Group, Loop, book, in_parts}
+use Rattle.model_loop.specs.Loop as loop
+use Rattle.model_loop.specs.Owning.{is_plain}
+use Rattle.model_loop.specs.Parts.{Parts, Plain}
+use Rattle.model_loop.specs.Tasks.{cancelling, future_of, lives, next_task, uncancel}
+use Rattle.model_machine.specs.State.{State, generator_of, in_loop}
+use Rattle.law_kept.proofs.Only.{only_cancel, only_settle, changes_make, changes_task, appends}
+use Rattle.law_settling.proofs.CancelSound.{plain_within}
+use Rattle.aio_task.specs.View.{View}
+use Rattle.aio_task.specs.Keeps.{Ties, Kept}
+use Rattle.aio_timeout.proofs.Keeping.{timeouts_stay}
+use Rattle.aio_timeout.specs.Kept.{AreTimeouts}
+use Rattle.aio_group.specs.Held.{Held}
+use Rattle.aio_group.specs.Stands.{Came, StandsFor}
+use Rattle.aio_body.specs.declared.body.Body.{Body}
+use Rattle.aio_body.specs.Stands.{AreBlocks, Setting, Stands}
+use Rattle.aio_serve.proofs.Appending.{Appends, appends_same, appends_on, appends_only, below_kept}
+use Rattle.law_body.proofs.Left.{AreOwnMade, leaves_plain, leaves_request, leaves_settle, leaves_uncancel}
+use Rattle.law_body.proofs.Lasting.{Spares, own_on, spares_none, stands_at_on}
+use Rattle.law_body.proofs.Leaving.{Leaves, leaves_same, leaves_on}
+
+-- ---- what a step of a group leaves
+pub record StepLeaves (l m : Loop) : Type 0 where
+  pub parts : Leaves None l.parts m.parts
+  pub handles : Appends l.parts m.parts
+  pub timeouts : m.timeouts ≡ l.timeouts
+
+pub step_same : (l m : Loop) → m.parts ≡ l.parts → m.timeouts ≡ l.timeouts → StepLeaves l m
+step_same l m p t = record {
+  parts = subst (λ q. Leaves None l.parts q) (sym p) (leaves_same l.parts);
+  handles = subst (λ q. Appends l.parts q) (sym p) (appends_same l.parts);
+  timeouts = t;
+}
+
+pub step_on : (l m n : Loop) → StepLeaves l m → StepLeaves m n → StepLeaves l n
+step_on l m n a b = record {
+  parts = leaves_on None l.parts m.parts n.parts a.parts b.parts;
+  handles = appends_on l.parts m.parts n.parts a.handles b.handles;
+  timeouts = b.timeouts ∙ a.timeouts;
+}
+
+-- each task's own future was made, and stays so
+made_on : (p q : Parts) → Leaves None p q → AreOwnMade p → AreOwnMade q
+made_on p q leaves made task m =
+    let tasks = leaves.tasks in
+    let futures = leaves.goes_on.futures in
+    let within : task < next_task p = omega (arith, m, tasks) in
+    let same = leaves.goes_on.own task within in
+    let there = made task within in
+    omega (arith, same, there, futures)
+
+-- ---- requests
+where_leaves : (b : Bool) (by : Origin) (id : ℕ) (p : Parts) → Leaves None p (request_where b by id p).parts
+where_leaves true by id p = leaves_request by id p
+where_leaves false by id p = leaves_same p
+
+where_appends : (b : Bool) (by : Origin) (id : ℕ) (p : Parts) → Appends p (request_where b by id p).parts
+where_appends true by id p = appends_only p (request by id p).booked.parts (only_cancel id p)
+where_appends false by id p = appends_same p
+
+pub leaves_each : (by : Origin) (tasks : List ℕ) (p : Parts) → Leaves None p (request_each by tasks p).parts
+leaves_each by [] p = leaves_same p
+leaves_each by (task ∷ tasks) p =
+    let one = (request_where (lives p task) by (future_of p task) p).parts in
+    leaves_on None p one (request_each by tasks one).parts (where_leaves (lives p task) by (future_of p task) p) (leaves_each by tasks one)
+
+appends_each : (by : Origin) (tasks : List ℕ) (p : Parts) → Appends p (request_each by tasks p).parts
+appends_each by [] p = appends_same p
+appends_each by (task ∷ tasks) p =
+    let one = (request_where (lives p task) by (future_of p task) p).parts in
+    appends_on p one (request_each by tasks one).parts (where_appends (lives p task) by (future_of p task) p) (appends_each by tasks one)
+
+pub abort_leaves : (id : ℕ) (l : Loop) → StepLeaves l (abort id l)
+abort_leaves id l = record {
+  parts = leaves_each (ByAbort id) (group_of l id).children l.parts;
+  handles = appends_each (ByAbort id) (group_of l id).children l.parts;
+  timeouts = refl;
+}
+
+-- ---- a child is done
+wake_leaves : (id : ℕ) (l : Loop) → HasPlainExit l.parts (group_of l id) → StepLeaves l (wake_exit id l)
+wake_leaves id l plain = at (group_of l id).children (group_of l id).exit_future plain
+  where
+    at : (children : List ℕ) (exit : Option ℕ) → ((future : ℕ) → exit ≡ Some future → is_plain l.parts future ≡ true)
+        → StepLeaves l (record l { parts = wake_if_last children exit l.parts })
+    at [] None h = step_same l l refl refl
+    at (child ∷ children) exit h = step_same l l refl refl
+    at [] (Some future) h = record {
+      parts = leaves_settle future (Returned Nothing) l.parts (plain_within l.parts future (h future refl)).0;
+      handles = appends_only l.parts (settle future (Returned Nothing) l.parts) (only_settle future (Returned Nothing) l.parts);
+      timeouts = refl;
+    }
+
+request_parent_leaves : (id : ℕ) (l : Loop) → StepLeaves l (request_parent id l)
+request_parent_leaves id l =
+    let on = future_of l.parts (group_of l id).parent in
+    record {
+      parts = leaves_request (ByGroup id) on l.parts;
+      handles = appends_only l.parts (request (ByGroup id) on l.parts).booked.parts (only_cancel on l.parts);
+      timeouts = refl;
+    }
+
+unless_leaves : (b : Bool) (id : ℕ) (l : Loop) → StepLeaves l (abort_and_request_unless b id l)
+unless_leaves true id l = step_same l l refl refl
+unless_leaves false id l =
+    step_on l (abort id l) (request_parent id (abort id l)) (abort_leaves id l) (request_parent_leaves id (abort id l))
+
+blame_leaves : (fault : Option Exc) (id : ℕ) (l : Loop) → StepLeaves l (blame fault id l)
+blame_leaves None id l = step_same l l refl refl
+blame_leaves (Some fault) id l =
+    let m = set_group id (record (group_of l id) { errors = (group_of l id).errors ++ fault ∷ [] }) l in
+    step_on l m (blame (Some fault) id l) (step_same l m refl refl)
+    (unless_leaves ((group_of l id).aborting || (group_of l id).requested) id m)
+
+-- a group that lost a child waits as it did
+exit_same : (groups : List Group) (id : ℕ) (new other : Group) → new.exit_future ≡ (slice_index_or groups id other).exit_future
+    → (slice_index_or (slice_set groups id new) id other).exit_future ≡ (slice_index_or groups id other).exit_future
+exit_same [] id new other e = refl
+exit_same (x ∷ groups) zero new other e = e
+exit_same (x ∷ groups) (suc id) new other e = exit_same groups id new other e
+
+pub child_done_leaves : (id task : ℕ) (l : Loop) → HasPlainExit l.parts (group_of l id) → StepLeaves l (child_done id task l)
+child_done_leaves id task l plain =
+    let m = without_child id task l in
+    let n = wake_exit id m in
+    let same : (group_of m id).exit_future ≡ (group_of l id).exit_future =
+    exit_same l.groups id (record (group_of l id) { children = filter (λ child. not (child == task)) (group_of l id).children }) (new_group 0) refl in
+    step_on l n (child_done id task l) (step_on l m n (step_same l m refl refl) (wake_leaves id m (λ future e. plain future (sym same ∙ e))))
+    (blame_leaves (failure_of l.parts task) id n)
+
+-- ---- an exit
+pub uncancel_leaves : (by : Origin) (task : ℕ) (l : Loop) → StepLeaves l (book (uncancel_by by task) l)
+uncancel_leaves by task l = record {
+  parts = leaves_uncancel task l.parts;
+  handles = appends_only l.parts (uncancel task l.parts) (appends (changes_task task _ l.parts));
+  timeouts = refl;
+}
+
+take_back_leaves : (b : Bool) (id : ℕ) (l : Loop) → StepLeaves l (take_back_where b id l)
+take_back_leaves false id l = step_same l l refl refl
+take_back_leaves true id l = at (cancelling taken.parts group.parent == 0)
+  where
+    group : Group
+    group = group_of l id
+
+    taken : Loop
+    taken = book (uncancel_by (ByGroup id) (group_of l id).parent) l
+
+    first : StepLeaves l taken
+    first = uncancel_leaves (ByGroup id) (group_of l id).parent l
+
+    at : (b : Bool) → StepLeaves l (if b then set_group id (record group { kept = None }) taken else taken)
+    at false = first
+    at true =
+        let m = set_group id (record group { kept = None }) taken in
+        step_on l taken m first (step_same taken m refl refl)
+
+abort_where_leaves : (b : Bool) (id : ℕ) (l : Loop) → StepLeaves l (abort_where b id l)
+abort_where_leaves true id l = abort_leaves id l
+abort_where_leaves false id l = step_same l l refl refl
+
+-- what comes before the exit waits or ends
+pub begun_leaves : (raised : Option Exc) (id : ℕ) (l : Loop) → StepLeaves l (abort_if_raised raised id (take_back id (begin_exit raised id l)))
+begun_leaves raised id l =
+    let m = begin_exit raised id l in
+    let n = take_back id m in
+    step_on l n (abort_if_raised raised id n)
+    (step_on l m n (step_same l m refl refl) (take_back_leaves (group_of m id).requested id m))
+    (abort_where_leaves (is_some raised && not (group_of n id).aborting) id n)
+
+unless_aborts : (b : Bool) (fault : Exc) (id : ℕ) (l : Loop) → StepLeaves l (keep_and_abort_unless b fault id l)
+unless_aborts true fault id l = step_same l l refl refl
+unless_aborts false fault id l =
+    let m = set_group id (record (group_of l id) { kept = Some fault }) l in
+    step_on l m (abort id m) (step_same l m refl refl) (abort_leaves id m)
+
+hear_leaves : (input : Input) (id : ℕ) (l : Loop) → StepLeaves l (hear input id l)
+hear_leaves (Send value) id l = step_same l l refl refl
+hear_leaves (Throw fault) id l = unless_aborts (group_of l id).aborting fault id l
+
+pub heard_leaves : (input : Input) (id : ℕ) (l : Loop)
+    → StepLeaves l (hear input id (set_group id (record (group_of l id) { exit_future = None }) l))
+heard_leaves input id l =
+    let m = set_group id (record (group_of l id) { exit_future = None }) l in
+    step_on l m (hear input id m) (step_same l m refl refl) (hear_leaves input id m)
+
+end_leaves : (kept : Option Exc) (errors : List Exc) (id : ℕ) (l : Loop) → StepLeaves l (end_exit kept errors id l).loop
+end_leaves None errors id l = step_same l (end_exit None errors id l).loop refl refl
+end_leaves (Some fault) [] id l = step_same l (end_exit (Some fault) [] id l).loop refl refl
+end_leaves (Some fault) (error ∷ errors) id l = step_same l (end_exit (Some fault) (error ∷ errors) id l).loop refl refl
+
+wait_leaves : (id : ℕ) (l : Loop) → AreOwnMade l.parts → StepLeaves l (wait_for_children id l).loop
+wait_leaves id l made = record {
+  parts = leaves_plain l.parts made;
+  handles = appends_only l.parts (new_plain l.parts) (appends (changes_make Plain l.parts));
+  timeouts = refl;
+}
+
+pub wait_or_end_leaves : (id : ℕ) (l : Loop) → AreOwnMade l.parts → StepLeaves l (wait_or_end id l).loop
+wait_or_end_leaves id l made = at (group_of l id).children
+  where
+    at : (children : List ℕ) → StepLeaves l (wait_or_end_with children id l).loop
+    at [] = end_leaves (group_of l id).kept (group_of l id).errors id l
+    at (child ∷ children) = wait_leaves id l made
+
+pub exit_begin_leaves : (raised : Option Exc) (id : ℕ) (l : Loop) → AreOwnMade l.parts → StepLeaves l (exit_begin raised id l).loop
+exit_begin_leaves raised id l made =
+    let m = abort_if_raised raised id (take_back id (begin_exit raised id l)) in
+    let first = begun_leaves raised id l in
+    step_on l m (wait_or_end id m).loop first (wait_or_end_leaves id m (made_on l.parts m.parts first.parts made))
+
+pub exit_woken_leaves : (input : Input) (id : ℕ) (l : Loop) → AreOwnMade l.parts → StepLeaves l (exit_woken input id l).loop
+exit_woken_leaves input id l made =
+    let m = hear input id (set_group id (record (group_of l id) { exit_future = None }) l) in
+    let first = heard_leaves input id l in
+    step_on l m (wait_or_end id m).loop first (wait_or_end_leaves id m (made_on l.parts m.parts first.parts made))
+
+-- ---- what is stood for goes on
+-- An operation after which timeouts and groups stand for the machine's, by whatever the code made of them.
+pub stands_blocks : (new : Option (ℕ × ℕ)) (out : Option ℕ) (c : Setting) (old : Body) (s : State (Unit {0})) (v : View) (groups : List Held)
+    (change : Loop → Loop) → (h : Stands out c old s) → (kept : Kept h.ties s.loop.parts v (change s.loop).parts)
+    → Leaves new s.loop.parts (change s.loop).parts → Spares new s.loop.parts s.futures
+    → AreBlocks kept.ties old.timeouts groups (change s.loop) → length v.queue.below ≡ length old.parts.queue.below
+    → Stands out c (record old { parts = v; groups = groups }) (in_loop change s)
+stands_blocks new out c old s v groups change h kept leaves spares blocks below = record {
+  ties = kept.ties;
+  code = h.code;
+  keeps = kept.keeps;
+  blocks = blocks;
+  left = below ∙ h.left;
+  bar = kept.extends.bar ∙ h.bar;
+  made = h.made ∙ sym leaves.tasks;
+  told = h.told ∙ sym leaves.tasks;
+  few = h.few;
+  held = λ task l. let it = h.held task (leaves.living task l) in record {
+    slot = it.slot;
+    found = it.found;
+    right = record {
+      waits = it.right.waits;
+      standing =
+          stands_at_on new h.ties kept.ties s.loop.parts (change s.loop).parts s.futures task it.slot.standing (generator_of task s).standing leaves spares kept.extends
+          it.right.standing;
+    };
+  };
+  gone = λ id e. own_on new s.loop.parts (change s.loop).parts s.futures None id leaves spares (h.gone id (sym (ap (λ f. f id) kept.extends.gone) ∙ e));
+  futures = h.futures;
+  few_futures = h.few_futures;
+  main_done = h.main_done;
+  time = subst (λ n. n ≤ most) (sym leaves.time) h.time;
+  counts = leaves.counts h.counts;
+  events = h.events;
+  rest = h.rest;
+  count = h.count;
+}
+
+-- groups and parts of a body stand for its loop
+pub groups_stand : (out : Option ℕ) (c : Setting) (body : Body) (s : State (Unit {0})) → (h : Stands out c body s)
+    → StandsFor h.ties body.groups body.parts s.loop.parts s.loop.groups
+groups_stand out c body s h = record { keeps = h.keeps; each = h.blocks.groups }
+
+-- the timeouts stay where tags are known as before
+pub blocks_came : (t : Ties) (timeouts : List _) (groups others : List Held) (v : View) (l m : Loop) → (came : Came t l others v m)
+    → m.timeouts ≡ l.timeouts → AreBlocks t timeouts groups l → AreBlocks came.ties timeouts others m
+blocks_came t timeouts groups others v l m came same b = record {
+  timeouts =
+      subst (λ (xs : List loop.Timeout). AreTimeouts came.ties m.parts timeouts xs) (sym same)
+      (timeouts_stay t came.ties l.parts m.parts timeouts l.timeouts came.extends.known came.extends.tags b.timeouts);
+  groups = came.stands.each;
+}
+
+abbrev pub kept_of : {t : Ties} {l m : Loop} {groups : List Held} {v : View} → (came : Came t l groups v m) → Kept t l.parts v m.parts
+kept_of came = record { ties = came.ties; keeps = came.stands.keeps; extends = came.extends }
+
+-- a step of a group
+pub stands_stepped : (out : Option ℕ) (c : Setting) (old : Body) (s : State (Unit {0})) (v : View) (groups : List Held) (change : Loop → Loop)
+    → (h : Stands out c old s) → Came h.ties s.loop groups v (change s.loop) → StepLeaves s.loop (change s.loop)
+    → Stands out c (record old { parts = v; groups = groups }) (in_loop change s)
+stands_stepped out c old s v groups change h came leaves =
+    stands_blocks None out c old s v groups change h (kept_of came) leaves.parts (spares_none s.loop.parts s.futures)
+    (blocks_came h.ties old.timeouts old.groups groups v s.loop (change s.loop) came leaves.timeouts h.blocks)
+    (below_kept h.ties came.ties old.parts v s.loop.parts (change s.loop).parts h.keeps came.stands.keeps came.extends.bar leaves.handles)
