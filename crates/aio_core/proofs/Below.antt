@@ -20,9 +20,13 @@ use Rattle.aio_task.specs.Keeps.{Ties, Keeps, Kept, Extends}
 use Rattle.aio_body.specs.declared.body.Body.{Body}
 use Rattle.aio_body.specs.Stands.{Setting, Stands, IsBetween}
 use Rattle.aio_body.specs.Taken.{IsNext}
-use Rattle.law_body.proofs.Given.{IsPastBar, Runs, Skips, keeps_next, count_early, dead_sound}
+use Rattle.law_handles.specs.Runs.{IsPastBar, Runs, Skips}
+use Rattle.law_handles.proofs.Running.{count_early}
+use Rattle.law_handles.proofs.Skipping.{keeps_next}
 use Rattle.law_body.proofs.Lasting.{spares_none, stands_left}
 use Rattle.law_body.proofs.Leaving.{Leaves}
+use Rattle.law_body.proofs.Left.{leaves_handles}
+use Rattle.law_body.proofs.Sound.{dead_sound}
 
 -- the state with these handles pending
 abbrev pub with_pending : List Handle → State (Unit {0}) → State (Unit {0})
@@ -95,15 +99,7 @@ count_dead bar (h ∷ dead) left are =
 
 -- ---- what is kept
 pub pending_leaves : (p : Parts) (handles : List Handle) → Leaves None p (record p { pending = handles })
-pending_leaves p handles = record {
-  tasks = refl;
-  living = λ task l. l;
-  plain = λ id e. e;
-  waits = λ task id e. inl e;
-  time = refl;
-  counts = λ h. h;
-  goes_on = ?;
-}
+pending_leaves p handles = leaves_handles p (record p { pending = handles }) refl refl refl
 
 pub pending_kept : (t : Ties) (v : View) (p : Parts) (handles : List Handle) → Keeps t v (record p { pending = handles })
     → Kept t p v (record p { pending = handles })

@@ -1,1 +1,10 @@
 pub mod Below
+pub mod Running
+pub mod Acting
+pub mod Waking
+pub mod Stopping
+pub mod Asking
+pub mod Following
+pub mod Opening
+pub mod Placing
+pub mod Keeping

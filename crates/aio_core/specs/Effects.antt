@@ -1,6 +1,11 @@
 -- What a handle does, by its action.
+use Rattle.std.specs.Prelude.{◌≡◌}
 use Rattle.model_value.specs.Action.{Action}
 use Rattle.model_value.specs.declared.action.Action.TheVariants as action
+use Rattle.model_machine.specs.State.{State}
+use Rattle.aio_body.specs.declared.body.Body.{Body}
+use Rattle.aio_body.specs.Stands.{Setting}
+use Rattle.aio_body.specs.Taken.{IsTaken}
 use Rattle.aio_core.specs.declared.effect.Effect.{Effect}
 use Rattle.aio_core.specs.declared.effect.Effect.TheVariants as code
 
@@ -13,3 +18,8 @@ effect_of (action.GroupDone group task) = code.GroupDone group task
 effect_of (action.Fires timeout) = code.Fires timeout
 effect_of action.MainDone = code.MainDone
 effect_of _ = code.Nothing
+
+-- a handle that does this was taken from the queue, and it was noted that it runs
+abbrev pub MayAct : Effect → Body → Type 0
+MayAct what body =
+    ∥ ((it : Action) × ((what ≡ effect_of it) × ((c : Setting) × ((s : State (Unit {0})) × IsTaken it c body s)))) ∥₁

@@ -1,2 +1,5 @@
 pub mod Effects
 pub mod Turning
+pub mod Empty
+pub mod Again
+pub mod Turned

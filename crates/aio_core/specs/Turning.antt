@@ -1,18 +1,20 @@
--- A turn, piece by piece.
-use Rattle.std.specs.Prelude.{◌≡◌, ℕ, ◌-◌, ◌^◌, Bool, false, List, [], ◌∷◌, ◌++◌, Option, Some, None, Result, Ok, Err, map, min}
-use Rattle.model_value.specs.Value.{Outcome}
+-- A turn, piece by piece, and what a whole one comes to, by what is seen of the wire before and after.
+use Rattle.std.specs.Prelude.{◌≡◌, ℕ, ◌-◌, ◌^◌, ◌≤◌, Bool, true, false, List, [], ◌∷◌, ◌++◌, Option, Some, None, Result, Ok, Err, length, map, min}
+use Rattle.model_value.specs.Number.{most}
 use Rattle.model_says.specs.Says.{step_limit}
+use Rattle.model_wire.specs.declared.answer.Answer.TheVariants as answer
 use Rattle.model_wire.specs.declared.event.End.TheVariants as end
 use Rattle.model_wire.specs.Call.{Answer, Call}
 use Rattle.model_wire.specs.Event.{Event}
 use Rattle.model_wire.specs.Journal.{Entry, Answered}
-use Rattle.model_wire.specs.Told.{Agrees, Rose, WireSeen}
+use Rattle.model_wire.specs.Told.{Agrees, Rose}
 use Rattle.model_wire.specs.Trace.{End}
 use Rattle.model_machine.specs.Extra.{no_extra}
 use Rattle.model_machine.specs.Outcomes.{end_of}
+use Rattle.model_machine.specs.Outside.{select}
 use Rattle.model_machine.specs.State.{State}
 use Rattle.model_machine.specs.Turn.{turn}
-use Rattle.model_machine.specs.Went.{Went, Goes, Stops}
+use Rattle.model_machine.specs.Went.{Went, Goes, Stops, answers_in}
 use Rattle.aio_wire.specs.Told.{refused_of}
 use Rattle.aio_wire.specs.declared.stop.Stop.{Stop}
 use Rattle.aio_wire.specs.declared.stop.Stop.TheVariants as stop
@@ -28,49 +30,80 @@ IsAlive body = ∥ ((c : Setting) × ((s : State (Unit {0})) × IsBetween c body
 abbrev pub at_bar : Setting → Setting
 at_bar c = record c { left = 0 }
 
+-- ---- between two turns
+-- these events were taken out before, and the outside has these answers left
+abbrev pub resting : List Event → List Entry → (bar : ℕ) → Setting
+resting past answers bar = record { past = past; answers = answers; left = 0; bar = bar; coroutine = None }
+
+abbrev pub IsAtRest : List Event → List Entry → Body → State (Unit {0}) → Type 0
+IsAtRest past answers body s = (bar : ℕ) × IsBetween (resting past answers bar) body s
+
+-- ---- what a turn asks
+-- a select that watches nothing
+abbrev pub IsSelect : Call → Type 0
+IsSelect it = (wait : Option ℕ) × (it ≡ select wait [])
+
+-- the answer is a time, and no news
+abbrev pub IsTime : Answer → Type 0
+IsTime (answer.Turn now items) = (now ≤ most) × (items ≡ [])
+IsTime _ = ⊥
+
+-- all that is pending stands before the bar
+abbrev pub all_below : Setting → State (Unit {0}) → Setting
+all_below c s = record c { left = length s.loop.parts.pending; bar = s.loop.parts.next_stamp }
+
 -- ---- the end of a turn
+-- the run goes on, or it ended in this way, and what happened is told
 abbrev pub Turned : Setting → Body → code.Went → Went (Unit {0}) → Type 0
 Turned c body went.Went (Goes now) = IsBetween c body now
 Turned c body (went.Finished outcome) (Stops it last) = (it ≡ end_of outcome) × (last.events ≡ c.past ++ body.events.events)
-Turned c body went.Stalled (Stops it last) = (it ≡ end.Stalled) × (last.events ≡ c.past ++ body.events.events)
 Turned c body (went.Runaway task) (Stops it last) = (it ≡ end.Runaway task) × (last.events ≡ c.past ++ body.events.events)
 Turned c body _ _ = ⊥
 
 -- ---- a whole turn
--- between two turns, where the outside has these left to answer
-abbrev pub IsAtRest : List Event → List Entry → Body → State (Unit {0}) → Type 0
-IsAtRest past answers body s =
-    (bar : ℕ) × IsBetween (record { past = past; answers = answers; left = 0; bar = bar; coroutine = None }) body s
+-- what a turn said, where it stopped or went on
+abbrev pub said_by : Result code.Went Stop → code.Went
+said_by (Ok went) = went
+said_by (Err stop) = went.Stopped stop
 
--- what a turn took of what the wire told
+-- these answers were taken of what was told
 abbrev pub Takes : (before after : Option (List Entry)) → List Answer → Type 0
 Takes before after had = (rest : List Entry) → Agrees after rest → Agrees before (map Answered had ++ rest)
 
+-- Which states are stood for, after events that were taken out before, and over answers that the outside has left.
+abbrev pub Stood : Type 1
+Stood = List Event → List Entry → State (Unit {0}) → Type 0
+
+abbrev pub stood_by : Body → Stood
+stood_by body past answers s = IsAtRest past answers body s
+
 -- The machine's turn goes on, and is stood for, whatever the outside has left.
-abbrev pub GoesOn : List Answer → (old new : Body) → Type 0
-GoesOn had old new =
-    (past : List Event) (rest : List Entry) (s : State (Unit {0})) → IsAtRest past (map Answered had ++ rest) old s
-    → (now : State (Unit {0})) × ((turn step_limit no_extra s ≡ Goes now) × IsAtRest past rest new now)
+abbrev pub GoesOnFrom : List Answer → (old new : Stood) → Type 0
+GoesOnFrom had old new =
+    (past : List Event) (rest : List Entry) (s : State (Unit {0})) → old past (map Answered had ++ rest) s
+    → (now : State (Unit {0})) × ((turn step_limit no_extra s ≡ Goes now) × new past rest now)
 
--- It ends the run in such a way, and what happened is told.
-pub record Ends (ways : End → Type 0) (past : List Event) (new : Body) (s : State (Unit {0})) : Type 0 where
-  pub how : End
+-- It ends the run in such a way, and what happened is told: what was taken out before, and these events.
+pub record EndsTelling (ways : End → State (Unit {0}) → Type 0) (past untaken : List Event) (s : State (Unit {0})) : Type 0 where
+  pub end : End
   pub last : State (Unit {0})
-  pub way : ways how
-  pub stops : turn step_limit no_extra s ≡ Stops how last
-  pub told : last.events ≡ past ++ new.events.events
+  pub way : ways end last
+  pub stops : turn step_limit no_extra s ≡ Stops end last
+  pub told : last.events ≡ past ++ untaken
 
-abbrev pub EndsAs : List Answer → (left : List Entry → Type 0) → (ways : End → Type 0) → (old new : Body) → Type 0
-EndsAs had left ways old new =
-    (past : List Event) (rest : List Entry) (s : State (Unit {0})) → left rest → IsAtRest past (map Answered had ++ rest) old s
-    → Ends ways past new s
+abbrev pub EndsFrom : List Answer → (left : List Entry → Type 0) → (ways : End → State (Unit {0}) → Type 0) → (old : Stood)
+    → (untaken : List Event) → Type 0
+EndsFrom had left ways old untaken =
+    (past : List Event) (rest : List Entry) (s : State (Unit {0})) → left rest → old past (map Answered had ++ rest) s
+    → EndsTelling ways past untaken s
 
-abbrev pub Is : End → End → Type 0
-Is wanted it = it ≡ wanted
+abbrev pub Is : End → End → State (Unit {0}) → Type 0
+Is wanted it last = it ≡ wanted
 
 -- the number is the answer's, or the greatest of its type
-abbrev pub IsMismatch : ℕ → Call → End → Type 0
-IsMismatch count call it = (real : ℕ) × ((it ≡ end.Mismatch real call) × (count ≡ min real (2 ^ 64 - 1)))
+abbrev pub IsMismatch : ℕ → Call → End → State (Unit {0}) → Type 0
+IsMismatch count call it last =
+    (it ≡ end.Mismatch (answers_in last.events) call) × (count ≡ min (answers_in last.events) (2 ^ 64 - 1))
 
 abbrev pub AnyLeft : List Entry → Type 0
 AnyLeft rest = Unit {0}
@@ -81,22 +114,51 @@ NoneLeft rest = rest ≡ []
 abbrev pub NextIs : Entry → List Entry → Type 0
 NextIs entry rest = (others : List Entry) × (rest ≡ entry ∷ others)
 
--- What a turn comes to, by what is seen of the wire before and after.
-abbrev pub TurnsTo : (before after : WireSeen) (old new : Body) → Result code.Went Stop → Type 0
-TurnsTo before after old new (Ok went.Went) = (had : List Answer) × (Takes before.left after.left had × GoesOn had old new)
-TurnsTo before after old new (Ok (went.Finished outcome)) =
-    (had : List Answer) × (Takes before.left after.left had × EndsAs had AnyLeft (Is (end_of outcome)) old new)
-TurnsTo before after old new (Ok went.Stalled) = (before ≡ after) × EndsAs [] AnyLeft (Is end.Stalled) old new
-TurnsTo before after old new (Ok (went.Runaway task)) =
-    (had : List Answer) × (Takes before.left after.left had × EndsAs had AnyLeft (Is (end.Runaway task)) old new)
-TurnsTo before after old new (Ok (went.Stopped stop)) = ⊥
-TurnsTo before after old new (Err (stop.Over call)) =
-    (had : List Answer) × (Agrees before.left (map Answered had) × EndsAs had NoneLeft (Is (end.Over call)) old new)
-TurnsTo before after old new (Err (stop.Bad fault)) =
-    (had : List Answer) × (((rest : List Entry) × Agrees before.left (map Answered had ++ refused_of fault ∷ rest))
-    × EndsAs had (NextIs (refused_of fault)) (Is (end.JournalRefused fault.line fault.cause)) old new)
-TurnsTo before after old new (Err (stop.Mismatch count call)) =
-    (had : List Answer) × (Takes before.left after.left had × EndsAs had AnyLeft (IsMismatch count call) old new)
-TurnsTo before after old new (Err (stop.Failed call)) =
-    (had : List Answer) × (Takes before.left after.left had × EndsAs had NoneLeft (Is (end.Over call)) old new × Rose before.faults after.faults)
-TurnsTo before after old new (Err stop.Memory) = Unit {0}
+-- What a turn comes to. `before` and `after` are what the wire told of its answers, `was` and `is` how often it had failed;
+-- `old` and `new` say which states were stood for and are then, and `untaken` are the events that weren't taken out yet.
+abbrev pub ComesTo : (before after : Option (List Entry)) (was is : ℕ) (old new : Stood) (untaken : List Event) → code.Went → Type 0
+ComesTo before after was is old new untaken went.Went = (had : List Answer) × (Takes before after had × GoesOnFrom had old new)
+ComesTo before after was is old new untaken (went.Finished outcome) =
+    (had : List Answer) × (Takes before after had × EndsFrom had AnyLeft (Is (end_of outcome)) old untaken)
+ComesTo before after was is old new untaken went.Stalled = (before ≡ after) × EndsFrom [] AnyLeft (Is end.Stalled) old untaken
+ComesTo before after was is old new untaken (went.Runaway task) =
+    (had : List Answer) × (Takes before after had × EndsFrom had AnyLeft (Is (end.Runaway task)) old untaken)
+ComesTo before after was is old new untaken (went.Stopped (stop.Over call)) =
+    (had : List Answer) × (Agrees before (map Answered had) × EndsFrom had NoneLeft (Is (end.Over call)) old untaken)
+ComesTo before after was is old new untaken (went.Stopped (stop.Bad fault)) =
+    (had : List Answer) × (((rest : List Entry) × Agrees before (map Answered had ++ refused_of fault ∷ rest))
+    × EndsFrom had (NextIs (refused_of fault)) (Is (end.JournalRefused fault.line fault.cause)) old untaken)
+ComesTo before after was is old new untaken (went.Stopped (stop.Mismatch count call)) =
+    (had : List Answer) × (Takes before after had × EndsFrom had AnyLeft (IsMismatch count call) old untaken)
+ComesTo before after was is old new untaken (went.Stopped (stop.Failed call)) =
+    (had : List Answer) × (Takes before after had × EndsFrom had NoneLeft (Is (end.Over call)) old untaken × Rose was is)
+ComesTo before after was is old new untaken (went.Stopped stop.Memory) = Unit {0}
+
+-- where the run goes on there is a state that is stood for
+abbrev pub AliveIfWent : code.Went → Body → Type 0
+AliveIfWent went.Went body = IsAlive body
+AliveIfWent _ body = Unit {0}
+
+-- between two turns there is such a state, unless the run ended
+abbrev pub AliveUnless : (ended : Option code.Went) → Body → Type 0
+AliveUnless None body = IsAlive body
+AliveUnless (Some went) body = Unit {0}
+
+-- whether a state is stalled, by what was said
+abbrev pub StallsAs : Bool → code.Went → Type 0
+StallsAs stalled went.Stalled = stalled ≡ true
+StallsAs stalled (went.Stopped stop.Memory) = Unit {0}
+StallsAs stalled _ = stalled ≡ false
+
+-- ---- the wire
+-- a fact that holds unless it failed in the turn
+abbrev pub UnlessFailed : Type 0 → code.Went → Type 0
+UnlessFailed fact (went.Stopped (stop.Failed call)) = Unit {0}
+UnlessFailed fact _ = fact
+
+-- what may come of a turn over a wire that fails at each call
+abbrev pub OfFailing : code.Went → Type 0
+OfFailing (went.Stopped (stop.Failed call)) = Unit {0}
+OfFailing (went.Stopped stop.Memory) = Unit {0}
+OfFailing went.Stalled = Unit {0}
+OfFailing _ = ⊥

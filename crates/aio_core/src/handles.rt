@@ -1,15 +1,17 @@
 //! The handles of a turn.
 ghost use Rattle.std.specs.Prelude.{◌≡◌, IfOk};
+ghost use Rattle.model_value.specs.Action.{Action as AnyAction};
 ghost use Rattle.model_says.specs.Says.{step_limit};
 ghost use Rattle.model_wire.specs.declared.event.Event.TheVariants as event;
 ghost use Rattle.model_loop.specs.Circles.{circle_fault as plain_circle_fault};
 ghost use Rattle.model_machine.specs.Extra.{no_extra};
-ghost use Rattle.model_machine.specs.Outcomes.{woken_with};
+ghost use Rattle.model_machine.specs.Outcomes.{woken_with as plain_woken_with};
 ghost use Rattle.model_machine.specs.State.{State, noted};
-ghost use Rattle.model_machine.specs.Turn.{effect, run_below};
+ghost use Rattle.model_machine.specs.Turn.{effect as plain_effect, run_below as plain_run_below};
 ghost use Rattle.aio_body.specs.Stands.{Setting, IsBetween};
-ghost use Rattle.aio_step.specs.Stepping.{Steps, IsCalled};
-ghost use Rattle.aio_body.specs.Taken.{IsNext, MayRun, IsTaken, MayTake};
+ghost use Rattle.aio_body.specs.Taken.{IsNext, MayRun, IsTaken};
+ghost use Rattle.aio_step.specs.Stepping.{Steps, HearsMade, IsCalled, MayBegin};
+ghost use Rattle.aio_core.specs.Effects.{MayAct, effect_of as plain_effect_of};
 ghost use Rattle.aio_core.specs.Turning.{IsAlive, at_bar};
 
 use crate::effect::{Effect, effect_of};
@@ -25,7 +27,7 @@ use std::alloc::Global;
 pub fn run_below(body: &mut Body, alloc: Global) -> Result<Stepped, Memory>
     requires { IsAlive body.old }
     ensures { IfOk result (λ went. (c : Setting) (s : State (Unit {0})) → IsBetween c body.old s
-        → Steps (at_bar c) body.new went (run_below step_limit no_extra c.bar c.left s)) }
+        → Steps (at_bar c) body.new went (plain_run_below step_limit no_extra c.bar c.left s)) }
 {
     while let Some((action, ticket)) = body.parts.next_below() {
         match run(body, alloc, action, ticket)? {
@@ -40,20 +42,20 @@ pub fn run_below(body: &mut Body, alloc: Global) -> Result<Stepped, Memory>
 fn run(body: &mut Body, alloc: Global, action: Action, ticket: Ticket) -> Result<Stepped, Memory>
     requires { MayRun action body.old }
     ensures { IfOk result (λ went. (c : Setting) (s : State (Unit {0})) → IsNext action c body.old s
-        → Steps c body.new went (effect step_limit no_extra action (noted (event.Ran action) s))) }
+        → Steps c body.new went (plain_effect step_limit no_extra action (noted (event.Ran action) s))) }
 {
-    let effect = effect_of(&action);
+    let what = effect_of(&action);
     body.events.push(Event::Ran(action))?;
-    act(body, alloc, effect, ticket)
+    act(body, alloc, what, ticket)
 }
 
 // What a handle does.
-fn act(body: &mut Body, alloc: Global, effect: Effect, ticket: Ticket) -> Result<Stepped, Memory>
-    requires { MayAct effect body.old }
-    ensures { IfOk result (λ went. (c : Setting) (s : State (Unit {0})) (action : Action) → effect ≡ effect_of action
-        → IsTaken action c body.old s → Steps c body.new went (effect step_limit no_extra action s)) }
+fn act(body: &mut Body, alloc: Global, what: Effect, ticket: Ticket) -> Result<Stepped, Memory>
+    requires { MayAct what body.old }
+    ensures { IfOk result (λ went. (c : Setting) (s : State (Unit {0})) (it : AnyAction) → what ≡ plain_effect_of it
+        → IsTaken it c body.old s → Steps c body.new went (plain_effect step_limit no_extra it s)) }
 {
-    match effect {
+    match what {
         Effect::Step(task) => step(body, alloc, task, ticket, Input::Send(Value::nothing())),
         Effect::StepInCircle { task, circle } => {
             let fault = circle_fault(alloc, circle)?;
@@ -63,7 +65,10 @@ fn act(body: &mut Body, alloc: Global, effect: Effect, ticket: Ticket) -> Result
             let input = woken_with(body, task)?;
             step(body, alloc, task, ticket, input)
         }
-        Effect::SleepDone { task: _, future } => {
+        Effect::SleepDone {
+            task: _sleeper,
+            future,
+        } => {
             let _was_pending = body
                 .parts
                 .resolve(future, Outcome::Value(Value::nothing()));
@@ -87,8 +92,10 @@ fn act(body: &mut Body, alloc: Global, effect: Effect, ticket: Ticket) -> Result
 
 // What a task is woken with: how that ended for which it waits.
 fn woken_with(body: &Body, task: u32) -> Result<Input, Memory>
-    ensures { IfOk result (λ input. (c : Setting) (s : State (Unit {0})) → IsCalled task c body.now s
-        → input ≡ woken_with s.loop.parts task) }
+    requires { MayBegin task body.now }
+    ensures input { IfOk result (λ input. (c : Setting) (s : State (Unit {0})) → IsCalled task c body.now s
+        → input ≡ plain_woken_with s.loop.parts task) }
+    ensures made { IfOk result (λ input. HearsMade input body.now) }
 {
     let Some(on) = body.parts.waiter(task) else {
         return Ok(Input::Send(Value::nothing()));

@@ -1,100 +1,83 @@
 //! The kernel.
-use crate::turns::{tasks, turn};
+ghost use Rattle.aio_core.specs.Turning.{AliveUnless};
+
+use crate::begin::begin;
+use crate::ending::{end, keep};
+use crate::turns::turn;
 use crate::went::Went;
-use aio_base::{Action, Memory, ValueList};
+use aio_base::Memory;
 use aio_body::Body;
-use aio_flat::flatten;
-use aio_group::Groups;
 use aio_program::Program;
-use aio_task::Parts;
-use aio_timeout::Timeouts;
-use aio_wire::{Events, Stop, Wire};
+use aio_wire::{Events, Wire};
 use std::alloc::Global;
 
-/// A run of a program, between two turns.
+/// A run of a program, between two turns. After any answer of a turn but `Went` the run has ended.
 #[derive(Drop)]
 pub struct Kernel {
     body: Body,
     // how the run ended
     ended: Option<Went>,
+    ghost alive: { ∥ AliveUnless ended body ∥₁ },
 }
 
 impl Kernel {
+    ghost use Rattle.std.specs.Prelude.{◌≡◌, ◌≤◌, List, [], ◌++◌, None, IfOk, IfSome};
+    ghost use Rattle.model_wire.specs.Event.{Event};
+    ghost use Rattle.model_wire.specs.Journal.{Entry};
+    ghost use Rattle.model_loop.specs.Tasks.{next_task};
+    ghost use Rattle.model_machine.specs.State.{State};
+    ghost use Rattle.aio_core.specs.declared.went.Went.{Went as AnyWent};
+    ghost use Rattle.aio_core.specs.Turned.{StandsFor, Begins, TurnedBy, KeepsEnd, ended, untaken};
+    ghost use Rattle.aio_core.specs.Again.{Again};
+
     /// A run begins at time 0, with main's task, whose first step is pending.
-    pub fn new(alloc: Global, program: &Program) -> Result<Kernel, Memory> {
-        let code = flatten(alloc, program)?;
-        let profile = u8::try_from(program.profile()).unwrap_or(u8::MAX);
-        let mut parts = Parts::new(alloc, profile)?;
-        let ticket = parts.ticket(alloc)?;
-        let mut body = Body {
-            code,
-            parts,
-            slots: Vec::new(alloc),
-            timeouts: Timeouts::new(alloc)?,
-            groups: Groups::new(alloc)?,
-            futures: Vec::new(alloc),
-            main_done: false,
-            events: Events::new(alloc),
-        };
-        let main = main_of(program)?;
-        body.hold(alloc, main, &ValueList::of(Vec::new(alloc)))?;
-        let task = body.parts.spawn(alloc)?;
-        let own = body.parts.future_of(task);
-        body.parts.on_done(own, ticket, Action::MainDone);
-        Ok(Kernel { body, ended: None })
+    pub fn new(alloc: Global, program: &Program) -> Result<Kernel, Memory>
+        ensures { IfOk result (Begins program.now) }
+    {
+        Ok(Kernel {
+            body: begin(alloc, program)?,
+            ended: None,
+        })
     }
 
     /// A turn. After any answer but `Went` it answers that again, or that memory was refused, and asks nothing.
-    pub fn turn<W: Wire>(&mut self, alloc: Global, wire: &mut W) -> Went {
-        if let Some(ended) = &self.ended {
-            return match ended.copy(alloc) {
-                Ok(copy) => copy,
-                Err(Memory) => Went::Stopped(Stop::Memory),
-            };
+    #[tactic(none)]
+    pub fn turn<W: Wire>(&mut self, alloc: Global, wire: &mut W) -> Went
+        ensures turned { ended self.old ≡ None → (said : AnyWent) × TurnedBy (W.fails wire.old) (W.quiet wire.old wire.new)
+            (W.seen wire.old) (W.seen wire.new) self.old self.new result said }
+        ensures keeps { W.keeps wire.old wire.new }
+        ensures later { (W.seen wire.old).faults ≤ (W.seen wire.new).faults }
+        ensures kept { KeepsEnd result (ended self.new) }
+        ensures again { IfSome (ended self.old) (λ went. Again went result) }
+        ensures still { IfSome (ended self.old) (λ went. wire.new ≡ wire.old) }
+    {
+        if let Some(ended) = self.ended.take() {
+            return end(alloc, &mut self.ended, ended);
         }
         match turn(&mut self.body, alloc, wire) {
-            Ok(Went::Went) => Went::Went,
-            Ok(went) => self.end(alloc, went),
-            Err(stop) => self.end(alloc, Went::Stopped(stop)),
-        }
-    }
-
-    fn end(&mut self, alloc: Global, went: Went) -> Went {
-        match went.copy(alloc) {
-            Ok(copy) => {
-                self.ended = Some(went);
-                copy
-            }
-            Err(Memory) => {
-                self.ended = Some(Went::Stopped(Stop::Memory));
-                Went::Stopped(Stop::Memory)
-            }
+            Ok(went) => keep(alloc, &mut self.ended, went),
+            Err(stop) => keep(alloc, &mut self.ended, Went::Stopped(stop)),
         }
     }
 
     /// Takes the events out that came since the last call.
-    pub fn events(&mut self) -> Events {
+    #[tactic(none)]
+    pub fn events(&mut self) -> Events
+        ensures taken { result.events ≡ untaken self.old }
+        ensures left { untaken self.new ≡ [] }
+        ensures ended { ended self.new ≡ ended self.old }
+        ensures stands { (past : List Event) (answers : List Entry) (s : State (Unit {0}))
+            → StandsFor past answers self.old s → StandsFor (past ++ untaken self.old) answers self.new s }
+    {
         self.body.events.take()
     }
 
     /// How many tasks were made so far.
-    pub fn tasks(&self) -> u32 {
-        tasks(&self.body)
-    }
-}
-
-// Main's place in the program: behind all coroutines where none is called so.
-fn main_of(program: &Program) -> Result<u32, Memory> {
-    let coroutines = program.coroutines();
-    let mut place = coroutines.len();
-    for (at, coroutine) in coroutines.iter().enumerate() {
-        if coroutine.name().as_str() == "main" {
-            place = at;
-            break;
-        }
-    }
-    match u32::try_from(place) {
-        Ok(place) => Ok(place),
-        Err(_) => Err(Memory),
+    #[tactic(none)]
+    pub fn tasks(&self) -> u32
+        ensures { (past : List Event) (answers : List Entry) (s : State (Unit {0}))
+            → StandsFor past answers self.now s → result ≡ next_task s.loop.parts }
+    {
+        u32::try_from(self.body.slots.len()).unwrap_or(u32::MAX)
     }
 }

@@ -1,19 +1,23 @@
 //! A turn of the loop.
-ghost use Rattle.std.specs.Prelude.{◌≡◌, ◌≤◌, ℕ, Bool, [], IfOk, Result, length};
-ghost use Rattle.model_value.specs.Number.{most};
+ghost use Rattle.std.specs.Prelude.{◌≡◌, ◌≤◌, ◌⊎◌, ◌&&◌, not, length, List, [], IfOk};
+ghost use Rattle.model_wire.specs.Event.{Event};
 ghost use Rattle.model_wire.specs.Fits.{fits};
-ghost use Rattle.model_machine.specs.Outside.{time_of as plain_time_of};
+ghost use Rattle.model_wire.specs.Journal.{Entry};
+ghost use Rattle.model_loop.specs.Ending.{cancel_everything as plain_cancel_everything};
 ghost use Rattle.model_machine.specs.Extra.{no_extra};
-ghost use Rattle.model_machine.specs.Outside.{select};
-ghost use Rattle.model_machine.specs.State.{State, unbooked_in};
-ghost use Rattle.model_machine.specs.Turn.{call_of, is_stalled, run_below, turn_over, woken_by};
+ghost use Rattle.model_machine.specs.Outcomes.{finished_as, no_task_lives};
+ghost use Rattle.model_machine.specs.Outside.{select as plain_select, time_of as plain_time_of};
+ghost use Rattle.model_machine.specs.State.{State, in_loop, unbooked_in};
+ghost use Rattle.model_machine.specs.Turn.{call_of, cancelled_if, finished_if, is_stalled as plain_is_stalled, turn_over, turned_by, woken_by};
 ghost use Rattle.model_says.specs.Says.{step_limit};
+ghost use Rattle.aio_wire.specs.Port.{Exchanges, StopsShort, AlwaysFails, UnlessStopped};
+ghost use Rattle.aio_wire.specs.Replied.{Replied, MayHaveReplied, Stays};
+ghost use Rattle.aio_wire.specs.declared.wire.Reply.{Reply as AnyReply};
 ghost use Rattle.aio_body.specs.Stands.{Setting, IsBetween};
-ghost use Rattle.aio_step.specs.Stepping.{Steps};
-ghost use Rattle.aio_core.specs.Turning.{IsAlive, Turned, TurnsTo, at_bar};
+ghost use Rattle.aio_core.specs.Turning.{IsAlive, IsAtRest, IsSelect, IsTime, Turned, AliveIfWent, ComesTo, OfFailing, StallsAs, UnlessFailed, all_below, at_bar, said_by, stood_by};
 
 use crate::handles::run_below;
-use crate::went::Went;
+use crate::went::{Went, copy_of_outcome};
 use aio_base::Memory;
 use aio_body::Body;
 use aio_step::Stepped;
@@ -24,35 +28,53 @@ use std::alloc::Global;
 const LONGEST_WAIT: u64 = 86_400_000;
 
 /// A turn: the outside is asked for the time and what came, and then the handles that are pending run.
+#[tactic(none)]
 pub fn turn<W: Wire>(body: &mut Body, alloc: Global, wire: &mut W) -> Result<Went, Stop>
     requires { IsAlive body.old }
-    ensures { TurnsTo (W.seen wire.old) (W.seen wire.new) body.old body.new result }
+    ensures comes { ComesTo (W.seen wire.old).left (W.seen wire.new).left (W.seen wire.old).faults (W.seen wire.new).faults
+        (stood_by body.old) (stood_by body.new) body.new.events.events (said_by result) }
+    ensures stalls { (past : List Event) (answers : List Entry) (s : State (Unit {0}))
+        → IsAtRest past answers body.old s → StallsAs (plain_is_stalled no_extra s) (said_by result) }
+    ensures alive { AliveIfWent (said_by result) body.new }
+    ensures fails { W.fails wire.old → OfFailing (said_by result) }
+    ensures keeps { W.keeps wire.old wire.new }
+    ensures quiet { UnlessFailed (W.quiet wire.old wire.new) (said_by result) }
+    ensures later { (W.seen wire.old).faults ≤ (W.seen wire.new).faults }
 {
     if is_stalled(body) {
         return Ok(Went::Stalled);
     }
-    let wait = wait(body);
-    let watch = WatchList::of(Vec::new(alloc));
-    let answer = ask(body, alloc, wire, Call::Select { wait, watch })?;
-    wake(body, &answer);
-    let done_before = body.main_done;
-    match run_below(body, alloc)? {
-        Stepped::Goes => Ok(end_turn(body, done_before)?),
-        Stepped::Runaway(task) => Ok(Went::Runaway(task)),
-    }
+    let call = first_call(body, alloc);
+    let answer = ask(body, alloc, wire, call)?;
+    Ok(after(body, alloc, &answer)?)
 }
 
 // Nothing is pending, and nothing can come.
 fn is_stalled(body: &Body) -> bool
-    ensures { (c : Setting) (s : State (Unit {0})) → IsBetween c body.now s → result ≡ is_stalled no_extra s }
+    ensures { (c : Setting) (s : State (Unit {0})) → IsBetween c body.now s → result ≡ plain_is_stalled no_extra s }
 {
     body.parts.is_empty() && body.parts.earliest().is_none()
+}
+
+// What a turn asks first. Nothing is watched.
+fn first_call(body: &Body, alloc: Global) -> Call
+    ensures call { (c : Setting) (s : State (Unit {0})) → IsBetween c body.now s → result ≡ call_of no_extra s }
+    ensures shape { IsSelect result }
+{
+    select(alloc, wait(body))
+}
+
+fn select(alloc: Global, wait: Option<u64>) -> Call
+    ensures { result ≡ plain_select wait [] }
+{
+    let watch = WatchList::of(Vec::new(alloc));
+    Call::Select { wait, watch }
 }
 
 // How long a turn waits: not at all where something is pending, else until the next deadline, and without a bound where
 // there is none.
 fn wait(body: &Body) -> Option<u64>
-    ensures { (c : Setting) (s : State (Unit {0})) → IsBetween c body.now s → select result [] ≡ call_of no_extra s }
+    ensures { (c : Setting) (s : State (Unit {0})) → IsBetween c body.now s → plain_select result [] ≡ call_of no_extra s }
 {
     if !body.parts.is_empty() {
         return Some(0);
@@ -63,14 +85,46 @@ fn wait(body: &Body) -> Option<u64>
     }
 }
 
-fn ask<W: Wire>(body: &mut Body, alloc: Global, wire: &mut W, call: Call) -> Result<Answer, Stop> {
+// The outside is asked once, and it is noted.
+fn ask<W: Wire>(body: &mut Body, alloc: Global, wire: &mut W, call: Call) -> Result<Answer, Stop>
+    ensures beside { body.new ≡ record body.old { events = body.new.events } }
+    ensures asks { ((said : AnyReply) × Exchanges call body.old.events body.new.events result said
+        × Replied call (W.seen wire.old) (W.seen wire.new) said)
+        ⊎ (StopsShort body.old.events body.new.events result
+        × MayHaveReplied call (W.seen wire.old) (W.seen wire.new)) }
+    ensures stays { Stays (W.seen wire.old) (W.seen wire.new) }
+    ensures fails { W.fails wire.old → AlwaysFails call result }
+    ensures keeps { W.keeps wire.old wire.new }
+    ensures quiet { UnlessStopped (W.quiet wire.old wire.new) result }
+{
     let mut port = Port::new(wire, &mut body.events);
     port.ask(alloc, call)
 }
 
+// What a turn does once it has its answer.
+fn after(body: &mut Body, alloc: Global, answer: &Answer) -> Result<Went, Memory>
+    requires alive { IsAlive body.old }
+    requires time { IsTime answer.now }
+    ensures { IfOk result (λ went. (c : Setting) (s : State (Unit {0})) → IsBetween c body.old s
+        → Turned (at_bar (all_below c (unbooked_in (woken_by answer.now) s))) body.new went
+        (turned_by step_limit no_extra answer.now s)) }
+{
+    wake(body, answer);
+    let done_before = body.main_done;
+    match run_below(body, alloc)? {
+        Stepped::Goes => end_turn(body, done_before),
+        Stepped::Runaway(task) => Ok(Went::Runaway(task)),
+    }
+}
+
 // The time goes on, and never back, and timers fall due. All that is pending then stands before the bar. Nothing is
 // watched, so nothing else came.
-fn wake(body: &mut Body, answer: &Answer) {
+fn wake(body: &mut Body, answer: &Answer)
+    requires alive { IsAlive body.old }
+    requires time { IsTime answer.now }
+    ensures { (c : Setting) (s : State (Unit {0})) → IsBetween c body.old s
+        → IsBetween (all_below c (unbooked_in (woken_by answer.now) s)) body.new (unbooked_in (woken_by answer.now) s) }
+{
     let now = body.parts.now().max(time_of(answer));
     body.parts.set_now(now);
     body.parts.due(now);
@@ -84,31 +138,54 @@ fn end_turn(body: &mut Body, done_before: bool) -> Result<Went, Memory>
     ensures { IfOk result (λ went. (c : Setting) (s : State (Unit {0})) → IsBetween c body.old s
         → Turned c body.new went (turn_over done_before s)) }
 {
+    cancel_after_main(body, done_before);
+    finish(body)
+}
+
+fn cancel_after_main(body: &mut Body, done_before: bool)
+    requires { IsAlive body.old }
+    ensures { (c : Setting) (s : State (Unit {0})) → IsBetween c body.old s
+        → IsBetween c body.new (cancelled_if (s.main_done && not done_before) s) }
+{
     if body.main_done && !done_before {
         cancel_everything(body);
     }
+}
+
+// The run ends where main's callback ran and no task lives.
+fn finish(body: &Body) -> Result<Went, Memory>
+    requires { IsAlive body.now }
+    ensures { IfOk result (λ went. (c : Setting) (s : State (Unit {0})) → IsBetween c body.now s
+        → Turned c body.now went (finished_if (finished_as s) s)) }
+{
     if !body.main_done || some_task_lives(body) {
         return Ok(Went::Went);
     }
     match body.parts.outcome(body.parts.future_of(0)) {
-        Some(outcome) => Ok(Went::Finished(outcome.clone()?)),
+        Some(outcome) => Ok(Went::Finished(copy_of_outcome(outcome)?)),
         None => Ok(Went::Went),
     }
 }
 
-fn cancel_everything(body: &mut Body) {
+// Each task that lives is cancelled, in order of making.
+fn cancel_everything(body: &mut Body)
+    requires { IsAlive body.old }
+    ensures { (c : Setting) (s : State (Unit {0})) → IsBetween c body.old s → IsBetween c body.new (in_loop plain_cancel_everything s) }
+{
     for task in 0..tasks(body) {
         let own = body.parts.future_of(task);
-        if body.parts.outcome(own).is_none() {
+        if body.parts.is_pending(own) {
             let _answer = body.parts.cancel(own);
         }
     }
 }
 
-fn some_task_lives(body: &Body) -> bool {
+fn some_task_lives(body: &Body) -> bool
+    requires { IsAlive body.now }
+    ensures { (c : Setting) (s : State (Unit {0})) → IsBetween c body.now s → result ≡ not (no_task_lives s.loop.parts) }
+{
     for task in 0..tasks(body) {
-        let own = body.parts.future_of(task);
-        if body.parts.outcome(own).is_none() {
+        if body.parts.is_pending(body.parts.future_of(task)) {
             return true;
         }
     }

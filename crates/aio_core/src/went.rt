@@ -1,4 +1,6 @@
 //! What a turn comes to.
+ghost use Rattle.std.specs.Prelude.{◌≡◌, IfOk};
+
 use aio_base::{Memory, Outcome};
 use aio_wire::{Stop, copy_of_call};
 use std::alloc::Global;
@@ -19,10 +21,12 @@ pub enum Went {
 
 impl Went {
     /// A copy of it.
-    pub fn copy(&self, alloc: Global) -> Result<Went, Memory> {
+    pub fn copy(&self, alloc: Global) -> Result<Went, Memory>
+        ensures { IfOk result (λ copy. copy ≡ self.now) }
+    {
         match self {
             Went::Went => Ok(Went::Went),
-            Went::Finished(outcome) => Ok(Went::Finished(outcome.clone()?)),
+            Went::Finished(outcome) => Ok(Went::Finished(copy_of_outcome(outcome)?)),
             Went::Stalled => Ok(Went::Stalled),
             Went::Runaway(task) => Ok(Went::Runaway(*task)),
             Went::Stopped(stop) => Ok(Went::Stopped(copy_of_stop(alloc, stop)?)),
@@ -30,7 +34,20 @@ impl Went {
     }
 }
 
-fn copy_of_stop(alloc: Global, stop: &Stop) -> Result<Stop, Memory> {
+/// A copy of an outcome.
+pub fn copy_of_outcome(outcome: &Outcome) -> Result<Outcome, Memory>
+    ensures { IfOk result (λ copy. copy ≡ outcome.now) }
+{
+    match outcome {
+        Outcome::Value(value) => Ok(Outcome::Value(value.clone()?)),
+        Outcome::Failed(fault) => Ok(Outcome::Failed(fault.clone()?)),
+        Outcome::Cancelled => Ok(Outcome::Cancelled),
+    }
+}
+
+fn copy_of_stop(alloc: Global, stop: &Stop) -> Result<Stop, Memory>
+    ensures { IfOk result (λ copy. copy ≡ stop.now) }
+{
     match stop {
         Stop::Over(call) => Ok(Stop::Over(copy_of_call(alloc, call)?)),
         Stop::Bad(fault) => Ok(Stop::Bad(*fault)),

@@ -106,27 +106,28 @@ pub stands_taken : (c : Setting) (old new : Body) (s : State (Unit {0})) (task :
     → slice_get old.slots.items task ≡ Some slot → slot.coroutine ≡ Some coroutine → task < next_task s.loop.parts
     → new ≡ record old { slots = new.slots } → new.slots.items ≡ slice_set old.slots.items task no_slot
     → Stands (Some task) (holding coroutine c) new (stands plain.Asked task s)
-stands_taken c old new s task slot coroutine h there its within beside items = subst (λ b. Stands (Some task) (holding coroutine c) b now) (sym beside) (record {
-  ties = h.ties;
-  code = h.code;
-  keeps = h.keeps;
-  blocks = h.blocks;
-  left = h.left;
-  bar = h.bar;
-  made = ap length items ∙ length-set old.slots.items task no_slot ∙ h.made;
-  told = set_length task it s ∙ h.told;
-  few = subst (λ n. n < 2 ^ 32) (sym (ap length items ∙ length-set old.slots.items task no_slot)) h.few;
-  held = λ other l. has other l (cases_eq task other);
-  gone = h.gone;
-  futures = h.futures;
-  few_futures = h.few_futures;
-  main_done = h.main_done;
-  time = h.time;
-  counts = h.counts;
-  events = h.events;
-  rest = h.rest;
-  count = h.count;
-})
+stands_taken c old new s task slot coroutine h there its within beside items =
+    subst (λ b. Stands (Some task) (holding coroutine c) b now) (sym beside) (record {
+      ties = h.ties;
+      code = h.code;
+      keeps = h.keeps;
+      blocks = h.blocks;
+      left = h.left;
+      bar = h.bar;
+      made = ap length items ∙ length-set old.slots.items task no_slot ∙ h.made;
+      told = set_length task it s ∙ h.told;
+      few = subst (λ n. n < 2 ^ 32) (sym (ap length items ∙ length-set old.slots.items task no_slot)) h.few;
+      held = λ other l. has other l (cases_eq task other);
+      gone = h.gone;
+      futures = h.futures;
+      few_futures = h.few_futures;
+      main_done = h.main_done;
+      time = h.time;
+      counts = h.counts;
+      events = h.events;
+      rest = h.rest;
+      count = h.count;
+    })
   where
     it : Generator
     it = record (generator_of task s) { standing = plain.Asked }

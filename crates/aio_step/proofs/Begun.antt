@@ -150,7 +150,8 @@ module _ (task : ℕ) (input : Input) (c : Setting) (body : Body) (s : State (Un
     stands_given : Stands None c given (unbooked_in (λ p. (begun_by task input s).parts) s)
     stands_given =
         subst (λ q. Stands None c given (unbooked_in (λ p. q) s)) same_parts
-        (gives_up c (record body { parts = v }) begun task slot.standing (generator_of task s).standing stands_begun begun_owns stood_at (begun_waits task input s.loop.parts))
+        (gives_up c (record body { parts = v }) begun task slot.standing (generator_of task s).standing stands_begun begun_owns stood_at
+        (begun_waits task input s.loop.parts))
 
     within : task < next_task (begun_by task input s).parts
     within = subst (λ n. task < n) (sym h.stands.told ∙ stands_given.told) (called_within task c body s h)
@@ -170,7 +171,9 @@ module _ (task : ℕ) (input : Input) (c : Setting) (body : Body) (s : State (Un
         asked = called_asked task c body s h input;
         leaving = called_leaving task c body s h input;
       };
-      heard = input_kept h.stands.ties body.parts s.loop.parts h.stands.keeps task input ∙ given_up_heard (generator_of task s).standing task input s.loop.parts;
+      heard =
+          input_kept h.stands.ties body.parts s.loop.parts h.stands.keeps task input
+          ∙ given_up_heard (generator_of task s).standing task input s.loop.parts;
       decides = stood_decides stands_begun.ties begun.loop.parts s.futures task slot.standing (generator_of task s).standing stood_at;
     }
 

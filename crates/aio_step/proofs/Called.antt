@@ -65,6 +65,7 @@ module _ (task : ℕ) (c : Setting) (body : Body) (s : State (Unit {0})) (h : Is
       → RepliesInStep no_extra true task (decides no_extra (generator_of task s).standing task (begun_by task input s).input (begun_in task input s))
   called_sound input made =
       subst (λ (x : State (Unit {0})).
-      RepliesInStep no_extra true task (decides no_extra (generator_of task x).standing task (begun_by task input x).input (begun_in task input x))) (sym h.after)
+      RepliesInStep no_extra true task (decides no_extra (generator_of task x).standing task (begun_by task input x).input (begun_in task input x)))
+      (sym h.after)
       (begins_in no_extra h.before task input h.handle h.rest h.pending h.live h.steps h.sound nothing_keeps
       (ap (λ n. sends_made n input) (sym same_count) ∙ made))

@@ -106,6 +106,6 @@ module _ (task : ℕ) (first : Input) (old : Body) (start : Gen) (fresh : Bool) 
         let o = on c s h in
         let r : RunsAway task c new (resumed fresh task input o.now) = told c o.now o.serving in
         subst (Steps c new (went.Runaway task))
-        (sym (leads_end task (resumed true task first s) (resumed fresh task input o.now) (Stops (end.Runaway task) (resumed fresh task input o.now)) o.leads r.goes
-        (inside c s h)))
+        (sym (leads_end task (resumed true task first s) (resumed fresh task input o.now) (Stops (end.Runaway task) (resumed fresh task input o.now))
+        o.leads r.goes (inside c s h)))
         (refl, r.told)

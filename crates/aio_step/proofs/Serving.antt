@@ -60,7 +60,8 @@ pub answered : (task : ℕ) (c : Setting) (body : Body) (coroutine : Gen) (it : 
     → RepliesInStep no_extra false task (reply no_extra task request s)
     → ServesOne task c body coroutine (served_by it) s
 answered task c body coroutine it s request made asks says sound =
-    at it (reply no_extra task request s) (reply-keeps no_extra task request s) (λ go_on. ap (λ saying. served step_limit no_extra saying task go_on s) asks) says sound
+    at it (reply no_extra task request s) (reply-keeps no_extra task request s)
+    (λ go_on. ap (λ saying. served step_limit no_extra saying task go_on s) asks) says sound
   where
     at : (it : Reply) (machine : plain.Reply (Unit {0})) → IsKept task s (reply_state machine)
         → ((go_on : State (Unit {0}) → Went (Unit {0}))

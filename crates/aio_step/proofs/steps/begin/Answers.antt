@@ -32,7 +32,9 @@ unreachable-requires c =
 pub returns : goal.returns
 returns c setting s h =
     subst (λ x. HasBegun c.args.task c.args.input setting s
-    (record { coroutine = c.in-Some.coroutine; standing = c.take-coroutine.result.standing; input = x }) c.give_up.new.self) (sym c.begin_step-input.ensures.input)
-    (begins_as c.args.task c.args.input setting c.args.body.now s h c.begin_step-input.new.self c.begin_step-input.ensures.after c.begin_step-input.ensures.beside
+    (record { coroutine = c.in-Some.coroutine; standing = c.take-coroutine.result.standing; input = x }) c.give_up.new.self)
+    (sym c.begin_step-input.ensures.input)
+    (begins_as c.args.task c.args.input setting c.args.body.now s h c.begin_step-input.new.self
+    c.begin_step-input.ensures.after c.begin_step-input.ensures.beside
     c.take-coroutine.result c.in-Some.coroutine c.take-coroutine.ensures.slot c.in-Some.is c.take-coroutine.new.self c.give_up.new.self
     c.take-coroutine.ensures.beside c.take-coroutine.ensures.slots c.give_up.ensures)

@@ -7,40 +7,40 @@ loop-answered-init c = on_first c.args.task c.args.input c.args.body.now c.args.
 
 pub serve_one-requires : goal.serve_one-requires
 serve_one-requires c =
-    on_serve c.args.task c.args.input c.args.body.now c.args.coroutine c.loop-answered.fresh c.loop-answered.input c.loop-answered.body c.loop-answered.coroutine
-    c.loop-answered.invariant c.requires
+    on_serve c.args.task c.args.input c.args.body.now c.args.coroutine c.loop-answered.fresh c.loop-answered.input
+    c.loop-answered.body c.loop-answered.coroutine c.loop-answered.invariant c.requires
 
 pub put_back-requires : goal.put_back-requires
 put_back-requires c =
-    rests_there c.args.task c.args.input c.args.body.now c.args.coroutine c.loop-answered.fresh c.loop-answered.input c.loop-answered.body c.loop-answered.coroutine
-    c.loop-answered.invariant c.serve_one.new.body c.serve_one.new.coroutine
+    rests_there c.args.task c.args.input c.args.body.now c.args.coroutine c.loop-answered.fresh c.loop-answered.input
+    c.loop-answered.body c.loop-answered.coroutine c.loop-answered.invariant c.serve_one.new.body c.serve_one.new.coroutine
     (subst (AreServed c.args.task c.loop-answered.fresh c.loop-answered.input c.loop-answered.body c.serve_one.new.body c.loop-answered.coroutine
     c.serve_one.new.coroutine) c.in-Rests.is c.in_ok-next.ensures) c.requires
 
 pub returns-in-Rests : goal.returns-in-Rests
 returns-in-Rests c =
-    rests_on c.args.task c.args.input c.args.body.now c.args.coroutine c.loop-answered.fresh c.loop-answered.input c.loop-answered.body c.loop-answered.coroutine
-    c.loop-answered.invariant c.serve_one.new.body c.serve_one.new.coroutine
+    rests_on c.args.task c.args.input c.args.body.now c.args.coroutine c.loop-answered.fresh c.loop-answered.input
+    c.loop-answered.body c.loop-answered.coroutine c.loop-answered.invariant c.serve_one.new.body c.serve_one.new.coroutine
     (subst (AreServed c.args.task c.loop-answered.fresh c.loop-answered.input c.loop-answered.body c.serve_one.new.body c.loop-answered.coroutine
     c.serve_one.new.coroutine) c.in-Rests.is c.in_ok-next.ensures) c.put_back.new.self c.put_back.ensures.beside c.put_back.ensures.slots
 
 pub returns-in-Ends : goal.returns-in-Ends
 returns-in-Ends c =
-    ends_on c.args.task c.args.input c.args.body.now c.args.coroutine c.loop-answered.fresh c.loop-answered.input c.loop-answered.body c.loop-answered.coroutine
-    c.loop-answered.invariant c.serve_one.new.body c.serve_one.new.coroutine
+    ends_on c.args.task c.args.input c.args.body.now c.args.coroutine c.loop-answered.fresh c.loop-answered.input
+    c.loop-answered.body c.loop-answered.coroutine c.loop-answered.invariant c.serve_one.new.body c.serve_one.new.coroutine
     (subst (AreServed c.args.task c.loop-answered.fresh c.loop-answered.input c.loop-answered.body c.serve_one.new.body c.loop-answered.coroutine
     c.serve_one.new.coroutine) c.in-Ends.is c.in_ok-next.ensures)
 
 pub returns-in-Runaway : goal.returns-in-Runaway
 returns-in-Runaway c =
-    runs_on c.args.task c.args.input c.args.body.now c.args.coroutine c.loop-answered.fresh c.loop-answered.input c.loop-answered.body c.loop-answered.coroutine
-    c.loop-answered.invariant c.serve_one.new.body c.serve_one.new.coroutine
+    runs_on c.args.task c.args.input c.args.body.now c.args.coroutine c.loop-answered.fresh c.loop-answered.input
+    c.loop-answered.body c.loop-answered.coroutine c.loop-answered.invariant c.serve_one.new.body c.serve_one.new.coroutine
     (subst (AreServed c.args.task c.loop-answered.fresh c.loop-answered.input c.loop-answered.body c.serve_one.new.body c.loop-answered.coroutine
     c.serve_one.new.coroutine) c.in-Runaway.is c.in_ok-next.ensures)
 
 pub loop-answered-preserved : goal.loop-answered-preserved
 loop-answered-preserved c =
-    on_next c.args.task c.args.input c.args.body.now c.args.coroutine c.loop-answered.fresh c.loop-answered.input c.loop-answered.body c.loop-answered.coroutine
-    c.loop-answered.invariant c.serve_one.new.body c.serve_one.new.coroutine c.in-GoesOn.next
+    on_next c.args.task c.args.input c.args.body.now c.args.coroutine c.loop-answered.fresh c.loop-answered.input
+    c.loop-answered.body c.loop-answered.coroutine c.loop-answered.invariant c.serve_one.new.body c.serve_one.new.coroutine c.in-GoesOn.next
     (subst (AreServed c.args.task c.loop-answered.fresh c.loop-answered.input c.loop-answered.body c.serve_one.new.body c.loop-answered.coroutine
     c.serve_one.new.coroutine) c.in-GoesOn.is c.in_ok-next.ensures)

@@ -15,29 +15,35 @@ decide-requires c =
 
 pub serve-requires : goal.serve-requires
 serve-requires c =
-    serve_of c.args.task c.args.input c.args.body.now c.requires.made c.begin-coroutine.result c.begin-coroutine.new.body c.begin-coroutine.ensures c.decide.new.body
+    serve_of c.args.task c.args.input c.args.body.now c.requires.made c.begin-coroutine.result c.begin-coroutine.new.body c.begin-coroutine.ensures
+    c.decide.new.body
     (Send c.in-Answers.value) (λ setting s h.
     answers_first c.args.task c.args.input setting c.args.body.now s h c.requires.made c.begin-coroutine.result c.begin-coroutine.new.body
     (c.begin-coroutine.ensures setting s h) c.decide.new.body c.in-Answers.value
-    (subst (Decides c.args.task c.begin-coroutine.result c.begin-coroutine.new.body c.decide.new.body) c.in-Answers.is c.in_ok-value.ensures)) c.requires.called
+    (subst (Decides c.args.task c.begin-coroutine.result c.begin-coroutine.new.body c.decide.new.body) c.in-Answers.is c.in_ok-value.ensures))
+    c.requires.called
 
 pub serve-requires-in-Raises : goal.serve-requires-in-Raises
 serve-requires-in-Raises c =
-    serve_of c.args.task c.args.input c.args.body.now c.requires.made c.begin-coroutine.result c.begin-coroutine.new.body c.begin-coroutine.ensures c.decide.new.body
+    serve_of c.args.task c.args.input c.args.body.now c.requires.made c.begin-coroutine.result c.begin-coroutine.new.body c.begin-coroutine.ensures
+    c.decide.new.body
     (Throw c.in-Raises.fault) (λ setting s h.
     raises_first c.args.task c.args.input setting c.args.body.now s h c.requires.made c.begin-coroutine.result c.begin-coroutine.new.body
     (c.begin-coroutine.ensures setting s h) c.decide.new.body c.in-Raises.fault
-    (subst (Decides c.args.task c.begin-coroutine.result c.begin-coroutine.new.body c.decide.new.body) c.in-Raises.is c.in_ok-value.ensures)) c.requires.called
+    (subst (Decides c.args.task c.begin-coroutine.result c.begin-coroutine.new.body c.decide.new.body) c.in-Raises.is c.in_ok-value.ensures))
+    c.requires.called
 
 pub put_back-requires : goal.put_back-requires
 put_back-requires c =
-    waits_there c.args.task c.args.input c.args.body.now c.requires.made c.begin-coroutine.result c.begin-coroutine.new.body c.begin-coroutine.ensures c.decide.new.body
+    waits_there c.args.task c.args.input c.args.body.now c.requires.made c.begin-coroutine.result c.begin-coroutine.new.body c.begin-coroutine.ensures
+    c.decide.new.body
     (subst (Decides c.args.task c.begin-coroutine.result c.begin-coroutine.new.body c.decide.new.body) c.in-Rests.is c.in_ok-value.ensures) c.requires.called
 
 pub returns-in-Answers : goal.returns-in-Answers
 returns-in-Answers c =
     IfOk-weaker c.serve.result _ _ (λ it served.
-    serves_on c.args.task c.args.input c.args.body.now c.requires.made c.begin-coroutine.result c.begin-coroutine.new.body c.begin-coroutine.ensures c.decide.new.body
+    serves_on c.args.task c.args.input c.args.body.now c.requires.made c.begin-coroutine.result c.begin-coroutine.new.body c.begin-coroutine.ensures
+    c.decide.new.body
     (Send c.in-Answers.value) (λ setting s h.
     answers_first c.args.task c.args.input setting c.args.body.now s h c.requires.made c.begin-coroutine.result c.begin-coroutine.new.body
     (c.begin-coroutine.ensures setting s h) c.decide.new.body c.in-Answers.value
@@ -47,7 +53,8 @@ returns-in-Answers c =
 pub returns-in-Raises : goal.returns-in-Raises
 returns-in-Raises c =
     IfOk-weaker c.serve-in-Raises.result _ _ (λ it served.
-    serves_on c.args.task c.args.input c.args.body.now c.requires.made c.begin-coroutine.result c.begin-coroutine.new.body c.begin-coroutine.ensures c.decide.new.body
+    serves_on c.args.task c.args.input c.args.body.now c.requires.made c.begin-coroutine.result c.begin-coroutine.new.body c.begin-coroutine.ensures
+    c.decide.new.body
     (Throw c.in-Raises.fault) (λ setting s h.
     raises_first c.args.task c.args.input setting c.args.body.now s h c.requires.made c.begin-coroutine.result c.begin-coroutine.new.body
     (c.begin-coroutine.ensures setting s h) c.decide.new.body c.in-Raises.fault
@@ -56,6 +63,7 @@ returns-in-Raises c =
 
 pub returns-in-Rests : goal.returns-in-Rests
 returns-in-Rests c =
-    waits_on c.args.task c.args.input c.args.body.now c.requires.made c.begin-coroutine.result c.begin-coroutine.new.body c.begin-coroutine.ensures c.decide.new.body
+    waits_on c.args.task c.args.input c.args.body.now c.requires.made c.begin-coroutine.result c.begin-coroutine.new.body c.begin-coroutine.ensures
+    c.decide.new.body
     (subst (Decides c.args.task c.begin-coroutine.result c.begin-coroutine.new.body c.decide.new.body) c.in-Rests.is c.in_ok-value.ensures)
     c.put_back.new.self c.put_back.ensures.beside c.put_back.ensures.slots

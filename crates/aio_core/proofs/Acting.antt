@@ -1,0 +1,434 @@
+-- What a handle does, where it was taken from the queue and it was noted that it runs.
+use Rattle.std.proofs.Common.{◌≡◌, ℕ, ◌<◌, ◌+◌, Bool, true, false, ◌&&◌, not, cond, List, [], ◌∷◌, ◌++◌, Option, Some, None, length, slice_get, ◌∙◌, refl, sym, ap, subst, arith}
+use Rattle.std.proofs.Math.Logic.{∥∥₁_elim, ∥∥₁_map}
+use Rattle.std.proofs.Props.{props}
+use Rattle.std.proofs.lemmas.Bool.{eq-eqb, false_from_ne_true, false≢true}
+use Rattle.std.specs.Option.{option_map_or, option_and_then}
+use Rattle.model_value.specs.Action.{Action, Circle}
+use Rattle.model_value.specs.Input.{Input}
+use Rattle.model_value.specs.declared.action.Action.TheVariants as action
+use Rattle.model_value.specs.declared.input.Input.TheVariants.{Send, Throw}
+use Rattle.model_value.specs.declared.outcome.Outcome.TheVariants.{Value as Returned}
+use Rattle.model_value.specs.Value.{Nothing, Outcome}
+use Rattle.model_says.specs.Says.{step_limit}
+use Rattle.model_wire.specs.declared.event.Event.TheVariants as event
+use Rattle.model_loop.specs.Circles.{circle_fault}
+use Rattle.model_loop.specs.Entries.{ends_sleep_on, entries}
+use Rattle.model_loop.specs.Futures.{future_outcome, outcome_at, settle}
+use Rattle.model_loop.specs.Groups.{child_done}
+use Rattle.model_loop.specs.Loop.{Loop, in_parts}
+use Rattle.model_loop.specs.Owning.{is_plain, owner_at, owner_of}
+use Rattle.model_loop.specs.Parts.{Handle, Parts, Task}
+use Rattle.model_loop.specs.Tasks.{next_task, waiter_of}
+use Rattle.model_loop.specs.Timeouts.{fire}
+use Rattle.model_loop.specs.Ways.{steps}
+use Rattle.model_machine.specs.Extra.{no_extra}
+use Rattle.model_machine.specs.Outcomes.{input_of, woken_with}
+use Rattle.model_machine.specs.Sound.{IsStateSound, sends_made}
+use Rattle.model_machine.specs.State.{State, in_loop, noted, unbooked_in}
+use Rattle.model_machine.specs.Step.{step}
+use Rattle.model_machine.specs.Turn.{effect, ran}
+use Rattle.model_machine.specs.Went.{Went, Goes, Stops}
+use Rattle.law_inside.specs.InStep.{LeavesStateSound}
+use Rattle.law_runs.proofs.Callbacks.{callback_in, woken_made}
+use Rattle.law_runs.proofs.Nothing.{nothing_keeps}
+use Rattle.law_settling.proofs.CancelSound.{plain_within}
+use Rattle.law_timeouts.proofs.Quiet.{handles-first}
+use Rattle.law_kept.proofs.Calls.{kept_settle}
+use Rattle.law_kept.proofs.Telling.{outcome_kept, owner_kept}
+use Rattle.aio_ready.specs.Queue.{soon_all}
+use Rattle.aio_future.specs.Settled as settled
+use Rattle.aio_future.specs.Settled.{called}
+use Rattle.aio_task.specs.View.{View, parts, stepped}
+use Rattle.aio_task.specs.Keeps.{Ties, Keeps}
+use Rattle.aio_wire.specs.EventList.{EventList}
+use Rattle.aio_wire.specs.Events.{pushed}
+use Rattle.aio_body.specs.declared.body.Body.{Body}
+use Rattle.aio_body.specs.Stands.{Setting, Stands, IsBetween}
+use Rattle.aio_body.specs.Taken.{IsNext, IsTaken, IsAfter, MayRun, MayTake}
+use Rattle.aio_step.specs.declared.steps.Stepped.{Stepped}
+use Rattle.aio_step.specs.declared.steps.Stepped.TheVariants as went
+use Rattle.aio_step.specs.Stepping.{Steps, IsCalled, MayBegin}
+use Rattle.law_body.proofs.Lasting.{spares_none, stands_on}
+use Rattle.law_body.proofs.Left.{leaves_settle}
+use Rattle.law_body.proofs.May.{same_prop}
+use Rattle.law_body.proofs.Noting.{stands_noted}
+use Rattle.law_body.proofs.Rooms.{below_soon_all}
+use Rattle.aio_core.specs.declared.effect.Effect.{Effect}
+use Rattle.aio_core.specs.declared.effect.Effect.TheVariants as code
+use Rattle.aio_core.specs.Effects.{effect_of, MayAct}
+
+-- ---- it is noted that it runs
+pub taken_so : (it : Action) (c : Setting) (body : Body) (s : State (Unit {0})) (events : EventList) → events ≡ pushed body.events (event.Ran it)
+    → IsNext it c body s → IsTaken it c (record body { events = events }) (noted (event.Ran it) s)
+taken_so it c body s events e h = record {
+  before = h.before;
+  handle = h.handle;
+  rest = h.rest;
+  pending = h.pending;
+  live = h.live;
+  runs = h.runs;
+  sound = h.sound;
+  after = ap (noted (event.Ran it)) h.after;
+  stands = stands_noted None c body s (event.Ran it) events e h.stands;
+  called = h.called;
+  running = h.running;
+}
+
+-- ---- which action it was
+is_step : (task : ℕ) (it : Action) → code.Step task ≡ effect_of it → it ≡ action.Step task
+is_step task (action.Step other) e = cc
+is_step task (action.StepInCircle other circle) e = absurd (cc)
+is_step task (action.Wakeup other) e = absurd (cc)
+is_step task (action.SleepDone other future) e = absurd (cc)
+is_step task (action.GroupDone group other) e = absurd (cc)
+is_step task (action.Fires timeout) e = absurd (cc)
+is_step task action.MainDone e = absurd (cc)
+is_step task _ e = absurd (cc)
+
+is_circle : (task : ℕ) (circle : Circle) (it : Action) → code.StepInCircle task circle ≡ effect_of it → it ≡ action.StepInCircle task circle
+is_circle task circle (action.Step other) e = absurd (cc)
+is_circle task circle (action.StepInCircle other why) e = cc
+is_circle task circle (action.Wakeup other) e = absurd (cc)
+is_circle task circle (action.SleepDone other future) e = absurd (cc)
+is_circle task circle (action.GroupDone group other) e = absurd (cc)
+is_circle task circle (action.Fires timeout) e = absurd (cc)
+is_circle task circle action.MainDone e = absurd (cc)
+is_circle task circle _ e = absurd (cc)
+
+is_wakeup : (task : ℕ) (it : Action) → code.Wakeup task ≡ effect_of it → it ≡ action.Wakeup task
+is_wakeup task (action.Step other) e = absurd (cc)
+is_wakeup task (action.StepInCircle other circle) e = absurd (cc)
+is_wakeup task (action.Wakeup other) e = cc
+is_wakeup task (action.SleepDone other future) e = absurd (cc)
+is_wakeup task (action.GroupDone group other) e = absurd (cc)
+is_wakeup task (action.Fires timeout) e = absurd (cc)
+is_wakeup task action.MainDone e = absurd (cc)
+is_wakeup task _ e = absurd (cc)
+
+is_sleep : (task future : ℕ) (it : Action) → code.SleepDone task future ≡ effect_of it → it ≡ action.SleepDone task future
+is_sleep task future (action.Step other) e = absurd (cc)
+is_sleep task future (action.StepInCircle other circle) e = absurd (cc)
+is_sleep task future (action.Wakeup other) e = absurd (cc)
+is_sleep task future (action.SleepDone other id) e = cc
+is_sleep task future (action.GroupDone group other) e = absurd (cc)
+is_sleep task future (action.Fires timeout) e = absurd (cc)
+is_sleep task future action.MainDone e = absurd (cc)
+is_sleep task future _ e = absurd (cc)
+
+is_group : (group task : ℕ) (it : Action) → code.GroupDone group task ≡ effect_of it → it ≡ action.GroupDone group task
+is_group group task (action.Step other) e = absurd (cc)
+is_group group task (action.StepInCircle other circle) e = absurd (cc)
+is_group group task (action.Wakeup other) e = absurd (cc)
+is_group group task (action.SleepDone other future) e = absurd (cc)
+is_group group task (action.GroupDone id other) e = cc
+is_group group task (action.Fires timeout) e = absurd (cc)
+is_group group task action.MainDone e = absurd (cc)
+is_group group task _ e = absurd (cc)
+
+is_firing : (timeout : ℕ) (it : Action) → code.Fires timeout ≡ effect_of it → it ≡ action.Fires timeout
+is_firing timeout (action.Step other) e = absurd (cc)
+is_firing timeout (action.StepInCircle other circle) e = absurd (cc)
+is_firing timeout (action.Wakeup other) e = absurd (cc)
+is_firing timeout (action.SleepDone other future) e = absurd (cc)
+is_firing timeout (action.GroupDone group other) e = absurd (cc)
+is_firing timeout (action.Fires id) e = cc
+is_firing timeout action.MainDone e = absurd (cc)
+is_firing timeout _ e = absurd (cc)
+
+is_main : (it : Action) → code.MainDone ≡ effect_of it → it ≡ action.MainDone
+is_main (action.Step other) e = absurd (cc)
+is_main (action.StepInCircle other circle) e = absurd (cc)
+is_main (action.Wakeup other) e = absurd (cc)
+is_main (action.SleepDone other future) e = absurd (cc)
+is_main (action.GroupDone group other) e = absurd (cc)
+is_main (action.Fires id) e = absurd (cc)
+is_main action.MainDone e = refl
+is_main _ e = absurd (cc)
+
+-- ---- what it leaves is sound
+module _ (it : Action) (c : Setting) (body : Body) (s : State (Unit {0})) (h : IsTaken it c body s) where
+  abbrev out : State (Unit {0})
+  out = unbooked_in (λ p. record p { pending = h.rest }) h.before
+
+  pub sound_then : LeavesStateSound no_extra (effect step_limit no_extra it s)
+  sound_then =
+      subst (λ t. LeavesStateSound no_extra (effect step_limit no_extra it t)) (sym h.after)
+      (subst (λ a. LeavesStateSound no_extra (effect step_limit no_extra a (noted (event.Ran a) out))) h.runs
+      (subst (λ d. LeavesStateSound no_extra (ran step_limit no_extra d h.handle.action out)) h.live
+      (callback_in no_extra nothing_keeps h.before h.handle h.rest h.pending h.sound)))
+
+  pub called_so : (task : ℕ) → steps task it ≡ true → stepped it ≡ Some task → IsCalled task c body s
+  called_so task mine one = record {
+    before = h.before;
+    handle = h.handle;
+    rest = h.rest;
+    pending = h.pending;
+    live = h.live;
+    steps = ap (steps task) h.runs ∙ mine;
+    sound = h.sound;
+    after = h.after ∙ ap (λ a. noted (event.Ran a) out) (sym h.runs);
+    stands = h.stands;
+    called = h.called ∙ one;
+    running = h.running;
+  }
+
+  -- after a call that steps no task
+  pub after_so : (new : Body) (now : State (Unit {0})) → effect step_limit no_extra it s ≡ Goes now → IsAfter c new now
+      → Steps c new went.Goes (effect step_limit no_extra it s)
+  after_so new now is a =
+      subst (Steps c new went.Goes) (sym is)
+      (record { stands = a.stands; called = a.called; running = a.running; sound = subst (LeavesStateSound no_extra) is sound_then })
+
+-- ---- steps
+pub step_called : (task : ℕ) (c : Setting) (body : Body) (s : State (Unit {0})) → IsTaken (action.Step task) c body s → IsCalled task c body s
+step_called task c body s h = called_so (action.Step task) c body s h task (eq-eqb task task refl) refl
+
+pub circle_called : (task : ℕ) (circle : Circle) (c : Setting) (body : Body) (s : State (Unit {0})) → IsTaken (action.StepInCircle task circle) c body s
+    → IsCalled task c body s
+circle_called task circle c body s h = called_so (action.StepInCircle task circle) c body s h task (eq-eqb task task refl) refl
+
+pub wakeup_called : (task : ℕ) (c : Setting) (body : Body) (s : State (Unit {0})) → IsTaken (action.Wakeup task) c body s → IsCalled task c body s
+wakeup_called task c body s h = called_so (action.Wakeup task) c body s h task (eq-eqb task task refl) refl
+
+pub step_begins : (task : ℕ) (body : Body) → MayAct (code.Step task) body → MayBegin task body
+step_begins task body m =
+    ∥∥₁_map m (λ w. (w.1.1.0, (w.1.1.1.0, step_called task w.1.1.0 body w.1.1.1.0 (subst (λ a. IsTaken a w.1.1.0 body w.1.1.1.0) (is_step task w.0 w.1.0) w.1.1.1.1))))
+
+pub circle_begins : (task : ℕ) (circle : Circle) (body : Body) → MayAct (code.StepInCircle task circle) body → MayBegin task body
+circle_begins task circle body m =
+    ∥∥₁_map m (λ w. (w.1.1.0, (w.1.1.1.0,
+    circle_called task circle w.1.1.0 body w.1.1.1.0 (subst (λ a. IsTaken a w.1.1.0 body w.1.1.1.0) (is_circle task circle w.0 w.1.0) w.1.1.1.1))))
+
+pub wakeup_begins : (task : ℕ) (body : Body) → MayAct (code.Wakeup task) body → MayBegin task body
+wakeup_begins task body m =
+    ∥∥₁_map m (λ w. (w.1.1.0, (w.1.1.1.0,
+    wakeup_called task w.1.1.0 body w.1.1.1.0 (subst (λ a. IsTaken a w.1.1.0 body w.1.1.1.0) (is_wakeup task w.0 w.1.0) w.1.1.1.1))))
+
+-- what a step comes to, of a task that was called
+abbrev pub StepsAs : ℕ → (input : State (Unit {0}) → Input) → (old new : Body) → Stepped → Type 0
+StepsAs task input old new said =
+    (c : Setting) (s : State (Unit {0})) → IsCalled task c old s → Steps c new said (step step_limit no_extra task (input s) s)
+
+-- what a handle comes to
+abbrev pub Acts : Effect → (old new : Body) → Stepped → Type 0
+Acts what old new said =
+    (c : Setting) (s : State (Unit {0})) (it : Action) → what ≡ effect_of it → IsTaken it c old s
+    → Steps c new said (effect step_limit no_extra it s)
+
+module _ (old new : Body) (said : Stepped) where
+  pub step_acts : (task : ℕ) → StepsAs task (λ s. Send Nothing) old new said → Acts (code.Step task) old new said
+  unfolding effect
+  step_acts task does c s it is h =
+      subst (λ a. Steps c new said (effect step_limit no_extra a s)) (sym (is_step task it is))
+      (does c s (step_called task c old s (subst (λ a. IsTaken a c old s) (is_step task it is) h)))
+
+  pub circle_acts : (task : ℕ) (circle : Circle) → StepsAs task (λ s. Throw (circle_fault circle)) old new said
+      → Acts (code.StepInCircle task circle) old new said
+  unfolding effect
+  circle_acts task circle does c s it is h =
+      subst (λ a. Steps c new said (effect step_limit no_extra a s)) (sym (is_circle task circle it is))
+      (does c s (circle_called task circle c old s (subst (λ a. IsTaken a c old s) (is_circle task circle it is) h)))
+
+  pub wakeup_acts : (task : ℕ) → StepsAs task (λ s. woken_with s.loop.parts task) old new said → Acts (code.Wakeup task) old new said
+  unfolding effect
+  wakeup_acts task does c s it is h =
+      subst (λ a. Steps c new said (effect step_limit no_extra a s)) (sym (is_wakeup task it is))
+      (does c s (wakeup_called task c old s (subst (λ a. IsTaken a c old s) (is_wakeup task it is) h)))
+
+-- ---- what a task is woken with
+module _ (task : ℕ) (c : Setting) (body : Body) (s : State (Unit {0})) (h : IsCalled task c body s) where
+  woken_there : (on : ℕ) → waiter_of s.loop.parts task ≡ Some on → h.stands.ties.gone on ≡ false
+  woken_there on waits = false_from_ne_true (h.stands.ties.gone on) (λ e. absurd (none_some ((h.stands.gone on e).alone task waits)))
+    where
+      none_some : None ≡ Some task → ⊥
+      none_some e = absurd (cc)
+
+  waits_same : waiter_of (parts body.parts) task ≡ waiter_of s.loop.parts task
+  waits_same = ap (λ (ts : List Task). option_map_or (λ (t : Task). t.waiter) (slice_get ts task) None) h.stands.keeps.tasks
+
+  -- it waits for nothing
+  pub woken_none : waiter_of (parts body.parts) task ≡ None → Send Nothing ≡ woken_with s.loop.parts task
+  woken_none none = sym (ap (λ o. option_map_or input_of (option_and_then (future_outcome s.loop.parts) o) (Send Nothing)) (sym waits_same ∙ none))
+
+  pub woken_on : (on : ℕ) (outcome : Option Outcome) → waiter_of (parts body.parts) task ≡ Some on
+      → outcome_at (slice_get body.parts.futures on) ≡ outcome
+      → option_map_or input_of outcome (Send Nothing) ≡ woken_with s.loop.parts task
+  woken_on on outcome waits ended =
+      let there = sym waits_same ∙ waits in
+      ap (λ o. option_map_or input_of o (Send Nothing))
+      (sym ended ∙ outcome_kept h.stands.ties body.parts s.loop.parts h.stands.keeps on (woken_there on there))
+      ∙ sym (ap (λ o. option_map_or input_of (option_and_then (future_outcome s.loop.parts) o) (Send Nothing)) there)
+
+  pub woken_sends : sends_made (length body.slots.items) (woken_with s.loop.parts task) ≡ true
+  woken_sends = sends
+    where
+      at : (t : State (Unit {0})) → s ≡ t → sends_made (next_task t.loop.parts) (woken_with t.loop.parts task) ≡ true
+          → sends_made (length body.slots.items) (woken_with s.loop.parts task) ≡ true
+      at t e m =
+          ap (λ n. sends_made n (woken_with s.loop.parts task)) (h.stands.made ∙ ap (λ (x : State (Unit {0})). next_task x.loop.parts) e)
+          ∙ ap (λ (x : State (Unit {0})). sends_made (next_task t.loop.parts) (woken_with x.loop.parts task)) e ∙ m
+
+      sends : sends_made (length body.slots.items) (woken_with s.loop.parts task) ≡ true
+      sends =
+          at (noted (event.Ran h.handle.action) (unbooked_in (λ p. record p { pending = h.rest }) h.before)) h.after
+          (woken_made no_extra h.before h.sound task)
+
+pub woken_sends_may : (task : ℕ) (body : Body) (input : Input) → MayBegin task body
+    → ((c : Setting) (s : State (Unit {0})) → IsCalled task c body s → input ≡ woken_with s.loop.parts task)
+    → sends_made (length body.slots.items) input ≡ true
+woken_sends_may task body input m is =
+    ∥∥₁_elim m (bool_prop (sends_made (length body.slots.items) input) true)
+    (λ w. ap (sends_made (length body.slots.items)) (is w.0 w.1.0 w.1.1) ∙ woken_sends task w.0 body w.1.0 w.1.1)
+  where
+    bool_prop : (a b : Bool) → IsProp (a ≡ b)
+    bool_prop a b = hlevel props
+
+-- ---- the end of a sleep
+module _ (task future : ℕ) (c : Setting) (body : Body) (s : State (Unit {0})) (h : IsTaken (action.SleepDone task future) c body s) where
+  sleeps_plainly : is_plain s.loop.parts future ≡ true
+  sleeps_plainly = subst (λ (t : State (Unit {0})). is_plain t.loop.parts future ≡ true) (sym h.after) plain
+    where
+      plain : is_plain h.before.loop.parts future ≡ true
+      plain = h.sound.loop.timed.sleeps future (
+          let a = handles-first (ends_sleep_on future) h.handle h.rest h.before.loop.parts h.pending in
+          let b : ◌≡◌ {A = ℕ} (cond (not h.handle.dead && ends_sleep_on future h.handle.tag h.handle.action) 1 0) 1 =
+          ap (λ d. cond (not d && ends_sleep_on future h.handle.tag h.handle.action) 1 0) h.live
+          ∙ ap (λ x. cond (ends_sleep_on future h.handle.tag x) 1 0) h.runs ∙ ap (λ x. cond x 1 0) (eq-eqb future future refl) in
+          omega (arith, a, b))
+
+  pub sleeps_own : owner_at (slice_get body.parts.futures future) ≡ None
+  sleeps_own = owner_kept h.stands.ties body.parts s.loop.parts h.stands.keeps future (plain_within s.loop.parts future sleeps_plainly).0
+
+  pub sleep_over : (v : View)
+      → v ≡ record body.parts {
+        futures = settled.settled future (Returned Nothing) body.parts.futures;
+        queue = soon_all (called future body.parts.futures) body.parts.queue;
+      }
+      → IsAfter c (record body { parts = v }) (unbooked_in (settle future (Returned Nothing)) s)
+  sleep_over v is = subst (λ w. IsAfter c (record body { parts = w }) (unbooked_in (settle future (Returned Nothing)) s)) (sym is) (record {
+    stands =
+        stands_on None None c body s (record body.parts {
+          futures = settled.settled future (Returned Nothing) body.parts.futures;
+          queue = soon_all (called future body.parts.futures) body.parts.queue;
+        }) (in_parts (settle future (Returned Nothing))) h.stands
+        (kept_settle h.stands.ties body.parts s.loop.parts h.stands.keeps future (Returned Nothing))
+        (leaves_settle future (Returned Nothing) s.loop.parts (plain_within s.loop.parts future sleeps_plainly).0)
+        (spares_none s.loop.parts s.futures) (refl, refl) (ap length (below_soon_all (called future body.parts.futures) body.parts.queue));
+    called = h.called;
+    running = h.running;
+  })
+
+pub sleep_idle : (task future : ℕ) (body : Body) → MayAct (code.SleepDone task future) body → body.parts.called ≡ None
+sleep_idle task future body m =
+    ∥∥₁_elim m (same_prop body.parts.called None)
+    (λ w. (subst (λ a. IsTaken a w.1.1.0 body w.1.1.1.0) (is_sleep task future w.0 w.1.0) w.1.1.1.1).called)
+
+pub sleep_free : (task future : ℕ) (body : Body) → MayAct (code.SleepDone task future) body → owner_at (slice_get body.parts.futures future) ≡ None
+sleep_free task future body m =
+    ∥∥₁_elim m (same_prop (owner_at (slice_get body.parts.futures future)) None)
+    (λ w. sleeps_own task future w.1.1.0 body w.1.1.1.0 (subst (λ a. IsTaken a w.1.1.0 body w.1.1.1.0) (is_sleep task future w.0 w.1.0) w.1.1.1.1))
+
+pub sleep_acts : (task future : ℕ) (old : Body) (v : View)
+    → v ≡ record old.parts {
+      futures = settled.settled future (Returned Nothing) old.parts.futures;
+      queue = soon_all (called future old.parts.futures) old.parts.queue;
+    }
+    → Acts (code.SleepDone task future) old (record old { parts = v }) went.Goes
+unfolding effect
+sleep_acts task future old v is c s it what h =
+    let e = is_sleep task future it what in
+    let taken = subst (λ a. IsTaken a c old s) e h in
+    subst (λ a. Steps c (record old { parts = v }) went.Goes (effect step_limit no_extra a s)) (sym e)
+    (after_so (action.SleepDone task future) c old s taken (record old { parts = v }) (unbooked_in (settle future (Returned Nothing)) s) refl
+    (sleep_over task future c old s taken v is))
+
+-- ---- groups and timeouts
+pub group_takes : (group task : ℕ) (body : Body) → MayAct (code.GroupDone group task) body → MayTake (action.GroupDone group task) body
+group_takes group task body m =
+    ∥∥₁_map m (λ w. (w.1.1.0, (w.1.1.1.0, subst (λ a. IsTaken a w.1.1.0 body w.1.1.1.0) (is_group group task w.0 w.1.0) w.1.1.1.1)))
+
+pub fire_takes : (timeout : ℕ) (body : Body) → MayAct (code.Fires timeout) body → MayTake (action.Fires timeout) body
+fire_takes timeout body m =
+    ∥∥₁_map m (λ w. (w.1.1.0, (w.1.1.1.0, subst (λ a. IsTaken a w.1.1.0 body w.1.1.1.0) (is_firing timeout w.0 w.1.0) w.1.1.1.1)))
+
+pub group_acts : (group task : ℕ) (old new : Body)
+    → ((c : Setting) (s : State (Unit {0})) → IsTaken (action.GroupDone group task) c old s → IsAfter c new (in_loop (child_done group task) s))
+    → Acts (code.GroupDone group task) old new went.Goes
+unfolding effect
+group_acts group task old new does c s it what h =
+    let e = is_group group task it what in
+    let taken = subst (λ a. IsTaken a c old s) e h in
+    subst (λ a. Steps c new went.Goes (effect step_limit no_extra a s)) (sym e)
+    (after_so (action.GroupDone group task) c old s taken new (in_loop (child_done group task) s) refl (does c s taken))
+
+pub fire_acts : (timeout : ℕ) (old new : Body)
+    → ((c : Setting) (s : State (Unit {0})) → IsTaken (action.Fires timeout) c old s → IsAfter c new (in_loop (fire timeout) s))
+    → Acts (code.Fires timeout) old new went.Goes
+unfolding effect
+fire_acts timeout old new does c s it what h =
+    let e = is_firing timeout it what in
+    let taken = subst (λ a. IsTaken a c old s) e h in
+    subst (λ a. Steps c new went.Goes (effect step_limit no_extra a s)) (sym e)
+    (after_so (action.Fires timeout) c old s taken new (in_loop (fire timeout) s) refl (does c s taken))
+
+-- ---- main's callback
+pub main_acts : (old : Body) → Acts code.MainDone old (record old { main_done = true }) went.Goes
+unfolding effect
+main_acts old c s it what h =
+    let e = is_main it what in
+    let taken = subst (λ a. IsTaken a c old s) e h in
+    subst (λ a. Steps c (record old { main_done = true }) went.Goes (effect step_limit no_extra a s)) (sym e)
+    (after_so action.MainDone c old s taken (record old { main_done = true }) (record s { main_done = true }) refl
+    (record { stands = stands_main c old s taken.stands; called = taken.called; running = taken.running }))
+  where
+    stands_main : (c : Setting) (old : Body) (s : State (Unit {0})) → Stands None c old s
+        → Stands None c (record old { main_done = true }) (record s { main_done = true })
+    stands_main c old s h = record {
+      ties = h.ties;
+      code = h.code;
+      keeps = h.keeps;
+      left = h.left;
+      bar = h.bar;
+      blocks = h.blocks;
+      made = h.made;
+      told = h.told;
+      few = h.few;
+      held = λ task l. let has = h.held task l in record {
+        slot = has.slot;
+        found = has.found;
+        right = record { waits = has.right.waits; standing = has.right.standing };
+      };
+      gone = h.gone;
+      futures = h.futures;
+      few_futures = h.few_futures;
+      main_done = refl;
+      time = h.time;
+      counts = h.counts;
+      events = h.events;
+      rest = h.rest;
+      count = h.count;
+    }
+
+-- a handle that was taken may do what it does
+pub may_act : (it : Action) (what : Effect) (body : Body) (events : EventList) → what ≡ effect_of it → events ≡ pushed body.events (event.Ran it)
+    → MayRun it body → MayAct what (record body { events = events })
+may_act it what body events same e m =
+    ∥∥₁_map m (λ w. (it, (same, (w.0, (noted (event.Ran it) w.1.0, taken_so it w.0 body w.1.0 events e w.1.1)))))
+
+-- ---- what isn't here so far
+nothing_goes : (it : Action) → code.Nothing ≡ effect_of it → (s : State (Unit {0})) → (effect step_limit no_extra it s ≡ Goes s) × (stepped it ≡ None)
+unfolding effect
+nothing_goes (action.Step other) e s = absurd (cc)
+nothing_goes (action.StepInCircle other circle) e s = absurd (cc)
+nothing_goes (action.Wakeup other) e s = absurd (cc)
+nothing_goes (action.SleepDone other future) e s = absurd (cc)
+nothing_goes (action.GroupDone group other) e s = absurd (cc)
+nothing_goes (action.Fires id) e s = absurd (cc)
+nothing_goes action.MainDone e s = absurd (cc)
+nothing_goes _ e s = (refl, refl)
+
+pub nothing_acts : (old : Body) → Acts code.Nothing old old went.Goes
+nothing_acts old c s it what h =
+    let same = nothing_goes it what s in
+    after_so it c old s h old s same.0 (record { stands = h.stands; called = h.called ∙ same.1; running = h.running })

@@ -1,0 +1,188 @@
+-- A run begins: what is made stands for the machine's first state.
+use Rattle.std.proofs.Common.{◌≡◌, ℕ, zero, suc, ◌+◌, ◌-◌, ◌^◌, ◌<◌, ◌≤◌, Bool, true, false, List, [], ◌∷◌, ◌++◌, Option, Some, None, length, min, slice_get, ◌∙◌, refl, sym, ap, subst, arith}
+use Rattle.std.proofs.lemmas.Bool.{false≢true}
+use Rattle.model_value.specs.Number.{most}
+use Rattle.model_value.specs.Value.{Value}
+use Rattle.model_value.specs.declared.action.Action.TheVariants.{MainDone, Step}
+use Rattle.model_tree.specs.Syntax.{Program}
+use Rattle.model_text.specs.SecondPass.{main_text}
+use Rattle.model_says.specs.Requests.{place_of}
+use Rattle.model_wire.specs.Journal.{Entry}
+use Rattle.model_loop.specs.Parts as plain
+use Rattle.model_loop.specs.Parts.{OfTask, Future, Parts, Task}
+use Rattle.model_loop.specs.Start.{first_parts, no_parts}
+use Rattle.model_loop.specs.Tasks.{cancelling, future_of, lives, next_task, spawn}
+use Rattle.model_loop.specs.Futures.{register}
+use Rattle.model_machine.specs.Extra.{no_extra}
+use Rattle.model_machine.specs.State as machine
+use Rattle.model_machine.specs.State.{State, generator, generator_of, start}
+use Rattle.law_kept.proofs.Calls.{kept_register, kept_spawn}
+use Rattle.law_machine.proofs.Beginning.{begins_sound}
+use Rattle.aio_ready.specs.Queue as queue
+use Rattle.aio_ready.specs.Queue.{Queue, no_handles}
+use Rattle.aio_future.specs.Settled.{registered, soon_if_done}
+use Rattle.aio_task.specs.View.{View, empty, parts}
+use Rattle.aio_task.specs.Keeps.{Ties, Keeps, Kept, Known, ByHandle}
+use Rattle.aio_ready.specs.declared.handle.Name.TheVariants.{Nameless}
+use Rattle.aio_body.specs.declared.body.Body.{Body}
+use Rattle.aio_body.specs.declared.standing.Slot.{Slot}
+use Rattle.aio_body.specs.declared.standing.Standing.{Standing}
+use Rattle.aio_body.specs.declared.standing.Standing.TheVariants.{Asked}
+use Rattle.aio_body.specs.Slots.{HoldsMore}
+use Rattle.aio_body.specs.Stands.{Setting, Stands, HasSlot, IsBetween, StandsAt, WaitsAs}
+use Rattle.aio_flat.specs.Code.{IsCodeOf}
+use Rattle.aio_timeout.specs.Kept.{AreTimeouts}
+use Rattle.aio_group.specs.Held.{Held}
+use Rattle.aio_group.specs.Stands.{KeepsAt}
+use Rattle.aio_wire.specs.EventList.{EventList}
+use Rattle.aio_core.specs.Empty.{IsEmpty}
+use Rattle.aio_core.specs.Turning.{IsAtRest, resting}
+
+-- ---- the parts
+abbrev first_ties : Ties
+first_ties = record { known = λ tag. ByHandle (record { name = Nameless }); gone = λ id. false; bar = 0 }
+
+empty_keeps : (profile : ℕ) → Keeps first_ties (empty profile) no_parts
+empty_keeps profile = record {
+  time = refl;
+  handles = record {
+    early = [];
+    late = [];
+    pending = refl;
+    below = refl;
+    after = refl;
+    before_bar = tt;
+    past_bar = tt;
+    bar_given = omega arith;
+  };
+  timers = refl;
+  deadlines = tt;
+  names = record { given = λ tag h. absurd (omega (arith, h)); own = λ tag other h. absurd (omega (arith, h)) };
+  futures = refl;
+  made = λ id e. absurd (false≢true e);
+  done = λ id e. absurd (false≢true e);
+  tasks = refl;
+  numbered = record {
+    stamps = record { once = λ n. omega arith; below = λ n h. refl };
+    tags = record { once = λ n. omega arith; below = λ n h. refl };
+    members = λ id. ?;
+  };
+}
+
+abbrev main_future : Future
+main_future = record { kind = OfTask 0; outcome = None; callbacks = [] }
+
+abbrev main_task : Task
+main_task = record { future = 0; waiter = None; cancels = 0; must_cancel = false }
+
+-- main's task was made
+abbrev pub with_main : ℕ → View
+with_main profile = record (empty profile) { queue = queue.soon (Step 0) no_handles; futures = main_future ∷ []; tasks = main_task ∷ [] }
+
+-- and what is called when it is done
+abbrev pub with_callback : ℕ → View
+with_callback profile = record (with_main profile) {
+  futures = registered 0 MainDone (with_main profile).futures;
+  queue = soon_if_done 0 MainDone (with_main profile).futures (with_main profile).queue;
+}
+
+abbrev main_kept : (profile : ℕ) → Kept first_ties no_parts (with_main profile) (spawn no_parts)
+main_kept profile =
+    kept_spawn first_ties (empty profile) (with_main profile) no_parts (empty_keeps profile)
+    (record { parts = refl; queue = (Step 0 ∷ [], refl); time = refl; schedule = refl })
+
+abbrev callback_kept : (profile : ℕ) → Kept (main_kept profile).ties (spawn no_parts) (with_callback profile) first_parts
+callback_kept profile =
+    kept_register (main_kept profile).ties (with_main profile) (spawn no_parts) (main_kept profile).keeps 0 MainDone
+
+-- nothing is let go
+none_gone : (profile id : ℕ) → (callback_kept profile).ties.gone id ≡ false
+none_gone profile id =
+    ap (λ (g : ℕ → Bool). g id) ((callback_kept profile).extends.gone ∙ (main_kept profile).extends.gone)
+
+-- what the calls leave
+pub spawned_so : (profile : ℕ) (v : View) → parts v ≡ spawn (parts (empty profile)) → v.queue ≡ queue.soon (Step 0) no_handles
+    → v ≡ record (empty profile) { queue = v.queue; futures = v.futures; tasks = v.tasks } → v ≡ with_main profile
+spawned_so profile v after q beside =
+    beside ∙ ap (λ x. record (empty profile) { queue = x; futures = v.futures; tasks = v.tasks }) q
+    ∙ ap (λ (p : Parts). record (empty profile) { queue = queue.soon (Step 0) no_handles; futures = p.futures; tasks = p.tasks }) after
+
+pub registered_so : (profile : ℕ) (v w : View) → v ≡ with_main profile
+    → w ≡ record v {
+      futures = registered (future_of (parts v) 0) MainDone v.futures;
+      queue = soon_if_done (future_of (parts v) 0) MainDone v.futures v.queue;
+    }
+    → w ≡ with_callback profile
+registered_so profile v w is after =
+    after ∙ ap (λ (x : View). record x {
+      futures = registered (future_of (parts x) 0) MainDone x.futures;
+      queue = soon_if_done (future_of (parts x) 0) MainDone x.futures x.queue;
+    }) is
+
+-- ---- the whole
+module _ (program : Program) (none held : Body) (e : IsEmpty program none)
+    (holds : HoldsMore (place_of program main_text) [] none held) where
+  abbrev begun : Body
+  begun = record held { parts = with_callback e.profile }
+
+  one_slot : held.slots.items ≡ holds.slot ∷ []
+  one_slot = holds.slots ∙ ap (λ (xs : List Slot). xs ++ holds.slot ∷ []) e.slots
+
+  begins_at : (answers : List Entry) → Stands None (resting [] answers (callback_kept e.profile).ties.bar) begun (start tt program answers)
+  begins_at answers = record {
+    ties = (callback_kept e.profile).ties;
+    code = subst (IsCodeOf program) (sym (ap (λ (b : Body). b.code) holds.beside)) e.code;
+    keeps = (callback_kept e.profile).keeps;
+    left = refl;
+    bar = refl;
+    blocks = record {
+      timeouts =
+          subst (λ ts. AreTimeouts (callback_kept e.profile).ties first_parts ts []) (sym (ap (λ (b : Body). b.timeouts) holds.beside ∙ e.timeouts)) tt;
+      groups =
+          subst (λ (gs : List Held). (id : ℕ) → KeepsAt (callback_kept e.profile).ties first_parts (slice_get gs id) (slice_get [] id))
+          (sym (ap (λ (b : Body). b.groups) holds.beside ∙ e.groups)) (λ id. tt);
+    };
+    made = ap length one_slot;
+    told = refl;
+    few = subst (λ (xs : List Slot). length xs < 2 ^ 32) (sym one_slot) (omega arith);
+    held = has;
+    gone = λ id gone. absurd (false≢true (sym (none_gone e.profile id) ∙ gone));
+    futures = ap (λ (b : Body). b.futures.items) holds.beside ∙ e.futures;
+    few_futures = omega arith;
+    main_done = ap (λ (b : Body). b.main_done) holds.beside ∙ e.main_done;
+    time = omega arith;
+    counts = counts;
+    events = sym (ap (λ (b : Body). b.events.events) holds.beside ∙ ap (λ (l : EventList). l.events) e.events);
+    rest = refl;
+    count = ap (λ (b : Body). b.events.answers) holds.beside ∙ ap (λ (l : EventList). l.answers) e.events;
+  }
+    where
+      counts : (task : ℕ) → cancelling first_parts task ≤ most
+      counts zero = omega arith
+      counts (suc task) = omega arith
+
+      stand : (code : Standing) → code ≡ Asked → StandsAt (callback_kept e.profile).ties first_parts [] 0 code machine.Asked
+      stand code is = subst (λ (x : Standing). StandsAt (callback_kept e.profile).ties first_parts [] 0 x machine.Asked) (sym is) tt
+
+      has : (task : ℕ) → lives first_parts task ≡ true
+          → HasSlot None None (callback_kept e.profile).ties held.code held.slots.items (start tt program answers) task
+      has zero l = record {
+        slot = holds.slot;
+        found = ap (λ (xs : List Slot). slice_get xs 0) one_slot;
+        right = record {
+          waits =
+              subst (λ code. WaitsAs program code (generator (place_of program main_text) []) holds.slot.coroutine)
+              (sym (ap (λ (b : Body). b.code) holds.beside)) (holds.waits program e.code);
+          standing = stand holds.slot.standing holds.standing;
+        };
+      }
+      has (suc task) l = absurd (false≢true l)
+
+  pub begins_so : (last : Body) → last ≡ record held { parts = with_callback e.profile } → (answers : List Entry)
+      → IsAtRest [] answers last (start tt program answers)
+  begins_so last is answers = subst (λ b. IsAtRest [] answers b (start tt program answers)) (sym is) ((callback_kept e.profile).ties.bar, record {
+    stands = begins_at answers;
+    called = refl;
+    running = refl;
+    sound = begins_sound no_extra tt program answers;
+  })

@@ -1,0 +1,301 @@
+-- The end of a turn: each task that lives is cancelled once main is done, and the run ends when none lives.
+use Rattle.std.proofs.Common.{◌≡◌, ◌⊎◌, inl, inr, ℕ, zero, suc, ◌+◌, ◌<◌, ◌≤◌, if◌then◌else◌, append_assoc, Bool, true, false, not, ◌&&◌, List, [], ◌∷◌, ◌++◌, Option, Some, None, length, slice_get, ◌∙◌, refl, sym, ap, subst, arith, append-nil}
+use Rattle.std.proofs.Math.Logic.{∥∥₁_elim, ∥∥₁_map}
+use Rattle.std.proofs.lemmas.Bool.{cases_eq, cases_lt, false≢true}
+use Rattle.std.specs.Coded.{le_prop}
+use Rattle.std.specs.List.{list_all, range_with_len}
+use Rattle.std.specs.Option.{option_map_or}
+use Rattle.model_value.specs.Value.{Outcome}
+use Rattle.model_loop.specs.Cancel.{cancel}
+use Rattle.model_loop.specs.Ending.{cancel_everything}
+use Rattle.model_loop.specs.Futures.{future_outcome, is_pending, is_pending_at, outcome_at}
+use Rattle.model_loop.specs.Ledger.{ByEnd, Booked, LedgerEntry, request, request_each, request_where, unbooked}
+use Rattle.model_loop.specs.Loop.{Loop, book}
+use Rattle.model_loop.specs.Parts.{Parts}
+use Rattle.model_loop.specs.Tasks.{future_of, lives, next_task}
+use Rattle.model_machine.specs.Extra.{no_extra}
+use Rattle.model_machine.specs.Outcomes.{end_of, finished_as, no_task_lives}
+use Rattle.model_machine.specs.Sound.{IsStateSound, names_made}
+use Rattle.model_machine.specs.Told.{told_in}
+use Rattle.model_machine.specs.State.{State, in_loop}
+use Rattle.model_machine.specs.Turn.{cancelled_if, finished_if, turn_over}
+use Rattle.model_machine.specs.Went.{Went, Goes, Stops}
+use Rattle.law_inside.specs.InStep.{LeavesStateSound}
+use Rattle.law_sound.proofs.Steps.{end_of_run_sound}
+use Rattle.law_after.specs.After.{IsLoopAfter}
+use Rattle.law_after.proofs.Loops.{book_loop}
+use Rattle.law_after.proofs.Requests.{each_after}
+use Rattle.law_inside.proofs.Nobody.{nobody, over_as}
+use Rattle.law_kept.specs.Requests.{each_more}
+use Rattle.law_kept.proofs.Calls.{kept_request}
+use Rattle.law_kept.proofs.Requesting.{each_one}
+use Rattle.law_kept.proofs.Telling.{future_of_kept, outcome_kept, pending_kept}
+use Rattle.law_runs.proofs.Turning.{ended_in}
+use Rattle.aio_cancel.specs.Body.{Appended}
+use Rattle.aio_task.specs.View.{View, parts}
+use Rattle.aio_task.specs.Keeps.{Keeps}
+use Rattle.aio_body.specs.declared.body.Body.{Body}
+use Rattle.aio_body.specs.Stands.{Setting, Stands, IsBetween}
+use Rattle.aio_body.specs.Taken.{IsAfter}
+use Rattle.law_body.proofs.Lasting.{spares_none, stands_on}
+use Rattle.law_body.proofs.Left.{leaves_request}
+use Rattle.law_body.proofs.May.{same_prop}
+use Rattle.law_body.proofs.Rooms.{below_appended}
+use Rattle.law_body.proofs.Telling.{own_stays}
+use Rattle.aio_core.specs.declared.went.Went as Said
+use Rattle.aio_core.specs.declared.went.Went.TheVariants as went
+use Rattle.aio_core.specs.Turning.{IsAlive, Turned}
+
+-- ---- numbers in order
+range_last : (first count : ℕ) → range_with_len first (suc count) ≡ range_with_len first count ++ (first + count) ∷ []
+range_last first zero = ap (λ n. n ∷ []) (none first)
+  where
+    none : (n : ℕ) → n ≡ n + 0
+    none n = omega arith
+range_last first (suc count) =
+    ap (λ ns. first ∷ ns) (range_last (first + 1) count ∙ ap (λ n. range_with_len (first + 1) count ++ n ∷ []) (more first count))
+  where
+    more : (a b : ℕ) → a + 1 + b ≡ a + suc b
+    more a b = omega arith
+
+all_so : (test : ℕ → Bool) (first count : ℕ) → ((n : ℕ) → first ≤ n → n < first + count → test n ≡ true)
+    → list_all test (range_with_len first count) ≡ true
+all_so test first zero each = refl
+all_so test first (suc count) each =
+    ap (λ b. b && list_all test (range_with_len (first + 1) count)) (each first (omega arith) (omega arith))
+    ∙ all_so test (first + 1) count (λ n above below. each n (omega (arith, above)) (omega (arith, below)))
+
+off : (b : Bool) → (b && false) ≡ false
+off true = refl
+off false = refl
+
+after_other : (a b : ℕ) → a ≤ b → (a ≡ b → ⊥) → a + 1 ≤ b
+after_other a b le ne = at_lt (cases_lt a b)
+  where
+    at_lt : (a < b) ⊎ (b ≤ a) → a + 1 ≤ b
+    at_lt (inl less) = omega (arith, less)
+    at_lt (inr more) = let same : a ≡ b = omega (arith, le, more) in absurd (ne same)
+
+some_not : (test : ℕ → Bool) (first count n : ℕ) → first ≤ n → n < first + count → test n ≡ false
+    → list_all test (range_with_len first count) ≡ false
+some_not test first zero n above below fails = absurd (omega (arith, above, below))
+some_not test first (suc count) n above below fails =
+    at (cases_eq first n) (λ higher. some_not test (first + 1) count n higher (omega (arith, below)) fails)
+  where
+    at : (first ≡ n) ⊎ (first ≡ n → ⊥) → (first + 1 ≤ n → list_all test (range_with_len (first + 1) count) ≡ false)
+        → list_all test (range_with_len first (suc count)) ≡ false
+    at (inl same) others = ap (λ b. b && list_all test (range_with_len (first + 1) count)) (ap test same ∙ fails)
+    at (inr other) others = ap (λ b. test first && b) (others (after_other first n above other)) ∙ off (test first)
+
+-- ---- which tasks live
+-- a task's own future, as the code has it
+abbrev pub own_of : Body → ℕ → ℕ
+own_of body task = future_of (parts body.parts) task
+
+pub pends_so : (out : Option ℕ) (c : Setting) (body : Body) (s : State (Unit {0})) (task : ℕ) → Stands out c body s
+    → is_pending_at (slice_get body.parts.futures (own_of body task)) ≡ lives s.loop.parts task
+pends_so out c body s task h =
+    pending_kept h.ties body.parts s.loop.parts h.keeps (own_of body task)
+    ∙ ap (is_pending s.loop.parts) (future_of_kept h.ties body.parts s.loop.parts h.keeps task)
+
+-- ---- all are cancelled
+abbrev pub tasks_to : ℕ → List ℕ
+tasks_to count = range_with_len 0 count
+
+abbrev pub ended_to : ℕ → State (Unit {0}) → State (Unit {0})
+ended_to count s = in_loop (book (request_each ByEnd (tasks_to count))) s
+
+-- so far, from wherever it began
+abbrev pub HasCancelled : (first body : Body) → ℕ → Type 0
+HasCancelled first body count = (c : Setting) (s : State (Unit {0})) → IsBetween c first s → IsAfter c body (ended_to count s)
+
+pub cancelled_first : (body : Body) → HasCancelled body body 0
+cancelled_first body c s h =
+    subst (IsAfter c body) (ap (λ es. record s { loop = record s.loop { ledger = es } }) (sym (append-nil s.loop.ledger)))
+    (record { stands = h.stands; called = h.called; running = h.running })
+
+-- one task more
+range_more : (count : ℕ) → tasks_to (suc count) ≡ tasks_to count ++ count ∷ []
+range_more count = range_last 0 count ∙ ap (λ n. tasks_to count ++ n ∷ []) (none count)
+  where
+    none : (n : ℕ) → 0 + n ≡ n
+    none n = omega arith
+
+ended_more : (count : ℕ) (s : State (Unit {0}))
+    → ended_to (suc count) s
+    ≡ in_loop (book (request_where (lives (ended_to count s).loop.parts count) ByEnd (future_of (ended_to count s).loop.parts count))) (ended_to count s)
+ended_more count s =
+    ap (λ ts. in_loop (book (request_each ByEnd ts)) s) (range_more count)
+    ∙ ap (λ (b : Booked). record s { loop = record s.loop { parts = b.parts; ledger = s.loop.ledger ++ b.entries } })
+    (each_one ByEnd (tasks_to count) count s.loop.parts)
+    ∙ ap (λ es. record s { loop = record s.loop { parts = last.parts; ledger = es } }) (sym (append_assoc s.loop.ledger those.entries last.entries))
+  where
+    those : Booked
+    those = request_each ByEnd (tasks_to count) s.loop.parts
+
+    last : Booked
+    last = request_where (lives those.parts count) ByEnd (future_of those.parts count) those.parts
+
+-- it lives, and was asked to end
+pub cancelled_more : (first body : Body) (count : ℕ) (v : View) → HasCancelled first body count
+    → is_pending_at (slice_get body.parts.futures (own_of body count)) ≡ true
+    → parts v ≡ (cancel (own_of body count) (parts body.parts)).parts → Appended body.parts.queue v.queue
+    → v ≡ record body.parts { queue = v.queue; futures = v.futures; tasks = v.tasks }
+    → HasCancelled first (record body { parts = v }) (suc count)
+cancelled_more first body count v had pends after appended beside c s h =
+    subst (IsAfter c (record body { parts = v })) (sym (ended_more count s ∙ ap (λ b. in_loop (book (request_where b ByEnd (future_of p count))) t) alive
+    ∙ ap (λ id. in_loop (book (request_where true ByEnd id)) t) (sym same)))
+    (record {
+      stands =
+          stands_on None None c body t v (book (λ q. (request ByEnd own q).booked)) so.stands
+          (kept_request so.stands.ties body.parts v p so.stands.keeps ByEnd own (record {
+            parts = after;
+            queue = appended;
+            time = ap (λ (x : View). x.time) beside;
+            schedule = ap (λ (x : View). x.schedule) beside;
+          }))
+          (leaves_request ByEnd own p) (spares_none p t.futures) (refl, refl) (below_appended body.parts.queue v.queue appended);
+      called = ap (λ (x : View). x.called) beside ∙ so.called;
+      running = ap (λ (x : View). x.running) beside ∙ so.running;
+    })
+  where
+    t : State (Unit {0})
+    t = ended_to count s
+
+    p : Parts
+    p = t.loop.parts
+
+    own : ℕ
+    own = own_of body count
+
+    so : IsAfter c body t
+    so = had c s h
+
+    same : own ≡ future_of p count
+    same = future_of_kept so.stands.ties body.parts p so.stands.keeps count
+
+    alive : lives p count ≡ true
+    alive = sym (pends_so None c body t count so.stands) ∙ pends
+
+pub plus_one : (n : ℕ) → suc n ≡ n + 1
+plus_one n = omega arith
+
+-- it is done
+pub cancelled_on : (first body : Body) (count : ℕ) → HasCancelled first body count
+    → is_pending_at (slice_get body.parts.futures (own_of body count)) ≡ false → HasCancelled first body (suc count)
+cancelled_on first body count had done c s h =
+    subst (IsAfter c body) (sym (ended_more count s ∙ ap (λ b. in_loop (book (request_where b ByEnd (future_of t.loop.parts count))) t) over
+    ∙ ap (λ es. record t { loop = record t.loop { ledger = es } }) (append-nil t.loop.ledger))) so
+  where
+    t : State (Unit {0})
+    t = ended_to count s
+
+    so : IsAfter c body t
+    so = had c s h
+
+    over : lives t.loop.parts count ≡ false
+    over = sym (pends_so None c body t count so.stands) ∙ done
+
+pub cancelled_idle : (first body : Body) (count : ℕ) → IsAlive first → HasCancelled first body count → body.parts.called ≡ None
+cancelled_idle first body count alive had =
+    ∥∥₁_elim alive (same_prop body.parts.called None) (λ w. (had w.0 w.1.0 w.1.1).called)
+
+-- all of them: that leaves a sound state
+cancelled_sound : (s : State (Unit {0})) → IsStateSound no_extra s → IsStateSound no_extra (in_loop cancel_everything s)
+cancelled_sound s sound =
+    nobody no_extra s sound (in_loop cancel_everything s) (record { program = refl; generators = refl }) refl
+    (over_as no_extra s sound (cancel_everything s.loop) all) all (end_of_run_sound None (told_in s.events) s.loop sound.loop)
+  where
+    all : IsLoopAfter (names_made (next_task s.loop.parts)) false None None None None s.loop (cancel_everything s.loop)
+    all =
+        book_loop (names_made (next_task s.loop.parts)) refl false None None None None
+        (request_each ByEnd (range_with_len 0 (next_task s.loop.parts))) s.loop
+        (each_after (names_made (next_task s.loop.parts)) false None ByEnd (range_with_len 0 (next_task s.loop.parts)) s.loop.parts)
+
+pub cancelled_all : (first body : Body) (count : ℕ) → count ≡ length first.slots.items → HasCancelled first body count
+    → (c : Setting) (s : State (Unit {0})) → IsBetween c first s → IsBetween c body (in_loop cancel_everything s)
+cancelled_all first body count all had c s h =
+    let so = subst (λ n. IsAfter c body (ended_to n s)) (all ∙ h.stands.made) (had c s h) in
+    record { stands = so.stands; called = so.called; running = so.running; sound = cancelled_sound s h.sound }
+
+-- ---- whether one lives
+abbrev pub NoneLives : Body → ℕ → Type 0
+NoneLives body count = (task : ℕ) → task < count → is_pending_at (slice_get body.parts.futures (own_of body task)) ≡ false
+
+pub some_lives : (body : Body) (task : ℕ) → task < length body.slots.items
+    → is_pending_at (slice_get body.parts.futures (own_of body task)) ≡ true
+    → (c : Setting) (s : State (Unit {0})) → IsBetween c body s → true ≡ not (no_task_lives s.loop.parts)
+some_lives body task within pends c s h =
+    let alive = sym (pends_so None c body s task h.stands) ∙ pends in
+    let made = h.stands.made in
+    sym (ap not (some_not (λ t. not (lives s.loop.parts t)) 0 (next_task s.loop.parts) task (omega arith) (omega (arith, within, made)) (ap not alive)))
+
+pub none_lives : (body : Body) → NoneLives body (length body.slots.items)
+    → (c : Setting) (s : State (Unit {0})) → IsBetween c body s → false ≡ not (no_task_lives s.loop.parts)
+none_lives body none c s h =
+    sym (ap not (all_so (λ t. not (lives s.loop.parts t)) 0 (next_task s.loop.parts) each))
+  where
+    each : (task : ℕ) → 0 ≤ task → task < 0 + next_task s.loop.parts → not (lives s.loop.parts task) ≡ true
+    each task above below =
+        let made = h.stands.made in
+        ap not (sym (pends_so None c body s task h.stands) ∙ none task (omega (arith, below, made)))
+
+pub none_more : (body : Body) (count : ℕ) → NoneLives body count → is_pending_at (slice_get body.parts.futures (own_of body count)) ≡ false
+    → NoneLives body (count + 1)
+none_more body count none done task below = at (cases_eq task count)
+  where
+    at : (task ≡ count) ⊎ (task ≡ count → ⊥) → is_pending_at (slice_get body.parts.futures (own_of body task)) ≡ false
+    at (inl same) = ap (λ n. is_pending_at (slice_get body.parts.futures (own_of body n))) same ∙ done
+    at (inr other) = none task (lower (cases_lt task count))
+      where
+        lower : (task < count) ⊎ (count ≤ task) → task < count
+        lower (inl less) = less
+        lower (inr more) = let same : task ≡ count = omega (arith, below, more) in absurd (other same)
+
+-- ---- the end of a turn
+pub outcome_so : (c : Setting) (body : Body) (s : State (Unit {0})) → IsBetween c body s
+    → outcome_at (slice_get body.parts.futures (own_of body 0)) ≡ future_outcome s.loop.parts (future_of s.loop.parts 0)
+outcome_so c body s h =
+    ap (λ id. outcome_at (slice_get body.parts.futures id)) (future_of_kept h.stands.ties body.parts s.loop.parts h.stands.keeps 0)
+    ∙ outcome_kept h.stands.ties body.parts s.loop.parts h.stands.keeps (future_of s.loop.parts 0)
+    (own_stays None c body s h.stands h.sound.loop.parts.owns 0)
+
+-- main's outcome, where main's callback ran and no task lives
+abbrev pub finished_by : (main_done none_lives : Bool) → Option Outcome → Option Outcome
+finished_by main_done none outcome = if main_done && none then outcome else None
+
+-- what the code says by these
+abbrev pub said_at : Option Outcome → Said.Went
+said_at None = went.Went
+said_at (Some outcome) = went.Finished outcome
+
+module _ (c : Setting) (body : Body) (s : State (Unit {0})) (h : IsBetween c body s) where
+  said_so : (o : Option Outcome) → finished_as s ≡ o → Turned c body (said_at o) (finished_if (finished_as s) s)
+  said_so None e = subst (λ o. Turned c body went.Went (finished_if o s)) (sym e) h
+  said_so (Some outcome) e = subst (λ o. Turned c body (went.Finished outcome) (finished_if o s)) (sym e) (refl, h.stands.events)
+
+  pub main_goes : body.main_done ≡ false → Turned c body went.Went (finished_if (finished_as s) s)
+  main_goes e =
+      said_so None (ap (λ b. finished_by b (no_task_lives s.loop.parts) (future_outcome s.loop.parts (future_of s.loop.parts 0)))
+      (sym h.stands.main_done ∙ e))
+
+  pub some_goes : true ≡ not (no_task_lives s.loop.parts) → Turned c body went.Went (finished_if (finished_as s) s)
+  some_goes some = said_so None (at (no_task_lives s.loop.parts) some s.main_done)
+    where
+      at : (none : Bool) → true ≡ not none → (done : Bool) → finished_by done none (future_outcome s.loop.parts (future_of s.loop.parts 0)) ≡ None
+      at true e done = absurd (false≢true (sym e))
+      at false e true = refl
+      at false e false = refl
+
+  pub over_so : (o : Option Outcome) → body.main_done ≡ true → false ≡ not (no_task_lives s.loop.parts)
+      → outcome_at (slice_get body.parts.futures (own_of body 0)) ≡ o → Turned c body (said_at o) (finished_if (finished_as s) s)
+  over_so o done none is =
+      said_so o (ap (λ b. finished_by b (no_task_lives s.loop.parts) main) (sym h.stands.main_done ∙ done) ∙ at (no_task_lives s.loop.parts) none
+      ∙ sym (outcome_so c body s h) ∙ is)
+    where
+      main : Option Outcome
+      main = future_outcome s.loop.parts (future_of s.loop.parts 0)
+
+      at : (b : Bool) → false ≡ not b → finished_by true b main ≡ main
+      at true e = refl
+      at false e = absurd (false≢true e)

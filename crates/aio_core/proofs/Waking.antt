@@ -1,0 +1,310 @@
+-- A turn's answer: the time goes on, timers fall due, and all that is pending stands before the bar.
+use Rattle.std.proofs.Common.{◌≡◌, ℕ, ◌<◌, ◌≤◌, ◌+◌, Bool, true, false, ◌&&◌, List, [], ◌∷◌, ◌++◌, Option, Some, None, length, map, max, slice_get, ◌∙◌, refl, sym, ap, subst, arith}
+use Rattle.std.proofs.Math.Logic.{∥∥₁_elim, ∥∥₁_map}
+use Rattle.std.proofs.lemmas.Bool.{false≢true, leb-true}
+use Rattle.std.proofs.lemmas.List.{length-map}
+use Rattle.std.specs.Coded.{le_prop}
+use Rattle.std.specs.Prelude.{nat_le, nat_lt, filter, is_some, not, min, ◌-◌, ◌^◌}
+use Rattle.std.specs.Option.{option_map}
+use Rattle.model_value.specs.Number.{most}
+use Rattle.model_wire.specs.declared.answer.Answer.TheVariants as answer
+use Rattle.model_wire.specs.Call.{Answer, Item}
+use Rattle.model_wire.specs.Fits.{fits, turn_fits, are_few, are_awaited}
+use Rattle.model_loop.specs.Handles.{by_deadline, due, fall_due, soon_all}
+use Rattle.model_loop.specs.Loop.{Loop, in_parts}
+use Rattle.model_loop.specs.Parts.{Handle, Parts, Timer}
+use Rattle.model_loop.specs.Tasks.{lives}
+use Rattle.model_machine.specs.Extra.{no_extra}
+use Rattle.model_machine.specs.Outside.{news_of, select, time_of}
+use Rattle.model_machine.specs.State as plain
+use Rattle.model_machine.specs.State.{State, generator_of, unbooked_in}
+use Rattle.model_machine.specs.Turn.{at_time, call_of, is_stalled, longest_wait, woken_by}
+use Rattle.law_handles.proofs.Appending.{waiting_kept}
+use Rattle.law_handles.proofs.Running.{keeps_barred}
+use Rattle.law_handles.proofs.Scheduling.{due_ties, keeps_fallen, stall_kept, wait_kept}
+use Rattle.law_handles.specs.Waiting.{stalls_by, wait_by}
+use Rattle.law_runs.proofs.Turning.{woken_in}
+use Rattle.aio_ready.specs.Queue as queue
+use Rattle.aio_timer.specs.Schedule as schedule
+use Rattle.aio_timer.specs.declared.live.TimerId.{TimerId}
+use Rattle.aio_cancel.specs.Body.{waiting}
+use Rattle.aio_timeout.proofs.Keeping.{timeouts_stay}
+use Rattle.aio_group.specs.GoesOn.{GoesOn}
+use Rattle.aio_group.proofs.Standing.{groups_on}
+use Rattle.aio_task.specs.View.{View}
+use Rattle.aio_task.specs.Keeps.{Ties, Keeps, Kept, Knows, ByTimer, handle_as}
+use Rattle.aio_body.specs.declared.body.Body.{Body}
+use Rattle.aio_body.specs.declared.standing.Standing.{Standing}
+use Rattle.aio_body.specs.declared.standing.Standing.TheVariants.{Asked, Sleeping, Leaving}
+use Rattle.aio_body.specs.Stands.{Setting, Stands, IsBetween, IsOwnSleep, StandsAt}
+use Rattle.law_body.proofs.Lasting.{spares_none, stands_left}
+use Rattle.law_body.proofs.Left.{leaves_handles}
+use Rattle.law_body.proofs.May.{same_prop}
+use Rattle.aio_core.specs.Turning.{IsAlive, IsTime, all_below}
+
+-- ---- what fits is a time
+is_awaited_none : (items : List Item) → are_awaited [] items ≡ true → items ≡ []
+is_awaited_none [] h = refl
+is_awaited_none (it ∷ items) h = absurd (false≢true h)
+
+both : (a b : Bool) → (a && b) ≡ true → (a ≡ true) × (b ≡ true)
+both true true h = (refl, refl)
+both true false h = absurd (false≢true h)
+both false b h = absurd (false≢true h)
+
+pub fits_time : (wait : Option ℕ) (it : Answer) → fits (select wait []) it ≡ true → IsTime it
+fits_time wait (answer.Turn now items) h =
+    let a = both (nat_le now most) (are_few items && are_awaited [] items) h in
+    let b = both (are_few items) (are_awaited [] items) a.1 in
+    (leb-true now most a.0, is_awaited_none items b.1)
+fits_time wait _ h = absurd (false≢true h)
+
+-- ---- the time
+pub keeps_timed : (t : Ties) (v : View) (p : Parts) (now : ℕ) → Keeps t v p → Keeps t (record v { time = now }) (record p { time = now })
+keeps_timed t v p now k = record {
+  time = refl;
+  handles = record {
+    early = k.handles.early;
+    late = k.handles.late;
+    pending = k.handles.pending;
+    below = k.handles.below;
+    after = k.handles.after;
+    before_bar = k.handles.before_bar;
+    past_bar = k.handles.past_bar;
+    bar_given = k.handles.bar_given;
+  };
+  timers = k.timers;
+  deadlines = k.deadlines;
+  names = k.names;
+  futures = k.futures;
+  made = k.made;
+  done = k.done;
+  tasks = k.tasks;
+  numbered = record { stamps = k.numbered.stamps; tags = k.numbered.tags; members = k.numbered.members };
+}
+
+own_timed : (p : Parts) (now : ℕ) (named : List ℕ) (sleeper : Option ℕ) (id : ℕ) → IsOwnSleep p named sleeper id
+    → IsOwnSleep (record p { time = now }) named sleeper id
+own_timed p now named sleeper id own = record { plain = own.plain; unnamed = own.unnamed; alone = own.alone }
+
+knows_timed : (t : Ties) (p : Parts) (now bar tag : ℕ) (id : TimerId) → Knows t p tag (ByTimer id)
+    → Knows (record t { bar = bar }) (record p { time = now }) tag (ByTimer id)
+knows_timed t p now bar tag id k = record { given = k.given; known = k.known }
+
+at_timed : (t : Ties) (p : Parts) (now bar : ℕ) (named : List ℕ) (task : ℕ) (code : Standing) (standing : plain.Standing)
+    → StandsAt t p named task code standing → StandsAt (record t { bar = bar }) (record p { time = now }) named task code standing
+at_timed t p now bar named task Asked plain.Asked h = tt
+at_timed t p now bar named task Asked (plain.Sleeping tag) h = h
+at_timed t p now bar named task Asked (plain.Leaving id) h = h
+at_timed t p now bar named task Asked (plain.Serving key) h = h
+at_timed t p now bar named task (Sleeping timer future) plain.Asked h = h
+at_timed t p now bar named task (Sleeping timer future) (plain.Sleeping tag) h =
+    (knows_timed t p now bar tag timer h.0, own_timed p now named (Some task) future h.1)
+at_timed t p now bar named task (Sleeping timer future) (plain.Leaving id) h = h
+at_timed t p now bar named task (Sleeping timer future) (plain.Serving key) h = h
+at_timed t p now bar named task (Leaving group) plain.Asked h = h
+at_timed t p now bar named task (Leaving group) (plain.Sleeping tag) h = h
+at_timed t p now bar named task (Leaving group) (plain.Leaving id) h = h
+at_timed t p now bar named task (Leaving group) (plain.Serving key) h = h
+
+-- The time is set, and the bar stands here.
+pub stands_timed : (c : Setting) (body : Body) (s : State (Unit {0})) (v : View) (now bar : ℕ) (h : Stands None c body s) → now ≤ most
+    → Keeps (record h.ties { bar = bar }) v (record s.loop.parts { time = now })
+    → Stands None (record c { left = length v.queue.below; bar = bar }) (record body { parts = v }) (unbooked_in (λ p. record p { time = now }) s)
+stands_timed c body s v now bar h few keeps = record {
+  ties = u;
+  code = h.code;
+  keeps = keeps;
+  left = refl;
+  bar = refl;
+  blocks = record {
+    timeouts = timeouts_stay h.ties u p q body.timeouts s.loop.timeouts (λ tag below. refl) (omega arith) h.blocks.timeouts;
+    groups = groups_on h.ties u p q on refl body.groups s.loop.groups h.blocks.groups;
+  };
+  made = h.made;
+  told = h.told;
+  few = h.few;
+  held = λ task l. let it = h.held task l in record {
+    slot = it.slot;
+    found = it.found;
+    right = record {
+      waits = it.right.waits;
+      standing = at_timed h.ties p now bar s.futures task it.slot.standing (generator_of task s).standing it.right.standing;
+    };
+  };
+  gone = λ id e. own_timed p now s.futures None id (h.gone id e);
+  futures = h.futures;
+  few_futures = h.few_futures;
+  main_done = h.main_done;
+  time = few;
+  counts = h.counts;
+  events = h.events;
+  rest = h.rest;
+  count = h.count;
+}
+  where
+    p : Parts
+    p = s.loop.parts
+
+    q : Parts
+    q = record s.loop.parts { time = now }
+
+    u : Ties
+    u = record h.ties { bar = bar }
+
+    on : GoesOn p q
+    on = record {
+      tasks = omega arith;
+      futures = omega arith;
+      own = λ _ _. refl;
+      owners = λ _ _. refl;
+      failures = λ _ _ e. e;
+    }
+
+-- ---- timers fall due
+fall_due_keeps : (timers : List Timer) (p : Parts)
+    → ((fall_due timers p).futures ≡ p.futures) × ((fall_due timers p).tasks ≡ p.tasks) × ((fall_due timers p).time ≡ p.time)
+fall_due_keeps [] p = (refl, refl, refl)
+fall_due_keeps (timer ∷ timers) p =
+    fall_due_keeps timers (record p {
+      pending = p.pending ++ record { stamp = p.next_stamp; tag = timer.tag; action = timer.action; dead = false } ∷ [];
+      next_stamp = p.next_stamp + 1;
+    })
+
+-- ---- all of it
+-- the parts' view after the calls
+abbrev pub timed_view : ℕ → View → View
+timed_view now v = record v { time = now }
+
+abbrev pub due_view : ℕ → View → View
+due_view now v = record v {
+  schedule = record v.schedule { live = schedule.later_than now v.schedule.live };
+  queue = schedule.fallen (schedule.due_at now v.schedule.live) v.queue;
+}
+
+abbrev pub barred_view : View → View
+barred_view v = record v { queue = queue.barred v.queue }
+
+abbrev pub woken_view : ℕ → View → View
+woken_view now v = barred_view (due_view now (timed_view now v))
+
+due_keeps : (p : Parts) → ((due p).futures ≡ p.futures) × ((due p).tasks ≡ p.tasks) × ((due p).time ≡ p.time)
+due_keeps p =
+    fall_due_keeps (by_deadline (filter (λ (timer : Timer). nat_le timer.when p.time) p.timers))
+    (record p { timers = filter (λ (timer : Timer). nat_lt p.time timer.when) p.timers })
+
+module _ (c : Setting) (body : Body) (s : State (Unit {0})) (now : ℕ) (few : now ≤ most) where
+  abbrev timed : State (Unit {0})
+  timed = unbooked_in (λ p. record p { time = now }) s
+
+  abbrev fell : State (Unit {0})
+  fell = unbooked_in due timed
+
+  timed_stands : (h : Stands None c body s)
+      → Stands None (record c { left = length body.parts.queue.below; bar = h.ties.bar }) (record body { parts = timed_view now body.parts }) timed
+  timed_stands h =
+      stands_timed c body s (timed_view now body.parts) now h.ties.bar h few (keeps_timed h.ties body.parts s.loop.parts now h.keeps)
+
+  fell_stands : (d : Setting) (h : Stands None d (record body { parts = timed_view now body.parts }) timed)
+      → Stands None (record d { left = length (due_view now (timed_view now body.parts)).queue.below })
+      (record body { parts = due_view now (timed_view now body.parts) }) fell
+  fell_stands d h =
+      let is = due_keeps timed.loop.parts in
+      stands_left None None d (record body { parts = timed_view now body.parts }) timed (due_view now (timed_view now body.parts)) (in_parts due) h
+      (record {
+        ties = h.ties;
+        keeps = keeps_fallen h.ties (timed_view now body.parts) timed.loop.parts now h.keeps refl;
+        extends = due_ties h.ties timed.loop.parts;
+      })
+      (leaves_handles timed.loop.parts (due timed.loop.parts) is.0 is.1 is.2) (spares_none timed.loop.parts timed.futures) (refl, refl)
+
+  all_stand : (d : Setting) (h : Stands None d (record body { parts = due_view now (timed_view now body.parts) }) fell)
+      → Stands None (record d { left = length fell.loop.parts.pending; bar = fell.loop.parts.next_stamp })
+      (record body { parts = woken_view now body.parts }) fell
+  all_stand d h =
+      subst (λ n. Stands None (record d { left = n; bar = fell.loop.parts.next_stamp }) (record body { parts = woken_view now body.parts }) fell)
+      (ap length (waiting_kept h.ties (due_view now (timed_view now body.parts)) fell.loop.parts h.keeps)
+      ∙ length-map fell.loop.parts.pending (handle_as h.ties.known))
+      (stands_timed d (record body { parts = due_view now (timed_view now body.parts) }) fell (woken_view now body.parts) fell.loop.parts.time
+      fell.loop.parts.next_stamp h h.time (keeps_barred h.ties (due_view now (timed_view now body.parts)) fell.loop.parts h.keeps))
+
+  pub wakes : Stands None c body s
+      → Stands None (record c { left = length fell.loop.parts.pending; bar = fell.loop.parts.next_stamp })
+      (record body { parts = woken_view now body.parts }) fell
+  wakes h = let first = timed_stands h in let second = fell_stands _ first in all_stand _ second
+
+-- what an answer that is a time makes of the parts
+woken_as : (it : Answer) → IsTime it → (p : Parts) → woken_by it p ≡ due (record p { time = max p.time (time_of it) })
+woken_as (answer.Turn now items) h p = rw h.1 refl
+woken_as _ h p = absurd h
+
+most_of : (it : Answer) → IsTime it → time_of it ≤ most
+most_of (answer.Turn now items) h = h.0
+most_of _ h = absurd h
+
+pub later_time : (it : Answer) → IsTime it → (time : ℕ) → time ≤ most → max time (time_of it) ≤ most
+later_time it h time few = let most_it = most_of it h in omega (arith, few, most_it)
+
+pub time_few : (body : Body) → IsAlive body → body.parts.time ≤ most
+time_few body alive =
+    ∥∥₁_elim alive le_prop (λ w. subst (λ n. n ≤ most) (sym w.1.1.stands.keeps.time) w.1.1.stands.time)
+
+pub idle_alive : (body : Body) → IsAlive body → body.parts.called ≡ None
+idle_alive body alive = ∥∥₁_elim alive (same_prop body.parts.called None) (λ w. w.1.1.called)
+
+pub wakes_so : (c : Setting) (body : Body) (s : State (Unit {0})) (it : Answer) → IsTime it → IsBetween c body s
+    → IsBetween (all_below c (unbooked_in (woken_by it) s)) (record body { parts = woken_view (max body.parts.time (time_of it)) body.parts })
+    (unbooked_in (woken_by it) s)
+wakes_so c body s it is h = record {
+  stands =
+      subst (λ q. Stands None (all_below c (unbooked_in (λ p. q) s)) (record body { parts = woken_view now body.parts }) (unbooked_in (λ p. q) s))
+      (sym same)
+      (wakes c body s now (later_time it is body.parts.time (subst (λ n. n ≤ most) (sym h.stands.keeps.time) h.stands.time)) h.stands);
+  called = h.called;
+  running = h.running;
+  sound = woken_in no_extra s it h.sound;
+}
+  where
+    now : ℕ
+    now = max body.parts.time (time_of it)
+
+    same : woken_by it s.loop.parts ≡ due (record s.loop.parts { time = now })
+    same =
+        woken_as it is s.loop.parts
+        ∙ ap (λ n. due (record s.loop.parts { time = max n (time_of it) })) (sym h.stands.keeps.time)
+
+pub tasks_few : (body : Body) → IsAlive body → length body.slots.items < 2 ^ 32
+tasks_few body alive = ∥∥₁_elim alive le_prop (λ w. w.1.1.stands.few)
+
+-- ---- what a turn asks first
+pub stall_then : (idle : Bool) (first : Option ℕ) (none : Bool) → idle ≡ true → (told : Option ℕ) → told ≡ first → is_some told ≡ not none
+    → none ≡ stalls_by idle first false
+stall_then false first none e told same is = absurd (false≢true e)
+stall_then true first none e told same is = at first none (ap is_some (sym same) ∙ is)
+  where
+    at : (o : Option ℕ) (b : Bool) → is_some o ≡ not b → b ≡ stalls_by true o false
+    at None true x = refl
+    at None false x = absurd (false≢true x)
+    at (Some when) true x = absurd (false≢true (sym x))
+    at (Some when) false x = refl
+
+pub stall_else : (idle : Bool) (first : Option ℕ) → idle ≡ false → false ≡ stalls_by idle first false
+stall_else true first e = absurd (false≢true (sym e))
+stall_else false first e = refl
+
+pub wait_busy : (idle : Bool) (first : Option ℕ) (time : ℕ) → idle ≡ false → Some 0 ≡ wait_by idle first time
+wait_busy true first time e = absurd (false≢true (sym e))
+wait_busy false first time e = refl
+
+pub wait_idle : (idle : Bool) (first : Option ℕ) (time : ℕ) → idle ≡ true → option_map (λ when. min (when - time) longest_wait) first ≡ wait_by idle first time
+wait_idle true first time e = refl
+wait_idle false first time e = absurd (false≢true e)
+
+pub stalls_so : (c : Setting) (body : Body) (s : State (Unit {0})) → IsBetween c body s
+    → stalls_by (queue.is_empty (waiting body.parts.queue)) (schedule.first_when body.parts.schedule.live) false ≡ is_stalled no_extra s
+stalls_so c body s h = sym (stall_kept h.stands.ties body.parts s.loop.parts h.stands.keeps false)
+
+pub waits_for : (c : Setting) (body : Body) (s : State (Unit {0})) → IsBetween c body s
+    → select (wait_by (queue.is_empty (waiting body.parts.queue)) (schedule.first_when body.parts.schedule.live) body.parts.time) []
+    ≡ call_of no_extra s
+waits_for c body s h = ap (λ w. select w []) (sym (wait_kept h.stands.ties body.parts s.loop.parts h.stands.keeps))

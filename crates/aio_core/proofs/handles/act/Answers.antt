@@ -1,0 +1,108 @@
+use Rattle.std.proofs.Common.{true, length, ◌∙◌, refl, sym, ap, subst}
+use Rattle.std.proofs.lemmas.Result.{IfOk-weaker}
+use Rattle.model_value.specs.declared.input.Input.TheVariants.{Send, Throw}
+use Rattle.model_value.specs.declared.outcome.Outcome.TheVariants.{Value as Returned}
+use Rattle.model_says.specs.Says.{step_limit}
+use Rattle.model_machine.specs.Extra.{no_extra}
+use Rattle.model_machine.specs.Sound.{sends_made}
+use Rattle.model_machine.specs.Step.{step}
+use Rattle.aio_ready.specs.Queue.{soon_all}
+use Rattle.aio_future.specs.Settled as settled
+use Rattle.aio_future.specs.Settled.{called}
+use Rattle.aio_step.specs.Stepping.{Steps}
+use Rattle.aio_step.specs.declared.steps.Stepped.TheVariants as went
+use Rattle.aio_core.specs.Effects.{MayAct}
+use Rattle.aio_core.proofs.Acting.{Acts, StepsAs, circle_acts, circle_begins, fire_acts, fire_takes, group_acts, group_takes, main_acts, nothing_acts, sleep_acts, sleep_free, sleep_idle, step_acts, step_begins, wakeup_acts, wakeup_begins}
+use Rattle.aio_core.proofs.handles.act.Goals as goal
+
+pub step-requires-clause-called : goal.step-requires-clause-called
+step-requires-clause-called c = step_begins c.in-Step.task c.args.body.now (subst (λ w. MayAct w c.args.body.now) c.in-Step.is c.requires)
+
+pub step-requires-clause-made : goal.step-requires-clause-made
+step-requires-clause-made c = ap (λ v. sends_made (length c.args.body.now.slots.items) (Send v)) c.nothing.ensures
+
+pub step-requires-in-StepInCircle-clause-called : goal.step-requires-in-StepInCircle-clause-called
+step-requires-in-StepInCircle-clause-called c =
+    circle_begins c.in-StepInCircle.task c.in-StepInCircle.circle c.args.body.now
+    (subst (λ w. MayAct w c.args.body.now) c.in-StepInCircle.is c.requires)
+
+pub step-requires-in-StepInCircle-clause-made : goal.step-requires-in-StepInCircle-clause-made
+step-requires-in-StepInCircle-clause-made c = refl
+
+pub woken_with-requires : goal.woken_with-requires
+woken_with-requires c = wakeup_begins c.in-Wakeup.task c.args.body.now (subst (λ w. MayAct w c.args.body.now) c.in-Wakeup.is c.requires)
+
+pub step-requires-in-Wakeup-clause-called : goal.step-requires-in-Wakeup-clause-called
+step-requires-in-Wakeup-clause-called c =
+    wakeup_begins c.in-Wakeup.task c.args.body.now (subst (λ w. MayAct w c.args.body.now) c.in-Wakeup.is c.requires)
+
+pub step-requires-in-Wakeup-clause-made : goal.step-requires-in-Wakeup-clause-made
+step-requires-in-Wakeup-clause-made c = c.in_ok-input-in-Wakeup.ensures.made
+
+pub resolve-was_pending-requires-clause-idle : goal.resolve-was_pending-requires-clause-idle
+resolve-was_pending-requires-clause-idle c =
+    sleep_idle c.in-SleepDone._sleeper c.in-SleepDone.future c.args.body.now (subst (λ w. MayAct w c.args.body.now) c.in-SleepDone.is c.requires)
+
+pub resolve-was_pending-requires-clause-no_task : goal.resolve-was_pending-requires-clause-no_task
+resolve-was_pending-requires-clause-no_task c =
+    sleep_free c.in-SleepDone._sleeper c.in-SleepDone.future c.args.body.now (subst (λ w. MayAct w c.args.body.now) c.in-SleepDone.is c.requires)
+
+pub child_done-requires : goal.child_done-requires
+child_done-requires c =
+    group_takes c.in-GroupDone.group c.in-GroupDone.task c.args.body.now (subst (λ w. MayAct w c.args.body.now) c.in-GroupDone.is c.requires)
+
+pub fire-requires : goal.fire-requires
+fire-requires c = fire_takes c.in-Fires.timeout c.args.body.now (subst (λ w. MayAct w c.args.body.now) c.in-Fires.is c.requires)
+
+pub returns-in-Step : goal.returns-in-Step
+returns-in-Step c =
+    IfOk-weaker c.step.result _ _
+    (λ said does. subst (λ w. Acts w c.args.body.now c.step.new.body said) (sym c.in-Step.is)
+    (step_acts c.args.body.now c.step.new.body said c.in-Step.task
+    (subst (λ v. StepsAs c.in-Step.task (λ s. Send v) c.args.body.now c.step.new.body said) c.nothing.ensures does))) c.step.ensures
+
+pub returns-in_ok-fault-in-StepInCircle : goal.returns-in_ok-fault-in-StepInCircle
+returns-in_ok-fault-in-StepInCircle c =
+    IfOk-weaker c.step-in-StepInCircle.result _ _
+    (λ said does. subst (λ w. Acts w c.args.body.now c.step-in-StepInCircle.new.body said) (sym c.in-StepInCircle.is)
+    (circle_acts c.args.body.now c.step-in-StepInCircle.new.body said c.in-StepInCircle.task c.in-StepInCircle.circle
+    (subst (λ f. StepsAs c.in-StepInCircle.task (λ s. Throw f) c.args.body.now c.step-in-StepInCircle.new.body said)
+    c.in_ok-fault-in-StepInCircle.ensures does))) c.step-in-StepInCircle.ensures
+
+pub returns-in_ok-input-in-Wakeup : goal.returns-in_ok-input-in-Wakeup
+returns-in_ok-input-in-Wakeup c =
+    IfOk-weaker c.step-in-Wakeup.result _ _
+    (λ said does. subst (λ w. Acts w c.args.body.now c.step-in-Wakeup.new.body said) (sym c.in-Wakeup.is)
+    (wakeup_acts c.args.body.now c.step-in-Wakeup.new.body said c.in-Wakeup.task
+    (λ d s h. subst (λ i. Steps d c.step-in-Wakeup.new.body said (step step_limit no_extra c.in-Wakeup.task i s))
+    (c.in_ok-input-in-Wakeup.ensures.input d s h) (does d s h)))) c.step-in-Wakeup.ensures
+
+pub returns-in-SleepDone : goal.returns-in-SleepDone
+returns-in-SleepDone c =
+    let body = c.args.body.now in
+    let future = c.in-SleepDone.future in
+    let is = c.resolve-was_pending.ensures.after
+        ∙ ap (λ v. record body.parts {
+          futures = settled.settled future (Returned v) body.parts.futures;
+          queue = soon_all (called future body.parts.futures) body.parts.queue;
+        }) c.nothing-in-SleepDone.ensures in
+    subst (λ w. Acts w body (record body { parts = c.resolve-was_pending.new.self }) went.Goes) (sym c.in-SleepDone.is)
+    (sleep_acts c.in-SleepDone._sleeper future body c.resolve-was_pending.new.self is)
+
+pub returns-in_ok-child_done-in-GroupDone : goal.returns-in_ok-child_done-in-GroupDone
+returns-in_ok-child_done-in-GroupDone c =
+    subst (λ w. Acts w c.args.body.now c.child_done.new.body went.Goes) (sym c.in-GroupDone.is)
+    (group_acts c.in-GroupDone.group c.in-GroupDone.task c.args.body.now c.child_done.new.body c.in_ok-child_done-in-GroupDone.ensures)
+
+pub returns-in_ok-fire-in-Fires : goal.returns-in_ok-fire-in-Fires
+returns-in_ok-fire-in-Fires c =
+    subst (λ w. Acts w c.args.body.now c.fire.new.body went.Goes) (sym c.in-Fires.is)
+    (fire_acts c.in-Fires.timeout c.args.body.now c.fire.new.body c.in_ok-fire-in-Fires.ensures)
+
+pub returns-in-MainDone : goal.returns-in-MainDone
+returns-in-MainDone c =
+    subst (λ w. Acts w c.args.body.now (record c.args.body.now { main_done = true }) went.Goes) (sym c.in-MainDone.is) (main_acts c.args.body.now)
+
+pub returns-in-Nothing : goal.returns-in-Nothing
+returns-in-Nothing c =
+    subst (λ w. Acts w c.args.body.now c.args.body.now went.Goes) (sym c.in-Nothing.is) (nothing_acts c.args.body.now)

@@ -1,0 +1,10 @@
+-- From wherever it began a state was come to, from which the rest runs as from the first.
+use Rattle.std.proofs.Common.{length}
+use Rattle.aio_core.proofs.Running.{HasReached}
+use Rattle.aio_core.proofs.handles.run_below.Given as goal
+
+abbrev pub invariant-loop-action : goal.invariant-loop-action
+invariant-loop-action l = HasReached l.fn.body l.body
+
+abbrev pub decreases-loop-action : goal.decreases-loop-action
+decreases-loop-action l = length l.body.parts.queue.below

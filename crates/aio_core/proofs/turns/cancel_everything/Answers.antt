@@ -1,0 +1,40 @@
+use Rattle.std.proofs.Common.{◌+◌, true, false, ◌≡◌, ℕ, slice_get, ◌∙◌, sym, ap, subst, arith}
+use Rattle.model_loop.specs.Cancel.{cancel}
+use Rattle.model_loop.specs.Futures.{is_pending_at}
+use Rattle.aio_task.specs.View.{View, parts}
+use Rattle.aio_core.proofs.Stopping.{HasCancelled, cancelled_all, cancelled_first, cancelled_idle, cancelled_more, cancelled_on, own_of, plus_one}
+use Rattle.aio_core.proofs.turns.cancel_everything.Goals as goal
+use Rattle.aio_core.proofs.turns.cancel_everything.Goals.{then-is_pending, else-is_pending}
+
+pub tasks-task-end-requires : goal.tasks-task-end-requires
+tasks-task-end-requires c = c.requires
+
+pub loop-task-init : goal.loop-task-init
+loop-task-init c = cancelled_first c.args.body.now
+
+pub cancel-answer-requires : goal.cancel-answer-requires
+cancel-answer-requires c = record { idle = cancelled_idle c.args.body.now c.loop-task.body c.loop-task.task c.requires c.loop-task.invariant }
+
+pub loop-task-preserved : goal.loop-task-preserved
+loop-task-preserved c =
+    let l = c.loop-task in
+    let first = c.args.body.now in
+    let told = ap (λ id. is_pending_at (slice_get l.body.parts.futures id)) (sym c.future_of-own.ensures) ∙ sym c.is_pending.ensures in
+    elim c.if-is_pending.branch
+    [ then-is_pending w ↦
+      subst (λ b. HasCancelled first b (l.task + 1)) (sym w.body-is)
+      (subst (HasCancelled first (record l.body { parts = w.cancel-answer.new.self })) (plus_one l.task)
+      (cancelled_more first l.body l.task w.cancel-answer.new.self l.invariant (told ∙ w.if-is_pending.true)
+      (w.cancel-answer.ensures.after ∙ ap (λ id. (cancel id (parts l.body.parts)).parts) c.future_of-own.ensures)
+      w.cancel-answer.ensures.queue w.cancel-answer.ensures.beside))
+    | else-is_pending w ↦
+      subst (λ b. HasCancelled first b (l.task + 1)) (sym w.body-is)
+      (subst (HasCancelled first l.body) (plus_one l.task) (cancelled_on first l.body l.task l.invariant (told ∙ w.if-is_pending.false))) ]
+
+pub returns : goal.returns
+returns c =
+    let l = c.loop-task in
+    let end = c.loop-task-test.false in
+    let within = l.auto.task-end in
+    let all = c.tasks-task-end.ensures in
+    cancelled_all c.args.body.now l.body l.task (omega (arith, end, within, all)) l.invariant

@@ -1,0 +1,206 @@
+use Rattle.std.proofs.Common.{Ok, Err, true, false, ◌≡◌, ◌∙◌, refl, sym, subst, arith}
+use Rattle.std.proofs.lemmas.Result.{err_from_is_err_and}
+use Rattle.model_wire.specs.Fits.{fits}
+use Rattle.model_says.specs.Says.{step_limit}
+use Rattle.model_machine.specs.Extra.{no_extra}
+use Rattle.model_machine.specs.State.{State, unbooked_in}
+use Rattle.model_machine.specs.Turn.{is_stalled, turned_by, woken_by}
+use Rattle.aio_body.specs.Stands.{IsBetween, Setting}
+use Rattle.aio_core.specs.Turning.{AliveIfWent, IsAlive, StallsAs, Turned, all_below, at_bar, resting, said_by, stood_by}
+use Rattle.aio_core.specs.declared.went.Went.TheVariants as went
+use Rattle.aio_core.proofs.Asking.{alive_after, comes_so, failing_answered, failing_stopped, got_alive, got_so, stalls_after, stalls_so, stalls_stopped, still_after, still_stopped, stops_so}
+use Rattle.aio_core.proofs.Waking.{fits_time}
+use Rattle.aio_core.proofs.turns.turn.Goals as goal
+
+pub returns-then-is_stalled-clause-comes : goal.returns-then-is_stalled-clause-comes
+returns-then-is_stalled-clause-comes g c =
+    stalls_so c.args.body.now (g.W.Wire.seen c.args.wire.now) (λ d s h. sym c.if-is_stalled.true ∙ c.is_stalled.ensures d s h)
+
+pub returns-then-is_stalled-clause-stalls : goal.returns-then-is_stalled-clause-stalls
+returns-then-is_stalled-clause-stalls g c =
+    λ past answers s h. sym (c.is_stalled.ensures (resting past answers h.0) s h.1) ∙ c.if-is_stalled.true
+
+pub returns-then-is_stalled-clause-keeps : goal.returns-then-is_stalled-clause-keeps
+returns-then-is_stalled-clause-keeps g c = g.met.W.Wire.keeps_same c.args.wire.now
+
+pub returns-then-is_stalled-clause-quiet : goal.returns-then-is_stalled-clause-quiet
+returns-then-is_stalled-clause-quiet g c = g.met.W.Wire.quiet_same c.args.wire.now
+
+pub returns-then-is_stalled-clause-later : goal.returns-then-is_stalled-clause-later
+returns-then-is_stalled-clause-later g c = omega arith
+
+-- ---- the call has no answer that fits
+pub returns-in_err-answer-clause-comes : goal.returns-in_err-answer-clause-comes
+returns-in_err-answer-clause-comes g c =
+    let p = err_from_is_err_and c.from_residual.result c.from_residual.ensures.1 in
+    let why = c.in_err-answer.field-0.0 in
+    rw (p.1, p.2) (stops_so c.args.body.now c.first_call-call.result c.first_call-call.ensures.call
+    (λ d s h. sym c.if-is_stalled.false ∙ c.is_stalled.ensures d s h) c.ask.new.body.events (g.W.Wire.seen c.args.wire.now) (g.W.Wire.seen c.ask.new.wire)
+    (Err why) why refl c.in_err-answer.ensures.asks (stood_by c.ask.new.body))
+
+pub returns-in_err-answer-clause-stalls : goal.returns-in_err-answer-clause-stalls
+returns-in_err-answer-clause-stalls g c =
+    let p = err_from_is_err_and c.from_residual.result c.from_residual.ensures.1 in
+    let why = c.in_err-answer.field-0.0 in
+    rw (p.1, p.2) (λ past answers s h. subst (λ b. StallsAs b (went.Stopped why))
+    (sym c.if-is_stalled.false ∙ c.is_stalled.ensures (resting past answers h.0) s h.1) (stalls_stopped why))
+
+pub returns-in_err-answer-clause-alive : goal.returns-in_err-answer-clause-alive
+returns-in_err-answer-clause-alive g c =
+    let p = err_from_is_err_and c.from_residual.result c.from_residual.ensures.1 in
+    subst (λ r. AliveIfWent (said_by r) c.ask.new.body) (sym p.1) tt
+
+pub returns-in_err-answer-clause-fails : goal.returns-in_err-answer-clause-fails
+returns-in_err-answer-clause-fails g c =
+    let p = err_from_is_err_and c.from_residual.result c.from_residual.ensures.1 in
+    let why = c.in_err-answer.field-0.0 in
+    rw (p.1, p.2) (λ fails. failing_stopped c.first_call-call.result why (c.in_err-answer.ensures.fails fails))
+
+pub returns-in_err-answer-clause-keeps : goal.returns-in_err-answer-clause-keeps
+returns-in_err-answer-clause-keeps g c = c.in_err-answer.ensures.keeps
+
+pub returns-in_err-answer-clause-quiet : goal.returns-in_err-answer-clause-quiet
+returns-in_err-answer-clause-quiet g c =
+    let p = err_from_is_err_and c.from_residual.result c.from_residual.ensures.1 in
+    let why = c.in_err-answer.field-0.0 in
+    rw (p.1, p.2) (still_stopped (g.W.Wire.quiet c.args.wire.now c.ask.new.wire) why c.in_err-answer.ensures.quiet)
+
+pub returns-in_err-answer-clause-later : goal.returns-in_err-answer-clause-later
+returns-in_err-answer-clause-later g c = c.in_err-answer.ensures.stays.1
+
+-- ---- the call has its answer
+pub after-requires-clause-alive : goal.after-requires-clause-alive
+after-requires-clause-alive g c =
+    let old = c.args.body.now in
+    let call = c.first_call-call.result in
+    let is = c.first_call-call.ensures.call in
+    let goes : (d : Setting) (s : State (Unit {0})) → IsBetween d old s → false ≡ is_stalled no_extra s = λ d s h.
+        sym c.if-is_stalled.false ∙ c.is_stalled.ensures d s h in
+    let got = got_so old call is goes (Ok c.in_ok-answer.answer) c.in_ok-answer.answer c.ask.new.body.events (g.W.Wire.seen c.args.wire.now)
+        (g.W.Wire.seen c.ask.new.wire) refl c.in_ok-answer.ensures.asks in
+    subst IsAlive (sym c.in_ok-answer.ensures.beside) (got_alive old call is goes c.in_ok-answer.answer c.ask.new.body.events got.is_noted c.requires)
+
+pub after-requires-clause-time : goal.after-requires-clause-time
+after-requires-clause-time g c =
+    let old = c.args.body.now in
+    let call = c.first_call-call.result in
+    let is = c.first_call-call.ensures.call in
+    let goes : (d : Setting) (s : State (Unit {0})) → IsBetween d old s → false ≡ is_stalled no_extra s = λ d s h.
+        sym c.if-is_stalled.false ∙ c.is_stalled.ensures d s h in
+    let got = got_so old call is goes (Ok c.in_ok-answer.answer) c.in_ok-answer.answer c.ask.new.body.events (g.W.Wire.seen c.args.wire.now)
+        (g.W.Wire.seen c.ask.new.wire) refl c.in_ok-answer.ensures.asks in
+    let shape = c.first_call-call.ensures.shape in
+    fits_time shape.0 c.in_ok-answer.answer (subst (λ k. fits k c.in_ok-answer.answer ≡ true) shape.1 got.is_fit)
+
+-- ---- memory was refused then
+
+pub returns-in_err-after-clause-comes : goal.returns-in_err-after-clause-comes
+returns-in_err-after-clause-comes g c =
+    let p = err_from_is_err_and c.from_residual-in_err-after.result c.from_residual-in_err-after.ensures.1 in
+    rw (p.1, p.2) tt
+
+pub returns-in_err-after-clause-stalls : goal.returns-in_err-after-clause-stalls
+returns-in_err-after-clause-stalls g c =
+    let p = err_from_is_err_and c.from_residual-in_err-after.result c.from_residual-in_err-after.ensures.1 in
+    rw (p.1, p.2) (λ past answers s h. tt)
+
+pub returns-in_err-after-clause-alive : goal.returns-in_err-after-clause-alive
+returns-in_err-after-clause-alive g c =
+    let p = err_from_is_err_and c.from_residual-in_err-after.result c.from_residual-in_err-after.ensures.1 in
+    subst (λ r. AliveIfWent (said_by r) c.after.new.body) (sym p.1) tt
+
+pub returns-in_err-after-clause-fails : goal.returns-in_err-after-clause-fails
+returns-in_err-after-clause-fails g c =
+    let p = err_from_is_err_and c.from_residual-in_err-after.result c.from_residual-in_err-after.ensures.1 in
+    rw (p.1, p.2) (λ fails. tt)
+
+pub returns-in_err-after-clause-quiet : goal.returns-in_err-after-clause-quiet
+returns-in_err-after-clause-quiet g c =
+    let p = err_from_is_err_and c.from_residual-in_err-after.result c.from_residual-in_err-after.ensures.1 in
+    rw (p.1, p.2) c.in_ok-answer.ensures.quiet
+
+pub returns-in_err-after-clause-keeps : goal.returns-in_err-after-clause-keeps
+returns-in_err-after-clause-keeps g c = c.in_ok-answer.ensures.keeps
+
+pub returns-in_err-after-clause-later : goal.returns-in_err-after-clause-later
+returns-in_err-after-clause-later g c = c.in_ok-answer.ensures.stays.1
+
+-- ---- the turn is made
+
+pub returns-clause-comes : goal.returns-clause-comes
+returns-clause-comes g c =
+    let old = c.args.body.now in
+    let call = c.first_call-call.result in
+    let is = c.first_call-call.ensures.call in
+    let goes : (d : Setting) (s : State (Unit {0})) → IsBetween d old s → false ≡ is_stalled no_extra s = λ d s h.
+        sym c.if-is_stalled.false ∙ c.is_stalled.ensures d s h in
+    let answer = c.in_ok-answer.answer in
+    let events = c.ask.new.body.events in
+    let before = g.W.Wire.seen c.args.wire.now in
+    let after = g.W.Wire.seen c.ask.new.wire in
+    let got = got_so old call is goes (Ok answer) answer events before after refl c.in_ok-answer.ensures.asks in
+    let alive = got_alive old call is goes answer events got.is_noted c.requires in
+    let does : (d : Setting) (s : State (Unit {0})) → IsBetween d (record old { events = events }) s
+        → Turned (at_bar (all_below d (unbooked_in (woken_by answer) s))) c.after.new.body c.in_ok-after.field-0 (turned_by step_limit no_extra answer s) = λ d s h.
+        c.in_ok-after.ensures d s (subst (λ b. IsBetween d b s) (sym c.in_ok-answer.ensures.beside) h) in
+    comes_so old call is goes answer events before after got c.after.new.body c.in_ok-after.field-0 does alive
+
+pub returns-clause-stalls : goal.returns-clause-stalls
+returns-clause-stalls g c =
+    let old = c.args.body.now in
+    let call = c.first_call-call.result in
+    let is = c.first_call-call.ensures.call in
+    let goes : (d : Setting) (s : State (Unit {0})) → IsBetween d old s → false ≡ is_stalled no_extra s = λ d s h.
+        sym c.if-is_stalled.false ∙ c.is_stalled.ensures d s h in
+    let answer = c.in_ok-answer.answer in
+    let events = c.ask.new.body.events in
+    let before = g.W.Wire.seen c.args.wire.now in
+    let after = g.W.Wire.seen c.ask.new.wire in
+    let got = got_so old call is goes (Ok answer) answer events before after refl c.in_ok-answer.ensures.asks in
+    let alive = got_alive old call is goes answer events got.is_noted c.requires in
+    let does : (d : Setting) (s : State (Unit {0})) → IsBetween d (record old { events = events }) s
+        → Turned (at_bar (all_below d (unbooked_in (woken_by answer) s))) c.after.new.body c.in_ok-after.field-0 (turned_by step_limit no_extra answer s) = λ d s h.
+        c.in_ok-after.ensures d s (subst (λ b. IsBetween d b s) (sym c.in_ok-answer.ensures.beside) h) in
+    λ past answers s h. subst (λ b. StallsAs b c.in_ok-after.field-0)
+    (sym c.if-is_stalled.false ∙ c.is_stalled.ensures (resting past answers h.0) s h.1)
+    (stalls_after old call is goes answer events before after got c.after.new.body c.in_ok-after.field-0 does alive)
+
+pub returns-clause-alive : goal.returns-clause-alive
+returns-clause-alive g c =
+    let old = c.args.body.now in
+    let call = c.first_call-call.result in
+    let is = c.first_call-call.ensures.call in
+    let goes : (d : Setting) (s : State (Unit {0})) → IsBetween d old s → false ≡ is_stalled no_extra s = λ d s h.
+        sym c.if-is_stalled.false ∙ c.is_stalled.ensures d s h in
+    let answer = c.in_ok-answer.answer in
+    let events = c.ask.new.body.events in
+    let before = g.W.Wire.seen c.args.wire.now in
+    let after = g.W.Wire.seen c.ask.new.wire in
+    let got = got_so old call is goes (Ok answer) answer events before after refl c.in_ok-answer.ensures.asks in
+    let alive = got_alive old call is goes answer events got.is_noted c.requires in
+    let does : (d : Setting) (s : State (Unit {0})) → IsBetween d (record old { events = events }) s
+        → Turned (at_bar (all_below d (unbooked_in (woken_by answer) s))) c.after.new.body c.in_ok-after.field-0 (turned_by step_limit no_extra answer s) = λ d s h.
+        c.in_ok-after.ensures d s (subst (λ b. IsBetween d b s) (sym c.in_ok-answer.ensures.beside) h) in
+    alive_after old call is goes answer events before after got c.after.new.body c.in_ok-after.field-0 does alive
+
+pub returns-clause-fails : goal.returns-clause-fails
+returns-clause-fails g c =
+    let old = c.args.body.now in
+    let call = c.first_call-call.result in
+    let is = c.first_call-call.ensures.call in
+    let goes : (d : Setting) (s : State (Unit {0})) → IsBetween d old s → false ≡ is_stalled no_extra s = λ d s h.
+        sym c.if-is_stalled.false ∙ c.is_stalled.ensures d s h in
+    let answer = c.in_ok-answer.answer in
+    λ fails. absurd (failing_answered call answer (c.in_ok-answer.ensures.fails fails))
+
+pub returns-clause-keeps : goal.returns-clause-keeps
+returns-clause-keeps g c =
+    c.in_ok-answer.ensures.keeps
+
+pub returns-clause-quiet : goal.returns-clause-quiet
+returns-clause-quiet g c =
+    still_after (g.W.Wire.quiet c.args.wire.now c.ask.new.wire) c.in_ok-after.field-0 c.in_ok-answer.ensures.quiet
+
+pub returns-clause-later : goal.returns-clause-later
+returns-clause-later g c =
+    c.in_ok-answer.ensures.stays.1

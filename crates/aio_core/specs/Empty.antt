@@ -1,0 +1,17 @@
+-- What a kernel keeps before there is a task.
+use Rattle.std.specs.Prelude.{◌≡◌, ℕ, false, []}
+use Rattle.model_tree.specs.Syntax.{Program}
+use Rattle.aio_flat.specs.Code.{IsCodeOf}
+use Rattle.aio_task.specs.View.{empty}
+use Rattle.aio_body.specs.declared.body.Body.{Body}
+
+pub record IsEmpty (program : Program) (body : Body) : Type 0 where
+  pub code : IsCodeOf program body.code
+  pub profile : ℕ
+  pub parts : body.parts ≡ empty profile
+  pub slots : body.slots.items ≡ []
+  pub timeouts : body.timeouts ≡ []
+  pub groups : body.groups ≡ []
+  pub futures : body.futures.items ≡ []
+  pub main_done : body.main_done ≡ false
+  pub events : body.events ≡ record { events = []; answers = 0 }

@@ -1,0 +1,72 @@
+//! How a run begins.
+ghost use Rattle.std.specs.Prelude.{◌≡◌, List, [], IfOk};
+ghost use Rattle.model_text.specs.SecondPass.{main_text};
+ghost use Rattle.model_wire.specs.Journal.{Entry};
+ghost use Rattle.model_says.specs.Requests.{place_among, place_of};
+ghost use Rattle.model_machine.specs.State.{start};
+ghost use Rattle.aio_core.specs.Empty.{IsEmpty};
+ghost use Rattle.aio_core.specs.Turning.{IsAtRest};
+
+use aio_base::{Action, Memory, ValueList};
+use aio_body::Body;
+use aio_flat::flatten;
+use aio_group::Groups;
+use aio_program::{Coroutine, Program};
+use aio_task::Parts;
+use aio_timeout::Timeouts;
+use aio_wire::Events;
+use std::alloc::Global;
+
+/// A run begins at time 0, with main's task, whose first step is pending, and what is called when it is done.
+#[tactic(none)]
+pub fn begin(alloc: Global, program: &Program) -> Result<Body, Memory>
+    ensures { IfOk result (λ body. (answers : List Entry) → IsAtRest [] answers body (start tt program.now answers)) }
+{
+    let mut body = empty(alloc, program)?;
+    let main = main_of(program)?;
+    body.hold(alloc, main, &ValueList::of(Vec::new(alloc)))?;
+    let ticket = body.parts.ticket(alloc)?;
+    let task = body.parts.spawn(alloc)?;
+    let own = body.parts.future_of(task);
+    body.parts.on_done(own, ticket, Action::MainDone);
+    Ok(body)
+}
+
+// Nothing has happened, and there are no tasks.
+fn empty(alloc: Global, program: &Program) -> Result<Body, Memory>
+    ensures { IfOk result (IsEmpty program.now) }
+{
+    let profile = u8::try_from(program.profile()).unwrap_or(u8::MAX);
+    Ok(Body {
+        code: flatten(alloc, program)?,
+        parts: Parts::new(alloc, profile)?,
+        slots: Vec::new(alloc),
+        timeouts: Timeouts::new(alloc)?,
+        groups: Groups::new(alloc)?,
+        futures: Vec::new(alloc),
+        main_done: false,
+        events: Events::new(alloc),
+    })
+}
+
+// Main's place in the program: behind all coroutines where none is called so.
+fn main_of(program: &Program) -> Result<u32, Memory>
+    ensures { IfOk result (λ place. place ≡ place_of program.now main_text) }
+{
+    match u32::try_from(place_of_main(program.coroutines())) {
+        Ok(place) => Ok(place),
+        Err(_) => Err(Memory),
+    }
+}
+
+#[tactic(none)]
+fn place_of_main(coroutines: &[Coroutine]) -> usize
+    ensures { result ≡ place_among coroutines.now main_text }
+{
+    for at in 0..coroutines.len() {
+        if coroutines[at].name().as_str() == "main" {
+            return at;
+        }
+    }
+    coroutines.len()
+}

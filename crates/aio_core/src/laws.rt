@@ -1,0 +1,7 @@
+//! Scratch.
+ghost use Rattle.std.specs.Prelude.{◌≡◌, ℕ};
+
+pub fn nothing_yet()
+    ensures { (n : ℕ) → n ≡ n }
+{
+}
