@@ -197,13 +197,23 @@ step_begins task body m =
 
 pub circle_begins : (task : ℕ) (circle : Circle) (body : Body) → MayAct (code.StepInCircle task circle) body → MayBegin task body
 circle_begins task circle body m =
-    ∥∥₁_map m (λ w. (w.1.1.0, (w.1.1.1.0,
-    circle_called task circle w.1.1.0 body w.1.1.1.0 (subst (λ a. IsTaken a w.1.1.0 body w.1.1.1.0) (is_circle task circle w.0 w.1.0) w.1.1.1.1))))
+    ∥∥₁_map m (λ w. (
+      w.1.1.0,
+      (
+        w.1.1.1.0,
+        circle_called task circle w.1.1.0 body w.1.1.1.0 (subst (λ a. IsTaken a w.1.1.0 body w.1.1.1.0) (is_circle task circle w.0 w.1.0) w.1.1.1.1),
+      ),
+    ))
 
 pub wakeup_begins : (task : ℕ) (body : Body) → MayAct (code.Wakeup task) body → MayBegin task body
 wakeup_begins task body m =
-    ∥∥₁_map m (λ w. (w.1.1.0, (w.1.1.1.0,
-    wakeup_called task w.1.1.0 body w.1.1.1.0 (subst (λ a. IsTaken a w.1.1.0 body w.1.1.1.0) (is_wakeup task w.0 w.1.0) w.1.1.1.1))))
+    ∥∥₁_map m (λ w. (
+      w.1.1.0,
+      (
+        w.1.1.1.0,
+        wakeup_called task w.1.1.0 body w.1.1.1.0 (subst (λ a. IsTaken a w.1.1.0 body w.1.1.1.0) (is_wakeup task w.0 w.1.0) w.1.1.1.1),
+      ),
+    ))
 
 -- what a step comes to, of a task that was called
 abbrev pub StepsAs : ℕ → (input : State (Unit {0}) → Input) → (old new : Body) → Stepped → Type 0

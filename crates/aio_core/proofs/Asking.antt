@@ -108,51 +108,79 @@ module _ (old : Body) (call : Call)
   module _ (events : EventList) (before after : WireSeen) where
     stops_over : Replied call before after reply.Over → events ≡ pushed old.events (event.Called call) → (new : Stood)
         → ComesTo before.left after.left before.faults after.faults (stood_by old) new events.events (went.Stopped (stop.Over call))
-    stops_over replied e new = ([], (replied.left.0, λ past rest s none h. record {
-      end = end.Over call;
-      last = called_at call s;
-      way = refl;
-      stops = turned_as (resting past rest h.0) s h.1 [] (h.1.stands.rest ∙ none);
-      told = told_call past [] rest s events h.1.stands.events e;
-    }))
+    stops_over replied e new = (
+      [],
+      (
+        replied.left.0,
+        λ past rest s none h. record {
+          end = end.Over call;
+          last = called_at call s;
+          way = refl;
+          stops = turned_as (resting past rest h.0) s h.1 [] (h.1.stands.rest ∙ none);
+          told = told_call past [] rest s events h.1.stands.events e;
+        },
+      ),
+    )
 
     stops_bad : (fault : JournalFault) → Replied call before after (reply.Bad fault) → events ≡ pushed old.events (event.Called call) → (new : Stood)
         → ComesTo before.left after.left before.faults after.faults (stood_by old) new events.events (went.Stopped (stop.Bad fault))
-    stops_bad fault replied e new = ([], (replied.left.0, λ past rest s next h. record {
-      end = end.JournalRefused fault.line fault.cause;
-      last = called_at call s;
-      way = refl;
-      stops = turned_as (resting past rest h.0) s h.1 (refused_of fault ∷ next.0) (h.1.stands.rest ∙ next.1);
-      told = told_call past [] rest s events h.1.stands.events e;
-    }))
+    stops_bad fault replied e new = (
+      [],
+      (
+        replied.left.0,
+        λ past rest s next h. record {
+          end = end.JournalRefused fault.line fault.cause;
+          last = called_at call s;
+          way = refl;
+          stops = turned_as (resting past rest h.0) s h.1 (refused_of fault ∷ next.0) (h.1.stands.rest ∙ next.1);
+          told = told_call past [] rest s events h.1.stands.events e;
+        },
+      ),
+    )
 
     stops_failed : Replied call before after reply.Failed → events ≡ pushed old.events (event.Called call) → (new : Stood)
         → ComesTo before.left after.left before.faults after.faults (stood_by old) new events.events (went.Stopped (stop.Failed call))
-    stops_failed replied e new = ([], (replied.left, λ past rest s none h. record {
-      end = end.Over call;
-      last = called_at call s;
-      way = refl;
-      stops = turned_as (resting past rest h.0) s h.1 [] (h.1.stands.rest ∙ none);
-      told = told_call past [] rest s events h.1.stands.events e;
-    }, replied.failed))
+    stops_failed replied e new = (
+      [],
+      (
+        replied.left,
+        λ past rest s none h. record {
+          end = end.Over call;
+          last = called_at call s;
+          way = refl;
+          stops = turned_as (resting past rest h.0) s h.1 [] (h.1.stands.rest ∙ none);
+          told = told_call past [] rest s events h.1.stands.events e;
+        },
+        replied.failed,
+      ),
+    )
 
     stops_misfit : (answer : Answer) → Replied call before after (reply.Got answer)
         → events ≡ pushed (pushed old.events (event.Called call)) (event.Got answer) → fits call answer ≡ false → (new : Stood)
         → ComesTo before.left after.left before.faults after.faults (stood_by old) new events.events
         (went.Stopped (stop.Mismatch events.answers call))
-    stops_misfit answer replied e misfits new = (answer ∷ [], (replied.left, λ past rest s any h.
-        let h_stands = h.1.stands in record {
-      end = end.Mismatch (answers_in (got_at call answer rest s).events) call;
-      last = got_at call answer rest s;
-      way = (refl, (
-          ap (λ (l : EventList). l.answers) e
-          ∙ counted (pushed old.events (event.Called call)).answers (called_at call s).events (event.Got answer)
-          (counted old.events.answers s.events (event.Called call) h_stands.count)));
-      stops =
-          turned_as (resting past (Answered answer ∷ rest) h.0) s h.1 (Answered answer ∷ rest) h_stands.rest
-          ∙ ap (λ b. fitted b call answer (turned_by step_limit no_extra) (got_at call answer rest s)) misfits;
-      told = told_got past s answer rest events h_stands.events e;
-    }))
+    stops_misfit answer replied e misfits new = (
+      answer ∷ [],
+      (
+        replied.left,
+        λ past rest s any h.
+            let h_stands = h.1.stands in record {
+              end = end.Mismatch (answers_in (got_at call answer rest s).events) call;
+              last = got_at call answer rest s;
+              way = (
+                refl,
+                (
+                    ap (λ (l : EventList). l.answers) e
+                    ∙ counted (pushed old.events (event.Called call)).answers (called_at call s).events (event.Got answer)
+                    (counted old.events.answers s.events (event.Called call) h_stands.count)),
+              );
+              stops =
+                  turned_as (resting past (Answered answer ∷ rest) h.0) s h.1 (Answered answer ∷ rest) h_stands.rest
+                  ∙ ap (λ b. fitted b call answer (turned_by step_limit no_extra) (got_at call answer rest s)) misfits;
+              told = told_got past s answer rest events h_stands.events e;
+            },
+      ),
+    )
 
     -- by what came of the call
     pub stops_so : (result : Result Answer Stop) (why : Stop) → result ≡ Err why
@@ -300,12 +328,30 @@ module _ (old : Body) (call : Call)
             → Turned (resting past rest (barred past rest s)) new it (turn step_limit no_extra s)
 
         at : (it : code.Went) → Each it → Does it → ComesTo before.left after.left before.faults after.faults (stood_by old) (stood_by new) new.events.events it
-        at went.Went each both = (answer ∷ [], (got.was_left, λ past rest s h.
-            goes_at past rest (barred past rest s) (turn step_limit no_extra s) (each past rest s h)))
-        at (went.Finished outcome) each both = (answer ∷ [], (got.was_left, λ past rest s any h.
-            finishes_at outcome past rest (barred past rest s) s (turn step_limit no_extra s) refl (each past rest s h)))
-        at (went.Runaway task) each both = (answer ∷ [], (got.was_left, λ past rest s any h.
-            runs_at task past rest (barred past rest s) s (turn step_limit no_extra s) refl (each past rest s h)))
+        at went.Went each both = (
+          answer ∷ [],
+          (
+            got.was_left,
+            λ past rest s h.
+                goes_at past rest (barred past rest s) (turn step_limit no_extra s) (each past rest s h),
+          ),
+        )
+        at (went.Finished outcome) each both = (
+          answer ∷ [],
+          (
+            got.was_left,
+            λ past rest s any h.
+                finishes_at outcome past rest (barred past rest s) s (turn step_limit no_extra s) refl (each past rest s h),
+          ),
+        )
+        at (went.Runaway task) each both = (
+          answer ∷ [],
+          (
+            got.was_left,
+            λ past rest s any h.
+                runs_at task past rest (barred past rest s) s (turn step_limit no_extra s) refl (each past rest s h),
+          ),
+        )
         at went.Stalled each both = absurd (never went.Stalled both alive (λ c w t. none_stalled c w t))
         at (went.Stopped why) each both = absurd (never (went.Stopped why) both alive (λ c w t. none_stopped why c w t))
 
@@ -339,13 +385,16 @@ module _ (old : Body) (call : Call)
 -- ---- a turn that is stalled
 pub stalls_so : (old : Body) (seen : WireSeen) → ((c : Setting) (s : State (Unit {0})) → IsBetween c old s → true ≡ is_stalled no_extra s)
     → ComesTo seen.left seen.left seen.faults seen.faults (stood_by old) (stood_by old) old.events.events went.Stalled
-stalls_so old seen is = (refl, λ past rest s any h. record {
-  end = end.Stalled;
-  last = s;
-  way = refl;
-  stops = turn_stalls s (sym (is (resting past rest h.0) s h.1));
-  told = h.1.stands.events;
-})
+stalls_so old seen is = (
+  refl,
+  λ past rest s any h. record {
+    end = end.Stalled;
+    last = s;
+    way = refl;
+    stops = turn_stalls s (sym (is (resting past rest h.0) s h.1));
+    told = h.1.stands.events;
+  },
+)
 
 -- ---- what holds of the wire
 pub still_after : (fact : Type 0) (said : code.Went) → fact → UnlessFailed fact said

@@ -34,8 +34,14 @@ module _ (old new : Kernel) (before after : Option (List Entry)) (was is : ℕ) 
   pub comes_up : (said : code.Went) → (said ≡ went.Went → ended new ≡ None)
       → ComesTo before after was is (stood_by old.body) (stood_by new.body) (untaken new) said
       → ComesTo before after was is (stood_for old) (stood_for new) (untaken new) said
-  comes_up went.Went goes c = (c.0, (c.1.0, λ past rest s h.
-      let it = c.1.1 past rest s h.rests in (it.0, (it.1.0, stands_up past rest new it.0 (goes refl) it.1.1))))
+  comes_up went.Went goes c = (
+    c.0,
+    (
+      c.1.0,
+      λ past rest s h.
+          let it = c.1.1 past rest s h.rests in (it.0, (it.1.0, stands_up past rest new it.0 (goes refl) it.1.1)),
+    ),
+  )
   comes_up (went.Finished outcome) goes c = (c.0, (c.1.0, λ past rest s l h. c.1.1 past rest s l h.rests))
   comes_up went.Stalled goes c = (c.0, λ past rest s l h. c.1 past rest s l h.rests)
   comes_up (went.Runaway task) goes c = (c.0, (c.1.0, λ past rest s l h. c.1.1 past rest s l h.rests))

@@ -1,6 +1,7 @@
 -- A run begins: what is made stands for the machine's first state.
 use Rattle.std.proofs.Common.{◌≡◌, ℕ, zero, suc, ◌+◌, ◌-◌, ◌^◌, ◌<◌, ◌≤◌, Bool, true, false, List, [], ◌∷◌, ◌++◌, Option, Some, None, length, min, slice_get, ◌∙◌, refl, sym, ap, subst, arith}
 use Rattle.std.proofs.lemmas.Bool.{false≢true}
+use Rattle.std.proofs.lemmas.List.Elements.{All-nil}
 use Rattle.model_value.specs.Number.{most}
 use Rattle.model_value.specs.Value.{Value}
 use Rattle.model_value.specs.declared.action.Action.TheVariants.{MainDone, Step}
@@ -65,7 +66,7 @@ empty_keeps profile = record {
   numbered = record {
     stamps = record { once = λ n. omega arith; below = λ n h. refl };
     tags = record { once = λ n. omega arith; below = λ n h. refl };
-    members = λ id. ?;
+    members = λ id. All-nil (λ member. member < id);
   };
 }
 
@@ -180,9 +181,46 @@ module _ (program : Program) (none held : Body) (e : IsEmpty program none)
 
   pub begins_so : (last : Body) → last ≡ record held { parts = with_callback e.profile } → (answers : List Entry)
       → IsAtRest [] answers last (start tt program answers)
-  begins_so last is answers = subst (λ b. IsAtRest [] answers b (start tt program answers)) (sym is) ((callback_kept e.profile).ties.bar, record {
-    stands = begins_at answers;
-    called = refl;
-    running = refl;
-    sound = begins_sound no_extra tt program answers;
-  })
+  begins_so last is answers = subst (λ b. IsAtRest [] answers b (start tt program answers)) (sym is) (
+    (callback_kept e.profile).ties.bar,
+    record {
+      stands = begins_at answers;
+      called = refl;
+      running = refl;
+      sound = begins_sound no_extra tt program answers;
+    },
+  )
+
+-- main's task is made in a body that is empty
+pub main_made : (program : Program) (none held last : Body) (e : IsEmpty program none) (place : ℕ) (arguments : List Value)
+    → place ≡ place_of program main_text → arguments ≡ [] → HoldsMore place arguments none held
+    → (ticketed v w : View) (task own : ℕ) → ticketed ≡ held.parts → task ≡ length ticketed.tasks → parts v ≡ spawn (parts ticketed)
+    → v.queue ≡ queue.soon (Step (length ticketed.tasks)) ticketed.queue
+    → v ≡ record ticketed { queue = v.queue; futures = v.futures; tasks = v.tasks } → own ≡ future_of (parts v) task
+    → w ≡ record v { futures = registered own MainDone v.futures; queue = soon_if_done own MainDone v.futures v.queue }
+    → last ≡ record held { parts = w } → (answers : List Entry) → IsAtRest [] answers last (start tt program answers)
+main_made program none held last e place arguments at_place no_arguments holds ticketed v w task own ticket number after pending beside is_own on is answers =
+    begins_so program none held e held_main last (is ∙ ap (λ (x : View). record held { parts = x }) is_w) answers
+  where
+    start_view : ticketed ≡ empty e.profile
+    start_view = ticket ∙ ap (λ (b : Body). b.parts) holds.beside ∙ e.parts
+
+    held_main : HoldsMore (place_of program main_text) [] none held
+    held_main =
+        subst (λ n. HoldsMore n [] none held) at_place (subst (λ xs. HoldsMore place xs none held) no_arguments holds)
+
+    is_v : v ≡ with_main e.profile
+    is_v =
+        spawned_so e.profile v (after ∙ ap (λ (x : View). spawn (parts x)) start_view)
+        (pending ∙ ap (λ (x : View). queue.soon (Step (length x.tasks)) x.queue) start_view)
+        (beside ∙ ap (λ (x : View). record x { queue = v.queue; futures = v.futures; tasks = v.tasks }) start_view)
+
+    first : task ≡ 0
+    first = number ∙ ap (λ (x : View). length x.tasks) start_view
+
+    is_w : w ≡ with_callback e.profile
+    is_w =
+        registered_so e.profile v w is_v (on ∙ ap (λ id. record v {
+          futures = registered id MainDone v.futures;
+          queue = soon_if_done id MainDone v.futures v.queue;
+        }) (is_own ∙ ap (future_of (parts v)) first))

@@ -96,7 +96,7 @@ module _ (first body new : Body) (w : View) (action : Action) (is : w ≡ left_b
       let here = reached c s h in
       let running = running_of body w action is next (with_left body c) here.now here.between in
       let gone = goes_on (record c { left = length w.queue.below }) new (effect step_limit no_extra action (noted (event.Ran action) running.now))
-          (ran (record c { left = length w.queue.below }) running.now running.next) in
+      (ran (record c { left = length w.queue.below }) running.now running.next) in
       record {
         now = gone.0;
         between = subst (λ n. IsBetween (record c { left = n }) new gone.0) (sym gone.1.1.stands.left) gone.1.1;
@@ -125,7 +125,7 @@ module _ (first body new : Body) (w : View) (action : Action) (is : w ≡ left_b
           let here = reached c s h in
           let running = running_of body w action is next (with_left body c) here.now here.between in
           let gone = goes_on (record c { left = length w.queue.below }) new (effect step_limit no_extra action (noted (event.Ran action) running.now))
-              (ran (record c { left = length w.queue.below }) running.now running.next) in
+          (ran (record c { left = length w.queue.below }) running.now running.next) in
           let many = gone.1.1.stands.left in
           let took = taken_fewer body.parts.queue action next in
           let same = ap (λ (x : View). length x.queue.below) is in

@@ -63,7 +63,7 @@ Turned c body _ _ = ⊥
 -- ---- a whole turn
 -- what a turn said, where it stopped or went on
 abbrev pub said_by : Result code.Went Stop → code.Went
-said_by (Ok went) = went
+said_by (Ok said) = said
 said_by (Err stop) = went.Stopped stop
 
 -- these answers were taken of what was told
@@ -142,7 +142,7 @@ AliveIfWent _ body = Unit {0}
 -- between two turns there is such a state, unless the run ended
 abbrev pub AliveUnless : (ended : Option code.Went) → Body → Type 0
 AliveUnless None body = IsAlive body
-AliveUnless (Some went) body = Unit {0}
+AliveUnless (Some _) body = Unit {0}
 
 -- whether a state is stalled, by what was said
 abbrev pub StallsAs : Bool → code.Went → Type 0

@@ -1,5 +1,5 @@
 //! How a run begins.
-ghost use Rattle.std.specs.Prelude.{◌≡◌, List, [], IfOk};
+ghost use Rattle.std.specs.Prelude.{◌≡◌, List, [], None, IfOk, OnOk};
 ghost use Rattle.model_text.specs.SecondPass.{main_text};
 ghost use Rattle.model_wire.specs.Journal.{Entry};
 ghost use Rattle.model_says.specs.Requests.{place_among, place_of};
@@ -18,18 +18,27 @@ use aio_wire::Events;
 use std::alloc::Global;
 
 /// A run begins at time 0, with main's task, whose first step is pending, and what is called when it is done.
-#[tactic(none)]
 pub fn begin(alloc: Global, program: &Program) -> Result<Body, Memory>
     ensures { IfOk result (λ body. (answers : List Entry) → IsAtRest [] answers body (start tt program.now answers)) }
 {
     let mut body = empty(alloc, program)?;
+    make_main(alloc, program, &mut body)?;
+    Ok(body)
+}
+
+// Main's task is made.
+fn make_main(alloc: Global, program: &Program, body: &mut Body) -> Result<(), Memory>
+    requires idle { body.old.parts.called ≡ None }
+    ensures { OnOk result (IsEmpty program.now body.old
+        → (answers : List Entry) → IsAtRest [] answers body.new (start tt program.now answers)) }
+{
     let main = main_of(program)?;
     body.hold(alloc, main, &ValueList::of(Vec::new(alloc)))?;
     let ticket = body.parts.ticket(alloc)?;
     let task = body.parts.spawn(alloc)?;
     let own = body.parts.future_of(task);
     body.parts.on_done(own, ticket, Action::MainDone);
-    Ok(body)
+    Ok(())
 }
 
 // Nothing has happened, and there are no tasks.
@@ -37,12 +46,16 @@ fn empty(alloc: Global, program: &Program) -> Result<Body, Memory>
     ensures { IfOk result (IsEmpty program.now) }
 {
     let profile = u8::try_from(program.profile()).unwrap_or(u8::MAX);
+    let timeouts = Timeouts::new(alloc)?;
+    let groups = Groups::new(alloc)?;
+    let code = flatten(alloc, program)?;
+    let parts = Parts::new(alloc, profile)?;
     Ok(Body {
-        code: flatten(alloc, program)?,
-        parts: Parts::new(alloc, profile)?,
+        code,
+        parts,
         slots: Vec::new(alloc),
-        timeouts: Timeouts::new(alloc)?,
-        groups: Groups::new(alloc)?,
+        timeouts,
+        groups,
         futures: Vec::new(alloc),
         main_done: false,
         events: Events::new(alloc),
@@ -59,7 +72,6 @@ fn main_of(program: &Program) -> Result<u32, Memory>
     }
 }
 
-#[tactic(none)]
 fn place_of_main(coroutines: &[Coroutine]) -> usize
     ensures { result ≡ place_among coroutines.now main_text }
 {

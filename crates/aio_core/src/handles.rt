@@ -69,17 +69,15 @@ fn act(body: &mut Body, alloc: Global, what: Effect, ticket: Ticket) -> Result<S
             task: _sleeper,
             future,
         } => {
-            let _was_pending = body
-                .parts
-                .resolve(future, Outcome::Value(Value::nothing()));
+            let _was_pending = body.parts.resolve(future, Outcome::Value(Value::nothing()));
             Ok(Stepped::Goes)
         }
         Effect::GroupDone { group, task } => {
-            child_done(body, alloc, group, task)?;
+            child_done(body, group, task);
             Ok(Stepped::Goes)
         }
         Effect::Fires(timeout) => {
-            fire(body, alloc, timeout)?;
+            fire(body, timeout);
             Ok(Stepped::Goes)
         }
         Effect::MainDone => {

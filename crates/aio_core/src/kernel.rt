@@ -34,14 +34,11 @@ impl Kernel {
     pub fn new(alloc: Global, program: &Program) -> Result<Kernel, Memory>
         ensures { IfOk result (Begins program.now) }
     {
-        Ok(Kernel {
-            body: begin(alloc, program)?,
-            ended: None,
-        })
+        let body = begin(alloc, program)?;
+        Ok(Kernel { body, ended: None })
     }
 
     /// A turn. After any answer but `Went` it answers that again, or that memory was refused, and asks nothing.
-    #[tactic(none)]
     pub fn turn<W: Wire>(&mut self, alloc: Global, wire: &mut W) -> Went
         ensures turned { ended self.old ≡ None → (said : AnyWent) × TurnedBy (W.fails wire.old) (W.quiet wire.old wire.new)
             (W.seen wire.old) (W.seen wire.new) self.old self.new result said }
@@ -61,7 +58,6 @@ impl Kernel {
     }
 
     /// Takes the events out that came since the last call.
-    #[tactic(none)]
     pub fn events(&mut self) -> Events
         ensures taken { result.events ≡ untaken self.old }
         ensures left { untaken self.new ≡ [] }
@@ -73,7 +69,6 @@ impl Kernel {
     }
 
     /// How many tasks were made so far.
-    #[tactic(none)]
     pub fn tasks(&self) -> u32
         ensures { (past : List Event) (answers : List Entry) (s : State (Unit {0}))
             → StandsFor past answers self.now s → result ≡ next_task s.loop.parts }

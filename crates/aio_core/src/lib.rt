@@ -6,10 +6,8 @@ mod effect;
 mod ending;
 mod handles;
 mod kernel;
-mod laws;
 mod turns;
 mod went;
 
 pub use kernel::Kernel;
-pub use laws::nothing_yet;
 pub use went::Went;

@@ -28,7 +28,6 @@ use std::alloc::Global;
 const LONGEST_WAIT: u64 = 86_400_000;
 
 /// A turn: the outside is asked for the time and what came, and then the handles that are pending run.
-#[tactic(none)]
 pub fn turn<W: Wire>(body: &mut Body, alloc: Global, wire: &mut W) -> Result<Went, Stop>
     requires { IsAlive body.old }
     ensures comes { ComesTo (W.seen wire.old).left (W.seen wire.new).left (W.seen wire.old).faults (W.seen wire.new).faults

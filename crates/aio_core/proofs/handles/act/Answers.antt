@@ -82,22 +82,22 @@ returns-in-SleepDone c =
     let body = c.args.body.now in
     let future = c.in-SleepDone.future in
     let is = c.resolve-was_pending.ensures.after
-        ∙ ap (λ v. record body.parts {
-          futures = settled.settled future (Returned v) body.parts.futures;
-          queue = soon_all (called future body.parts.futures) body.parts.queue;
-        }) c.nothing-in-SleepDone.ensures in
+    ∙ ap (λ v. record body.parts {
+      futures = settled.settled future (Returned v) body.parts.futures;
+      queue = soon_all (called future body.parts.futures) body.parts.queue;
+    }) c.nothing-in-SleepDone.ensures in
     subst (λ w. Acts w body (record body { parts = c.resolve-was_pending.new.self }) went.Goes) (sym c.in-SleepDone.is)
     (sleep_acts c.in-SleepDone._sleeper future body c.resolve-was_pending.new.self is)
 
-pub returns-in_ok-child_done-in-GroupDone : goal.returns-in_ok-child_done-in-GroupDone
-returns-in_ok-child_done-in-GroupDone c =
+pub returns-in-GroupDone : goal.returns-in-GroupDone
+returns-in-GroupDone c =
     subst (λ w. Acts w c.args.body.now c.child_done.new.body went.Goes) (sym c.in-GroupDone.is)
-    (group_acts c.in-GroupDone.group c.in-GroupDone.task c.args.body.now c.child_done.new.body c.in_ok-child_done-in-GroupDone.ensures)
+    (group_acts c.in-GroupDone.group c.in-GroupDone.task c.args.body.now c.child_done.new.body c.child_done.ensures)
 
-pub returns-in_ok-fire-in-Fires : goal.returns-in_ok-fire-in-Fires
-returns-in_ok-fire-in-Fires c =
+pub returns-in-Fires : goal.returns-in-Fires
+returns-in-Fires c =
     subst (λ w. Acts w c.args.body.now c.fire.new.body went.Goes) (sym c.in-Fires.is)
-    (fire_acts c.in-Fires.timeout c.args.body.now c.fire.new.body c.in_ok-fire-in-Fires.ensures)
+    (fire_acts c.in-Fires.timeout c.args.body.now c.fire.new.body c.fire.ensures)
 
 pub returns-in-MainDone : goal.returns-in-MainDone
 returns-in-MainDone c =

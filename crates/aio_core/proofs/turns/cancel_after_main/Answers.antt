@@ -13,7 +13,8 @@ returns-then-not-done_before c =
 pub returns-else-body : goal.returns-else-body
 returns-else-body c =
     let body = c.args.body.now in
-    cancelled_else body c.args.done_before (elim c.else-body.branch
-    [ else-body-via-then-body+else-not-done_before w ↦
-      ap (λ b. b && not c.args.done_before) w.if-body.true ∙ ap not w.if-not-done_before.false
-    | else-body-via-else-body w ↦ ap (λ b. b && not c.args.done_before) w.if-body.false ])
+    cancelled_else body c.args.done_before (elim c.else-body.branch [
+      | else-body-via-then-body+else-not-done_before w ↦
+          ap (λ b. b && not c.args.done_before) w.if-body.true ∙ ap not w.if-not-done_before.false
+      | else-body-via-else-body w ↦ ap (λ b. b && not c.args.done_before) w.if-body.false
+    ])

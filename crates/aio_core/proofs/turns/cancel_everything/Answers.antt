@@ -20,16 +20,17 @@ loop-task-preserved c =
     let l = c.loop-task in
     let first = c.args.body.now in
     let told = ap (λ id. is_pending_at (slice_get l.body.parts.futures id)) (sym c.future_of-own.ensures) ∙ sym c.is_pending.ensures in
-    elim c.if-is_pending.branch
-    [ then-is_pending w ↦
-      subst (λ b. HasCancelled first b (l.task + 1)) (sym w.body-is)
-      (subst (HasCancelled first (record l.body { parts = w.cancel-answer.new.self })) (plus_one l.task)
-      (cancelled_more first l.body l.task w.cancel-answer.new.self l.invariant (told ∙ w.if-is_pending.true)
-      (w.cancel-answer.ensures.after ∙ ap (λ id. (cancel id (parts l.body.parts)).parts) c.future_of-own.ensures)
-      w.cancel-answer.ensures.queue w.cancel-answer.ensures.beside))
-    | else-is_pending w ↦
-      subst (λ b. HasCancelled first b (l.task + 1)) (sym w.body-is)
-      (subst (HasCancelled first l.body) (plus_one l.task) (cancelled_on first l.body l.task l.invariant (told ∙ w.if-is_pending.false))) ]
+    elim c.if-is_pending.branch [
+      | then-is_pending w ↦
+          subst (λ b. HasCancelled first b (l.task + 1)) (sym w.body-is)
+          (subst (HasCancelled first (record l.body { parts = w.cancel-answer.new.self })) (plus_one l.task)
+          (cancelled_more first l.body l.task w.cancel-answer.new.self l.invariant (told ∙ w.if-is_pending.true)
+          (w.cancel-answer.ensures.after ∙ ap (λ id. (cancel id (parts l.body.parts)).parts) c.future_of-own.ensures)
+          w.cancel-answer.ensures.queue w.cancel-answer.ensures.beside))
+      | else-is_pending w ↦
+          subst (λ b. HasCancelled first b (l.task + 1)) (sym w.body-is)
+          (subst (HasCancelled first l.body) (plus_one l.task) (cancelled_on first l.body l.task l.invariant (told ∙ w.if-is_pending.false)))
+    ]
 
 pub returns : goal.returns
 returns c =

@@ -9,10 +9,11 @@ pub some_task_lives-requires : goal.some_task_lives-requires
 some_task_lives-requires c = c.requires
 
 pub returns-then-not-body : goal.returns-then-not-body
-returns-then-not-body c = elim c.then-not-body.branch
-    [ then-not-body-via-then-not-body w ↦ λ d s h. main_goes d c.args.body.now s h w.if-not-body.true
-    | then-not-body-via-else-not-body+then-some_task_lives w ↦
-      λ d s h. some_goes d c.args.body.now s h (sym w.if-some_task_lives.true ∙ w.some_task_lives.ensures d s h) ]
+returns-then-not-body c = elim c.then-not-body.branch [
+  | then-not-body-via-then-not-body w ↦ λ d s h. main_goes d c.args.body.now s h w.if-not-body.true
+  | then-not-body-via-else-not-body+then-some_task_lives w ↦
+      λ d s h. some_goes d c.args.body.now s h (sym w.if-some_task_lives.true ∙ w.some_task_lives.ensures d s h)
+]
 
 pub returns-in_ok-copy_of_outcome-in-Some : goal.returns-in_ok-copy_of_outcome-in-Some
 returns-in_ok-copy_of_outcome-in-Some c =

@@ -75,9 +75,9 @@ after-requires-clause-alive g c =
     let call = c.first_call-call.result in
     let is = c.first_call-call.ensures.call in
     let goes : (d : Setting) (s : State (Unit {0})) → IsBetween d old s → false ≡ is_stalled no_extra s = λ d s h.
-        sym c.if-is_stalled.false ∙ c.is_stalled.ensures d s h in
+    sym c.if-is_stalled.false ∙ c.is_stalled.ensures d s h in
     let got = got_so old call is goes (Ok c.in_ok-answer.answer) c.in_ok-answer.answer c.ask.new.body.events (g.W.Wire.seen c.args.wire.now)
-        (g.W.Wire.seen c.ask.new.wire) refl c.in_ok-answer.ensures.asks in
+    (g.W.Wire.seen c.ask.new.wire) refl c.in_ok-answer.ensures.asks in
     subst IsAlive (sym c.in_ok-answer.ensures.beside) (got_alive old call is goes c.in_ok-answer.answer c.ask.new.body.events got.is_noted c.requires)
 
 pub after-requires-clause-time : goal.after-requires-clause-time
@@ -86,9 +86,9 @@ after-requires-clause-time g c =
     let call = c.first_call-call.result in
     let is = c.first_call-call.ensures.call in
     let goes : (d : Setting) (s : State (Unit {0})) → IsBetween d old s → false ≡ is_stalled no_extra s = λ d s h.
-        sym c.if-is_stalled.false ∙ c.is_stalled.ensures d s h in
+    sym c.if-is_stalled.false ∙ c.is_stalled.ensures d s h in
     let got = got_so old call is goes (Ok c.in_ok-answer.answer) c.in_ok-answer.answer c.ask.new.body.events (g.W.Wire.seen c.args.wire.now)
-        (g.W.Wire.seen c.ask.new.wire) refl c.in_ok-answer.ensures.asks in
+    (g.W.Wire.seen c.ask.new.wire) refl c.in_ok-answer.ensures.asks in
     let shape = c.first_call-call.ensures.shape in
     fits_time shape.0 c.in_ok-answer.answer (subst (λ k. fits k c.in_ok-answer.answer ≡ true) shape.1 got.is_fit)
 
@@ -133,7 +133,7 @@ returns-clause-comes g c =
     let call = c.first_call-call.result in
     let is = c.first_call-call.ensures.call in
     let goes : (d : Setting) (s : State (Unit {0})) → IsBetween d old s → false ≡ is_stalled no_extra s = λ d s h.
-        sym c.if-is_stalled.false ∙ c.is_stalled.ensures d s h in
+    sym c.if-is_stalled.false ∙ c.is_stalled.ensures d s h in
     let answer = c.in_ok-answer.answer in
     let events = c.ask.new.body.events in
     let before = g.W.Wire.seen c.args.wire.now in
@@ -141,8 +141,8 @@ returns-clause-comes g c =
     let got = got_so old call is goes (Ok answer) answer events before after refl c.in_ok-answer.ensures.asks in
     let alive = got_alive old call is goes answer events got.is_noted c.requires in
     let does : (d : Setting) (s : State (Unit {0})) → IsBetween d (record old { events = events }) s
-        → Turned (at_bar (all_below d (unbooked_in (woken_by answer) s))) c.after.new.body c.in_ok-after.field-0 (turned_by step_limit no_extra answer s) = λ d s h.
-        c.in_ok-after.ensures d s (subst (λ b. IsBetween d b s) (sym c.in_ok-answer.ensures.beside) h) in
+    → Turned (at_bar (all_below d (unbooked_in (woken_by answer) s))) c.after.new.body c.in_ok-after.field-0 (turned_by step_limit no_extra answer s) = λ d s h.
+    c.in_ok-after.ensures d s (subst (λ b. IsBetween d b s) (sym c.in_ok-answer.ensures.beside) h) in
     comes_so old call is goes answer events before after got c.after.new.body c.in_ok-after.field-0 does alive
 
 pub returns-clause-stalls : goal.returns-clause-stalls
@@ -151,7 +151,7 @@ returns-clause-stalls g c =
     let call = c.first_call-call.result in
     let is = c.first_call-call.ensures.call in
     let goes : (d : Setting) (s : State (Unit {0})) → IsBetween d old s → false ≡ is_stalled no_extra s = λ d s h.
-        sym c.if-is_stalled.false ∙ c.is_stalled.ensures d s h in
+    sym c.if-is_stalled.false ∙ c.is_stalled.ensures d s h in
     let answer = c.in_ok-answer.answer in
     let events = c.ask.new.body.events in
     let before = g.W.Wire.seen c.args.wire.now in
@@ -159,8 +159,8 @@ returns-clause-stalls g c =
     let got = got_so old call is goes (Ok answer) answer events before after refl c.in_ok-answer.ensures.asks in
     let alive = got_alive old call is goes answer events got.is_noted c.requires in
     let does : (d : Setting) (s : State (Unit {0})) → IsBetween d (record old { events = events }) s
-        → Turned (at_bar (all_below d (unbooked_in (woken_by answer) s))) c.after.new.body c.in_ok-after.field-0 (turned_by step_limit no_extra answer s) = λ d s h.
-        c.in_ok-after.ensures d s (subst (λ b. IsBetween d b s) (sym c.in_ok-answer.ensures.beside) h) in
+    → Turned (at_bar (all_below d (unbooked_in (woken_by answer) s))) c.after.new.body c.in_ok-after.field-0 (turned_by step_limit no_extra answer s) = λ d s h.
+    c.in_ok-after.ensures d s (subst (λ b. IsBetween d b s) (sym c.in_ok-answer.ensures.beside) h) in
     λ past answers s h. subst (λ b. StallsAs b c.in_ok-after.field-0)
     (sym c.if-is_stalled.false ∙ c.is_stalled.ensures (resting past answers h.0) s h.1)
     (stalls_after old call is goes answer events before after got c.after.new.body c.in_ok-after.field-0 does alive)
@@ -171,7 +171,7 @@ returns-clause-alive g c =
     let call = c.first_call-call.result in
     let is = c.first_call-call.ensures.call in
     let goes : (d : Setting) (s : State (Unit {0})) → IsBetween d old s → false ≡ is_stalled no_extra s = λ d s h.
-        sym c.if-is_stalled.false ∙ c.is_stalled.ensures d s h in
+    sym c.if-is_stalled.false ∙ c.is_stalled.ensures d s h in
     let answer = c.in_ok-answer.answer in
     let events = c.ask.new.body.events in
     let before = g.W.Wire.seen c.args.wire.now in
@@ -179,8 +179,8 @@ returns-clause-alive g c =
     let got = got_so old call is goes (Ok answer) answer events before after refl c.in_ok-answer.ensures.asks in
     let alive = got_alive old call is goes answer events got.is_noted c.requires in
     let does : (d : Setting) (s : State (Unit {0})) → IsBetween d (record old { events = events }) s
-        → Turned (at_bar (all_below d (unbooked_in (woken_by answer) s))) c.after.new.body c.in_ok-after.field-0 (turned_by step_limit no_extra answer s) = λ d s h.
-        c.in_ok-after.ensures d s (subst (λ b. IsBetween d b s) (sym c.in_ok-answer.ensures.beside) h) in
+    → Turned (at_bar (all_below d (unbooked_in (woken_by answer) s))) c.after.new.body c.in_ok-after.field-0 (turned_by step_limit no_extra answer s) = λ d s h.
+    c.in_ok-after.ensures d s (subst (λ b. IsBetween d b s) (sym c.in_ok-answer.ensures.beside) h) in
     alive_after old call is goes answer events before after got c.after.new.body c.in_ok-after.field-0 does alive
 
 pub returns-clause-fails : goal.returns-clause-fails
@@ -189,7 +189,7 @@ returns-clause-fails g c =
     let call = c.first_call-call.result in
     let is = c.first_call-call.ensures.call in
     let goes : (d : Setting) (s : State (Unit {0})) → IsBetween d old s → false ≡ is_stalled no_extra s = λ d s h.
-        sym c.if-is_stalled.false ∙ c.is_stalled.ensures d s h in
+    sym c.if-is_stalled.false ∙ c.is_stalled.ensures d s h in
     let answer = c.in_ok-answer.answer in
     λ fails. absurd (failing_answered call answer (c.in_ok-answer.ensures.fails fails))
 

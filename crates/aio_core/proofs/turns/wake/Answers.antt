@@ -13,7 +13,7 @@ pub set_now-requires : goal.set_now-requires
 set_now-requires c =
     let body = c.args.body.now in
     let is : c.max-now.result ≡ max body.parts.time (time_of c.args.answer.now) =
-        c.max-now.ensures ∙ ap (λ n. max n c.time_of.result) c.now.ensures ∙ ap (max body.parts.time) c.time_of.ensures in
+    c.max-now.ensures ∙ ap (λ n. max n c.time_of.result) c.now.ensures ∙ ap (max body.parts.time) c.time_of.ensures in
     subst (λ n. n ≤ most) (sym is) (later_time c.args.answer.now c.requires.time body.parts.time (time_few body c.requires.alive))
 
 pub due-requires : goal.due-requires
@@ -31,9 +31,9 @@ returns c =
     let body = c.args.body.now in
     let it = c.args.answer.now in
     let now_is : c.max-now.result ≡ max body.parts.time (time_of it) =
-        c.max-now.ensures ∙ ap (λ n. max n c.time_of.result) c.now.ensures ∙ ap (max body.parts.time) c.time_of.ensures in
+    c.max-now.ensures ∙ ap (λ n. max n c.time_of.result) c.now.ensures ∙ ap (max body.parts.time) c.time_of.ensures in
     let is : c.set_bar.new.self ≡ woken_view (max body.parts.time (time_of it)) body.parts =
-        c.set_bar.ensures ∙ ap barred_view (c.due.ensures ∙ ap (due_view c.max-now.result) c.set_now.ensures)
-        ∙ ap (λ n. barred_view (due_view n (timed_view n body.parts))) now_is in
+    c.set_bar.ensures ∙ ap barred_view (c.due.ensures ∙ ap (due_view c.max-now.result) c.set_now.ensures)
+    ∙ ap (λ n. barred_view (due_view n (timed_view n body.parts))) now_is in
     λ d s h. subst (λ v. IsBetween (all_below d (unbooked_in (woken_by it) s)) (record body { parts = v }) (unbooked_in (woken_by it) s))
     (sym is) (wakes_so d body s it c.requires.time h)

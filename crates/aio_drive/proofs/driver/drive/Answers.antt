@@ -42,7 +42,7 @@ returns-in-Ends-clause-ok g c =
     let fits : c.args.manner.turns ≤ 2 ^ 64 - 1 = omega arith in
     let is = subst (λ (n : Next). NextOf c.turn.result n) c.in-Ends.is c.next_of-next.ensures in
     IfOk-weaker c.write_end.result _ _
-    (ends_ok (g.W.Wire.seen c.args.wire.now) running l.invariant.fails l.invariant.later c.turn.ensures.turned.1
+    (ends_ok (g.W.Wire.seen c.args.wire.now) running l.invariant.fails l.invariant.later (c.turn.ensures.turned (running.at []).stands.goes).1
     (g.met.W.Wire.quiet_on c.args.wire.now l.wire c.turn.new.wire l.invariant.quiet)
     c.args.fault.now (g.K.Sink.seen c.write_end.new.out) c.events-events.result.events c.events-events.ensures.taken fits c.in-Ends.end is)
     c.write_end.ensures.ok
@@ -55,7 +55,7 @@ returns-in-Ends-clause-err g c =
     let fits : c.args.manner.turns ≤ 2 ^ 64 - 1 = omega arith in
     let is = subst (λ (n : Next). NextOf c.turn.result n) c.in-Ends.is c.next_of-next.ensures in
     IfErr-weaker c.write_end.result _ _
-    (ends_err (g.W.Wire.seen c.args.wire.now) running l.invariant.fails l.invariant.later c.turn.ensures.turned.1
+    (ends_err (g.W.Wire.seen c.args.wire.now) running l.invariant.fails l.invariant.later (c.turn.ensures.turned (running.at []).stands.goes).1
     (g.met.W.Wire.quiet_on c.args.wire.now l.wire c.turn.new.wire l.invariant.quiet)
     c.args.fault.now (g.K.Sink.seen c.write_end.new.out) c.events-events.result.events c.events-events.ensures.taken fits c.in-Ends.end is)
     c.write_end.ensures.err
@@ -67,7 +67,7 @@ returns-in-Fails-clause-ok g c =
     let (fewer, running) = with_turn left begun c.loop-made-test.true in
     let is = subst (λ (n : Next). NextOf c.turn.result n) c.in-Fails.is c.next_of-next.ensures in
     IfOk-weaker c.write_end-in-Fails.result _ _
-    (fails_ok (g.W.Wire.seen c.args.wire.now) running l.invariant.fails l.invariant.later c.turn.ensures.turned.1
+    (fails_ok (g.W.Wire.seen c.args.wire.now) running l.invariant.fails l.invariant.later (c.turn.ensures.turned (running.at []).stands.goes).1
     (g.met.W.Wire.quiet_on c.args.wire.now l.wire c.turn.new.wire l.invariant.quiet)
     c.args.fault.now (g.K.Sink.seen c.write_end-in-Fails.new.out) c.events-events.result.events c.events-events.ensures.taken is)
     c.write_end-in-Fails.ensures.ok
@@ -79,7 +79,7 @@ returns-in-Fails-clause-err g c =
     let (fewer, running) = with_turn left begun c.loop-made-test.true in
     let is = subst (λ (n : Next). NextOf c.turn.result n) c.in-Fails.is c.next_of-next.ensures in
     IfErr-weaker c.write_end-in-Fails.result _ _
-    (fails_err (g.W.Wire.seen c.args.wire.now) running l.invariant.fails l.invariant.later c.turn.ensures.turned.1
+    (fails_err (g.W.Wire.seen c.args.wire.now) running l.invariant.fails l.invariant.later (c.turn.ensures.turned (running.at []).stands.goes).1
     (g.met.W.Wire.quiet_on c.args.wire.now l.wire c.turn.new.wire l.invariant.quiet)
     c.args.fault.now (g.K.Sink.seen c.write_end-in-Fails.new.out) c.events-events.result.events c.events-events.ensures.taken is)
     c.write_end-in-Fails.ensures.err
@@ -89,7 +89,7 @@ returns-in-Nothing-clause-err g c =
     let l = c.loop-made in
     let (left, past, taken, begun) = l.invariant.running in
     let (fewer, running) = with_turn left begun c.loop-made-test.true in
-    refused_at (g.W.Wire.seen c.args.wire.now) running l.invariant.fails l.invariant.later c.turn.ensures.turned.1
+    refused_at (g.W.Wire.seen c.args.wire.now) running l.invariant.fails l.invariant.later (c.turn.ensures.turned (running.at []).stands.goes).1
     (g.met.W.Wire.quiet_on c.args.wire.now l.wire c.turn.new.wire l.invariant.quiet) c.args.fault.now
 
 pub returns-in_err-write_events-in-Turn-clause-err : goal.returns-in_err-write_events-in-Turn-clause-err
@@ -99,7 +99,7 @@ returns-in_err-write_events-in-Turn-clause-err g c =
     let (fewer, running) = with_turn left begun c.loop-made-test.true in
     let is = subst (λ (n : Next). NextOf c.turn.result n) c.in-Turn.is c.next_of-next.ensures in
     let p = err_from_is_err_and c.from_residual-in_err-write_events-in-Turn.result c.from_residual-in_err-write_events-in-Turn.ensures.1 in
-    rw (p.1, p.2) (goes_err (g.W.Wire.seen c.args.wire.now) running l.invariant.fails l.invariant.later c.turn.ensures.turned.1
+    rw (p.1, p.2) (goes_err (g.W.Wire.seen c.args.wire.now) running l.invariant.fails l.invariant.later (c.turn.ensures.turned (running.at []).stands.goes).1
     (g.met.W.Wire.quiet_on c.args.wire.now l.wire c.turn.new.wire l.invariant.quiet)
     c.args.fault.now (g.K.Sink.seen c.write_events.new.out) c.events-events.result.events c.events-events.ensures.taken is
     c.in_err-write_events-in-Turn.field-0.0 c.in_err-write_events-in-Turn.ensures.err)
@@ -110,7 +110,7 @@ loop-made-preserved g c =
     let (left, past, taken, begun) = l.invariant.running in
     let (fewer, running) = with_turn left begun c.loop-made-test.true in
     let is = subst (λ (n : Next). NextOf c.turn.result n) c.in-Turn.is c.next_of-next.ensures in
-    let turned = c.turn.ensures.turned.1 in
+    let turned = (c.turn.ensures.turned (running.at []).stands.goes).1 in
     let quietly = g.met.W.Wire.quiet_on c.args.wire.now l.wire c.turn.new.wire l.invariant.quiet in
     let (had, (takes, (goes, still))) = goes_at (g.W.Wire.seen c.args.wire.now) running l.invariant.fails l.invariant.later turned quietly is in
     record {

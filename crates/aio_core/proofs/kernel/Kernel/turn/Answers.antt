@@ -48,10 +48,13 @@ pub returns-in-Ok : goal.returns-in-Ok
 returns-in-Ok g c =
     let none = sym c.take.ensures.value ∙ c.in_default.is in
     record {
-      turned = λ e. (c.in-Ok.went, turned_up _ _ _ _ c.args.self.now _ c.keep.result c.in-Ok.went
-      (kept_goes c.in-Ok.went c.keep.result c.take.new.self c.keep.new.kept c.take.ensures.after c.keep.ensures)
-      c.in-Ok.ensures.comes c.in-Ok.ensures.stalls c.in-Ok.ensures.quiet c.in-Ok.ensures.fails
-      (kept_again c.in-Ok.went c.keep.result c.take.new.self c.keep.new.kept c.take.ensures.after c.keep.ensures));
+      turned = λ e. (
+        c.in-Ok.went,
+        turned_up _ _ _ _ c.args.self.now _ c.keep.result c.in-Ok.went
+            (kept_goes c.in-Ok.went c.keep.result c.take.new.self c.keep.new.kept c.take.ensures.after c.keep.ensures)
+            c.in-Ok.ensures.comes c.in-Ok.ensures.stalls c.in-Ok.ensures.quiet c.in-Ok.ensures.fails
+            (kept_again c.in-Ok.went c.keep.result c.take.new.self c.keep.new.kept c.take.ensures.after c.keep.ensures),
+      );
       keeps = c.in-Ok.ensures.keeps;
       later = c.in-Ok.ensures.later;
       kept = kept_now c.in-Ok.went c.keep.result c.take.new.self c.keep.new.kept c.take.ensures.after c.keep.ensures;
@@ -64,10 +67,13 @@ returns-in-Err g c =
     let none = sym c.take.ensures.value ∙ c.in_default.is in
     let said = went.Stopped c.in-Err.stop in
     record {
-      turned = λ e. (said, turned_up _ _ _ _ c.args.self.now _ c.keep-in-Err.result said
-      (kept_goes said c.keep-in-Err.result c.take.new.self c.keep-in-Err.new.kept c.take.ensures.after c.keep-in-Err.ensures)
-      c.in-Err.ensures.comes c.in-Err.ensures.stalls c.in-Err.ensures.quiet c.in-Err.ensures.fails
-      (kept_again said c.keep-in-Err.result c.take.new.self c.keep-in-Err.new.kept c.take.ensures.after c.keep-in-Err.ensures));
+      turned = λ e. (
+        said,
+        turned_up _ _ _ _ c.args.self.now _ c.keep-in-Err.result said
+            (kept_goes said c.keep-in-Err.result c.take.new.self c.keep-in-Err.new.kept c.take.ensures.after c.keep-in-Err.ensures)
+            c.in-Err.ensures.comes c.in-Err.ensures.stalls c.in-Err.ensures.quiet c.in-Err.ensures.fails
+            (kept_again said c.keep-in-Err.result c.take.new.self c.keep-in-Err.new.kept c.take.ensures.after c.keep-in-Err.ensures),
+      );
       keeps = c.in-Err.ensures.keeps;
       later = c.in-Err.ensures.later;
       kept = kept_now said c.keep-in-Err.result c.take.new.self c.keep-in-Err.new.kept c.take.ensures.after c.keep-in-Err.ensures;
