@@ -1,8 +1,8 @@
 -- What a handle does, where it was taken from the queue and it was noted that it runs.
-use Rattle.std.proofs.Common.{◌≡◌, ℕ, ◌<◌, ◌+◌, Bool, true, false, ◌&&◌, not, cond, List, [], ◌∷◌, ◌++◌, Option, Some, None, length, slice_get, ◌∙◌, refl, sym, ap, subst, arith}
+use Rattle.std.proofs.Common.{◌≡◌, ℕ, Bool, true, false, ◌&&◌, not, cond, List, Option, Some, None, length, slice_get, ◌∙◌, refl, sym, ap, subst, arith}
 use Rattle.std.proofs.Math.Logic.{∥∥₁_elim, ∥∥₁_map}
 use Rattle.std.proofs.Props.{props}
-use Rattle.std.proofs.lemmas.Bool.{eq-eqb, false_from_ne_true, false≢true}
+use Rattle.std.proofs.lemmas.Bool.{eq-eqb, false_from_ne_true}
 use Rattle.std.specs.Option.{option_map_or, option_and_then}
 use Rattle.model_value.specs.Action.{Action, Circle}
 use Rattle.model_value.specs.Input.{Input}
@@ -13,22 +13,22 @@ use Rattle.model_value.specs.Value.{Nothing, Outcome}
 use Rattle.model_says.specs.Says.{step_limit}
 use Rattle.model_wire.specs.declared.event.Event.TheVariants as event
 use Rattle.model_loop.specs.Circles.{circle_fault}
-use Rattle.model_loop.specs.Entries.{ends_sleep_on, entries}
+use Rattle.model_loop.specs.Entries.{ends_sleep_on}
 use Rattle.model_loop.specs.Futures.{future_outcome, outcome_at, settle}
 use Rattle.model_loop.specs.Groups.{child_done}
-use Rattle.model_loop.specs.Loop.{Loop, in_parts}
-use Rattle.model_loop.specs.Owning.{is_plain, owner_at, owner_of}
-use Rattle.model_loop.specs.Parts.{Handle, Parts, Task}
+use Rattle.model_loop.specs.Loop.{in_parts}
+use Rattle.model_loop.specs.Owning.{is_plain, owner_at}
+use Rattle.model_loop.specs.Parts.{Task}
 use Rattle.model_loop.specs.Tasks.{next_task, waiter_of}
 use Rattle.model_loop.specs.Timeouts.{fire}
 use Rattle.model_loop.specs.Ways.{steps}
 use Rattle.model_machine.specs.Extra.{no_extra}
 use Rattle.model_machine.specs.Outcomes.{input_of, woken_with}
-use Rattle.model_machine.specs.Sound.{IsStateSound, sends_made}
+use Rattle.model_machine.specs.Sound.{sends_made}
 use Rattle.model_machine.specs.State.{State, in_loop, noted, unbooked_in}
 use Rattle.model_machine.specs.Step.{step}
 use Rattle.model_machine.specs.Turn.{effect, ran}
-use Rattle.model_machine.specs.Went.{Went, Goes, Stops}
+use Rattle.model_machine.specs.Went.{Goes}
 use Rattle.law_inside.specs.InStep.{LeavesStateSound}
 use Rattle.law_runs.proofs.Callbacks.{callback_in, woken_made}
 use Rattle.law_runs.proofs.Nothing.{nothing_keeps}
@@ -40,11 +40,10 @@ use Rattle.aio_ready.specs.Queue.{soon_all}
 use Rattle.aio_future.specs.Settled as settled
 use Rattle.aio_future.specs.Settled.{called}
 use Rattle.aio_task.specs.View.{View, parts, stepped}
-use Rattle.aio_task.specs.Keeps.{Ties, Keeps}
 use Rattle.aio_wire.specs.EventList.{EventList}
 use Rattle.aio_wire.specs.Events.{pushed}
 use Rattle.aio_body.specs.declared.body.Body.{Body}
-use Rattle.aio_body.specs.Stands.{Setting, Stands, IsBetween}
+use Rattle.aio_body.specs.Stands.{Setting, Stands}
 use Rattle.aio_body.specs.Taken.{IsNext, IsTaken, IsAfter, MayRun, MayTake}
 use Rattle.aio_step.specs.declared.steps.Stepped.{Stepped}
 use Rattle.aio_step.specs.declared.steps.Stepped.TheVariants as went

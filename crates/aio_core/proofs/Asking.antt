@@ -1,7 +1,6 @@
 -- A turn over the outside's answer: what a call that has none comes to, and a turn that has its answer.
-use Rattle.std.proofs.Common.{◌≡◌, ◌⊎◌, inl, inr, ℕ, ◌+◌, ◌-◌, ◌^◌, ◌≤◌, Bool, true, false, List, [], ◌∷◌, ◌++◌, Option, Some, None, Result, Ok, Err, map, min, ◌∙◌, refl, sym, ap, subst, arith, append_assoc, append-nil, if◌then◌else◌}
+use Rattle.std.proofs.Common.{◌≡◌, ◌⊎◌, inl, inr, ℕ, Bool, true, false, List, [], ◌∷◌, ◌++◌, None, Result, Ok, Err, ◌∙◌, refl, sym, ap, subst, append_assoc, if◌then◌else◌}
 use Rattle.std.proofs.Math.Logic.{∥∥₁_elim, ∥∥₁_map}
-use Rattle.std.proofs.lemmas.Bool.{false≢true}
 use Rattle.model_value.specs.Value.{Outcome}
 use Rattle.model_says.specs.Says.{step_limit}
 use Rattle.model_wire.specs.declared.event.End.TheVariants as end
@@ -9,8 +8,8 @@ use Rattle.model_wire.specs.declared.event.Event.TheVariants as event
 use Rattle.model_wire.specs.Call.{Answer, Call}
 use Rattle.model_wire.specs.Event.{Event}
 use Rattle.model_wire.specs.Fits.{fits}
-use Rattle.model_wire.specs.Journal.{Entry, Answered, Refused}
-use Rattle.model_wire.specs.Told.{Agrees, Rose, WireSeen}
+use Rattle.model_wire.specs.Journal.{Entry, Answered}
+use Rattle.model_wire.specs.Told.{Agrees, WireSeen}
 use Rattle.model_machine.specs.Extra.{no_extra}
 use Rattle.model_machine.specs.Outcomes.{end_of}
 use Rattle.model_machine.specs.State.{State, noted, unbooked_in}
@@ -19,8 +18,8 @@ use Rattle.model_machine.specs.Went.{Went, Goes, Stops, answered_by, answers_in,
 use Rattle.law_runs.proofs.Turning.{noted_in}
 use Rattle.aio_wire.specs.EventList.{EventList}
 use Rattle.aio_wire.specs.Events.{pushed}
-use Rattle.aio_wire.specs.Port.{AlwaysFails, Exchanges, StopsShort, UnlessStopped, events_after, outcome_of}
-use Rattle.aio_wire.specs.Replied.{Kept, Leaves, MayHaveReplied, Replied}
+use Rattle.aio_wire.specs.Port.{AlwaysFails, Exchanges, StopsShort, UnlessStopped}
+use Rattle.aio_wire.specs.Replied.{MayHaveReplied, Replied}
 use Rattle.aio_wire.specs.Told.{refused_of}
 use Rattle.aio_wire.specs.declared.stop.Stop.{Stop}
 use Rattle.aio_wire.specs.declared.stop.Stop.TheVariants as stop
@@ -32,8 +31,7 @@ use Rattle.aio_body.specs.Stands.{Setting, Stands, IsBetween}
 use Rattle.law_body.proofs.Noting.{counted, stands_noted}
 use Rattle.aio_core.specs.declared.went.Went as code
 use Rattle.aio_core.specs.declared.went.Went.TheVariants as went
-use Rattle.aio_core.specs.Turning.{AliveIfWent, AnyLeft, ComesTo, EndsFrom, EndsTelling, GoesOnFrom, Is, IsAlive, IsAtRest, IsMismatch, IsTime, NextIs, NoneLeft, OfFailing, StallsAs, Stood, Takes, Turned, UnlessFailed, all_below, at_bar, resting, said_by, stood_by}
-use Rattle.aio_core.proofs.Waking.{fits_time}
+use Rattle.aio_core.specs.Turning.{AliveIfWent, ComesTo, EndsTelling, Is, IsAlive, IsAtRest, OfFailing, StallsAs, Stood, Turned, UnlessFailed, all_below, at_bar, resting, stood_by}
 
 -- ---- the machine
 turn_asks : (s : State (Unit {0})) → is_stalled no_extra s ≡ false → turn step_limit no_extra s ≡ ask (call_of no_extra s) (turned_by step_limit no_extra) s

@@ -1,5 +1,5 @@
 -- The handles before the bar: one call takes the next that lives, and the machine takes the dead ones before it one by one.
-use Rattle.std.proofs.Common.{◌≡◌, ℕ, zero, suc, ◌+◌, ◌<◌, ◌≤◌, Bool, true, false, List, [], ◌∷◌, ◌++◌, Option, Some, None, length, ltb, cond, ◌∙◌, refl, sym, ap, subst, arith, inl}
+use Rattle.std.proofs.Common.{◌≡◌, ℕ, zero, suc, ◌+◌, ◌<◌, Bool, true, false, List, [], ◌∷◌, ◌++◌, Option, Some, None, length, cond, ◌∙◌, refl, sym, ap, subst, arith}
 use Rattle.std.specs.List.{AllByRecursion as Each, count_by}
 use Rattle.std.specs.Prelude.{nat_lt}
 use Rattle.std.proofs.lemmas.Bool.{lt-ltb, le-ltb}
@@ -12,13 +12,13 @@ use Rattle.model_loop.specs.Parts.{Handle, Parts}
 use Rattle.model_machine.specs.Extra.{no_extra}
 use Rattle.model_machine.specs.Sound.{IsStateSound}
 use Rattle.model_machine.specs.State.{State, noted, unbooked_in}
-use Rattle.model_machine.specs.Turn.{effect, next_below, ran, run_below, run_first, run_if}
-use Rattle.model_machine.specs.Went.{Went, Goes, Stops, went_on}
+use Rattle.model_machine.specs.Turn.{effect, next_below, ran, run_below, run_if}
+use Rattle.model_machine.specs.Went.{Goes, went_on}
 use Rattle.aio_ready.specs.Queue as queue
-use Rattle.aio_task.specs.View.{View, stepped, stepped_at}
-use Rattle.aio_task.specs.Keeps.{Ties, Keeps, Kept, Extends}
+use Rattle.aio_task.specs.View.{View, stepped_at}
+use Rattle.aio_task.specs.Keeps.{Ties, Keeps, Kept}
 use Rattle.aio_body.specs.declared.body.Body.{Body}
-use Rattle.aio_body.specs.Stands.{Setting, Stands, IsBetween}
+use Rattle.aio_body.specs.Stands.{Setting, IsBetween}
 use Rattle.aio_body.specs.Taken.{IsNext}
 use Rattle.law_handles.specs.Runs.{IsPastBar, Runs, Skips}
 use Rattle.law_handles.proofs.Running.{count_early}

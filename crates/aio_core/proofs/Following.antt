@@ -1,11 +1,11 @@
 -- What a turn does once it has its answer: the handles before the bar run, and the turn ends.
-use Rattle.std.proofs.Common.{◌≡◌, ℕ, Bool, true, false, not, ◌&&◌, ◌∙◌, refl, sym, ap, subst}
+use Rattle.std.proofs.Common.{◌≡◌, ℕ, Bool, true, false, not, ◌&&◌, ◌∙◌, sym, ap, subst}
 use Rattle.std.proofs.Math.Logic.{∥∥₁_map}
 use Rattle.model_says.specs.Says.{step_limit}
 use Rattle.model_wire.specs.Call.{Answer}
 use Rattle.model_machine.specs.Extra.{no_extra}
 use Rattle.model_machine.specs.State.{State, unbooked_in}
-use Rattle.model_machine.specs.Turn.{cancelled_if, run_below, run_pending, turn_over, turned_by, woken_by}
+use Rattle.model_machine.specs.Turn.{cancelled_if, run_below, turn_over, turned_by, woken_by}
 use Rattle.model_machine.specs.Went.{Went, Goes, Stops, went_on}
 use Rattle.aio_step.specs.declared.steps.Stepped.{Stepped}
 use Rattle.aio_step.specs.declared.steps.Stepped.TheVariants as stepped

@@ -1,26 +1,25 @@
 -- A kernel's turn by its body's.
-use Rattle.std.proofs.Common.{◌≡◌, ◌⊎◌, inl, inr, ℕ, Bool, true, false, List, [], ◌∷◌, ◌++◌, Option, Some, None, map, length, ◌∙◌, refl, sym, ap, subst, append_assoc, append-nil}
+use Rattle.std.proofs.Common.{◌≡◌, inl, ℕ, List, [], ◌++◌, Option, Some, None, ◌∙◌, refl, sym, ap, subst, append-nil}
 use Rattle.std.proofs.Math.Logic.{∥∥₁_elim, ∥∥₁_map, ∥∥₁_prop}
 use Rattle.std.specs.Prelude.{IfSome}
 use Rattle.model_wire.specs.Call.{Answer}
 use Rattle.model_wire.specs.Event.{Event}
-use Rattle.model_wire.specs.Journal.{Entry, Answered}
+use Rattle.model_wire.specs.Journal.{Entry}
 use Rattle.model_wire.specs.Told.{WireSeen}
 use Rattle.model_wire.specs.Trace.{End}
 use Rattle.model_machine.specs.Extra.{no_extra}
 use Rattle.model_machine.specs.State.{State}
 use Rattle.model_machine.specs.Turn.{is_stalled}
 use Rattle.aio_wire.specs.EventList.{EventList}
-use Rattle.aio_wire.specs.declared.stop.Stop.{Stop}
 use Rattle.aio_wire.specs.declared.stop.Stop.TheVariants as stop
 use Rattle.aio_body.specs.declared.body.Body.{Body}
-use Rattle.aio_body.specs.Stands.{Setting, Stands, IsBetween}
+use Rattle.aio_body.specs.Stands.{Setting, IsBetween}
 use Rattle.aio_core.specs.declared.kernel.Kernel.{Kernel}
 use Rattle.aio_core.specs.declared.went.Went as code
 use Rattle.aio_core.specs.declared.went.Went.TheVariants as went
 use Rattle.aio_core.specs.Again.{Again, IsKept}
-use Rattle.aio_core.specs.Turned.{KeepsEnd, StandsFor, TurnedBy, TurnsTo, ended, stood_for, untaken}
-use Rattle.aio_core.specs.Turning.{AliveIfWent, AliveUnless, ComesTo, EndsFrom, IsAlive, IsAtRest, OfFailing, StallsAs, Stood, UnlessFailed, resting, stood_by}
+use Rattle.aio_core.specs.Turned.{KeepsEnd, StandsFor, TurnedBy, ended, stood_for, untaken}
+use Rattle.aio_core.specs.Turning.{AliveIfWent, AliveUnless, ComesTo, EndsFrom, IsAlive, IsAtRest, OfFailing, StallsAs, UnlessFailed, resting, stood_by}
 
 pub stands_up : (past : List Event) (left : List Entry) (kernel : Kernel) (s : State (Unit {0})) → ended kernel ≡ None
     → IsAtRest past left kernel.body s → StandsFor past left kernel s

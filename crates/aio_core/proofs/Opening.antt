@@ -1,5 +1,5 @@
 -- A run begins: what is made stands for the machine's first state.
-use Rattle.std.proofs.Common.{◌≡◌, ℕ, zero, suc, ◌+◌, ◌-◌, ◌^◌, ◌<◌, ◌≤◌, Bool, true, false, List, [], ◌∷◌, ◌++◌, Option, Some, None, length, min, slice_get, ◌∙◌, refl, sym, ap, subst, arith}
+use Rattle.std.proofs.Common.{◌≡◌, ℕ, zero, suc, ◌^◌, ◌<◌, ◌≤◌, Bool, true, false, List, [], ◌∷◌, ◌++◌, None, length, slice_get, ◌∙◌, refl, sym, ap, subst, arith}
 use Rattle.std.proofs.lemmas.Bool.{false≢true}
 use Rattle.std.proofs.lemmas.List.Elements.{All-nil}
 use Rattle.model_value.specs.Number.{most}
@@ -9,11 +9,9 @@ use Rattle.model_tree.specs.Syntax.{Program}
 use Rattle.model_text.specs.SecondPass.{main_text}
 use Rattle.model_says.specs.Requests.{place_of}
 use Rattle.model_wire.specs.Journal.{Entry}
-use Rattle.model_loop.specs.Parts as plain
 use Rattle.model_loop.specs.Parts.{OfTask, Future, Parts, Task}
 use Rattle.model_loop.specs.Start.{first_parts, no_parts}
-use Rattle.model_loop.specs.Tasks.{cancelling, future_of, lives, next_task, spawn}
-use Rattle.model_loop.specs.Futures.{register}
+use Rattle.model_loop.specs.Tasks.{cancelling, future_of, lives, spawn}
 use Rattle.model_machine.specs.Extra.{no_extra}
 use Rattle.model_machine.specs.State as machine
 use Rattle.model_machine.specs.State.{State, generator, generator_of, start}
@@ -23,14 +21,14 @@ use Rattle.aio_ready.specs.Queue as queue
 use Rattle.aio_ready.specs.Queue.{Queue, no_handles}
 use Rattle.aio_future.specs.Settled.{registered, soon_if_done}
 use Rattle.aio_task.specs.View.{View, empty, parts}
-use Rattle.aio_task.specs.Keeps.{Ties, Keeps, Kept, Known, ByHandle}
+use Rattle.aio_task.specs.Keeps.{Ties, Keeps, Kept, ByHandle}
 use Rattle.aio_ready.specs.declared.handle.Name.TheVariants.{Nameless}
 use Rattle.aio_body.specs.declared.body.Body.{Body}
 use Rattle.aio_body.specs.declared.standing.Slot.{Slot}
 use Rattle.aio_body.specs.declared.standing.Standing.{Standing}
 use Rattle.aio_body.specs.declared.standing.Standing.TheVariants.{Asked}
 use Rattle.aio_body.specs.Slots.{HoldsMore}
-use Rattle.aio_body.specs.Stands.{Setting, Stands, HasSlot, IsBetween, StandsAt, WaitsAs}
+use Rattle.aio_body.specs.Stands.{Stands, HasSlot, StandsAt, WaitsAs}
 use Rattle.aio_flat.specs.Code.{IsCodeOf}
 use Rattle.aio_timeout.specs.Kept.{AreTimeouts}
 use Rattle.aio_group.specs.Held.{Held}

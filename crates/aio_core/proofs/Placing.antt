@@ -1,5 +1,5 @@
 -- Main's place in a program.
-use Rattle.std.proofs.Common.{◌≡◌, ℕ, zero, suc, ◌+◌, ◌<◌, ◌≤◌, Bool, true, false, List, [], ◌∷◌, Option, Some, None, length, drop, slice_get, if◌then◌else◌, ◌∙◌, refl, sym, ap, subst, arith}
+use Rattle.std.proofs.Common.{◌≡◌, ℕ, zero, suc, ◌+◌, true, false, List, [], ◌∷◌, Some, length, drop, slice_get, if◌then◌else◌, ◌∙◌, refl, ap, arith}
 use Rattle.std.specs.Str.{bytes_eq}
 use Rattle.model_tree.specs.Syntax.{Coroutine}
 use Rattle.model_says.specs.Requests.{place_among}

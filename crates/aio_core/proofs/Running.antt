@@ -1,5 +1,5 @@
 -- The handles before the bar, as the loop over them has them: each round takes one, and the rest is as before.
-use Rattle.std.proofs.Common.{if◌then◌else◌, ◌≡◌, ℕ, suc, ◌+◌, ◌<◌, ◌++◌, Bool, true, false, List, [], ◌∷◌, cond, drop, Option, Some, None, length, ◌∙◌, refl, sym, ap, subst, arith}
+use Rattle.std.proofs.Common.{if◌then◌else◌, ◌≡◌, ℕ, suc, ◌<◌, Bool, true, false, List, [], ◌∷◌, drop, Some, None, length, ◌∙◌, refl, sym, ap, subst, arith}
 use Rattle.std.proofs.Math.Logic.{∥∥₁_elim, ∥∥₁_map}
 use Rattle.std.specs.Coded.{le_prop}
 use Rattle.model_value.specs.Action.{Action}
@@ -11,15 +11,15 @@ use Rattle.model_machine.specs.Turn.{effect, run_below}
 use Rattle.model_machine.specs.Went.{Went, Goes, Stops, went_on}
 use Rattle.aio_ready.specs.Queue as queue
 use Rattle.aio_ready.specs.declared.handle.Handle.{Handle as QueueHandle}
-use Rattle.aio_task.specs.View.{View, stepped_at}
+use Rattle.aio_task.specs.View.{View}
 use Rattle.aio_step.specs.declared.steps.Stepped as stepped
 use Rattle.aio_step.specs.declared.steps.Stepped.TheVariants as went
 use Rattle.aio_step.specs.Stepping.{Steps}
 use Rattle.aio_body.specs.declared.body.Body.{Body}
-use Rattle.aio_body.specs.Stands.{Setting, Stands, IsBetween}
+use Rattle.aio_body.specs.Stands.{Setting, IsBetween}
 use Rattle.aio_body.specs.Taken.{IsNext, MayRun}
 use Rattle.aio_core.specs.Turning.{IsAlive, at_bar}
-use Rattle.aio_core.proofs.Below.{IsRunning, IsAtBar, left_by, next_none, next_runs, skipped}
+use Rattle.aio_core.proofs.Below.{IsRunning, left_by, next_none, next_runs, skipped}
 
 -- as many are left as stand before the bar
 abbrev pub with_left : Body → Setting → Setting

@@ -1,39 +1,32 @@
 -- The end of a turn: each task that lives is cancelled once main is done, and the run ends when none lives.
 use Rattle.std.proofs.Common.{◌≡◌, ◌⊎◌, inl, inr, ℕ, zero, suc, ◌+◌, ◌<◌, ◌≤◌, if◌then◌else◌, append_assoc, Bool, true, false, not, ◌&&◌, List, [], ◌∷◌, ◌++◌, Option, Some, None, length, slice_get, ◌∙◌, refl, sym, ap, subst, arith, append-nil}
-use Rattle.std.proofs.Math.Logic.{∥∥₁_elim, ∥∥₁_map}
+use Rattle.std.proofs.Math.Logic.{∥∥₁_elim}
 use Rattle.std.proofs.lemmas.Bool.{cases_eq, cases_lt, false≢true}
-use Rattle.std.specs.Coded.{le_prop}
 use Rattle.std.specs.List.{list_all, range_with_len}
-use Rattle.std.specs.Option.{option_map_or}
 use Rattle.model_value.specs.Value.{Outcome}
 use Rattle.model_loop.specs.Cancel.{cancel}
 use Rattle.model_loop.specs.Ending.{cancel_everything}
 use Rattle.model_loop.specs.Futures.{future_outcome, is_pending, is_pending_at, outcome_at}
-use Rattle.model_loop.specs.Ledger.{ByEnd, Booked, LedgerEntry, request, request_each, request_where, unbooked}
-use Rattle.model_loop.specs.Loop.{Loop, book}
+use Rattle.model_loop.specs.Ledger.{ByEnd, Booked, request, request_each, request_where}
+use Rattle.model_loop.specs.Loop.{book}
 use Rattle.model_loop.specs.Parts.{Parts}
 use Rattle.model_loop.specs.Tasks.{future_of, lives, next_task}
 use Rattle.model_machine.specs.Extra.{no_extra}
-use Rattle.model_machine.specs.Outcomes.{end_of, finished_as, no_task_lives}
+use Rattle.model_machine.specs.Outcomes.{finished_as, no_task_lives}
 use Rattle.model_machine.specs.Sound.{IsStateSound, names_made}
 use Rattle.model_machine.specs.Told.{told_in}
 use Rattle.model_machine.specs.State.{State, in_loop}
-use Rattle.model_machine.specs.Turn.{cancelled_if, finished_if, turn_over}
-use Rattle.model_machine.specs.Went.{Went, Goes, Stops}
-use Rattle.law_inside.specs.InStep.{LeavesStateSound}
+use Rattle.model_machine.specs.Turn.{finished_if}
 use Rattle.law_sound.proofs.Steps.{end_of_run_sound}
 use Rattle.law_after.specs.After.{IsLoopAfter}
 use Rattle.law_after.proofs.Loops.{book_loop}
 use Rattle.law_after.proofs.Requests.{each_after}
 use Rattle.law_inside.proofs.Nobody.{nobody, over_as}
-use Rattle.law_kept.specs.Requests.{each_more}
 use Rattle.law_kept.proofs.Calls.{kept_request}
 use Rattle.law_kept.proofs.Requesting.{each_one}
 use Rattle.law_kept.proofs.Telling.{future_of_kept, outcome_kept, pending_kept}
-use Rattle.law_runs.proofs.Turning.{ended_in}
 use Rattle.aio_cancel.specs.Body.{Appended}
 use Rattle.aio_task.specs.View.{View, parts}
-use Rattle.aio_task.specs.Keeps.{Keeps}
 use Rattle.aio_body.specs.declared.body.Body.{Body}
 use Rattle.aio_body.specs.Stands.{Setting, Stands, IsBetween}
 use Rattle.aio_body.specs.Taken.{IsAfter}

@@ -1,6 +1,6 @@
 -- A turn's answer: the time goes on, timers fall due, and all that is pending stands before the bar.
-use Rattle.std.proofs.Common.{◌≡◌, ℕ, ◌<◌, ◌≤◌, ◌+◌, Bool, true, false, ◌&&◌, List, [], ◌∷◌, ◌++◌, Option, Some, None, length, map, max, slice_get, ◌∙◌, refl, sym, ap, subst, arith}
-use Rattle.std.proofs.Math.Logic.{∥∥₁_elim, ∥∥₁_map}
+use Rattle.std.proofs.Common.{◌≡◌, ℕ, ◌<◌, ◌≤◌, ◌+◌, Bool, true, false, ◌&&◌, List, [], ◌∷◌, ◌++◌, Option, Some, None, length, max, ◌∙◌, refl, sym, ap, subst, arith}
+use Rattle.std.proofs.Math.Logic.{∥∥₁_elim}
 use Rattle.std.proofs.lemmas.Bool.{false≢true, leb-true}
 use Rattle.std.proofs.lemmas.List.{length-map}
 use Rattle.std.specs.Coded.{le_prop}
@@ -9,16 +9,15 @@ use Rattle.std.specs.Option.{option_map}
 use Rattle.model_value.specs.Number.{most}
 use Rattle.model_wire.specs.declared.answer.Answer.TheVariants as answer
 use Rattle.model_wire.specs.Call.{Answer, Item}
-use Rattle.model_wire.specs.Fits.{fits, turn_fits, are_few, are_awaited}
-use Rattle.model_loop.specs.Handles.{by_deadline, due, fall_due, soon_all}
-use Rattle.model_loop.specs.Loop.{Loop, in_parts}
-use Rattle.model_loop.specs.Parts.{Handle, Parts, Timer}
-use Rattle.model_loop.specs.Tasks.{lives}
+use Rattle.model_wire.specs.Fits.{fits, are_few, are_awaited}
+use Rattle.model_loop.specs.Handles.{by_deadline, due, fall_due}
+use Rattle.model_loop.specs.Loop.{in_parts}
+use Rattle.model_loop.specs.Parts.{Parts, Timer}
 use Rattle.model_machine.specs.Extra.{no_extra}
-use Rattle.model_machine.specs.Outside.{news_of, select, time_of}
+use Rattle.model_machine.specs.Outside.{select, time_of}
 use Rattle.model_machine.specs.State as plain
 use Rattle.model_machine.specs.State.{State, generator_of, unbooked_in}
-use Rattle.model_machine.specs.Turn.{at_time, call_of, is_stalled, longest_wait, woken_by}
+use Rattle.model_machine.specs.Turn.{call_of, is_stalled, longest_wait, woken_by}
 use Rattle.law_handles.proofs.Appending.{waiting_kept}
 use Rattle.law_handles.proofs.Running.{keeps_barred}
 use Rattle.law_handles.proofs.Scheduling.{due_ties, keeps_fallen, stall_kept, wait_kept}
@@ -32,7 +31,7 @@ use Rattle.aio_timeout.proofs.Keeping.{timeouts_stay}
 use Rattle.aio_group.specs.GoesOn.{GoesOn}
 use Rattle.aio_group.proofs.Standing.{groups_on}
 use Rattle.aio_task.specs.View.{View}
-use Rattle.aio_task.specs.Keeps.{Ties, Keeps, Kept, Knows, ByTimer, handle_as}
+use Rattle.aio_task.specs.Keeps.{Ties, Keeps, Knows, ByTimer, handle_as}
 use Rattle.aio_body.specs.declared.body.Body.{Body}
 use Rattle.aio_body.specs.declared.standing.Standing.{Standing}
 use Rattle.aio_body.specs.declared.standing.Standing.TheVariants.{Asked, Sleeping, Leaving}

@@ -1,4 +1,4 @@
-use Rattle.std.proofs.Common.{◌≡◌, false, not, ◌&&◌, ◌∙◌, ap}
+use Rattle.std.proofs.Common.{not, ◌&&◌, ◌∙◌, ap}
 use Rattle.aio_core.proofs.Following.{cancelled_else, cancelled_then}
 use Rattle.aio_core.proofs.turns.cancel_after_main.Goals as goal
 use Rattle.aio_core.proofs.turns.cancel_after_main.Goals.{else-body-via-then-body+else-not-done_before, else-body-via-else-body}

@@ -1,8 +1,8 @@
-use Rattle.std.proofs.Common.{◌+◌, true, false, ◌≡◌, ℕ, slice_get, ◌∙◌, sym, ap, subst, arith}
+use Rattle.std.proofs.Common.{◌+◌, slice_get, ◌∙◌, sym, ap, subst, arith}
 use Rattle.model_loop.specs.Cancel.{cancel}
 use Rattle.model_loop.specs.Futures.{is_pending_at}
-use Rattle.aio_task.specs.View.{View, parts}
-use Rattle.aio_core.proofs.Stopping.{HasCancelled, cancelled_all, cancelled_first, cancelled_idle, cancelled_more, cancelled_on, own_of, plus_one}
+use Rattle.aio_task.specs.View.{parts}
+use Rattle.aio_core.proofs.Stopping.{HasCancelled, cancelled_all, cancelled_first, cancelled_idle, cancelled_more, cancelled_on, plus_one}
 use Rattle.aio_core.proofs.turns.cancel_everything.Goals as goal
 use Rattle.aio_core.proofs.turns.cancel_everything.Goals.{then-is_pending, else-is_pending}
 

@@ -1,4 +1,4 @@
-use Rattle.std.proofs.Common.{Some, None, slice_get, ◌∙◌, sym, ap, subst}
+use Rattle.std.proofs.Common.{Some, None, slice_get, ◌∙◌, sym, ap}
 use Rattle.std.specs.Option.{option_copied}
 use Rattle.model_loop.specs.Futures.{outcome_at}
 use Rattle.aio_core.proofs.Stopping.{main_goes, over_so, some_goes}

@@ -1,4 +1,4 @@
-use Rattle.std.proofs.Common.{◌∙◌, sym, ap}
+use Rattle.std.proofs.Common.{◌∙◌, sym}
 use Rattle.aio_cancel.specs.Body.{waiting}
 use Rattle.aio_ready.specs.Queue as queue
 use Rattle.aio_timer.specs.Schedule as schedule

@@ -1,5 +1,5 @@
 use Rattle.std.proofs.Common.{◌-◌, Some, [], min, ◌∙◌, sym, ap}
-use Rattle.std.specs.Option.{option_map, option_copied}
+use Rattle.std.specs.Option.{option_map}
 use Rattle.model_machine.specs.Outside.{select}
 use Rattle.model_machine.specs.Turn.{longest_wait}
 use Rattle.aio_cancel.specs.Body.{waiting}

@@ -1,4 +1,4 @@
-use Rattle.std.proofs.Common.{None, Some, ◌≡◌, ◌∙◌, refl, sym, arith}
+use Rattle.std.proofs.Common.{◌≡◌, ◌∙◌, refl, sym, arith}
 use Rattle.aio_core.specs.Again.{Again}
 use Rattle.aio_core.specs.declared.went.Went.TheVariants as went
 use Rattle.aio_core.proofs.Keeping.{alive_ended, alive_of, if_none, if_some, kept_again, kept_alive, kept_end, kept_goes, kept_now, not_both, turned_up}

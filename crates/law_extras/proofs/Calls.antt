@@ -1,0 +1,200 @@
+-- What is added makes allowed steps alone: then its requests, their waits, its handles and its news keep states sound.
+use Rattle.std.proofs.Common.{◌≡◌, ℕ, ℤ, ◌<◌, zero, suc, Bool, true, false, List, [], Option, Some, None, length, refl, sym, ap, ◌∙◌}
+use Rattle.std.proofs.lemmas.Bool.{false≢true}
+use Rattle.model_value.specs.Input.{Input}
+use Rattle.model_value.specs.Value.{Value, Exc, Outcome}
+use Rattle.model_value.specs.declared.input.Input.TheVariants.{Send, Throw}
+use Rattle.model_value.specs.declared.request.Request.TheVariants as request
+use Rattle.model_says.specs.Endings.{Asks, saying_of}
+use Rattle.model_says.specs.Requests.{bad_argument}
+use Rattle.model_says.specs.Says.{course, step_limit}
+use Rattle.model_loop.specs.Futures.{future_outcome}
+use Rattle.model_loop.specs.Suspend.{suspend}
+use Rattle.model_loop.specs.Tasks.{lives, next_task}
+use Rattle.model_machine.specs.Arguments.{as_int, as_list}
+use Rattle.model_machine.specs.Extra as extra
+use Rattle.model_machine.specs.Extra.{Extra, ExtraAnswer, ExtraCall, ExtraSaid, called, made_by_all}
+use Rattle.model_machine.specs.Outcomes.{input_of}
+use Rattle.model_machine.specs.Replies.{Wake, ended, given, reply, serves, serves_as, serves_until, waits, woken, woken_within}
+use Rattle.model_machine.specs.Sound.{IsStateSound, StandsRightly, blocks_of, names_made, sends_made}
+use Rattle.model_machine.specs.State.{Standing, Asked, Sleeping, Leaving, Serving, State, generator_of, resumed, stands}
+use Rattle.model_machine.specs.Step.{says_of}
+use Rattle.model_machine.specs.Told.{told_in}
+use Rattle.law_sound.proofs.Steps.{suspend_step_sound}
+use Rattle.law_after.specs.After.{IsLoopAfter}
+use Rattle.law_after.proofs.Loops.{book_loop, refl_loop}
+use Rattle.law_after.proofs.Requests.{suspend_after}
+use Rattle.law_inside.specs.InStep.{IsAsked, IsStepSound, RepliesInStep, SameTapes}
+use Rattle.law_inside.proofs.Blocks.{open_kept}
+use Rattle.law_inside.proofs.Counts.{get_there, lives_before}
+use Rattle.law_inside.proofs.Given.{asked_leaves}
+use Rattle.law_inside.proofs.Keeping.{futures_kept, leaves_none, loop_keeps, open_of, says_same, stays_stood, stood_standing, tapes_blocks, with_open}
+use Rattle.law_inside.proofs.Nobody.{nobody, over_as}
+use Rattle.law_replies.specs.Added.{KeepsSound}
+use Rattle.law_replies.proofs.Answering.{half, left_before, pending_of, rest_stood, step_to, within}
+use Rattle.law_replies.proofs.Table.{same_tapes, thrown}
+use Rattle.law_extras.specs.Allowed.{AreAllowed, IsAnswerAllowed, IsSaidAllowed, MakesAllowedSteps}
+use Rattle.law_extras.proofs.Steps.{all_after, all_sound}
+
+serving_leaves : (key id : ℕ) → Serving key ≡ Leaving id → ⊥
+serving_leaves key id e = absurd (cc)
+
+serving_sleeps : (key tag : ℕ) → Serving key ≡ Sleeping tag → ⊥
+serving_sleeps key tag e = absurd (cc)
+
+no_pause : {code arguments : Value} → Asks request.Pause ≡ Asks (request.Extra code arguments) → ⊥
+no_pause e = absurd (cc)
+
+-- before its first input a task asks for a pause
+pause_first : {S : Type 0} (added : Extra S) (task : ℕ) (s : State S) → (generator_of task s).tape ≡ []
+    → says_of step_limit added task s ≡ Asks request.Pause
+unfolding course
+pause_first added task s e =
+    ap (λ tape. saying_of (course step_limit s.program (generator_of task s).coroutine (generator_of task s).arguments tape)) e
+
+module _ {S : Type 0} (added : Extra S) (task : ℕ) (stood : Standing) (still : (id : ℕ) → stood ≡ Leaving id → ⊥) (code arguments : Value) where
+  -- ---- after the steps of a call the coroutine asks as before
+  module _ (s : State S) (call : ExtraCall S) (may : AreAllowed call.steps s.loop)
+      (is : IsAsked added task stood (request.Extra code arguments) s) where
+    abbrev t : State S
+    t = called call s
+
+    tapes : SameTapes s (called call s)
+    tapes = record { program = refl; generators = refl }
+
+    moved : IsLoopAfter (names_made (next_task s.loop.parts)) false (Some task) None None None s.loop (called call s).loop
+    moved = all_after (next_task s.loop.parts) (Some task) call.steps s.loop refl may
+
+    over : s.main_done ≡ true → lives (called call s).loop.parts 0 ≡ false
+    over done = at (lives (called call s).loop.parts 0) refl
+      where
+        at : (b : Bool) → lives (called call s).loop.parts 0 ≡ b → lives (called call s).loop.parts 0 ≡ false
+        at false e = e
+        at true e =
+            absurd (false≢true (sym (is.others.main_over done)
+            ∙ lives_before _ _ (Some task) s.loop.parts (called call s).loop.parts moved.parts is.others.loop.parts.owns 0 is.others.main_told.made e))
+
+    pub called_in : IsAsked added task stood (request.Extra code arguments) (called call s)
+    called_in = record {
+      others = with_open added (Some task) (Some task) t
+          (loop_keeps added s t tapes (Some task) (Some task) (Some task) (Some task) moved.parts (moved.parts.same refl)
+          (all_sound (Some task) (told_in s.events) call.steps s.loop may is.others.loop) (λ other f. f) over
+          (stays_stood added s t tapes (Some task) (Some task) (Some task) (Some task) _ _ None None None moved (λ other id f e r. refl))
+          (leaves_none added s t tapes (Some task) (Some task) (Some task) (Some task) _ _ None None None moved (λ id f. (refl, refl)))
+          (futures_kept s t refl (λ id h. moved.parts.plain id h) is.others.futures) (half added task stood (request.Extra code arguments) s is))
+          (open_kept _ _ (Some task) None s.loop t.loop (blocks_of s) (blocks_of t) moved
+          (tapes_blocks added s t tapes (Some task) (Some task) (Some task) (Some task)) (open_of added (Some task) (Some task) s is.others.blocks));
+      standing = is.standing;
+      says = says_same added s t tapes.program task refl ∙ is.says;
+      exits = λ id e mine. is.exits id (left_before s t _ _ (Some task) None None None moved id refl refl e) (mine ∙ (moved.groups id).parent);
+    }
+
+  -- ---- it is answered
+  pub answered_in : (fresh : Bool) (s : State S) → IsAsked added task stood (request.Extra code arguments) s → (input : Input)
+      → sends_made (next_task s.loop.parts) input ≡ true → IsStepSound added task (resumed fresh task input s)
+  answered_in fresh s is input good =
+      step_to added task stood (request.Extra code arguments) s is s (same_tapes s s.loop) is.others.futures refl refl
+      (refl_loop (names_made (next_task s.loop.parts)) refl false (Some task) None None None s.loop) is.others.loop still
+      fresh input (λ b. refl) refl good
+
+  -- ---- or its task waits
+  module _ (s : State S) (is : IsAsked added task stood (request.Extra code arguments) s) (on key : ℕ) (there : on < length s.loop.parts.futures)
+      (open_ : future_outcome s.loop.parts on ≡ None) where
+    abbrev u : State S
+    u = waits task on s
+
+    after : IsLoopAfter (names_made (next_task s.loop.parts)) false (Some task) None None None s.loop (waits task on s).loop
+    after =
+        book_loop (names_made (next_task s.loop.parts)) refl false (Some task) None None None (suspend task on) s.loop
+        (suspend_after (names_made (next_task s.loop.parts)) false (Some task) task on s.loop.parts)
+
+    stood_so : (generator_of task (stands (Serving key) task (waits task on s))).standing ≡ Serving key
+    stood_so = stood_standing added task (Serving key) (waits task on s) (within added task stood (request.Extra code arguments) s is)
+
+    rightly : StandsRightly (stands (Serving key) task (waits task on s)) task
+    rightly = record {
+      sleeping = λ tag e. absurd (serving_sleeps key tag (sym stood_so ∙ e));
+      leaving = λ id e. absurd (serving_leaves key id (sym stood_so ∙ e));
+      leaving_now = λ id e. absurd (serving_leaves key id (sym stood_so ∙ e));
+    }
+
+    pub waits_in : IsStateSound added (stands (Serving key) task (waits task on s))
+    waits_in =
+        let f = get_there s.loop.parts.futures on there in
+        rest_stood added task stood (request.Extra code arguments) s is u (same_tapes s u.loop)
+        (futures_kept s u refl (λ id h. after.parts.plain id h) is.others.futures) refl (after.parts.same refl) (Serving key) None after
+        (suspend_step_sound (told_in s.events) task on s.loop (pending_of s on f.0 f.1 open_) is.others.loop) (λ id f. refl)
+        (λ e. no_pause (sym (pause_first added task s e) ∙ is.says)) refl rightly
+        (λ id e mine. absurd (still id (is.exits id (left_before s u _ _ (Some task) None None None after id refl refl e) (mine ∙ (after.groups id).parent))))
+
+  -- ---- what comes of it, where what wakes it does as well
+  abbrev Wakes : Bool → Wake S → Type 0
+  Wakes fresh wake =
+      (key : ℕ) (input : Input) (s : State S) → IsAsked added task stood (request.Extra code arguments) s
+      → RepliesInStep added fresh task (wake key input s)
+
+  until_in : (fresh : Bool) (o : Option Outcome) (wake : Wake S) (s : State S) (on key : ℕ) → Wakes fresh wake
+      → IsAsked added task stood (request.Extra code arguments) s → on < length s.loop.parts.futures → ended s on ≡ o
+      → RepliesInStep added fresh task (serves_until o wake task on key s)
+  until_in fresh (Some outcome) wake s on key each is there e = each key (input_of outcome) s is
+  until_in fresh None wake s on key each is there e = waits_in s is on key there e
+
+  serves_in : (fresh : Bool) (answer : ExtraAnswer) (wake : Wake S) (s : State S) → IsAnswerAllowed answer s → Wakes fresh wake
+      → IsAsked added task stood (request.Extra code arguments) s → RepliesInStep added fresh task (serves_as answer wake task s)
+  serves_in fresh (extra.Answers value) wake s may each is = answered_in fresh s is (Send value) may
+  serves_in fresh (extra.Raises fault) wake s may each is = answered_in fresh s is (Throw fault) refl
+  serves_in fresh (extra.Waits on key) wake s may each is = until_in fresh (ended s on) wake s on key each is may refl
+
+  pub said_in : (fresh : Bool) (said : ExtraSaid S) (wake : Wake S) (s : State S) → IsSaidAllowed said s → Wakes fresh wake
+      → IsAsked added task stood (request.Extra code arguments) s → RepliesInStep added fresh task (serves said wake task s)
+  said_in fresh said wake s may each is =
+      serves_in fresh said.answer wake (called said.call s) may.1 each (called_in s said.call may.0 is)
+
+  module _ (allowed : MakesAllowedSteps added) where
+    within_in : (fresh : Bool) (wakes : ℕ) → Wakes fresh (woken_within added wakes task)
+    within_in fresh zero key input s is = tt
+    within_in fresh (suc wakes) key input s is =
+        said_in fresh (added.wake key input s) (woken_within added wakes task) s (allowed.wake task key input s is.others.loop)
+        (within_in fresh wakes) is
+
+    pub woken_in : (fresh : Bool) → Wakes fresh (woken added task)
+    woken_in fresh key input s is = within_in fresh (suc (added.wakes_left key s.extra)) key input s is
+
+-- ---- a task's request
+module _ {S : Type 0} (added : Extra S) (allowed : MakesAllowedSteps added) (task : ℕ) (code arguments : Value) (s : State S)
+    (is : IsAsked added task Asked (request.Extra code arguments) s) where
+  raised : (fault : Exc) → IsStepSound added task (resumed false task (Throw fault) s)
+  raised = thrown added task s (request.Extra code arguments) is (λ b f. refl) (λ f. refl)
+
+  asks_in : RepliesInStep added false task (reply added task (request.Extra code arguments) s)
+  unfolding reply
+  asks_in = number (as_int code)
+    where
+      items : (n : ℤ) (o : Option (List Value))
+          → RepliesInStep added false task (given o (λ items now. serves (added.ask task n items now) (woken added task) task now) s)
+      items n None = raised bad_argument
+      items n (Some values) =
+          said_in added task Asked asked_leaves code arguments false (added.ask task n values s) (woken added task) s
+          (allowed.ask task n values s is.others.loop) (woken_in added task Asked asked_leaves code arguments allowed false) is
+
+      number : (o : Option ℤ)
+          → RepliesInStep added false task (given o (λ n. given (as_list arguments) (λ items now. serves (added.ask task n items now) (woken added task) task now)) s)
+      number None = raised bad_argument
+      number (Some n) = items n (as_list arguments)
+
+-- ---- a handle of its own, and news
+called_sound : {S : Type 0} (added : Extra S) (s : State S) (call : ExtraCall S) → AreAllowed call.steps s.loop → IsStateSound added s
+    → IsStateSound added (called call s)
+called_sound added s call may sound =
+    let a = all_after (next_task s.loop.parts) None call.steps s.loop refl may in
+    nobody added s sound (called call s) (record { program = refl; generators = refl }) refl
+    (over_as added s sound (made_by_all call.steps s.loop) a) a (all_sound None (told_in s.events) call.steps s.loop may sound.loop)
+
+pub allowed_keeps : {S : Type 0} (added : Extra S) → MakesAllowedSteps added → KeepsSound added
+allowed_keeps added allowed = record {
+  ask = λ task code arguments s step is. asks_in added allowed task code arguments s is;
+  wake = λ task key code arguments input s is.
+      woken_in added task (Serving key) (serving_leaves key) code arguments allowed true key input s is;
+  act = λ key s sound. called_sound added s (added.act key s) (allowed.act key s sound.loop) sound;
+  item = λ code bytes s sound. called_sound added s (added.item code bytes s) (allowed.item code bytes s sound.loop) sound;
+}

@@ -1,0 +1,327 @@
+-- Steps of groups: what each of them owes, and what it takes back.
+use Rattle.std.proofs.Common.{◌≡◌, ℕ, ◌+◌, ◌≤◌, ◌<◌, Bool, true, false, cond, not, ◌&&◌, ◌||◌, ◌==◌, List, [], ◌∷◌, ◌++◌, Option, Some, None, filter, is_some, length, slice_index_or, refl, sym, ap, subst, ◌∙◌, le_refl, append_assoc, length-append, length-set, arith}
+use Rattle.std.specs.List.{count_by}
+use Rattle.std.proofs.lemmas.Bool.{eq-eqb, false≢true}
+use Rattle.std.proofs.lemmas.List.Sums.{sum_by_push}
+use Rattle.model_value.specs.Input.{Input}
+use Rattle.model_value.specs.Value.{Nothing, Exc}
+use Rattle.model_value.specs.declared.action.Action.TheVariants.{GroupDone}
+use Rattle.model_value.specs.declared.input.Input.TheVariants.{Send, Throw}
+use Rattle.model_value.specs.declared.outcome.Outcome.TheVariants.{Value as Returned, Cancelled}
+use Rattle.model_loop.specs.Futures.{new_plain, next_future, settle}
+use Rattle.model_loop.specs.Groups.{Refusal, abort, abort_and_request_unless, abort_where, begin_exit, blame, child_done, create, create_unless, end_exit, enter_group, exit_begin, exit_woken, failure_of, group_of, hear, keep_and_abort_unless, make_group, new_group, next_group, only_cancelled, refusal, request_parent, set_group, take_back, take_back_where, wait_or_end, wait_or_end_with, wake_exit, wake_if_last, with_child, without_child}
+use Rattle.model_loop.specs.Ledger.{Began, ByAbort, ByGroup, Origin, request_each, request_where, uncancel_by}
+use Rattle.model_loop.specs.Loop.{Group, Loop, book, in_parts}
+use Rattle.model_loop.specs.Owning.{OwnsFutures}
+use Rattle.model_loop.specs.Parts.{Parts}
+use Rattle.model_loop.specs.Tasks.{cancelling, future_of, lives, next_task, spawn, uncancel}
+use Rattle.model_machine.specs.Replies.{most_ids}
+use Rattle.law_cancel.proofs.Effects.{length-change_task, register-tasks, settle-tasks}
+use Rattle.law_ledger.proofs.Balancing.{request_each_balances}
+use Rattle.law_ledger.proofs.LoopBalance.{spawn_counts}
+use Rattle.law_settling.proofs.CancelSound.{settled_owns}
+use Rattle.law_settling.proofs.Looks.{asked_looks_same, change_looks_same, same_owns}
+use Rattle.law_settling.proofs.Settling.{settle_cases}
+use Rattle.law_settling.proofs.Spreading.{Spreads, begins, settles, asks, raises, marks, with_spread}
+use Rattle.law_told.proofs.Holding.{group_same}
+use Rattle.law_after.proofs.Exits.{exit_begin_loop, exit_woken_loop}
+use Rattle.law_after.proofs.Requests.{each_after}
+use Rattle.law_done.proofs.Later.{IsLater, any, later_create, later_exit_begin, later_exit_woken, later_of, later_plain, later_refl, later_settle, later_uncancel}
+use Rattle.law_owed.proofs.Asking.{ask_covers, each_took, take_covers}
+use Rattle.law_owed.proofs.Owed.{IsEasy, covers, easy_book, easy_group, easy_parts, easy_refl, easy_then, group_owed, right_on, same_counts}
+use Rattle.law_owed.specs.Owed.{IsCovered, IsRight, owed, owes_group}
+
+-- ---- who has which future stays
+owns_spread : {s : List ℕ} {p : Parts} {t : List ℕ} {q : Parts} → Spreads s p t q → OwnsFutures p → OwnsFutures q
+owns_spread begins h = h
+owns_spread (settles {q = q} g id future e o k) h =
+    settle_cases OwnsFutures id Cancelled q (owns_spread g h) (λ r s. settled_owns id q r s (owns_spread g h))
+owns_spread (asks {q = q} g id future members asked e o k) h = same_owns q _ (asked_looks_same id q future e) (owns_spread g h)
+owns_spread (raises {q = q} g id task n e) h = same_owns q _ (change_looks_same id _ q (λ t. refl) (λ t. refl)) (owns_spread g h)
+owns_spread (marks {q = q} g id can) h = same_owns q _ (change_looks_same id _ q (λ t. refl) (λ t. refl)) (owns_spread g h)
+
+owns_each : (by : Origin) (tasks : List ℕ) (p : Parts) → OwnsFutures p → OwnsFutures (request_each by tasks p).parts
+owns_each by [] p h = h
+owns_each by (task ∷ tasks) p h = owns_each by tasks (request_where (lives p task) by (future_of p task) p).parts (at (lives p task))
+  where
+    at : (b : Bool) → OwnsFutures (request_where b by (future_of p task) p).parts
+    at true = owns_spread (with_spread (future_of p task) [] p) h
+    at false = h
+
+-- ---- what changes nothing that is owed
+easy_abort : (id : ℕ) (l : Loop) → IsEasy l (abort id l)
+easy_abort id l =
+    let marked = set_group id (record (group_of l id) { aborting = true }) l in
+    let children = (group_of l id).children in
+    easy_then l marked (abort id l) (easy_group id (record (group_of l id) { aborting = true }) l (λ task. le_refl _))
+    (easy_book (request_each (ByAbort id) children) marked
+    (later_of false None l.parts _ (each_after any false None (ByAbort id) children l.parts))
+    (request_each_balances (ByAbort id) children l.parts) (each_took (ByAbort id) children l.parts))
+
+abort_tasks : (id : ℕ) (l : Loop) → next_task (abort id l).parts ≡ next_task l.parts
+abort_tasks id l = (each_after any false None (ByAbort id) (group_of l id).children l.parts).same refl
+
+easy_wake : (id : ℕ) (l : Loop) → IsEasy l (wake_exit id l)
+easy_wake id l = at (group_of l id).children (group_of l id).exit_future
+  where
+    at : (children : List ℕ) (exit : Option ℕ) → IsEasy l (in_parts (wake_if_last children exit) l)
+    at [] None = easy_refl l
+    at [] (Some future) =
+        easy_parts l _ (later_settle future (Returned Nothing) l.parts)
+        (same_counts l.parts (settle future (Returned Nothing) l.parts) (settle-tasks future (Returned Nothing) l.parts))
+    at (child ∷ children) exit = easy_refl l
+
+wake_tasks : (children : List ℕ) (exit : Option ℕ) (p : Parts) → next_task (wake_if_last children exit p) ≡ next_task p
+wake_tasks [] None p = refl
+wake_tasks [] (Some future) p = ap length (settle-tasks future (Returned Nothing) p)
+wake_tasks (child ∷ children) exit p = refl
+
+wake_owns : (children : List ℕ) (exit : Option ℕ) (p : Parts) → OwnsFutures p → OwnsFutures (wake_if_last children exit p)
+wake_owns [] None p h = h
+wake_owns [] (Some future) p h =
+    settle_cases OwnsFutures future (Returned Nothing) p h (λ q s. settled_owns future p q s h)
+wake_owns (child ∷ children) exit p h = h
+
+-- ---- a task is made in it
+child_counts : (id : ℕ) (p : Parts) (task : ℕ) → cancelling p task ≤ cancelling (with_child id p) task
+child_counts id p task =
+    let a = same_counts (spawn p) (with_child id p) (register-tasks (next_future p) (GroupDone id (next_task p)) (spawn p)) task in
+    let b = spawn_counts p task in
+    omega (arith, a, b)
+
+pub easy_create : (id : ℕ) (l : Loop) → IsEasy l (create id l)
+easy_create id l = at (refusal (group_of l id)) refl
+  where
+    at : (o : Option Refusal) → refusal (group_of l id) ≡ o → IsEasy l (create_unless o id l)
+    at (Some why) e = easy_refl l
+    at None e =
+        let made = in_parts (with_child id) l in
+        let it = group_of l id in
+        let new = record it { children = it.children ++ next_task l.parts ∷ []; made = it.made ++ next_task l.parts ∷ [] } in
+        easy_then l made (set_group id new made)
+        (easy_parts l (with_child id l.parts)
+        (subst (λ o. IsLater l.parts (create_unless o id l).parts) e (later_create id l)) (child_counts id l.parts))
+        (easy_group id new made (λ task. le_refl _))
+
+-- ---- a group is made and entered
+last_is : {X : Type 0} (xs : List X) (x d : X) → slice_index_or (xs ++ x ∷ []) (length xs) d ≡ x
+last_is [] x d = refl
+last_is (y ∷ xs) x d = last_is xs x d
+
+new_owed : (parent : ℕ) (l : Loop) (other : ℕ) → owed (make_group parent l) other ≡ owed l other
+new_owed parent l other =
+    let a : count_by (owes_group other) (l.groups ++ new_group parent ∷ []) ≡ count_by (owes_group other) l.groups + 0 =
+    sum_by_push (λ g. cond (owes_group other g) 1 0) l.groups (new_group parent) in
+    omega (arith, a)
+
+pub enter_group_covers : (parent : ℕ) (l : Loop) → next_group l < most_ids → IsRight l → IsCovered l
+    → IsCovered (enter_group (next_group l) (make_group parent l))
+enter_group_covers parent l few right is =
+    let made = make_group parent l in
+    let id = next_group l in
+    let g = last_is l.groups (new_group parent) (new_group 0) in
+    covers made (enter_group id made)
+    (easy_group id (record (group_of made id) { entered = true }) made (λ task.
+    let a : ◌≡◌ {A = ℕ} (cond (owes_group task (record (group_of made id) { entered = true })) 1 0) 0 =
+    ap (λ (it : Group). cond (owes_group task (record it { entered = true })) 1 0) g in
+    omega (arith, a)))
+    (record { made = right.made; fresh = λ other h. new_owed parent l other ∙ right.fresh other h })
+    (record {
+      timeouts_few = is.timeouts_few;
+      groups_few = let a = length-append l.groups (new_group parent ∷ []) in omega (arith, a, few);
+      covered = λ other h none. let a = is.covered other h none in let b = new_owed parent l other in omega (arith, a, b);
+      found = is.found;
+    })
+
+-- ---- it is told of a task: the first that failed makes it ask for its parent's cancel
+owes_one : (a c d : Bool) → ◌≤◌ (cond (a && (true && (c && d))) 1 0) (cond d 1 0)
+owes_one true true d = le_refl _
+owes_one true false d = omega arith
+owes_one false c d = omega arith
+
+parent_covers : (id : ℕ) (l : Loop) → OwnsFutures l.parts → IsRight l → IsCovered l → IsCovered (request_parent id l)
+parent_covers id l owns right is =
+    let it = group_of l id in
+    let new = record it { requested = true } in
+    ask_covers l (request_parent id l) (ByGroup id) it.parent refl refl
+    (λ other.
+    let a : owed (request_parent id l) other + cond (owes_group other (group_of l id)) 1 0
+    ≤ owed l other + cond ((group_of l id).entered && (true && (not (group_of l id).exiting && ((group_of l id).parent == other)))) 1 0 =
+    group_owed id new l other in
+    let b = owes_one (group_of l id).entered (not (group_of l id).exiting) ((group_of l id).parent == other) in
+    omega (arith, a, b))
+    refl (length-set l.groups id new) owns right is
+
+blame_covers : (o : Option Exc) (id : ℕ) (l : Loop) → OwnsFutures l.parts → IsRight l → IsCovered l → IsCovered (blame o id l)
+blame_covers None id l owns right is = is
+blame_covers (Some fault) id l owns right is = at ((group_of l id).aborting || (group_of l id).requested)
+  where
+    easy : IsEasy l (set_group id (record (group_of l id) { errors = (group_of l id).errors ++ fault ∷ [] }) l)
+    easy = easy_group id (record (group_of l id) { errors = (group_of l id).errors ++ fault ∷ [] }) l (λ other. le_refl _)
+
+    at : (b : Bool) → IsCovered (abort_and_request_unless b id (set_group id (record (group_of l id) { errors = (group_of l id).errors ++ fault ∷ [] }) l))
+    at true = covers l _ easy right is
+    at false =
+        let failing = set_group id (record (group_of l id) { errors = (group_of l id).errors ++ fault ∷ [] }) l in
+        let a = easy_then l failing (abort id failing) easy (easy_abort id failing) in
+        parent_covers id (abort id failing) (owns_each (ByAbort id) (group_of failing id).children l.parts owns)
+        (right_on l (abort id failing) a.later (abort_tasks id failing) a.owes right) (covers l (abort id failing) a right is)
+
+pub child_covers : (id task : ℕ) (l : Loop) → OwnsFutures l.parts → IsRight l → IsCovered l → IsCovered (child_done id task l)
+child_covers id task l owns right is =
+    let without = without_child id task l in
+    let woken = wake_exit id without in
+    let group = group_of without id in
+    let a = easy_then l without woken
+    (easy_group id (record (group_of l id) { children = filter (λ child. not (child == task)) (group_of l id).children }) l (λ other. le_refl _))
+    (easy_wake id without) in
+    blame_covers (failure_of l.parts task) id woken (wake_owns group.children group.exit_future l.parts owns)
+    (right_on l woken a.later (wake_tasks group.children group.exit_future l.parts) a.owes right) (covers l woken a right is)
+
+-- ---- its exit ends, or waits
+easy_over : (kept : Option Exc) (errors : List Exc) (id : ℕ) (l : Loop) → IsEasy l (end_exit kept errors id l).loop
+easy_over (Some fault) [] id l = easy_group id (record (group_of l id) { ended = true }) l (λ other. le_refl _)
+easy_over (Some fault) (e ∷ errors) id l = easy_group id _ l (λ other. le_refl _)
+easy_over None errors id l = easy_group id _ l (λ other. le_refl _)
+
+easy_wait : (id : ℕ) (l : Loop) → IsEasy l (wait_or_end id l).loop
+easy_wait id l = at (group_of l id).children
+  where
+    at : (children : List ℕ) → IsEasy l (wait_or_end_with children id l).loop
+    at [] = easy_over (group_of l id).kept (group_of l id).errors id l
+    at (child ∷ children) =
+        let made = in_parts new_plain l in
+        easy_then l made (set_group id (record (group_of l id) { exit_future = Some (next_future l.parts) }) made)
+        (easy_parts l (new_plain l.parts) (later_plain l.parts) (λ other. le_refl _))
+        (easy_group id (record (group_of l id) { exit_future = Some (next_future l.parts) }) made (λ other. le_refl _))
+
+easy_hear : (input : Input) (id : ℕ) (l : Loop) → IsEasy l (hear input id l)
+easy_hear (Send value) id l = easy_refl l
+easy_hear (Throw fault) id l = at (group_of l id).aborting
+  where
+    at : (b : Bool) → IsEasy l (keep_and_abort_unless b fault id l)
+    at true = easy_refl l
+    at false =
+        let kept = set_group id (record (group_of l id) { kept = Some fault }) l in
+        easy_then l kept (abort id kept) (easy_group id (record (group_of l id) { kept = Some fault }) l (λ other. le_refl _)) (easy_abort id kept)
+
+pub easy_woken : (input : Input) (id : ℕ) (l : Loop) → IsEasy l (exit_woken input id l).loop
+easy_woken input id l =
+    let woken = set_group id (record (group_of l id) { exit_future = None }) l in
+    easy_then l woken (exit_woken input id l).loop (easy_group id (record (group_of l id) { exit_future = None }) l (λ other. le_refl _))
+    (easy_then woken (hear input id woken) (exit_woken input id l).loop (easy_hear input id woken) (easy_wait id (hear input id woken)))
+
+easy_raised : (b : Bool) (id : ℕ) (l : Loop) → IsEasy l (abort_where b id l)
+easy_raised true id l = easy_abort id l
+easy_raised false id l = easy_refl l
+
+-- ---- its exit begins: it takes its request back, where it made one
+owes_no_more : (a b d : Bool) → ◌≡◌ {A = ℕ} (cond (a && (b && (false && d))) 1 0) 0
+owes_no_more true true d = refl
+owes_no_more true false d = refl
+owes_no_more false b d = refl
+
+owes_now : (a b x d : Bool) → a ≡ true → b ≡ true → x ≡ false → ◌≡◌ {A = ℕ} (cond (a && (b && (not x && d))) 1 0) (cond d 1 0)
+owes_now true true false d e f g = refl
+owes_now false b x d e f g = absurd (false≢true e)
+owes_now true false x d e f g = absurd (false≢true f)
+owes_now true true true d e f g = absurd (false≢true (sym g))
+
+module _ (raised : Option Exc) (id : ℕ) (l : Loop) (within : id < length l.groups) (entered : (group_of l id).entered ≡ true)
+    (outside : (group_of l id).exiting ≡ false) (living : lives l.parts (group_of l id).parent ≡ true) (right : IsRight l) (is : IsCovered l) where
+  abbrev marked : Group
+  marked = record (group_of l id) { exiting = true; body = raised; kept = only_cancelled raised }
+
+  abbrev begun : Loop
+  begun = begin_exit raised id l
+
+  marked_is : group_of (begin_exit raised id l) id ≡ record (group_of l id) { exiting = true; body = raised; kept = only_cancelled raised }
+  marked_is = group_same id (record (group_of l id) { exiting = true; body = raised; kept = only_cancelled raised }) l within
+
+  begun_owed : (other : ℕ) → owed begun other + cond (owes_group other (group_of l id)) 1 0 ≤ owed l other
+  begun_owed other =
+      let a : owed begun other + cond (owes_group other (group_of l id)) 1 0
+      ≤ owed l other + cond ((group_of l id).entered && ((group_of l id).requested && (false && ((group_of l id).parent == other)))) 1 0 =
+      group_owed id marked l other in
+      let b = owes_no_more (group_of l id).entered (group_of l id).requested ((group_of l id).parent == other) in
+      omega (arith, a, b)
+
+  begun_easy : IsEasy l begun
+  begun_easy = record {
+    later = later_refl l.parts;
+    counts = λ other. le_refl _;
+    owes = λ other. let a = begun_owed other in omega (arith, a);
+    more = Began id ∷ [];
+    ledger = refl;
+    none = refl;
+    timeouts_made = refl;
+    groups_made = length-set l.groups id marked;
+  }
+
+  parent_is : (group_of begun id).parent ≡ (group_of l id).parent
+  parent_is = ap (λ (g : Group). g.parent) marked_is
+
+  taken_owed : (group_of l id).requested ≡ true → (other : ℕ)
+      → owed begun other + cond ((group_of begun id).parent == other) 1 0 ≤ owed l other
+  taken_owed asked other =
+      let a = begun_owed other in
+      let b = owes_now (group_of l id).entered (group_of l id).requested (group_of l id).exiting ((group_of l id).parent == other) entered asked outside in
+      let c : ◌≡◌ {A = ℕ} (cond ((group_of begun id).parent == other) 1 0) (cond ((group_of l id).parent == other) 1 0) =
+      ap (λ k. cond (k == other) 1 0) parent_is in
+      omega (arith, a, b, c)
+
+  abbrev Taken : Loop → Type 0
+  Taken m = IsRight m × IsCovered m × ((other : ℕ) → owed m other ≤ owed l other)
+
+  taken_right : (group_of l id).requested ≡ true → IsRight (book (uncancel_by (ByGroup id) (group_of begun id).parent) begun)
+  taken_right asked =
+      right_on l (book (uncancel_by (ByGroup id) (group_of begun id).parent) begun) (later_uncancel (group_of begun id).parent l.parts)
+      (length-change_task (group_of begun id).parent _ l.parts) begun_easy.owes right
+
+  taken_covers : (group_of l id).requested ≡ true → IsCovered (book (uncancel_by (ByGroup id) (group_of begun id).parent) begun)
+  taken_covers asked =
+      take_covers l (book (uncancel_by (ByGroup id) (group_of begun id).parent) begun) (ByGroup id) (group_of begun id).parent (Began id ∷ []) refl
+      (append_assoc l.ledger (Began id ∷ []) _) refl (taken_owed asked)
+      (ap (lives l.parts) parent_is ∙ living) refl (length-set l.groups id marked) right is
+
+  back_taken : (b : Bool) → (group_of l id).requested ≡ b → Taken (take_back_where b id begun)
+  back_taken false e = (right_on l begun (later_refl l.parts) refl begun_easy.owes right, covers l begun begun_easy right is, begun_easy.owes)
+  back_taken true e =
+      elim (cancelling (uncancel (group_of begun id).parent l.parts) (group_of begun id).parent == 0) as (λ b.
+      Taken (cond b (set_group id (record (group_of begun id) { kept = None }) (book (uncancel_by (ByGroup id) (group_of begun id).parent) begun))
+      (book (uncancel_by (ByGroup id) (group_of begun id).parent) begun))) [
+        | true ↦ (
+          right_on (book (uncancel_by (ByGroup id) (group_of begun id).parent) begun) _ (later_refl _) refl unkept.owes (taken_right e),
+          covers (book (uncancel_by (ByGroup id) (group_of begun id).parent) begun) _ unkept (taken_right e) (taken_covers e),
+          (λ other. let a = unkept.owes other in let b = begun_easy.owes other in omega (arith, a, b)),
+        )
+        | false ↦ (taken_right e, taken_covers e, begun_easy.owes)
+      ]
+    where
+      unkept : IsEasy (book (uncancel_by (ByGroup id) (group_of begun id).parent) begun)
+          (set_group id (record (group_of begun id) { kept = None }) (book (uncancel_by (ByGroup id) (group_of begun id).parent) begun))
+      unkept = easy_group id (record (group_of begun id) { kept = None }) (book (uncancel_by (ByGroup id) (group_of begun id).parent) begun) (λ other. le_refl _)
+
+  taken_back : Taken (take_back id begun)
+  taken_back = back_taken (group_of begun id).requested (sym (ap (λ (g : Group). g.requested) marked_is))
+
+  ended : IsEasy (take_back id begun) (exit_begin raised id l).loop
+  ended =
+      let q = take_back id begun in
+      let b = is_some raised && not (group_of q id).aborting in
+      let r = abort_where b id q in
+      easy_then q r (wait_or_end id r).loop (easy_raised b id q) (easy_wait id r)
+
+  pub begin_covers : IsCovered (exit_begin raised id l).loop
+  begin_covers = covers (take_back id begun) (exit_begin raised id l).loop ended taken_back.0 taken_back.1
+
+  pub begin_right : IsRight (exit_begin raised id l).loop
+  begin_right =
+      right_on l (exit_begin raised id l).loop (later_exit_begin raised id l)
+      ((exit_begin_loop any refl false None None (Some id) id (eq-eqb id id refl) raised l).parts.same refl)
+      (λ other. let a = ended.owes other in let b = taken_back.2 other in omega (arith, a, b)) right
+
+pub woken_right : (input : Input) (id : ℕ) (l : Loop) → IsRight l → IsRight (exit_woken input id l).loop
+woken_right input id l right =
+    right_on l (exit_woken input id l).loop (later_exit_woken input id l)
+    ((exit_woken_loop any refl false None None None id input l).parts.same refl) (easy_woken input id l).owes right

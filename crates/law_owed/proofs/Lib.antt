@@ -1,0 +1,5 @@
+pub mod Found
+pub mod Owed
+pub mod Asking
+pub mod Loops
+pub mod Groups

@@ -1,0 +1,334 @@
+-- Each request of a task in its step leaves what is owed covered.
+use Rattle.std.proofs.Common.{◌≡◌, ℕ, zero, suc, ◌≤◌, ◌<◌, ℤ, pos, negsuc, Bool, true, false, cond, not, ◌&&◌, ◌==◌, List, [], ◌∷◌, Option, Some, None, length, nat_lt, is_some, slice_index_or, refl, sym, ap, subst, ◌∙◌, le_refl, arith}
+use Rattle.std.specs.List.{count_by, list_any}
+use Rattle.std.specs.Option.{option_map_or}
+use Rattle.std.proofs.lemmas.Bool.{eq-eqb, eqb-true, ltb-true, false≢true}
+use Rattle.model_value.specs.Equality.{equal}
+use Rattle.model_value.specs.Input.{Input}
+use Rattle.model_value.specs.Request.{Request}
+use Rattle.model_value.specs.Value.{Value, Timeout, Exc, Outcome}
+use Rattle.model_value.specs.declared.input.Input.TheVariants.{Send, Throw}
+use Rattle.model_value.specs.declared.outcome.Outcome.TheVariants.{Value as Returned, Failed}
+use Rattle.model_value.specs.declared.request.Request.TheVariants as request
+use Rattle.model_tree.specs.Syntax.{Program}
+use Rattle.model_says.specs.Blocks.{open_blocks}
+use Rattle.model_says.specs.Endings.{Asks}
+use Rattle.model_says.specs.Says.{course, step_limit}
+use Rattle.model_loop.specs.Futures.{new_plain, next_future, settle}
+use Rattle.model_loop.specs.Groups.{GroupExit, Waits, Passes, Raises as RaisedBy, Refusal, create, exit_begin, exit_woken, group_of, new_group, next_group, refusal}
+use Rattle.model_loop.specs.Ledger.{ByScript, ask_cancel, uncancel_by}
+use Rattle.model_loop.specs.Loop.{TimeoutState, Created, Active, Expiring, Expired, Finished, Loop, book, in_parts}
+use Rattle.model_loop.specs.Sound.{IsSound}
+use Rattle.model_loop.specs.Suspend.{suspend}
+use Rattle.model_loop.specs.Tasks.{lives, next_task, spawn}
+use Rattle.model_loop.specs.Timeouts.{exit_timeout, is_active, next_timeout, no_timeout, reschedule, timeout_of}
+use Rattle.model_machine.specs.Arguments.{as_future, as_awaited, as_task, as_timeout, as_group, as_int, as_delay, as_failure, as_list}
+use Rattle.model_machine.specs.Extra as extra
+use Rattle.model_machine.specs.Extra.{Extra, ExtraAnswer, ExtraSaid, called}
+use Rattle.model_machine.specs.Outcomes.{input_of}
+use Rattle.model_machine.specs.Replies.{Reply, given, most_ids, numbered_if, numbered, replied, ended, result_of, waits, awaits_as, awaits, alarmed, sleeps, makes_future, settles_if, settles, requests, counted, spawns, enters_timeout, timed_out_if, exits_timeout, reschedules_if, reschedules, enters_group, exits_as, exits_group, creates_unless, creates, Wake, serves_until, serves_as, serves, woken_within, woken, reply, decides}
+use Rattle.model_machine.specs.Sound.{AreBlocksOf, AreBlocksOpen, blocks_of, has_open, is_open}
+use Rattle.model_machine.specs.State.{Standing, Asked, Sleeping, Leaving, Serving, Generator, State, generator, in_loop, with_loop}
+use Rattle.model_machine.specs.Step.{says_of}
+use Rattle.law_machine.proofs.Kept.{reply_state}
+use Rattle.law_inside.specs.InStep.{IsStepSound}
+use Rattle.law_inside.proofs.Counts.{own_there, lives_within}
+use Rattle.law_inside.proofs.Tapes.{past_default}
+use Rattle.law_replies.proofs.Innermost.{innermost_timeout}
+use Rattle.law_replies.proofs.Replying.{fits_in}
+use Rattle.law_done.proofs.Later.{later_plain, later_same, later_then}
+use Rattle.law_owed.proofs.Asking.{hand_covers}
+use Rattle.law_owed.proofs.Groups.{begin_covers, begin_right, easy_create, easy_woken, enter_group_covers, woken_right}
+use Rattle.law_owed.proofs.Loops.{IsGood, all_good, easy_request, easy_reschedule, easy_settle, easy_spawn, easy_suspend, enter_covers, exit_covers}
+use Rattle.law_owed.proofs.Owed.{count_cons, covers, easy_parts, easy_then}
+use Rattle.law_owed.specs.Owed.{IsCovered, IsRight, is_expiring, owed, owes_timeout, owes_group}
+
+-- ---- nothing is owed to a task that wasn't made
+off : (b : Bool) → (b && false) ≡ false
+off true = refl
+off false = refl
+
+off_inside : (a b d : Bool) → (a && (b && (false && d))) ≡ false
+off_inside true true d = refl
+off_inside true false d = refl
+off_inside false b d = refl
+
+off_last : (a b c : Bool) → (a && (b && (c && false))) ≡ false
+off_last true true true = refl
+off_last true true false = refl
+off_last true false c = refl
+off_last false b c = refl
+
+count_none : {X : Type 0} (f : X → Bool) (xs : List X) (d : X) → ((i : ℕ) → i < length xs → f (slice_index_or xs i d) ≡ false) → count_by f xs ≡ 0
+count_none f [] d h = refl
+count_none f (x ∷ xs) d h =
+    let a = count_cons f x xs in
+    let b : ◌≡◌ {A = ℕ} (cond (f x) 1 0) 0 = ap (λ b. cond b 1 0) (h 0 (omega arith)) in
+    let ih = count_none f xs d (λ i w. h (suc i) (omega (arith, w))) in
+    omega (arith, a, b, ih)
+
+closed : (state : TimeoutState) → is_open state ≡ false → is_expiring state ≡ false
+closed Created h = refl
+closed Active h = refl
+closed Expiring h = absurd (false≢true (sym h))
+closed Expired h = refl
+closed Finished h = refl
+
+no_blocks : (program : Program) → open_blocks program 0 [] [] ≡ []
+unfolding course
+no_blocks program = refl
+
+module _ {S : Type 0} (s : State S) (running : Option ℕ) (told : ℕ → List ℕ) (loop : IsSound running told s.loop) (blocks : AreBlocksOpen s)
+    (generators : length s.generators ≡ next_task s.loop.parts) (task : ℕ) (past : next_task s.loop.parts ≤ task) where
+  unmade_blocks : blocks_of s task ≡ []
+  unmade_blocks =
+      ap (λ (it : Generator). open_blocks s.program it.coroutine it.arguments it.tape)
+      (past_default s.generators task (generator 0 []) (omega (arith, past, generators)))
+      ∙ no_blocks s.program
+
+  timeouts_none : (id : ℕ) → id < length s.loop.timeouts → owes_timeout task (timeout_of s.loop id) ≡ false
+  timeouts_none id w = at ((timeout_of s.loop id).task == task) refl
+    where
+      at : (b : Bool) → ((timeout_of s.loop id).task == task) ≡ b → owes_timeout task (timeout_of s.loop id) ≡ false
+      at false e = ap (λ b. is_expiring (timeout_of s.loop id).state && b) e ∙ off (is_expiring (timeout_of s.loop id).state)
+      at true e =
+          ap (λ b. b && ((timeout_of s.loop id).task == task))
+          (closed (timeout_of s.loop id).state (blocks.timeouts id w
+          ∙ ap (λ k. has_open s k (Timeout id)) (eqb-true (timeout_of s.loop id).task task e) ∙ ap (list_any (equal (Timeout id))) unmade_blocks))
+
+  groups_none : (id : ℕ) → id < length s.loop.groups → owes_group task (group_of s.loop id) ≡ false
+  groups_none id w = at (group_of s.loop id).entered refl (group_of s.loop id).exiting refl ((group_of s.loop id).parent == task) refl
+    where
+      unended : (group_of s.loop id).exiting ≡ false → (b : Bool) → (group_of s.loop id).ended ≡ b → (group_of s.loop id).ended ≡ false
+      unended e false f = f
+      unended e true f = absurd (false≢true (sym e ∙ (loop.groups id).kept.ended_exiting f))
+
+      at : (a : Bool) → (group_of s.loop id).entered ≡ a → (x : Bool) → (group_of s.loop id).exiting ≡ x
+          → (p : Bool) → ((group_of s.loop id).parent == task) ≡ p → owes_group task (group_of s.loop id) ≡ false
+      at false e x f p g =
+          ap (λ b. b && ((group_of s.loop id).requested && (not (group_of s.loop id).exiting && ((group_of s.loop id).parent == task)))) e
+      at true e true f p g =
+          ap (λ b. (group_of s.loop id).entered && ((group_of s.loop id).requested && (not b && ((group_of s.loop id).parent == task)))) f
+          ∙ off_inside (group_of s.loop id).entered (group_of s.loop id).requested ((group_of s.loop id).parent == task)
+      at true e false f false g =
+          ap (λ b. (group_of s.loop id).entered && ((group_of s.loop id).requested && (not (group_of s.loop id).exiting && b))) g
+          ∙ off_last (group_of s.loop id).entered (group_of s.loop id).requested (not (group_of s.loop id).exiting)
+      at true e false f true g =
+          absurd (
+          let l = (loop.groups id).tellings.parent_lives e (unended f (group_of s.loop id).ended refl) in
+          let a = lives_within s.loop.parts (group_of s.loop id).parent l in
+          let b = eqb-true (group_of s.loop id).parent task g in
+          omega (arith, a, b, past))
+
+  unmade_owed : owed s.loop task ≡ 0
+  unmade_owed =
+      let a = count_none (owes_timeout task) s.loop.timeouts no_timeout timeouts_none in
+      let b = count_none (owes_group task) s.loop.groups (new_group 0) groups_none in
+      omega (arith, a, b)
+
+pub right_of : {S : Type 0} (s : State S) (running : Option ℕ) (told : ℕ → List ℕ) → IsSound running told s.loop → AreBlocksOpen s
+    → length s.generators ≡ next_task s.loop.parts → IsRight s.loop
+right_of s running told loop blocks generators = record {
+  made = λ task h. own_there s.loop.parts loop.parts.owns task h;
+  fresh = λ task past. unmade_owed s running told loop blocks generators task past;
+}
+
+-- ---- replies
+abbrev pub Covers : {S : Type 0} → Reply S → Type 0
+Covers it = IsCovered (reply_state it).loop
+
+some_is : (a b : ℕ) → Some a ≡ Some b → a ≡ b
+some_is a b e = ap (λ o. option_map_or (λ (x : ℕ). x) o a) e
+
+given_in : {S A : Type 0} (o : Option A) (next : A → State S → Reply S) (s : State S) → IsCovered s.loop
+    → ((a : A) → o ≡ Some a → Covers (next a s)) → Covers (given o next s)
+given_in None next s c each = c
+given_in (Some a) next s c each = each a refl
+
+numbered_in : {S : Type 0} (made : ℕ) (next : State S → Reply S) (s : State S) → IsCovered s.loop
+    → (made < most_ids → Covers (next s)) → Covers (numbered made next s)
+numbered_in made next s c each = at (nat_lt made most_ids) refl
+  where
+    at : (b : Bool) → nat_lt made most_ids ≡ b → Covers (numbered_if b next s)
+    at true e = each (ltb-true made most_ids e)
+    at false e = c
+
+replied_in : {S : Type 0} (input : Input) (s : State S) → IsCovered s.loop → Covers (replied input s)
+replied_in (Send value) s c = c
+replied_in (Throw fault) s c = c
+
+result_in : {S : Type 0} (o : Option Outcome) (s : State S) → IsCovered s.loop → Covers (result_of o s)
+result_in (Some outcome) s c = replied_in (input_of outcome) s c
+result_in None s c = c
+
+waits_in : {S : Type 0} (task on : ℕ) (s : State S) → IsRight s.loop → IsCovered s.loop → IsCovered (waits task on s).loop
+waits_in task on s right c = covers s.loop (book (suspend task on) s.loop) (easy_suspend task on s.loop) right c
+
+awaits_in : {S : Type 0} (o : Option Outcome) (task on : ℕ) (s : State S) → IsRight s.loop → IsCovered s.loop → Covers (awaits_as o task on s)
+awaits_in (Some outcome) task on s right c = replied_in (input_of outcome) s c
+awaits_in None task on s right c = waits_in task on s right c
+
+sleeps_in : {S : Type 0} (task : ℕ) (delay : ℤ) (s : State S) → IsRight s.loop → IsCovered s.loop → Covers (sleeps task delay s)
+sleeps_in task (negsuc before) s right c =
+    covers s.loop _ (easy_parts s.loop _ (later_same s.loop.parts _ refl refl) (λ other. le_refl _)) right c
+sleeps_in task (pos zero) s right c =
+    covers s.loop _ (easy_parts s.loop _ (later_same s.loop.parts _ refl refl) (λ other. le_refl _)) right c
+sleeps_in task (pos (suc delay)) s right c =
+    let alarm = in_parts (alarmed task (pos (suc delay))) s.loop in
+    let on = next_future s.loop.parts in
+    covers s.loop (book (suspend task on) alarm)
+    (easy_then s.loop alarm (book (suspend task on) alarm)
+    (easy_parts s.loop (alarmed task (pos (suc delay)) s.loop.parts)
+    (later_then s.loop.parts (new_plain s.loop.parts) alarm.parts (later_plain s.loop.parts) (later_same (new_plain s.loop.parts) alarm.parts refl refl))
+    (λ other. le_refl _))
+    (easy_suspend task on alarm)) right c
+
+settles_in : {S : Type 0} (done : Bool) (on : ℕ) (outcome : Outcome) (s : State S) → IsRight s.loop → IsCovered s.loop
+    → Covers (settles_if done on outcome s)
+settles_in true on outcome s right c = c
+settles_in false on outcome s right c = covers s.loop (in_parts (settle on outcome) s.loop) (easy_settle on outcome s.loop) right c
+
+timed_out_in : {S : Type 0} (b : Bool) (l : Loop) (s : State S) → IsCovered l → Covers (timed_out_if b (with_loop l s))
+timed_out_in true l s c = c
+timed_out_in false l s c = c
+
+reschedules_in : {S : Type 0} (b : Bool) (id : ℕ) (when : Option ℤ) (s : State S) → IsRight s.loop → IsCovered s.loop
+    → Covers (reschedules_if b id when s)
+reschedules_in true id when s right c = covers s.loop (reschedule id when s.loop) (easy_reschedule id when s.loop) right c
+reschedules_in false id when s right c = c
+
+pub exits_in : {S : Type 0} (answer : GroupExit) (task id : ℕ) (l : Loop) (s : State S) → IsRight l → IsCovered l
+    → Covers (exits_as answer task id (with_loop l s))
+exits_in (Waits on) task id l s right c = waits_in task on (with_loop l s) right c
+exits_in Passes task id l s right c = c
+exits_in (RaisedBy fault) task id l s right c = c
+
+creates_in : {S : Type 0} (cause : Option Refusal) (id coroutine : ℕ) (arguments : List Value) (s : State S) → IsRight s.loop → IsCovered s.loop
+    → Covers (creates_unless cause id coroutine arguments s)
+creates_in (Some cause) id coroutine arguments s right c = c
+creates_in None id coroutine arguments s right c = covers s.loop (create id s.loop) (easy_create id s.loop) right c
+
+-- what is added, where what wakes it does so
+abbrev WakeCovers : {S : Type 0} → Wake S → Type 0
+WakeCovers {S} wake = (key : ℕ) (input : Input) (t : State S) → IsGood t.loop → Covers (wake key input t)
+
+until_in : {S : Type 0} (o : Option Outcome) (wake : Wake S) (task on key : ℕ) (s : State S) → WakeCovers wake → IsGood s.loop
+    → Covers (serves_until o wake task on key s)
+until_in (Some outcome) wake task on key s each is = each key (input_of outcome) s is
+until_in None wake task on key s each is = waits_in task on s is.right is.covered
+
+serves_in : {S : Type 0} (answer : ExtraAnswer) (wake : Wake S) (task : ℕ) (s : State S) → WakeCovers wake → IsGood s.loop
+    → Covers (serves_as answer wake task s)
+serves_in (extra.Answers value) wake task s each is = is.covered
+serves_in (extra.Raises fault) wake task s each is = is.covered
+serves_in (extra.Waits on key) wake task s each is = until_in (ended s on) wake task on key s each is
+
+said_in : {S : Type 0} (said : ExtraSaid S) (wake : Wake S) (task : ℕ) (s : State S) → WakeCovers wake → IsGood s.loop
+    → Covers (serves said wake task s)
+said_in said wake task s each is = serves_in said.answer wake task (called said.call s) each (all_good said.call.steps s.loop is)
+
+woken_within_in : {S : Type 0} (added : Extra S) (wakes task : ℕ) → WakeCovers (woken_within added wakes task)
+woken_within_in added zero task key input s is = is.covered
+woken_within_in added (suc wakes) task key input s is =
+    said_in (added.wake key input s) (woken_within added wakes task) task s (woken_within_in added wakes task) is
+
+woken_in : {S : Type 0} (added : Extra S) (task : ℕ) → WakeCovers (woken added task)
+woken_in added task key input s is = woken_within_in added (suc (added.wakes_left key s.extra)) task key input s is
+
+pub decides_in : {S : Type 0} (added : Extra S) (standing : Standing) (task : ℕ) (input : Input) (s : State S) → IsGood s.loop
+    → Covers (decides added standing task input s)
+decides_in added Asked task input s is = replied_in input s is.covered
+decides_in added (Sleeping tag) task input s is = replied_in input s is.covered
+decides_in added (Leaving group) task input s is =
+    let l = (exit_woken input group s.loop).loop in
+    exits_in (exit_woken input group s.loop).answer task group l s (woken_right input group s.loop is.right)
+    (covers s.loop l (easy_woken input group s.loop) is.right is.covered)
+decides_in added (Serving key) task input s is = woken_in added task key input s is
+
+-- ---- the table
+module _ {S : Type 0} (added : Extra S) (task : ℕ) (s : State S) (step : IsStepSound added task s) (c : IsCovered s.loop) where
+  right : IsRight s.loop
+  right = right_of s (Some task) _ step.others.loop step.others.blocks step.others.generators
+
+  runs : lives s.loop.parts task ≡ true
+  runs = step.others.loop.parts.runs task (eq-eqb task task refl)
+
+  timeout_in : (value : Value) (raised : Option Exc) → says_of step_limit added task s ≡ Asks (request.TimeoutExit value raised) → (id : ℕ)
+      → as_timeout value ≡ Some id → Covers (exits_timeout raised id s)
+  timeout_in value raised says id e =
+      let r = innermost_timeout added task s (step.others.blocks.entered task) value raised says in
+      let same : r.0 ≡ id = some_is r.0 id (sym (ap as_timeout r.1) ∙ e) in
+      let mine = (subst (AreBlocksOf s.loop task) r.2.1 (step.others.blocks.own task)).0 in
+      let its : (timeout_of s.loop id).task ≡ task = ap (λ k. (timeout_of s.loop k).task) (sym same) ∙ mine.1 in
+      timed_out_in (exit_timeout raised id s.loop).timed_out (exit_timeout raised id s.loop).loop s
+      (exit_covers raised id s.loop (ap (lives s.loop.parts) its ∙ runs) right c)
+
+  group_in : (value : Value) (raised : Option Exc) → says_of step_limit added task s ≡ Asks (request.GroupExit value raised) → (id : ℕ)
+      → as_group value ≡ Some id → Covers (exits_group (exit_begin raised id s.loop) task id s)
+  group_in value raised says id e =
+      let f = fits_in added task s step (request.GroupExit value raised) says refl id e in
+      let living = (step.others.loop.groups id).tellings.parent_lives f.1 (unended f.2 (group_of s.loop id).ended refl) in
+      exits_in (exit_begin raised id s.loop).answer task id (exit_begin raised id s.loop).loop s
+      (begin_right raised id s.loop f.0 f.1 f.2 living right c) (begin_covers raised id s.loop f.0 f.1 f.2 living right c)
+    where
+      unended : (group_of s.loop id).exiting ≡ false → (b : Bool) → (group_of s.loop id).ended ≡ b → (group_of s.loop id).ended ≡ false
+      unended e false f = f
+      unended e true f = absurd (false≢true (sym e ∙ (step.others.loop.groups id).kept.ended_exiting f))
+
+  pub reply_in : (asked : Request) → says_of step_limit added task s ≡ Asks asked → Covers (reply added task asked s)
+  unfolding reply
+  reply_in request.Pause says =
+      covers s.loop _ (easy_parts s.loop _ (later_same s.loop.parts _ refl refl) (λ other. le_refl _)) right c
+  reply_in (request.Await x) says =
+      given_in (as_awaited s x) (awaits task) s c (λ on e. awaits_in (ended s on) task on s right c)
+  reply_in (request.Print values) says = c
+  reply_in request.MakeFuture says =
+      numbered_in (length s.futures) makes_future s c
+      (λ few. covers s.loop _ (easy_parts s.loop (new_plain s.loop.parts) (later_plain s.loop.parts) (λ other. le_refl _)) right c)
+  reply_in (request.Set future value) says =
+      given_in (as_future s future) (λ on. settles on (Returned value)) s c
+      (λ on e. settles_in (is_some (ended s on)) on (Returned value) s right c)
+  reply_in (request.Fail future fault) says =
+      given_in (as_future s future) (λ on. given (as_failure fault) (λ it. settles on (Failed it))) s c
+      (λ on e. given_in (as_failure fault) (λ it. settles on (Failed it)) s c
+      (λ it f. settles_in (is_some (ended s on)) on (Failed it) s right c))
+  reply_in (request.IsDone x) says = given_in (as_awaited s x) _ s c (λ on e. c)
+  reply_in (request.IsCancelled x) says = given_in (as_awaited s x) _ s c (λ on e. c)
+  reply_in (request.ResultOf x) says =
+      given_in (as_awaited s x) (λ on now. result_of (ended now on) now) s c (λ on e. result_in (ended s on) s c)
+  reply_in (request.Cancel x) says =
+      given_in (as_awaited s x) (requests task) s c
+      (λ on e. covers s.loop (book (ask_cancel (ByScript task) on) s.loop) (easy_request (ByScript task) on s.loop) right c)
+  reply_in (request.Cancelling x) says = given_in (as_task x) counted s c (λ other e. c)
+  reply_in (request.Uncancel x) says =
+      given_in (as_task x) (λ other now. counted other (in_loop (book (uncancel_by (ByScript task) other)) now)) s c
+      (λ other e. hand_covers s.loop (ByScript task) other refl right c)
+  reply_in request.Current says = c
+  reply_in request.Time says = c
+  reply_in (request.Spawn coroutine arguments) says =
+      numbered_in (next_task s.loop.parts) (spawns coroutine arguments) s c (λ few. covers s.loop (in_parts spawn s.loop) (easy_spawn s.loop) right c)
+  reply_in (request.Sleep delay) says = given_in (as_int delay) (sleeps task) s c (λ it e. sleeps_in task it s right c)
+  reply_in (request.TimeoutEnter delay) says =
+      given_in (as_delay delay) (λ it now. numbered (next_timeout now.loop) (enters_timeout task it) now) s c
+      (λ it e. numbered_in (next_timeout s.loop) (enters_timeout task it) s c (λ few. enter_covers task it s.loop few right c))
+  reply_in (request.TimeoutExit timeout raised) says =
+      given_in (as_timeout timeout) (exits_timeout raised) s c (λ id e. timeout_in timeout raised says id e)
+  reply_in (request.Reschedule timeout when) says =
+      given_in (as_timeout timeout) (λ id. given (as_delay when) (λ it. reschedules id it)) s c
+      (λ id e. given_in (as_delay when) (λ it. reschedules id it) s c
+      (λ it f. reschedules_in (is_active (timeout_of s.loop id).state) id it s right c))
+  reply_in (request.Expired timeout) says = given_in (as_timeout timeout) _ s c (λ id e. c)
+  reply_in request.GroupEnter says =
+      numbered_in (next_group s.loop) (enters_group task) s c (λ few. enter_group_covers task s.loop few right c)
+  reply_in (request.GroupExit group raised) says =
+      given_in (as_group group) (λ id now. exits_group (exit_begin raised id now.loop) task id now) s c (λ id e. group_in group raised says id e)
+  reply_in (request.Create group coroutine arguments) says =
+      given_in (as_group group) (λ id now. numbered (next_task now.loop.parts) (creates id coroutine arguments) now) s c
+      (λ id e. numbered_in (next_task s.loop.parts) (creates id coroutine arguments) s c
+      (λ few. creates_in (refusal (group_of s.loop id)) id coroutine arguments s right c))
+  reply_in (request.Extra code arguments) says =
+      given_in (as_int code)
+      (λ number. given (as_list arguments) (λ items now. serves (added.ask task number items now) (woken added task) task now)) s c
+      (λ number e. given_in (as_list arguments) (λ items now. serves (added.ask task number items now) (woken added task) task now) s c
+      (λ items f. said_in (added.ask task number items s) (woken added task) task s (woken_in added task) (record { right = right; covered = c })))
+  reply_in _ says = c
