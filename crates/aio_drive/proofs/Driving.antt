@@ -20,7 +20,8 @@ use Rattle.model_machine.specs.Went.{Went, Goes, Stops, answers_in}
 use Rattle.law_machine.proofs.Turns.{run-grows}
 use Rattle.aio_wire.specs.Told.{refused_of}
 use Rattle.aio_wire.specs.declared.stop.Stop.TheVariants as stop
-use Rattle.aio_core.specs.Turned.{AnyLeft, Begins, Ends, EndsAs, GoesOn, Is, IsMismatch, NextIs, NoneLeft, StandsFor, Takes, TurnsTo, untaken}
+use Rattle.aio_core.specs.Turned.{Begins, Ends, EndsAs, GoesOn, StandsFor, TurnsTo, untaken}
+use Rattle.aio_core.specs.Turning.{AnyLeft, Is, IsMismatch, NextIs, NoneLeft, Takes}
 use Rattle.aio_core.specs.declared.kernel.Kernel.{Kernel}
 use Rattle.aio_core.specs.declared.went.Went as code
 use Rattle.aio_core.specs.declared.went.Went.TheVariants as went

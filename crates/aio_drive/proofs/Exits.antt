@@ -15,7 +15,8 @@ use Rattle.model_machine.specs.Theorem.{Output}
 use Rattle.model_machine.specs.Turn.{is_stalled, turn}
 use Rattle.model_machine.specs.Went.{Stops}
 use Rattle.aio_wire.specs.declared.stop.Stop.TheVariants as stop
-use Rattle.aio_core.specs.Turned.{OfFailing, StallsAs, StandsFor, TurnedBy, TurnsTo, UnlessFailed, untaken}
+use Rattle.aio_core.specs.Turned.{StandsFor, TurnedBy, TurnsTo, untaken}
+use Rattle.aio_core.specs.Turning.{OfFailing, StallsAs, UnlessFailed}
 use Rattle.aio_core.specs.declared.kernel.Kernel.{Kernel}
 use Rattle.aio_core.specs.declared.went.Went as code
 use Rattle.aio_core.specs.declared.went.Went.TheVariants as went

@@ -10,7 +10,8 @@ use Rattle.model_machine.specs.State.{State}
 use Rattle.model_machine.specs.Theorem.{Output, WritesWhole}
 use Rattle.model_machine.specs.Transcript.{status_of}
 use Rattle.aio_wire.specs.declared.stop.Stop.TheVariants as stop
-use Rattle.aio_core.specs.Turned.{GoesOn, OfFailing, StandsFor, Takes, TurnedBy, TurnsTo, UnlessFailed, untaken}
+use Rattle.aio_core.specs.Turned.{GoesOn, StandsFor, TurnedBy, TurnsTo, untaken}
+use Rattle.aio_core.specs.Turning.{OfFailing, Takes, UnlessFailed}
 use Rattle.aio_core.specs.declared.kernel.Kernel.{Kernel}
 use Rattle.aio_core.specs.declared.went.Went as code
 use Rattle.aio_core.specs.declared.went.Went.TheVariants as went

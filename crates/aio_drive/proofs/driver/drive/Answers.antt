@@ -136,21 +136,21 @@ pub returns-clause-ok : goal.returns-clause-ok
 returns-clause-ok g c =
     let l = c.loop-made in
     let (left, past, taken, running) = l.invariant.running in
-    IfOk-weaker c.write_end-3.result _ _
+    IfOk-weaker c.write_end-2.result _ _
     (last_ok (g.W.Wire.seen c.args.wire.now) (g.W.Wire.seen l.wire) running c.loop-made-test.false (λ fails. absurd (let (none, here) = l.invariant.fails fails in omega arith), l.invariant.quiet)
-    c.args.fault.now (g.K.Sink.seen c.write_end-3.new.out) c.in_ok-end.end c.in_ok-end.ensures c.new-2.result.events
+    c.args.fault.now (g.K.Sink.seen c.write_end-2.new.out) c.in_ok-end.end c.in_ok-end.ensures c.new-2.result.events
     (ap (λ (l : EventList). l.events) c.new-2.ensures))
-    c.write_end-3.ensures.ok
+    c.write_end-2.ensures.ok
 
 pub returns-clause-err : goal.returns-clause-err
 returns-clause-err g c =
     let l = c.loop-made in
     let (left, past, taken, running) = l.invariant.running in
-    IfErr-weaker c.write_end-3.result _ _
+    IfErr-weaker c.write_end-2.result _ _
     (last_err (g.W.Wire.seen c.args.wire.now) (g.W.Wire.seen l.wire) running c.loop-made-test.false (λ fails. absurd (let (none, here) = l.invariant.fails fails in omega arith), l.invariant.quiet)
-    c.args.fault.now (g.K.Sink.seen c.write_end-3.new.out) c.in_ok-end.end c.in_ok-end.ensures c.new-2.result.events
+    c.args.fault.now (g.K.Sink.seen c.write_end-2.new.out) c.in_ok-end.end c.in_ok-end.ensures c.new-2.result.events
     (ap (λ (l : EventList). l.events) c.new-2.ensures))
-    c.write_end-3.ensures.err
+    c.write_end-2.ensures.err
 
 pub returns-in-Nothing-clause-keeps : goal.returns-in-Nothing-clause-keeps
 returns-in-Nothing-clause-keeps g c = g.met.W.Wire.keeps_on c.args.wire.now c.loop-made.wire c.turn.new.wire c.loop-made.invariant.keeps c.turn.ensures.keeps
