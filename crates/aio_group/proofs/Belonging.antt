@@ -1,7 +1,7 @@
 -- What groups keep goes on belonging to the parts.
 use Rattle.std.proofs.Common.{◌≡◌, ℕ, ◌<◌, ◌⊎◌, List, [], ◌∷◌, ◌++◌, Some, None, length, slice_get, slice_set, ap, sym, subst, ◌∙◌, inl, inr, arith}
 use Rattle.std.proofs.lemmas.Bool.{cases_eq}
-use Rattle.std.specs.List.{AllByRecursion as All}
+use Rattle.std.specs.List.{AllByRecursion as Each}
 use Rattle.law_cancel.proofs.Lookups.{get-set_same, get-set_other, get-push_other, get-push_last}
 use Rattle.aio_task.specs.View.{View}
 use Rattle.aio_group.specs.GoesOn.{Moves}
@@ -32,7 +32,7 @@ module _ (v w : View) (moves : Moves v w) where
 pub belongs_as : (v : View) (a b : Held) → b.children ≡ a.children → (b.exit_future ≡ a.exit_future) ⊎ (b.exit_future ≡ None)
     → Belongs v a → Belongs v b
 belongs_as v a b c f is = record {
-  children = subst (λ cs. All (λ task. task < length v.tasks) cs) (sym c) is.children;
+  children = subst (λ cs. Each (λ task. task < length v.tasks) cs) (sym c) is.children;
   exit = λ future e. at f future e;
 }
   where

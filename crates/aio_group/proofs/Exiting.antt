@@ -2,7 +2,7 @@
 use Rattle.std.proofs.Common.{◌≡◌, ℕ, ◌+◌, ◌⊎◌, ◌&&◌, Bool, true, false, not, List, [], ◌∷◌, ◌++◌, Option, Some, None, length, map, slice_get, slice_set, refl, ap, sym, subst, ◌∙◌, arith, length-append}
 use Rattle.std.specs.Option.{option_map_or}
 use Rattle.std.proofs.lemmas.Bool.{false≢true}
-use Rattle.std.specs.List.{AllByRecursion as All, filter_map, cons_option}
+use Rattle.std.specs.List.{AllByRecursion as Each, filter_map, cons_option}
 use Rattle.model_value.specs.Value.{Exc}
 use Rattle.model_loop.specs.Children.{failures}
 use Rattle.model_loop.specs.Futures.{new_plain, next_future}
@@ -39,7 +39,7 @@ failures_are f (task ∷ tasks) (error ∷ errors) e =
     let others : map f tasks ≡ map Some errors = cc in
     ap (λ o. cons_option o (filter_map f tasks)) first ∙ ap (λ es. error ∷ es) (failures_are f tasks errors others)
 
-failures_seen : (t : Ties) (v : View) (p : Parts) (tasks : List ℕ) → Keeps t v p → All (IsLive t p) tasks
+failures_seen : (t : Ties) (v : View) (p : Parts) (tasks : List ℕ) → Keeps t v p → Each (IsLive t p) tasks
     → failures (parts v) tasks ≡ failures p tasks
 failures_seen t v p [] k live = refl
 failures_seen t v p (task ∷ tasks) k live =
@@ -178,7 +178,7 @@ module _ (a b : Held) (body : Option Exc) (v w x : View) (step : ℕ → Loop �
   -- children are left
   pub exit_goes_on_waiting : (future : ℕ) → is_empty a.children ≡ false → future ≡ length v.futures
       → w ≡ record v { futures = v.futures ++ record { kind = Plain; outcome = None; callbacks = [] } ∷ [] } → WaitsMade (parts v)
-      → ((id : ℕ) (l : Loop) → WaitsMade l.parts → All (IsMade l.parts) (group_of l id).children
+      → ((id : ℕ) (l : Loop) → WaitsMade l.parts → Each (IsMade l.parts) (group_of l id).children
       → slice_get l.groups id ≡ Some (group_of l id) → Passes (step id) l)
       → Steps a w b x step
       → Exits a v (gone_on (next.Waits future) b) x whole (answer_of (next.Waits future) b)
@@ -190,8 +190,8 @@ module _ (a b : Held) (body : Option Exc) (v w x : View) (step : ℕ → Loop �
         keeps = subst (λ y. Keeps t y (new_plain p)) (sym plain) (kept_new_plain t v p s.keeps);
         each = groups_on t t p (new_plain p) (new_plain_on p) refl groups l.groups s.each;
       } in
-      let all : All (IsMade p) (group_of l id).children =
-      subst (λ cs. All (IsMade p) cs) (children_same h.is)
+      let all : Each (IsMade p) (group_of l id).children =
+      subst (λ cs. Each (IsMade p) cs) (children_same h.is)
       (all_to (IsLive t p) (IsMade p) a.children (λ task live. record { made = live.made; future = live.future }) h.is.children) in
       let pass = passes id l (waits_seen t v p s.keeps made) all h.at in
       let m = step id l in
@@ -274,7 +274,7 @@ is_going false ended e = absurd (false≢true e)
 
 module _ (a b : Held) (body : Option Exc) (v w x : View) (step : ℕ → Loop → Loop) (whole : ℕ → Loop → Exited)
     (is_whole : (id : ℕ) (l : Loop) → whole id l ≡ wait_or_end id (step id l))
-    (passes : (id : ℕ) (l : Loop) → WaitsMade l.parts → All (IsMade l.parts) (group_of l id).children
+    (passes : (id : ℕ) (l : Loop) → WaitsMade l.parts → Each (IsMade l.parts) (group_of l id).children
     → slice_get l.groups id ≡ Some (group_of l id) → Passes (step id) l)
     (steps : Steps a w b x step) where
   exits_by : (n : Next) → IsNext a body v n w → Left a b body → a.ended ≡ false

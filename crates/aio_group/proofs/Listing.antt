@@ -3,7 +3,7 @@ use Rattle.std.proofs.Common.{◌≡◌, ℕ, zero, suc, ◌<◌, ◌≤◌, ◌
 use Rattle.std.specs.Prelude.{◌==◌, nat_eq, slice_index_or}
 use Rattle.std.specs.BTreeMap.{is_at}
 use Rattle.std.specs.BTreeSet.{insert_key}
-use Rattle.std.specs.List.{AllByRecursion as All, list_any}
+use Rattle.std.specs.List.{AllByRecursion as Each, list_any}
 use Rattle.std.specs.List.Sorted.{IsStrictlySortedBy}
 use Rattle.std.specs.Ordering.{is_eq, nat_cmp}
 use Rattle.std.specs.Set.{remove_key}
@@ -43,19 +43,19 @@ get_past [] i m = refl
 get_past (y ∷ xs) zero m = absurd (omega arith)
 get_past (y ∷ xs) (suc i) m = get_past xs i (omega arith)
 
-pub all_push : {X : Type 0} (P : X → Type 0) (xs : List X) (x : X) → All P xs → P x → All P (xs ++ x ∷ [])
+pub all_push : {X : Type 0} (P : X → Type 0) (xs : List X) (x : X) → Each P xs → P x → Each P (xs ++ x ∷ [])
 all_push P [] x a h = (h, tt)
 all_push P (y ∷ xs) x a h = (a.0, all_push P xs x a.1 h)
 
-pub all_filter : {X : Type 0} (P : X → Type 0) (test : X → Bool) (xs : List X) → All P xs → All P (filter test xs)
+pub all_filter : {X : Type 0} (P : X → Type 0) (test : X → Bool) (xs : List X) → Each P xs → Each P (filter test xs)
 all_filter P test [] a = tt
 all_filter P test (x ∷ xs) a = go (test x) (all_filter P test xs a.1)
   where
-    go : (b : Bool) → All P (filter test xs) → All P (cond b (x ∷ filter test xs) (filter test xs))
+    go : (b : Bool) → Each P (filter test xs) → Each P (cond b (x ∷ filter test xs) (filter test xs))
     go true others = (a.0, others)
     go false others = others
 
-pub all_to : {X : Type 0} (P Q : X → Type 0) (xs : List X) → ((x : X) → P x → Q x) → All P xs → All Q xs
+pub all_to : {X : Type 0} (P Q : X → Type 0) (xs : List X) → ((x : X) → P x → Q x) → Each P xs → Each Q xs
 all_to P Q [] f a = tt
 all_to P Q (x ∷ xs) f a = (f x a.0, all_to P Q xs f a.1)
 
@@ -96,11 +96,11 @@ has_seen-keys (x ∷ xs) n =
     rw (e, has_seen-keys xs n) refl
 
 -- a greater number goes last
-pub insert_last : (xs : List ℕ) (n : ℕ) → All (λ x. x < n) xs → insert_key nat_cmp xs n ≡ xs ++ n ∷ []
+pub insert_last : (xs : List ℕ) (n : ℕ) → Each (λ x. x < n) xs → insert_key nat_cmp xs n ≡ xs ++ n ∷ []
 insert_last [] n below = refl
 insert_last (x ∷ xs) n below = rw (greater n x below.0) (ap (λ ys. x ∷ ys) (insert_last xs n below.1))
 
-later_stay : (xs : List ℕ) (n : ℕ) → All (λ y. nat_cmp n y ≡ Less) xs → filter (λ x. not (x == n)) xs ≡ xs
+later_stay : (xs : List ℕ) (n : ℕ) → Each (λ y. nat_cmp n y ≡ Less) xs → filter (λ x. not (x == n)) xs ≡ xs
 later_stay [] n l = refl
 later_stay (x ∷ xs) n l =
     let other : (x == n) ≡ false = sym (at_equal n x) ∙ ap is_eq l.0 in
@@ -115,11 +115,11 @@ remove_only (x ∷ xs) n sorted = rw (at_equal n x) (go (cases_eq x n) (remove_o
         → cond (x == n) xs (x ∷ remove_key (is_at (nat_cmp n)) xs) ≡ cond (not (x == n)) (x ∷ filter (λ y. not (y == n)) xs) (filter (λ y. not (y == n)) xs)
     go (inl e) ih =
         let later = sorted_head nat_cmp x xs sorted in
-        rw (eq-eqb x n e) (sym (later_stay xs n (subst (λ m. All (λ y. nat_cmp m y ≡ Less) xs) e later)))
+        rw (eq-eqb x n e) (sym (later_stay xs n (subst (λ m. Each (λ y. nat_cmp m y ≡ Less) xs) e later)))
     go (inr e) ih = rw (ne_eqb x n e) (ap (λ ys. x ∷ ys) ih)
 
 -- what was put last is taken out again
-pub taken_again : (xs : List ℕ) (n : ℕ) → All (λ x. x < n) xs → filter (λ x. not (x == n)) (xs ++ n ∷ []) ≡ xs
+pub taken_again : (xs : List ℕ) (n : ℕ) → Each (λ x. x < n) xs → filter (λ x. not (x == n)) (xs ++ n ∷ []) ≡ xs
 taken_again [] n below = rw (eq-eqb n n refl) refl
 taken_again (x ∷ xs) n below =
     let m = below.0 in

@@ -1,7 +1,7 @@
 -- What groups in code stand for goes on with the parts, and with a change of one group.
 use Rattle.std.proofs.Common.{◌≡◌, ℕ, ◌≤◌, ◌⊎◌, List, [], ◌∷◌, Option, Some, None, map, slice_get, slice_set, refl, ap, sym, subst, ◌∙◌, inl, inr, arith}
 use Rattle.std.proofs.lemmas.Bool.{cases_eq}
-use Rattle.std.specs.List.{AllByRecursion as All}
+use Rattle.std.specs.List.{AllByRecursion as Each}
 use Rattle.model_value.specs.declared.outcome.Outcome.TheVariants.{Value as Returned, Failed, Cancelled}
 use Rattle.model_value.specs.Value.{Outcome, Exc}
 use Rattle.model_loop.specs.Futures.{future_outcome}
@@ -60,7 +60,7 @@ module _ (t u : Ties) (p q : Parts) (on : GoesOn p q) (gone : u.gone ≡ t.gone)
       ap (λ id. failure_in (future_outcome q id)) (on.own task live.made)
       ∙ ap failure_in (on.failures (future_of p task) fault was)
 
-  pub errors_on : (failed : List ℕ) (errors : List Exc) → All (IsLive t p) failed → map (failure_of p) failed ≡ map Some errors
+  pub errors_on : (failed : List ℕ) (errors : List Exc) → Each (IsLive t p) failed → map (failure_of p) failed ≡ map Some errors
       → map (failure_of q) failed ≡ map Some errors
   errors_on [] errors live e = e
   errors_on (task ∷ failed) [] live e = absurd (cc)

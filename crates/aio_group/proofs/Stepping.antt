@@ -3,7 +3,7 @@ use Rattle.std.proofs.Common.{◌≡◌, ℕ, ◌<◌, ◌⊎◌, Bool, true, fa
 use Rattle.std.specs.Prelude.{◌==◌, ◌-◌, is_none, is_some, if◌then◌else◌}
 use Rattle.std.specs.Option.{option_map_or}
 use Rattle.std.proofs.lemmas.Bool.{cases_Bool, cases_eq, eq-eqb, false≢true, ne_eqb}
-use Rattle.std.specs.List.{AllByRecursion as All}
+use Rattle.std.specs.List.{AllByRecursion as Each}
 use Rattle.model_value.specs.declared.input.Input.TheVariants.{Send, Throw}
 use Rattle.model_value.specs.declared.outcome.Outcome.TheVariants.{Value as Returned}
 use Rattle.model_value.specs.Input.{Input}
@@ -360,7 +360,7 @@ failure_same t v p task k live =
     ap (λ (id : ℕ). failure_in (future_outcome (parts v) id)) (kept_future_of t v p task k)
     ∙ ap failure_in (kept_outcome t v p (future_of p task) k live.there)
 
-live_child : (P : ℕ → Type 0) (child : ℕ) (children : List ℕ) → has_seen children child ≡ true → All P children → P child
+live_child : (P : ℕ → Type 0) (child : ℕ) (children : List ℕ) → has_seen children child ≡ true → Each P children → P child
 live_child P child [] e all = absurd (cc)
 live_child P child (other ∷ children) e all = go (cases_eq child other) (λ d. live_child P child children d all.1)
   where
@@ -380,7 +380,7 @@ module _ (a : Held) (v : View) (child : ℕ) (is_child : has_seen a.children chi
   hears_keeps t p group is None e = record {
     same = ap (λ (g : Group). record g { children = without child g.children }) is.same;
     children = all_filter (IsLive t p) (λ other. not (other == child)) a.children is.children;
-    failed = subst (λ ts. All (IsLive t p) ts) (sym (append-nil a.failed)) is.failed;
+    failed = subst (λ ts. Each (IsLive t p) ts) (sym (append-nil a.failed)) is.failed;
     faults = λ going. let f = is.faults going in record {
       errors = ap (map (failure_of p)) (append-nil a.failed) ∙ f.errors;
       body = f.body;

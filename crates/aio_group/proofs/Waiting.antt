@@ -3,7 +3,7 @@ use Rattle.std.proofs.Common.{◌≡◌, ℕ, zero, suc, ◌<◌, ◌≤◌, ◌
 use Rattle.std.specs.Prelude.{◌==◌, is_some, if◌then◌else◌}
 use Rattle.std.proofs.Math.ListN.{length-set}
 use Rattle.std.proofs.lemmas.Bool.{cases_lt, lt-ltb, le-ltb}
-use Rattle.std.specs.List.{AllByRecursion as All}
+use Rattle.std.specs.List.{AllByRecursion as Each}
 use Rattle.std.specs.Option.{option_map_or}
 use Rattle.model_value.specs.Action.{Action}
 use Rattle.model_value.specs.declared.input.Input.TheVariants.{Send, Throw}
@@ -127,21 +127,21 @@ abbrev Commutes : Canceller → Type 0
 Commutes F = (id : ℕ) (s : List ℕ) (p : Parts) → WaitsMade p → id < next_future p → F id s (new_plain p) ≡ grown (F id s p)
 
 each_commutes : (F : Canceller) → IsRow F → Commutes F → (ids : List ℕ) (s : List ℕ) (p : Parts) → WaitsMade p
-    → All (λ id. id < next_future p) ids → cancel_each F ids s (new_plain p) ≡ grown (cancel_each F ids s p)
+    → Each (λ id. id < next_future p) ids → cancel_each F ids s (new_plain p) ≡ grown (cancel_each F ids s p)
 each_commutes F row c [] s p made below = refl
 each_commutes F row c (id ∷ ids) s p made below =
     let l = goes_leaves (row id s p) in
     let now = (F id s p).parts in
     let others = each_commutes F row c ids (F id s p).seen now (waits_left p now l made)
-    (subst (λ (n : ℕ). All (λ i. i < n) ids) (sym l.made) below.1) in
+    (subst (λ (n : ℕ). Each (λ i. i < n) ids) (sym l.made) below.1) in
     rw (c id s p made below.0, others) refl
 
 -- members were made before
-members_below : (id bound : ℕ) (members : List ℕ) → id < bound → All (λ i. i < bound) (made_before id members)
+members_below : (id bound : ℕ) (members : List ℕ) → id < bound → Each (λ i. i < bound) (made_before id members)
 members_below id bound [] m = tt
 members_below id bound (x ∷ members) m = go (cases_lt x id) (members_below id bound members m)
   where
-    go : (x < id) ⊎ (id ≤ x) → All (λ i. i < bound) (made_before id members) → All (λ i. i < bound) (made_before id (x ∷ members))
+    go : (x < id) ⊎ (id ≤ x) → Each (λ i. i < bound) (made_before id members) → Each (λ i. i < bound) (made_before id (x ∷ members))
     go (inl l) others = rw (lt-ltb x id l) (omega (arith, l, m), others)
     go (inr l) others = rw (le-ltb x id l) others
 
@@ -256,7 +256,7 @@ request_each-leaves by (task ∷ tasks) p =
     leaves_on p first (request_each by tasks first).parts (request_each-leaves by tasks first)
     (request_where-leaves (lives p task) by (future_of p task) p)
 
-pub request_each-new : (by : Origin) (tasks : List ℕ) (p : Parts) → WaitsMade p → All (IsMade p) tasks
+pub request_each-new : (by : Origin) (tasks : List ℕ) (p : Parts) → WaitsMade p → Each (IsMade p) tasks
     → request_each by tasks (new_plain p) ≡ booked_new (request_each by tasks p)
 request_each-new by [] p made all = refl
 request_each-new by (task ∷ tasks) p made all =
@@ -284,7 +284,7 @@ pub record Passes (step : Loop → Loop) (l : Loop) : Type 0 where
   pub leaves : Leaves l.parts (step l).parts
 
 abbrev AreMade : ℕ → Loop → Type 0
-AreMade id l = All (IsMade l.parts) (group_of l id).children
+AreMade id l = Each (IsMade l.parts) (group_of l id).children
 
 same_leaves : (p : Parts) → Leaves p p
 same_leaves p = record { waiters = λ t. refl; made = refl }
@@ -352,8 +352,8 @@ module _ (id : ℕ) (l : Loop) where
   take_back_made false at all = all
   take_back_made true at all =
       let b = cancelling taken.parts group.parent == 0 in
-      subst (λ cs. All (IsMade (dropped_if b taken).parts) cs) (sym (dropped_children b at))
-      (subst (λ q. All (IsMade q) group.children) (sym (dropped_parts b))
+      subst (λ cs. Each (IsMade (dropped_if b taken).parts) cs) (sym (dropped_children b at))
+      (subst (λ q. Each (IsMade q) group.children) (sym (dropped_parts b))
       (all_to (IsMade l.parts) (IsMade taken.parts) group.children (made_on l.parts taken.parts (uncancel_on group.parent l.parts)) all))
 
 pub begun_passes : (raised : Option Exc) (id : ℕ) (l : Loop) → WaitsMade l.parts → AreMade id l → slice_get l.groups id ≡ Some (group_of l id)
@@ -364,7 +364,7 @@ begun_passes raised id l made all at =
     let there : group_of begin id ≡ g = group_same id g l at in
     let now : slice_get begin.groups id ≡ Some (group_of begin id) =
     get-set_same l.groups id (group_of l id) g at ∙ ap Some (sym there) in
-    let ready : AreMade id begin = subst (λ cs. All (IsMade l.parts) cs) (sym (ap (λ (h : Group). h.children) there)) all in
+    let ready : AreMade id begin = subst (λ cs. Each (IsMade l.parts) cs) (sym (ap (λ (h : Group). h.children) there)) all in
     let back = take_back_passes id begin (group_of begin id).requested in
     let m = take_back id begin in
     let first : Passes (begin_exit raised id) l = record { same = refl; leaves = same_leaves l.parts } in
@@ -398,7 +398,7 @@ module _ (fault : Exc) (id : ℕ) (l : Loop) (at : slice_get l.groups id ≡ Som
       ∙ ap (λ (h : Group). h.children) woken_there
 
   aborted : WaitsMade l.parts → AreMade id l → Passes (abort id) kept
-  aborted made all = abort_passes id kept made (subst (λ cs. All (IsMade l.parts) cs) (sym kept_children) all)
+  aborted made all = abort_passes id kept made (subst (λ cs. Each (IsMade l.parts) cs) (sym kept_children) all)
 
   heard_unless : (b : Bool) → WaitsMade l.parts → AreMade id l → Passes (λ m. keep_and_abort_unless b fault id (set_group id woken m)) l
   heard_unless true made all = record { same = refl; leaves = same_leaves l.parts }

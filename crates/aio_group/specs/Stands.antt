@@ -1,6 +1,6 @@
 -- How groups in code stand for the machine's, beside the parts.
 use Rattle.std.specs.Prelude.{◌≡◌, ℕ, ◌<◌, true, false, List, [], Option, Some, None, length, map, slice_get, slice_set}
-use Rattle.std.specs.List.{AllByRecursion as All}
+use Rattle.std.specs.List.{AllByRecursion as Each}
 use Rattle.model_loop.specs.Parts.{Parts}
 use Rattle.model_loop.specs.Loop.{Group, Loop}
 use Rattle.model_loop.specs.Futures.{next_future}
@@ -19,7 +19,7 @@ IsOwn v future = (future < length v.futures) × (owner_at (slice_get v.futures f
 
 -- the tasks that a group keeps were made in these parts, and so was the future on which its exit waits
 pub record Belongs (v : View) (held : Held) : Type 0 where
-  pub children : All (λ task. task < length v.tasks) held.children
+  pub children : Each (λ task. task < length v.tasks) held.children
   pub exit : (future : ℕ) → held.exit_future ≡ Some future → IsOwn v future
 
 abbrev pub AllBelong : View → List Held → Type 0
@@ -44,8 +44,8 @@ bare group = record group { made = []; errors = []; body = None; kept = None }
 
 pub record KeepsGroup (t : Ties) (p : Parts) (held : Held) (group : Group) : Type 0 where
   pub same : shown held ≡ bare group
-  pub children : All (IsLive t p) held.children
-  pub failed : All (IsLive t p) held.failed
+  pub children : Each (IsLive t p) held.children
+  pub failed : Each (IsLive t p) held.failed
   pub faults : held.ended ≡ false → KeepsFaults p held group
   -- only an exit that has begun ends, and only one that hasn't ended waits
   pub early : held.exiting ≡ false → (held.ended ≡ false) × (held.exit_future ≡ None)

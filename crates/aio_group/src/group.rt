@@ -1,6 +1,6 @@
 //! One task group.
 ghost use Rattle.std.specs.Prelude.{◌≡◌, ◌+◌, ◌||◌, ◌<◌, ◌==◌, ◌++◌, ◌∷◌, [], ℕ, true, false, not, Option, Some, None, OnOk, OnErr, filter, is_some, if◌then◌else◌};
-ghost use Rattle.std.specs.List.{AllByRecursion as All};
+ghost use Rattle.std.specs.List.{AllByRecursion as Each};
 ghost use Rattle.std.specs.Option.{option_copied, unwrap_or};
 ghost use Rattle.model_loop.specs.Cancel.{has_seen};
 ghost use Rattle.model_loop.specs.Groups as plain;
@@ -165,7 +165,7 @@ impl Group {
 
     /// A child whose number is greater than all others, and the place of its failure.
     pub fn add(&mut self, task: u32) -> Result<(), Memory>
-        requires { All (λ child. child < task) self.old.children }
+        requires { Each (λ child. child < task) self.old.children }
         ensures after { OnOk result (self.new ≡ record self.old { children = self.old.children ++ task ∷ [] }) }
         ensures err { OnErr result (self.new ≡ self.old) }
     {

@@ -1,7 +1,7 @@
 -- What the calls on groups require holds where a sound state is stood for.
 use Rattle.std.proofs.Common.{◌≡◌, ℕ, zero, suc, ◌<◌, Bool, true, false, cond, not, ◌&&◌, ◌||◌, List, [], ◌∷◌, Option, Some, None, length, slice_get, ◌∙◌, refl, sym, ap, subst, arith}
 use Rattle.std.specs.Prelude.{nat_eq}
-use Rattle.std.specs.List.{AllByRecursion as All, list_any}
+use Rattle.std.specs.List.{AllByRecursion as Each, list_any}
 use Rattle.std.proofs.Props.{props}
 use Rattle.std.proofs.lemmas.Bool.{eq-eqb}
 use Rattle.std.proofs.lemmas.List.Sums.{sum_by-cons}
@@ -36,11 +36,11 @@ use Rattle.law_kept.proofs.Telling.{next_kept, owner_kept}
 use Rattle.aio_serve.proofs.GroupsOn.{groups_stand}
 
 -- ---- that groups belong to the parts has one proof
-made_prop : (n : ℕ) (tasks : List ℕ) → IsProp (All (λ task. task < n) tasks)
+made_prop : (n : ℕ) (tasks : List ℕ) → IsProp (Each (λ task. task < n) tasks)
 made_prop n [] = hlevel
 made_prop n (task ∷ tasks) =
     let first : IsProp (task < n) = hlevel props in
-    let others : IsProp (All (λ it. it < n) tasks) = made_prop n tasks in
+    let others : IsProp (Each (λ it. it < n) tasks) = made_prop n tasks in
     hlevel (first, others)
 
 exit_prop : (v : View) (held : Held) → IsProp ((future : ℕ) → held.exit_future ≡ Some future → IsOwn v future)
