@@ -1,9 +1,2 @@
-pub mod Driving
-pub mod Fronts
-pub mod Journals
-pub mod LinesLeft
 pub mod Outcomes
-pub mod Told
-pub mod Turning
-pub mod Turns
 pub mod TextFronts

@@ -1,6 +1,8 @@
 -- From a driven run to what the program may write.
 use Rattle.std.specs.Prelude.{codes}
-use Rattle.std.proofs.Common.{◌≡◌, ℕ, List, [], ◌∷◌, ◌++◌, Option, Some, None, ◌⊎◌, refl, ap, sym, ◌∙◌, subst, inl, inr, append_assoc}
+use Rattle.std.specs.Fmt.{decimal}
+use Rattle.std.proofs.lemmas.Fmt.{decimal_digit}
+use Rattle.std.proofs.Common.{◌≡◌, ℕ, Bool, true, List, [], ◌∷◌, ◌++◌, Option, Some, None, ◌⊎◌, refl, ap, sym, ◌∙◌, subst, inl, inr, arith}
 use Rattle.model_tree.specs.Syntax.{Program}
 use Rattle.model_text.specs.declared.cause.Cause.{Cause}
 use Rattle.model_text.specs.Canonical.{canonical}
@@ -8,25 +10,28 @@ use Rattle.model_text.specs.Causes.{cause_number}
 use Rattle.model_text.specs.FirstPass.{fault_at}
 use Rattle.model_text.specs.Scripts.{script_of}
 use Rattle.model_text.specs.SecondPass.{Judged}
-use Rattle.model_wire.specs.Journal.{Entry, entries_of}
-use Rattle.model_wire.specs.Told.{Agrees, Rose, ShelfSeen, SinkSeen, WireSeen, NoneFailed, SinkFailed, grown, took}
-use Rattle.model_machine.specs.Theorem.{Output, IsFrontOf, MayBegin, StopsShort, SinkStops, WritesWhole}
-use Rattle.model_straight.specs.Straight.{Line}
-use Rattle.model_straight.specs.StraightScripts.{straight_of}
-use Rattle.model_straight.specs.Program.{output_of, faulted, script_refused, turn_limit, FileSays, JournalSays, JournalBegins, MayRun, MayRunIf, MayRunScript, MayReplay, MayCheck, checked}
-use Rattle.model_straight.specs.Run.{run}
-use Rattle.model_straight.specs.Transcript.{line, lines_of_events}
-use Rattle.aio_run.specs.Drive.{Ran, RanInPart, RanSoFar, Stopped}
-use Rattle.aio_run.specs.JournalWire.{left_of}
-use Rattle.aio_run.specs.Outcome.{EndsEarly}
+use Rattle.model_wire.specs.declared.event.End.TheVariants as end
+use Rattle.model_wire.specs.Journal.{Entry}
+use Rattle.model_wire.specs.JournalText.{entries_of}
+use Rattle.model_wire.specs.Told.{Agrees, FileFailed, Rose, ShelfSeen, SinkSeen, WireSeen, NoneFailed, took}
+use Rattle.model_wire.specs.Trace.{line}
+use Rattle.model_machine.specs.Program.{Manner, script_refused, script_failed, FileSays, JournalSays, JournalBegins, MayRun, MayRunIf, MayRunScript, MayReplay, MayCheck, checked, not_run}
+use Rattle.model_machine.specs.Served.{is_served}
+use Rattle.model_machine.specs.Theorem.{Output, MayBegin, WritesWhole}
+use Rattle.aio_memwire.specs.declared.buffers.Buffers.{Buffers}
+use Rattle.aio_memwire.specs.JournalWire.{left_of, seen_of}
 use Rattle.aio_memwire.specs.Reading.{IsFront}
+use Rattle.aio_drive.specs.Drive.{MayDrive, Undisturbed}
+use Rattle.aio_drive.specs.Outcome.{EndsEarly}
+use Rattle.aio_drive.specs.Writing.{StopsWriting}
+use Rattle.aio_drive.specs.declared.driver.Manner as code
+use Rattle.aio_drive.specs.declared.halt.Halt.{Halt}
+use Rattle.aio_drive.specs.declared.halt.Halt.TheVariants.{Memory, Sink}
+use Rattle.aio_drive.proofs.Fronts.{took-nil}
+use Rattle.aio_run.specs.Manner.{manner_of}
 use Rattle.aio_run.specs.Script.{SpellsScript, IsMissing, Tells, refusal_text}
 use Rattle.aio_run.specs.declared.script.NoScript.{NoScript}
 use Rattle.aio_run.specs.declared.script.NoScript.TheVariants.{Refused, Failed, Memory as NoMemory}
-use Rattle.aio_run.specs.Writing.{StopsWriting}
-use Rattle.aio_run.specs.declared.halt.Halt.{Halt}
-use Rattle.aio_run.specs.declared.halt.Halt.TheVariants.{Memory, Sink, Wire}
-use Rattle.aio_run.proofs.Fronts.{failed_on, grown-nil, took-nil, took_on}
 use Rattle.aio_run.proofs.TextFronts.{spells_alike}
 
 -- what is told outright
@@ -48,100 +53,30 @@ begins_from None had rest agrees = tt
 begins_from (Some None) had rest agrees = append-nothing had rest (outright [] (had ++ rest) agrees)
 begins_from (Some (Some text)) had rest agrees = (rest, outright (entries_of text) (had ++ rest) agrees)
 
--- a file that is told to be missing, or not
-missing_or : (told : Option (Option (List ℕ))) → (told ≡ Some None) ⊎ (told ≡ Some None → ⊥)
-missing_or None = inr (λ e. cc e)
-missing_or (Some None) = inl refl
-missing_or (Some (Some text)) = inr (λ e. cc e)
-
 none_failed : (old new : ShelfSeen) → new ≡ old → NoneFailed old new
 none_failed old new same = ap (λ (s : ShelfSeen). s.faults) same
 
--- a program's replay over a journal of a shelf, by what is seen of the shelf before and after
-module _ (program : List Line) (old new : ShelfSeen) (journal : List ℕ) where
-  -- a run to its end
-  pub whole_from : (first last : SinkSeen) (status : ℕ) → (old.file journal ≡ Some None → ⊥) → new ≡ old
-      → Ran program (left_of (old.file journal) None) first last status → WritesWhole (MayRun old new program journal) first last status
-  whole_from first last status there same ran = (
-    output_of (run program ran.0 turn_limit),
-    inl (none_failed old new same, ran.0, says_from (old.file journal) ran.0 there ran.1, refl),
-    ran.2,
-    ran.3,
-  )
-
-  -- a front of a run
-  part_from : (front : List ℕ) → (old.file journal ≡ Some None → ⊥) → new ≡ old → RanInPart program (left_of (old.file journal) None) front
-      → MayBegin (MayRun old new program journal) (NoneFailed old new) front
-  part_from front there same ran = inr (
-    output_of (run program ran.0 turn_limit),
-    inl (none_failed old new same, ran.0, says_from (old.file journal) ran.0 there ran.1, refl),
-    ran.2,
-  )
-
-  short_from : (first last : SinkSeen) → (old.file journal ≡ Some None) ⊎ (old.file journal ≡ Some None → ⊥) → new ≡ old
-      → (old.file journal ≡ Some None → last ≡ first)
-      → (front : List ℕ) × RanInPart program (left_of (old.file journal) None) front × (last ≡ took first front)
-      → StopsShort (MayRun old new program journal) (NoneFailed old new) first last
-  short_from first last (inl missing) same none stops = ([], inl (refl, none_failed old new same), none missing ∙ sym (took-nil first))
-  short_from first last (inr there) same none stops = (stops.0, part_from stops.0 there same stops.1, stops.2)
-
-  failing_from : (first last : SinkSeen) → (old.file journal ≡ Some None) ⊎ (old.file journal ≡ Some None → ⊥) → new ≡ old
-      → (old.file journal ≡ Some None → last ≡ first)
-      → (front : List ℕ) × RanInPart program (left_of (old.file journal) None) front × SinkFailed front first last
-      → SinkStops (MayRun old new program journal) (NoneFailed old new) first last
-  failing_from first last (inl missing) same none stops = (
-    [],
-    inl (refl, none_failed old new same),
-    (ap (λ (s : SinkSeen). s.taken) (none missing) ∙ sym (grown-nil first.taken), stops.2.1),
-  )
-  failing_from first last (inr there) same none stops = (stops.0, part_from stops.0 there same stops.1, stops.2)
-
-  -- a run that stops for want of memory or at the sink; that it stops at the wire is told apart before
-  pub early_from : (halt : Halt) (first last : SinkSeen) (before now : WireSeen) → before.left ≡ left_of (old.file journal) None
-      → (halt ≡ Wire → ⊥) → new ≡ old → (old.file journal ≡ Some None → last ≡ first) → Stopped program before now first last halt
-      → EndsEarly (MayRun old new program journal) (NoneFailed old new) first last halt
-  early_from Memory first last before now told other same none stopped =
-      short_from first last (missing_or (old.file journal)) same none
-      (stopped.0, subst (λ (t : Option (List Entry)). RanInPart program t stopped.0) told stopped.1, stopped.2)
-  early_from Sink first last before now told other same none stopped =
-      failing_from first last (missing_or (old.file journal)) same none
-      (stopped.0, subst (λ (t : Option (List Entry)). RanInPart program t stopped.0) told stopped.1, stopped.2)
-  early_from Wire first last before now told other same none stopped = absurd (other refl)
-
-  module _ (first mid last : SinkSeen) (fault_line : List ℕ) (rose : Rose (old.faults journal) (new.faults journal))
-      (ran : RanSoFar program (left_of (old.file journal) None) first mid) (text : fault_line ≡ line (codes "! fault shelf")) where
-    may_fault : MayRun old new program journal (faulted (run program ran.0 turn_limit).events)
-    may_fault = inr (rose, ran.0, begins_from (old.file journal) ran.0 ran.1.0 ran.1.1, ran.2, refl)
-
-    -- the fault's line behind what happened
-    pub fault_from : (status : ℕ) → status ≡ 9 → last ≡ took mid fault_line → WritesWhole (MayRun old new program journal) first last status
-    fault_from status nine wrote =
-        let lines = lines_of_events (run program ran.0 turn_limit).events in (
-          faulted (run program ran.0 turn_limit).events,
-          may_fault,
-          took_on first mid last lines fault_line ran.3 wrote ∙ ap (λ (t : List ℕ). took first (lines ++ t)) text,
-          nine,
-        )
-
-    fault_begins : (front : List ℕ) → IsFrontOf front fault_line
-        → MayBegin (MayRun old new program journal) (NoneFailed old new) (lines_of_events (run program ran.0 turn_limit).events ++ front)
-    fault_begins front part =
-        let lines = lines_of_events (run program ran.0 turn_limit).events in
-        inr (
-          faulted (run program ran.0 turn_limit).events,
-          may_fault,
-          (part.0, append_assoc lines front part.0 ∙ ap (λ (t : List ℕ). lines ++ t) (part.1 ∙ text)),
-        )
-
-    pub fault_early : (halt : Halt) → StopsWriting fault_line mid last halt
-        → EndsEarly (MayRun old new program journal) (NoneFailed old new) first last halt
-    fault_early Memory stops =
-        let lines = lines_of_events (run program ran.0 turn_limit).events in
-        (lines ++ stops.0, fault_begins stops.0 stops.1, took_on first mid last lines stops.0 ran.3 stops.2)
-    fault_early Sink stops =
-        let lines = lines_of_events (run program ran.0 turn_limit).events in
-        (lines ++ stops.0, fault_begins stops.0 stops.1, failed_on first mid last lines stops.0 ran.3 stops.2)
-    fault_early Wire stops = absurd stops
+-- A program's run that was driven over a journal of a shelf, by what is seen of the shelf before and after.
+pub may_run : (program : Program) (how : code.Manner) (journal : List ℕ) (old new : ShelfSeen) (before after : WireSeen) (fails quiet : Type 0)
+    → before.left ≡ left_of (old.file journal) None → (old.file journal ≡ Some None → fails) → (quiet → new ≡ old)
+    → (Rose before.faults after.faults → FileFailed journal old new)
+    → (output : Output) → MayDrive program how end.ShelfFault before after (Undisturbed fails quiet) output
+    → MayRun old new program (manner_of journal how) output
+may_run program how journal old new before after fails quiet told missing same failed output (inl ((alive, still), entries, agrees, is)) =
+    inl (
+      none_failed old new (same still),
+      entries,
+      says_from (old.file journal) entries (λ gone. alive (missing gone)) (subst (λ (t : Option (List Entry)). Agrees t entries) told agrees),
+      is,
+    )
+may_run program how journal old new before after fails quiet told missing same failed output (inr (rose, had, (rest, agrees), over, is)) =
+    inr (
+      failed rose,
+      had,
+      begins_from (old.file journal) had rest (subst (λ (t : Option (List Entry)). Agrees t (had ++ rest)) told agrees),
+      over,
+      is,
+    )
 
 -- what a journal's wire tells before it is asked
 pub told_first : {F : Type 0} (seen : F → ShelfSeen) (held shelf : F) (name journal : List ℕ) (own : Option (List Entry)) → held ≡ shelf
@@ -183,7 +118,40 @@ module _ (may might : Output → Type 0) (none nothing : Type 0) (wider : (outpu
   pub early_wider : (halt : Halt) (old new : SinkSeen) → EndsEarly may none old new halt → EndsEarly might nothing old new halt
   early_wider Memory old new early = (early.0, widened early.0 early.1, early.2)
   early_wider Sink old new early = (early.0, widened early.0 early.1, early.2)
-  early_wider Wire old new early = absurd early
+
+-- A program's run that was driven over the journal's wire of a shelf: `held` is the shelf as the wire was made, and `now` as it
+-- was left.
+module _ {F : Type 0} (seen : F → ShelfSeen) (first held now after : F) (name late journal : List ℕ) (own own_last : Buffers) (program : Program)
+    (how : code.Manner) (kept : held ≡ first) (left : now ≡ after) (named : name ≡ journal) (late_name : late ≡ name) (unread : own.journal ≡ None) where
+  abbrev Fails : Type 0
+  Fails = (own.journal ≡ None) × ((seen held).file name ≡ Some None)
+
+  abbrev Quiet : Type 0
+  Quiet = seen now ≡ seen held
+
+  abbrev Drives : Output → Type 0
+  Drives = MayDrive program how end.ShelfFault (seen_of (seen held) name own) (seen_of (seen now) late own_last) (Undisturbed Fails Quiet)
+
+  abbrev Runs : Output → Type 0
+  Runs = MayRun (seen first) (seen after) program (manner_of journal how)
+
+  runs : (output : Output) → Drives output → Runs output
+  runs =
+      may_run program how journal (seen first) (seen after) (seen_of (seen held) name own) (seen_of (seen now) late own_last) Fails Quiet
+      (told_first seen held first name journal own.journal kept named unread)
+      (λ missing. (unread, missing_first seen held first name journal kept named missing))
+      (seen_kept seen first held now after kept left)
+      (rose_here seen first held now after name late journal kept left named late_name)
+
+  none_then : Quiet → NoneFailed (seen first) (seen after)
+  none_then quiet = none_failed (seen first) (seen after) (seen_kept seen first held now after kept left quiet)
+
+  pub run_whole : (old new : SinkSeen) (status : ℕ) → WritesWhole Drives old new status → WritesWhole Runs old new status
+  run_whole = whole_wider Drives Runs Quiet (NoneFailed (seen first) (seen after)) runs none_then
+
+  pub run_early : (halt : Halt) (old new : SinkSeen) → EndsEarly Drives Quiet old new halt
+      → EndsEarly Runs (NoneFailed (seen first) (seen after)) old new halt
+  run_early = early_wider Drives Runs Quiet (NoneFailed (seen first) (seen after)) runs none_then
 
 -- nothing was written, for want of memory
 pub nothing_yet : (may : Output → Type 0) (none : Type 0) (sink : SinkSeen) → none → EndsEarly may none sink sink Memory
@@ -194,11 +162,16 @@ pub line_early : (halt : Halt) (may : Output → Type 0) (none : Type 0) (output
     → text ≡ output.text → StopsWriting text old new halt → EndsEarly may none old new halt
 line_early Memory may none output text old new allowed same stops = (stops.0, inr (output, allowed, (stops.1.0, stops.1.1 ∙ same)), stops.2)
 line_early Sink may none output text old new allowed same stops = (stops.0, inr (output, allowed, (stops.1.0, stops.1.1 ∙ same)), stops.2)
-line_early Wire may none output text old new allowed same stops = absurd stops
 
 -- none of it was written, for want of memory
 pub line_unwritten : (may : Output → Type 0) (none : Type 0) (output : Output) (sink : SinkSeen) → may output → EndsEarly may none sink sink Memory
 line_unwritten may none output sink allowed = ([], inr (output, allowed, (output.text, refl)), sym (took-nil sink))
+
+-- the line of a script that doesn't run so far
+pub not_run_text : not_run.text ≡ codes "! script 1 9\n"
+not_run_text =
+    ap (λ (digits : List ℕ). line (codes "! script " ++ digits ++ codes " " ++ decimal 9)) (decimal_digit 1 (omega arith))
+    ∙ ap (λ (digits : List ℕ). line (codes "! script 1 " ++ digits)) (decimal_digit 9 (omega arith))
 
 -- ---- scripts
 says_all : (held : Option (List ℕ)) (all : List ℕ) → held ≡ Some all → FileSays (Some held) all
@@ -213,25 +186,25 @@ front_says (Some held) front is =
     (found.0, says_all held found.0 found.1, ap script_of found.2 ∙ spells_alike found.0)
 
 -- a script's replay, by the rules for its text; reading it changed nothing of the shelf
-pub replay_by_script : (script : Program) (old mid new : ShelfSeen) (name journal : List ℕ) → SpellsScript (old.file name) script → mid ≡ old
-    → (output : Output) → MayRunIf mid new (straight_of script) journal output → MayReplay old new name journal output
-replay_by_script script old mid new name journal spells same output may =
-    let here = subst (λ (s : ShelfSeen). MayRunIf s new (straight_of script) journal output) same may in
-    inr (spells.0, spells.1, subst (λ (p : Judged Program). MayRunScript old new p journal output) (sym spells.2) here)
+pub replay_by_script : (script : Program) (old mid new : ShelfSeen) (name : List ℕ) (how : Manner) → SpellsScript (old.file name) script → mid ≡ old
+    → (output : Output) → MayRunIf mid new (is_served script) script how output → MayReplay old new name how output
+replay_by_script script old mid new name how spells same output may =
+    let here = subst (λ (s : ShelfSeen). MayRunIf s new (is_served script) script how output) same may in
+    inr (spells.0, spells.1, subst (λ (p : Judged Program). MayRunScript old new p how output) (sym spells.2) here)
 
 refused_as : (number cause : ℕ) (why : Cause) (output : Output) → cause ≡ cause_number why → Tells (Refused number cause) output
     → output ≡ script_refused (record { line = number; cause = why })
 refused_as number cause why output same tells =
     tells ∙ ap (λ (n : ℕ). record { text = line (refusal_text number n); status = 3 }) same
 
-pub replay_without : (none : NoScript) (old new : ShelfSeen) (name journal : List ℕ) → IsMissing name old new none
-    → (output : Output) → Tells none output → MayReplay old new name journal output
-replay_without (Refused number cause) old new name journal missing output tells =
+pub replay_without : (none : NoScript) (old new : ShelfSeen) (name : List ℕ) (how : Manner) → IsMissing name old new none
+    → (output : Output) → Tells none output → MayReplay old new name how output
+replay_without (Refused number cause) old new name how missing output tells =
     let (text, why, says, spells, is) = missing.0 in
-    let refused : MayRunScript old new (fault_at number why) journal output = (none_failed old new missing.1, refused_as number cause why output is tells) in
-    inr (text, says, subst (λ (p : Judged Program). MayRunScript old new p journal output) (sym spells) refused)
-replay_without Failed old new name journal missing output tells = inl (missing, tells)
-replay_without NoMemory old new name journal missing output tells = absurd tells
+    let refused : MayRunScript old new (fault_at number why) how output = (none_failed old new missing.1, refused_as number cause why output is tells) in
+    inr (text, says, subst (λ (p : Judged Program). MayRunScript old new p how output) (sym spells) refused)
+replay_without Failed old new name how missing output tells = inl (missing, tells)
+replay_without NoMemory old new name how missing output tells = absurd tells
 
 pub check_by_script : (script : Program) (old new : ShelfSeen) (name : List ℕ) → SpellsScript (old.file name) script → new ≡ old
     → MayCheck old new name (record { text = canonical script; status = 0 })

@@ -1,11 +1,2 @@
-pub mod Drive
-pub mod Ending
-pub mod Events
-pub mod Journal
-pub mod JournalWire
-pub mod Kernel
-pub mod Outcome
-pub mod Stepping
-pub mod Words
-pub mod Writing
+pub mod Manner
 pub mod Script

@@ -1,13 +1,12 @@
 //! Checking a script.
 ghost use Rattle.std.specs.Prelude.{◌≡◌, IfOk, IfErr};
 ghost use Rattle.model_wire.specs.Told.{NoneFailed};
-ghost use Rattle.model_straight.specs.Program.{MayCheck};
+ghost use Rattle.model_machine.specs.Program.{MayCheck};
 ghost use Rattle.model_machine.specs.Theorem.{WritesWhole};
-ghost use Rattle.aio_run.specs.Outcome.{EndsEarly};
+ghost use Rattle.aio_drive.specs.Outcome.{EndsEarly};
 
-use crate::halt::Halt;
 use crate::script::{read_script, refuse};
-use crate::writing::tell;
+use aio_drive::{Halt, tell};
 use aio_script::print;
 use aio_wire::{Shelf, Sink};
 use std::alloc::Global;

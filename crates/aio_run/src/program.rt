@@ -1,26 +1,27 @@
 //! What the program does for its words.
 ghost use Rattle.std.specs.Prelude.{◌≡◌, None, IfOk, IfErr, map, string_bytes};
 ghost use Rattle.model_wire.specs.Told.{NoneFailed};
-ghost use Rattle.model_straight.specs.Program.{MayWrite};
+ghost use Rattle.model_machine.specs.Program.{MayWrite};
 ghost use Rattle.model_machine.specs.Theorem.{Behaves, WritesWhole};
 ghost use Rattle.model_machine.specs.Words.{command_of as plain_command_of};
-ghost use Rattle.aio_run.specs.Outcome.{EndsEarly};
+ghost use Rattle.aio_drive.specs.Outcome.{EndsEarly};
 
 use crate::checking::check;
-use crate::halt::Halt;
 use crate::replaying::replay;
-use crate::words::{Command, command_of};
-use crate::writing::say;
+use aio_drive::{Halt, Manner, say};
 use aio_wire::{Shelf, Sink, Wire};
+use aio_words::{Command, command_of};
 use std::alloc::Global;
 
 /// Does all that the program does for the words behind its name, and answers the exit status.
 ///
 /// `check SCRIPT` writes the canonical text of a script of the shelf to the sink. `replay SCRIPT JOURNAL` runs a script of
-/// the shelf over the answers of a journal of the shelf, and writes the transcript. The statuses: 0, the script was
-/// checked, or main returned; 2, the words are refused; 3, the script is, or it doesn't run so far; 4, a line of the
-/// journal that is needed is refused; 6, no answer is left; 9, the shelf or the sink failed; 10, as many turns were made
-/// as are allowed; 11, memory was refused. The wire is not asked.
+/// the shelf over the answers of a journal of the shelf, and writes the transcript; `--trace` adds a line for each call,
+/// answer and handle, and `--turns N` allows so many turns. The statuses: 0, the script was checked, or main returned; 1,
+/// main raised or was cancelled; 2, the words are refused; 3, the script is, or it doesn't run so far; 4, a line of the
+/// journal that is needed is refused; 5, an answer doesn't fit its call; 6, no answer is left; 7, nothing is pending and
+/// nothing can come; 8, a step has too many statements; 9, the shelf or the sink failed; 10, as many turns were made as
+/// are allowed; 11, memory was refused. The wire is not asked.
 pub fn aio_main<F: Shelf, W: Wire, K: Sink>(
     alloc: Global,
     words: &Vec<String>,
@@ -37,7 +38,7 @@ pub fn aio_main<F: Shelf, W: Wire, K: Sink>(
     match serve(alloc, words.as_slice(), shelf, out) {
         Ok(status) => status,
         Err(Halt::Memory) => 11,
-        Err(Halt::Sink | Halt::Wire) => 9,
+        Err(Halt::Sink) => 9,
     }
 }
 
@@ -59,7 +60,14 @@ fn serve<F: Shelf, K: Sink>(
 {
     match command_of(words) {
         Some(Command::Check { script }) => check(alloc, script, shelf, out),
-        Some(Command::Replay { script, journal }) => replay(alloc, script, journal, shelf, out),
+        Some(
+            Command::Replay {
+                script,
+                journal,
+                trace,
+                turns,
+            },
+        ) => replay(alloc, script, journal, Manner { trace, turns }, shelf, out),
         None => say(alloc, "! words\n", 2, out),
     }
 }

@@ -1,19 +1,18 @@
 //! Replaying a script over a journal.
-ghost use Rattle.std.specs.Prelude.{◌≡◌, IfOk, IfErr};
+ghost use Rattle.std.specs.Prelude.{◌≡◌, ◌≤◌, IfOk, IfErr};
 ghost use Rattle.model_wire.specs.Told.{NoneFailed};
-ghost use Rattle.model_straight.specs.Program.{MayRun, MayRunIf, MayReplay};
-ghost use Rattle.model_straight.specs.StraightScripts.{straight_of};
+ghost use Rattle.model_machine.specs.Program.{MayReplay, MayRun, MayRunIf};
+ghost use Rattle.model_machine.specs.Served.{is_served};
 ghost use Rattle.model_machine.specs.Theorem.{WritesWhole};
-ghost use Rattle.aio_straight.specs.Lines.{plain_program};
-ghost use Rattle.aio_run.specs.Outcome.{EndsEarly};
+ghost use Rattle.aio_drive.specs.Outcome.{EndsEarly};
+ghost use Rattle.aio_run.specs.Manner.{manner_of};
 
-use crate::driver::drive;
-use crate::halt::Halt;
-use crate::journal_wire::JournalWire;
 use crate::script::{read_script, refuse};
-use crate::writing::say;
-use aio_script::Program as Script;
-use aio_straight::{Program, straight};
+use aio_drive::{Halt, Manner, drive, say};
+use aio_memwire::JournalWire;
+use aio_script::Program;
+use aio_served::is_served;
+use aio_trace::End;
 use aio_wire::{Shelf, Sink};
 use std::alloc::Global;
 
@@ -22,68 +21,68 @@ pub fn replay<F: Shelf, K: Sink>(
     alloc: Global,
     script: &str,
     journal: &str,
+    manner: Manner,
     shelf: &mut F,
     out: &mut K,
 ) -> Result<u8, Halt>
+    requires some { 1 ≤ manner.turns }
     ensures ok { IfOk result (WritesWhole
-        (MayReplay (F.seen shelf.old) (F.seen shelf.new) script.now journal.now)
+        (MayReplay (F.seen shelf.old) (F.seen shelf.new) script.now (manner_of journal.now manner))
         (K.seen out.old) (K.seen out.new)) }
     ensures err { IfErr result (EndsEarly
-        (MayReplay (F.seen shelf.old) (F.seen shelf.new) script.now journal.now)
+        (MayReplay (F.seen shelf.old) (F.seen shelf.new) script.now (manner_of journal.now manner))
         (NoneFailed (F.seen shelf.old) (F.seen shelf.new)) (K.seen out.old) (K.seen out.new)) }
     ensures files { (F.seen shelf.new).file ≡ (F.seen shelf.old).file }
 {
     match read_script(alloc, script, shelf) {
-        Ok(script) => replay_script(alloc, &script, journal, shelf, out),
+        Ok(program) => replay_program(alloc, &program, journal, manner, shelf, out),
         Err(none) => refuse(alloc, none, out),
     }
 }
 
-/// Replays a script that was read, if it is a straight program.
-fn replay_script<F: Shelf, K: Sink>(
+/// Replays a program, if all that it asks is served.
+fn replay_program<F: Shelf, K: Sink>(
     alloc: Global,
-    script: &Script,
+    program: &Program,
     journal: &str,
+    manner: Manner,
     shelf: &mut F,
     out: &mut K,
 ) -> Result<u8, Halt>
+    requires some { 1 ≤ manner.turns }
     ensures ok { IfOk result (WritesWhole
-        (MayRunIf (F.seen shelf.old) (F.seen shelf.new) (straight_of script.now) journal.now)
+        (MayRunIf (F.seen shelf.old) (F.seen shelf.new) (is_served program.now) program.now (manner_of journal.now manner))
         (K.seen out.old) (K.seen out.new)) }
     ensures err { IfErr result (EndsEarly
-        (MayRunIf (F.seen shelf.old) (F.seen shelf.new) (straight_of script.now) journal.now)
+        (MayRunIf (F.seen shelf.old) (F.seen shelf.new) (is_served program.now) program.now (manner_of journal.now manner))
         (NoneFailed (F.seen shelf.old) (F.seen shelf.new)) (K.seen out.old) (K.seen out.new)) }
     ensures files { (F.seen shelf.new).file ≡ (F.seen shelf.old).file }
 {
-    match straight(alloc, script)? {
-        Some(program) => replay_program(alloc, program, journal, shelf, out),
-        None => say(alloc, "! script 1 9\n", 3, out),
+    if is_served(program) {
+        replay_served(alloc, program, journal, manner, shelf, out)
+    } else {
+        say(alloc, "! script 1 9\n", 3, out)
     }
 }
 
 /// Replays a program over a journal.
-fn replay_program<F: Shelf, K: Sink>(
+fn replay_served<F: Shelf, K: Sink>(
     alloc: Global,
-    program: Program,
+    program: &Program,
     journal: &str,
+    manner: Manner,
     shelf: &mut F,
     out: &mut K,
 ) -> Result<u8, Halt>
+    requires some { 1 ≤ manner.turns }
     ensures ok { IfOk result (WritesWhole
-        (MayRun (F.seen shelf.old) (F.seen shelf.new) (plain_program program) journal.now)
+        (MayRun (F.seen shelf.old) (F.seen shelf.new) program.now (manner_of journal.now manner))
         (K.seen out.old) (K.seen out.new)) }
     ensures err { IfErr result (EndsEarly
-        (MayRun (F.seen shelf.old) (F.seen shelf.new) (plain_program program) journal.now)
+        (MayRun (F.seen shelf.old) (F.seen shelf.new) program.now (manner_of journal.now manner))
         (NoneFailed (F.seen shelf.old) (F.seen shelf.new)) (K.seen out.old) (K.seen out.new)) }
     ensures files { (F.seen shelf.new).file ≡ (F.seen shelf.old).file }
 {
-    let mut wire = JournalWire::new(shelf, journal);
-    match drive(alloc, program, &mut wire, out) {
-        Ok(status) => Ok(status),
-        Err(halt) => match halt {
-            Halt::Wire => say(alloc, "! fault shelf\n", 9, out),
-            Halt::Memory => Err(Halt::Memory),
-            Halt::Sink => Err(Halt::Sink),
-        },
-    }
+    let mut wire = JournalWire::new(alloc, shelf, journal);
+    drive(alloc, program, manner, &End::ShelfFault, &mut wire, out)
 }

@@ -1,12 +1,11 @@
 //! A script of the shelf, or why there is none.
 ghost use Rattle.std.specs.Prelude.{◌≡◌, IfOk, IfErr, OnOk, string_bytes};
-ghost use Rattle.model_straight.specs.Transcript.{line};
+ghost use Rattle.model_wire.specs.Trace.{line};
 ghost use Rattle.model_machine.specs.Theorem.{WritesWhole};
-ghost use Rattle.aio_run.specs.Outcome.{EndsEarly};
+ghost use Rattle.aio_drive.specs.Outcome.{EndsEarly};
 ghost use Rattle.aio_run.specs.Script.{SpellsScript, IsMissing, Tells, refusal_text};
 
-use crate::halt::Halt;
-use crate::writing::say;
+use aio_drive::{Halt, say};
 use aio_memwire::{ReadFault, read_front};
 use aio_script::{Program, ScriptFault, read};
 use aio_wire::{Shelf, Sink};

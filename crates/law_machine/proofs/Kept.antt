@@ -21,6 +21,7 @@ use Rattle.model_machine.specs.Extra.{Extra, ExtraAnswer, ExtraSaid, called}
 use Rattle.model_machine.specs.Outcomes.{input_of}
 use Rattle.model_machine.specs.Replies.{Reply, Answers, Raises, Rests, Halts, given, most_ids, numbered_if, numbered, replied, ended, result_of, shown_all, waits, awaits_as, awaits, alarmed, sleeps, makes_future, settles_if, settles, requests, counted, spawns, enters_timeout, timed_out_if, exits_timeout, reschedules_if, reschedules, enters_group, exits_as, exits_group, creates_unless, creates, Wake, serves_until, serves_as, serves, woken_within, woken, reply, decides}
 use Rattle.model_machine.specs.State.{Standing, Asked, Sleeping, Leaving, Serving, Generator, State, generator, in_loop, noted, stands, unbooked_in, with_coroutine, with_loop}
+use Rattle.model_machine.specs.Went.{answers_in}
 use Rattle.law_machine.specs.Growth.{GoesOn, turns_in}
 
 pub goes_on_same : (es : List Event) → GoesOn es es
@@ -40,6 +41,13 @@ turns-said (event.Got answer ∷ es) task text = turns-said es task text
 turns-said (event.Ran it ∷ es) task text = turns-said es task text
 turns-said (event.Said other words ∷ es) task text = turns-said es task text
 
+pub answers-said : (es : List Event) (task : ℕ) (text : List ℕ) → answers_in (es ++ event.Said task text ∷ []) ≡ answers_in es
+answers-said [] task text = refl
+answers-said (event.Called call ∷ es) task text = answers-said es task text
+answers-said (event.Got answer ∷ es) task text = ap suc (answers-said es task text)
+answers-said (event.Ran it ∷ es) task text = answers-said es task text
+answers-said (event.Said other words ∷ es) task text = answers-said es task text
+
 abbrev pub tape_in : List Generator → ℕ → Tape
 tape_in generators task = (slice_index_or generators task (generator 0 [])).tape
 
@@ -50,6 +58,7 @@ tape_of task s = tape_in s.generators task
 pub record IsKept {S : Type 0} (task : ℕ) (s t : State S) : Type 0 where
   pub events : GoesOn s.events t.events
   pub turns : turns_in t.events ≡ turns_in s.events
+  pub got : answers_in t.events ≡ answers_in s.events
   pub answers : t.answers ≡ s.answers
   pub tape : tape_of task t ≡ tape_of task s
   pub generators : length s.generators ≤ length t.generators
@@ -59,6 +68,7 @@ pub kept_as : {S : Type 0} (task : ℕ) (s t : State S) → t.events ≡ s.event
 kept_as task s t e a g = record {
   events = rw e (goes_on_same s.events);
   turns = ap turns_in e;
+  got = ap answers_in e;
   answers = a;
   tape = ap (λ gs. tape_in gs task) g;
   generators = rw g (omega arith);
@@ -68,6 +78,7 @@ pub kept_then : {S : Type 0} (task : ℕ) (s t u : State S) → IsKept task s t 
 kept_then task s t u first second = record {
   events = goes_on_then s.events t.events u.events first.events second.events;
   turns = second.turns ∙ first.turns;
+  got = second.got ∙ first.got;
   answers = second.answers ∙ first.answers;
   tape = second.tape ∙ first.tape;
   generators = let a = first.generators in let b = second.generators in omega arith;
@@ -96,6 +107,7 @@ pub stands-kept : {S : Type 0} (standing : Standing) (at task : ℕ) (s : State 
 stands-kept standing at task s = record {
   events = goes_on_same s.events;
   turns = refl;
+  got = refl;
   answers = refl;
   tape = tape-set s.generators at task _ refl;
   generators = rw (length-slice_set s.generators at _) (omega arith);
@@ -105,6 +117,7 @@ with_coroutine-kept : {S : Type 0} (coroutine : ℕ) (arguments : List Value) (t
 with_coroutine-kept coroutine arguments task s = record {
   events = goes_on_same s.events;
   turns = refl;
+  got = refl;
   answers = refl;
   tape = tape-added s.generators task (generator coroutine arguments) refl;
   generators = rw (length-append s.generators (generator coroutine arguments ∷ [])) (omega arith);
@@ -220,6 +233,7 @@ module _ {S : Type 0} (added : Extra S) where
   said-kept task text s = record {
     events = goes_on_one s.events _;
     turns = turns-said s.events task text;
+    got = answers-said s.events task text;
     answers = refl;
     tape = refl;
     generators = omega arith;

@@ -22,7 +22,7 @@ use Rattle.model_machine.specs.Run.{run_after, run_on}
 use Rattle.model_machine.specs.State.{Asked, State, generator_of, noted, resumed, stands, unbooked_in}
 use Rattle.model_machine.specs.Step.{given_up, says_of, taken_as, served, serve, serve_all, step}
 use Rattle.model_machine.specs.Turn.{call_of, is_stalled, woken_by, effect, ran, run_first, run_if, next_below, run_below, run_pending, cancelled_if, finished_if, turn_over, turned_by, turn_unless, turn}
-use Rattle.model_machine.specs.Went.{Went, Goes, Stops, state_of, went_on, ask, answered_by, fitted}
+use Rattle.model_machine.specs.Went.{Went, Goes, Stops, answers_in, state_of, went_on, ask, answered_by, fitted}
 use Rattle.law_machine.specs.Growth.{GoesOn, turns_in}
 use Rattle.law_machine.proofs.Kept.{goes_on_same, goes_on_one, goes_on_then, IsKept, reply_state, reply-keeps, decides-keeps}
 
@@ -30,20 +30,23 @@ use Rattle.law_machine.proofs.Kept.{goes_on_same, goes_on_one, goes_on_then, IsK
 pub record IsOn {S : Type 0} (s t : State S) : Type 0 where
   pub events : GoesOn s.events t.events
   pub turns : turns_in t.events ≡ turns_in s.events
+  pub got : answers_in t.events ≡ answers_in s.events
   pub answers : t.answers ≡ s.answers
 
 on_as : {S : Type 0} (s t : State S) → t.events ≡ s.events → t.answers ≡ s.answers → IsOn s t
-on_as s t e a = record { events = rw e (goes_on_same s.events); turns = ap turns_in e; answers = a }
+on_as s t e a =
+    record { events = rw e (goes_on_same s.events); turns = ap turns_in e; got = ap answers_in e; answers = a }
 
 on_then : {S : Type 0} (s t u : State S) → IsOn s t → IsOn t u → IsOn s u
 on_then s t u first second = record {
   events = goes_on_then s.events t.events u.events first.events second.events;
   turns = second.turns ∙ first.turns;
+  got = second.got ∙ first.got;
   answers = second.answers ∙ first.answers;
 }
 
 kept_on : {S : Type 0} (task : ℕ) (s t : State S) → IsKept task s t → IsOn s t
-kept_on task s t is = record { events = is.events; turns = is.turns; answers = is.answers }
+kept_on task s t is = record { events = is.events; turns = is.turns; got = is.got; answers = is.answers }
 
 turns-ran : (es : List Event) (it : Action) → turns_in (es ++ event.Ran it ∷ []) ≡ turns_in es
 turns-ran [] it = refl
@@ -65,6 +68,27 @@ turns-called (event.Called other ∷ es) call = ap suc (turns-called es call)
 turns-called (event.Got answer ∷ es) call = turns-called es call
 turns-called (event.Ran it ∷ es) call = turns-called es call
 turns-called (event.Said task text ∷ es) call = turns-called es call
+
+answers-ran : (es : List Event) (it : Action) → answers_in (es ++ event.Ran it ∷ []) ≡ answers_in es
+answers-ran [] it = refl
+answers-ran (event.Called call ∷ es) it = answers-ran es it
+answers-ran (event.Got answer ∷ es) it = ap suc (answers-ran es it)
+answers-ran (event.Ran other ∷ es) it = answers-ran es it
+answers-ran (event.Said task text ∷ es) it = answers-ran es it
+
+answers-got : (es : List Event) (answer : Answer) → answers_in (es ++ event.Got answer ∷ []) ≡ suc (answers_in es)
+answers-got [] answer = refl
+answers-got (event.Called call ∷ es) answer = answers-got es answer
+answers-got (event.Got other ∷ es) answer = ap suc (answers-got es answer)
+answers-got (event.Ran it ∷ es) answer = answers-got es answer
+answers-got (event.Said task text ∷ es) answer = answers-got es answer
+
+answers-called : (es : List Event) (call : Call) → answers_in (es ++ event.Called call ∷ []) ≡ answers_in es
+answers-called [] call = refl
+answers-called (event.Called other ∷ es) call = answers-called es call
+answers-called (event.Got answer ∷ es) call = ap suc (answers-called es call)
+answers-called (event.Ran it ∷ es) call = answers-called es call
+answers-called (event.Said task text ∷ es) call = answers-called es call
 
 -- ---- steps
 taken-on : {S : Type 0} (s : State S) (it : Reply S) (fresh : Bool) (task : ℕ) (go_on : State S → Went S)
@@ -132,7 +156,8 @@ module _ {S : Type 0} (limit : ℕ) (added : Extra S) where
   ran-on false it s =
       let noticed = noted (event.Ran it) s in
       on_then s noticed (state_of (effect limit added it noticed))
-      (record { events = goes_on_one s.events _; turns = turns-ran s.events it; answers = refl }) (effect-on it noticed)
+      (record { events = goes_on_one s.events _; turns = turns-ran s.events it; got = answers-ran s.events it; answers = refl })
+      (effect-on it noticed)
 
   run_first-on : (handle : Handle) (handles : List Handle) (s : State S) → IsOn s (state_of (run_first limit added handle handles s))
   run_first-on handle handles s =
@@ -217,7 +242,45 @@ module _ {S : Type 0} (s : State S) (call : Call) where
       at (Refused line cause ∷ entries) e = (goes_on_one s.events _, turns-called s.events call, omega arith)
       at (Answered answer ∷ entries) e = fit (fits call answer) answer entries e
 
+-- at most one answer is had
+abbrev pub HadOne : {S : Type 0} → State S → Went S → Type 0
+HadOne s went = answers_in (state_of went).events ≤ answers_in s.events + 1
+
+ask-had_one : {S : Type 0} (s : State S) (call : Call) (next : Answer → State S → Went S)
+    → ((answer : Answer) (t : State S) → IsOn t (state_of (next answer t))) → HadOne s (ask call next s)
+unfolding got
+ask-had_one {S = S} s call next on = at s.answers
+  where
+    had : (answer : Answer) (entries : List Entry) (went : Went S) → IsOn (got s call answer entries) (state_of went) → HadOne s went
+    had answer entries went is =
+        let a = is.got in
+        let b = answers-got (s.events ++ event.Called call ∷ []) answer in
+        let c = answers-called s.events call in
+        omega arith
+
+    fit : (b : Bool) (answer : Answer) (entries : List Entry) → HadOne s (fitted b call answer next (got s call answer entries))
+    fit true answer entries = had answer entries (next answer (got s call answer entries)) (on answer (got s call answer entries))
+    fit false answer entries =
+        had answer entries (fitted false call answer next (got s call answer entries))
+        (on_as (got s call answer entries) (got s call answer entries) refl refl)
+
+    none : HadOne s (Stops (end.Over call) (noted (event.Called call) s))
+    none = let c = answers-called s.events call in omega arith
+
+    at : (entries : List Entry) → HadOne s (answered_by entries call next (noted (event.Called call) s))
+    at [] = none
+    at (Refused line cause ∷ entries) = none
+    at (Answered answer ∷ entries) = fit (fits call answer) answer entries
+
 module _ {S : Type 0} (limit : ℕ) (added : Extra S) where
+  pub turn-had_one : (s : State S) → HadOne s (turn limit added s)
+  unfolding turn
+  turn-had_one s = at (is_stalled added s)
+    where
+      at : (b : Bool) → HadOne s (turn_unless limit added b s)
+      at true = omega arith
+      at false = ask-had_one s (call_of added s) (turned_by limit added) (turned-on limit added)
+
   pub turn-turned : (s : State S) → is_stalled added s ≡ false → Turned s (turn limit added s)
   unfolding turn
   turn-turned s e = at (is_stalled added s) e

@@ -10,7 +10,7 @@ ghost use Rattle.model_machine.specs.State.{State, generator_of, start};
 ghost use Rattle.model_machine.specs.Step.{most_answers, serve};
 ghost use Rattle.model_machine.specs.Turn.{is_stalled, turn};
 ghost use Rattle.model_machine.specs.Run.{run_on};
-ghost use Rattle.model_machine.specs.Went.{state_of};
+ghost use Rattle.model_machine.specs.Went.{answers_in, state_of};
 ghost use Rattle.law_machine.specs.Growth.{GoesOn, turns_in};
 
 /// What happened stays: a turn and a run only add events.
@@ -20,11 +20,13 @@ pub fn what_happened_stays<S>()
         → GoesOn s.events (run_on limit added allowed left s).events }
 {}
 
-/// A turn asks the outside once, unless nothing can come. A run begins at most one turn more than the outside
+/// A turn asks the outside once, unless nothing can come, and so it has one answer at most. A run begins at most one turn more than the outside
 /// answers: the one that finds no answer.
 pub fn turns_are_bounded<S>()
     ensures one { (limit : ℕ) (added : Extra S) (s : State S) → is_stalled added s ≡ false
         → turns_in (state_of (turn limit added s)).events ≡ turns_in s.events + 1 }
+    ensures answers { (limit : ℕ) (added : Extra S) (s : State S)
+        → answers_in (state_of (turn limit added s)).events ≤ answers_in s.events + 1 }
     ensures most { (limit : ℕ) (added : Extra S) (allowed left : ℕ) (s : State S)
         → turns_in (run_on limit added allowed left s).events ≤ turns_in s.events + length s.answers + 1 }
 {}

@@ -3,8 +3,10 @@ pub mod Extra
 pub mod Mids
 pub mod Outcomes
 pub mod Outside
+pub mod Program
 pub mod Replies
 pub mod Run
+pub mod Served
 pub mod Sound
 pub mod State
 pub mod Step

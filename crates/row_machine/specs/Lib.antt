@@ -2,6 +2,8 @@ pub mod Added
 pub mod Cancels
 pub mod Coroutines
 pub mod Groups
+pub mod Outputs
 pub mod Reading
 pub mod Timeouts
 pub mod Turns
+pub mod Words

@@ -6,5 +6,7 @@ pub mod added;
 pub mod cancels;
 pub mod coroutines;
 pub mod groups;
+pub mod outputs;
 pub mod timeouts;
 pub mod turns;
+pub mod words;

@@ -3,7 +3,7 @@ use Rattle.std.proofs.lemmas.Result.{IfOk-weaker, IfErr-weaker}
 use Rattle.model_text.specs.Canonical.{canonical}
 use Rattle.model_wire.specs.Told.{NoneFailed, took}
 use Rattle.model_machine.specs.Theorem.{Output}
-use Rattle.model_straight.specs.Program.{MayCheck}
+use Rattle.model_machine.specs.Program.{MayCheck}
 use Rattle.aio_run.specs.Script.{Tells}
 use Rattle.aio_run.specs.declared.script.NoScript.TheVariants.{Memory}
 use Rattle.aio_run.proofs.Outcomes.{check_by_script, check_without, early_wider, line_early, none_failed_without, whole_wider}

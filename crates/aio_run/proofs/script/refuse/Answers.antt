@@ -2,8 +2,8 @@ use Rattle.std.proofs.Common.{ap, sym, ◌∙◌, refl, subst, List, [], ℕ}
 use Rattle.std.proofs.lemmas.Result.{IfOk-weaker, IfErr-weaker, err_from_is_err_and}
 use Rattle.model_wire.specs.Told.{took}
 use Rattle.model_machine.specs.Theorem.{Output}
-use Rattle.model_straight.specs.Program.{faulted}
-use Rattle.model_straight.specs.Transcript.{line}
+use Rattle.model_machine.specs.Program.{script_failed}
+use Rattle.model_wire.specs.Trace.{line}
 use Rattle.aio_run.specs.Script.{Tells, refusal_text}
 use Rattle.aio_run.specs.declared.script.NoScript.{NoScript}
 use Rattle.aio_run.proofs.Outcomes.{line_early, line_unwritten}
@@ -25,13 +25,13 @@ returns-in_ok-text-in-Refused-clause-err g c =
 
 pub returns-in-Failed-clause-ok : goal.returns-in-Failed-clause-ok
 returns-in-Failed-clause-ok g c =
-    let may = subst (λ (n : NoScript). Tells n (faulted [])) (sym c.in-Failed.is) refl in
-    IfOk-weaker c.say-in-Failed.result _ _ (λ status d. (faulted [], may, d.1, d.0)) c.say-in-Failed.ensures.ok
+    let may = subst (λ (n : NoScript). Tells n script_failed) (sym c.in-Failed.is) refl in
+    IfOk-weaker c.say-in-Failed.result _ _ (λ status d. (script_failed, may, d.1, d.0)) c.say-in-Failed.ensures.ok
 
 pub returns-in-Failed-clause-err : goal.returns-in-Failed-clause-err
 returns-in-Failed-clause-err g c =
-    let may = subst (λ (n : NoScript). Tells n (faulted [])) (sym c.in-Failed.is) refl in
-    IfErr-weaker c.say-in-Failed.result _ _ (λ halt d. line_early halt (Tells c.args.none) _ (faulted []) _ (g.K.Sink.seen c.args.out.now) (g.K.Sink.seen c.say-in-Failed.new.out) may refl d) c.say-in-Failed.ensures.err
+    let may = subst (λ (n : NoScript). Tells n script_failed) (sym c.in-Failed.is) refl in
+    IfErr-weaker c.say-in-Failed.result _ _ (λ halt d. line_early halt (Tells c.args.none) _ script_failed _ (g.K.Sink.seen c.args.out.now) (g.K.Sink.seen c.say-in-Failed.new.out) may refl d) c.say-in-Failed.ensures.err
 
 pub returns-in_err-text-in-Refused-clause-err : goal.returns-in_err-text-in-Refused-clause-err
 returns-in_err-text-in-Refused-clause-err g c =

@@ -1,4 +1,4 @@
-use Rattle.law_machine.proofs.Turns.{turn-one, run-bounded}
+use Rattle.law_machine.proofs.Turns.{turn-one, turn-had_one, run-bounded}
 use Rattle.law_machine.proofs.laws.turns_are_bounded.Goals as goal
 
 pub returns-clause-one : goal.returns-clause-one
@@ -6,3 +6,6 @@ returns-clause-one g c = turn-one
 
 pub returns-clause-most : goal.returns-clause-most
 returns-clause-most g c = run-bounded
+
+pub returns-clause-answers : goal.returns-clause-answers
+returns-clause-answers g c = turn-had_one

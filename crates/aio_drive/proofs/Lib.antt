@@ -1,0 +1,5 @@
+pub mod Driving
+pub mod Exits
+pub mod Fronts
+pub mod Rounds
+pub mod Turns

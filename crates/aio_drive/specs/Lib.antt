@@ -1,0 +1,5 @@
+pub mod Drive
+pub mod Ending
+pub mod Outcome
+pub mod Silence
+pub mod Writing

@@ -1,0 +1,86 @@
+//! Commands and their words.
+ghost use Rattle.std.specs.Prelude.{◌≡◌, [], ◌∷◌, map, string_bytes, IfSome};
+ghost use Rattle.std.specs.Option.{option_map};
+ghost use Rattle.model_machine.specs.Words.{command_of as plain_command_of, check_of, replay_of, is_name};
+ghost use Rattle.aio_words.specs.Commands.{AllowsSome, plain_command};
+
+use crate::given::{Given, command_from};
+
+/// What the words ask for.
+#[derive(Clone, Copy, Debug)]
+pub enum Command<'a> {
+    /// Writes a script's canonical text.
+    Check {
+        script: &'a str,
+    },
+    /// Runs a script over a journal's answers, of at most so many turns.
+    Replay {
+        script: &'a str,
+        journal: &'a str,
+        trace: bool,
+        turns: u64,
+    },
+}
+
+/// What the words ask for, where they ask for something: `check SCRIPT`, or `replay SCRIPT JOURNAL`, with `--trace` and
+/// `--turns N` among the names in any order. No name is empty or begins with a dash, and at least one turn is allowed.
+pub fn command_of(words: &[String]) -> Option<Command<'_>>
+    ensures command { option_map plain_command result ≡ plain_command_of (map string_bytes words.now) }
+    ensures some { IfSome result AllowsSome }
+{
+    match words {
+        [] => None,
+        [verb, others @ ..] => command_with(verb.as_str(), others),
+    }
+}
+
+fn command_with<'a>(verb: &str, words: &'a [String]) -> Option<Command<'a>>
+    ensures command { option_map plain_command result ≡ plain_command_of (verb.now ∷ map string_bytes words.now) }
+    ensures some { IfSome result AllowsSome }
+{
+    if verb == "check" {
+        check_of(words)
+    } else if verb == "replay" {
+        replay_of(words)
+    } else {
+        None
+    }
+}
+
+fn check_of(words: &[String]) -> Option<Command<'_>>
+    ensures command { option_map plain_command result ≡ check_of (map string_bytes words.now) }
+    ensures some { IfSome result AllowsSome }
+{
+    match words {
+        [script] => check_script(script.as_str()),
+        _ => None,
+    }
+}
+
+fn check_script(script: &str) -> Option<Command<'_>>
+    ensures command { option_map plain_command result ≡ check_of (script.now ∷ []) }
+    ensures some { IfSome result AllowsSome }
+{
+    if is_name(script) {
+        Some(Command::Check { script })
+    } else {
+        None
+    }
+}
+
+fn replay_of(words: &[String]) -> Option<Command<'_>>
+    ensures command { option_map plain_command result ≡ replay_of (map string_bytes words.now) }
+    ensures some { IfSome result AllowsSome }
+{
+    command_from(Given::none(), words)
+}
+
+/// Whether a word names a file: it is not empty and does not begin with a dash.
+pub(crate) fn is_name(word: &str) -> bool
+    ensures { result ≡ is_name word.now }
+{
+    match word.as_bytes() {
+        [] => false,
+        [first, ..] => *first != b'-',
+    }
+}
