@@ -1,6 +1,8 @@
 //! The pending queue.
-ghost use Rattle.std.specs.Prelude.{◌≡◌, ◌++◌, []};
+ghost use Rattle.std.specs.Prelude.{◌≡◌, ◌++◌, [], true, false, map};
 ghost use Rattle.std.specs.Option.{option_map};
+ghost use Rattle.aio_ready.specs.Names.{marked};
+ghost use Rattle.aio_ready.specs.Untimed.{are_untimed};
 ghost use Rattle.aio_ready.specs.Queue.{no_handles, soon, soon_all, next_name, appended, cancelled, barred, next_action, given_after, taken, is_empty};
 
 use crate::handle::{Handle, HandleId, Name};
@@ -23,17 +25,32 @@ pub struct Ready {
     // the last is on top
     late: Stack,
     given: u64,
+    // whether some handle of a timer may be among them
+    falls_below: bool,
+    falls_late: bool,
 }
 
 impl Model for Ready {
-    ghost use Rattle.std.specs.Prelude.{reverse, ◌≤◌};
+    ghost use Rattle.std.specs.Prelude.{◌≡◌, reverse, true, false, ◌≤◌};
     ghost use Rattle.aio_ready.specs.Queue.{Queue, most_given};
+    ghost use Rattle.aio_ready.specs.Untimed.{are_untimed};
 
     ghost Value = { Queue };
 
     ghost view = { λ a. record { below = a.below; after = reverse a.late; given = a.given } };
 
-    ghost invariant = { λ a. a.given ≤ most_given };
+    ghost invariant = { λ a. (a.given ≤ most_given)
+        × ((a.falls_below ≡ false → are_untimed a.below ≡ true) × (a.falls_late ≡ false → are_untimed a.late ≡ true)) };
+}
+
+// A timer's handle is dead, where some handle of a timer may be among them.
+fn mark_due(handles: &mut Stack, falls: bool, timer: u64)
+    requires { falls ≡ false → are_untimed handles.old ≡ true }
+    ensures { handles.new ≡ map (marked (Name.Timer timer)) handles.old }
+{
+    if falls {
+        handles.mark(Name::Timer(timer));
+    }
 }
 
 impl Ready {
@@ -45,6 +62,8 @@ impl Ready {
             below: Stack::new(),
             late: Stack::new(),
             given: 0,
+            falls_below: false,
+            falls_late: false,
         }
     }
 
@@ -98,11 +117,12 @@ impl Ready {
         self.append(ticket, Name::Timer(timer), action);
     }
 
-    /// As `cancel`, of what `soon_due` appended under this number.
+    /// As `cancel`, of what `soon_due` appended under this number. It looks through no handles where none of a timer waits.
     pub fn cancel_due(&mut self, timer: u64)
         ensures { self.new ≡ cancelled (Name.Timer timer) self.old }
     {
-        self.mark(Name::Timer(timer));
+        mark_due(&mut self.below, self.falls_below, timer);
+        mark_due(&mut self.late, self.falls_late, timer);
     }
 
     /// Whether nothing waits. Cancelled handles count.
@@ -116,6 +136,8 @@ impl Ready {
     pub fn set_bar(&mut self)
         ensures { self.new ≡ barred self.old }
     {
+        self.falls_below = self.falls_late | (self.falls_below & !self.below.is_empty());
+        self.falls_late = false;
         let mut turned = Stack::new();
         self.below.turn_onto(&mut turned);
         self.late.turn_onto(&mut self.below);
@@ -157,6 +179,7 @@ impl Ready {
         ensures { self.new ≡ appended name action self.old }
     {
         let dead = false;
+        self.falls_late = self.falls_late | name.is_timed();
         self.late.push(ticket, Handle { name, action, dead });
     }
 
