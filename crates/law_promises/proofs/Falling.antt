@@ -38,7 +38,7 @@ same_marks_at : (p q : Parts) → q.tasks ≡ p.tasks → (task : ℕ) → is_ma
 same_marks_at p q ts task = ap (λ (l : List Task). mark_at (slice_get l task)) ts
 
 -- ---- the beginning of a step
-cancels_input : (input : Input) → (fault : Exc) × (cancelling_input input ≡ Throw fault) × (is_cancelled fault ≡ true)
+pub cancels_input : (input : Input) → (fault : Exc) × (cancelling_input input ≡ Throw fault) × (is_cancelled fault ≡ true)
 cancels_input (Send value) = (cancelled_error, refl, refl)
 cancels_input (Throw fault) = at (is_cancelled fault) refl
   where

@@ -1,3 +1,5 @@
 pub mod Reaching
 pub mod Falling
 pub mod Relied
+pub mod Raising
+pub mod MarksStay

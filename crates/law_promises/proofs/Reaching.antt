@@ -85,7 +85,7 @@ marks_it id p it e =
     ∙ ap (λ (o : Option Task). option_map_or (λ (t : Task). t.must_cancel) o false)
     (get-set_same p.tasks id it (record it { must_cancel = true }) e)
 
-mark_more : (id : ℕ) (p : Parts) (task : ℕ) → is_marked p task ≡ true → is_marked (mark id p) task ≡ true
+pub mark_more : (id : ℕ) (p : Parts) (task : ℕ) → is_marked p task ≡ true → is_marked (mark id p) task ≡ true
 mark_more id p task m = at (slice_get p.tasks id) refl
   where
     at : (o : Option Task) → slice_get p.tasks id ≡ o → is_marked (mark id p) task ≡ true

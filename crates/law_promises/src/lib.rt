@@ -2,6 +2,8 @@
 #![tactic(auto)]
 
 pub mod cancels;
+pub mod exits;
 pub mod groups;
 pub mod marks;
 pub mod states;
+pub mod staying;

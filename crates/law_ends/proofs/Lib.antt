@@ -1,0 +1,2 @@
+pub mod RunningAway
+pub mod Leaving

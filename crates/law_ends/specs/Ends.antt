@@ -1,0 +1,38 @@
+-- The state in which a run ends: it is sound, unless a task ran away, which ends the run inside that task's step.
+use Rattle.std.specs.Prelude.{ℕ, zero, suc}
+use Rattle.model_says.specs.Says.{step_limit}
+use Rattle.model_wire.specs.declared.event.End.TheVariants as end
+use Rattle.model_wire.specs.Trace.{End}
+use Rattle.model_machine.specs.Extra.{Extra}
+use Rattle.model_machine.specs.Sound.{IsStateSound}
+use Rattle.model_machine.specs.State.{State}
+use Rattle.model_machine.specs.Turn.{turn}
+use Rattle.model_machine.specs.Went.{Went, Goes, Stops}
+
+abbrev pub IsRunaway : End → Type 0
+IsRunaway (end.Runaway task) = Unit {0}
+IsRunaway _ = ⊥
+
+-- what goes on, or ends the run inside a step
+abbrev pub OnlyRunsAway : {S : Type 0} → Went S → Type 0
+OnlyRunsAway (Goes now) = Unit {0}
+OnlyRunsAway (Stops how last) = IsRunaway how
+
+-- the last state of a run that ended so
+abbrev pub IsLastSound : {S : Type 0} → Extra S → End → State S → Type 0
+IsLastSound added (end.Runaway task) last = Unit {0}
+IsLastSound added _ last = IsStateSound added last
+
+-- what goes on leaves a sound state, and what ends the run does too
+abbrev pub IsLeftSound : {S : Type 0} → Extra S → Went S → Type 0
+IsLeftSound added (Goes now) = IsStateSound added now
+IsLeftSound added (Stops how last) = IsLastSound added how last
+
+abbrev pub EndsAfter : {S : Type 0} → Extra S → (State S → Type 0) → Went S → Type 0
+EndsAfter added then_ (Goes now) = then_ now
+EndsAfter added then_ (Stops how last) = IsLastSound added how last
+
+-- where a run from a state on ends within so many turns, its last state is sound
+unfoldable pub EndsSound : {S : Type 0} → Extra S → (turns : ℕ) → State S → Type 0
+EndsSound added zero s = Unit {0}
+EndsSound added (suc turns) s = EndsAfter added (EndsSound added turns) (turn step_limit added s)

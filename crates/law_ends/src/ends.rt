@@ -1,0 +1,38 @@
+//! Laws of the ends of turns and runs. Each function has no body: its clauses are the laws. `S` is the state of what is added to
+//! the loop's own requests.
+ghost use Rattle.std.specs.Prelude.{ℕ, List};
+ghost use Rattle.model_tree.specs.Syntax.{Program};
+ghost use Rattle.model_says.specs.Says.{step_limit};
+ghost use Rattle.model_wire.specs.Journal.{Entry};
+ghost use Rattle.model_loop.specs.Parts.{Handle};
+ghost use Rattle.model_machine.specs.Extra.{Extra, no_extra};
+ghost use Rattle.model_machine.specs.Sound.{IsStateSound};
+ghost use Rattle.model_machine.specs.State.{State, start};
+ghost use Rattle.model_machine.specs.Turn.{run_first, run_pending, turn};
+ghost use Rattle.law_replies.specs.Added.{KeepsSound};
+ghost use Rattle.law_ends.specs.Ends.{OnlyRunsAway, IsLeftSound, EndsSound};
+
+/// A callback ends a run in one way: it steps a task that runs away. So do all callbacks of a turn.
+pub fn callbacks_end_a_run_by_running_away<S>()
+    ensures callback { (limit : ℕ) (added : Extra S) (handle : Handle) (rest : List Handle)
+        (s : State S)
+        → OnlyRunsAway (run_first limit added handle rest s) }
+    ensures pending { (limit : ℕ) (added : Extra S) (s : State S)
+        → OnlyRunsAway (run_pending limit added s) }
+{}
+
+/// A turn from a sound state leaves one, unless a task runs away in it: where the run goes on, where it finishes, where it is
+/// stalled, and where the outside has no answer that fits.
+pub fn a_turn_leaves_a_sound_state<S>()
+    ensures { (added : Extra S) → KeepsSound added
+        → (s : State S) → IsStateSound added s → IsLeftSound added (turn step_limit added s) }
+{}
+
+/// So the state in which a run ends is sound, for every program and whatever the outside answers, unless a task runs away.
+pub fn every_run_ends_sound<S>()
+    ensures nothing_added { (program : Program) (answers : List Entry) (turns : ℕ)
+        → EndsSound no_extra turns (start tt program answers) }
+    ensures added { (added : Extra S) → KeepsSound added
+        → (state : S) (program : Program) (answers : List Entry) (turns : ℕ)
+        → EndsSound added turns (start state program answers) }
+{}

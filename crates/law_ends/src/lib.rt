@@ -1,0 +1,4 @@
+//! Laws of how a run ends, and in what state.
+#![tactic(auto)]
+
+pub mod ends;
