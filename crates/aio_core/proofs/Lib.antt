@@ -8,3 +8,4 @@ pub mod Following
 pub mod Opening
 pub mod Placing
 pub mod Keeping
+pub mod Sound

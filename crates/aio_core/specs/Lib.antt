@@ -3,3 +3,4 @@ pub mod Turning
 pub mod Empty
 pub mod Again
 pub mod Turned
+pub mod Sound

@@ -17,6 +17,8 @@ pub struct Kernel {
     body: Body,
     // how the run ended
     ended: Option<Went>,
+    // once main is done, the task that was seen last to live
+    seen: u32,
     ghost alive: { ∥ AliveUnless ended body ∥₁ },
 }
 
@@ -29,19 +31,26 @@ impl Kernel {
     ghost use Rattle.aio_core.specs.declared.went.Went.{Went as AnyWent};
     ghost use Rattle.aio_core.specs.Turned.{StandsFor, Begins, TurnedBy, KeepsEnd, ended, untaken};
     ghost use Rattle.aio_core.specs.Again.{Again};
+    ghost use Rattle.aio_core.specs.Sound.{IsTurnSound};
 
     /// A run begins at time 0, with main's task, whose first step is pending.
     pub fn new(alloc: Global, program: &Program) -> Result<Kernel, Memory>
         ensures { IfOk result (Begins program.now) }
     {
         let body = begin(alloc, program)?;
-        Ok(Kernel { body, ended: None })
+        Ok(Kernel {
+            body,
+            ended: None,
+            seen: 0,
+        })
     }
 
     /// A turn. After any answer but `Went` it answers that again, or that memory was refused, and asks nothing.
     pub fn turn<W: Wire>(&mut self, alloc: Global, wire: &mut W) -> Went
         ensures turned { ended self.old ≡ None → (said : AnyWent) × TurnedBy (W.fails wire.old) (W.quiet wire.old wire.new)
             (W.seen wire.old) (W.seen wire.new) self.old self.new result said }
+        ensures sound { (past : List Event) (answers : List Entry) (s : State (Unit {0}))
+            → StandsFor past answers self.old s → IsTurnSound s }
         ensures keeps { W.keeps wire.old wire.new }
         ensures later { (W.seen wire.old).faults ≤ (W.seen wire.new).faults }
         ensures kept { KeepsEnd result (ended self.new) }
@@ -51,7 +60,7 @@ impl Kernel {
         if let Some(ended) = self.ended.take() {
             return end(alloc, &mut self.ended, ended);
         }
-        match turn(&mut self.body, alloc, wire) {
+        match turn(&mut self.body, alloc, wire, &mut self.seen) {
             Ok(went) => keep(alloc, &mut self.ended, went),
             Err(stop) => keep(alloc, &mut self.ended, Went::Stopped(stop)),
         }

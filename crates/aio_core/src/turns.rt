@@ -1,5 +1,5 @@
 //! A turn of the loop.
-ghost use Rattle.std.specs.Prelude.{◌≡◌, ◌≤◌, ◌⊎◌, ◌&&◌, not, length, List, [], IfOk};
+ghost use Rattle.std.specs.Prelude.{◌≡◌, ◌≤◌, ◌⊎◌, ◌&&◌, true, not, length, List, [], IfOk};
 ghost use Rattle.model_wire.specs.Event.{Event};
 ghost use Rattle.model_wire.specs.Fits.{fits};
 ghost use Rattle.model_wire.specs.Journal.{Entry};
@@ -27,8 +27,14 @@ use std::alloc::Global;
 /// The longest wait that is asked for, in milliseconds: a day.
 const LONGEST_WAIT: u64 = 86_400_000;
 
-/// A turn: the outside is asked for the time and what came, and then the handles that are pending run.
-pub fn turn<W: Wire>(body: &mut Body, alloc: Global, wire: &mut W) -> Result<Went, Stop>
+/// A turn: the outside is asked for the time and what came, and then the handles that are pending run. Once main is done,
+/// `seen` is the task that was seen last to live.
+pub fn turn<W: Wire>(
+    body: &mut Body,
+    alloc: Global,
+    wire: &mut W,
+    seen: &mut u32,
+) -> Result<Went, Stop>
     requires { IsAlive body.old }
     ensures comes { ComesTo (W.seen wire.old).left (W.seen wire.new).left (W.seen wire.old).faults (W.seen wire.new).faults
         (stood_by body.old) (stood_by body.new) body.new.events.events (said_by result) }
@@ -45,7 +51,7 @@ pub fn turn<W: Wire>(body: &mut Body, alloc: Global, wire: &mut W) -> Result<Wen
     }
     let call = first_call(body, alloc);
     let answer = ask(body, alloc, wire, call)?;
-    Ok(after(body, alloc, &answer)?)
+    Ok(after(body, alloc, &answer, seen)?)
 }
 
 // Nothing is pending, and nothing can come.
@@ -101,7 +107,7 @@ fn ask<W: Wire>(body: &mut Body, alloc: Global, wire: &mut W, call: Call) -> Res
 }
 
 // What a turn does once it has its answer.
-fn after(body: &mut Body, alloc: Global, answer: &Answer) -> Result<Went, Memory>
+fn after(body: &mut Body, alloc: Global, answer: &Answer, seen: &mut u32) -> Result<Went, Memory>
     requires alive { IsAlive body.old }
     requires time { IsTime answer.now }
     ensures { IfOk result (λ went. (c : Setting) (s : State (Unit {0})) → IsBetween c body.old s
@@ -111,7 +117,7 @@ fn after(body: &mut Body, alloc: Global, answer: &Answer) -> Result<Went, Memory
     wake(body, answer);
     let done_before = body.main_done;
     match run_below(body, alloc)? {
-        Stepped::Goes => end_turn(body, done_before),
+        Stepped::Goes => end_turn(body, done_before, seen),
         Stepped::Runaway(task) => Ok(Went::Runaway(task)),
     }
 }
@@ -132,13 +138,13 @@ fn wake(body: &mut Body, answer: &Answer)
 
 // After the turn in which main's callback ran, each task that lives is cancelled. The run ends with the first turn, from
 // that one on, after which none lives.
-fn end_turn(body: &mut Body, done_before: bool) -> Result<Went, Memory>
+fn end_turn(body: &mut Body, done_before: bool, seen: &mut u32) -> Result<Went, Memory>
     requires { IsAlive body.old }
     ensures { IfOk result (λ went. (c : Setting) (s : State (Unit {0})) → IsBetween c body.old s
         → Turned c body.new went (turn_over done_before s)) }
 {
     cancel_after_main(body, done_before);
-    finish(body)
+    finish(body, seen)
 }
 
 fn cancel_after_main(body: &mut Body, done_before: bool)
@@ -152,12 +158,12 @@ fn cancel_after_main(body: &mut Body, done_before: bool)
 }
 
 // The run ends where main's callback ran and no task lives.
-fn finish(body: &Body) -> Result<Went, Memory>
+fn finish(body: &Body, seen: &mut u32) -> Result<Went, Memory>
     requires { IsAlive body.now }
     ensures { IfOk result (λ went. (c : Setting) (s : State (Unit {0})) → IsBetween c body.now s
         → Turned c body.now went (finished_if (finished_as s) s)) }
 {
-    if !body.main_done || some_task_lives(body) {
+    if !body.main_done || some_task_lives(body, seen) {
         return Ok(Went::Went);
     }
     match body.parts.outcome(body.parts.future_of(0)) {
@@ -179,7 +185,31 @@ fn cancel_everything(body: &mut Body)
     }
 }
 
-fn some_task_lives(body: &Body) -> bool
+// From the task on that was seen last to live, and then from the first on. Tasks that are done stay done, and new ones have
+// greater numbers, so all turns together look at each task about once.
+fn some_task_lives(body: &Body, seen: &mut u32) -> bool
+    requires { IsAlive body.now }
+    ensures { (c : Setting) (s : State (Unit {0})) → IsBetween c body.now s → result ≡ not (no_task_lives s.loop.parts) }
+{
+    lives_from(body, seen) || any_lives(body)
+}
+
+// Whether a task lives from this one on, which is then that task.
+fn lives_from(body: &Body, seen: &mut u32) -> bool
+    requires { IsAlive body.now }
+    ensures { result ≡ true → (c : Setting) (s : State (Unit {0})) → IsBetween c body.now s
+        → true ≡ not (no_task_lives s.loop.parts) }
+{
+    for task in *seen..tasks(body) {
+        if body.parts.is_pending(body.parts.future_of(task)) {
+            *seen = task;
+            return true;
+        }
+    }
+    false
+}
+
+fn any_lives(body: &Body) -> bool
     requires { IsAlive body.now }
     ensures { (c : Setting) (s : State (Unit {0})) → IsBetween c body.now s → result ≡ not (no_task_lives s.loop.parts) }
 {

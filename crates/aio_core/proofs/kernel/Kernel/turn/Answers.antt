@@ -2,6 +2,7 @@ use Rattle.std.proofs.Common.{◌≡◌, ◌∙◌, refl, sym, arith}
 use Rattle.aio_core.specs.Again.{Again}
 use Rattle.aio_core.specs.declared.went.Went.TheVariants as went
 use Rattle.aio_core.proofs.Keeping.{alive_ended, alive_of, if_none, if_some, kept_again, kept_alive, kept_end, kept_goes, kept_now, not_both, turned_up}
+use Rattle.aio_core.proofs.Sound.{turn_sound}
 use Rattle.aio_core.proofs.kernel.Kernel.turn.Goals as goal
 
 -- ---- the run had ended
@@ -10,6 +11,9 @@ invariant_of-self g c = record { alive = alive_ended c.end.new.kept c.end.result
 
 pub returns-in-Some-clause-turned : goal.returns-in-Some-clause-turned
 returns-in-Some-clause-turned g c = λ none. not_both c.args.self.now.ended c.in-Some.ended none (sym c.take.ensures.value ∙ c.in-Some.is)
+
+pub returns-in-Some-clause-sound : goal.returns-in-Some-clause-sound
+returns-in-Some-clause-sound g c = λ past answers s h. turn_sound past answers c.args.self.now s h
 
 pub returns-in-Some-clause-keeps : goal.returns-in-Some-clause-keeps
 returns-in-Some-clause-keeps g c = g.met.W.Wire.keeps_same c.args.wire.now
@@ -55,6 +59,7 @@ returns-in-Ok g c =
             c.in-Ok.ensures.comes c.in-Ok.ensures.stalls c.in-Ok.ensures.quiet c.in-Ok.ensures.fails
             (kept_again c.in-Ok.went c.keep.result c.take.new.self c.keep.new.kept c.take.ensures.after c.keep.ensures),
       );
+      sound = λ past answers s h. turn_sound past answers c.args.self.now s h;
       keeps = c.in-Ok.ensures.keeps;
       later = c.in-Ok.ensures.later;
       kept = kept_now c.in-Ok.went c.keep.result c.take.new.self c.keep.new.kept c.take.ensures.after c.keep.ensures;
@@ -74,6 +79,7 @@ returns-in-Err g c =
             c.in-Err.ensures.comes c.in-Err.ensures.stalls c.in-Err.ensures.quiet c.in-Err.ensures.fails
             (kept_again said c.keep-in-Err.result c.take.new.self c.keep-in-Err.new.kept c.take.ensures.after c.keep-in-Err.ensures),
       );
+      sound = λ past answers s h. turn_sound past answers c.args.self.now s h;
       keeps = c.in-Err.ensures.keeps;
       later = c.in-Err.ensures.later;
       kept = kept_now said c.keep-in-Err.result c.take.new.self c.keep-in-Err.new.kept c.take.ensures.after c.keep-in-Err.ensures;
