@@ -1,0 +1,97 @@
+//! The lives of tasks, timers and callbacks.
+use crate::step::{Stepped, Then};
+use crate::still::Still;
+use aio_base::Memory;
+use std::alloc::Global;
+
+/// A task pauses, awaits another, is woken once that is done, and returns.
+pub fn awaits_another(alloc: Global, still: &mut Still) -> Result<bool, Memory> {
+    let first = still.spawn(alloc)?;
+    let second = still.spawn(alloc)?;
+    let on = still.parts().future_of(second);
+    still.set_bar();
+    let waits = still.step(Then::Awaits(on)) == Stepped::Sent(first)
+        && still.parts().waiter(first) == Some(on)
+        && still.step(Then::Returns) == Stepped::Sent(second)
+        && still.step(Then::Pauses) == Stepped::Nothing;
+    still.set_bar();
+    let woken = still.step(Then::Returns) == Stepped::Sent(first);
+    let own = still.parts().future_of(first);
+    Ok(waits && woken && !still.parts().is_pending(own) && !still.parts().is_pending(on))
+}
+
+/// A marked task is resumed with CancelledError once; what it counts is taken back one by one.
+pub fn mark_is_used_up(alloc: Global, still: &mut Still) -> Result<bool, Memory> {
+    let task = still.spawn(alloc)?;
+    let own = still.parts().future_of(task);
+    let asked = still.cancel(own) && still.cancel(own);
+    still.set_bar();
+    let thrown = still.step(Then::Pauses) == Stepped::Thrown(task);
+    still.set_bar();
+    let sent = still.step(Then::Pauses) == Stepped::Sent(task);
+    let counts = still.parts().cancelling(task) == 2
+        && still.uncancel(task) == 1
+        && still.uncancel(task) == 0
+        && still.uncancel(task) == 0;
+    Ok(asked && thrown && sent && counts)
+}
+
+/// An await of itself is thrown at the task, and a task that raised is done.
+pub fn await_of_itself(alloc: Global, still: &mut Still) -> Result<bool, Memory> {
+    let task = still.spawn(alloc)?;
+    let own = still.parts().future_of(task);
+    still.set_bar();
+    let first = still.step(Then::Awaits(own)) == Stepped::Sent(task);
+    let free = still.parts().waiter(task).is_none();
+    still.set_bar();
+    let ended = still.step(Then::Raises) == Stepped::Sent(task);
+    Ok(first && free && ended && !still.parts().is_pending(own) && !still.cancel(own))
+}
+
+/// Callbacks run in order of registration, once the future is done, and at once where it is.
+pub fn callbacks_in_order(alloc: Global, still: &mut Still) -> Result<bool, Memory> {
+    let id = still.plain(alloc)?;
+    for number in 0..3 {
+        still.on_done(alloc, id, number)?;
+    }
+    still.set_bar();
+    let none = still.firing().is_none();
+    let done = still.cancel(id);
+    still.on_done(alloc, id, 3)?;
+    still.set_bar();
+    let mut right = none && done;
+    for number in 0..4 {
+        right = right && still.firing() == Some(number);
+    }
+    Ok(right && still.parts().is_empty())
+}
+
+/// Timers fire by deadline, equal ones in order of scheduling; those that were cancelled don't.
+pub fn timers_by_deadline(alloc: Global, still: &mut Still) -> Result<bool, Memory> {
+    let late = still.at(alloc, 20, 0)?;
+    let _first = still.at(alloc, 10, 1)?;
+    let _second = still.at(alloc, 10, 2)?;
+    let fallen = still.at(alloc, 5, 3)?;
+    let earliest = still.parts().earliest() == Some(5);
+    still.due(10);
+    still.cancel_timer(fallen);
+    still.cancel_timer(late);
+    still.set_bar();
+    let fired = still.firing() == Some(1) && still.firing() == Some(2) && still.firing().is_none();
+    Ok(earliest && fired && still.parts().earliest().is_none())
+}
+
+/// So many timers, the latest made first, fall due at once.
+pub fn many_timers(alloc: Global, count: u32, still: &mut Still) -> Result<bool, Memory> {
+    for number in 0..count {
+        let when = u64::from(count.saturating_sub(number));
+        let _timer = still.at(alloc, when, number)?;
+    }
+    still.due(u64::from(count));
+    still.set_bar();
+    let mut right = still.parts().earliest().is_none();
+    for place in 1..=count {
+        right = right && still.firing() == Some(count.saturating_sub(place));
+    }
+    Ok(right)
+}
