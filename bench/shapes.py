@@ -1,0 +1,130 @@
+"""The shapes of programs that bench/replay measures: a script for each, in three sizes, and the journal that it asks for.
+
+A script is `scripts/NAME.aio` with a main that gives its `bench` the size, and `asyncio/NAME.py` is the same program for
+CPython. A journal is a list of times, as long as the run asks. A task's sleep takes two turns, the one in which its timer
+falls due and the one in which the task goes on; a `yield`, a task's first step and a wakeup take one, and main's end one.
+"""
+
+import os
+from typing import Callable, NamedTuple
+
+HERE = os.path.dirname(os.path.abspath(__file__))
+THOUSANDS = (1_000, 10_000, 100_000)
+
+
+class Shape(NamedTuple):
+    name: str
+    says: str
+    # in the plural
+    unit: str
+    sizes: tuple
+    times: Callable
+    # how many units the size has
+    units: Callable = lambda n: n
+    status: int = 0
+
+    def script(self, n):
+        main = f"\ndef main()\n  yield from bench({n})\nend\n"
+        path = os.path.join(HERE, "scripts", f"{self.name}.aio")
+        if not os.path.exists(path):
+            return variables(n) + main
+        with open(path) as file:
+            return file.read() + main
+
+    def journal(self, n):
+        return "".join(f"turn {now}\n" for now in self.times(n))
+
+    def asyncio(self):
+        """The program for CPython, if there is one."""
+        path = os.path.join(HERE, "asyncio", f"{self.name}.py")
+        return path if os.path.exists(path) else None
+
+
+def variables(n):
+    """A script with n variables, to each of which 1 is added 90 times."""
+    lines = [f"x{i} = 0" for i in range(n)]
+    lines += ["rounds = 0", "while rounds < 90"]
+    lines += [f"x{i} = x{i} + 1" for i in range(n)]
+    lines += ["rounds = rounds + 1", "end", f'print "sum", x{n - 1}']
+    return "def bench(n)\n" + "".join(f"  {line}\n" for line in lines) + "end\n"
+
+
+def still(turns):
+    """The time stays 0 for so many turns."""
+    return [0] * turns
+
+
+def twice(last):
+    """Main and then tasks run at 0. Each time from 1 on has a turn in which timers fall due, and one in which tasks go on."""
+    return [0] + [now for time in range(1, last + 1) for now in (time, time)]
+
+
+SHAPES = [
+    Shape("nothing", "a main that prints a line", "runs", (1,), lambda n: still(2)),
+    Shape(
+        "sleeps",
+        "tasks that sleep 100 times each, all at once",
+        "sleeps",
+        (10, 100, 1_000),
+        lambda n: [0] + twice(100) + [100, 100],
+        lambda n: 100 * n,
+    ),
+    Shape(
+        "sleeps_apart",
+        "tasks that sleep 100 times each, one at a time",
+        "sleeps",
+        (10, 100, 1_000),
+        lambda n: [0] + twice(100 * n) + [100 * n, 100 * n],
+        lambda n: 100 * n,
+    ),
+    Shape("chain", "a chain of awaits, each of a new task", "awaits", (100, 1_000, 10_000), lambda n: still(2 * n + 2)),
+    Shape(
+        "chain_upwards",
+        "a chain of awaits, each of a task that waits",
+        "awaits",
+        (100, 1_000, 10_000),
+        lambda n: still(n + 4),
+    ),
+    Shape("futures", "futures made, set and awaited", "futures", THOUSANDS, lambda n: still(n // 1_000 + 2)),
+    Shape("waiters", "tasks that await one future", "tasks", THOUSANDS, lambda n: still(n // 1_000 + 4)),
+    Shape("cancels", "tasks spawned and cancelled, one by one", "tasks", THOUSANDS, lambda n: still(3 * n + 2)),
+    Shape("left", "tasks that live at main's end", "tasks", THOUSANDS, lambda n: still(n // 1_000 + 3)),
+    Shape("group", "a group of children, one failing", "children", (100, 1_000, 10_000), lambda n: still(7)),
+    Shape(
+        "group_passes",
+        "a group of children that sleep once",
+        "children",
+        (100, 1_000, 10_000),
+        lambda n: [0] + twice(1) + [1, 1, 1],
+    ),
+    Shape("timeouts", "sleeps within timeouts", "timeouts", THOUSANDS, lambda n: twice(n) + [n]),
+    Shape("timeouts_over", "timeouts that come", "timeouts", THOUSANDS, lambda n: twice(n) + [n]),
+    Shape("yields", "a main that yields", "turns", (10_000, 100_000, 1_000_000), lambda n: still(n + 2)),
+    Shape("early", "one long sleep, whose wait ends early", "turns", (10_000, 100_000, 1_000_000), still, status=6),
+    Shape("prints", "prints", "lines", THOUSANDS, lambda n: still(n // 1_000 + 2)),
+    Shape(
+        "additions",
+        "additions, in steps of 90,000 statements",
+        "additions",
+        (100_000, 1_000_000, 10_000_000),
+        lambda n: still(-(-n // 45_000) + 2),
+    ),
+    Shape(
+        "calls",
+        "calls, 60 deep again and again",
+        "calls",
+        (100, 1_000, 10_000),
+        lambda n: still(n // 100 + 2),
+        lambda n: 60 * n,
+    ),
+    Shape("yields_deep", "a yield, 60 calls deep", "turns", THOUSANDS, lambda n: still(n + 2)),
+    Shape("raises", "exceptions raised and caught", "exceptions", THOUSANDS, lambda n: still(n // 1_000 + 2)),
+    Shape(
+        "variables",
+        "variables of one coroutine, each assigned 90 times",
+        "assignments",
+        (10, 100, 1_000),
+        lambda n: still(2),
+        lambda n: 90 * n,
+    ),
+]
