@@ -1,5 +1,6 @@
 -- A run under way: what was written, what is left, and each way out.
-use Rattle.std.proofs.Common.{◌≡◌, ℕ, zero, suc, ◌+◌, ◌-◌, ◌^◌, ◌<◌, ◌≤◌, Bool, true, false, List, [], ◌∷◌, ◌++◌, Option, Some, None, map, min, ◌⊎◌, inl, inr, refl, ap, sym, ◌∙◌, subst, append_assoc, arith}
+use Rattle.std.proofs.Common.{◌≡◌, ℕ, suc, ◌+◌, ◌-◌, ◌^◌, ◌≤◌, List, [], ◌∷◌, ◌++◌, Option, Some, None, map, min, inl, inr}
+use Rattle.std.proofs.Common.{refl, ap, sym, ◌∙◌, subst, append_assoc, arith}
 use Rattle.model_tree.specs.Syntax.{Program}
 use Rattle.model_says.specs.Says.{step_limit}
 use Rattle.model_wire.specs.declared.event.End.TheVariants as ends
@@ -13,15 +14,17 @@ use Rattle.model_machine.specs.Outcomes.{end_of}
 use Rattle.model_machine.specs.Program.{output_of}
 use Rattle.model_machine.specs.Run.{Run, run, run_after, run_on, turns_over}
 use Rattle.model_machine.specs.State.{State, start}
-use Rattle.model_machine.specs.Theorem.{Output, WritesWhole}
+use Rattle.model_machine.specs.Theorem.{ProgramOutput, WritesWhole}
 use Rattle.model_machine.specs.Transcript.{status_of, transcript}
 use Rattle.model_machine.specs.Turn.{is_stalled, turn}
 use Rattle.model_machine.specs.Went.{Went, Goes, Stops, answers_in}
 use Rattle.law_machine.proofs.Turns.{run-grows}
 use Rattle.aio_wire.specs.Told.{refused_of}
 use Rattle.aio_wire.specs.declared.stop.Stop.TheVariants as stop
+use Rattle.aio_extra.specs.Nothing.{nothing_added}
+use Rattle.aio_extra.specs.declared.nothing.NoExtra.{NoExtra}
 use Rattle.aio_core.specs.Turned.{Begins, Ends, EndsAs, GoesOn, StandsFor, TurnsTo, untaken}
-use Rattle.aio_core.specs.Turning.{AnyLeft, Is, IsMismatch, NextIs, NoneLeft, Takes}
+use Rattle.aio_core.specs.Turning.{AnyLeft, Is, IsMismatch, Takes}
 use Rattle.aio_core.specs.declared.kernel.Kernel.{Kernel}
 use Rattle.aio_core.specs.declared.went.Went as code
 use Rattle.aio_core.specs.declared.went.Went.TheVariants as went
@@ -30,7 +33,7 @@ use Rattle.aio_drive.specs.Ending.{NextOf}
 use Rattle.aio_drive.specs.Outcome.{EndsEarly}
 use Rattle.aio_drive.specs.Writing.{StopsWriting}
 use Rattle.aio_drive.specs.declared.driver.Manner.{Manner}
-use Rattle.aio_drive.specs.declared.ending.Next.TheVariants as next
+use Rattle.aio_drive.specs.declared.ending.AfterTurn.TheVariants as next
 use Rattle.aio_drive.specs.declared.halt.Halt.{Halt}
 use Rattle.aio_drive.specs.declared.halt.Halt.TheVariants.{Memory, Sink}
 use Rattle.aio_drive.proofs.Fronts.{append-nil, failed_on, took-nil, took_on}
@@ -38,16 +41,16 @@ use Rattle.aio_drive.proofs.Turns.{got-one, lines-append, run_on-last, run_on-tu
 
 -- The state of a run after some turns, over entries that are left: the kernel stands for it, and the run from the start is
 -- the run from it.
-pub record At (program : Program) (how : Manner) (made left : ℕ) (kernel : Kernel) (past : List Entry) (taken : List Event)
+pub record At {g : _} (program : Program) (how : Manner) (made left : ℕ) (kernel : Kernel NoExtra g) (past : List Entry) (taken : List Event)
     (rest : List Entry) : Type 0 where
   pub s : State (Unit {0})
-  pub stands : StandsFor taken rest kernel s
+  pub stands : StandsFor nothing_added taken rest kernel s
   pub on : run program (past ++ rest) how.turns ≡ run_on step_limit no_extra how.turns left s
   pub begun : made ≡ 0 → s ≡ start tt program rest
 
 -- A run of a program, driven in this manner, in which some turns were made and others are left: the answers so far, the
 -- events that were taken out, what the wire told first and tells now, and what the sink took.
-pub record Running (program : Program) (how : Manner) (made left : ℕ) (kernel : Kernel) (past : List Entry) (taken : List Event)
+pub record IsDriven {g : _} (program : Program) (how : Manner) (made left : ℕ) (kernel : Kernel NoExtra g) (past : List Entry) (taken : List Event)
     (first_told now_told : Option (List Entry)) (first now : SinkSeen) : Type 0 where
   pub at : (rest : List Entry) → At program how made left kernel past taken rest
   pub none : untaken kernel ≡ []
@@ -57,12 +60,13 @@ pub record Running (program : Program) (how : Manner) (made left : ℕ) (kernel 
   pub got : answers_in taken ≤ made
   pub begun : made ≡ 0 → taken ≡ []
 
-none-taken : (kernel : Kernel) (s : State (Unit {0})) → s.events ≡ [] → s.events ≡ [] ++ untaken kernel → untaken kernel ≡ []
+none-taken : {g : _} (kernel : Kernel NoExtra g) (s : State (Unit {0})) → s.events ≡ [] → s.events ≡ [] ++ untaken kernel → untaken kernel ≡ []
 none-taken kernel s none is = sym is ∙ none
 
 -- a run that begins
-pub running_first : (program : Program) (how : Manner) (kernel : Kernel) (told : Option (List Entry)) (sink : SinkSeen) → Begins program kernel
-    → Running program how 0 how.turns kernel [] [] told told sink sink
+pub running_first : {g : _} (program : Program) (how : Manner) (kernel : Kernel NoExtra g) (told : Option (List Entry)) (sink : SinkSeen)
+    → Begins nothing_added tt program kernel
+    → IsDriven program how 0 how.turns kernel [] [] told told sink sink
 running_first program how kernel told sink begins =
     record {
       at = λ rest. record { s = start tt program rest; stands = begins rest; on = refl; begun = λ none. refl };
@@ -102,9 +106,9 @@ pub record GoesOnHere (program : Program) (how : Manner) (first_told : Option (L
   pub more : List Event
   pub is : (run program entries how.turns).events ≡ events ++ more
 
-module _ {program : Program} {how : Manner} {made left : ℕ} {kernel : Kernel} {past : List Entry} {taken : List Event}
+module _ {g : _} {program : Program} {how : Manner} {made left : ℕ} {kernel : Kernel NoExtra g} {past : List Entry} {taken : List Event}
     {first_told now_told : Option (List Entry)} {first now : SinkSeen}
-    (running : Running program how made left kernel past taken first_told now_told first now) where
+    (running : IsDriven program how made left kernel past taken first_told now_told first now) where
   -- no event is in the kernel
   pub told_all : (rest : List Entry) → (running.at rest).s.events ≡ taken
   told_all rest =
@@ -125,7 +129,7 @@ module _ {program : Program} {how : Manner} {made left : ℕ} {kernel : Kernel} 
 
   -- where no turn is left
   pub ends_last : left ≡ 0 → (end : End)
-      → ((past : List Event) (answers : List Entry) (s : State (Unit {0})) → StandsFor past answers kernel s
+      → ((past : List Event) (answers : List Entry) (s : State (Unit {0})) → StandsFor nothing_added past answers kernel s
       → end ≡ turns_over (is_stalled no_extra s) how.turns)
       → EndsHere program how first_told taken end
   ends_last none end is =
@@ -141,9 +145,9 @@ module _ {program : Program} {how : Manner} {made left : ℕ} {kernel : Kernel} 
       }
 
 -- a turn, by what was said of it
-module _ {program : Program} {how : Manner} {made left : ℕ} {kernel : Kernel} {past : List Entry} {taken : List Event}
-    {first_told now_told : Option (List Entry)} {first sink : SinkSeen} (new : Kernel) (new_told : Option (List Entry))
-    (running : Running program how made (suc left) kernel past taken first_told now_told first sink) where
+module _ {g : _} {program : Program} {how : Manner} {made left : ℕ} {kernel : Kernel NoExtra g} {past : List Entry} {taken : List Event}
+    {first_told now_told : Option (List Entry)} {first sink : SinkSeen} (new : Kernel NoExtra g) (new_told : Option (List Entry))
+    (running : IsDriven program how made (suc left) kernel past taken first_told now_told first sink) where
   -- what happened so far
   abbrev so_far : List Event
   so_far = taken ++ untaken new
@@ -152,14 +156,14 @@ module _ {program : Program} {how : Manner} {made left : ℕ} {kernel : Kernel} 
       → run program (past ++ entries) how.turns ≡ run_after (run_on step_limit no_extra how.turns left) went
   on_turn entries went e = (running.at entries).on ∙ run_on-turn how.turns left (running.at entries).s went e
 
-  ends_with : (entries : List Entry) (ways : End → State (Unit {0}) → Type 0) → (it : Ends ways taken new (running.at entries).s)
+  ends_with : (entries : List Entry) (ways : End → State (Unit {0}) → Type 0) → (it : Ends nothing_added ways taken new (running.at entries).s)
       → run program (past ++ entries) how.turns ≡ record { events = so_far; end = it.end }
   ends_with entries ways it =
       on_turn entries (Stops it.end it.last) it.stops ∙ ap (λ (es : List Event). record { events = es; end = it.end }) it.told
 
   -- over entries that agree with what is told
   ends_over : (entries : List Entry) (ways : End → State (Unit {0}) → Type 0) → Agrees now_told entries
-      → (it : Ends ways taken new (running.at entries).s) → (end : End) → end ≡ it.end → EndsHere program how first_told so_far end
+      → (it : Ends nothing_added ways taken new (running.at entries).s) → (end : End) → end ≡ it.end → EndsHere program how first_told so_far end
   ends_over entries ways agrees it end is =
       record {
         entries = past ++ entries;
@@ -167,12 +171,12 @@ module _ {program : Program} {how : Manner} {made left : ℕ} {kernel : Kernel} 
         is = ends_with entries ways it ∙ ap (λ (e : End). record { events = so_far; end = e }) (sym is);
       }
 
-  ends_after : (had : List Answer) (ways : End → State (Unit {0}) → Type 0) → Takes now_told new_told had → EndsAs had AnyLeft ways kernel new
-      → (rest : List Entry) → Agrees new_told rest → Ends ways taken new (running.at (map Answered had ++ rest)).s
+  ends_after : (had : List Answer) (ways : End → State (Unit {0}) → Type 0) → Takes now_told new_told had → EndsAs nothing_added had AnyLeft ways kernel new
+      → (rest : List Entry) → Agrees new_told rest → Ends nothing_added ways taken new (running.at (map Answered had ++ rest)).s
   ends_after had ways takes turns rest agrees =
       let here = running.at (map Answered had ++ rest) in turns taken rest here.s tt here.stands
 
-  ends_so : (had : List Answer) (wanted : End) → Takes now_told new_told had → EndsAs had AnyLeft (Is wanted) kernel new
+  ends_so : (had : List Answer) (wanted : End) → Takes now_told new_told had → EndsAs nothing_added had AnyLeft (Is wanted) kernel new
       → (end : End) → end ≡ wanted → EndsHere program how first_told so_far end
   ends_so had wanted takes turns end is =
       let (rest, agrees) = agreed new_told in
@@ -190,7 +194,7 @@ module _ {program : Program} {how : Manner} {made left : ℕ} {kernel : Kernel} 
       omega arith
 
   ends_misfit : how.turns ≤ 2 ^ 64 - 1 → (had : List Answer) (count : ℕ) (call : Call) → Takes now_told new_told had
-      → EndsAs had AnyLeft (IsMismatch count call) kernel new
+      → EndsAs nothing_added had AnyLeft (IsMismatch count call) kernel new
       → (end : End) → end ≡ ends.Mismatch count call → EndsHere program how first_told so_far end
   ends_misfit fits had count call takes turns end is =
       let (rest, agrees) = agreed new_told in
@@ -199,7 +203,7 @@ module _ {program : Program} {how : Manner} {made left : ℕ} {kernel : Kernel} 
       ends_over (map Answered had ++ rest) (IsMismatch count call) (takes rest agrees) it end
       (is ∙ ap (λ n. ends.Mismatch n call) count_is ∙ sym it.way.0)
 
-  pub ended : how.turns ≤ 2 ^ 64 - 1 → (before after : ℕ) (said : code.Went) → TurnsTo now_told new_told before after kernel new said
+  pub ended : how.turns ≤ 2 ^ 64 - 1 → (before after : ℕ) (said : code.Went) → TurnsTo nothing_added now_told new_told before after kernel new said
       → (end : End) → NextOf said (next.Ends end) → EndsHere program how first_told so_far end
   ended fits before after went.Went comes end is = absurd (cc is)
   ended fits before after (went.Finished outcome) (had, (takes, turns)) end is = ends_so had (end_of outcome) takes turns end is
@@ -224,7 +228,7 @@ module _ {program : Program} {how : Manner} {made left : ℕ} {kernel : Kernel} 
   had_so_far : (had : List Answer) (rest : List Entry) → past ++ (map Answered had ++ rest) ≡ (past ++ (map Answered had ++ [])) ++ rest
   had_so_far had rest = simp (append_assoc, append-nil)
 
-  pub fails_so : (before after : ℕ) (call : Call) → TurnsTo now_told new_told before after kernel new (went.Stopped (stop.Failed call))
+  pub fails_so : (before after : ℕ) (call : Call) → TurnsTo nothing_added now_told new_told before after kernel new (went.Stopped (stop.Failed call))
       → FailsHere program how first_told so_far
   fails_so before after call (had, (takes, turns, rose)) =
       let entries = map Answered had ++ [] in
@@ -240,7 +244,7 @@ module _ {program : Program} {how : Manner} {made left : ℕ} {kernel : Kernel} 
         is = ends_with entries (Is (ends.Over call)) it ∙ ap (λ (e : End). record { events = so_far; end = e }) it.way;
       }
 
-  pub fails : (before after : ℕ) (said : code.Went) → TurnsTo now_told new_told before after kernel new said → NextOf said next.Fails
+  pub fails : (before after : ℕ) (said : code.Went) → TurnsTo nothing_added now_told new_told before after kernel new said → NextOf said next.Fails
       → FailsHere program how first_told so_far × Rose before after
   fails before after went.Went comes is = absurd (cc is)
   fails before after (went.Finished outcome) comes is = absurd is
@@ -252,9 +256,10 @@ module _ {program : Program} {how : Manner} {made left : ℕ} {kernel : Kernel} 
   fails before after (went.Stopped (stop.Failed call)) comes is = (fails_so before after call comes, comes.1.2)
   fails before after (went.Stopped stop.Memory) comes is = absurd (cc is)
 
-  module _ (had : List Answer) (takes : Takes now_told new_told had) (goes : GoesOn had kernel new) where
+  module _ (had : List Answer) (takes : Takes now_told new_told had) (goes : GoesOn nothing_added had kernel new) where
     goes_over : (rest : List Entry)
-        → (now : State (Unit {0})) × ((turn step_limit no_extra (running.at (map Answered had ++ rest)).s ≡ Goes now) × StandsFor taken rest new now)
+        → (now : State (Unit {0})) × ((turn step_limit no_extra (running.at (map Answered had ++ rest)).s ≡ Goes now)
+        × StandsFor nothing_added taken rest new now)
     goes_over rest = let here = running.at (map Answered had ++ rest) in goes taken rest here.s here.stands
 
     -- the run goes on after it
@@ -275,10 +280,11 @@ module _ {program : Program} {how : Manner} {made left : ℕ} {kernel : Kernel} 
     regrouped : (rest : List Entry) → past ++ (map Answered had ++ rest) ≡ (past ++ map Answered had) ++ rest
     regrouped rest = sym (append_assoc past (map Answered had) rest)
 
-    pub turned_on : (after : Kernel) (sink_after : SinkSeen)
-        → ((past : List Event) (answers : List Entry) (s : State (Unit {0})) → StandsFor past answers new s → StandsFor (past ++ untaken new) answers after s)
+    pub turned_on : (after : Kernel NoExtra g) (sink_after : SinkSeen)
+        → ((past : List Event) (answers : List Entry) (s : State (Unit {0})) → StandsFor nothing_added past answers new s
+        → StandsFor nothing_added (past ++ untaken new) answers after s)
         → untaken after ≡ [] → sink_after ≡ took sink (lines_of_events how.trace (untaken new))
-        → Running program how (made + 1) left after (past ++ map Answered had) so_far first_told new_told first sink_after
+        → IsDriven program how (made + 1) left after (past ++ map Answered had) so_far first_told new_told first sink_after
     turned_on after sink_after takes_out none wrote =
         record {
           at = λ rest.
@@ -308,9 +314,9 @@ module _ {program : Program} {how : Manner} {made left : ℕ} {kernel : Kernel} 
         }
 
 -- ---- what is written
-module _ (may : Output → Type 0) (none : Type 0) (first now : SinkSeen) (shown : List ℕ) (had_shown : now ≡ took first shown) where
+module _ (may : ProgramOutput → Type 0) (none : Type 0) (first now : SinkSeen) (shown : List ℕ) (had_shown : now ≡ took first shown) where
   -- a text after what was shown stops short
-  pub early_by : (output : Output) → may output → (text rest : List ℕ) → output.text ≡ shown ++ (text ++ rest) → (after : SinkSeen) (halt : Halt)
+  pub early_by : (output : ProgramOutput) → may output → (text rest : List ℕ) → output.text ≡ shown ++ (text ++ rest) → (after : SinkSeen) (halt : Halt)
       → StopsWriting text now after halt → EndsEarly may none first after halt
   early_by output allowed text rest is after Memory (front, (others, whole), wrote) = (
     shown ++ front,
@@ -330,7 +336,7 @@ module _ (may : Output → Type 0) (none : Type 0) (first now : SinkSeen) (shown
       regrouped a b c d = simp append_assoc
 
   -- nothing more was written, for want of memory
-  pub nothing_more : (output : Output) → may output → (rest : List ℕ) → output.text ≡ shown ++ rest → EndsEarly may none first now Memory
+  pub nothing_more : (output : ProgramOutput) → may output → (rest : List ℕ) → output.text ≡ shown ++ rest → EndsEarly may none first now Memory
   nothing_more output allowed rest is = early_by output allowed [] rest is now Memory ([], ([], refl), sym (took-nil now))
 
   pub nothing_at_all : shown ≡ [] → none → EndsEarly may none first now Memory
@@ -338,7 +344,7 @@ module _ (may : Output → Type 0) (none : Type 0) (first now : SinkSeen) (shown
 
 module _ (program : Program) (how : Manner) (fault : End) (before after : WireSeen) (undisturbed quiet : Type 0) (first now last : SinkSeen)
     (so_far more : List Event) (wrote : now ≡ took first (lines_of_events how.trace so_far)) where
-  abbrev May : Output → Type 0
+  abbrev May : ProgramOutput → Type 0
   May = MayDrive program how fault before after undisturbed
 
   abbrev shown : List ℕ

@@ -1,20 +1,22 @@
 -- What is known of a turn by what comes next.
-use Rattle.std.proofs.Common.{◌≡◌, ℕ, zero, suc, ◌+◌, Bool, List, [], ◌∷◌, ◌++◌, Option, ◌⊎◌, inl, inr, refl, ap, sym, ◌∙◌, subst, arith}
+use Rattle.std.proofs.Common.{◌≡◌, ℕ, zero, suc, Bool, List, [], Option, ◌⊎◌, inl, inr, refl, ap, sym, ◌∙◌, subst}
 use Rattle.model_tree.specs.Syntax.{Program}
 use Rattle.model_says.specs.Says.{step_limit}
 use Rattle.model_wire.specs.declared.event.End.TheVariants as ends
 use Rattle.model_wire.specs.Call.{Call}
 use Rattle.model_wire.specs.Event.{Event}
 use Rattle.model_wire.specs.Journal.{Entry}
-use Rattle.model_wire.specs.Told.{Rose, SinkSeen, WireSeen, took}
-use Rattle.model_wire.specs.Trace.{End, end_text, line, lines_of_events}
+use Rattle.model_wire.specs.Told.{Rose, SinkSeen, WireSeen}
+use Rattle.model_wire.specs.Trace.{End, lines_of_events}
 use Rattle.model_machine.specs.Extra.{no_extra}
 use Rattle.model_machine.specs.Run.{turns_over}
 use Rattle.model_machine.specs.State.{State, start}
-use Rattle.model_machine.specs.Theorem.{Output}
+use Rattle.model_machine.specs.Theorem.{ProgramOutput}
 use Rattle.model_machine.specs.Turn.{is_stalled, turn}
 use Rattle.model_machine.specs.Went.{Stops}
 use Rattle.aio_wire.specs.declared.stop.Stop.TheVariants as stop
+use Rattle.aio_extra.specs.Nothing.{nothing_added}
+use Rattle.aio_extra.specs.declared.nothing.NoExtra.{NoExtra}
 use Rattle.aio_core.specs.Turned.{StandsFor, TurnedBy, TurnsTo, untaken}
 use Rattle.aio_core.specs.Turning.{OfFailing, StallsAs, UnlessFailed}
 use Rattle.aio_core.specs.declared.kernel.Kernel.{Kernel}
@@ -24,10 +26,10 @@ use Rattle.aio_drive.specs.Drive.{LastOf, MayDrive, Undisturbed}
 use Rattle.aio_drive.specs.Ending.{LastSays, NextOf}
 use Rattle.aio_drive.specs.Outcome.{EndsEarly}
 use Rattle.aio_drive.specs.declared.driver.Manner.{Manner}
-use Rattle.aio_drive.specs.declared.ending.Next.{Next}
-use Rattle.aio_drive.specs.declared.ending.Next.TheVariants as next
+use Rattle.aio_drive.specs.declared.ending.AfterTurn.{AfterTurn}
+use Rattle.aio_drive.specs.declared.ending.AfterTurn.TheVariants as next
 use Rattle.aio_drive.specs.declared.halt.Halt.TheVariants.{Memory}
-use Rattle.aio_drive.proofs.Driving.{GoesOnHere, Running, fails_silent, fails_so, goes_early, goes_on_here, nothing_at_all}
+use Rattle.aio_drive.proofs.Driving.{GoesOnHere, IsDriven, fails_silent, fails_so, goes_early, goes_on_here, nothing_at_all}
 use Rattle.aio_drive.proofs.Fronts.{append-nil, took-nil}
 
 -- a run that begins asks
@@ -36,7 +38,7 @@ unfolding turn
 start-asks program last e = cc e
 
 -- what comes next of what was said, unless memory was refused after it
-pub of_said : (result said : code.Went) (what : Next) → (result ≡ said) ⊎ (result ≡ went.Stopped stop.Memory) → NextOf result what
+pub of_said : (result said : code.Went) (what : AfterTurn) → (result ≡ said) ⊎ (result ≡ went.Stopped stop.Memory) → NextOf result what
     → (what ≡ next.Nothing → ⊥) → NextOf said what
 of_said result said what (inl same) is other = subst (λ (w : code.Went). NextOf w what) same is
 of_said result said what (inr none) is other = absurd (other (subst (λ (w : code.Went). NextOf w what) none is))
@@ -84,21 +86,21 @@ last_by (went.Stopped (stop.Mismatch count call)) turns end stalled stalls is = 
 last_by (went.Stopped (stop.Failed call)) turns end stalled stalls is = is ∙ ap (λ b. turns_over b turns) (sym stalls)
 last_by (went.Stopped stop.Memory) turns end stalled stalls is = absurd is
 
-pub last_as : {fails quiet : Type 0} {before after : WireSeen} {old new : Kernel} {result said : code.Went}
-    → TurnedBy fails quiet before after old new result said → (turns : ℕ) (end : End) → LastSays result turns end → LastOf old turns end
+pub last_as : {g : _} {fails quiet : Type 0} {before after : WireSeen} {old new : Kernel NoExtra g} {result said : code.Went}
+    → TurnedBy nothing_added fails quiet before after old new result said → (turns : ℕ) (end : End) → LastSays result turns end → LastOf old turns end
 last_as {old = old} {result = result} {said = said} by turns end is = λ past answers s stands. at past answers s stands by.either
   where
-    at : (past : List Event) (answers : List Entry) (s : State (Unit {0})) → StandsFor past answers old s
+    at : (past : List Event) (answers : List Entry) (s : State (Unit {0})) → StandsFor nothing_added past answers old s
         → (result ≡ said) ⊎ (result ≡ went.Stopped stop.Memory) → end ≡ turns_over (is_stalled no_extra s) turns
     at past answers s stands (inl same) =
         last_by said turns end (is_stalled no_extra s) (by.stalls past answers s stands) (subst (λ (w : code.Went). LastSays w turns end) same is)
     at past answers s stands (inr none) = absurd (subst (λ (w : code.Went). LastSays w turns end) none is)
 
-module _ {program : Program} {how : Manner} {made left : ℕ} {kernel : Kernel} {past : List Entry} {taken : List Event}
-    {first_told now_told : Option (List Entry)} {first sink : SinkSeen} (new : Kernel) (new_told : Option (List Entry)) (before after : ℕ)
-    (running : Running program how made (suc left) kernel past taken first_told now_told first sink) where
+module _ {g : _} {program : Program} {how : Manner} {made left : ℕ} {kernel : Kernel NoExtra g} {past : List Entry} {taken : List Event}
+    {first_told now_told : Option (List Entry)} {first sink : SinkSeen} (new : Kernel NoExtra g) (new_told : Option (List Entry)) (before after : ℕ)
+    (running : IsDriven program how made (suc left) kernel past taken first_told now_told first sink) where
   -- no run ends in its first turn over a wire that fails at each call
-  pub alive : (said : code.Went) → TurnsTo now_told new_told before after kernel new said → (end : End) → NextOf said (next.Ends end)
+  pub alive : (said : code.Went) → TurnsTo nothing_added now_told new_told before after kernel new said → (end : End) → NextOf said (next.Ends end)
       → OfFailing said → made ≡ 0 → ⊥
   alive went.Went comes end is failing none = failing
   alive (went.Finished outcome) comes end is failing none = failing
@@ -116,12 +118,12 @@ module _ {program : Program} {how : Manner} {made left : ℕ} {kernel : Kernel} 
   alive (went.Stopped stop.Memory) comes end is failing none = cc is
 
 -- memory was refused in the turn, or after it
-module _ {program : Program} {how : Manner} {made left : ℕ} {kernel : Kernel} {past : List Entry} {taken : List Event}
-    {now_told : Option (List Entry)} {first sink : SinkSeen} (new : Kernel) (new_told : Option (List Entry)) (before after : ℕ)
+module _ {g : _} {program : Program} {how : Manner} {made left : ℕ} {kernel : Kernel NoExtra g} {past : List Entry} {taken : List Event}
+    {now_told : Option (List Entry)} {first sink : SinkSeen} (new : Kernel NoExtra g) (new_told : Option (List Entry)) (before after : ℕ)
     (seen last : WireSeen) (fault : End) (fails quiet : Type 0)
-    (running : Running program how made (suc left) kernel past taken seen.left now_told first sink) (rose : Rose before after → Rose seen.faults last.faults)
+    (running : IsDriven program how made (suc left) kernel past taken seen.left now_told first sink) (rose : Rose before after → Rose seen.faults last.faults)
     (first_turn : fails → made ≡ 0) where
-  abbrev May : Output → Type 0
+  abbrev May : ProgramOutput → Type 0
   May = MayDrive program how fault seen last (Undisturbed fails quiet)
 
   by_turns : quiet → (n : ℕ) → made ≡ n → EndsEarly May quiet first sink Memory
@@ -132,13 +134,13 @@ module _ {program : Program} {how : Manner} {made left : ℕ} {kernel : Kernel} 
       (subst (λ (es : List Event). GoesOnHere program how seen.left es) (sym (append-nil taken)) (goes_on_here running))
       (λ is. absurd (cc (first_turn is)), holds) Memory ([], ([], refl), sym (took-nil sink))
 
-  pub refused : (said : code.Went) → TurnsTo now_told new_told before after kernel new said → UnlessFailed quiet said
+  pub refused : (said : code.Went) → TurnsTo nothing_added now_told new_told before after kernel new said → UnlessFailed quiet said
       → EndsEarly May quiet first sink Memory
   refused said comes still = at (failed_or said quiet still)
     where
       at : ((call : Call) × (said ≡ went.Stopped (stop.Failed call))) ⊎ quiet → EndsEarly May quiet first sink Memory
       at (inl (call, failed)) =
-          let so = subst (λ (w : code.Went). TurnsTo now_told new_told before after kernel new w) failed comes in
+          let so = subst (λ (w : code.Went). TurnsTo nothing_added now_told new_told before after kernel new w) failed comes in
           fails_silent program how fault seen last (Undisturbed fails quiet) quiet first sink sink taken (untaken new) running.sink
           (fails_so new new_told running before after call so) (rose so.1.2)
       at (inr holds) = by_turns holds made refl

@@ -4,12 +4,13 @@ ghost use Rattle.model_machine.specs.Theorem.{WritesWhole};
 ghost use Rattle.aio_drive.specs.Drive.{LastOf, MayDrive, Undisturbed};
 ghost use Rattle.aio_drive.specs.Outcome.{EndsEarly};
 
-use crate::ending::{Next, last_says, next_of};
+use crate::ending::{AfterTurn, last_says, next_of};
 use crate::halt::Halt;
 use crate::lines::{write_end, write_events};
 use crate::silent::Silent;
 use aio_base::Memory;
 use aio_core::Kernel;
+use aio_extra::NoExtra;
 use aio_program::Program;
 use aio_trace::End;
 use aio_wire::{Events, Sink, Wire};
@@ -34,22 +35,24 @@ pub fn drive<W: Wire, K: Sink>(
 ) -> Result<u8, Halt>
     requires some { 1 ≤ manner.turns }
     ensures ok { IfOk result (WritesWhole
-        (MayDrive program.now manner fault.now (W.seen wire.old) (W.seen wire.new) (Undisturbed (W.fails wire.old) (W.quiet wire.old wire.new)))
+        (MayDrive program.now manner fault.now (W.seen wire.old) (W.seen wire.new)
+        (Undisturbed (W.fails wire.old) (W.quiet wire.old wire.new)))
         (K.seen out.old) (K.seen out.new)) }
     ensures err { IfErr result (EndsEarly
-        (MayDrive program.now manner fault.now (W.seen wire.old) (W.seen wire.new) (Undisturbed (W.fails wire.old) (W.quiet wire.old wire.new)))
+        (MayDrive program.now manner fault.now (W.seen wire.old) (W.seen wire.new)
+        (Undisturbed (W.fails wire.old) (W.quiet wire.old wire.new)))
         (W.quiet wire.old wire.new) (K.seen out.old) (K.seen out.new)) }
     ensures keeps { W.keeps wire.old wire.new }
 {
-    let mut kernel = Kernel::new(alloc, program)?;
+    let mut kernel = Kernel::new(alloc, program, NoExtra)?;
     for _made in 0..manner.turns {
         let next = next_of(kernel.turn(alloc, wire));
         let events = kernel.events();
         match next {
-            Next::Turn => write_events(alloc, &events, manner.trace, out)?,
-            Next::Ends(end) => return write_end(alloc, &events, manner.trace, &end, out),
-            Next::Fails => return write_end(alloc, &events, manner.trace, fault, out),
-            Next::Nothing => return Err(Halt::Memory),
+            AfterTurn::Turn => write_events(alloc, &events, manner.trace, out)?,
+            AfterTurn::Ends(end) => return write_end(alloc, &events, manner.trace, &end, out),
+            AfterTurn::Fails => return write_end(alloc, &events, manner.trace, fault, out),
+            AfterTurn::Nothing => return Err(Halt::Memory),
         }
     }
     let end = last_of(alloc, &mut kernel, manner.turns)?;
@@ -58,7 +61,7 @@ pub fn drive<W: Wire, K: Sink>(
 
 /// How a run ends that may make no further turn, of which so many were allowed: a turn more is asked for over a wire that
 /// has no answers, and it stalls or it is over.
-fn last_of(alloc: Global, kernel: &mut Kernel, turns: u64) -> Result<End, Memory>
+fn last_of(alloc: Global, kernel: &mut Kernel<NoExtra>, turns: u64) -> Result<End, Memory>
     ensures { IfOk result (LastOf kernel.old turns) }
 {
     let went = kernel.turn(alloc, &mut Silent);

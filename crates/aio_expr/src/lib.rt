@@ -2,19 +2,21 @@
 #![tactic(auto)]
 
 mod bounds;
-mod cause;
 mod env;
 mod evaluate;
+mod flat_expr;
 mod functions;
 mod items;
 mod joins;
 pub mod laws;
+mod local;
 mod numbers;
+mod operation_fault;
 mod operators;
 mod order;
-#[cfg(test)]
-mod tests;
 mod value;
 
 pub use env::Env;
+pub use flat_expr::{FlatExpr, FlatExprCase, FlatExprList};
+pub use local::Local;
 pub use value::{ExprFault, value_of};

@@ -1,20 +1,23 @@
 -- What was laid step by step is a statement.
-use Rattle.std.proofs.Common.{◌≡◌, ℕ, ◌+◌, ◌<◌, List, [], ◌∷◌, ◌++◌, length, slice_get, slice_set, Option, Some, None, refl, sym, ◌∙◌, ap, ap₂, subst, arith, length-append}
+use Rattle.std.proofs.Common.{◌≡◌, ℕ, ◌+◌, ◌<◌, List, [], ◌∷◌, ◌++◌, length, Option, Some, None, refl, sym, ◌∙◌, ap, ap₂, subst, arith}
 use Rattle.std.proofs.lemmas.List.{length-set}
-use Rattle.model_tree.specs.Syntax.{Name, Expr, Target, Await, Call, Ask, SpawnTask, CreateTask, ListenAt, Manager, GroupBlock, TimeoutBlock, Statement, Assign, Yield, YieldFrom, Print, Raise, Return, Pass, If, While, Try, With, Statements, no_statements, statement_then, Branch, Handlers, no_handlers, handler_then, Handler, statements, handlers, Program}
+use Rattle.model_tree.specs.Syntax.{Name, Expr, Target, Await, Call, Ask, SpawnTask, CreateTask, ListenAt, Manager, GroupBlock, TimeoutBlock, Statement, Assign}
+use Rattle.model_tree.specs.Syntax.{Yield, YieldFrom, Print, Raise, Return, Pass, If, While, Try, With, Statements, Branch, Handlers, Handler, statements}
+use Rattle.model_tree.specs.Syntax.{handlers, Program}
 use Rattle.law_flat.specs.declared.op.Op.TheVariants as op
-use Rattle.law_flat.specs.Ops.{Op, Clause, Range, Body, Has, Covers}
+use Rattle.law_flat.specs.Ops.{Op, Clause, Range, CoroutineCode, Has, Covers}
 use Rattle.law_flat.specs.Laid.{target_op, enter_op, exit_op, LaidOne, Laid, LaidAll, LaidBranch, LaidHandlers}
+use Rattle.law_locals.specs.Numbered.{numbered_manager, numbered_statement, numbered_statements, numbered_handlers}
 use Rattle.aio_flat.specs.Grows.{Grows, with_op, with_range, put_op, jump_of, GoesForward}
-use Rattle.aio_flat.specs.Built.{single_op, LaidElse, LaidClause}
+use Rattle.aio_flat.specs.Built.{single_op, LaidElse, LaidClause, numbered_handler}
 use Rattle.aio_flat.proofs.Grows.{length-push, some-is, grows-op, grows-range, grows-so, grows-then, grows-put}
 
 -- what stands at the place of an operation that was pushed first
-pushed-length : (b c : Body) (operation : Op) → c ≡ with_op operation b → length c.ops ≡ length b.ops + 1
-pushed-length b c operation is = ap (λ (x : Body). length x.ops) is ∙ length-push b.ops operation
+pushed-length : (b c : CoroutineCode) (operation : Op) → c ≡ with_op operation b → length c.ops ≡ length b.ops + 1
+pushed-length b c operation is = ap (λ (x : CoroutineCode). length x.ops) is ∙ length-push b.ops operation
 
-put-length : (b c : Body) (at : ℕ) (operation : Op) → c ≡ put_op at operation b → length c.ops ≡ length b.ops
-put-length b c at operation is = ap (λ (x : Body). length x.ops) is ∙ length-set b.ops at operation
+put-length : (b c : CoroutineCode) (at : ℕ) (operation : Op) → c ≡ put_op at operation b → length c.ops ≡ length b.ops
+put-length b c at operation is = ap (λ (x : CoroutineCode). length x.ops) is ∙ length-set b.ops at operation
 
 no-jump : (at : ℕ) (operation : Op) → jump_of operation ≡ None → GoesForward at operation
 no-jump at operation none to is = let never : None ≡ Some to = sym none ∙ is in cc
@@ -28,7 +31,7 @@ target-none program into (SpawnTask coroutine arguments) = refl
 target-none program into (CreateTask group coroutine arguments) = refl
 target-none program into (ListenAt port handler) = refl
 
-pub single-lays : (program : Program) (b c : Body) (statement : Statement) (operation : Op) →
+pub single-lays : (program : Program) (b c : CoroutineCode) (statement : Statement) (operation : Op) →
     Some operation ≡ single_op program statement → c ≡ with_op operation b →
     Grows b c (λ code. Laid program code statement (length b.ops) (length c.ops))
 single-lays program b c statement operation single is =
@@ -36,11 +39,11 @@ single-lays program b c statement operation single is =
     (grows-so b (with_op operation b) _ _ (λ code has. by_statement statement code single (has, pushed-length b c operation is))
     (grows-op b operation (none statement single)))
   where
-    is_one : (found : Op) (code : Body) → Some operation ≡ Some found → LaidOne program code operation (length b.ops) (length c.ops) →
+    is_one : (found : Op) (code : CoroutineCode) → Some operation ≡ Some found → LaidOne program code operation (length b.ops) (length c.ops) →
         LaidOne program code found (length b.ops) (length c.ops)
     is_one found code same laid = subst (λ o. LaidOne program code o (length b.ops) (length c.ops)) (some-is operation found same) laid
 
-    by_statement : (s : Statement) (code : Body) → Some operation ≡ single_op program s →
+    by_statement : (s : Statement) (code : CoroutineCode) → Some operation ≡ single_op program s →
         LaidOne program code operation (length b.ops) (length c.ops) → Laid program code s (length b.ops) (length c.ops)
     by_statement (Assign name value) code single laid = is_one (op.Assign name value) code single laid
     by_statement Yield code single laid = is_one op.Pause code single laid
@@ -71,15 +74,15 @@ single-lays program b c statement operation single is =
     none (With manager name body) single = cc
 
 module _ (program : Program) where
-  abbrev AllFrom : Statements → Body → Body → Body → Type 0
+  abbrev AllFrom : Statements → CoroutineCode → CoroutineCode → CoroutineCode → Type 0
   AllFrom body b c code = LaidAll program code body (length b.ops) (length c.ops)
 
-  abbrev BranchFrom : Branch → Body → Body → Body → Type 0
+  abbrev BranchFrom : Branch → CoroutineCode → CoroutineCode → CoroutineCode → Type 0
   BranchFrom statements b c code = LaidBranch program code statements (length b.ops) (length c.ops)
 
   -- ---- `if`
   -- a place is held, a branch is laid, and a jump past it is put
-  pub else-lays : (b held last done : Body) (otherwise : Branch) → held ≡ with_op op.Pass b →
+  pub else-lays : (b held last done : CoroutineCode) (otherwise : Branch) → held ≡ with_op op.Pass b →
       Grows held last (BranchFrom otherwise held last) → done ≡ put_op (length b.ops) (op.Jump (length last.ops)) last →
       Grows b done (λ code. LaidElse program code otherwise (length b.ops) (length done.ops))
   else-lays b held last done otherwise holds laid puts =
@@ -97,7 +100,7 @@ module _ (program : Program) where
       (λ to is. subst (λ n. length b.ops < n) (some-is (length last.ops) to is) further)
       (subst (λ x. Grows x last (BranchFrom otherwise held last)) holds laid)))
 
-  pub if-lays : (b held middle last done : Body) (test : Expr) (body : Statements) (otherwise : Branch) →
+  pub if-lays : (b held middle last done : CoroutineCode) (test : Expr) (body : Statements) (otherwise : Branch) →
       held ≡ with_op op.Pass b → Grows held middle (AllFrom body held middle) →
       Grows middle last (λ code. LaidElse program code otherwise (length middle.ops) (length last.ops)) →
       done ≡ put_op (length b.ops) (op.Test test (length middle.ops + 1)) last →
@@ -121,7 +124,7 @@ module _ (program : Program) where
       (subst (λ x. Grows x middle (AllFrom body held middle)) holds laid) further)))
 
   -- ---- `while`
-  pub while-lays : (b held middle last done : Body) (test : Expr) (body : Statements) →
+  pub while-lays : (b held middle last done : CoroutineCode) (test : Expr) (body : Statements) →
       held ≡ with_op op.Pass b → Grows held middle (AllFrom body held middle) →
       last ≡ with_op (op.Repeat test (length b.ops + 1)) middle →
       done ≡ put_op (length b.ops) (op.Jump (length middle.ops)) last →
@@ -148,10 +151,10 @@ module _ (program : Program) where
       (subst (λ x. Grows middle x (λ code. Has code (length middle.ops) repeat)) (sym tests) (grows-op middle repeat refl)))))
 
   -- ---- `try`
-  module _ (b held middle left : Body) (body : Statements) (holds : held ≡ with_op op.Pass b)
+  module _ (b held middle left : CoroutineCode) (body : Statements) (holds : held ≡ with_op op.Pass b)
       (laid : Grows held middle (AllFrom body held middle)) (leaves : left ≡ with_op op.Leave middle) where
     -- the body of a block, and its end
-    abbrev Covered : Body → Type 0
+    abbrev Covered : CoroutineCode → Type 0
     Covered code = AllFrom body held middle code × Has code (length middle.ops) op.Leave
 
     covered-grows : Grows (with_op op.Pass b) left Covered
@@ -160,7 +163,7 @@ module _ (program : Program) where
         (subst (λ x. Grows x middle (AllFrom body held middle)) holds laid)
         (subst (λ x. Grows middle x (λ code. Has code (length middle.ops) op.Leave)) (sym leaves) (grows-op middle op.Leave refl))
 
-    pub try-lays : (handled finished resumed ranged done : Body) (list : List Clause) (clauses : Handlers) (finally : Branch) →
+    pub try-lays : (handled finished resumed ranged done : CoroutineCode) (list : List Clause) (clauses : Handlers) (finally : Branch) →
         Grows left handled (λ code. LaidHandlers program code list clauses) →
         Grows handled finished (BranchFrom finally handled finished) → resumed ≡ with_op op.Resume finished →
         ranged ≡ with_range (record { clauses = list; finally = length handled.ops }) resumed →
@@ -171,7 +174,7 @@ module _ (program : Program) where
         let operation : Op = op.Guard (length resumed.ranges) in
         let from = pushed-length b held op.Pass holds in
         let long = put-length ranged done (length b.ops) operation puts in
-        let same = ap (λ (x : Body). length x.ops) ranges in
+        let same = ap (λ (x : CoroutineCode). length x.ops) ranges in
         let end = pushed-length finished resumed op.Resume resumes in
         subst (λ x. Grows b x (λ code. Laid program code (Try body clauses finally) (length b.ops) (length done.ops))) (sym puts)
         (grows-so b (put_op (length b.ops) operation ranged) _ _
@@ -208,7 +211,7 @@ module _ (program : Program) where
     enter-none GroupBlock name number = refl
     enter-none (TimeoutBlock delay) name number = refl
 
-    pub with-lays : (exited resumed ranged done : Body) (list : List Clause) (manager : Manager) (name : Name) →
+    pub with-lays : (exited resumed ranged done : CoroutineCode) (list : List Clause) (manager : Manager) (name : Name) →
         exited ≡ with_op (exit_op manager) left → resumed ≡ with_op op.Resume exited →
         ranged ≡ with_range (record { clauses = list; finally = length left.ops }) resumed →
         done ≡ put_op (length b.ops) (enter_op manager name (length resumed.ranges)) ranged →
@@ -218,7 +221,7 @@ module _ (program : Program) where
         let operation : Op = enter_op manager name (length resumed.ranges) in
         let from = pushed-length b held op.Pass holds in
         let long = put-length ranged done (length b.ops) operation puts in
-        let same = ap (λ (x : Body). length x.ops) ranges in
+        let same = ap (λ (x : CoroutineCode). length x.ops) ranges in
         let next = pushed-length left exited (exit_op manager) exits in
         let end = pushed-length exited resumed op.Resume resumes in
         subst (λ x. Grows b x (λ code. Laid program code (With manager name body) (length b.ops) (length done.ops))) (sym puts)
@@ -250,12 +253,12 @@ module _ (program : Program) where
         (grows-range resumed range)))))
 
 -- ---- the same operation at the same place, said in other words
-pub put-same : (done last : Body) (at from : ℕ) (operation other : Op) → at ≡ from → operation ≡ other →
+pub put-same : (done last : CoroutineCode) (at from : ℕ) (operation other : Op) → at ≡ from → operation ≡ other →
     done ≡ put_op at operation last → done ≡ put_op from other last
 put-same done last at from operation other places operations is =
     is ∙ ap₂ (λ n o. put_op n o last) places operations
 
-pub push-same : (done last : Body) (operation other : Op) → operation ≡ other → done ≡ with_op operation last →
+pub push-same : (done last : CoroutineCode) (operation other : Op) → operation ≡ other → done ≡ with_op operation last →
     done ≡ with_op other last
 push-same done last operation other operations is = is ∙ ap (λ o. with_op o last) operations
 
@@ -272,24 +275,34 @@ pub repeat-same : (test other : Expr) (at from : ℕ) → test ≡ other → at 
     (let o : Op = op.Repeat test (at + 1) in o) ≡ op.Repeat other (from + 1)
 repeat-same test other at from tests places = λ i. op.Repeat (tests i) (places i + 1)
 
-pub range-same : (done last : Body) (list other : List Clause) (at from : ℕ) → list ≡ other → at ≡ from →
+pub range-same : (done last : CoroutineCode) (list other : List Clause) (at from : ℕ) → list ≡ other → at ≡ from →
     done ≡ with_range (record { clauses = list; finally = at }) last →
     done ≡ with_range (record { clauses = other; finally = from }) last
 range-same done last list other at from lists places is =
     is ∙ ap₂ (λ l n. with_range (record { clauses = l; finally = n }) last) lists places
 
+pub exit-same : (names : List Name) (manager : Manager) → exit_op manager ≡ exit_op (numbered_manager names manager)
+exit-same names GroupBlock = refl
+exit-same names (TimeoutBlock delay) = refl
+
 -- ---- one more of a list
-module _ (program : Program) (code : Body) where
-  all-push : (items : List Statement) (item : Statement) (from middle to : ℕ) →
-      LaidAll program code (statements items) from middle → Laid program code item middle to →
-      LaidAll program code (statements (items ++ item ∷ [])) from to
-  all-push [] item from middle to laid next = (to, subst (λ n. Laid program code item n to) laid next, refl)
+module _ (program : Program) (names : List Name) (code : CoroutineCode) where
+  abbrev RowLaid : List Statement → ℕ → ℕ → Type 0
+  RowLaid items from to = LaidAll program code (numbered_statements names (statements items)) from to
+
+  abbrev ClausesLaid : List Clause → List Handler → Type 0
+  ClausesLaid list clauses = LaidHandlers program code list (numbered_handlers names (handlers clauses))
+
+  all-push : (items : List Statement) (item : Statement) (from middle to : ℕ) → RowLaid items from middle →
+      Laid program code (numbered_statement names item) middle to → RowLaid (items ++ item ∷ []) from to
+  all-push [] item from middle to laid next =
+      (to, subst (λ n. Laid program code (numbered_statement names item) n to) laid next, refl)
   all-push (first ∷ items) item from middle to laid next =
       (laid.0, laid.1, all-push items item laid.0 middle to laid.2 next)
 
   handlers-push : (list : List Clause) (clauses : List Handler) (clause : Clause) (handler : Handler) →
-      LaidHandlers program code list (handlers clauses) → LaidClause program code clause handler →
-      LaidHandlers program code (list ++ clause ∷ []) (handlers (clauses ++ handler ∷ []))
+      ClausesLaid list clauses → LaidClause program code clause (numbered_handler names handler) →
+      ClausesLaid (list ++ clause ∷ []) (clauses ++ handler ∷ [])
   handlers-push list [] clause handler none laid = (
     clause.at,
     laid.0,
@@ -310,19 +323,20 @@ module _ (program : Program) (code : Body) where
     handlers-push all.2 clauses clause handler all.6 laid,
   )
 
-pub all-grows : (program : Program) (b middle last : Body) (items : List Statement) (item : Statement) →
-    Grows b middle (λ code. LaidAll program code (statements items) (length b.ops) (length middle.ops)) →
-    Grows middle last (λ code. Laid program code item (length middle.ops) (length last.ops)) →
-    Grows b last (λ code. LaidAll program code (statements (items ++ item ∷ [])) (length b.ops) (length last.ops))
-all-grows program b middle last items item laid next =
-    grows-so b last _ _
-    (λ code both. all-push program code items item (length b.ops) (length middle.ops) (length last.ops) both.0 both.1)
-    (grows-then b middle last _ _ laid next)
+module _ (program : Program) (names : List Name) (b middle last : CoroutineCode) where
+  pub all-grows : (items : List Statement) (item : Statement) →
+      Grows b middle (λ code. RowLaid program names code items (length b.ops) (length middle.ops)) →
+      Grows middle last (λ code. Laid program code (numbered_statement names item) (length middle.ops) (length last.ops)) →
+      Grows b last (λ code. RowLaid program names code (items ++ item ∷ []) (length b.ops) (length last.ops))
+  all-grows items item laid next =
+      grows-so b last _ _
+      (λ code both. all-push program names code items item (length b.ops) (length middle.ops) (length last.ops) both.0 both.1)
+      (grows-then b middle last _ _ laid next)
 
-pub handlers-grow : (program : Program) (b middle last : Body) (list : List Clause) (clauses : List Handler) (clause : Clause)
-    (handler : Handler) → Grows b middle (λ code. LaidHandlers program code list (handlers clauses)) →
-    Grows middle last (λ code. LaidClause program code clause handler) →
-    Grows b last (λ code. LaidHandlers program code (list ++ clause ∷ []) (handlers (clauses ++ handler ∷ [])))
-handlers-grow program b middle last list clauses clause handler laid next =
-    grows-so b last _ _ (λ code both. handlers-push program code list clauses clause handler both.0 both.1)
-    (grows-then b middle last _ _ laid next)
+  pub handlers-grow : (list : List Clause) (clauses : List Handler) (clause : Clause) (handler : Handler) →
+      Grows b middle (λ code. ClausesLaid program names code list clauses) →
+      Grows middle last (λ code. LaidClause program code clause (numbered_handler names handler)) →
+      Grows b last (λ code. ClausesLaid program names code (list ++ clause ∷ []) (clauses ++ handler ∷ []))
+  handlers-grow list clauses clause handler laid next =
+      grows-so b last _ _ (λ code both. handlers-push program names code list clauses clause handler both.0 both.1)
+      (grows-then b middle last _ _ laid next)

@@ -13,7 +13,7 @@ use crate::calls::new_frame;
 use crate::frames::Frames;
 use crate::inputs::STEP_LIMIT;
 use crate::run::run;
-use crate::types::{AnswerUse, Stop};
+use crate::types::{AnswerUse, LastMove};
 use aio_base::{Exc, Input, Memory, Request, Value};
 use aio_flat::Code;
 use std::alloc::Global;
@@ -79,14 +79,18 @@ impl Gen {
         fresh: bool,
     ) -> Result<GenOut, Memory>
         ensures said { IfOk result (λ out.
-            (program : Program) (coroutine : ℕ) (arguments : List PlainValue) (tape : Tape) → IsCodeOf program code.now →
+            (program : Program) (coroutine : ℕ) (arguments : List PlainValue) (tape : Tape)
+            → IsCodeOf program code.now →
             StandsFor program code.now coroutine arguments tape self.old →
-            says program coroutine arguments (tape ++ record { input = input; fresh = fresh } ∷ []) ≡ saying_of_out out) }
+            says program coroutine arguments (tape ++ record { input = input; fresh = fresh } ∷ [])
+            ≡ saying_of_out out) }
         ensures stands { IfOk result (λ out.
-            (program : Program) (coroutine : ℕ) (arguments : List PlainValue) (tape : Tape) → IsCodeOf program code.now →
+            (program : Program) (coroutine : ℕ) (arguments : List PlainValue) (tape : Tape)
+            → IsCodeOf program code.now →
             StandsFor program code.now coroutine arguments tape self.old →
             (request : PlainRequest) → out ≡ Asks request →
-            StandsFor program code.now coroutine arguments (tape ++ record { input = input; fresh = fresh } ∷ []) self.new) }
+            StandsFor program code.now coroutine arguments
+            (tape ++ record { input = input; fresh = fresh } ∷ []) self.new) }
         ensures over { IfErr result (λ _. IsOver self.new) }
         ensures spent { IsOver self.old → IsErr result }
     {
@@ -114,25 +118,29 @@ fn resumed(
     fresh: bool,
 ) -> Result<(GenOut, Option<Waiting>), Memory>
     ensures said { IfOk result (λ made.
-        (program : Program) (coroutine : ℕ) (arguments : List PlainValue) (tape : Tape) → IsCodeOf program code.now →
+        (program : Program) (coroutine : ℕ) (arguments : List PlainValue) (tape : Tape)
+        → IsCodeOf program code.now →
         StandsAt program code.now coroutine arguments tape (Some waiting) →
-        says program coroutine arguments (tape ++ record { input = input; fresh = fresh } ∷ []) ≡ saying_of_out made.0) }
+        says program coroutine arguments (tape ++ record { input = input; fresh = fresh } ∷ [])
+        ≡ saying_of_out made.0) }
     ensures stands { IfOk result (λ made.
-        (program : Program) (coroutine : ℕ) (arguments : List PlainValue) (tape : Tape) → IsCodeOf program code.now →
+        (program : Program) (coroutine : ℕ) (arguments : List PlainValue) (tape : Tape)
+        → IsCodeOf program code.now →
         StandsAt program code.now coroutine arguments tape (Some waiting) →
         (request : PlainRequest) → made.0 ≡ Asks request →
-        StandsAt program code.now coroutine arguments (tape ++ record { input = input; fresh = fresh } ∷ []) made.1) }
+        StandsAt program code.now coroutine arguments
+        (tape ++ record { input = input; fresh = fresh } ∷ []) made.1) }
 {
     let Waiting { mut frames, use_of } = waiting;
     frames.renew(fresh);
     let way = frames.take_input(input, use_of)?;
     match run(alloc, code, way, &mut frames)? {
-        Stop::Asks(request, use_of) => {
+        LastMove::Asks(request, use_of) => {
             let next = Some(Waiting { frames, use_of });
             Ok((GenOut::Asks(request), next))
         }
-        Stop::Returns(value) => Ok((GenOut::Returns(value), None)),
-        Stop::Raises(fault) => Ok((GenOut::Raises(fault), None)),
-        Stop::Runaway => Ok((GenOut::Runaway, None)),
+        LastMove::Returns(value) => Ok((GenOut::Returns(value), None)),
+        LastMove::Raises(fault) => Ok((GenOut::Raises(fault), None)),
+        LastMove::Runaway => Ok((GenOut::Runaway, None)),
     }
 }

@@ -1,7 +1,7 @@
 //! Statements that were counted, and the exit of a `with`.
 ghost use Rattle.std.specs.Prelude.{◌≡◌, ◌+◌, ◌<◌, ◌^◌, ℕ, IfOk};
 ghost use Rattle.law_flat.specs.declared.op.Op.TheVariants as flat;
-ghost use Rattle.law_flat.specs.Ops.{Body};
+ghost use Rattle.law_flat.specs.Ops.{CoroutineCode};
 ghost use Rattle.law_flat.specs.Moves.{by_test, raise_value, ask_exit, after_statement};
 ghost use Rattle.law_flat.specs.Rests.{fault_of};
 ghost use Rattle.model_says.specs.Operations.{bad_operand};
@@ -11,19 +11,19 @@ use crate::evaluate::{value_of, values_of};
 use crate::frames::Frames;
 use crate::types::{AnswerUse, Move, OpenHandler, Way};
 use aio_base::{Exc, Kind, Memory, Request, Value, ValueCase, exception};
-use aio_flat::Name;
-use aio_syntax::{Expr, ExprList};
+use aio_expr::{FlatExpr, FlatExprList, Local};
 use std::alloc::Global;
 
 impl Frames {
-    pub fn assign(&mut self, alloc: Global, name: &Name, value: &Expr) -> Result<Move, Memory>
+    pub fn assign(&mut self, alloc: Global, name: &Local, value: &FlatExpr) -> Result<Move, Memory>
         requires { self.old.frame.place + 1 < 2 ^ 64 }
-        ensures { IfOk result (λ moving. (codes : ℕ → Body) →
-            plain_move moving self.new ≡ after_statement codes (flat.Assign name.now value.now) (plain_frames self.old)) }
+        ensures { IfOk result (λ moving. (codes : ℕ → CoroutineCode) →
+            plain_move moving self.new
+            ≡ after_statement codes (flat.Assign name.now value.now) (plain_frames self.old)) }
     {
         match value_of(alloc, value, &self.frame.env)? {
             Ok(value) => {
-                self.frame.env.assign(name.as_str(), value);
+                self.frame.env.assign(*name, value);
                 self.frame.place += 1;
                 Ok(Move::Goes(Way::Passing))
             }
@@ -31,10 +31,11 @@ impl Frames {
         }
     }
 
-    pub fn print(&mut self, alloc: Global, items: &ExprList) -> Result<Move, Memory>
+    pub fn print(&mut self, alloc: Global, items: &FlatExprList) -> Result<Move, Memory>
         requires { self.old.frame.place + 1 < 2 ^ 64 }
-        ensures { IfOk result (λ moving. (codes : ℕ → Body) →
-            plain_move moving self.new ≡ after_statement codes (flat.Print items.now) (plain_frames self.old)) }
+        ensures { IfOk result (λ moving. (codes : ℕ → CoroutineCode) →
+            plain_move moving self.new
+            ≡ after_statement codes (flat.Print items.now) (plain_frames self.old)) }
     {
         match values_of(alloc, items.items(), &self.frame.env)? {
             Ok(values) => {
@@ -45,9 +46,10 @@ impl Frames {
         }
     }
 
-    pub fn raise(&mut self, alloc: Global, fault: &Expr) -> Result<Move, Memory>
-        ensures { IfOk result (λ moving. (codes : ℕ → Body) →
-            plain_move moving self.new ≡ after_statement codes (flat.Raise fault.now) (plain_frames self.old)) }
+    pub fn raise(&mut self, alloc: Global, fault: &FlatExpr) -> Result<Move, Memory>
+        ensures { IfOk result (λ moving. (codes : ℕ → CoroutineCode) →
+            plain_move moving self.new
+            ≡ after_statement codes (flat.Raise fault.now) (plain_frames self.old)) }
     {
         match value_of(alloc, fault, &self.frame.env)? {
             Ok(value) => self.raise_value(alloc, &value),
@@ -57,7 +59,8 @@ impl Frames {
 
     /// An exception is raised, and in the place of any other value a bad operand.
     fn raise_value(&self, alloc: Global, value: &Value) -> Result<Move, Memory>
-        ensures { IfOk result (λ moving. plain_move moving self.now ≡ raise_value value.now (plain_frames self.now)) }
+        ensures { IfOk result
+            (λ moving. plain_move moving self.now ≡ raise_value value.now (plain_frames self.now)) }
     {
         match value.case() {
             ValueCase::Exc(fault) => Ok(Move::Goes(Way::Raising(fault.clone()?))),
@@ -65,9 +68,10 @@ impl Frames {
         }
     }
 
-    pub fn return_value(&mut self, alloc: Global, value: &Option<Expr>) -> Result<Move, Memory>
-        ensures { IfOk result (λ moving. (codes : ℕ → Body) →
-            plain_move moving self.new ≡ after_statement codes (flat.Return value.now) (plain_frames self.old)) }
+    pub fn return_value(&mut self, alloc: Global, value: &Option<FlatExpr>) -> Result<Move, Memory>
+        ensures { IfOk result (λ moving. (codes : ℕ → CoroutineCode) →
+            plain_move moving self.new
+            ≡ after_statement codes (flat.Return value.now) (plain_frames self.old)) }
     {
         match value {
             Some(value) => match value_of(alloc, value, &self.frame.env)? {
@@ -78,10 +82,11 @@ impl Frames {
         }
     }
 
-    pub fn test(&mut self, alloc: Global, test: &Expr, otherwise: usize) -> Result<Move, Memory>
+    pub fn test(&mut self, alloc: Global, test: &FlatExpr, otherwise: usize) -> Result<Move, Memory>
         requires { self.old.frame.place + 1 < 2 ^ 64 }
-        ensures { IfOk result (λ moving. (codes : ℕ → Body) →
-            plain_move moving self.new ≡ after_statement codes (flat.Test test.now otherwise) (plain_frames self.old)) }
+        ensures { IfOk result (λ moving. (codes : ℕ → CoroutineCode) →
+            plain_move moving self.new
+            ≡ after_statement codes (flat.Test test.now otherwise) (plain_frames self.old)) }
     {
         match value_of(alloc, test, &self.frame.env)? {
             Ok(value) => self.by_test(alloc, self.frame.place + 1, otherwise, &value),
@@ -89,10 +94,11 @@ impl Frames {
         }
     }
 
-    pub fn repeat(&mut self, alloc: Global, test: &Expr, body: usize) -> Result<Move, Memory>
+    pub fn repeat(&mut self, alloc: Global, test: &FlatExpr, body: usize) -> Result<Move, Memory>
         requires { self.old.frame.place + 1 < 2 ^ 64 }
-        ensures { IfOk result (λ moving. (codes : ℕ → Body) →
-            plain_move moving self.new ≡ after_statement codes (flat.Repeat test.now body) (plain_frames self.old)) }
+        ensures { IfOk result (λ moving. (codes : ℕ → CoroutineCode) →
+            plain_move moving self.new
+            ≡ after_statement codes (flat.Repeat test.now body) (plain_frames self.old)) }
     {
         match value_of(alloc, test, &self.frame.env)? {
             Ok(value) => self.by_test(alloc, body, self.frame.place + 1, &value),
@@ -108,7 +114,9 @@ impl Frames {
         off: usize,
         value: &Value,
     ) -> Result<Move, Memory>
-        ensures { IfOk result (λ moving. plain_move moving self.new ≡ by_test on off value.now (plain_frames self.old)) }
+        ensures { IfOk result
+            (λ moving. plain_move moving self.new
+            ≡ by_test on off value.now (plain_frames self.old)) }
     {
         match value.case() {
             ValueCase::Bool(true) => {
@@ -125,20 +133,22 @@ impl Frames {
 
     pub fn guard(&mut self, number: usize) -> Result<Move, Memory>
         requires { self.old.frame.place + 1 < 2 ^ 64 }
-        ensures { IfOk result (λ moving. (codes : ℕ → Body) →
-            plain_move moving self.new ≡ after_statement codes (flat.Guard number) (plain_frames self.old)) }
+        ensures { IfOk result (λ moving. (codes : ℕ → CoroutineCode) →
+            plain_move moving self.new
+            ≡ after_statement codes (flat.Guard number) (plain_frames self.old)) }
     {
         self.frame.handlers.push(OpenHandler::InTry(number))?;
         self.frame.place += 1;
         Ok(Move::Goes(Way::Passing))
     }
 
-    pub fn enter_group(&mut self, name: &Name, range: usize) -> Result<Move, Memory>
+    pub fn enter_group(&mut self, name: &Local, range: usize) -> Result<Move, Memory>
         requires { self.old.frame.place + 1 < 2 ^ 64 }
-        ensures { IfOk result (λ moving. (codes : ℕ → Body) →
-            plain_move moving self.new ≡ after_statement codes (flat.EnterGroup name.now range) (plain_frames self.old)) }
+        ensures { IfOk result (λ moving. (codes : ℕ → CoroutineCode) →
+            plain_move moving self.new
+            ≡ after_statement codes (flat.EnterGroup name.now range) (plain_frames self.old)) }
     {
-        let name = name.clone()?;
+        let name = *name;
         self.frame.place += 1;
         Ok(Move::Asks(Request::GroupEnter, AnswerUse::Entered { name, range }))
     }
@@ -146,17 +156,18 @@ impl Frames {
     pub fn enter_timeout(
         &mut self,
         alloc: Global,
-        delay: &Expr,
-        name: &Name,
+        delay: &FlatExpr,
+        name: &Local,
         range: usize,
     ) -> Result<Move, Memory>
         requires { self.old.frame.place + 1 < 2 ^ 64 }
-        ensures { IfOk result (λ moving. (codes : ℕ → Body) → plain_move moving self.new
-            ≡ after_statement codes (flat.EnterTimeout delay.now name.now range) (plain_frames self.old)) }
+        ensures { IfOk result (λ moving. (codes : ℕ → CoroutineCode) → plain_move moving self.new
+            ≡ after_statement codes (flat.EnterTimeout delay.now name.now range)
+            (plain_frames self.old)) }
     {
         match value_of(alloc, delay, &self.frame.env)? {
             Ok(delay) => {
-                let name = name.clone()?;
+                let name = *name;
                 self.frame.place += 1;
                 Ok(Move::Asks(
                     Request::TimeoutEnter(delay),
@@ -171,7 +182,8 @@ impl Frames {
     pub fn ask_exit(&mut self, of_group: bool) -> Result<Move, Memory>
         requires { self.old.frame.place + 1 < 2 ^ 64 }
         ensures { IfOk result (λ moving. plain_move moving self.new
-            ≡ ask_exit (exit_request of_group) (plain_frames self.old).frame.handlers (plain_frames self.old)) }
+            ≡ ask_exit (exit_request of_group) (plain_frames self.old).frame.handlers
+            (plain_frames self.old)) }
     {
         match self.frame.handlers.pop() {
             Some(OpenHandler::AtExit(entered, way)) => {

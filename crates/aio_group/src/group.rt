@@ -9,7 +9,7 @@ ghost use Rattle.aio_group.specs.Answers.{answer_of, gone_on, created_of, ended_
 ghost use Rattle.aio_group.specs.declared.created.Created.TheVariants as created;
 
 use crate::created::Created;
-use crate::exit::{GroupExit, Next};
+use crate::exit::{ExitStep, GroupExit};
 use crate::failures::is_cancelled;
 use aio_base::{Exc, Memory};
 use aio_task::FutureId;
@@ -166,7 +166,8 @@ impl Group {
     /// A child whose number is greater than all others, and the place of its failure.
     pub fn add(&mut self, task: u32) -> Result<(), Memory>
         requires { Each (λ child. child < task) self.old.children }
-        ensures after { OnOk result (self.new ≡ record self.old { children = self.old.children ++ task ∷ [] }) }
+        ensures after { OnOk result
+            (self.new ≡ record self.old { children = self.old.children ++ task ∷ [] }) }
         ensures err { OnErr result (self.new ≡ self.old) }
     {
         let wanted = self.children.len().saturating_add(1);
@@ -177,7 +178,11 @@ impl Group {
 
     /// A child is let go.
     pub fn remove(&mut self, task: u32)
-        ensures { self.new ≡ record self.old { children = filter (λ child. not (child == task)) self.old.children } }
+        ensures { self.new
+            ≡ record self.old {
+              children = filter
+                  (λ child. not (child == task)) self.old.children;
+            } }
     {
         let _was_there = self.children.remove(&task);
     }
@@ -250,16 +255,16 @@ impl Group {
     }
 
     /// The exit waits, or ends.
-    pub fn go_on(&mut self, next: Next) -> GroupExit
+    pub fn go_on(&mut self, next: ExitStep) -> GroupExit
         ensures answer { result ≡ answer_of next self.old }
         ensures after { self.new ≡ gone_on next self.old }
     {
         match next {
-            Next::Waits(future) => {
+            ExitStep::Waits(future) => {
                 self.exit_future = Some(future);
                 GroupExit::Waits(future)
             }
-            Next::Ends(fault) => {
+            ExitStep::Ends(fault) => {
                 self.ended = true;
                 self.body = None;
                 let kept = self.kept.take();

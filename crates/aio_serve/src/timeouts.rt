@@ -8,25 +8,26 @@ ghost use Rattle.model_machine.specs.State.{State, in_loop};
 ghost use Rattle.aio_task.specs.Keeps.{Ties};
 ghost use Rattle.aio_timeout.specs.Kept.{AreTimeouts};
 ghost use Rattle.aio_timeout.specs.States.{state_of};
-ghost use Rattle.aio_body.specs.declared.reply.Reply.TheVariants.{Raises};
+ghost use Rattle.aio_body.specs.declared.reply.RequestReply.TheVariants.{Raises};
 ghost use Rattle.aio_body.specs.Asked.{MayAsk, MayGo, SomeGoes, Serves};
 ghost use Rattle.aio_body.specs.Stands.{Setting};
-ghost use Rattle.aio_body.specs.Taken.{IsTaken, IsAfter, MayTake};
+ghost use Rattle.aio_body.specs.Taken.{IsTaken, IsAfterCallback, MayTake};
 ghost use Rattle.aio_serve.specs.Left.{left_as};
 
 use aio_base::{Exc, Memory, Value};
-use aio_body::{Body, MOST_IDS, Reply, as_delay, as_timeout, bad_argument, out_of_range};
+use aio_body::{Body, MOST_IDS, RequestReply, as_delay, as_timeout, bad_argument, out_of_range};
+use aio_extra::Extra;
 use aio_timeout::{Rescheduled, TimeoutExit, TimeoutState, timeout_fault};
 use std::alloc::Global;
 
-pub fn enter_timeout(
-    body: &mut Body,
+pub fn enter_timeout<X: Extra>(
+    body: &mut Body<X>,
     alloc: Global,
     task: u32,
     delay: &Value,
-) -> Result<Reply, Memory>
-    requires { MayGo task body.old }
-    ensures { Serves task (request.TimeoutEnter delay.now) body.old body.new result }
+) -> Result<RequestReply, Memory>
+    requires { MayGo X.added task body.old }
+    ensures { Serves X.added task (request.TimeoutEnter delay.now) body.old body.new result }
 {
     let Some(delay) = as_delay(delay) else {
         return bad_argument(alloc);
@@ -35,18 +36,18 @@ pub fn enter_timeout(
         return out_of_range(alloc);
     }
     let id = body.timeouts.enter(alloc, task, delay, &mut body.parts)?;
-    Ok(Reply::Answers(Value::timeout(id)))
+    Ok(RequestReply::Answers(Value::timeout(id)))
 }
 
-pub fn exit_timeout(
-    body: &mut Body,
+pub fn exit_timeout<X: Extra>(
+    body: &mut Body<X>,
     alloc: Global,
     task: u32,
     timeout: &Value,
     fault: Option<Exc>,
-) -> Result<Reply, Memory>
-    requires { MayAsk task (request.TimeoutExit timeout.now fault) body.old }
-    ensures { Serves task (request.TimeoutExit timeout.now fault) body.old body.new result }
+) -> Result<RequestReply, Memory>
+    requires { MayAsk X.added task (request.TimeoutExit timeout.now fault) body.old }
+    ensures { Serves X.added task (request.TimeoutExit timeout.now fault) body.old body.new result }
 {
     let Some(id) = as_timeout(timeout) else {
         return bad_argument(alloc);
@@ -56,24 +57,25 @@ pub fn exit_timeout(
 }
 
 // How the coroutine goes on after a block that was left.
-fn left(exit: TimeoutExit) -> Reply
+fn left(exit: TimeoutExit) -> RequestReply
     ensures { result ≡ left_as exit }
 {
     match exit {
-        TimeoutExit::Passes => Reply::Answers(Value::nothing()),
-        TimeoutExit::TimedOut => Reply::Raises(timeout_fault()),
+        TimeoutExit::Passes => RequestReply::Answers(Value::nothing()),
+        TimeoutExit::TimedOut => RequestReply::Raises(timeout_fault()),
     }
 }
 
 /// A value may name a timeout that was not made: such a one is finished.
-pub fn reschedule(
-    body: &mut Body,
+pub fn reschedule<X: Extra>(
+    body: &mut Body<X>,
     alloc: Global,
     timeout: &Value,
     when: &Value,
-) -> Result<Reply, Memory>
-    requires { SomeGoes body.old }
-    ensures { (task : ℕ) → Serves task (request.Reschedule timeout.now when.now) body.old body.new result }
+) -> Result<RequestReply, Memory>
+    requires { SomeGoes X.added body.old }
+    ensures { (task : ℕ)
+        → Serves X.added task (request.Reschedule timeout.now when.now) body.old body.new result }
 {
     let Some(id) = as_timeout(timeout) else {
         return bad_argument(alloc);
@@ -85,27 +87,32 @@ pub fn reschedule(
         return refused(alloc, TimeoutState::Finished);
     }
     match body.timeouts.reschedule(alloc, id, when, &mut body.parts)? {
-        Rescheduled::Set => Ok(Reply::Answers(Value::nothing())),
+        Rescheduled::Set => Ok(RequestReply::Answers(Value::nothing())),
         Rescheduled::BadState(state) => refused(alloc, state),
     }
 }
 
-fn refused(alloc: Global, state: TimeoutState) -> Result<Reply, Memory>
+fn refused(alloc: Global, state: TimeoutState) -> Result<RequestReply, Memory>
     ensures { IfOk result (λ said. said ≡ Raises (reschedule_fault (state_of state))) }
 {
-    Ok(Reply::Raises(state.fault(alloc)?))
+    Ok(RequestReply::Raises(state.fault(alloc)?))
 }
 
-pub fn expired(body: &Body, alloc: Global, timeout: &Value) -> Result<Reply, Memory>
-    ensures { (task : ℕ) → Serves task (request.Expired timeout.now) body.now body.now result }
+pub fn expired<X: Extra>(
+    body: &Body<X>,
+    alloc: Global,
+    timeout: &Value,
+) -> Result<RequestReply, Memory>
+    ensures { (task : ℕ)
+        → Serves X.added task (request.Expired timeout.now) body.now body.now result }
 {
     match as_timeout(timeout) {
-        Some(id) => Ok(Reply::Answers(Value::bool(has_expired(body, id)))),
+        Some(id) => Ok(RequestReply::Answers(Value::bool(has_expired(body, id)))),
         None => bad_argument(alloc),
     }
 }
 
-fn has_expired(body: &Body, id: u32) -> bool
+fn has_expired<X: Extra>(body: &Body<X>, id: u32) -> bool
     ensures { (t : Ties) (l : Loop) → AreTimeouts t l.parts body.now.timeouts l.timeouts
         → result ≡ has_expired (timeout_of l id).state }
 {
@@ -116,10 +123,10 @@ fn has_expired(body: &Body, id: u32) -> bool
 }
 
 /// The time of a timeout is over.
-pub fn fire(body: &mut Body, timeout: u32)
-    requires { MayTake (Fires timeout) body.old }
-    ensures { (c : Setting) (s : State (Unit {0})) → IsTaken (Fires timeout) c body.old s
-        → IsAfter c body.new (in_loop (fire timeout) s) }
+pub fn fire<X: Extra>(body: &mut Body<X>, timeout: u32)
+    requires { MayTake X.added (Fires timeout) body.old }
+    ensures { (c : Setting X.added) (s : State X.added.Kept) → IsTaken (Fires timeout) c body.old s
+        → IsAfterCallback c body.new (in_loop (fire timeout) s) }
 {
     body.timeouts.fire(timeout, &mut body.parts);
 }

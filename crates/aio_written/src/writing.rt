@@ -10,7 +10,7 @@ ghost use Rattle.aio_written.specs.Watched.{watched_after};
 ghost use Rattle.model_wire.specs.Call.{written_call, written, wait_text, watch_text, letter_if, ready_text, news_text, spaced_item};
 
 use aio_base::{Memory, Value, ValueList, push_bytes_literal, show};
-use aio_wire::{Answer, Call, ChildItem, Item, Ready, Watch, WordList};
+use aio_wire::{Answer, Call, ChildItem, Item, Readiness, Watch, WordList};
 use std::alloc::Global;
 use std::rc::Rc;
 
@@ -107,7 +107,8 @@ fn push_signed(alloc: Global, front: &[u8], number: i64, out: &mut Vec<u8>) -> R
 
 /// Appends a space and a literal of bytes.
 fn push_spaced_bytes(bytes: &[u8], out: &mut Vec<u8>) -> Result<(), Memory>
-    ensures { OnOk result (out.new.items ≡ out.old.items ++ (codes " " ++ bytes_literal bytes.now)) }
+    ensures { OnOk result
+        (out.new.items ≡ out.old.items ++ (codes " " ++ bytes_literal bytes.now)) }
 {
     out.push(b' ')?;
     push_bytes_literal(bytes, out)
@@ -189,7 +190,8 @@ fn push_watched(
     letters: &[u8],
     out: &mut Vec<u8>,
 ) -> Result<(), Memory>
-    ensures { OnOk result (out.new.items ≡ out.old.items ++ watched_after (front.now ++ decimal id) letters.now) }
+    ensures { OnOk result
+        (out.new.items ≡ out.old.items ++ watched_after (front.now ++ decimal id) letters.now) }
 {
     if letters.is_empty() {
         return Ok(());
@@ -246,13 +248,13 @@ fn push_about(
     push_text(said, out)
 }
 
-fn ready_text(ready: Ready) -> &'static [u8]
+fn ready_text(ready: Readiness) -> &'static [u8]
     ensures { result.now ≡ ready_text ready }
 {
     match ready {
-        Ready::Read => b"r",
-        Ready::Write => b"w",
-        Ready::Both => b"rw",
+        Readiness::Read => b"r",
+        Readiness::Write => b"w",
+        Readiness::Both => b"rw",
     }
 }
 
@@ -276,7 +278,9 @@ fn push_news(alloc: Global, item: &ChildItem, out: &mut Vec<u8>) -> Result<(), M
 }
 
 fn push_launch(alloc: Global, words: &WordList, out: &mut Vec<u8>) -> Result<(), Memory>
-    ensures { OnOk result (out.new.items ≡ out.old.items ++ (codes "launch " ++ shown (Items (values (map Text words.now))))) }
+    ensures { OnOk result
+        (out.new.items
+        ≡ out.old.items ++ (codes "launch " ++ shown (Items (values (map Text words.now))))) }
 {
     let mut texts = Vec::new(alloc);
     for word in words.items() {

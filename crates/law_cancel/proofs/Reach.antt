@@ -1,5 +1,6 @@
 -- The test whether a future leads to another decides it: a way that comes to no future twice is short enough.
-use Rattle.std.proofs.Common.{◌≡◌, ℕ, zero, suc, ◌+◌, ◌<◌, ◌⊎◌, ◌↔◌, Bool, true, false, ◌||◌, ◌==◌, List, [], ◌∷◌, Option, Some, None, length, nat_eq, slice_get, refl, ap, sym, ◌∙◌, inl, inr, arith}
+use Rattle.std.proofs.Common.{◌≡◌, ℕ, zero, suc, ◌+◌, ◌<◌, ◌⊎◌, ◌↔◌, Bool, true, false, ◌||◌, ◌==◌, List, [], ◌∷◌, Option, Some, None, length, nat_eq}
+use Rattle.std.proofs.Common.{slice_get, refl, ap, sym, ◌∙◌, inl, inr, arith}
 use Rattle.std.specs.List.{list_any}
 use Rattle.std.proofs.lemmas.Bool.{cases_Bool, eq-eqb, eqb-true, or_cases, or_left, or_right}
 use Rattle.std.proofs.lemmas.Option.{slice_get_within}
@@ -39,7 +40,8 @@ leads_from_within (suc n) p from to h =
     let r = any_found (λ next. (next == to) || leads_within n p next to) (passes p from) h in
     go r.at r.there (or_cases (r.at == to) (leads_within n p r.at to) r.passes) (λ k. leads_from_within n p r.at to k)
   where
-    go : (next : ℕ) → PassesTo p from next → (nat_eq next to ≡ true) ⊎ (leads_within n p next to ≡ true) → (leads_within n p next to ≡ true → Leads p next to) → Leads p from to
+    go : (next : ℕ) → PassesTo p from next → (nat_eq next to ≡ true) ⊎ (leads_within n p next to ≡ true) → (leads_within n p next to ≡ true → Leads p next to)
+        → Leads p from to
     go next there (inl e) ih = at_once (ap (λ x. list_any (λ y. y == x) (passes p from)) (sym (eqb-true next to e)) ∙ there)
     go next there (inr k) ih = through next there (ih k)
 
@@ -53,39 +55,40 @@ within_from_way zero p from xs to h w = absurd (omega arith)
 within_from_way (suc n) p from [] to h w =
     any_at (λ next. (next == to) || leads_within n p next to) (passes p from) to w (or_left (nat_eq to to) (leads_within n p to to) (eq-eqb to to refl))
 within_from_way (suc n) p from (x ∷ xs) to h w =
-    any_at (λ next. (next == to) || leads_within n p next to) (passes p from) x w.0 (or_right (nat_eq x to) (leads_within n p x to) (within_from_way n p x xs to (omega arith) w.1))
+    any_at (λ next. (next == to) || leads_within n p next to) (passes p from) x w.0
+    (or_right (nat_eq x to) (leads_within n p x to) (within_from_way n p x xs to (omega arith) w.1))
 
 -- no element stands twice
 abbrev Differ : List ℕ → Type 0
 Differ [] = Unit {0}
 Differ (x ∷ xs) = (has_seen xs x ≡ false) × Differ xs
 
-record Way (p : Parts) (from to : ℕ) : Type 0 where
+record SimpleWay (p : Parts) (from to : ℕ) : Type 0 where
   between : List ℕ
   is : IsWay p from between to
   differ : Differ (from ∷ between)
 
 -- a way that comes to a future can be begun there
-cut : (p : Parts) (x : ℕ) (xs : List ℕ) (to from : ℕ) → IsWay p x xs to → Differ (x ∷ xs) → has_seen (x ∷ xs) from ≡ true → Way p from to
+cut : (p : Parts) (x : ℕ) (xs : List ℕ) (to from : ℕ) → IsWay p x xs to → Differ (x ∷ xs) → has_seen (x ∷ xs) from ≡ true → SimpleWay p from to
 cut p x [] to from w d h = go (or_cases (nat_eq from x) false h)
   where
-    go : (nat_eq from x ≡ true) ⊎ (false ≡ true) → Way p from to
+    go : (nat_eq from x ≡ true) ⊎ (false ≡ true) → SimpleWay p from to
     go (inl e) = let same = eqb-true from x e in rw same (record { between = []; is = w; differ = d })
     go (inr e) = absurd (cc)
 cut p x (y ∷ ys) to from w d h =
     go (or_cases (nat_eq from x) (has_seen (y ∷ ys) from) h) (λ k. cut p y ys to from w.1 d.1 k)
   where
-    go : (nat_eq from x ≡ true) ⊎ (has_seen (y ∷ ys) from ≡ true) → (has_seen (y ∷ ys) from ≡ true → Way p from to) → Way p from to
+    go : (nat_eq from x ≡ true) ⊎ (has_seen (y ∷ ys) from ≡ true) → (has_seen (y ∷ ys) from ≡ true → SimpleWay p from to) → SimpleWay p from to
     go (inl e) ih = let same = eqb-true from x e in rw same (record { between = y ∷ ys; is = w; differ = d })
     go (inr k) ih = ih k
 
-way : (p : Parts) {from to : ℕ} → Leads p from to → Way p from to
+way : (p : Parts) {from to : ℕ} → Leads p from to → SimpleWay p from to
 way p (at_once e) = record { between = []; is = e; differ = (refl, tt) }
 way p (through {from = from} {to = to} next e l) =
     let w = way p l in
     go w (cases_Bool (has_seen (next ∷ w.between) from))
   where
-    go : (w : Way p next to) → (has_seen (next ∷ w.between) from ≡ true) ⊎ (has_seen (next ∷ w.between) from ≡ false) → Way p from to
+    go : (w : SimpleWay p next to) → (has_seen (next ∷ w.between) from ≡ true) ⊎ (has_seen (next ∷ w.between) from ≡ false) → SimpleWay p from to
     go w (inl h) = cut p next w.between to from w.is w.differ h
     go w (inr h) = record { between = next ∷ w.between; is = (e, w.is); differ = (h, w.differ) }
 

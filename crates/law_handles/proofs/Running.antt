@@ -1,5 +1,6 @@
 -- Handles are cancelled, stand before the bar, and are taken out.
-use Rattle.std.proofs.Common.{◌≡◌, ℕ, ◌<◌, ◌≤◌, ◌⊎◌, ◌==◌, ◌||◌, Bool, true, false, cond, not, List, [], ◌∷◌, ◌++◌, drop, map, filter, refl, ap, sym, subst, ◌∙◌, inl, inr, arith, append-nil}
+use Rattle.std.proofs.Common.{◌≡◌, ℕ, ◌<◌, ◌≤◌, ◌⊎◌, ◌==◌, ◌||◌, Bool, true, false, cond, not, List, [], ◌∷◌, ◌++◌, drop, map, filter, refl, ap, sym, subst}
+use Rattle.std.proofs.Common.{◌∙◌, inl, inr, arith, append-nil}
 use Rattle.std.specs.Prelude.{length, nat_lt}
 use Rattle.std.specs.List.{AllByRecursion as Each, count_by}
 use Rattle.std.proofs.lemmas.List.Sums.{sum_by-cons}
@@ -15,7 +16,7 @@ use Rattle.aio_ready.specs.declared.handle.HandleId.{HandleId}
 use Rattle.aio_ready.specs.Names.{is_same, marked}
 use Rattle.aio_ready.specs.Queue as queue
 use Rattle.aio_ready.specs.Queue.{Queue, cancelled}
-use Rattle.aio_cancel.specs.Body.{waiting}
+use Rattle.aio_cancel.specs.Awaitables.{waiting}
 use Rattle.aio_task.specs.View.{View}
 use Rattle.aio_task.specs.Keeps.{Known, ByHandle, name_of, handle_as, timer_as, IsTimer, Ties, KeepsHandles, Keeps, Knows}
 use Rattle.law_handles.specs.Runs.{skipped}

@@ -1,5 +1,6 @@
 -- Timers are made, cancelled, and fall due.
-use Rattle.std.proofs.Common.{◌≡◌, ℕ, ◌+◌, ◌<◌, ◌≤◌, ◌⊎◌, ◌==◌, Bool, true, false, cond, not, List, [], ◌∷◌, ◌++◌, Some, None, map, filter, refl, ap, sym, subst, ◌∙◌, inl, inr, arith, append_assoc, if◌then◌else◌}
+use Rattle.std.proofs.Common.{◌≡◌, ℕ, ◌+◌, ◌<◌, ◌≤◌, ◌⊎◌, ◌==◌, Bool, true, false, cond, not, List, [], ◌∷◌, ◌++◌, Some, None, map, filter, refl, ap, sym}
+use Rattle.std.proofs.Common.{subst, ◌∙◌, inl, inr, arith, append_assoc, if◌then◌else◌}
 use Rattle.std.specs.Prelude.{nat_lt, nat_le, nat_eq}
 use Rattle.std.specs.List.{AllByRecursion as Each}
 use Rattle.std.proofs.lemmas.Bool.{cases_eq, eq-eqb, ne_eqb, eqb-true, false_from_ne_true, and_parts, and_from}
@@ -13,7 +14,7 @@ use Rattle.model_loop.specs.Numbered.{occurrences, IsNumbered}
 use Rattle.law_numbers.proofs.Falling.{due_numbers, fall_due-next}
 use Rattle.law_numbers.proofs.Numbering.{later_numbers, revoke_numbers, tagged, tag_of, timer_tag}
 use Rattle.aio_ready.specs.declared.handle.Handle.{Handle}
-use Rattle.aio_ready.specs.declared.handle.Name.TheVariants as name
+use Rattle.aio_ready.specs.declared.handle.HandleName.TheVariants as name
 use Rattle.aio_ready.specs.Queue.{Queue, cancelled, appended, is_empty}
 use Rattle.aio_timer.specs.declared.live.TimerId.{TimerId}
 use Rattle.aio_timer.specs.Schedule.{timer, placed_after, is_of, lives, without, first_when, due_at, later_than, fallen}
@@ -21,10 +22,11 @@ use Rattle.aio_task.specs.View.{View}
 use Rattle.aio_task.specs.Keeps.{Known, ByHandle, ByTimer, name_of, number_of, handle_as, timer_as, IsTimer, Ties, KeepsHandles, Keeps, Extends, Kept, Knows}
 use Rattle.model_machine.specs.Turn.{least, wait_for, wait_with, wait_of, nothing_comes}
 use Rattle.law_handles.specs.Waiting.{wait_by, stalls_by}
-use Rattle.aio_cancel.specs.Body.{waiting}
+use Rattle.aio_cancel.specs.Awaitables.{waiting}
 use Rattle.law_handles.proofs.Appending.{extends_still, waiting_kept}
 use Rattle.law_handles.proofs.Lists.{all_left, all_right, all_both, all-append, all-filter, occurrences-cons}
-use Rattle.law_handles.proofs.Naming.{tags_pending, tags_timers, all-by_deadline, handles_same, timers_same, known_as, known_new, known_same, names_more, timer_fresh}
+use Rattle.law_handles.proofs.Naming.{tags_pending, tags_timers, all-by_deadline, handles_same, timers_same, known_as, known_new, known_same, names_more}
+use Rattle.law_handles.proofs.Naming.{timer_fresh}
 use Rattle.law_handles.proofs.Deadlining.{last-by_deadline, filter-by_deadline, filter-map, placed-map, tags-by_deadline, first_least}
 use Rattle.law_handles.proofs.Running.{handles_cancelled}
 

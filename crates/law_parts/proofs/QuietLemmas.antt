@@ -1,5 +1,6 @@
 -- A future that a request is done with stays so, and a request for it changes nothing.
-use Rattle.std.proofs.Common.{◌≡◌, ℕ, zero, suc, ◌+◌, ◌<◌, ◌≤◌, ◌⊎◌, Bool, true, false, cond, ◌||◌, List, [], ◌∷◌, ◌++◌, Option, Some, None, take, slice_get, slice_set, nat_lt, refl, ap, sym, ◌∙◌, arith, inl, inr, subst, append-nil, if◌then◌else◌}
+use Rattle.std.proofs.Common.{◌≡◌, ℕ, zero, suc, ◌+◌, ◌<◌, ◌≤◌, ◌⊎◌, Bool, true, false, cond, ◌||◌, List, [], ◌∷◌, ◌++◌, Option, Some, None, take, slice_get}
+use Rattle.std.proofs.Common.{slice_set, nat_lt, refl, ap, sym, ◌∙◌, arith, inl, inr, subst, append-nil, if◌then◌else◌}
 use Rattle.std.specs.Option.{option_map_or}
 use Rattle.std.proofs.lemmas.Bool.{cases_eq, lt-ltb, le-ltb}
 use Rattle.model_value.specs.declared.outcome.Outcome.TheVariants.{Cancelled}
@@ -12,7 +13,7 @@ use Rattle.law_cancel.proofs.Lookups.{get-set_same, get-set_other}
 use Rattle.law_cancel.proofs.Seen.{has_seen-append}
 use Rattle.law_cancel.proofs.Effects.{settle-futures, done_as, asked_as, change_task-futures}
 use Rattle.law_parts.specs.Shape.{stands_of, stands_at, members_of, members_at}
-use Rattle.law_parts.specs.declared.walk.Stands.TheVariants as stands
+use Rattle.law_parts.specs.declared.walk.FutureState.TheVariants as stands
 use Rattle.law_parts.specs.Quiet.{stage_of, stage, stage_at, Quiet, over, visited, finished, QuietAll, none, more, Sound, OnlyAdds, Grows, Later, asked_of}
 use Rattle.law_parts.specs.Walk.{joined, ask_joined}
 use Rattle.law_parts.proofs.WalkLemmas as walk

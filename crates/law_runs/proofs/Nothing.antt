@@ -8,7 +8,7 @@ use Rattle.model_says.specs.Requests.{bad_argument}
 use Rattle.model_loop.specs.Tasks.{next_task}
 use Rattle.model_machine.specs.Arguments.{as_int, as_list}
 use Rattle.model_machine.specs.Extra.{Extra, no_extra, unknown_code}
-use Rattle.model_machine.specs.Replies.{Reply, given, reply, serves, woken}
+use Rattle.model_machine.specs.Replies.{RequestReply, given, reply, serves, woken}
 use Rattle.model_machine.specs.Sound.{IsStateSound, names_made}
 use Rattle.model_machine.specs.State.{Standing, Asked, Leaving, Serving, State, resumed}
 use Rattle.law_after.proofs.Loops.{refl_loop}
@@ -34,7 +34,8 @@ module _ (task : ℕ) (code arguments : Value) (s : State (Unit {0})) (is : IsAs
       items n (Some values) = raised (unknown_code n)
 
       number : (o : Option ℤ)
-          → RepliesInStep no_extra false task (given o (λ n. given (as_list arguments) (λ items now. serves (no_extra.ask task n items now) (woken no_extra task) task now)) s)
+          → RepliesInStep no_extra false task
+          (given o (λ n. given (as_list arguments) (λ items now. serves (no_extra.ask task n items now) (woken no_extra task) task now)) s)
       number None = raised bad_argument
       number (Some n) = items n (as_list arguments)
 

@@ -1,5 +1,6 @@
 -- A turn leaves a sound state, and so does each callback in it; so every state of a run is sound.
-use Rattle.std.proofs.Common.{◌≡◌, ℕ, zero, suc, ◌+◌, ◌⊎◌, inl, inr, Bool, true, false, not, ◌&&◌, List, [], ◌∷◌, ◌++◌, Option, Some, None, length, max, nat_lt, refl, sym, ap, subst, ◌∙◌, le_refl, arith}
+use Rattle.std.proofs.Common.{◌≡◌, ℕ, zero, suc, ◌+◌, ◌⊎◌, inl, inr, Bool, true, false, not, ◌&&◌, List, [], ◌∷◌, ◌++◌, Option, Some, None, length, max, nat_lt}
+use Rattle.std.proofs.Common.{refl, sym, ap, subst, ◌∙◌, le_refl, arith}
 use Rattle.std.specs.List.{flat_map}
 use Rattle.model_value.specs.Action.{Action}
 use Rattle.model_value.specs.Value.{Value, Nothing, Outcome}
@@ -10,8 +11,8 @@ use Rattle.model_value.specs.Input.{Input}
 use Rattle.model_says.specs.Says.{step_limit}
 use Rattle.model_wire.specs.declared.event.Event.TheVariants as event
 use Rattle.model_wire.specs.declared.item.Item.TheVariants as item
-use Rattle.model_wire.specs.declared.item.Ready.{Ready}
-use Rattle.model_wire.specs.declared.item.Ready.TheVariants as ready
+use Rattle.model_wire.specs.declared.item.Readiness.{Readiness}
+use Rattle.model_wire.specs.declared.item.Readiness.TheVariants as ready
 use Rattle.model_wire.specs.Call.{Answer, Call, Item}
 use Rattle.model_wire.specs.Event.{Event}
 use Rattle.model_wire.specs.Fits.{fits}
@@ -33,7 +34,8 @@ use Rattle.model_machine.specs.Outside.{actions_of, items_of, news_of, ready_act
 use Rattle.model_machine.specs.Sound.{IsStateSound, is_main_done, names_made}
 use Rattle.model_machine.specs.State.{State, Asked, Serving, in_loop, noted, unbooked_in}
 use Rattle.model_machine.specs.Told.{told_by, told_in}
-use Rattle.model_machine.specs.Turn.{at_time, call_of, cancelled_if, finished_if, is_stalled, next_below, run_below, run_first, run_if, run_pending, turn, turn_over, turn_unless, turned_by, woken_by}
+use Rattle.model_machine.specs.Turn.{at_time, call_of, cancelled_if, finished_if, is_stalled, next_below, run_below, run_first, run_if, run_pending, turn}
+use Rattle.model_machine.specs.Turn.{turn_over, turn_unless, turned_by, woken_by}
 use Rattle.model_machine.specs.Went.{Went, Goes, Stops, answered_by, fitted, went_on}
 use Rattle.law_sound.proofs.Steps.{end_of_run_sound}
 use Rattle.law_turns.specs.SoundState.{HasSoundLoop}
@@ -68,7 +70,7 @@ module _ (n : ℕ) where
   one_more : (it : Action) (p : Parts) → is_main_done it ≡ false → IsAfter (names_made n) false None p (soon it p)
   one_more it p other = soon_after (names_made n) false None it p other
 
-  ready_after : (conn : ℕ) (letters : Ready) (p : Parts) → IsAfter (names_made n) false None p (soon_all (ready_actions conn letters) p)
+  ready_after : (conn : ℕ) (letters : Readiness) (p : Parts) → IsAfter (names_made n) false None p (soon_all (ready_actions conn letters) p)
   ready_after conn ready.Read p = one_more (action.Readable conn) p refl
   ready_after conn ready.Write p = one_more (action.Writable conn) p refl
   ready_after conn ready.Both p =

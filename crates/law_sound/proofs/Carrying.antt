@@ -1,5 +1,6 @@
 -- What each step of the loop carries on: what is numbered, that no circle is, what is called and scheduled.
-use Rattle.std.proofs.Common.{◌≡◌, ℕ, Bool, List, None, Option, Some, [], ap, arith, cond, false, inl, inr, is_some, length, not, refl, slice_get, sym, true, ◌&&◌, ◌++◌, ◌==◌, ◌||◌, ◌∙◌, ◌∷◌, ◌⊎◌}
+use Rattle.std.proofs.Common.{◌≡◌, ℕ, Bool, List, None, Option, Some, [], ap, arith, cond, false, inl, inr, is_some, length, not, refl, slice_get, sym, true}
+use Rattle.std.proofs.Common.{◌&&◌, ◌++◌, ◌==◌, ◌||◌, ◌∙◌, ◌∷◌, ◌⊎◌}
 use Rattle.model_loop.specs.Parts.{Future, FutureKind, Handle, OfTask, Parts, Plain, Task}
 use Rattle.model_loop.specs.Tasks.{cancelling, change_task, future_of, lives, next_task, spawn, uncancel, waiter_of}
 use Rattle.model_loop.specs.Totals.{callbacks_at, callbacks_of}
@@ -7,8 +8,11 @@ use Rattle.law_numbers.proofs.Falling.{new_plain_numbers, spawn_numbers}
 use Rattle.model_value.specs.Value.{Exc, Nothing, Outcome}
 use Rattle.model_loop.specs.Futures.{make_future, new_plain, next_future, register, registered, registered_on, settle}
 use Rattle.model_loop.specs.Handles.{soon}
-use Rattle.law_timeouts.proofs.Quiet.{change_task_quiet, make_quiet, mark_asked_quiet, quiet_on, refl_quiet, register_quiet, settle_quiet, soon_quiet, spawn_quiet, taken_quiet}
-use Rattle.model_loop.specs.Groups.{Refusal, abort, abort_and_request_unless, abort_if_raised, abort_where, begin_exit, blame, child_done, create, create_unless, end_exit, exit_begin, exit_woken, failure_of, group_of, hear, keep_and_abort_unless, refusal, set_group, take_back, take_back_where, wait_or_end, wait_or_end_with, wake_exit, wake_if_last, with_child, without_child}
+use Rattle.law_timeouts.proofs.Quiet.{change_task_quiet, make_quiet, mark_asked_quiet, quiet_on, refl_quiet, register_quiet, settle_quiet, soon_quiet}
+use Rattle.law_timeouts.proofs.Quiet.{spawn_quiet, taken_quiet}
+use Rattle.model_loop.specs.Groups.{Refusal, abort, abort_and_request_unless, abort_if_raised, abort_where, begin_exit, blame, child_done, create}
+use Rattle.model_loop.specs.Groups.{create_unless, end_exit, exit_begin, exit_woken, failure_of, group_of, hear, keep_and_abort_unless, refusal, set_group}
+use Rattle.model_loop.specs.Groups.{take_back, take_back_where, wait_or_end, wait_or_end_with, wake_exit, wake_if_last, with_child, without_child}
 use Rattle.std.specs.Option.{option_map_or, option_to_list}
 use Rattle.model_loop.specs.Numbered.{IsNumbered}
 use Rattle.law_cancel.proofs.Effects.{register-tasks}
@@ -23,10 +27,9 @@ use Rattle.model_value.specs.Action.{Action}
 use Rattle.model_loop.specs.Circles.{passes, passes_at}
 use Rattle.law_settling.proofs.Looks.{LooksSame, asked_looks_same, change_looks_same, same_callbacks, same_no_circle}
 use Rattle.law_made.proofs.Passing.{no_circle_more, same_tasks_no_circle, settle_no_circle}
-use Rattle.model_loop.specs.Entries.{is_timed}
 use Rattle.law_settling.proofs.Spreading.{Spreads, begins, settles, asks, raises, marks, with_spread}
 use Rattle.law_cancel.proofs.Circling.{no_circle_kept, passes-same, register-view}
-use Rattle.law_timeouts.specs.Tags.{IsQuiet}
+use Rattle.law_timeouts.specs.Tags.{IsQuiet, is_deadline}
 use Rattle.law_settling.specs.Frames.{taken}
 use Rattle.std.proofs.lemmas.List.Sums.{sum_by_push}
 use Rattle.model_value.specs.declared.input.Input.TheVariants.{Send, Throw}
@@ -117,12 +120,12 @@ each_carries by (task ∷ tasks) p = carries_on p _ _ (each_carries by tasks _) 
     at false = refl_carries p
 
 -- ---- handles
-pub soon_carries : (action : Action) (p : Parts) → is_timed action ≡ false → Carries p (soon action p)
-soon_carries action p untimed_ = record {
+pub soon_carries : (action : Action) (p : Parts) → is_deadline action ≡ false → Carries p (soon action p)
+soon_carries action p other = record {
   numbered = soon_numbers action p;
   circle = same_tasks_no_circle p (soon action p) refl refl;
   callbacks = λ h. h;
-  quiet = λ h. soon_quiet action p untimed_;
+  quiet = λ h. soon_quiet action p other;
   plains = λ id h. h;
 }
 
@@ -224,15 +227,15 @@ register_callbacks id action p ok are j = at (slice_get p.futures id) refl
     at None e = are j
     at (Some future) e = until future e future.outcome
 
-pub register_carries : (id : ℕ) (action : Action) (p : Parts) → is_callback action ≡ true → is_timed action ≡ false
+pub register_carries : (id : ℕ) (action : Action) (p : Parts) → is_callback action ≡ true → is_deadline action ≡ false
     → Carries p (register id action p)
-register_carries id action p ok untimed_ = record {
+register_carries id action p ok other = record {
   numbered = register_numbers id action p;
   circle = no_circle_kept p (register id action p) (λ x. passes-same p (register id action p) x
       (register-view (λ o. passes_at o x p) (λ f a. refl) id action p x)
       (λ t. ap (λ (ts : List Task). option_map_or (λ (it : Task). it.waiter) (slice_get ts t) None) (register-tasks id action p)));
   callbacks = register_callbacks id action p ok;
-  quiet = λ h. register_quiet id action p untimed_;
+  quiet = λ h. register_quiet id action p other;
   plains = λ j h. register-view is_plain_at (λ f a. refl) id action p j ∙ h;
 }
 

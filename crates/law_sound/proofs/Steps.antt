@@ -1,5 +1,6 @@
 -- Each kind of step keeps a sound state sound.
-use Rattle.std.proofs.Common.{◌≡◌, ℕ, Bool, Err, List, None, Ok, Option, Result, Some, ap, arith, cond, false, inl, inr, not, refl, slice_get, slice_index_or, subst, sym, true, ◌&&◌, ◌+◌, ◌<◌, ◌==◌, ◌∙◌, ◌∷◌, ◌⊎◌}
+use Rattle.std.proofs.Common.{◌≡◌, ℕ, Bool, Err, List, None, Ok, Option, Result, Some, ap, arith, cond, false, inl, inr, not, refl, slice_get, slice_index_or}
+use Rattle.std.proofs.Common.{subst, sym, true, ◌&&◌, ◌+◌, ◌<◌, ◌==◌, ◌∙◌, ◌∷◌, ◌⊎◌}
 use Rattle.law_numbers.proofs.Falling.{due_numbers, new_many_numbers}
 use Rattle.law_numbers.proofs.Numbering.{later_numbers, revoke_numbers, taken_numbers}
 use Rattle.model_loop.specs.Balance.{Balances, TasksBalance, lowers}
@@ -13,7 +14,8 @@ use Rattle.law_told.proofs.Holding.{cancel_holds, looks_holds, request_each_hold
 use Rattle.law_ledger.proofs.Quietly.{book_quietly, each_none, parts_quietly, quietly_tells, request_none, suspend_none, uncancel_none}
 use Rattle.law_timeouts.specs.Tags.{HaveTags, IsQuiet, KeepsTags}
 use Rattle.law_settling.proofs.Looks.{LooksSame, handles_look_same}
-use Rattle.law_sound.proofs.Carrying.{Carries, LoopCarries, book_loop, cancel_carries, carries_on, change_carries, each_carries, looks_carries, parts_loop, plain_carries, settle_carries, soon_carries, spawn_carries, taken_carries, uncancel_carries}
+use Rattle.law_sound.proofs.Carrying.{Carries, LoopCarries, book_loop, cancel_carries, carries_on, change_carries, each_carries, looks_carries, parts_loop}
+use Rattle.law_sound.proofs.Carrying.{plain_carries, settle_carries, soon_carries, spawn_carries, taken_carries, uncancel_carries}
 use Rattle.model_loop.specs.Loop.{Loop, Timeout, book, in_parts}
 use Rattle.model_value.specs.Action.{Action}
 use Rattle.model_loop.specs.Tasks.{begin_step, cancelling, change_task, finish, future_of, next_task, pause, set_waiter, spawn, uncancel, unmark}
@@ -73,13 +75,13 @@ pub tells_of : (running : Option ℕ) (told : ℕ → List ℕ) (l : Loop) → I
 tells_of running told l s = record { timeouts = s.balance.timeouts; groups = s.balance.groups }
 
 -- what the parts of a state after a step have to say
-pub record Rest (q : Loop) : Type 0 where
+pub record SoundParts (q : Loop) : Type 0 where
   pub numbered : IsNumbered q.parts
   pub no_circle : HasNoCircle q.parts
   pub timed : AreTimed q.parts
   pub tags : (id : ℕ) → HasTag q.parts id (timeout_of q id)
 
-pub build : (running : Option ℕ) (told : ℕ → List ℕ) (q : Loop) → Rest q → Holds running running told told (group_of q) q.parts
+pub build : (running : Option ℕ) (told : ℕ → List ℕ) (q : Loop) → SoundParts q → Holds running running told told (group_of q) q.parts
     → ((id : ℕ) → IsOrderly (group_of q id)) → TasksBalance q → Tells q → IsSound running told q
 build running told q r h orderly tasks tells = record {
   numbered = r.numbered;
@@ -97,7 +99,7 @@ build running told q r h orderly tasks tells = record {
   balance = record { tasks = tasks; timeouts = tells.timeouts; groups = tells.groups };
 }
 
-pub rest_of : (running : Option ℕ) (told : ℕ → List ℕ) (l q : Loop) → IsSound running told l → LoopCarries l q → Rest q
+pub rest_of : (running : Option ℕ) (told : ℕ → List ℕ) (l q : Loop) → IsSound running told l → LoopCarries l q → SoundParts q
 rest_of running told l q s c = record {
   numbered = c.parts.numbered s.numbered;
   no_circle = c.parts.circle s.no_circle;

@@ -2,17 +2,16 @@
 #![tactic(auto)]
 
 mod block;
+mod capped;
 mod fault;
+mod form_place;
 mod forms;
 mod fronts;
 mod goal;
 mod parts;
 mod pass;
 mod places;
-mod standing;
 mod terms;
-#[cfg(test)]
-mod tests;
 mod text;
 
 pub use fault::FormFault;

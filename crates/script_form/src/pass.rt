@@ -13,7 +13,7 @@ ghost use Rattle.script_form.specs.Behind.{roles_behind};
 
 use crate::block::role_of;
 use crate::fault::{FormFault, LineFault};
-use crate::forms::{Unplaced, form_of};
+use crate::forms::{UnplacedForm, form_of};
 use crate::places::Places;
 use crate::text::next_text_line;
 use aio_lex::{LexFault, TokenList, tokens};
@@ -23,7 +23,8 @@ use std::alloc::Global;
 
 /// The forms of a text's lines, with their numbers, or the least faulty line.
 pub fn first_pass(alloc: Global, text: &[u8]) -> Result<Vec<NumberedForm>, FormFault>
-    ensures forms { IfOk result (λ forms. first_pass (text_lines text.now) ≡ Ok (map plain_numbered forms.items)) }
+    ensures forms { IfOk result
+        (λ forms. first_pass (text_lines text.now) ≡ Ok (map plain_numbered forms.items)) }
     ensures fault { IfErr result (λ fault. IsFaultOf fault (first_pass (text_lines text.now))) }
 {
     let mut places = Places::new(alloc);
@@ -53,7 +54,8 @@ fn line_form(alloc: Global, places: &mut Places, line: &[u8]) -> Result<Option<S
     ensures form { (roles : List PlainRole) → IsBehind places.old roles
         → IfOk result (λ form. line_behind roles line.now ≡ Ok (option_map plain_spelled form)) }
     ensures places { (roles : List PlainRole) → IsBehind places.old roles
-        → IfOk result (λ form. IsBehind places.new (roles_behind (option_map plain_spelled form) roles)) }
+        → IfOk result
+        (λ form. IsBehind places.new (roles_behind (option_map plain_spelled form) roles)) }
     ensures fault { (roles : List PlainRole) → IsBehind places.old roles
         → IfErr result (λ fault. IsCauseOf fault (line_behind roles line.now)) }
 {
@@ -70,7 +72,8 @@ fn line_form(alloc: Global, places: &mut Places, line: &[u8]) -> Result<Option<S
 
 fn line_tokens(alloc: Global, line: &[u8]) -> Result<TokenList, LineFault>
     ensures tokens { IfOk result (λ tokens. tokens_of line.now ≡ Ok tokens) }
-    ensures fault { (roles : List PlainRole) → IfErr result (λ fault. IsCauseOf fault (line_behind roles line.now)) }
+    ensures fault { (roles : List PlainRole)
+        → IfErr result (λ fault. IsCauseOf fault (line_behind roles line.now)) }
 {
     match tokens(alloc, line) {
         Ok(tokens) => Ok(tokens),
@@ -80,10 +83,11 @@ fn line_tokens(alloc: Global, line: &[u8]) -> Result<TokenList, LineFault>
 }
 
 /// A form that stands where it may, and from then on before the lines to come.
-fn placed(places: &mut Places, unplaced: Unplaced) -> Result<Spelled, LineFault>
+fn placed(places: &mut Places, unplaced: UnplacedForm) -> Result<Spelled, LineFault>
     ensures form { (roles : List PlainRole) (form : PlainSpelled) → IsBehind places.old roles
         → plain_unplaced unplaced ≡ unplaced_of form
-        → IfOk result (λ spelled. (plain_spelled spelled ≡ form) × (cause_behind roles form ≡ None)) }
+        → IfOk result
+        (λ spelled. (plain_spelled spelled ≡ form) × (cause_behind roles form ≡ None)) }
     ensures places { (roles : List PlainRole) (form : PlainSpelled) → IsBehind places.old roles
         → plain_unplaced unplaced ≡ unplaced_of form
         → IfOk result (λ spelled. IsBehind places.new (role_of form ∷ roles)) }

@@ -18,7 +18,8 @@ use crate::pending::{
     behind_sum, no_loose, no_tight,
 };
 use crate::reader::{
-    Bracket, Next, Open, Position, Progress, at, forget, forget_loose, forget_operand, goes, opens,
+    AfterLexeme, Bracket, Open, Position, TermProgress, at, forget, forget_loose, forget_operand,
+    goes, opens,
 };
 use script_term::{Comparison, Constant, Lexeme, Operand, Operator, ReservedWord, Symbol, Term};
 use std::alloc::{AllocError, Global};
@@ -56,8 +57,10 @@ fn at_operand(
     loose: Loose,
     tight: Tight,
     lexeme: &Lexeme,
-) -> Result<Next, AllocError>
-    ensures { IfOk result (λ next. (opened : List OpenBracket) → applied next opened ≡ at_operand loose tight opened (plain_lexeme lexeme.now)) }
+) -> Result<AfterLexeme, AllocError>
+    ensures { IfOk result
+        (λ next. (opened : List OpenBracket) → applied next opened
+        ≡ at_operand loose tight opened (plain_lexeme lexeme.now)) }
 {
     match lexeme {
         Lexeme::Reserved(_) | Lexeme::Number(_) | Lexeme::Texts(_) | Lexeme::Octets(_) =>
@@ -67,8 +70,10 @@ fn at_operand(
     }
 }
 
-fn behind_new_name(loose: Loose, tight: Tight, name: &RcStr) -> Result<Next, AllocError>
-    ensures { IfOk result (λ next. (opened : List OpenBracket) → applied next opened ≡ reading (BehindName loose tight (rc_str_bytes name.now)) opened) }
+fn behind_new_name(loose: Loose, tight: Tight, name: &RcStr) -> Result<AfterLexeme, AllocError>
+    ensures { IfOk result
+        (λ next. (opened : List OpenBracket) → applied next opened
+        ≡ reading (BehindName loose tight (rc_str_bytes name.now)) opened) }
 {
     match name.clone() {
         Ok(name) => Ok(goes(Position::BehindName(loose, tight, name))),
@@ -79,14 +84,17 @@ fn behind_new_name(loose: Loose, tight: Tight, name: &RcStr) -> Result<Next, All
     }
 }
 
-fn behind_atom(loose: Loose, tight: Tight, lexeme: &Lexeme) -> Result<Next, AllocError>
-    ensures { IfOk result (λ next. (opened : List OpenBracket) → applied next opened ≡ option_and_then (λ term. reading (BehindOperand loose tight (Fits term)) opened) (atom (plain_lexeme lexeme.now))) }
+fn behind_atom(loose: Loose, tight: Tight, lexeme: &Lexeme) -> Result<AfterLexeme, AllocError>
+    ensures { IfOk result
+        (λ next. (opened : List OpenBracket) → applied next opened
+        ≡ option_and_then (λ term. reading (BehindOperand loose tight (Fits term)) opened)
+        (atom (plain_lexeme lexeme.now))) }
 {
     match atom(lexeme) {
         Ok(Some(term)) => Ok(goes(Position::BehindOperand(loose, tight, Operand::Fits(term)))),
         Ok(None) => {
             forget(loose, tight);
-            Ok(Next::Fails)
+            Ok(AfterLexeme::Fails)
         }
         Err(refused) => {
             forget(loose, tight);
@@ -100,8 +108,10 @@ fn at_operand_sign(
     loose: Loose,
     tight: Tight,
     symbol: Symbol,
-) -> Result<Next, AllocError>
-    ensures { IfOk result (λ next. (opened : List OpenBracket) → applied next opened ≡ at_operand loose tight opened (Sign symbol)) }
+) -> Result<AfterLexeme, AllocError>
+    ensures { IfOk result
+        (λ next. (opened : List OpenBracket) → applied next opened
+        ≡ at_operand loose tight opened (Sign symbol)) }
 {
     match symbol {
         Symbol::Minus => minus(loose, tight),
@@ -114,13 +124,15 @@ fn at_operand_sign(
         )),
         _ => {
             forget(loose, tight);
-            Ok(Next::Fails)
+            Ok(AfterLexeme::Fails)
         }
     }
 }
 
-fn minus(loose: Loose, tight: Tight) -> Result<Next, AllocError>
-    ensures { IfOk result (λ next. (opened : List OpenBracket) → applied next opened ≡ reading (AtOperand loose (record tight { minuses = suc tight.minuses })) opened) }
+fn minus(loose: Loose, tight: Tight) -> Result<AfterLexeme, AllocError>
+    ensures { IfOk result
+        (λ next. (opened : List OpenBracket) → applied next opened
+        ≡ reading (AtOperand loose (record tight { minuses = suc tight.minuses })) opened) }
 {
     match behind_minus(tight) {
         Ok(tight) => Ok(goes(Position::AtOperand(loose, tight))),
@@ -132,8 +144,10 @@ fn minus(loose: Loose, tight: Tight) -> Result<Next, AllocError>
 }
 
 /// Where `not` may stand too.
-fn at_not(alloc: Global, loose: Loose, lexeme: &Lexeme) -> Result<Next, AllocError>
-    ensures { IfOk result (λ next. (opened : List OpenBracket) → applied next opened ≡ at_not loose opened (plain_lexeme lexeme.now)) }
+fn at_not(alloc: Global, loose: Loose, lexeme: &Lexeme) -> Result<AfterLexeme, AllocError>
+    ensures { IfOk result
+        (λ next. (opened : List OpenBracket) → applied next opened
+        ≡ at_not loose opened (plain_lexeme lexeme.now)) }
 {
     match lexeme {
         Lexeme::Reserved(ReservedWord::Not) => denial(loose),
@@ -141,8 +155,10 @@ fn at_not(alloc: Global, loose: Loose, lexeme: &Lexeme) -> Result<Next, AllocErr
     }
 }
 
-fn denial(loose: Loose) -> Result<Next, AllocError>
-    ensures { IfOk result (λ next. (opened : List OpenBracket) → applied next opened ≡ reading (AtNot (record loose { nots = suc loose.nots })) opened) }
+fn denial(loose: Loose) -> Result<AfterLexeme, AllocError>
+    ensures { IfOk result
+        (λ next. (opened : List OpenBracket) → applied next opened
+        ≡ reading (AtNot (record loose { nots = suc loose.nots })) opened) }
 {
     let loose = behind_not(loose)?;
     Ok(goes(Position::AtNot(loose)))
@@ -151,12 +167,12 @@ fn denial(loose: Loose) -> Result<Next, AllocError>
 // ---- behind an operand
 
 /// It is no expression: what is pending is let go.
-fn fails(loose: Loose, tight: Tight, operand: Operand) -> Next
+fn fails(loose: Loose, tight: Tight, operand: Operand) -> AfterLexeme
     ensures { (opened : List OpenBracket) → applied result opened ≡ None }
 {
     forget(loose, tight);
     forget_operand(operand);
-    Next::Fails
+    AfterLexeme::Fails
 }
 
 /// An operator between operands, by its level.
@@ -192,7 +208,8 @@ fn behind_infix(
     operand: Operand,
     operator: Infix,
 ) -> Result<Option<Tight>, AllocError>
-    ensures { IfOk result (λ pending. pending ≡ behind_infix tight (plain_operand operand) (plain_infix operator)) }
+    ensures { IfOk result
+        (λ pending. pending ≡ behind_infix tight (plain_operand operand) (plain_infix operator)) }
 {
     match operator {
         Infix::Compares(comparison) => behind_compared(alloc, tight, comparison, operand),
@@ -207,14 +224,17 @@ fn infixed(
     tight: Tight,
     operand: Operand,
     operator: Infix,
-) -> Result<Next, AllocError>
-    ensures { IfOk result (λ next. (opened : List OpenBracket) → applied next opened ≡ option_and_then (λ pending. reading (AtOperand loose pending) opened) (behind_infix tight (plain_operand operand) (plain_infix operator))) }
+) -> Result<AfterLexeme, AllocError>
+    ensures { IfOk result
+        (λ next. (opened : List OpenBracket) → applied next opened
+        ≡ option_and_then (λ pending. reading (AtOperand loose pending) opened)
+        (behind_infix tight (plain_operand operand) (plain_infix operator))) }
 {
     match behind_infix(alloc, tight, operand, operator) {
         Ok(Some(pending)) => Ok(goes(Position::AtOperand(loose, pending))),
         Ok(None) => {
             forget_loose(loose);
-            Ok(Next::Fails)
+            Ok(AfterLexeme::Fails)
         }
         Err(refused) => {
             forget_loose(loose);
@@ -229,8 +249,11 @@ fn infixed_by(
     tight: Tight,
     operand: Operand,
     symbol: Symbol,
-) -> Result<Next, AllocError>
-    ensures { IfOk result (λ next. (opened : List OpenBracket) → applied next opened ≡ option_and_then (λ pending. reading (AtOperand loose pending) opened) (option_and_then (behind_infix tight (plain_operand operand)) (infix_of symbol))) }
+) -> Result<AfterLexeme, AllocError>
+    ensures { IfOk result
+        (λ next. (opened : List OpenBracket) → applied next opened
+        ≡ option_and_then (λ pending. reading (AtOperand loose pending) opened)
+        (option_and_then (behind_infix tight (plain_operand operand)) (infix_of symbol))) }
 {
     match infix_of(symbol) {
         None => Ok(fails(loose, tight, operand)),
@@ -244,8 +267,10 @@ fn at_symbol(
     tight: Tight,
     operand: Operand,
     symbol: Symbol,
-) -> Result<Next, AllocError>
-    ensures { IfOk result (λ next. (opened : List OpenBracket) → applied next opened ≡ at_symbol loose tight (plain_operand operand) opened symbol) }
+) -> Result<AfterLexeme, AllocError>
+    ensures { IfOk result
+        (λ next. (opened : List OpenBracket) → applied next opened
+        ≡ at_symbol loose tight (plain_operand operand) opened symbol) }
 {
     match symbol {
         Symbol::LeftBracket => Ok(opens(Bracket::Item(operand), loose, tight, at(Position::Start))),
@@ -259,8 +284,10 @@ fn behind_operand(
     tight: Tight,
     operand: Operand,
     lexeme: &Lexeme,
-) -> Result<Next, AllocError>
-    ensures { IfOk result (λ next. (opened : List OpenBracket) → applied next opened ≡ behind_operand loose tight (plain_operand operand) opened (plain_lexeme lexeme.now)) }
+) -> Result<AfterLexeme, AllocError>
+    ensures { IfOk result
+        (λ next. (opened : List OpenBracket) → applied next opened
+        ≡ behind_operand loose tight (plain_operand operand) opened (plain_lexeme lexeme.now)) }
 {
     match lexeme {
         Lexeme::Reserved(word) => at_word(alloc, loose, tight, operand, *word),
@@ -277,8 +304,10 @@ fn at_word(
     tight: Tight,
     operand: Operand,
     word: ReservedWord,
-) -> Result<Next, AllocError>
-    ensures { IfOk result (λ next. (opened : List OpenBracket) → applied next opened ≡ behind_operand loose tight (plain_operand operand) opened (Reserved word)) }
+) -> Result<AfterLexeme, AllocError>
+    ensures { IfOk result
+        (λ next. (opened : List OpenBracket) → applied next opened
+        ≡ behind_operand loose tight (plain_operand operand) opened (Reserved word)) }
 {
     match word {
         ReservedWord::Or => disjunction(alloc, loose, tight, operand),
@@ -292,8 +321,10 @@ fn disjunction(
     loose: Loose,
     tight: Tight,
     operand: Operand,
-) -> Result<Next, AllocError>
-    ensures { IfOk result (λ next. (opened : List OpenBracket) → applied next opened ≡ reading (AtNot (behind_or loose tight (plain_operand operand))) opened) }
+) -> Result<AfterLexeme, AllocError>
+    ensures { IfOk result
+        (λ next. (opened : List OpenBracket) → applied next opened
+        ≡ reading (AtNot (behind_or loose tight (plain_operand operand))) opened) }
 {
     let loose = behind_or(alloc, loose, tight, operand)?;
     Ok(goes(Position::AtNot(loose)))
@@ -304,15 +335,17 @@ fn conjunction(
     loose: Loose,
     tight: Tight,
     operand: Operand,
-) -> Result<Next, AllocError>
-    ensures { IfOk result (λ next. (opened : List OpenBracket) → applied next opened ≡ reading (AtNot (behind_and loose tight (plain_operand operand))) opened) }
+) -> Result<AfterLexeme, AllocError>
+    ensures { IfOk result
+        (λ next. (opened : List OpenBracket) → applied next opened
+        ≡ reading (AtNot (behind_and loose tight (plain_operand operand))) opened) }
 {
     let loose = behind_and(alloc, loose, tight, operand)?;
     Ok(goes(Position::AtNot(loose)))
 }
 
 /// What may stand as the first argument of a call: a bare name in `error(KIND, t)`.
-fn first_argument(name: &str) -> Progress
+fn first_argument(name: &str) -> TermProgress
     ensures { result ≡ first_argument name.now }
 {
     if name == "error" {
@@ -328,8 +361,10 @@ fn behind_name(
     tight: Tight,
     name: RcStr,
     lexeme: &Lexeme,
-) -> Result<Next, AllocError>
-    ensures { IfOk result (λ next. (opened : List OpenBracket) → applied next opened ≡ behind_name loose tight (rc_str_bytes name) opened (plain_lexeme lexeme.now)) }
+) -> Result<AfterLexeme, AllocError>
+    ensures { IfOk result
+        (λ next. (opened : List OpenBracket) → applied next opened
+        ≡ behind_name loose tight (rc_str_bytes name) opened (plain_lexeme lexeme.now)) }
 {
     match lexeme {
         Lexeme::Sign(Symbol::LeftParenthesis) => Ok(called(alloc, loose, tight, name)),
@@ -337,8 +372,10 @@ fn behind_name(
     }
 }
 
-fn called(alloc: Global, loose: Loose, tight: Tight, name: RcStr) -> Next
-    ensures { (opened : List OpenBracket) → applied result opened ≡ opening (Arguments (rc_str_bytes name) None []) loose tight (first_argument (rc_str_bytes name)) opened }
+fn called(alloc: Global, loose: Loose, tight: Tight, name: RcStr) -> AfterLexeme
+    ensures { (opened : List OpenBracket) → applied result opened
+        ≡ opening (Arguments (rc_str_bytes name) None []) loose tight
+        (first_argument (rc_str_bytes name)) opened }
 {
     let progress = first_argument(name.as_str());
     opens(
@@ -349,22 +386,30 @@ fn called(alloc: Global, loose: Loose, tight: Tight, name: RcStr) -> Next
     )
 }
 
-fn at_kind(lexeme: &Lexeme) -> Result<Next, AllocError>
-    ensures { IfOk result (λ next. (opened : List OpenBracket) → applied next opened ≡ at_kind opened (plain_lexeme lexeme.now)) }
+fn at_kind(lexeme: &Lexeme) -> Result<AfterLexeme, AllocError>
+    ensures { IfOk result
+        (λ next. (opened : List OpenBracket) → applied next opened
+        ≡ at_kind opened (plain_lexeme lexeme.now)) }
 {
     match lexeme {
         Lexeme::Named(kind) => {
             let kind = kind.clone()?;
             Ok(goes(Position::BehindKind(kind)))
         }
-        _ => Ok(Next::Fails),
+        _ => Ok(AfterLexeme::Fails),
     }
 }
 
 // ---- one lexeme more
 
-fn fed_within(alloc: Global, progress: Progress, lexeme: &Lexeme) -> Result<Next, AllocError>
-    ensures { IfOk result (λ next. (opened : List OpenBracket) → applied next opened ≡ fed_within progress opened (plain_lexeme lexeme.now)) }
+fn fed_within(
+    alloc: Global,
+    progress: TermProgress,
+    lexeme: &Lexeme,
+) -> Result<AfterLexeme, AllocError>
+    ensures { IfOk result
+        (λ next. (opened : List OpenBracket) → applied next opened
+        ≡ fed_within progress opened (plain_lexeme lexeme.now)) }
 {
     match progress.place() {
         Position::Start => at_not(alloc, no_loose(), lexeme),
@@ -375,31 +420,34 @@ fn fed_within(alloc: Global, progress: Progress, lexeme: &Lexeme) -> Result<Next
             alloc, loose, tight, operand, lexeme,
         ),
         Position::AtKind => at_kind(lexeme),
-        Position::BehindKind(_kind) => Ok(Next::Fails),
+        Position::BehindKind(_kind) => Ok(AfterLexeme::Fails),
     }
 }
 
 /// The brackets that are open are changed in place.
-fn apply(next: Next, opened: &mut Vec<Open>) -> Result<Option<Progress>, AllocError>
-    ensures { IfOk result (λ reached. come reached opened.new.items ≡ applied next (reverse opened.old.items)) }
+fn apply(next: AfterLexeme, opened: &mut Vec<Open>) -> Result<Option<TermProgress>, AllocError>
+    ensures { IfOk result
+        (λ reached. come reached opened.new.items ≡ applied next (reverse opened.old.items)) }
 {
     match next {
-        Next::Goes(progress) => Ok(Some(progress)),
-        Next::Opens(innermost, progress) => {
+        AfterLexeme::Goes(progress) => Ok(Some(progress)),
+        AfterLexeme::Opens(innermost, progress) => {
             opened.push(innermost)?;
             Ok(Some(progress))
         }
-        Next::Fails => Ok(None),
+        AfterLexeme::Fails => Ok(None),
     }
 }
 
 fn within(
     alloc: Global,
-    progress: Progress,
+    progress: TermProgress,
     opened: &mut Vec<Open>,
     lexeme: &Lexeme,
-) -> Result<Option<Progress>, AllocError>
-    ensures { IfOk result (λ reached. come reached opened.new.items ≡ fed_within progress (reverse opened.old.items) (plain_lexeme lexeme.now)) }
+) -> Result<Option<TermProgress>, AllocError>
+    ensures { IfOk result
+        (λ reached. come reached opened.new.items
+        ≡ fed_within progress (reverse opened.old.items) (plain_lexeme lexeme.now)) }
 {
     let next = fed_within(alloc, progress, lexeme)?;
     apply(next, opened)
@@ -408,11 +456,14 @@ fn within(
 /// How far the expression has come behind the lexeme, if it still is one; the brackets that are open are changed in place.
 pub fn fed(
     alloc: Global,
-    progress: Progress,
+    progress: TermProgress,
     opened: &mut Vec<Open>,
     lexeme: &Lexeme,
-) -> Result<Option<Progress>, AllocError>
-    ensures { IfOk result (λ reached. come reached opened.new.items ≡ fed (record { progress = progress; opened = reverse opened.old.items }) (plain_lexeme lexeme.now)) }
+) -> Result<Option<TermProgress>, AllocError>
+    ensures { IfOk result
+        (λ reached. come reached opened.new.items
+        ≡ fed (record { progress = progress; opened = reverse opened.old.items })
+        (plain_lexeme lexeme.now)) }
 {
     match lexeme {
         Lexeme::Sign(Symbol::Comma) => at_comma(alloc, progress, opened),

@@ -7,13 +7,13 @@ use Rattle.aio_core.proofs.kernel.Kernel.turn.Goals as goal
 
 -- ---- the run had ended
 pub invariant_of-self : goal.invariant_of-self
-invariant_of-self g c = record { alive = alive_ended c.end.new.kept c.end.result c.args.self.now.body c.end.ensures.kept }
+invariant_of-self g c = record { alive = alive_ended g.X.Extra.added c.end.new.kept c.end.result c.args.self.now.body c.end.ensures.kept }
 
 pub returns-in-Some-clause-turned : goal.returns-in-Some-clause-turned
 returns-in-Some-clause-turned g c = λ none. not_both c.args.self.now.ended c.in-Some.ended none (sym c.take.ensures.value ∙ c.in-Some.is)
 
 pub returns-in-Some-clause-sound : goal.returns-in-Some-clause-sound
-returns-in-Some-clause-sound g c = λ past answers s h. turn_sound past answers c.args.self.now s h
+returns-in-Some-clause-sound g c = λ past answers s h. turn_sound g.X.Extra.added past answers c.args.self.now s h
 
 pub returns-in-Some-clause-keeps : goal.returns-in-Some-clause-keeps
 returns-in-Some-clause-keeps g c = g.met.W.Wire.keeps_same c.args.wire.now
@@ -35,17 +35,18 @@ returns-in-Some-clause-still g c =
 -- ---- it had not
 pub turn-requires : goal.turn-requires
 turn-requires g c =
-    alive_of c.args.self.now.ended c.args.self.now.body (sym c.take.ensures.value ∙ c.in_default.is) c.args.self.now.alive
+    alive_of g.X.Extra.added c.args.self.now.ended c.args.self.now.body (sym c.take.ensures.value ∙ c.in_default.is) c.args.self.now.alive
 
 pub invariant_of-self-in-Ok : goal.invariant_of-self-in-Ok
 invariant_of-self-in-Ok g c = record {
-  alive = kept_alive c.in-Ok.went c.keep.result c.take.new.self c.keep.new.kept c.take.ensures.after c.keep.ensures c.turn.new.body c.in-Ok.ensures.alive;
+  alive = kept_alive c.in-Ok.went c.keep.result c.take.new.self c.keep.new.kept c.take.ensures.after c.keep.ensures
+      g.X.Extra.added c.turn.new.body c.in-Ok.ensures.alive;
 }
 
 pub invariant_of-self-in-Err : goal.invariant_of-self-in-Err
 invariant_of-self-in-Err g c = record {
   alive = kept_alive (went.Stopped c.in-Err.stop) c.keep-in-Err.result c.take.new.self c.keep-in-Err.new.kept c.take.ensures.after c.keep-in-Err.ensures
-      c.turn.new.body tt;
+      g.X.Extra.added c.turn.new.body tt;
 }
 
 pub returns-in-Ok : goal.returns-in-Ok
@@ -59,7 +60,7 @@ returns-in-Ok g c =
             c.in-Ok.ensures.comes c.in-Ok.ensures.stalls c.in-Ok.ensures.quiet c.in-Ok.ensures.fails
             (kept_again c.in-Ok.went c.keep.result c.take.new.self c.keep.new.kept c.take.ensures.after c.keep.ensures),
       );
-      sound = λ past answers s h. turn_sound past answers c.args.self.now s h;
+      sound = λ past answers s h. turn_sound g.X.Extra.added past answers c.args.self.now s h;
       keeps = c.in-Ok.ensures.keeps;
       later = c.in-Ok.ensures.later;
       kept = kept_now c.in-Ok.went c.keep.result c.take.new.self c.keep.new.kept c.take.ensures.after c.keep.ensures;
@@ -79,7 +80,7 @@ returns-in-Err g c =
             c.in-Err.ensures.comes c.in-Err.ensures.stalls c.in-Err.ensures.quiet c.in-Err.ensures.fails
             (kept_again said c.keep-in-Err.result c.take.new.self c.keep-in-Err.new.kept c.take.ensures.after c.keep-in-Err.ensures),
       );
-      sound = λ past answers s h. turn_sound past answers c.args.self.now s h;
+      sound = λ past answers s h. turn_sound g.X.Extra.added past answers c.args.self.now s h;
       keeps = c.in-Err.ensures.keeps;
       later = c.in-Err.ensures.later;
       kept = kept_now said c.keep-in-Err.result c.take.new.self c.keep-in-Err.new.kept c.take.ensures.after c.keep-in-Err.ensures;
