@@ -27,6 +27,3 @@ pub use stream::Stream;
 pub use text::{show, show_exc};
 pub use value::{Value, ValueCase, ValueList};
 pub use weigh::{weight, weight_of_exc};
-
-#[cfg(test)]
-mod tests;

@@ -18,6 +18,3 @@ pub use notes::{Note, Notes};
 pub use stack::Stack;
 pub use task::Task;
 pub use walk::cancel;
-
-#[cfg(test)]
-mod tests;

@@ -1,60 +1,40 @@
--- What a variable holds, and what an assignment makes of the variables, by the place of the name.
-use Rattle.std.proofs.Common.{◌≡◌, ℕ, zero, suc, ◌<◌, Bool, true, false, if◌then◌else◌, List, [], ◌∷◌, ◌++◌, ◌+◌, length, take, set, slice_index_or, refl, ap, sym, ◌∙◌, arith}
+-- What a variable holds, and what an assignment makes of the variables, by its number.
+use Rattle.std.proofs.Common.{◌≡◌, ℕ, zero, suc, ◌+◌, true, false, List, [], ◌∷◌, slice_set, refl, ap, sym, ◌∙◌, zero-add, arith}
 use Rattle.std.specs.Str.{bytes_eq}
-use Rattle.std.proofs.lemmas.List.{take_more, length-map, get_or-map}
-use Rattle.model_value.specs.Value.{Value, Nothing}
-use Rattle.model_tree.specs.Syntax.{Name}
-use Rattle.model_says.specs.Variables.{Binding, Env, held, assigned}
-use Rattle.aio_expr.specs.declared.env.Binding.{Binding as CodeBinding}
-use Rattle.aio_expr.specs.Bindings.{plain_binding, plain_bindings, set_value}
-use Rattle.aio_expr.specs.Names.{IsUnknown, IsFirst}
+use Rattle.model_value.specs.Value.{Value}
+use Rattle.model_says.specs.Variables.{Binding, held, assigned}
+use Rattle.law_locals.specs.Numbered.{local, holding}
+use Rattle.law_locals.proofs.Environments.{chosen-same, same-local, other-local}
+use Rattle.aio_expr.specs.Values.{value_in}
 
-by_test : {A : Type 0} (test answer : Bool) (x y : A) → test ≡ answer → (if test then x else y) ≡ (if answer then x else y)
-by_test test answer x y e = ap (λ b. if b then x else y) e
+held-from : (values : List Value) (number from : ℕ) → held (holding from values) (local (from + number)) ≡ value_in values number
+held-from [] number from = refl
+held-from (value ∷ values) zero from =
+    chosen-same (bytes_eq (local from) (local (from + 0))) true _ _ (same-local from (from + 0) (omega arith))
+held-from (value ∷ values) (suc number) from =
+    let next : from + suc number ≡ suc from + number = omega arith in
+    chosen-same (bytes_eq (local from) (local (from + suc number))) false _ _
+    (other-local from (from + suc number) (λ is. omega (arith, is)))
+    ∙ ap (λ n. held (holding (suc from) values) (local n)) next
+    ∙ held-from values number (suc from)
 
-later : (binding : Binding) (env : Env) (name : Name) (place : ℕ) → IsFirst (binding ∷ env) name (suc place) → IsFirst env name place
-later binding env name place first = record { inside = omega (arith, first.inside); before = first.before.1; here = first.here }
+pub held-number : (values : List Value) (number : ℕ) → held (holding 0 values) (local number) ≡ value_in values number
+held-number values number = ap (λ n. held (holding 0 values) (local n)) (sym (zero-add number)) ∙ held-from values number 0
 
-pub held-first : (env : Env) (name : Name) (place : ℕ) (default : Binding) → IsFirst env name place → held env name ≡ (slice_index_or env place default).value
-held-first [] name place default first = absurd (omega (arith, first.inside))
-held-first (binding ∷ env) name zero default first = by_test _ true binding.value (held env name) (first.here default)
-held-first (binding ∷ env) name (suc place) default first =
-    by_test _ false binding.value (held env name) first.before.0 ∙ held-first env name place default (later binding env name place first)
+assigned-from : (values : List Value) (number : ℕ) (value : Value) (from : ℕ) →
+    assigned (local (from + number)) value (holding from values) ≡ holding from (slice_set values number value)
+assigned-from [] number value from = refl
+assigned-from (first ∷ values) zero value from =
+    chosen-same (bytes_eq (local from) (local (from + 0))) true _ _ (same-local from (from + 0) (omega arith))
+assigned-from (first ∷ values) (suc number) value from =
+    let next : from + suc number ≡ suc from + number = omega arith in
+    let here : Binding = record { name = local from; value = first } in
+    chosen-same (bytes_eq (local from) (local (from + suc number))) false _ _
+    (other-local from (from + suc number) (λ is. omega (arith, is)))
+    ∙ ap (λ n. here ∷ assigned (local n) value (holding (suc from) values)) next
+    ∙ ap (λ others. here ∷ others) (assigned-from values number value (suc from))
 
-pub assigned-first : (env : Env) (name : Name) (value : Value) (place : ℕ) (default : Binding) → IsFirst env name place → assigned name value env ≡ set env place (record (slice_index_or env place default) { value = value })
-assigned-first [] name value place default first = absurd (omega (arith, first.inside))
-assigned-first (binding ∷ env) name value zero default first = by_test _ true _ _ (first.here default)
-assigned-first (binding ∷ env) name value (suc place) default first =
-    by_test _ false _ _ first.before.0 ∙ ap (λ l. binding ∷ l) (assigned-first env name value place default (later binding env name place first))
-
-pub held-unknown : (env : Env) (name : Name) → IsUnknown env name → held env name ≡ Nothing
-held-unknown [] name unknown = refl
-held-unknown (binding ∷ env) name unknown = by_test _ false binding.value (held env name) unknown.0 ∙ held-unknown env name unknown.1
-
-pub assigned-unknown : (env : Env) (name : Name) (value : Value) → IsUnknown env name → assigned name value env ≡ env
-assigned-unknown [] name value unknown = refl
-assigned-unknown (binding ∷ env) name value unknown =
-    by_test _ false _ _ unknown.0 ∙ ap (λ l. binding ∷ l) (assigned-unknown env name value unknown.1)
-
-pub unknown-push : (env : Env) (name : Name) (binding : Binding) → IsUnknown env name → bytes_eq binding.name name ≡ false → IsUnknown (env ++ binding ∷ []) name
-unknown-push [] name binding unknown other = (other, tt)
-unknown-push (first ∷ env) name binding unknown other = (unknown.0, unknown-push env name binding unknown.1 other)
-
--- ---- variables of the code
-pub plain-at : (bindings : List CodeBinding) (place : ℕ) (x : CodeBinding) (default : Binding) → place < length bindings → x ≡ slice_index_or bindings place x → slice_index_or (plain_bindings bindings) place default ≡ plain_binding x
-plain-at bindings place x default inside is = get_or-map plain_binding bindings place x default inside ∙ ap plain_binding (sym is)
-
-pub plain-take : (bindings : List CodeBinding) (place : ℕ) (x : CodeBinding) → place < length bindings → x ≡ slice_index_or bindings place x → take (place + 1) (plain_bindings bindings) ≡ take place (plain_bindings bindings) ++ plain_binding x ∷ []
-plain-take bindings place x inside is =
-    take_more (plain_bindings bindings) place (plain_binding x) (omega (arith, inside, length-map bindings plain_binding))
-    ∙ ap (λ b. take place (plain_bindings bindings) ++ b ∷ []) (plain-at bindings place x (plain_binding x) inside is)
-
-pub set_value-is : (bindings : List CodeBinding) (place : ℕ) (value : Value) (default : CodeBinding) → set bindings place (record { name = (slice_index_or bindings place default).name; value = value }) ≡ set_value bindings place value
-set_value-is [] place value default = refl
-set_value-is (binding ∷ bindings) zero value default = refl
-set_value-is (binding ∷ bindings) (suc place) value default = ap (λ l. binding ∷ l) (set_value-is bindings place value default)
-
-pub plain-set : (bindings : List CodeBinding) (place : ℕ) (value : Value) (default : Binding) → plain_bindings (set_value bindings place value) ≡ set (plain_bindings bindings) place (record (slice_index_or (plain_bindings bindings) place default) { value = value })
-plain-set [] place value default = refl
-plain-set (binding ∷ bindings) zero value default = refl
-plain-set (binding ∷ bindings) (suc place) value default = ap (λ l. plain_binding binding ∷ l) (plain-set bindings place value default)
+pub assigned-number : (values : List Value) (number : ℕ) (value : Value) →
+    assigned (local number) value (holding 0 values) ≡ holding 0 (slice_set values number value)
+assigned-number values number value =
+    ap (λ n. assigned (local n) value (holding 0 values)) (sym (zero-add number)) ∙ assigned-from values number value 0

@@ -2,7 +2,9 @@ pub mod Gives
 pub mod Rounding
 pub mod Places
 pub mod BindingCode
-pub mod Bindings
-pub mod Names
+pub mod Values
+pub mod FlatExpr
+pub mod FlatExprFalls
+pub mod FlatExprCase
 pub mod Raises
 pub mod Ordered

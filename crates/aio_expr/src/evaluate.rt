@@ -9,48 +9,49 @@ ghost use Rattle.aio_expr.specs.Gives.{Gives, Fails, AllFail};
 
 use crate::cause::Cause;
 use crate::env::Env;
+use crate::flat_expr::{FlatExpr, FlatExprCase};
 use crate::functions::{applied, error_made};
 use crate::items::{indexed, list_of};
 use crate::operators::{calculated, compared, negation, negative};
 use aio_base::{Value, ValueCase};
-use aio_syntax::{Constant, Expr, ExprCase};
+use aio_syntax::Constant;
 use std::alloc::Global;
 
 /// The value of an expression.
 #[cycle(evaluate)]
-pub fn evaluate(alloc: Global, expr: &Expr, env: &Env) -> Result<Value, Cause>
+pub fn evaluate(alloc: Global, expr: &FlatExpr, env: &Env) -> Result<Value, Cause>
     ensures { Gives (value_of expr.now env.now) result }
 {
     match expr.case() {
-        ExprCase::Or(left, right) => {
+        FlatExprCase::Or(left, right) => {
             let decided = is_true(alloc, left, env)? || is_true(alloc, right, env)?;
             Ok(Value::bool(decided))
         }
-        ExprCase::And(left, right) => {
+        FlatExprCase::And(left, right) => {
             let decided = is_true(alloc, left, env)? && is_true(alloc, right, env)?;
             Ok(Value::bool(decided))
         }
-        ExprCase::Not(operand) => negation(&evaluate(alloc, operand, env)?),
-        ExprCase::Compare(comparison, left, right) => {
+        FlatExprCase::Not(operand) => negation(&evaluate(alloc, operand, env)?),
+        FlatExprCase::Compare(comparison, left, right) => {
             let (left, right) = evaluate_two(alloc, left, right, env)?;
             compared(comparison, &left, &right)
         }
-        ExprCase::Calculate(operator, left, right) => {
+        FlatExprCase::Calculate(operator, left, right) => {
             let (left, right) = evaluate_two(alloc, left, right, env)?;
             calculated(alloc, operator, &left, &right)
         }
-        ExprCase::Negate(operand) => negative(&evaluate(alloc, operand, env)?),
-        ExprCase::Index(sequence, index) => {
+        FlatExprCase::Negate(operand) => negative(&evaluate(alloc, operand, env)?),
+        FlatExprCase::Index(sequence, index) => {
             let (sequence, index) = evaluate_two(alloc, sequence, index, env)?;
             indexed(&sequence, &index)
         }
-        ExprCase::Literal(constant) => constant_value(constant),
-        ExprCase::Variable(name) => Ok(env.held(name.as_str())?),
-        ExprCase::List(items) => list_of(alloc, evaluate_all(alloc, items.items(), env)?),
-        ExprCase::Apply(function, argument) => {
+        FlatExprCase::Literal(constant) => constant_value(constant),
+        FlatExprCase::Variable(local) => Ok(env.held(local)?),
+        FlatExprCase::List(items) => list_of(alloc, evaluate_all(alloc, items.items(), env)?),
+        FlatExprCase::Apply(function, argument) => {
             applied(alloc, function, &evaluate(alloc, argument, env)?)
         }
-        ExprCase::MakeError(kind, message) => {
+        FlatExprCase::MakeError(kind, message) => {
             error_made(alloc, kind, &evaluate(alloc, message, env)?)
         }
     }
@@ -60,8 +61,8 @@ pub fn evaluate(alloc: Global, expr: &Expr, env: &Env) -> Result<Value, Cause>
 #[cycle(evaluate)]
 fn evaluate_two(
     alloc: Global,
-    left: &Expr,
-    right: &Expr,
+    left: &FlatExpr,
+    right: &FlatExpr,
     env: &Env,
 ) -> Result<(Value, Value), Cause>
     ensures left { IfOk result (λ pair. value_of left.now env.now ≡ Ok pair.0) }
@@ -75,7 +76,7 @@ fn evaluate_two(
 
 /// Whether an expression is True. One that is neither True nor False is a bad operand.
 #[cycle(evaluate)]
-fn is_true(alloc: Global, expr: &Expr, env: &Env) -> Result<bool, Cause>
+fn is_true(alloc: Global, expr: &FlatExpr, env: &Env) -> Result<bool, Cause>
     ensures truth { IfOk result (λ t. value_of expr.now env.now ≡ Ok (Truth t)) }
     ensures fault { IfErr result (Fails (of_one truth (value_of expr.now env.now))) }
 {
@@ -84,7 +85,7 @@ fn is_true(alloc: Global, expr: &Expr, env: &Env) -> Result<bool, Cause>
 
 /// The values of expressions in order.
 #[cycle(evaluate)]
-fn evaluate_all(alloc: Global, items: &[Expr], env: &Env) -> Result<Vec<Value>, Cause>
+fn evaluate_all(alloc: Global, items: &[FlatExpr], env: &Env) -> Result<Vec<Value>, Cause>
     ensures values { IfOk result (λ found. values_of (exprs items.now) env.now ≡ Ok found.items) }
     ensures fault { IfErr result (AllFail (values_of (exprs items.now) env.now)) }
 {

@@ -5,16 +5,18 @@ mod bounds;
 mod cause;
 mod env;
 mod evaluate;
+mod flat_expr;
 mod functions;
 mod items;
 mod joins;
 pub mod laws;
+mod local;
 mod numbers;
 mod operators;
 mod order;
-#[cfg(test)]
-mod tests;
 mod value;
 
 pub use env::Env;
+pub use flat_expr::{FlatExpr, FlatExprCase, FlatExprList};
+pub use local::Local;
 pub use value::{ExprFault, value_of};

@@ -8,8 +8,8 @@ ghost use Rattle.aio_expr.specs.Raises.{Raises, IsFaultOf};
 use crate::cause::Cause;
 use crate::env::Env;
 use crate::evaluate::evaluate;
+use crate::flat_expr::FlatExpr;
 use aio_base::{Exc, Kind, Memory, Value, exception};
-use aio_syntax::Expr;
 use std::alloc::Global;
 
 /// Why an expression has no value: the exception that it raises, or want of memory.
@@ -21,7 +21,7 @@ pub enum ExprFault {
 
 /// The value of an expression, or the first exception from the left. A value that would be too heavy is not built.
 /// Source: the language reference, "Expressions".
-pub fn value_of(alloc: Global, expr: &Expr, env: &Env) -> Result<Value, ExprFault>
+pub fn value_of(alloc: Global, expr: &FlatExpr, env: &Env) -> Result<Value, ExprFault>
     ensures value { IfOk result (λ value. value_of expr.now env.now ≡ Ok value) }
     ensures raised { IfErr result (Raises (value_of expr.now env.now)) }
 {

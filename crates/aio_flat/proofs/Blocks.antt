@@ -1,12 +1,13 @@
 -- What was laid step by step is a statement.
-use Rattle.std.proofs.Common.{◌≡◌, ℕ, ◌+◌, ◌<◌, List, [], ◌∷◌, ◌++◌, length, slice_get, slice_set, Option, Some, None, refl, sym, ◌∙◌, ap, ap₂, subst, arith, length-append}
+use Rattle.std.proofs.Common.{◌≡◌, ℕ, ◌+◌, ◌<◌, List, [], ◌∷◌, ◌++◌, length, Option, Some, None, refl, sym, ◌∙◌, ap, ap₂, subst, arith}
 use Rattle.std.proofs.lemmas.List.{length-set}
-use Rattle.model_tree.specs.Syntax.{Name, Expr, Target, Await, Call, Ask, SpawnTask, CreateTask, ListenAt, Manager, GroupBlock, TimeoutBlock, Statement, Assign, Yield, YieldFrom, Print, Raise, Return, Pass, If, While, Try, With, Statements, no_statements, statement_then, Branch, Handlers, no_handlers, handler_then, Handler, statements, handlers, Program}
+use Rattle.model_tree.specs.Syntax.{Name, Expr, Target, Await, Call, Ask, SpawnTask, CreateTask, ListenAt, Manager, GroupBlock, TimeoutBlock, Statement, Assign, Yield, YieldFrom, Print, Raise, Return, Pass, If, While, Try, With, Statements, Branch, Handlers, Handler, statements, handlers, Program}
 use Rattle.law_flat.specs.declared.op.Op.TheVariants as op
 use Rattle.law_flat.specs.Ops.{Op, Clause, Range, Body, Has, Covers}
 use Rattle.law_flat.specs.Laid.{target_op, enter_op, exit_op, LaidOne, Laid, LaidAll, LaidBranch, LaidHandlers}
+use Rattle.law_locals.specs.Numbered.{numbered_manager, numbered_statement, numbered_statements, numbered_handlers}
 use Rattle.aio_flat.specs.Grows.{Grows, with_op, with_range, put_op, jump_of, GoesForward}
-use Rattle.aio_flat.specs.Built.{single_op, LaidElse, LaidClause}
+use Rattle.aio_flat.specs.Built.{single_op, LaidElse, LaidClause, numbered_handler}
 use Rattle.aio_flat.proofs.Grows.{length-push, some-is, grows-op, grows-range, grows-so, grows-then, grows-put}
 
 -- what stands at the place of an operation that was pushed first
@@ -278,18 +279,28 @@ pub range-same : (done last : Body) (list other : List Clause) (at from : ℕ) �
 range-same done last list other at from lists places is =
     is ∙ ap₂ (λ l n. with_range (record { clauses = l; finally = n }) last) lists places
 
+pub exit-same : (names : List Name) (manager : Manager) → exit_op manager ≡ exit_op (numbered_manager names manager)
+exit-same names GroupBlock = refl
+exit-same names (TimeoutBlock delay) = refl
+
 -- ---- one more of a list
-module _ (program : Program) (code : Body) where
-  all-push : (items : List Statement) (item : Statement) (from middle to : ℕ) →
-      LaidAll program code (statements items) from middle → Laid program code item middle to →
-      LaidAll program code (statements (items ++ item ∷ [])) from to
-  all-push [] item from middle to laid next = (to, subst (λ n. Laid program code item n to) laid next, refl)
+module _ (program : Program) (names : List Name) (code : Body) where
+  abbrev RowLaid : List Statement → ℕ → ℕ → Type 0
+  RowLaid items from to = LaidAll program code (numbered_statements names (statements items)) from to
+
+  abbrev ClausesLaid : List Clause → List Handler → Type 0
+  ClausesLaid list clauses = LaidHandlers program code list (numbered_handlers names (handlers clauses))
+
+  all-push : (items : List Statement) (item : Statement) (from middle to : ℕ) → RowLaid items from middle →
+      Laid program code (numbered_statement names item) middle to → RowLaid (items ++ item ∷ []) from to
+  all-push [] item from middle to laid next =
+      (to, subst (λ n. Laid program code (numbered_statement names item) n to) laid next, refl)
   all-push (first ∷ items) item from middle to laid next =
       (laid.0, laid.1, all-push items item laid.0 middle to laid.2 next)
 
   handlers-push : (list : List Clause) (clauses : List Handler) (clause : Clause) (handler : Handler) →
-      LaidHandlers program code list (handlers clauses) → LaidClause program code clause handler →
-      LaidHandlers program code (list ++ clause ∷ []) (handlers (clauses ++ handler ∷ []))
+      ClausesLaid list clauses → LaidClause program code clause (numbered_handler names handler) →
+      ClausesLaid (list ++ clause ∷ []) (clauses ++ handler ∷ [])
   handlers-push list [] clause handler none laid = (
     clause.at,
     laid.0,
@@ -310,19 +321,20 @@ module _ (program : Program) (code : Body) where
     handlers-push all.2 clauses clause handler all.6 laid,
   )
 
-pub all-grows : (program : Program) (b middle last : Body) (items : List Statement) (item : Statement) →
-    Grows b middle (λ code. LaidAll program code (statements items) (length b.ops) (length middle.ops)) →
-    Grows middle last (λ code. Laid program code item (length middle.ops) (length last.ops)) →
-    Grows b last (λ code. LaidAll program code (statements (items ++ item ∷ [])) (length b.ops) (length last.ops))
-all-grows program b middle last items item laid next =
-    grows-so b last _ _
-    (λ code both. all-push program code items item (length b.ops) (length middle.ops) (length last.ops) both.0 both.1)
-    (grows-then b middle last _ _ laid next)
+module _ (program : Program) (names : List Name) (b middle last : Body) where
+  pub all-grows : (items : List Statement) (item : Statement) →
+      Grows b middle (λ code. RowLaid program names code items (length b.ops) (length middle.ops)) →
+      Grows middle last (λ code. Laid program code (numbered_statement names item) (length middle.ops) (length last.ops)) →
+      Grows b last (λ code. RowLaid program names code (items ++ item ∷ []) (length b.ops) (length last.ops))
+  all-grows items item laid next =
+      grows-so b last _ _
+      (λ code both. all-push program names code items item (length b.ops) (length middle.ops) (length last.ops) both.0 both.1)
+      (grows-then b middle last _ _ laid next)
 
-pub handlers-grow : (program : Program) (b middle last : Body) (list : List Clause) (clauses : List Handler) (clause : Clause)
-    (handler : Handler) → Grows b middle (λ code. LaidHandlers program code list (handlers clauses)) →
-    Grows middle last (λ code. LaidClause program code clause handler) →
-    Grows b last (λ code. LaidHandlers program code (list ++ clause ∷ []) (handlers (clauses ++ handler ∷ [])))
-handlers-grow program b middle last list clauses clause handler laid next =
-    grows-so b last _ _ (λ code both. handlers-push program code list clauses clause handler both.0 both.1)
-    (grows-then b middle last _ _ laid next)
+  pub handlers-grow : (list : List Clause) (clauses : List Handler) (clause : Clause) (handler : Handler) →
+      Grows b middle (λ code. ClausesLaid program names code list clauses) →
+      Grows middle last (λ code. LaidClause program code clause (numbered_handler names handler)) →
+      Grows b last (λ code. ClausesLaid program names code (list ++ clause ∷ []) (clauses ++ handler ∷ []))
+  handlers-grow list clauses clause handler laid next =
+      grows-so b last _ _ (λ code both. handlers-push program names code list clauses clause handler both.0 both.1)
+      (grows-then b middle last _ _ laid next)

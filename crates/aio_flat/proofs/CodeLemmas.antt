@@ -1,15 +1,17 @@
 -- The code of a program, coroutine by coroutine.
-use Rattle.std.proofs.Common.{◌≡◌, ℕ, zero, suc, ◌<◌, List, [], ◌∷◌, ◌++◌, length, map, slice_get, Option, Some, None, refl, sym, ap, ap₂, ◌∙◌, arith}
+use Rattle.std.proofs.Common.{◌≡◌, ℕ, zero, suc, List, [], ◌∷◌, ◌++◌, length, map, slice_get, refl, sym, ap, ap₂, ◌∙◌, arith}
 use Rattle.std.proofs.lemmas.Option.{slice_get_within, slice_get_past}
 use Rattle.model_tree.specs.Syntax.{Coroutine, Program}
 use Rattle.model_says.specs.Variables.{variables_of}
-use Rattle.model_says.specs.Requests.{coroutine_at, coroutine_or_none}
+use Rattle.model_says.specs.Requests.{coroutine_or_none}
+use Rattle.law_locals.specs.Numbered.{locals, numbered_coroutine, numbered_program}
+use Rattle.law_locals.proofs.Coroutines.{variables-same}
 use Rattle.law_flat.specs.declared.op.Op.TheVariants as op
 use Rattle.law_flat.specs.Laid.{LaidAll}
 use Rattle.law_flat.specs.Nearer.{JumpsForward}
 use Rattle.law_flat.specs.Stands.{LaidOut}
 use Rattle.aio_flat.specs.declared.code.FlatBody.{FlatBody}
-use Rattle.aio_flat.specs.Code.{code_at, codes_in, IsBodyOf, AreBodiesOf}
+use Rattle.aio_flat.specs.Code.{codes_in, IsBodyOf, AreBodiesOf}
 
 pub none-forward : JumpsForward (record { ops = []; ranges = []; variables = [] })
 none-forward place to has = absurd (omega (arith, slice_get_within [] place (op.Jump to) has))
@@ -23,9 +25,12 @@ bodies-push program (first ∷ coroutines) (one ∷ bodies) coroutine body are i
 bodies-push program [] (one ∷ bodies) coroutine body are is = absurd are
 bodies-push program (first ∷ coroutines) [] coroutine body are is = absurd are
 
+abbrev numbered_at : List Coroutine → ℕ → Coroutine
+numbered_at coroutines at = coroutine_or_none (slice_get (map numbered_coroutine coroutines) at)
+
 laid-at : (program : Program) (coroutines : List Coroutine) (bodies : List FlatBody) (at : ℕ) →
     AreBodiesOf program coroutines bodies →
-    LaidAll program (codes_in bodies at) (coroutine_or_none (slice_get coroutines at)).body 0 (length (codes_in bodies at).ops)
+    LaidAll program (codes_in bodies at) (numbered_at coroutines at).body 0 (length (codes_in bodies at).ops)
 laid-at program [] [] at are = refl
 laid-at program (first ∷ coroutines) (one ∷ bodies) zero are = are.0.laid
 laid-at program (first ∷ coroutines) (one ∷ bodies) (suc at) are = laid-at program coroutines bodies at are.1
@@ -34,20 +39,20 @@ laid-at program (first ∷ coroutines) [] at are = absurd are
 
 variables-at : (program : Program) (coroutines : List Coroutine) (bodies : List FlatBody) →
     AreBodiesOf program coroutines bodies → (at : ℕ) →
-    (codes_in bodies at).variables ≡ variables_of (coroutine_or_none (slice_get coroutines at))
+    (codes_in bodies at).variables ≡ variables_of (numbered_at coroutines at)
 variables-at program [] [] are at = refl
-variables-at program (first ∷ coroutines) (one ∷ bodies) are zero = are.0.variables
+variables-at program (first ∷ coroutines) (one ∷ bodies) are zero = ap (locals 0) are.0.variables ∙ sym (variables-same first)
 variables-at program (first ∷ coroutines) (one ∷ bodies) are (suc at) = variables-at program coroutines bodies are.1 at
 variables-at program [] (one ∷ bodies) are at = absurd are
 variables-at program (first ∷ coroutines) [] are at = absurd are
 
-pub laid-out : (program : Program) (bodies : List FlatBody) → AreBodiesOf program program.coroutines bodies → (at : ℕ) →
-    LaidOut program (codes_in bodies) at
+pub laid-out : (program : Program) (bodies : List FlatBody) → AreBodiesOf (numbered_program program) program.coroutines bodies →
+    (at : ℕ) → LaidOut (numbered_program program) (codes_in bodies) at
 laid-out program bodies are at = record {
   end = length (codes_in bodies at).ops;
-  body = laid-at program program.coroutines bodies at are;
+  body = laid-at (numbered_program program) program.coroutines bodies at are;
   ends = slice_get_past (codes_in bodies at).ops (length (codes_in bodies at).ops) (omega arith);
-  variables = variables-at program program.coroutines bodies are at;
+  variables = variables-at (numbered_program program) program.coroutines bodies are at;
 }
 
 pub names-of : (program : Program) (coroutines : List Coroutine) (bodies : List FlatBody) →

@@ -1,5 +1,5 @@
 -- Places of coroutines, one more at a time from the last to the first.
-use Rattle.std.proofs.Common.{◌≡◌, ℕ, suc, ◌+◌, ◌-◌, ◌<◌, ◌≤◌, Bool, true, false, cond, List, [], ◌∷◌, length, drop, slice_index_or, Option, Some, unwrap_or, arith, refl, ap, ap₂, sym, ◌∙◌}
+use Rattle.std.proofs.Common.{◌≡◌, ℕ, suc, ◌+◌, ◌-◌, ◌<◌, ◌≤◌, Bool, true, false, cond, List, ◌∷◌, length, drop, slice_index_or, Option, Some, unwrap_or, arith, ap, ap₂, sym, ◌∙◌}
 use Rattle.std.proofs.lemmas.List.{drop_more}
 use Rattle.std.specs.Ordering.{nat_cmp}
 use Rattle.std.specs.Cmp.Lexicographic.{slice_cmp}
@@ -11,7 +11,7 @@ use Rattle.model_tree.specs.Syntax.{Coroutine}
 use Rattle.model_says.specs.Requests.{place_among}
 use Rattle.aio_flat.specs.Places.{HasPlaces}
 
-first-or-later : (is_here : Bool) (count at later : ℕ) (found : Option ℕ) →
+pub first-or-later : (is_here : Bool) (count at later : ℕ) (found : Option ℕ) →
     unwrap_or found count ≡ (at + 1) + later →
     unwrap_or (cond is_here (Some at) found) count ≡ at + cond is_here 0 (suc later)
 first-or-later true count at later found is = omega arith

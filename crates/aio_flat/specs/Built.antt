@@ -1,9 +1,10 @@
 -- Code as it is laid, statement by statement. Its variables come last.
-use Rattle.std.specs.Prelude.{◌≡◌, ℕ, ◌+◌, [], length, Option, Some, None}
-use Rattle.model_tree.specs.Syntax.{exprs_of, Statement, Assign, Yield, YieldFrom, Print, Raise, Return, Pass, Branch, Handler, Program}
+use Rattle.std.specs.Prelude.{◌≡◌, ℕ, ◌+◌, List, [], length, Option, Some, None}
+use Rattle.model_tree.specs.Syntax.{Name, exprs_of, Statement, Assign, Yield, YieldFrom, Print, Raise, Return, Pass, Branch, Handler, Program}
 use Rattle.law_flat.specs.declared.op.Op.TheVariants as op
 use Rattle.law_flat.specs.Ops.{Op, Clause, Body, Has}
 use Rattle.law_flat.specs.Laid.{target_op, LaidAll, LaidBranch}
+use Rattle.law_locals.specs.Numbered.{numbered_option, numbered_statements}
 use Rattle.aio_flat.specs.declared.builder.BodyBuilder.{BodyBuilder}
 use Rattle.aio_flat.specs.Grows.{Grows}
 
@@ -25,6 +26,14 @@ single_op program (Raise fault) = Some (op.Raise fault)
 single_op program (Return value) = Some (op.Return value)
 single_op program Pass = Some op.Pass
 single_op program _ = None
+
+-- a clause whose variables go by their numbers
+abbrev pub numbered_handler : List Name → Handler → Handler
+numbered_handler names handler = record {
+  kind = handler.kind;
+  name = numbered_option names handler.name;
+  body = numbered_statements names handler.body;
+}
 
 module _ (program : Program) (code : Body) where
   -- a jump past an `else`, and the `else`

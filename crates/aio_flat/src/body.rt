@@ -1,15 +1,15 @@
-//! Code of bodies: the operations and ranges of `law_flat`, over types that own what they name.
+//! Code of bodies: the operations and ranges of `law_flat`, over types that own what they name. Variables go by their
+//! numbers.
 ghost use Rattle.std.specs.Prelude.{◌≡◌};
 
-use crate::name::Name;
-use aio_syntax::{Expr, ExprList};
+use aio_expr::{FlatExpr, FlatExprList, Local};
 use std::marker::Model;
 
 /// An operation of flat code.
-pub type Op = law_flat::Op<Name, Expr, ExprList>;
+pub type Op = law_flat::Op<Local, FlatExpr, FlatExprList>;
 
 /// An `except` clause.
-pub type Clause = law_flat::Clause<Name>;
+pub type Clause = law_flat::Clause<Local>;
 
 /// What handles the ways out of a `try` or a `with`.
 pub type Range = law_flat::Range<ClauseList>;

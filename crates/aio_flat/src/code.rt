@@ -1,5 +1,6 @@
 //! The code of a program.
 ghost use Rattle.law_flat.specs.Nearer.{JumpsForward};
+ghost use Rattle.law_locals.specs.Numbered.{locals};
 
 use crate::body::{Op, Range};
 use crate::name::Name;
@@ -8,11 +9,11 @@ use crate::name::Name;
 #[derive(Drop)]
 pub struct FlatBody {
     pub name: Name,
-    /// The parameters, and then the other variables.
-    pub variables: Vec<Name>,
+    /// How many variables it has. They are numbered from 0: the parameters, and then the others.
+    pub variables: usize,
     pub ops: Vec<Op>,
     pub ranges: Vec<Range>,
-    ghost forward: { JumpsForward (record { ops = ops.items; ranges = ranges.items; variables = variables.items }) },
+    ghost forward: { JumpsForward (record { ops = ops.items; ranges = ranges.items; variables = locals 0 variables }) },
 }
 
 /// The code of a program: that of each coroutine, in their order.

@@ -6,13 +6,15 @@ use crate::builder::BodyBuilder;
 use crate::code::{Code, FlatBody};
 use crate::laying::lay_all;
 use crate::name::Name;
+use crate::numbers::Numbers;
 use crate::places::Places;
 use crate::variables::variables_of;
 use aio_base::Memory;
 use aio_program::{Coroutine, Program};
 use std::alloc::Global;
 
-/// The flat code of a program. Expressions are copied once, and names and texts are shared with the program.
+/// The flat code of a program. Expressions are copied once, variables get their numbers, and texts are shared with the
+/// program.
 ///
 /// A program with more than 4,294,967,295 coroutines has none: the answer is `Memory`.
 pub fn flatten(alloc: Global, program: &Program) -> Result<Code, Memory>
@@ -40,14 +42,20 @@ fn bodies_of(
 fn body_of(alloc: Global, places: &Places, coroutine: &Coroutine) -> Result<FlatBody, Memory>
     ensures { IfOk result (IsBodyOf places.now coroutine.now) }
 {
+    let names = variables_of(alloc, coroutine)?;
+    let numbers = Numbers::new(alloc, names.as_slice())?;
     let mut builder = BodyBuilder::new(alloc);
-    lay_all(alloc, places, coroutine.body().items(), &mut builder)?;
-    let name = Name::of(coroutine.name().clone()?);
-    let variables = variables_of(alloc, coroutine)?;
+    lay_all(
+        alloc,
+        places,
+        &numbers,
+        coroutine.body().items(),
+        &mut builder,
+    )?;
     let BodyBuilder { ops, ranges } = builder;
     Ok(FlatBody {
-        name,
-        variables,
+        name: Name::of(coroutine.name().clone()?),
+        variables: numbers.count(),
         ops,
         ranges,
     })

@@ -2,18 +2,19 @@
 ghost use Rattle.std.specs.Prelude.{◌≡◌, IfOk, OnOk, option_copied};
 ghost use Rattle.model_tree.specs.Syntax.{If, While, Try, With, statements, handlers};
 ghost use Rattle.law_flat.specs.Laid.{Laid, LaidAll, LaidBranch, LaidHandlers};
+ghost use Rattle.law_locals.specs.Numbered.{numbered_statement, numbered_statements, numbered_branch, numbered_handlers};
 ghost use Rattle.aio_program.specs.Target.{plain_branch, plain_manager};
 ghost use Rattle.std.specs.Rc.{rc_str_bytes};
-ghost use Rattle.aio_flat.specs.Built.{built, Lays, LaidElse, LaidClause, single_op};
+ghost use Rattle.aio_flat.specs.Built.{built, Lays, LaidElse, LaidClause, single_op, numbered_handler};
 ghost use Rattle.aio_flat.specs.Grows.{Grows};
 
 use crate::body::{Clause, ClauseList, Op, Range};
 use crate::builder::BodyBuilder;
-use crate::copies::copy_of;
-use crate::name::Name;
+use crate::exprs::flat_expr;
+use crate::numbers::Numbers;
 use crate::places::Places;
 use crate::single::{enter_op, exit_op, single_op};
-use crate::target::name_in;
+use crate::target::local_in;
 use aio_base::Memory;
 use aio_program::{Handler, Manager, Statement, StatementCase, StatementList};
 use aio_syntax::Expr;
@@ -25,13 +26,15 @@ use std::rc::RcStr;
 pub fn lay_all(
     alloc: Global,
     places: &Places,
+    numbers: &Numbers,
     items: &[Statement],
     builder: &mut BodyBuilder,
 ) -> Result<(), Memory>
-    ensures { OnOk result (Lays builder.old builder.new (λ code. LaidAll places.now code (statements items.now))) }
+    ensures { OnOk result (Lays builder.old builder.new (λ code.
+        LaidAll places.now code (numbered_statements numbers.now (statements items.now)))) }
 {
     for item in items {
-        lay(alloc, places, item, builder)?;
+        lay(alloc, places, numbers, item, builder)?;
     }
     Ok(())
 }
@@ -40,14 +43,16 @@ pub fn lay_all(
 fn lay(
     alloc: Global,
     places: &Places,
+    numbers: &Numbers,
     statement: &Statement,
     builder: &mut BodyBuilder,
 ) -> Result<(), Memory>
-    ensures { OnOk result (Lays builder.old builder.new (λ code. Laid places.now code statement.now)) }
+    ensures { OnOk result (Lays builder.old builder.new (λ code.
+        Laid places.now code (numbered_statement numbers.now statement.now))) }
 {
-    match single_op(alloc, places, statement)? {
+    match single_op(alloc, places, numbers, statement)? {
         Some(op) => builder.push_op(op),
-        None => lay_block(alloc, places, statement, builder),
+        None => lay_block(alloc, places, numbers, statement, builder),
     }
 }
 
@@ -55,22 +60,24 @@ fn lay(
 fn lay_block(
     alloc: Global,
     places: &Places,
+    numbers: &Numbers,
     statement: &Statement,
     builder: &mut BodyBuilder,
 ) -> Result<(), Memory>
-    requires { single_op places.now statement.now ≡ None }
-    ensures { OnOk result (Lays builder.old builder.new (λ code. Laid places.now code statement.now)) }
+    requires { single_op places.now (numbered_statement numbers.now statement.now) ≡ None }
+    ensures { OnOk result (Lays builder.old builder.new (λ code.
+        Laid places.now code (numbered_statement numbers.now statement.now))) }
 {
     match statement.case() {
         StatementCase::If(test, body, otherwise) => {
-            lay_if(alloc, places, test, body, otherwise, builder)
+            lay_if(alloc, places, numbers, test, body, otherwise, builder)
         }
-        StatementCase::While(test, body) => lay_while(alloc, places, test, body, builder),
+        StatementCase::While(test, body) => lay_while(alloc, places, numbers, test, body, builder),
         StatementCase::Try(body, clauses, finally) => {
-            lay_try(alloc, places, body, clauses, finally, builder)
+            lay_try(alloc, places, numbers, body, clauses, finally, builder)
         }
         StatementCase::With(manager, name, body) => {
-            lay_with(alloc, places, manager, name, body, builder)
+            lay_with(alloc, places, numbers, manager, name, body, builder)
         }
         StatementCase::Assign(_, _)
         | StatementCase::Yield
@@ -86,20 +93,22 @@ fn lay_block(
 fn lay_if(
     alloc: Global,
     places: &Places,
+    numbers: &Numbers,
     test: &Expr,
     body: &StatementList,
     otherwise: Option<&StatementList>,
     builder: &mut BodyBuilder,
 ) -> Result<(), Memory>
     ensures { OnOk result (Lays builder.old builder.new (λ code. Laid places.now code
-        (If test.now (statements body.now) (plain_branch (option_copied otherwise.entry))))) }
+        (numbered_statement numbers.now
+        (If test.now (statements body.now) (plain_branch (option_copied otherwise.entry)))))) }
 {
     let from = builder.next_place();
     builder.push_op(Op::Pass)?;
-    lay_all(alloc, places, body.items(), builder)?;
+    lay_all(alloc, places, numbers, body.items(), builder)?;
     let place = builder.next_place() + 1;
-    lay_else(alloc, places, otherwise, builder)?;
-    let test = copy_of(alloc, test)?;
+    lay_else(alloc, places, numbers, otherwise, builder)?;
+    let test = flat_expr(alloc, numbers, test)?;
     builder.put_op(
         from,
         Op::Test {
@@ -115,15 +124,16 @@ fn lay_if(
 fn lay_else(
     alloc: Global,
     places: &Places,
+    numbers: &Numbers,
     otherwise: Option<&StatementList>,
     builder: &mut BodyBuilder,
 ) -> Result<(), Memory>
     ensures { OnOk result (Lays builder.old builder.new (λ code. LaidElse places.now code
-        (plain_branch (option_copied otherwise.entry)))) }
+        (numbered_branch numbers.now (plain_branch (option_copied otherwise.entry))))) }
 {
     let from = builder.next_place();
     builder.push_op(Op::Pass)?;
-    lay_branch(alloc, places, otherwise, builder)?;
+    lay_branch(alloc, places, numbers, otherwise, builder)?;
     let to = builder.next_place();
     builder.put_op(from, Op::Jump(to));
     Ok(())
@@ -133,17 +143,19 @@ fn lay_else(
 fn lay_while(
     alloc: Global,
     places: &Places,
+    numbers: &Numbers,
     test: &Expr,
     body: &StatementList,
     builder: &mut BodyBuilder,
 ) -> Result<(), Memory>
-    ensures { OnOk result (Lays builder.old builder.new (λ code. Laid places.now code (While test.now (statements body.now)))) }
+    ensures { OnOk result (Lays builder.old builder.new (λ code. Laid places.now code
+        (numbered_statement numbers.now (While test.now (statements body.now))))) }
 {
     let from = builder.next_place();
     builder.push_op(Op::Pass)?;
-    lay_all(alloc, places, body.items(), builder)?;
+    lay_all(alloc, places, numbers, body.items(), builder)?;
     let last = builder.next_place();
-    let test = copy_of(alloc, test)?;
+    let test = flat_expr(alloc, numbers, test)?;
     builder.push_op(Op::Repeat {
         test,
         body: from + 1,
@@ -156,21 +168,24 @@ fn lay_while(
 fn lay_try(
     alloc: Global,
     places: &Places,
+    numbers: &Numbers,
     body: &StatementList,
     clauses: &[Handler],
     finally: Option<&StatementList>,
     builder: &mut BodyBuilder,
 ) -> Result<(), Memory>
     ensures { OnOk result (Lays builder.old builder.new (λ code. Laid places.now code
-        (Try (statements body.now) (handlers clauses.now) (plain_branch (option_copied finally.entry))))) }
+        (numbered_statement numbers.now
+        (Try (statements body.now) (handlers clauses.now)
+        (plain_branch (option_copied finally.entry)))))) }
 {
     let from = builder.next_place();
     builder.push_op(Op::Pass)?;
-    lay_all(alloc, places, body.items(), builder)?;
+    lay_all(alloc, places, numbers, body.items(), builder)?;
     builder.push_op(Op::Leave)?;
-    let list = lay_handlers(alloc, places, clauses, builder)?;
+    let list = lay_handlers(alloc, places, numbers, clauses, builder)?;
     let place = builder.next_place();
-    lay_branch(alloc, places, finally, builder)?;
+    lay_branch(alloc, places, numbers, finally, builder)?;
     builder.push_op(Op::Resume)?;
     let number = builder.push_range(Range {
         clauses: ClauseList::of(list),
@@ -184,17 +199,19 @@ fn lay_try(
 fn lay_with(
     alloc: Global,
     places: &Places,
+    numbers: &Numbers,
     manager: &Manager,
     name: &RcStr,
     body: &StatementList,
     builder: &mut BodyBuilder,
 ) -> Result<(), Memory>
     ensures { OnOk result (Lays builder.old builder.new (λ code. Laid places.now code
-        (With (plain_manager manager.now) (rc_str_bytes name.now) (statements body.now)))) }
+        (numbered_statement numbers.now
+        (With (plain_manager manager.now) (rc_str_bytes name.now) (statements body.now))))) }
 {
     let from = builder.next_place();
     builder.push_op(Op::Pass)?;
-    lay_all(alloc, places, body.items(), builder)?;
+    lay_all(alloc, places, numbers, body.items(), builder)?;
     builder.push_op(Op::Leave)?;
     let place = builder.next_place();
     builder.push_op(exit_op(manager))?;
@@ -203,8 +220,8 @@ fn lay_with(
         clauses: ClauseList::of(Vec::new(alloc)),
         finally: place,
     })?;
-    let name = Name::of(name.clone()?);
-    let enter = enter_op(alloc, manager, name, number)?;
+    let name = numbers.local_of(name.as_str());
+    let enter = enter_op(alloc, numbers, manager, name, number)?;
     builder.put_op(from, enter);
     Ok(())
 }
@@ -213,14 +230,15 @@ fn lay_with(
 fn lay_branch(
     alloc: Global,
     places: &Places,
+    numbers: &Numbers,
     branch: Option<&StatementList>,
     builder: &mut BodyBuilder,
 ) -> Result<(), Memory>
     ensures { OnOk result (Lays builder.old builder.new (λ code. LaidBranch places.now code
-        (plain_branch (option_copied branch.entry)))) }
+        (numbered_branch numbers.now (plain_branch (option_copied branch.entry))))) }
 {
     match branch {
-        Some(body) => lay_all(alloc, places, body.items(), builder),
+        Some(body) => lay_all(alloc, places, numbers, body.items(), builder),
         None => Ok(()),
     }
 }
@@ -230,15 +248,17 @@ fn lay_branch(
 fn lay_handlers(
     alloc: Global,
     places: &Places,
+    numbers: &Numbers,
     clauses: &[Handler],
     builder: &mut BodyBuilder,
 ) -> Result<Vec<Clause>, Memory>
     ensures { IfOk result (λ list. Grows (built builder.old) (built builder.new)
-        (λ code. LaidHandlers places.now code list.items (handlers clauses.now))) }
+        (λ code. LaidHandlers places.now code list.items
+        (numbered_handlers numbers.now (handlers clauses.now)))) }
 {
     let mut list = Vec::new(alloc);
     for clause in clauses {
-        list.push(lay_clause(alloc, places, clause, builder)?)?;
+        list.push(lay_clause(alloc, places, numbers, clause, builder)?)?;
     }
     Ok(list)
 }
@@ -247,15 +267,16 @@ fn lay_handlers(
 fn lay_clause(
     alloc: Global,
     places: &Places,
+    numbers: &Numbers,
     handler: &Handler,
     builder: &mut BodyBuilder,
 ) -> Result<Clause, Memory>
     ensures { IfOk result (λ clause. Grows (built builder.old) (built builder.new)
-        (λ code. LaidClause places.now code clause handler.now)) }
+        (λ code. LaidClause places.now code clause (numbered_handler numbers.now handler.now))) }
 {
     let at = builder.next_place();
-    let name = name_in(handler.name())?;
-    lay_all(alloc, places, handler.body().items(), builder)?;
+    let name = local_in(numbers, handler.name());
+    lay_all(alloc, places, numbers, handler.body().items(), builder)?;
     builder.push_op(Op::Leave)?;
     Ok(Clause {
         kind: handler.kind(),

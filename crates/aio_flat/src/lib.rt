@@ -5,15 +5,14 @@ mod body;
 mod bound;
 mod builder;
 mod code;
-mod copies;
+mod exprs;
 mod flat;
 mod laying;
 mod name;
+mod numbers;
 mod places;
 mod single;
 mod target;
-#[cfg(test)]
-mod tests;
 mod variables;
 
 pub use body::{Clause, ClauseList, Op, Range};

@@ -31,12 +31,6 @@ impl Name {
         Name { text }
     }
 
-    pub fn text(&self) -> &RcStr
-        ensures { rc_str_bytes result.now ≡ self.now }
-    {
-        &self.text
-    }
-
     pub fn as_str(&self) -> &str
         ensures { result.now ≡ self.now }
     {

@@ -1,6 +1,7 @@
 //! The coroutines of a program by their names.
 ghost use Rattle.std.specs.Prelude.{◌≡◌, IfOk, length};
 ghost use Rattle.model_says.specs.Requests.{place_of};
+ghost use Rattle.law_locals.specs.Numbered.{numbered_program};
 ghost use Rattle.aio_flat.specs.Places.{HasPlaces};
 
 use aio_base::Memory;
@@ -9,7 +10,7 @@ use std::alloc::{AllocError, Global};
 use std::collections::BTreeMap;
 use std::marker::Model;
 
-/// The places of a program's coroutines. Contracts see the program.
+/// The places of a program's coroutines. Contracts see the program, whose variables go by their numbers.
 #[derive(Drop)]
 pub struct Places<'p> {
     program: &'p Program,
@@ -21,6 +22,7 @@ pub struct Places<'p> {
 impl<'p> Model for Places<'p> {
     ghost use Rattle.std.specs.Prelude.{◌≡◌, length};
     ghost use Rattle.model_tree.specs.Syntax as plain;
+    ghost use Rattle.law_locals.specs.Numbered.{numbered_program};
     ghost use Rattle.aio_program.specs.StatementCode.{coded_program};
 
     ghost Value = { plain.Program };
@@ -29,7 +31,7 @@ impl<'p> Model for Places<'p> {
 
     ghost use Rattle.aio_flat.specs.Places.{HasPlaces};
 
-    ghost view = { λ a. a.program.now };
+    ghost view = { λ a. numbered_program a.program.now };
 
     ghost invariant = { λ a. HasPlaces a.places a.count 0 a.program.now.coroutines × (a.count ≡ length a.program.now.coroutines) };
 }
@@ -37,7 +39,7 @@ impl<'p> Model for Places<'p> {
 impl<'p> Places<'p> {
     /// It answers `Memory` for a program with more than 4,294,967,295 coroutines, which no place could number.
     pub fn new(alloc: Global, program: &'p Program) -> Result<Places<'p>, Memory>
-        ensures { IfOk result (λ places. places ≡ program.now) }
+        ensures { IfOk result (λ places. places ≡ numbered_program program.now) }
     {
         let Ok(count) = u32::try_from(program.coroutines().len()) else {
             return Err(Memory);

@@ -6,6 +6,3 @@ mod futures;
 
 pub use future::{Future, FutureId, Kind};
 pub use futures::Futures;
-
-#[cfg(test)]
-mod tests;

@@ -1,5 +1,5 @@
 -- Requests by the number of their arguments.
-use Rattle.std.proofs.Common.{◌≡◌, List, [], ◌∷◌, Result, Err, refl}
+use Rattle.std.proofs.Common.{◌≡◌, List, ◌∷◌, Result, Err, refl}
 use Rattle.model_value.specs.Value.{Value, Exc}
 use Rattle.model_value.specs.Request.{Request}
 use Rattle.model_tree.specs.declared.request_name.RequestName.{RequestName}

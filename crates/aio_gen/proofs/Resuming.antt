@@ -7,6 +7,8 @@ use Rattle.model_tree.specs.Syntax.{Program}
 use Rattle.model_says.specs.Tape.{Resumed, Tape}
 use Rattle.model_says.specs.Endings as endings
 use Rattle.model_says.specs.Says.{says, step_limit}
+use Rattle.law_locals.specs.Numbered.{numbered_program}
+use Rattle.law_locals.proofs.Bodies.{says-same}
 use Rattle.law_flat.specs.Ops.{Body}
 use Rattle.law_flat.specs.Rests.{Way}
 use Rattle.law_flat.specs.declared.answer_use.AnswerUse.TheVariants.{Ignored}
@@ -29,15 +31,24 @@ module _ (program : Program) (codes : ℕ → Body) (coroutine : ℕ) (arguments
       (subst (λ f. MovesFor step_limit program codes coroutine arguments (tape ++ entry ∷ []) (way_of entry.input) f) (sym are)
       (input-moves step_limit program codes coroutine arguments tape request waiting entry waits))
 
+-- what the program says is what it says over numbers
+module _ (program : Program) (codes : ℕ → Body) (coroutine : ℕ) (arguments : List Value) (tape : Tape) where
+  abbrev numbered : Program
+  numbered = numbered_program program
+
   -- what is said whatever comes after, is said
-  pub says-so : (saying : endings.Saying) → ComesTo step_limit program codes coroutine arguments tape (Says saying) →
+  pub says-so : (saying : endings.Saying) → ComesTo step_limit numbered codes coroutine arguments tape (Says saying) →
       says program coroutine arguments tape ≡ saying
-  says-so saying comes = ap (λ t. says program coroutine arguments t) (sym (append-nil tape)) ∙ comes []
+  says-so saying comes =
+      sym (says-same program coroutine arguments tape)
+      ∙ ap (λ t. says numbered coroutine arguments t) (sym (append-nil tape)) ∙ comes []
 
   pub asks-so : (request : Request) (waiting : Waiting) →
-      WaitsFor step_limit program codes coroutine arguments tape request waiting →
+      WaitsFor step_limit numbered codes coroutine arguments tape request waiting →
       says program coroutine arguments tape ≡ endings.Asks request
-  asks-so request waiting waits = waits-says step_limit program codes coroutine arguments tape request waiting waits
+  asks-so request waiting waits =
+      sym (says-same program coroutine arguments tape)
+      ∙ waits-says step_limit numbered codes coroutine arguments tape request waiting waits
 
 -- before any input
 pub starts : (program : Program) (codes : ℕ → Body) (coroutine : ℕ) (arguments : List Value) → AllLaidOut program codes →

@@ -1,11 +1,11 @@
 -- Values of expressions in order, where one of them raises; variables and their values, one more at a time.
-use Rattle.std.proofs.Common.{◌≡◌, ℕ, zero, suc, ◌+◌, ◌<◌, List, [], ◌∷◌, ◌++◌, length, take, slice_get, slice_index_or, Option, Some, None, unwrap_or, Result, Ok, Err, refl, ap, ap₂, sym, ◌∙◌, arith}
-use Rattle.std.specs.Result.{result_unwrap_or}
+use Rattle.std.proofs.Common.{◌≡◌, ℕ, zero, suc, ◌+◌, ◌<◌, List, [], ◌∷◌, ◌++◌, length, take, slice_index_or, Result, Ok, Err, refl, ap, ap₂, sym, ◌∙◌, arith}
 use Rattle.model_value.specs.Value.{Value, Nothing, Exc}
 use Rattle.model_tree.specs.Syntax.{Name, Expr, exprs}
 use Rattle.model_says.specs.Operations.{Answer}
 use Rattle.model_says.specs.Expressions.{value_of, values_of, in_order}
-use Rattle.model_says.specs.Variables.{Env, Binding, bound}
+use Rattle.model_says.specs.Variables.{Env, bound}
+use Rattle.law_locals.specs.Numbered.{local, holding}
 use Rattle.aio_gen.specs.Plain.{value_at}
 
 ok-err : {A B : Type 0} (a : A) (f : Exc) → Ok a ≡ Err f → B
@@ -41,3 +41,12 @@ bound-push (first ∷ names) [] name =
     none = refl
 bound-push (first ∷ names) (value ∷ values) name =
     ap (λ (env : Env). record { name = first; value = value } ∷ env) (bound-push names values name)
+
+pub holding-push : (from : ℕ) (values : List Value) (value : Value) →
+    holding from (values ++ value ∷ []) ≡ holding from values ++ record { name = local (from + length values); value = value } ∷ []
+holding-push from [] value = ap (λ n. record { name = local n; value = value } ∷ []) (omega arith)
+holding-push from (first ∷ values) value =
+    let next : suc from + length values ≡ from + suc (length values) = omega arith in
+    ap (λ (env : Env). record { name = local from; value = first } ∷ env)
+    (holding-push (suc from) values value
+    ∙ ap (λ n. holding (suc from) values ++ record { name = local n; value = value } ∷ []) next)

@@ -6,6 +6,7 @@ use Rattle.model_tree.specs.Syntax.{Program}
 use Rattle.model_says.specs.Tape.{Tape}
 use Rattle.model_says.specs.Endings as endings
 use Rattle.model_says.specs.Says.{step_limit}
+use Rattle.law_locals.specs.Numbered.{numbered_program}
 use Rattle.law_flat.specs.Tapes as plain
 use Rattle.law_flat.specs.Tapes.{WaitsFor}
 use Rattle.aio_flat.specs.declared.code.Code.{Code}
@@ -25,11 +26,14 @@ saying_of_out Runaway = endings.Runaway
 abbrev pub plain_waiting : Waiting → plain.Waiting
 plain_waiting waiting = record { frames = plain_frames waiting.frames; use_of = waiting.use_of }
 
--- what waits stands for a coroutine, its arguments and its tape: whatever comes after, it goes on as the coroutine does
+-- What waits stands for a coroutine, its arguments and its tape: whatever comes after, it goes on as the coroutine does.
+-- Code is that of the program over numbers, which says the same.
 abbrev pub StandsAt : Program → Code → (coroutine : ℕ) → (arguments : List Value) → Tape → Option Waiting → Type 0
 StandsAt program code coroutine arguments tape None = ⊥
 StandsAt program code coroutine arguments tape (Some waiting) =
-    (request : Request) × WaitsFor step_limit program (codes_of code) coroutine arguments tape request (plain_waiting waiting)
+    (request : Request)
+    × WaitsFor step_limit (numbered_program program) (codes_of code) coroutine arguments tape request
+    (plain_waiting waiting)
 
 abbrev pub StandsFor : Program → Code → (coroutine : ℕ) → (arguments : List Value) → Tape → Gen → Type 0
 StandsFor program code coroutine arguments tape gen = StandsAt program code coroutine arguments tape gen.waiting

@@ -1,6 +1,7 @@
 //! Calls of coroutines, which run in frames of their own.
 ghost use Rattle.std.specs.Prelude.{◌≡◌, ◌+◌, ◌<◌, ◌^◌, IfOk, option_copied, slice_get};
 ghost use Rattle.model_says.specs.Variables.{bound};
+ghost use Rattle.law_locals.specs.Numbered.{locals};
 ghost use Rattle.law_flat.specs.declared.op.Op.TheVariants as flat;
 ghost use Rattle.law_flat.specs.Moves.{call, new_frame, after_statement};
 ghost use Rattle.aio_flat.specs.Code.{codes_of};
@@ -10,9 +11,8 @@ use crate::evaluate::values_of;
 use crate::frames::{Frame, Frames};
 use crate::types::{Move, Way};
 use aio_base::{Kind, Memory, Value, exception};
-use aio_expr::Env;
-use aio_flat::{Code, FlatBody, Name};
-use aio_syntax::ExprList;
+use aio_expr::{Env, FlatExprList, Local};
+use aio_flat::{Code, FlatBody};
 use std::alloc::Global;
 use std::mem;
 
@@ -24,9 +24,9 @@ impl Frames {
         &mut self,
         alloc: Global,
         code: &Code,
-        into: &Option<Name>,
+        into: &Option<Local>,
         coroutine: u32,
-        arguments: &ExprList,
+        arguments: &FlatExprList,
     ) -> Result<Move, Memory>
         requires { self.old.frame.place + 1 < 2 ^ 64 }
         ensures { IfOk result (λ moving. plain_move moving self.new
@@ -43,7 +43,7 @@ impl Frames {
         &mut self,
         alloc: Global,
         code: &Code,
-        into: &Option<Name>,
+        into: &Option<Local>,
         coroutine: u32,
         arguments: &[Value],
     ) -> Result<Move, Memory>
@@ -56,7 +56,7 @@ impl Frames {
             self.frame.place += 1;
             return Ok(Move::Goes(Way::Raising(fault)));
         }
-        let frame = new_frame(alloc, code, into.clone()?, coroutine, arguments)?;
+        let frame = new_frame(alloc, code, *into, coroutine, arguments)?;
         self.frame.place += 1;
         let caller = mem::replace(&mut self.frame, frame);
         self.callers.push(caller)?;
@@ -68,15 +68,15 @@ impl Frames {
 pub fn new_frame(
     alloc: Global,
     code: &Code,
-    into: Option<Name>,
+    into: Option<Local>,
     coroutine: u32,
     arguments: &[Value],
 ) -> Result<Frame, Memory>
     ensures { IfOk result (λ frame. plain_frame frame ≡ new_frame (codes_of code.now) into coroutine arguments.now) }
 {
     let env = match body_at(code, coroutine) {
-        Some(body) => bound(alloc, body.variables.as_slice(), arguments)?,
-        None => Env::new(alloc),
+        Some(body) => bound(alloc, body.variables, arguments)?,
+        None => Env::of(Vec::new(alloc)),
     };
     Ok(Frame {
         coroutine,
@@ -93,16 +93,15 @@ pub fn body_at(code: &Code, coroutine: u32) -> Option<&FlatBody>
     code.bodies.get(coroutine as usize)
 }
 
-/// Variables with the values in order. Those that are left hold None.
-fn bound(alloc: Global, variables: &[Name], values: &[Value]) -> Result<Env, Memory>
-    ensures { IfOk result (λ env. env ≡ bound variables.now values.now) }
+/// So many variables with the values in order. Those that are left hold None.
+fn bound(alloc: Global, count: usize, values: &[Value]) -> Result<Env, Memory>
+    ensures { IfOk result (λ env. env ≡ bound (locals 0 count) values.now) }
 {
-    let mut env = Env::new(alloc);
-    for (at, name) in variables.iter().enumerate() {
-        let value = value_at(values, at)?;
-        env.push(name.text().clone()?, value)?;
+    let mut held = Vec::new(alloc);
+    for number in 0..count {
+        held.push(value_at(values, number)?)?;
     }
-    Ok(env)
+    Ok(Env::of(held))
 }
 
 fn value_at(values: &[Value], at: usize) -> Result<Value, Memory>

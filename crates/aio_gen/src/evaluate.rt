@@ -4,12 +4,11 @@ ghost use Rattle.model_tree.specs.Syntax.{exprs};
 ghost use Rattle.model_says.specs.Expressions.{value_of, values_of};
 
 use aio_base::{Exc, Memory, Value, ValueList};
-use aio_expr::{Env, ExprFault};
-use aio_syntax::Expr;
+use aio_expr::{Env, ExprFault, FlatExpr};
 use std::alloc::Global;
 
 /// The value of an expression, or the exception that it raises.
-pub fn value_of(alloc: Global, expr: &Expr, env: &Env) -> Result<Result<Value, Exc>, Memory>
+pub fn value_of(alloc: Global, expr: &FlatExpr, env: &Env) -> Result<Result<Value, Exc>, Memory>
     ensures { IfOk result (λ given. given ≡ value_of expr.now env.now) }
 {
     match aio_expr::value_of(alloc, expr, env) {
@@ -20,7 +19,11 @@ pub fn value_of(alloc: Global, expr: &Expr, env: &Env) -> Result<Result<Value, E
 }
 
 /// The values of expressions in order, or the first exception.
-pub fn values_of(alloc: Global, items: &[Expr], env: &Env) -> Result<Result<ValueList, Exc>, Memory>
+pub fn values_of(
+    alloc: Global,
+    items: &[FlatExpr],
+    env: &Env,
+) -> Result<Result<ValueList, Exc>, Memory>
     ensures { IfOk result (λ given. given ≡ values_of (exprs items.now) env.now) }
 {
     let mut found = Vec::new(alloc);

@@ -2,8 +2,7 @@
 ghost use Rattle.std.specs.Prelude.{◌≤◌, length};
 
 use crate::types::OpenHandler;
-use aio_expr::Env;
-use aio_flat::Name;
+use aio_expr::{Env, Local};
 
 /// A call of a coroutine.
 #[derive(Drop)]
@@ -15,7 +14,7 @@ pub struct Frame {
     pub handlers: Vec<OpenHandler>,
     pub env: Env,
     /// The caller's variable for what this one returns.
-    pub into: Option<Name>,
+    pub into: Option<Local>,
 }
 
 /// The frame that runs, and those that wait for it, the innermost at the end. Frames are let go as they are left.

@@ -51,7 +51,7 @@ impl Frames {
                 self.frame
                     .handlers
                     .push(OpenHandler::InWith(range, entered))?;
-                self.frame.env.assign(name.as_str(), value);
+                self.frame.env.assign(name, value);
                 Ok(())
             }
         }

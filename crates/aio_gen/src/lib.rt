@@ -11,8 +11,6 @@ mod requests;
 mod run;
 mod statements;
 mod targets;
-#[cfg(test)]
-mod tests;
 mod types;
 mod ways_out;
 

@@ -34,7 +34,7 @@ fn nothing(alloc: Global) -> Result<FlatBody, Memory>
 {
     Ok(FlatBody {
         name: Name::of(RcStr::from_str(alloc, "")?),
-        variables: Vec::new(alloc),
+        variables: 0,
         ops: Vec::new(alloc),
         ranges: Vec::new(alloc),
     })

@@ -11,19 +11,18 @@ use crate::evaluate::{value_of, values_of};
 use crate::frames::Frames;
 use crate::types::{AnswerUse, Move, OpenHandler, Way};
 use aio_base::{Exc, Kind, Memory, Request, Value, ValueCase, exception};
-use aio_flat::Name;
-use aio_syntax::{Expr, ExprList};
+use aio_expr::{FlatExpr, FlatExprList, Local};
 use std::alloc::Global;
 
 impl Frames {
-    pub fn assign(&mut self, alloc: Global, name: &Name, value: &Expr) -> Result<Move, Memory>
+    pub fn assign(&mut self, alloc: Global, name: &Local, value: &FlatExpr) -> Result<Move, Memory>
         requires { self.old.frame.place + 1 < 2 ^ 64 }
         ensures { IfOk result (λ moving. (codes : ℕ → Body) →
             plain_move moving self.new ≡ after_statement codes (flat.Assign name.now value.now) (plain_frames self.old)) }
     {
         match value_of(alloc, value, &self.frame.env)? {
             Ok(value) => {
-                self.frame.env.assign(name.as_str(), value);
+                self.frame.env.assign(*name, value);
                 self.frame.place += 1;
                 Ok(Move::Goes(Way::Passing))
             }
@@ -31,7 +30,7 @@ impl Frames {
         }
     }
 
-    pub fn print(&mut self, alloc: Global, items: &ExprList) -> Result<Move, Memory>
+    pub fn print(&mut self, alloc: Global, items: &FlatExprList) -> Result<Move, Memory>
         requires { self.old.frame.place + 1 < 2 ^ 64 }
         ensures { IfOk result (λ moving. (codes : ℕ → Body) →
             plain_move moving self.new ≡ after_statement codes (flat.Print items.now) (plain_frames self.old)) }
@@ -45,7 +44,7 @@ impl Frames {
         }
     }
 
-    pub fn raise(&mut self, alloc: Global, fault: &Expr) -> Result<Move, Memory>
+    pub fn raise(&mut self, alloc: Global, fault: &FlatExpr) -> Result<Move, Memory>
         ensures { IfOk result (λ moving. (codes : ℕ → Body) →
             plain_move moving self.new ≡ after_statement codes (flat.Raise fault.now) (plain_frames self.old)) }
     {
@@ -65,7 +64,7 @@ impl Frames {
         }
     }
 
-    pub fn return_value(&mut self, alloc: Global, value: &Option<Expr>) -> Result<Move, Memory>
+    pub fn return_value(&mut self, alloc: Global, value: &Option<FlatExpr>) -> Result<Move, Memory>
         ensures { IfOk result (λ moving. (codes : ℕ → Body) →
             plain_move moving self.new ≡ after_statement codes (flat.Return value.now) (plain_frames self.old)) }
     {
@@ -78,7 +77,7 @@ impl Frames {
         }
     }
 
-    pub fn test(&mut self, alloc: Global, test: &Expr, otherwise: usize) -> Result<Move, Memory>
+    pub fn test(&mut self, alloc: Global, test: &FlatExpr, otherwise: usize) -> Result<Move, Memory>
         requires { self.old.frame.place + 1 < 2 ^ 64 }
         ensures { IfOk result (λ moving. (codes : ℕ → Body) →
             plain_move moving self.new ≡ after_statement codes (flat.Test test.now otherwise) (plain_frames self.old)) }
@@ -89,7 +88,7 @@ impl Frames {
         }
     }
 
-    pub fn repeat(&mut self, alloc: Global, test: &Expr, body: usize) -> Result<Move, Memory>
+    pub fn repeat(&mut self, alloc: Global, test: &FlatExpr, body: usize) -> Result<Move, Memory>
         requires { self.old.frame.place + 1 < 2 ^ 64 }
         ensures { IfOk result (λ moving. (codes : ℕ → Body) →
             plain_move moving self.new ≡ after_statement codes (flat.Repeat test.now body) (plain_frames self.old)) }
@@ -133,12 +132,12 @@ impl Frames {
         Ok(Move::Goes(Way::Passing))
     }
 
-    pub fn enter_group(&mut self, name: &Name, range: usize) -> Result<Move, Memory>
+    pub fn enter_group(&mut self, name: &Local, range: usize) -> Result<Move, Memory>
         requires { self.old.frame.place + 1 < 2 ^ 64 }
         ensures { IfOk result (λ moving. (codes : ℕ → Body) →
             plain_move moving self.new ≡ after_statement codes (flat.EnterGroup name.now range) (plain_frames self.old)) }
     {
-        let name = name.clone()?;
+        let name = *name;
         self.frame.place += 1;
         Ok(Move::Asks(Request::GroupEnter, AnswerUse::Entered { name, range }))
     }
@@ -146,8 +145,8 @@ impl Frames {
     pub fn enter_timeout(
         &mut self,
         alloc: Global,
-        delay: &Expr,
-        name: &Name,
+        delay: &FlatExpr,
+        name: &Local,
         range: usize,
     ) -> Result<Move, Memory>
         requires { self.old.frame.place + 1 < 2 ^ 64 }
@@ -156,7 +155,7 @@ impl Frames {
     {
         match value_of(alloc, delay, &self.frame.env)? {
             Ok(delay) => {
-                let name = name.clone()?;
+                let name = *name;
                 self.frame.place += 1;
                 Ok(Move::Asks(
                     Request::TimeoutEnter(delay),

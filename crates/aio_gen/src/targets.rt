@@ -10,17 +10,17 @@ use crate::frames::Frames;
 use crate::requests::requested;
 use crate::types::{AnswerUse, Move, Way};
 use aio_base::{Memory, Request, ValueList};
-use aio_flat::Name;
-use aio_syntax::{Expr, ExprList, RequestName};
+use aio_expr::{FlatExpr, FlatExprList, Local};
+use aio_syntax::RequestName;
 use std::alloc::Global;
 
 impl Frames {
     /// A request whose answer a variable holds, where there is one.
-    fn ask_into(&mut self, into: &Option<Name>, request: Request) -> Result<Move, Memory>
+    fn ask_into(&mut self, into: &Option<Local>, request: Request) -> Result<Move, Memory>
         requires { self.old.frame.place + 1 < 2 ^ 64 }
         ensures { IfOk result (λ moving. plain_move moving self.new ≡ ask_into into.now request (plain_frames self.old)) }
     {
-        let into = into.clone()?;
+        let into = *into;
         self.frame.place += 1;
         Ok(Move::Asks(request, AnswerUse::AssignedTo(into)))
     }
@@ -34,21 +34,21 @@ impl Frames {
     }
 
     /// What a variable holds is awaited.
-    pub fn await_name(&mut self, into: &Option<Name>, name: &Name) -> Result<Move, Memory>
+    pub fn await_name(&mut self, into: &Option<Local>, name: &Local) -> Result<Move, Memory>
         requires { self.old.frame.place + 1 < 2 ^ 64 }
         ensures { IfOk result (λ moving. (codes : ℕ → Body) →
             plain_move moving self.new ≡ after_statement codes (flat.Await into.now name.now) (plain_frames self.old)) }
     {
-        let awaited = self.frame.env.held(name.as_str())?;
+        let awaited = self.frame.env.held(*name)?;
         self.ask_into(into, Request::Await(awaited))
     }
 
     pub fn ask(
         &mut self,
         alloc: Global,
-        into: &Option<Name>,
+        into: &Option<Local>,
         request: RequestName,
-        arguments: &ExprList,
+        arguments: &FlatExprList,
     ) -> Result<Move, Memory>
         requires { self.old.frame.place + 1 < 2 ^ 64 }
         ensures { IfOk result (λ moving. (codes : ℕ → Body) → plain_move moving self.new
@@ -66,9 +66,9 @@ impl Frames {
     pub fn spawn(
         &mut self,
         alloc: Global,
-        into: &Option<Name>,
+        into: &Option<Local>,
         coroutine: u32,
-        arguments: &ExprList,
+        arguments: &FlatExprList,
     ) -> Result<Move, Memory>
         requires { self.old.frame.place + 1 < 2 ^ 64 }
         ensures { IfOk result (λ moving. (codes : ℕ → Body) → plain_move moving self.new
@@ -89,10 +89,10 @@ impl Frames {
     pub fn create(
         &mut self,
         alloc: Global,
-        into: &Option<Name>,
-        group: &Expr,
+        into: &Option<Local>,
+        group: &FlatExpr,
         coroutine: u32,
-        arguments: &ExprList,
+        arguments: &FlatExprList,
     ) -> Result<Move, Memory>
         requires { self.old.frame.place + 1 < 2 ^ 64 }
         ensures { IfOk result (λ moving. (codes : ℕ → Body) → plain_move moving self.new
@@ -117,8 +117,8 @@ impl Frames {
     pub fn listen(
         &mut self,
         alloc: Global,
-        into: &Option<Name>,
-        port: &Expr,
+        into: &Option<Local>,
+        port: &FlatExpr,
         coroutine: u32,
     ) -> Result<Move, Memory>
         requires { self.old.frame.place + 1 < 2 ^ 64 }

@@ -1,6 +1,6 @@
 //! Ways out, open handlers and moves, over the values of the code.
 use aio_base::{Exc, Request, Value};
-use aio_flat::Name;
+use aio_expr::Local;
 
 /// A way out of statements.
 pub type Way = law_flat::Way<Value, Exc>;
@@ -9,7 +9,7 @@ pub type Way = law_flat::Way<Value, Exc>;
 pub type OpenHandler = law_flat::OpenHandler<Value, Exc>;
 
 /// What the answer of a request is to the operation that asked it.
-pub type AnswerUse = law_flat::AnswerUse<Name>;
+pub type AnswerUse = law_flat::AnswerUse<Local>;
 
 /// What a move comes to.
 #[derive(Drop)]

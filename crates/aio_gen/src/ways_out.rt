@@ -7,16 +7,17 @@ ghost use Rattle.aio_gen.specs.Plain.{plain_frames, plain_move};
 use crate::frames::Frames;
 use crate::types::{Move, OpenHandler, Way};
 use aio_base::{Exc, Memory, Value, kind_matches};
-use aio_flat::{Clause, FlatBody, Name, Range};
+use aio_expr::Local;
+use aio_flat::{Clause, FlatBody, Range};
 use std::mem;
 
 impl Frames {
     /// A variable holds the value, where there is one.
-    pub fn set_variable(&mut self, name: &Option<Name>, value: Value)
+    pub fn set_variable(&mut self, name: &Option<Local>, value: Value)
         ensures { plain_frames self.new ≡ with_variable name.now value (plain_frames self.old) }
     {
         if let Some(name) = name {
-            self.frame.env.assign(name.as_str(), value);
+            self.frame.env.assign(*name, value);
         }
     }
 

@@ -6,8 +6,6 @@ mod entry;
 mod items;
 mod literal;
 mod numbers;
-#[cfg(test)]
-mod tests;
 mod tokens;
 mod words;
 

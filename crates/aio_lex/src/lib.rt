@@ -8,8 +8,6 @@ mod list;
 mod literal;
 mod number;
 mod symbols;
-#[cfg(test)]
-mod tests;
 mod token;
 mod words;
 

@@ -11,6 +11,3 @@ pub use handle::{Handle, HandleId, Name};
 pub use ready::Ready;
 pub use ticket::Ticket;
 pub use waiting::Waiting;
-
-#[cfg(test)]
-mod tests;

@@ -4,8 +4,6 @@
 mod fault;
 mod lines;
 mod reader;
-#[cfg(test)]
-mod tests;
 
 pub use aio_program::{Coroutine, Program};
 pub use fault::ScriptFault;

@@ -13,6 +13,3 @@ pub use handler::Handler;
 pub use state::{Rescheduled, TimeoutExit, TimeoutState, timeout_fault};
 pub use timeout::Timeout;
 pub use timeouts::Timeouts;
-
-#[cfg(test)]
-mod tests;

@@ -6,6 +6,3 @@ mod timers;
 
 pub use live::TimerId;
 pub use timers::{Timers, Unplaced};
-
-#[cfg(test)]
-mod tests;

@@ -3,8 +3,6 @@
 
 mod actions;
 mod ends;
-#[cfg(test)]
-mod tests;
 mod writing;
 
 pub use ends::{End, last_line};

@@ -1,5 +1,5 @@
 -- Each step of what is added that is allowed keeps the loop sound, and what it leaves to whoever looks from above.
-use Rattle.std.proofs.Common.{◌≡◌, ℕ, ◌==◌, Bool, true, false, cond, not, List, [], ◌∷◌, Option, Some, None, is_none, slice_get, refl, sym, ap, subst, ◌∙◌, arith}
+use Rattle.std.proofs.Common.{◌≡◌, ℕ, ◌==◌, Bool, true, false, not, List, [], ◌∷◌, Option, None, refl, sym, subst, ◌∙◌, arith}
 use Rattle.std.proofs.lemmas.Bool.{and_from, and_parts, false≢true}
 use Rattle.model_value.specs.Action.{Action}
 use Rattle.model_value.specs.Value.{Outcome}
@@ -7,68 +7,36 @@ use Rattle.model_value.specs.declared.action.Action.TheVariants as action
 use Rattle.model_value.specs.declared.outcome.Outcome.TheVariants.{Value as Returned, Failed, Cancelled}
 use Rattle.model_loop.specs.Deadlines.{fires, fires_any, fires_as, others_as}
 use Rattle.model_loop.specs.Entries.{entries}
-use Rattle.model_loop.specs.Futures.{is_pending, is_pending_at, register, registered, registered_on, settle}
+use Rattle.model_loop.specs.Futures.{register, settle}
 use Rattle.model_loop.specs.Groups.{group_of}
-use Rattle.model_loop.specs.Handles.{revoke, soon}
+use Rattle.model_loop.specs.Handles.{later, revoke, soon}
 use Rattle.model_loop.specs.Ledger.{ByExtra, ask_cancel, uncancel_by}
 use Rattle.model_loop.specs.Loop.{Loop, in_parts}
-use Rattle.model_loop.specs.Parts.{Future, Many, Parts, Plain}
+use Rattle.model_loop.specs.Parts.{Many, Parts, Plain}
 use Rattle.model_loop.specs.Sound.{IsSound}
 use Rattle.model_loop.specs.Tasks.{next_task}
-use Rattle.model_loop.specs.Totals.{pending_where}
 use Rattle.model_machine.specs.Extra.{ExtraStep, MakesPlain, MakesMany, Settles, Releases, Registers, CallsSoon, CallsLater, Revokes, Cancels, Uncancels, made_by, made_by_all}
 use Rattle.model_machine.specs.Sound.{names_made}
 use Rattle.law_ledger.specs.Telling.{IsOther}
 use Rattle.law_numbers.proofs.Numbering.{revoke_numbers}
 use Rattle.law_settling.specs.Frames.{Follows}
-use Rattle.law_settling.proofs.Looks.{LooksSame, handles_look_same}
-use Rattle.law_settling.proofs.Settling.{soon-where}
+use Rattle.law_settling.proofs.Looks.{LooksSame}
 use Rattle.law_timeouts.specs.Tags.{KeepsTags}
 use Rattle.law_timeouts.proofs.Entries.{entries-fewer, entries-revoke, of_tag}
 use Rattle.law_timeouts.proofs.Revoking.{revoke_looks_same, revoke_times}
 use Rattle.law_told.proofs.Holding.{looks_holds}
-use Rattle.law_sound.proofs.Carrying.{looks_carries, soon_carries}
+use Rattle.law_sound.proofs.Carrying.{looks_carries}
 use Rattle.law_sound.proofs.Steps.{holds_of, many_step_sound, parts_sound, plain_step_sound, request_step_sound, settle_step_sound, uncancel_step_sound}
 use Rattle.law_after.specs.After.{is_step, IsAfter, IsLoopAfter, OutcomeIn}
 use Rattle.law_after.proofs.Loops.{book_loop, loop_on, parts_loop, refl_loop}
-use Rattle.law_after.proofs.Made.{make_after}
-use Rattle.law_after.proofs.Parts.{change_after, refl_after, revoke_after, settle_after, soon_after}
+use Rattle.law_after.proofs.Made.{make_after, register_after}
+use Rattle.law_after.proofs.Parts.{change_after, later_after, revoke_after, settle_after, soon_after}
 use Rattle.law_after.proofs.Requests.{cancel_after}
+use Rattle.law_extras.proofs.Handles.{later_sound, register_sound, soon_sound}
 use Rattle.law_extras.specs.Allowed.{AreAllowed, IsAllowed, ends_made, is_extra, no_extra_as}
 
 by_extra : (key : ℕ) → IsOther (ByExtra key)
 by_extra key = record { timeout = λ id. refl; group = λ id. refl }
-
--- ---- a handle of its own
-pub soon_sound : (running : Option ℕ) (told : ℕ → List ℕ) (key : ℕ) (l : Loop) → IsSound running told l
-    → IsSound running told (in_parts (soon (action.Extra key)) l)
-soon_sound running told key l s =
-    parts_sound running running told l (soon (action.Extra key) l.parts) s (soon_carries (action.Extra key) l.parts refl)
-    (looks_holds running running told told (group_of l) l.parts (soon (action.Extra key) l.parts)
-    (handles_look_same l.parts (soon (action.Extra key) l.parts) refl refl looks) (λ t m. m) (holds_of running told l s)) (λ t. refl)
-  where
-    looks : (test : Action → Bool) → Follows test → pending_where test (soon (action.Extra key) l.parts).pending ≡ pending_where test l.parts.pending
-    looks test follows =
-        let a = soon-where test (action.Extra key) l.parts in
-        let z : ◌≡◌ {A = ℕ} (cond (test (action.Extra key)) 1 0) 0 = ap (λ b. cond b 1 0) (follows (action.Extra key) refl) in
-        omega (arith, a, z)
-
--- ---- a registration on what is done is called soon
-register_by : (P : Parts → Type 0) (future : ℕ) (it : Action) (p : Parts) → is_pending p future ≡ false → P p → P (soon it p) → P (register future it p)
-register_by P future it p done same called = at (slice_get p.futures future) refl
-  where
-    until : (it_ : Future) → slice_get p.futures future ≡ Some it_ → (o : Option Outcome) → it_.outcome ≡ o → P (registered_on o future it_ it p)
-    until it_ e (Some outcome) o = called
-    until it_ e None o = absurd (false≢true (sym done ∙ ap is_pending_at e ∙ ap (λ (x : Option Outcome). is_none x) o))
-
-    at : (o : Option Future) → slice_get p.futures future ≡ o → P (registered o future it p)
-    at None e = same
-    at (Some it_) e = until it_ e it_.outcome refl
-
-pub register_sound : (running : Option ℕ) (told : ℕ → List ℕ) (future key : ℕ) (l : Loop) → is_pending l.parts future ≡ false → IsSound running told l
-    → IsSound running told (in_parts (register future (action.Extra key)) l)
-register_sound running told future key l done s =
-    register_by (λ p. IsSound running told (record l { parts = p })) future (action.Extra key) l.parts done s (soon_sound running told key l s)
 
 -- ---- a handle of its own is given up
 followed_no_extra : (test : Action → Bool) → Follows test → (it : Action) → test it ≡ true → not (is_extra it) ≡ true
@@ -128,9 +96,9 @@ step_sound running told MakesPlain l may s = plain_step_sound running told l s
 step_sound running told (MakesMany members) l may s = many_step_sound running told members l may s
 step_sound running told (Settles future outcome) l may s = settle_step_sound running told future outcome l may.0 s
 step_sound running told (Releases future) l may s = s
-step_sound running told (Registers future key) l may s = register_sound running told future key l may s
+step_sound running told (Registers future key) l may s = register_sound running told future key l s
 step_sound running told (CallsSoon key) l may s = soon_sound running told key l s
-step_sound running told (CallsLater when key) l may s = absurd may
+step_sound running told (CallsLater when key) l may s = later_sound running told when key l s
 step_sound running told (Revokes tag) l may s = revoke_sound running told tag l may s
 step_sound running told (Cancels key future) l may s = request_step_sound running told (ByExtra key) future l (by_extra key) s
 step_sound running told (Uncancels key task) l may s = uncancel_step_sound running told (ByExtra key) task l (by_extra key) s
@@ -165,11 +133,11 @@ module _ (n : ℕ) (excused : Option ℕ) where
   step_after (Releases future) l made may = refl_loop (names_made n) refl false excused None None None l
   step_after (Registers future key) l made may =
       by_parts l (register future (action.Extra key) l.parts)
-      (register_by (λ p. IsAfter (names_made n) false excused l.parts p) future (action.Extra key) l.parts may
-      (refl_after (names_made n) false excused l.parts) (soon_after (names_made n) false excused (action.Extra key) l.parts refl))
+      (register_after (names_made n) false excused future (action.Extra key) l.parts refl)
   step_after (CallsSoon key) l made may =
       by_parts l (soon (action.Extra key) l.parts) (soon_after (names_made n) false excused (action.Extra key) l.parts refl)
-  step_after (CallsLater when key) l made may = absurd may
+  step_after (CallsLater when key) l made may =
+      by_parts l (later when (action.Extra key) l.parts) (later_after (names_made n) false excused when (action.Extra key) l.parts)
   step_after (Revokes tag) l made may =
       by_parts l (revoke tag l.parts) (revoke_after (names_made n) false excused tag l.parts (no_steps tag l.parts may))
   step_after (Cancels key future) l made may =

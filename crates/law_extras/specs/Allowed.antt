@@ -7,7 +7,7 @@ use Rattle.model_value.specs.Value.{Value, Outcome}
 use Rattle.model_value.specs.declared.action.Action.TheVariants as action
 use Rattle.model_value.specs.declared.outcome.Outcome.TheVariants.{Value as Returned}
 use Rattle.model_loop.specs.Entries.{entries}
-use Rattle.model_loop.specs.Futures.{is_pending, next_future}
+use Rattle.model_loop.specs.Futures.{next_future}
 use Rattle.model_loop.specs.Loop.{Loop}
 use Rattle.model_loop.specs.Owning.{is_plain}
 use Rattle.model_loop.specs.Tasks.{next_task}
@@ -32,16 +32,17 @@ ends_made made (Returned value) = names_made made value
 ends_made made _ = true
 
 -- A step, in the loop that it changes. A future stands for others that were made before it. Only a plain future is settled, with
--- a value that a script may have. What is registered is called soon, since the future is done: in a sound state the callbacks of
--- a pending one are the loop's own, and so are all timers. A tag that is revoked names handles of what is added alone.
+-- a value that a script may have. A handle is called soon or later, or registered on any future: on a pending one it waits for the
+-- outcome, on a done one it is called soon, and on one that was never made nothing is. A tag that is revoked names handles of what
+-- is added alone.
 abbrev pub IsAllowed : ExtraStep → Loop → Type 0
 IsAllowed MakesPlain l = Unit {0}
 IsAllowed (MakesMany members) l = All (λ member. member < next_future l.parts) members
 IsAllowed (Settles future outcome) l = (is_plain l.parts future ≡ true) × (ends_made (next_task l.parts) outcome ≡ true)
 IsAllowed (Releases future) l = Unit {0}
-IsAllowed (Registers future key) l = is_pending l.parts future ≡ false
+IsAllowed (Registers future key) l = Unit {0}
 IsAllowed (CallsSoon key) l = Unit {0}
-IsAllowed (CallsLater when key) l = ⊥
+IsAllowed (CallsLater when key) l = Unit {0}
 IsAllowed (Revokes tag) l = entries (no_extra_as tag) l.parts ≡ 0
 IsAllowed (Cancels key future) l = Unit {0}
 IsAllowed (Uncancels key task) l = Unit {0}

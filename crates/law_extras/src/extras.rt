@@ -5,11 +5,11 @@ ghost use Rattle.model_value.specs.Value.{Outcome};
 ghost use Rattle.model_tree.specs.Syntax.{Program};
 ghost use Rattle.model_wire.specs.Journal.{Entry};
 ghost use Rattle.model_loop.specs.Entries.{entries};
-ghost use Rattle.model_loop.specs.Futures.{is_pending, next_future};
+ghost use Rattle.model_loop.specs.Futures.{next_future};
 ghost use Rattle.model_loop.specs.Loop.{Loop};
 ghost use Rattle.model_loop.specs.Owning.{is_plain};
 ghost use Rattle.model_loop.specs.Sound.{IsSound};
-ghost use Rattle.model_machine.specs.Extra.{Extra, ExtraStep, MakesPlain, MakesMany, Settles, Registers, CallsSoon, Revokes, Cancels, Uncancels, made_by, made_by_all};
+ghost use Rattle.model_machine.specs.Extra.{Extra, ExtraStep, MakesPlain, MakesMany, Settles, Registers, CallsSoon, CallsLater, Revokes, Cancels, Uncancels, made_by, made_by_all};
 ghost use Rattle.model_machine.specs.State.{start};
 ghost use Rattle.law_replies.specs.Added.{KeepsSound};
 ghost use Rattle.law_inside.specs.InStep.{IsRunSound};
@@ -27,10 +27,11 @@ pub fn each_step_keeps_the_loop_sound()
         (outcome : Outcome) → is_plain l.parts future ≡ true → IsSound running told l
         → IsSound running told (made_by (Settles future outcome) l) }
     ensures registers { (running : Option ℕ) (told : ℕ → List ℕ) (l : Loop) (future key : ℕ)
-        → is_pending l.parts future ≡ false → IsSound running told l
-        → IsSound running told (made_by (Registers future key) l) }
+        → IsSound running told l → IsSound running told (made_by (Registers future key) l) }
     ensures soon { (running : Option ℕ) (told : ℕ → List ℕ) (l : Loop) (key : ℕ)
         → IsSound running told l → IsSound running told (made_by (CallsSoon key) l) }
+    ensures later { (running : Option ℕ) (told : ℕ → List ℕ) (l : Loop) (when key : ℕ)
+        → IsSound running told l → IsSound running told (made_by (CallsLater when key) l) }
     ensures revokes { (running : Option ℕ) (told : ℕ → List ℕ) (l : Loop) (tag : ℕ)
         → entries (no_extra_as tag) l.parts ≡ 0 → IsSound running told l
         → IsSound running told (made_by (Revokes tag) l) }

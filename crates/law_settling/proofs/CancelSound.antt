@@ -23,7 +23,7 @@ use Rattle.law_settling.proofs.Settling.{IsSettled, settle_effect, count_fewer, 
 use Rattle.law_settling.proofs.SettleWays.{settled-waiter, settled-pending, settled-lives, settled_keeps}
 use Rattle.law_settling.proofs.Looks.{LooksSame, future_of-owned, spent_grows_below, same-lives, same_ways, same_owns, same_settled, same_may, same_marks, change_looks_same, asked_looks_same, same_callbacks, same_ready}
 use Rattle.law_settling.proofs.Spreading.{CanBeMarked, begins, settles, asks, raises, marks, with_spread, Spreads}
-use Rattle.model_value.specs.declared.action.Action.TheVariants.{GroupDone, MainDone, Step, StepInCircle, Wakeup}
+use Rattle.model_value.specs.declared.action.Action.TheVariants.{Step, StepInCircle, Wakeup}
 use Rattle.model_value.specs.Action.{Action}
 use Rattle.model_value.specs.Value.{Outcome}
 
@@ -113,10 +113,7 @@ settled_callbacks id p q s are j = go (cases_eq id j)
 resumes_no_callback : (task : ℕ) (action : Action) → resumes task action ≡ true → is_no_callback action ≡ true
 resumes_no_callback task (Step other) h = refl
 resumes_no_callback task (StepInCircle other circle) h = refl
-resumes_no_callback task (Wakeup other) h = absurd (false≢true h)
-resumes_no_callback task (GroupDone group other) h = absurd (false≢true h)
-resumes_no_callback task MainDone h = absurd (false≢true h)
-resumes_no_callback task _ h = refl
+resumes_no_callback task _ h = absurd (false≢true h)
 
 pub wakes_steps : (task : ℕ) (action : Action) → wakes task action ≡ true → steps task action ≡ true
 wakes_steps task (Wakeup other) h = h

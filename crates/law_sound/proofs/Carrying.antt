@@ -23,10 +23,9 @@ use Rattle.model_value.specs.Action.{Action}
 use Rattle.model_loop.specs.Circles.{passes, passes_at}
 use Rattle.law_settling.proofs.Looks.{LooksSame, asked_looks_same, change_looks_same, same_callbacks, same_no_circle}
 use Rattle.law_made.proofs.Passing.{no_circle_more, same_tasks_no_circle, settle_no_circle}
-use Rattle.model_loop.specs.Entries.{is_timed}
 use Rattle.law_settling.proofs.Spreading.{Spreads, begins, settles, asks, raises, marks, with_spread}
 use Rattle.law_cancel.proofs.Circling.{no_circle_kept, passes-same, register-view}
-use Rattle.law_timeouts.specs.Tags.{IsQuiet}
+use Rattle.law_timeouts.specs.Tags.{IsQuiet, is_deadline}
 use Rattle.law_settling.specs.Frames.{taken}
 use Rattle.std.proofs.lemmas.List.Sums.{sum_by_push}
 use Rattle.model_value.specs.declared.input.Input.TheVariants.{Send, Throw}
@@ -117,12 +116,12 @@ each_carries by (task ∷ tasks) p = carries_on p _ _ (each_carries by tasks _) 
     at false = refl_carries p
 
 -- ---- handles
-pub soon_carries : (action : Action) (p : Parts) → is_timed action ≡ false → Carries p (soon action p)
-soon_carries action p untimed_ = record {
+pub soon_carries : (action : Action) (p : Parts) → is_deadline action ≡ false → Carries p (soon action p)
+soon_carries action p other = record {
   numbered = soon_numbers action p;
   circle = same_tasks_no_circle p (soon action p) refl refl;
   callbacks = λ h. h;
-  quiet = λ h. soon_quiet action p untimed_;
+  quiet = λ h. soon_quiet action p other;
   plains = λ id h. h;
 }
 
@@ -224,15 +223,15 @@ register_callbacks id action p ok are j = at (slice_get p.futures id) refl
     at None e = are j
     at (Some future) e = until future e future.outcome
 
-pub register_carries : (id : ℕ) (action : Action) (p : Parts) → is_callback action ≡ true → is_timed action ≡ false
+pub register_carries : (id : ℕ) (action : Action) (p : Parts) → is_callback action ≡ true → is_deadline action ≡ false
     → Carries p (register id action p)
-register_carries id action p ok untimed_ = record {
+register_carries id action p ok other = record {
   numbered = register_numbers id action p;
   circle = no_circle_kept p (register id action p) (λ x. passes-same p (register id action p) x
       (register-view (λ o. passes_at o x p) (λ f a. refl) id action p x)
       (λ t. ap (λ (ts : List Task). option_map_or (λ (it : Task). it.waiter) (slice_get ts t) None) (register-tasks id action p)));
   callbacks = register_callbacks id action p ok;
-  quiet = λ h. register_quiet id action p untimed_;
+  quiet = λ h. register_quiet id action p other;
   plains = λ j h. register-view is_plain_at (λ f a. refl) id action p j ∙ h;
 }
 

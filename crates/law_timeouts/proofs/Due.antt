@@ -3,7 +3,7 @@ use Rattle.std.proofs.Common.{◌≡◌, ℕ, Bool, List, [], ap, arith, cond, f
 use Rattle.law_settling.specs.Frames.{Follows, is_followed}
 use Rattle.model_loop.specs.Deadlines.{fires_any, fires_as, others_as}
 use Rattle.law_numbers.proofs.Falling.{early, fall_due-futures, fall_due-next, fallen, late}
-use Rattle.model_value.specs.declared.action.Action.TheVariants.{Fires, SleepDone}
+use Rattle.model_value.specs.declared.action.Action.TheVariants.{Extra, Fires, SleepDone}
 use Rattle.model_loop.specs.Entries.{AreTimed, ends_sleep_on, entries, handles_where, is_timed, timers_where, untimed}
 use Rattle.std.proofs.lemmas.Bool.{cases_lt, false≢true, le-leb, le-ltb, lt-leb, lt-ltb}
 use Rattle.law_settling.proofs.Looks.{LooksSame, handles_look_same}
@@ -131,6 +131,7 @@ timers_followed p timed test follows =
     followed : (action : Action) → is_timed action ≡ true → is_followed action ≡ false
     followed (SleepDone task future) h = refl
     followed (Fires timeout) h = refl
+    followed (Extra key) h = refl
     followed _ h = absurd (false≢true h)
 
     harder : (action : Action) → test action ≡ true → not (is_timed action) ≡ true

@@ -7,7 +7,7 @@ use Rattle.law_steps.proofs.Waiting.{task_there, wait_effect, waiting_sound}
 use Rattle.model_loop.specs.Handles.{soon, soon_all}
 use Rattle.law_timeouts.proofs.Entries.{entries-soon}
 use Rattle.model_loop.specs.Suspend.{cancel_wait, suspend, suspend_unless, wait_on}
-use Rattle.model_loop.specs.Entries.{AreTimed, ends_sleep_on, entries, handles_where, is_timed, timers_where, untimed}
+use Rattle.model_loop.specs.Entries.{AreTimed, ends_sleep_on, entries, handles_where, timers_where, untimed}
 use Rattle.model_value.specs.Value.{Exc, Outcome, Value}
 use Rattle.model_loop.specs.Deadlines.{HasTag, entries_at, fires, fires_any, fires_as, others_as}
 use Rattle.law_settling.proofs.Looks.{change_looks_same, same_callbacks}
@@ -19,7 +19,7 @@ use Rattle.law_settling.proofs.Spreading.{Spreads, asks, begins, marks, raises, 
 use Rattle.model_loop.specs.Ways.{steps}
 use Rattle.model_value.specs.Input.{Input}
 use Rattle.model_value.specs.declared.action.Action.TheVariants.{Fires, SleepDone, Step, StepInCircle, Wakeup}
-use Rattle.law_timeouts.specs.Tags.{AddsNoTimes, IsQuiet, KeepsTags}
+use Rattle.law_timeouts.specs.Tags.{AddsNoTimes, IsQuiet, KeepsTags, is_deadline}
 use Rattle.law_steps.proofs.Ending.{pending_there}
 use Rattle.std.proofs.lemmas.List.Sums.{sum_by-cons}
 use Rattle.model_loop.specs.Cancel.{cancel}
@@ -41,13 +41,13 @@ off : (b : Bool) → ◌≡◌ {A = ℕ} (cond (b && false) 1 0) 0
 off true = refl
 off false = refl
 
-pub untimed_fires : (action : Action) → is_timed action ≡ false → (id : ℕ) → fires id action ≡ false
-untimed_fires (Fires other) h id = absurd (false≢true (sym h))
-untimed_fires _ h id = refl
+other_fires : (action : Action) → is_deadline action ≡ false → (id : ℕ) → fires id action ≡ false
+other_fires (Fires other) h id = absurd (false≢true (sym h))
+other_fires _ h id = refl
 
-untimed_sleeps : (action : Action) → is_timed action ≡ false → (id tag : ℕ) → ends_sleep_on id tag action ≡ false
-untimed_sleeps (SleepDone task future) h id tag = absurd (false≢true (sym h))
-untimed_sleeps _ h id tag = refl
+other_sleeps : (action : Action) → is_deadline action ≡ false → (id tag : ℕ) → ends_sleep_on id tag action ≡ false
+other_sleeps (SleepDone task future) h id tag = absurd (false≢true (sym h))
+other_sleeps _ h id tag = refl
 
 -- ---- one after the other
 pub tags_on : (p q r : Parts) → KeepsTags q r → KeepsTags p q → KeepsTags p r
@@ -95,19 +95,19 @@ same_quiet p q pending timers next = record {
 pub refl_quiet : (p : Parts) → IsQuiet p p
 refl_quiet p = same_quiet p p refl refl refl
 
--- ---- a handle that has no time
-pub soon_quiet : (action : Action) (p : Parts) → is_timed action ≡ false → IsQuiet p (soon action p)
-soon_quiet action p untimed_ = record {
+-- ---- a handle that ends no sleep and fires no timeout
+pub soon_quiet : (action : Action) (p : Parts) → is_deadline action ≡ false → IsQuiet p (soon action p)
+soon_quiet action p other = record {
   tags = record {
     next = omega arith;
     any = λ id.
         let a = entries-soon (fires_any id) action p in
-        let z : ◌≡◌ {A = ℕ} (cond (fires id action) 1 0) 0 = ap one (untimed_fires action untimed_ id) in
+        let z : ◌≡◌ {A = ℕ} (cond (fires id action) 1 0) 0 = ap one (other_fires action other id) in
         omega (arith, a, z);
     as_tag = λ id tag.
         let a = entries-soon (fires_as id tag) action p in
         let z : ◌≡◌ {A = ℕ} (cond ((p.next_tag == tag) && fires id action) 1 0) 0 =
-        ap (λ b. one ((p.next_tag == tag) && b)) (untimed_fires action untimed_ id) ∙ off (p.next_tag == tag) in
+        ap (λ b. one ((p.next_tag == tag) && b)) (other_fires action other id) ∙ off (p.next_tag == tag) in
         omega (arith, a, z);
     others = λ id tag h.
         let a = entries-soon (others_as id tag) action p in
@@ -120,15 +120,15 @@ soon_quiet action p untimed_ = record {
     sleeps = λ id.
         let a = entries-soon (ends_sleep_on id) action p in
         let z : ◌≡◌ {A = ℕ} (cond (ends_sleep_on id p.next_tag action) 1 0) 0 =
-        ap one (untimed_sleeps action untimed_ id p.next_tag) in
+        ap one (other_sleeps action other id p.next_tag) in
         omega (arith, a, z);
   };
 }
 
-callback_untimed : (action : Action) → is_no_callback action ≡ false → is_timed action ≡ false
-callback_untimed (SleepDone task future) h = absurd (false≢true (sym h))
-callback_untimed (Fires timeout) h = absurd (false≢true (sym h))
-callback_untimed _ h = refl
+callback_other : (action : Action) → is_no_callback action ≡ false → is_deadline action ≡ false
+callback_other (SleepDone task future) h = absurd (false≢true (sym h))
+callback_other (Fires timeout) h = absurd (false≢true (sym h))
+callback_other _ h = refl
 
 pub soon_all_quiet : (actions : List Action) (p : Parts) → count_by is_no_callback actions ≡ 0 → IsQuiet p (soon_all actions p)
 soon_all_quiet [] p none = refl_quiet p
@@ -144,7 +144,7 @@ soon_all_quiet (a ∷ more) p none =
     go false e ih =
         let c : count_by is_no_callback (a ∷ more) ≡ 0 + count_by is_no_callback more =
         sum_by-cons (λ x. cond (is_no_callback x) 1 0) a more ∙ rw e refl in
-        quiet_on p (soon a p) _ (ih (omega (arith, c, none))) (soon_quiet a p (callback_untimed a e))
+        quiet_on p (soon a p) _ (ih (omega (arith, c, none))) (soon_quiet a p (callback_other a e))
 
 -- ---- futures
 pub settle_quiet : (id : ℕ) (outcome : Outcome) (p : Parts) → AreCallbacks p → IsQuiet p (settle id outcome p)
@@ -162,11 +162,11 @@ settle_quiet id outcome p are = at (slice_get p.futures id) refl
     at None e = refl_quiet p
     at (Some future) e = until future e future.outcome
 
-pub register_quiet : (id : ℕ) (action : Action) (p : Parts) → is_timed action ≡ false → IsQuiet p (register id action p)
-register_quiet id action p untimed_ = at (slice_get p.futures id)
+pub register_quiet : (id : ℕ) (action : Action) (p : Parts) → is_deadline action ≡ false → IsQuiet p (register id action p)
+register_quiet id action p other = at (slice_get p.futures id)
   where
     until : (future : Future) (o : Option Outcome) → IsQuiet p (registered_on o id future action p)
-    until future (Some done) = soon_quiet action p untimed_
+    until future (Some done) = soon_quiet action p other
     until future None = same_quiet p _ refl refl refl
 
     at : (o : Option Future) → IsQuiet p (registered o id action p)

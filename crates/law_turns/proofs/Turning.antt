@@ -26,7 +26,6 @@ use Rattle.model_wire.specs.declared.item.Item.TheVariants as item
 use Rattle.model_wire.specs.declared.item.Ready.{Ready}
 use Rattle.model_wire.specs.declared.item.Ready.TheVariants as ready
 use Rattle.model_loop.specs.Handles.{soon, soon_all}
-use Rattle.model_loop.specs.Entries.{is_timed}
 use Rattle.model_loop.specs.Totals.{pending_where}
 use Rattle.law_settling.proofs.Settling.{soon-where}
 use Rattle.model_machine.specs.State.{State, noted, start, unbooked_in}
@@ -36,6 +35,7 @@ use Rattle.law_settling.specs.Frames.{taken, is_followed, Follows}
 use Rattle.law_settling.proofs.Looks.{handles_look_same}
 use Rattle.law_told.proofs.Holding.{looks_holds}
 use Rattle.law_timeouts.proofs.Quiet.{same_quiet}
+use Rattle.law_timeouts.specs.Tags.{is_deadline}
 use Rattle.law_sound.proofs.Beginning.{first_sound}
 use Rattle.law_sound.proofs.Carrying.{looks_carries, soon_carries}
 use Rattle.law_sound.proofs.Steps.{holds_of, parts_sound, dead_sound, main_done_sound, sleep_done_sound, due_step_sound, end_of_run_sound}
@@ -105,10 +105,10 @@ at_time_sound told now l s =
     (handles_look_same l.parts (at_time now l.parts) refl refl (λ test f. refl)) (λ t m. m) (holds_of None told l s)) (λ t. refl)
 
 -- ---- what came appends handles that step no task and tell no group
-news_sound : (told : ℕ → List ℕ) (it : Action) (l : Loop) → is_followed it ≡ false → is_timed it ≡ false → IsSound None told l
+news_sound : (told : ℕ → List ℕ) (it : Action) (l : Loop) → is_followed it ≡ false → is_deadline it ≡ false → IsSound None told l
     → IsSound None told (in_parts (soon it) l)
-news_sound told it l unfollowed untimed_ s =
-    parts_sound None None told l (soon it l.parts) s (soon_carries it l.parts untimed_)
+news_sound told it l unfollowed other s =
+    parts_sound None None told l (soon it l.parts) s (soon_carries it l.parts other)
     (looks_holds None None told told (group_of l) l.parts (soon it l.parts) (handles_look_same l.parts (soon it l.parts) refl refl looks)
     (λ t m. m) (holds_of None told l s)) (λ t. refl)
   where

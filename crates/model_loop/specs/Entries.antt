@@ -1,9 +1,9 @@
--- What is scheduled: handles that aren't dead, and timers, by tag and action. Only ends of sleeps and firings of timeouts
--- have a time.
+-- What is scheduled: handles that aren't dead, and timers, by tag and action. Only ends of sleeps, firings of timeouts and
+-- handles of what is added to the loop's own requests have a time.
 use Rattle.std.specs.Prelude.{◌≡◌, ℕ, ◌+◌, ◌<◌, Bool, true, false, not, ◌&&◌, ◌==◌, List}
 use Rattle.std.specs.List.{count_by}
 use Rattle.model_value.specs.Action.{Action}
-use Rattle.model_value.specs.declared.action.Action.TheVariants.{SleepDone, Fires}
+use Rattle.model_value.specs.declared.action.Action.TheVariants.{SleepDone, Fires, Extra}
 use Rattle.model_loop.specs.Parts.{Handle, Timer, Parts}
 use Rattle.model_loop.specs.Owning.{is_plain}
 
@@ -20,6 +20,7 @@ entries test p = handles_where test p.pending + timers_where test p.timers
 abbrev pub is_timed : Action → Bool
 is_timed (SleepDone task future) = true
 is_timed (Fires timeout) = true
+is_timed (Extra key) = true
 is_timed _ = false
 
 abbrev pub untimed : ℕ → Action → Bool

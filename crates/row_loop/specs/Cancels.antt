@@ -1,7 +1,8 @@
 -- States before and after a cancel request.
-use Rattle.std.specs.Prelude.{ℕ, Bool, true, false, [], ◌∷◌}
+use Rattle.std.specs.Prelude.{ℕ, true, false, [], ◌∷◌}
 use Rattle.model_value.specs.Number.{most}
-use Rattle.model_value.specs.declared.action.Action.TheVariants.{Wakeup}
+use Rattle.model_value.specs.declared.action.Action.TheVariants.{StepInCircle, Wakeup}
+use Rattle.model_value.specs.declared.action.Circle.TheVariants.{ItsWaiter}
 use Rattle.model_loop.specs.Parts.{Plain, OfTask, Many, Parts}
 use Rattle.row_loop.specs.Made.{waiting, cancelled, resolved, waits, waits_marked, free, free_marked, handle, parts_of}
 
@@ -11,7 +12,7 @@ chain =
     parts_of
     (waiting (OfTask 0) [] ∷ waiting (OfTask 1) (Wakeup 0 ∷ []) ∷ waiting (OfTask 2) (Wakeup 1 ∷ []) ∷ waiting Plain (Wakeup 2 ∷ []) ∷ [])
     (waits 0 1 0 ∷ waits 1 2 0 ∷ waits 2 3 0 ∷ [])
-    [] 5
+    [] 3
 
 -- each counts, the future is cancelled, and its waiter is woken
 abbrev pub chain_cancelled : Parts
@@ -19,7 +20,7 @@ chain_cancelled =
     parts_of
     (waiting (OfTask 0) [] ∷ waiting (OfTask 1) (Wakeup 0 ∷ []) ∷ waiting (OfTask 2) (Wakeup 1 ∷ []) ∷ cancelled Plain ∷ [])
     (waits 0 1 1 ∷ waits 1 2 1 ∷ waits 2 3 1 ∷ [])
-    (handle 5 5 (Wakeup 2) ∷ []) 6
+    (handle 3 3 (Wakeup 2) ∷ []) 4
 
 -- The future is done and task 2 wasn't stepped yet: a second request counts again and marks task 2 alone.
 abbrev pub chain_cancelled_twice : Parts
@@ -27,7 +28,7 @@ chain_cancelled_twice =
     parts_of
     (waiting (OfTask 0) [] ∷ waiting (OfTask 1) (Wakeup 0 ∷ []) ∷ waiting (OfTask 2) (Wakeup 1 ∷ []) ∷ cancelled Plain ∷ [])
     (waits 0 1 2 ∷ waits 1 2 2 ∷ waits_marked 2 3 2 ∷ [])
-    (handle 5 5 (Wakeup 2) ∷ []) 6
+    (handle 3 3 (Wakeup 2) ∷ []) 4
 
 -- a request to the future that is waited for reaches no task
 abbrev pub chain_cut : Parts
@@ -35,7 +36,7 @@ chain_cut =
     parts_of
     (waiting (OfTask 0) [] ∷ waiting (OfTask 1) (Wakeup 0 ∷ []) ∷ waiting (OfTask 2) (Wakeup 1 ∷ []) ∷ cancelled Plain ∷ [])
     (waits 0 1 0 ∷ waits 1 2 0 ∷ waits 2 3 0 ∷ [])
-    (handle 5 5 (Wakeup 2) ∷ []) 6
+    (handle 3 3 (Wakeup 2) ∷ []) 4
 
 -- ---- future 2 stands for future 0, which is done, and future 1
 abbrev pub one_of_two : Parts
@@ -50,7 +51,7 @@ two_on_one =
     parts_of
     (waiting (OfTask 0) [] ∷ waiting (OfTask 1) [] ∷ waiting Plain (Wakeup 0 ∷ Wakeup 1 ∷ []) ∷ waiting (Many (0 ∷ 1 ∷ []) false) [] ∷ [])
     (waits 0 2 0 ∷ waits 1 2 0 ∷ [])
-    [] 4
+    [] 2
 
 -- the cancel of task 0 ends the future, so task 1 can only be marked
 abbrev pub two_on_one_cancelled : Parts
@@ -58,7 +59,7 @@ two_on_one_cancelled =
     parts_of
     (waiting (OfTask 0) [] ∷ waiting (OfTask 1) [] ∷ cancelled Plain ∷ waiting (Many (0 ∷ 1 ∷ []) true) [] ∷ [])
     (waits 0 2 1 ∷ waits_marked 1 2 1 ∷ [])
-    (handle 4 4 (Wakeup 0) ∷ handle 5 5 (Wakeup 1) ∷ []) 6
+    (handle 2 2 (Wakeup 0) ∷ handle 3 3 (Wakeup 1) ∷ []) 4
 
 -- ---- future 3 stands twice for task 0, directly and through future 2
 abbrev pub twice_to_one : Parts
@@ -66,7 +67,7 @@ twice_to_one =
     parts_of
     (waiting (OfTask 0) [] ∷ waiting Plain (Wakeup 0 ∷ []) ∷ waiting (Many (0 ∷ []) false) [] ∷ waiting (Many (2 ∷ 0 ∷ []) false) [] ∷ [])
     (waits 0 1 0 ∷ [])
-    [] 2
+    [] 1
 
 -- task 0 counts one request once
 abbrev pub twice_to_one_cancelled : Parts
@@ -74,22 +75,66 @@ twice_to_one_cancelled =
     parts_of
     (waiting (OfTask 0) [] ∷ cancelled Plain ∷ waiting (Many (0 ∷ []) true) [] ∷ waiting (Many (2 ∷ 0 ∷ []) true) [] ∷ [])
     (waits 0 1 1 ∷ [])
-    (handle 2 2 (Wakeup 0) ∷ []) 3
+    (handle 1 1 (Wakeup 0) ∷ []) 2
 
--- ---- the tasks 0 and 1 await each other, which no run comes to
-abbrev pub circle_of_two : ℕ → Parts
-circle_of_two count =
-    parts_of (waiting (OfTask 0) (Wakeup 1 ∷ []) ∷ waiting (OfTask 1) (Wakeup 0 ∷ []) ∷ []) (waits 0 1 count ∷ waits 1 0 count ∷ []) [] 2
-
--- ---- task 0 waits for future 2, which stands for task 1, which waits for future 2 too
-abbrev pub circle_through_many : Bool → ℕ → Parts
-circle_through_many asked count =
+-- ---- Task 0 waits for the tasks 1 and 2 through future 5, and both await task 3, which waits for future 4.
+abbrev pub two_ways : Parts
+two_ways =
     parts_of
-    (waiting (OfTask 0) [] ∷ waiting (OfTask 1) [] ∷ waiting (Many (1 ∷ []) asked) (Wakeup 0 ∷ Wakeup 1 ∷ []) ∷ [])
-    (waits 0 2 count ∷ waits 1 2 count ∷ [])
-    [] 3
+    (waiting (OfTask 0) [] ∷ waiting (OfTask 1) [] ∷ waiting (OfTask 2) [] ∷ waiting (OfTask 3) (Wakeup 1 ∷ Wakeup 2 ∷ [])
+    ∷ waiting Plain (Wakeup 3 ∷ []) ∷ waiting (Many (1 ∷ 2 ∷ []) false) (Wakeup 0 ∷ []) ∷ [])
+    (waits 0 5 0 ∷ waits 1 3 0 ∷ waits 2 3 0 ∷ waits 3 4 0 ∷ [])
+    [] 4
 
--- ---- task 0 waits for nothing: it is running, or its step is pending
+-- Task 1 came to task 3 first. Task 2 is told to go on, so it isn't marked.
+abbrev pub two_ways_cancelled : Parts
+two_ways_cancelled =
+    parts_of
+    (waiting (OfTask 0) [] ∷ waiting (OfTask 1) [] ∷ waiting (OfTask 2) [] ∷ waiting (OfTask 3) (Wakeup 1 ∷ Wakeup 2 ∷ [])
+    ∷ cancelled Plain ∷ waiting (Many (1 ∷ 2 ∷ []) true) (Wakeup 0 ∷ []) ∷ [])
+    (waits 0 5 1 ∷ waits 1 3 1 ∷ waits 2 3 1 ∷ waits 3 4 1 ∷ [])
+    (handle 4 4 (Wakeup 3) ∷ []) 5
+
+-- ---- task 0 awaits task 1, which runs
+abbrev pub awaited_runs : Parts
+awaited_runs =
+    parts_of (waiting (OfTask 0) [] ∷ waiting (OfTask 1) (Wakeup 0 ∷ []) ∷ []) (waits 0 1 0 ∷ free 1 0 ∷ []) [] 2
+
+-- Its await of task 0 was refused, and its next step throws. They count so many cancels.
+abbrev pub refused : (first second : ℕ) → Parts
+refused first second =
+    parts_of (waiting (OfTask 0) [] ∷ waiting (OfTask 1) (Wakeup 0 ∷ []) ∷ []) (waits 0 1 first ∷ free 1 second ∷ [])
+    (handle 2 2 (StepInCircle 1 ItsWaiter) ∷ []) 3
+
+abbrev pub refused_marked : (first second : ℕ) → Parts
+refused_marked first second =
+    parts_of (waiting (OfTask 0) [] ∷ waiting (OfTask 1) (Wakeup 0 ∷ []) ∷ []) (waits 0 1 first ∷ free_marked 1 second ∷ [])
+    (handle 2 2 (StepInCircle 1 ItsWaiter) ∷ []) 3
+
+-- ---- task 0 waits for future 2, which stands for task 1, which runs
+abbrev pub member_runs : Parts
+member_runs =
+    parts_of
+    (waiting (OfTask 0) [] ∷ waiting (OfTask 1) [] ∷ waiting (Many (1 ∷ []) false) (Wakeup 0 ∷ []) ∷ [])
+    (waits 0 2 0 ∷ free 1 0 ∷ [])
+    [] 2
+
+-- its wait for future 2 was refused
+abbrev pub member_refused : Parts
+member_refused =
+    parts_of
+    (waiting (OfTask 0) [] ∷ waiting (OfTask 1) [] ∷ waiting (Many (1 ∷ []) false) (Wakeup 0 ∷ []) ∷ [])
+    (waits 0 2 0 ∷ free 1 0 ∷ [])
+    (handle 2 2 (StepInCircle 1 ItsWaiter) ∷ []) 3
+
+abbrev pub member_refused_marked : Parts
+member_refused_marked =
+    parts_of
+    (waiting (OfTask 0) [] ∷ waiting (OfTask 1) [] ∷ waiting (Many (1 ∷ []) true) (Wakeup 0 ∷ []) ∷ [])
+    (waits 0 2 1 ∷ free_marked 1 1 ∷ [])
+    (handle 2 2 (StepInCircle 1 ItsWaiter) ∷ []) 3
+
+-- ---- task 0 runs, so it waits for nothing
 abbrev pub free_task : Parts
 free_task = parts_of (waiting (OfTask 0) [] ∷ []) (free 0 0 ∷ []) [] 1
 

@@ -5,7 +5,7 @@ use Rattle.model_value.specs.declared.outcome.Outcome.TheVariants.{Failed, Cance
 use Rattle.model_value.specs.declared.action.Action.TheVariants.{Step, Wakeup, GroupDone}
 use Rattle.model_value.specs.Value.{Exc, exc, excs, exc_then, no_excs}
 use Rattle.model_loop.specs.Parts.{Plain, OfTask, Future, Task, Handle, Parts}
-use Rattle.model_loop.specs.Ledger.{LedgerEntry, Asked, Raised, Took, Began, ByGroup, ByAbort}
+use Rattle.model_loop.specs.Ledger.{LedgerEntry, Asked, Raised, Took, Began, ByScript, ByGroup, ByAbort}
 use Rattle.model_loop.specs.Loop.{Group, Loop}
 use Rattle.model_loop.specs.Tasks.{cancelled_error}
 use Rattle.row_loop.specs.Made.{waiting, ended, cancelled, resolved, waits, waits_marked, free, free_marked, handle, parts_of, value_error, type_error}
@@ -61,11 +61,12 @@ waiting_for_child =
     (handle 1 1 (Step 1) ∷ []) 2)
     (record (in_block (1 ∷ [])) { exiting = true; exit_future = Some 2 }) (Began 0 ∷ [])
 
--- The task failed, and GroupDone was taken out to run. The parent waits for future 2.
+-- The task failed, and the group will be told. The parent waits for future 2.
 abbrev pub child_failed : Loop
 child_failed =
     loop_of
-    (parts_of (waiting (OfTask 0) [] ∷ ended (OfTask 1) (Failed a) ∷ waiting Plain (Wakeup 0 ∷ []) ∷ []) (waits 0 2 0 ∷ free 1 0 ∷ []) [] 3)
+    (parts_of (waiting (OfTask 0) [] ∷ ended (OfTask 1) (Failed a) ∷ waiting Plain (Wakeup 0 ∷ []) ∷ []) (waits 0 2 0 ∷ free 1 0 ∷ [])
+    (handle 2 2 (GroupDone 0 1) ∷ []) 3)
     (record (in_block (1 ∷ [])) { exiting = true; exit_future = Some 2 }) (Began 0 ∷ [])
 
 abbrev pub parent_asked : List LedgerEntry
@@ -125,15 +126,17 @@ two_failed = waiting (OfTask 0) [] ∷ ended (OfTask 1) (Failed a) ∷ ended (Of
 abbrev pub three_free : List Task
 three_free = free 0 0 ∷ free 1 0 ∷ free 2 0 ∷ []
 
+abbrev pub tells_both : List Handle
+tells_both = handle 4 4 (GroupDone 0 1) ∷ handle 5 5 (GroupDone 0 2) ∷ []
+
 abbrev pub both_failed : Loop
-both_failed =
-    loop_of (parts_of two_failed three_free (handle 5 5 (GroupDone 0 1) ∷ handle 6 6 (GroupDone 0 2) ∷ []) 7) (in_block (1 ∷ 2 ∷ [])) []
+both_failed = loop_of (parts_of two_failed three_free tells_both 6) (in_block (1 ∷ 2 ∷ [])) []
 
 -- The body's failure aborts the group: no task lives, so nobody's cancel is asked for. The exit waits for future 3.
 abbrev pub body_failed : Loop
 body_failed =
     loop_of
-    (parts_of (two_failed ++ waiting Plain [] ∷ []) three_free (handle 5 5 (GroupDone 0 1) ∷ handle 6 6 (GroupDone 0 2) ∷ []) 7)
+    (parts_of (two_failed ++ waiting Plain [] ∷ []) three_free tells_both 6)
     (record (in_block (1 ∷ 2 ∷ [])) { exiting = true; aborting = true; body = Some c; exit_future = Some 3 }) (Began 0 ∷ [])
 
 -- the parent waits, and the group is told of the one failure and of the other
@@ -151,18 +154,21 @@ told children errors pending next exit =
     (Began 0 ∷ [])
 
 abbrev pub told_nothing : Loop
-told_nothing = told (1 ∷ 2 ∷ []) [] [] 7 (waiting Plain (Wakeup 0 ∷ []))
+told_nothing = told (1 ∷ 2 ∷ []) [] tells_both 6 (waiting Plain (Wakeup 0 ∷ []))
+
+abbrev pub tells_second : List Handle
+tells_second = handle 5 5 (GroupDone 0 2) ∷ []
 
 abbrev pub told_one : Loop
-told_one = told (2 ∷ []) (a ∷ []) [] 7 (waiting Plain (Wakeup 0 ∷ []))
+told_one = told (2 ∷ []) (a ∷ []) tells_second 6 (waiting Plain (Wakeup 0 ∷ []))
 
 abbrev pub told_both : Loop
-told_both = told [] (a ∷ b ∷ []) (handle 7 7 (Wakeup 0) ∷ []) 8 (resolved Plain)
+told_both = told [] (a ∷ b ∷ []) (handle 6 6 (Wakeup 0) ∷ []) 7 (resolved Plain)
 
 -- the exit ends, the parent's step having begun
 abbrev pub all_woken : Loop
 all_woken =
-    loop_of (parts_of (two_failed ++ resolved Plain ∷ []) three_free [] 8)
+    loop_of (parts_of (two_failed ++ resolved Plain ∷ []) three_free [] 7)
     (record (in_block (1 ∷ 2 ∷ [])) {
       exiting = true;
       aborting = true;
@@ -175,7 +181,7 @@ all_woken =
 
 abbrev pub all_left : Loop
 all_left =
-    loop_of (parts_of (two_failed ++ resolved Plain ∷ []) three_free [] 8)
+    loop_of (parts_of (two_failed ++ resolved Plain ∷ []) three_free [] 7)
     (record (in_block (1 ∷ 2 ∷ [])) {
       exiting = true;
       ended = true;
@@ -187,18 +193,23 @@ all_left =
     })
     (Began 0 ∷ [])
 
--- ---- The one task failed while the body was waiting for future 2, and the group asked for the parent's cancel. Others
--- asked for it so many times.
-abbrev pub cancelled_body : (count : ℕ) → Loop
-cancelled_body count =
+-- ---- The one task failed while the body was waiting for future 2, and the group asked for the parent's cancel. The parent
+-- counts that and what was booked before.
+abbrev pub cancelled_body : (count : ℕ) → List LedgerEntry → Loop
+cancelled_body count before =
     loop_of
-    (parts_of (waiting (OfTask 0) [] ∷ ended (OfTask 1) (Failed a) ∷ cancelled Plain ∷ []) (free 0 count ∷ free 1 0 ∷ []) [] 4)
-    (record (in_block (1 ∷ [])) { aborting = true; requested = true; children = []; errors = a ∷ [] }) []
+    (parts_of (waiting (OfTask 0) [] ∷ ended (OfTask 1) (Failed a) ∷ cancelled Plain ∷ []) (free 0 count ∷ free 1 0 ∷ []) [] 6)
+    (record (in_block (1 ∷ [])) { aborting = true; requested = true; children = []; errors = a ∷ [] })
+    (before ++ Asked (ByGroup 0) ∷ Raised 0 (ByGroup 0) ∷ [])
 
-abbrev pub cancelled_left : (count : ℕ) → Option Exc → Loop
-cancelled_left count kept =
+-- the task had asked for the parent's cancel before, and the body caught that
+abbrev pub asked_before : List LedgerEntry
+asked_before = Asked (ByScript 1) ∷ Raised 0 (ByScript 1) ∷ []
+
+abbrev pub cancelled_left : (count : ℕ) → List LedgerEntry → Option Exc → Loop
+cancelled_left count before kept =
     loop_of
-    (parts_of (waiting (OfTask 0) [] ∷ ended (OfTask 1) (Failed a) ∷ cancelled Plain ∷ []) (free 0 count ∷ free 1 0 ∷ []) [] 4)
+    (parts_of (waiting (OfTask 0) [] ∷ ended (OfTask 1) (Failed a) ∷ cancelled Plain ∷ []) (free 0 count ∷ free 1 0 ∷ []) [] 6)
     (record (in_block (1 ∷ [])) {
       exiting = true;
       ended = true;
@@ -209,35 +220,50 @@ cancelled_left count kept =
       body = Some cancelled_error;
       kept = kept;
     })
-    (Began 0 ∷ Took 0 (ByGroup 0) true ∷ [])
+    (before ++ Asked (ByGroup 0) ∷ Raised 0 (ByGroup 0) ∷ Began 0 ∷ Took 0 (ByGroup 0) true ∷ [])
 
--- ---- The exit waits for three tasks, of which task 2 is done already and was not told of, when the parent's cancel is
--- thrown into it.
+-- ---- The exit waits for three tasks, of which task 2 is done already and was not told of, when the parent's cancel, for
+-- which task 1 asked, is thrown into it.
+abbrev pub parent_cancelled : List LedgerEntry
+parent_cancelled = Began 0 ∷ Asked (ByScript 1) ∷ Raised 0 (ByScript 1) ∷ []
+
 abbrev pub three_children : Loop
 three_children =
     loop_of
     (parts_of
-    (waiting (OfTask 0) [] ∷ waiting (OfTask 1) (GroupDone 0 1 ∷ []) ∷ ended (OfTask 2) Cancelled ∷ waiting (OfTask 3) (GroupDone 0 3 ∷ []) ∷ waiting Plain (Wakeup 3 ∷ []) ∷ cancelled Plain ∷ [])
-    (free 0 1 ∷ free 1 0 ∷ free 2 0 ∷ waits 3 4 0 ∷ []) (handle 8 8 (Step 1) ∷ handle 9 9 (GroupDone 0 2) ∷ []) 10)
-    (record (in_block (1 ∷ 2 ∷ 3 ∷ [])) { exiting = true; exit_future = Some 5 }) (Began 0 ∷ [])
+    (waiting (OfTask 0) [] ∷ waiting (OfTask 1) (GroupDone 0 1 ∷ []) ∷ ended (OfTask 2) Cancelled ∷ waiting (OfTask 3) (GroupDone 0 3 ∷ [])
+    ∷ waiting Plain (Wakeup 3 ∷ []) ∷ cancelled Plain ∷ [])
+    (free 0 1 ∷ free 1 0 ∷ free 2 0 ∷ waits 3 4 0 ∷ []) (handle 5 5 (Step 1) ∷ handle 6 6 (GroupDone 0 2) ∷ []) 7)
+    (record (in_block (1 ∷ 2 ∷ 3 ∷ [])) { exiting = true; exit_future = Some 5 }) parent_cancelled
 
 -- It is kept, tasks 1 and 3 are cancelled, and the exit waits for future 6.
 abbrev pub three_aborted : Loop
 three_aborted =
     loop_of
     (parts_of
-    (waiting (OfTask 0) [] ∷ waiting (OfTask 1) (GroupDone 0 1 ∷ []) ∷ ended (OfTask 2) Cancelled ∷ waiting (OfTask 3) (GroupDone 0 3 ∷ []) ∷ cancelled Plain ∷ cancelled Plain ∷ waiting Plain [] ∷ [])
+    (waiting (OfTask 0) [] ∷ waiting (OfTask 1) (GroupDone 0 1 ∷ []) ∷ ended (OfTask 2) Cancelled ∷ waiting (OfTask 3) (GroupDone 0 3 ∷ [])
+    ∷ cancelled Plain ∷ cancelled Plain ∷ waiting Plain [] ∷ [])
     (free 0 1 ∷ free_marked 1 1 ∷ free 2 0 ∷ waits 3 4 1 ∷ [])
-    (handle 8 8 (Step 1) ∷ handle 9 9 (GroupDone 0 2) ∷ handle 10 10 (Wakeup 3) ∷ []) 11)
+    (handle 5 5 (Step 1) ∷ handle 6 6 (GroupDone 0 2) ∷ handle 7 7 (Wakeup 3) ∷ []) 8)
     (record (in_block (1 ∷ 2 ∷ 3 ∷ [])) { exiting = true; aborting = true; kept = Some cancelled_error; exit_future = Some 6 })
-    (Began 0 ∷ Asked (ByAbort 0) ∷ Raised 1 (ByAbort 0) ∷ Asked (ByAbort 0) ∷ Raised 3 (ByAbort 0) ∷ [])
+    (parent_cancelled ++ Asked (ByAbort 0) ∷ Raised 1 (ByAbort 0) ∷ Asked (ByAbort 0) ∷ Raised 3 (ByAbort 0) ∷ [])
 
--- ---- a group whose children are all done, at the end of its exit
-abbrev pub ending : (kept : Option Exc) → Loop
-ending kept = loop_of parent_alone (record (in_block []) { exiting = true; kept = kept; body = kept }) []
+-- ---- The exit waited for one task, which returned, and the group was told; the parent's step has begun.
+abbrev pub last_was_told : Loop
+last_was_told =
+    loop_of
+    (parts_of (waiting (OfTask 0) [] ∷ resolved (OfTask 1) ∷ resolved Plain ∷ []) (free 0 0 ∷ free 1 0 ∷ []) [] 4)
+    (record (in_block (1 ∷ [])) { exiting = true; children = []; exit_future = Some 2 }) (Began 0 ∷ [])
 
-abbrev pub ended_so : (kept : Option Exc) → Loop
-ended_so kept = loop_of parent_alone (record (in_block []) { exiting = true; ended = true; kept = kept; body = kept }) []
+-- ---- a group without tasks, after its exit, and after one by a CancelledError
+abbrev pub passed : Loop
+passed = loop_of parent_alone (record (in_block []) { exiting = true; ended = true }) (Began 0 ∷ [])
+
+abbrev pub passed_on : Loop
+passed_on =
+    loop_of parent_alone
+    (record (in_block []) { exiting = true; ended = true; aborting = true; body = Some cancelled_error; kept = Some cancelled_error })
+    (Began 0 ∷ [])
 
 -- ---- exceptions that nest so deep
 abbrev pub nested : ℕ → Exc

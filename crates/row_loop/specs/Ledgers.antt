@@ -17,7 +17,7 @@ main_done =
       parts = parts_of
           (resolved (OfTask 0) ∷ waiting (OfTask 1) (Wakeup 2 ∷ []) ∷ waiting (OfTask 2) [] ∷ waiting Plain (Wakeup 1 ∷ []) ∷ [])
           (free 0 0 ∷ waits 1 3 0 ∷ waits 2 1 0 ∷ [])
-          [] 5;
+          [] 3;
       timeouts = [];
       groups = [];
       ledger = [];
@@ -31,7 +31,7 @@ all_cancelled =
       parts = parts_of
           (resolved (OfTask 0) ∷ waiting (OfTask 1) (Wakeup 2 ∷ []) ∷ waiting (OfTask 2) [] ∷ cancelled Plain ∷ [])
           (free 0 0 ∷ waits_marked 1 3 2 ∷ waits 2 1 1 ∷ [])
-          (handle 5 5 (Wakeup 1) ∷ []) 6;
+          (handle 3 3 (Wakeup 1) ∷ []) 4;
       timeouts = [];
       groups = [];
       ledger = Asked ByEnd ∷ Raised 1 ByEnd ∷ Asked ByEnd ∷ Raised 2 ByEnd ∷ Raised 1 ByEnd ∷ [];

@@ -4,3 +4,4 @@ pub mod Ledgers
 pub mod Made
 pub mod Nested
 pub mod Steps
+pub mod Standing

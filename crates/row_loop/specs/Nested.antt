@@ -1,8 +1,8 @@
 -- Two timeouts of task 0, one in the other, with the same deadline. Times are in milliseconds.
 use Rattle.std.specs.Prelude.{ℕ, Bool, true, List, [], ◌∷◌, Option, Some, None}
 use Rattle.model_value.specs.declared.action.Action.TheVariants.{Wakeup, Fires}
-use Rattle.model_loop.specs.Parts.{Plain, OfTask, Future, Handle, Timer, Parts}
-use Rattle.model_loop.specs.Ledger.{LedgerEntry, Asked, Raised, Took, ByTimeout}
+use Rattle.model_loop.specs.Parts.{Plain, OfTask, Handle, Timer, Parts}
+use Rattle.model_loop.specs.Ledger.{LedgerEntry, Asked, Raised, Took, ByScript, ByTimeout}
 use Rattle.model_loop.specs.Loop.{TimeoutState, Active, Expiring, Finished, Timeout, Loop}
 use Rattle.model_loop.specs.Timeouts.{Left}
 use Rattle.row_loop.specs.Made.{waiting, cancelled, waits, waits_marked, free, handle, dead, timer, parts_of}
@@ -27,20 +27,23 @@ entered =
     })
     (timed Active (Some 1) ∷ timed Active (Some 2) ∷ []) []
 
-abbrev pub two_futures : List Future
-two_futures = waiting (OfTask 0) [] ∷ waiting Plain (Wakeup 0 ∷ []) ∷ []
+abbrev pub fires_inner : Handle
+fires_inner = handle 2 2 (Fires 1)
 
--- It is time 10: the task waits for future 1, and both handles fell due and were taken out to run.
+-- It is time 10: the task waits for future 1, and both handles fell due.
 abbrev pub both_due : Loop
 both_due =
-    loop_of (record (parts_of two_futures (waits 0 1 0 ∷ []) [] 3) { time = 10 })
+    loop_of
+    (record (parts_of (waiting (OfTask 0) [] ∷ waiting Plain (Wakeup 0 ∷ []) ∷ []) (waits 0 1 0 ∷ []) (handle 1 1 (Fires 0) ∷ fires_inner ∷ []) 3) {
+      time = 10;
+    })
     (timed Active (Some 1) ∷ timed Active (Some 2) ∷ []) []
 
 -- the outer one fired: the future is cancelled
 abbrev pub outer_fired : Loop
 outer_fired =
     loop_of
-    (record (parts_of (waiting (OfTask 0) [] ∷ cancelled Plain ∷ []) (waits 0 1 1 ∷ []) (handle 3 3 (Wakeup 0) ∷ []) 4) { time = 10 })
+    (record (parts_of (waiting (OfTask 0) [] ∷ cancelled Plain ∷ []) (waits 0 1 1 ∷ []) (fires_inner ∷ handle 3 3 (Wakeup 0) ∷ []) 4) { time = 10 })
     (timed Expiring None ∷ timed Active (Some 2) ∷ []) (Asked (ByTimeout 0) ∷ Raised 0 (ByTimeout 0) ∷ [])
 
 abbrev pub both_asked : List LedgerEntry
@@ -83,42 +86,53 @@ alone state tag pending timers next_stamp next_tag =
 
 -- its deadline came, and its handle is pending
 abbrev pub alone_due : Loop
-alone_due = alone Active (Some 1) (handle 5 1 (Fires 0) ∷ []) [] 6 2
+alone_due = alone Active (Some 1) (handle 2 1 (Fires 0) ∷ []) [] 3 3
 
 -- a later deadline, one that is over, or none; the old handle is dead
 abbrev pub alone_later : Loop
-alone_later = alone Active (Some 2) (dead 5 1 (Fires 0) ∷ []) (timer 11 2 (Fires 0) ∷ []) 6 3
+alone_later = alone Active (Some 3) (dead 2 1 (Fires 0) ∷ []) (timer 11 3 (Fires 0) ∷ []) 3 4
 
 abbrev pub alone_soon : Loop
-alone_soon = alone Active (Some 2) (dead 5 1 (Fires 0) ∷ handle 6 2 (Fires 0) ∷ []) [] 7 3
+alone_soon = alone Active (Some 3) (dead 2 1 (Fires 0) ∷ handle 3 3 (Fires 0) ∷ []) [] 4 4
 
 abbrev pub alone_never : Loop
-alone_never = alone Active None (dead 5 1 (Fires 0) ∷ []) [] 6 2
+alone_never = alone Active None (dead 2 1 (Fires 0) ∷ []) [] 3 3
 
 abbrev pub alone_left : Loop
-alone_left = alone Finished None (dead 5 1 (Fires 0) ∷ []) [] 6 2
+alone_left = alone Finished None (dead 2 1 (Fires 0) ∷ []) [] 3 3
 
 -- a timer that is given up is gone
 abbrev pub alone_waiting : Loop
-alone_waiting = alone Active (Some 1) [] (timer 30 1 (Fires 0) ∷ []) 5 2
+alone_waiting = alone Active (Some 1) [] (timer 30 1 (Fires 0) ∷ []) 2 3
 
 abbrev pub alone_waited : Loop
-alone_waited = alone Finished None [] [] 5 2
+alone_waited = alone Finished None [] [] 2 3
 
--- its time was over while the task ran on
-abbrev pub alone_expiring : ℕ → Loop
-alone_expiring count =
+-- ---- It fired while the task's step was pending, which has begun since. The task counts so many cancels.
+abbrev pub alone_expiring : (count : ℕ) → List LedgerEntry → Loop
+alone_expiring count ledger =
     loop_of
     (record {
       time = 10;
-      next_stamp = 5;
-      next_tag = 2;
+      next_stamp = 4;
+      next_tag = 4;
       pending = [];
       timers = [];
       futures = waiting (OfTask 0) [] ∷ [];
       tasks = free 0 count ∷ [];
     })
-    (timed Expiring None ∷ []) []
+    (timed Expiring None ∷ []) ledger
+
+-- that of the timeout alone; one before for which the task itself had asked; and none, where the script took that back
+abbrev pub expiring_alone : Loop
+expiring_alone = alone_expiring 1 (Asked (ByTimeout 0) ∷ Raised 0 (ByTimeout 0) ∷ [])
+
+abbrev pub expiring_and_asked : Loop
+expiring_and_asked =
+    alone_expiring 2 (Asked (ByScript 0) ∷ Raised 0 (ByScript 0) ∷ Asked (ByTimeout 0) ∷ Raised 0 (ByTimeout 0) ∷ [])
+
+abbrev pub expiring_and_lowered : Loop
+expiring_and_lowered = alone_expiring 0 (Asked (ByTimeout 0) ∷ Raised 0 (ByTimeout 0) ∷ Took 0 (ByScript 0) true ∷ [])
 
 -- a block that was left
 abbrev pub left : Bool → Loop → Left

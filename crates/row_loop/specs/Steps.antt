@@ -1,10 +1,10 @@
 -- States before and after parts of a step.
 use Rattle.std.specs.Prelude.{ℕ, false, List, [], ◌∷◌}
 use Rattle.model_value.specs.Action.{Action}
-use Rattle.model_value.specs.declared.action.Action.TheVariants.{Step, Wakeup, MainDone}
+use Rattle.model_value.specs.declared.action.Action.TheVariants.{Step, Wakeup, MainDone, SleepDone}
 use Rattle.model_value.specs.Value.{Outcome}
-use Rattle.model_loop.specs.Parts.{Plain, OfTask, Many, Handle, Parts}
-use Rattle.row_loop.specs.Made.{waiting, ended, cancelled, waits, waits_marked, free, free_marked, handle, dead, timer, parts_of}
+use Rattle.model_loop.specs.Parts.{Plain, OfTask, Many, Future, Handle, Parts}
+use Rattle.row_loop.specs.Made.{waiting, ended, cancelled, resolved, waits, waits_marked, free, free_marked, handle, dead, timer, parts_of}
 
 -- ---- nothing was made yet; then a task, and then a second one
 abbrev pub nothing_made : Parts
@@ -41,9 +41,9 @@ running_over_none = parts_of (waiting (OfTask 0) [] ∷ waiting (Many [] false) 
 abbrev pub waits_for_none : Parts
 waits_for_none = parts_of (waiting (OfTask 0) [] ∷ waiting (Many [] false) (Wakeup 0 ∷ []) ∷ []) (waits_marked 0 1 1 ∷ []) [] 1
 
--- its step begins: it waits no more, and isn't marked
+-- its step began by the handle that was taken out: it waits no more, and isn't marked
 abbrev pub begun : ℕ → Parts
-begun count = parts_of (waiting (OfTask 0) (MainDone ∷ []) ∷ cancelled Plain ∷ []) (free 0 count ∷ []) (handle 1 1 (Wakeup 0) ∷ []) 2
+begun count = parts_of (waiting (OfTask 0) (MainDone ∷ []) ∷ cancelled Plain ∷ []) (free 0 count ∷ []) [] 2
 
 abbrev pub woken_and_marked : ℕ → Parts
 woken_and_marked count =
@@ -74,28 +74,32 @@ awaited pending next =
     (waiting (OfTask 0) (Wakeup 1 ∷ []) ∷ waiting (OfTask 1) [] ∷ waiting Plain [] ∷ waiting (Many (2 ∷ 1 ∷ []) false) [] ∷ [])
     (free 0 0 ∷ waits 1 0 0 ∷ []) pending next
 
--- ---- handles and timers
+-- ---- Handles and timers. Main is done, and three ends of sleeps wait for their times.
+abbrev pub sleepers : List Future
+sleepers = resolved (OfTask 0) ∷ waiting Plain [] ∷ waiting Plain [] ∷ waiting Plain [] ∷ []
+
 abbrev pub three_timers : Parts
 three_timers =
-    record (parts_of [] [] (handle 0 0 MainDone ∷ []) 4) {
+    record (parts_of sleepers (free 0 0 ∷ []) (handle 1 4 MainDone ∷ []) 5) {
       time = 20;
-      timers = timer 20 1 (Step 1) ∷ timer 30 2 (Step 2) ∷ timer 10 3 (Step 3) ∷ [];
+      next_stamp = 2;
+      timers = timer 20 1 (SleepDone 0 1) ∷ timer 30 2 (SleepDone 0 2) ∷ timer 10 3 (SleepDone 0 3) ∷ [];
     }
 
 -- the two whose time has come, by deadline, each under its own tag
 abbrev pub two_due : Parts
 two_due =
-    record (parts_of [] [] (handle 0 0 MainDone ∷ handle 4 3 (Step 3) ∷ handle 5 1 (Step 1) ∷ []) 6) {
+    record (parts_of sleepers (free 0 0 ∷ []) (handle 1 4 MainDone ∷ handle 2 3 (SleepDone 0 3) ∷ handle 3 1 (SleepDone 0 1) ∷ []) 5) {
       time = 20;
-      next_tag = 4;
-      timers = timer 30 2 (Step 2) ∷ [];
+      next_stamp = 4;
+      timers = timer 30 2 (SleepDone 0 2) ∷ [];
     }
 
 -- one revoked while it is a timer, one while its handle is pending
 abbrev pub two_revoked : Parts
 two_revoked =
-    record (parts_of [] [] (handle 0 0 MainDone ∷ handle 4 3 (Step 3) ∷ dead 5 1 (Step 1) ∷ []) 6) {
+    record (parts_of sleepers (free 0 0 ∷ []) (handle 1 4 MainDone ∷ handle 2 3 (SleepDone 0 3) ∷ dead 3 1 (SleepDone 0 1) ∷ []) 5) {
       time = 20;
-      next_tag = 4;
+      next_stamp = 4;
       timers = [];
     }

@@ -5,8 +5,11 @@ ghost use Rattle.model_loop.specs.Cancel.{cancel, cancel_with, answers};
 ghost use Rattle.model_loop.specs.Tasks.{begin_step, cancelled_error};
 ghost use Rattle.model_loop.specs.Spent.{is_spent};
 ghost use Rattle.model_loop.specs.Circles.{leads};
+ghost use Rattle.model_loop.specs.Ledger.{unbooked};
+ghost use Rattle.model_loop.specs.Suspend.{suspend};
+ghost use Rattle.law_settling.specs.Frames.{taken};
 ghost use Rattle.row_loop.specs.Steps.{sleeping, woken_at_once, woken_and_marked, begun};
-ghost use Rattle.row_loop.specs.Cancels.{chain, chain_cancelled, chain_cancelled_twice, chain_cut, one_of_two, one_of_two_cancelled, two_on_one, two_on_one_cancelled, twice_to_one, twice_to_one_cancelled, circle_of_two, circle_through_many, free_task, free_task_cancelled, full_count, full_count_cancelled, all_done};
+ghost use Rattle.row_loop.specs.Cancels.{chain, chain_cancelled, chain_cancelled_twice, chain_cut, one_of_two, one_of_two_cancelled, two_on_one, two_on_one_cancelled, twice_to_one, twice_to_one_cancelled, two_ways, two_ways_cancelled, awaited_runs, refused, refused_marked, member_runs, member_refused, member_refused_marked, free_task, free_task_cancelled, full_count, full_count_cancelled, all_done};
 
 /// A request goes down a chain of three tasks, each of which counts it.
 pub fn down_a_chain()
@@ -40,7 +43,8 @@ pub fn no_member_left()
 pub fn two_before_one_step()
     ensures first { cancel 0 sleeping ≡ answers true (0 ∷ []) (woken_at_once 1) }
     ensures second { cancel 0 (woken_at_once 1) ≡ answers true (0 ∷ []) (woken_and_marked 2) }
-    ensures step { begin_step 0 (Throw cancelled_error) (woken_and_marked 2) ≡ record { parts = begun 2; input = Throw cancelled_error } }
+    ensures step { begin_step 0 (Throw cancelled_error) (taken [] (woken_and_marked 2))
+        ≡ record { parts = begun 2; input = Throw cancelled_error } }
 {}
 
 /// Two members wait for one future: the second finds it done, and is marked.
@@ -53,15 +57,26 @@ pub fn a_task_reached_twice()
     ensures { cancel 3 twice_to_one ≡ answers true (0 ∷ []) twice_to_one_cancelled }
 {}
 
-/// A request goes round a circle once and answers true; nobody is marked, since each was told to go on.
-pub fn round_a_circle()
-    ensures of_two { cancel 0 (circle_of_two 0) ≡ answers true (0 ∷ 1 ∷ []) (circle_of_two 1) }
-    ensures from_the_other_side { cancel 1 (circle_of_two 4) ≡ answers true (1 ∷ 0 ∷ []) (circle_of_two 5) }
-    ensures through_many { cancel 0 (circle_through_many false 0) ≡ answers true (0 ∷ 1 ∷ []) (circle_through_many true 1) }
-    ensures already_seen { cancel_with 0 (0 ∷ []) (circle_of_two 0) ≡ answers true (0 ∷ []) (circle_of_two 0) }
-    ensures leads_back { leads (circle_of_two 0) 0 0 ≡ true }
-    ensures leads_round { leads (circle_through_many false 0) 2 2 ≡ true }
-    ensures not_back { leads (circle_through_many false 0) 2 0 ≡ false }
+/// A request that comes to a task by two ways goes on from it once: the second way is told that it can be cancelled, so nobody
+/// on it is marked.
+pub fn by_two_ways()
+    ensures request { cancel 0 two_ways ≡ answers true (0 ∷ 1 ∷ 3 ∷ 2 ∷ []) two_ways_cancelled }
+    ensures already_seen { cancel_with 0 (0 ∷ []) two_ways ≡ answers true (0 ∷ []) two_ways }
+    ensures leads { leads two_ways 0 4 ≡ true }
+    ensures not_back { leads two_ways 4 0 ≡ false }
+    ensures not_round { leads two_ways 3 3 ≡ false }
+{}
+
+/// No circle is closed: the wait that would is refused. So a request to either task ends where the refused one will be stepped.
+pub fn round_no_circle()
+    ensures leads_back { leads awaited_runs 0 1 ≡ true }
+    ensures refused { suspend 1 0 awaited_runs ≡ unbooked (refused 0 0) }
+    ensures of_two { cancel 0 (refused 0 0) ≡ answers true (0 ∷ 1 ∷ []) (refused_marked 1 1) }
+    ensures from_the_other_side { cancel 1 (refused 0 0) ≡ answers true (1 ∷ []) (refused_marked 0 1) }
+    ensures leads_round { leads member_runs 2 1 ≡ true }
+    ensures not_back { leads member_runs 2 0 ≡ false }
+    ensures refused_many { suspend 1 2 member_runs ≡ unbooked member_refused }
+    ensures through_many { cancel 0 member_refused ≡ answers true (0 ∷ 1 ∷ []) member_refused_marked }
 {}
 
 /// A task that waits for nothing is marked, and a count at its greatest stays.

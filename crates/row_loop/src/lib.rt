@@ -5,5 +5,6 @@
 pub mod cancels;
 pub mod groups;
 pub mod ledgers;
+pub mod sound;
 pub mod steps;
 pub mod timeouts;

@@ -11,6 +11,7 @@ ghost use Rattle.model_loop.specs.Tasks.{spawn, pause, begin_step, cancelled_err
 ghost use Rattle.model_loop.specs.Circles.{circle, circle_fault};
 ghost use Rattle.model_loop.specs.Ledger.{Asked, Raised, ByWait, unbooked};
 ghost use Rattle.model_loop.specs.Suspend.{suspend};
+ghost use Rattle.law_settling.specs.Frames.{taken};
 ghost use Rattle.row_loop.specs.Made.{handle, value_error};
 ghost use Rattle.row_loop.specs.Steps.{nothing_made, one_task, two_tasks, running, running_marked, sleeping, woken_at_once, running_over_none, waits_for_none, begun, woken_and_marked, paused, ended_as, ended_marked_as, ended_counted_as, awaited, three_timers, two_due, two_revoked};
 
@@ -32,20 +33,22 @@ pub fn suspends()
 /// An await of the task itself or of what waits for it is refused by a step that throws.
 pub fn refuses_circles()
     ensures itself { suspend 0 0 running ≡ unbooked (paused (StepInCircle 0 Itself)) }
-    ensures its_waiter { suspend 0 1 (awaited [] 2) ≡ unbooked (awaited (handle 2 2 (StepInCircle 0 ItsWaiter) ∷ []) 3) }
-    ensures through_many { circle (awaited [] 2) 0 3 ≡ Some ItsWaiter }
-    ensures elsewhere { circle (awaited [] 2) 0 2 ≡ None }
+    ensures its_waiter { suspend 0 1 (awaited [] 3)
+        ≡ unbooked (awaited (handle 3 3 (StepInCircle 0 ItsWaiter) ∷ []) 4) }
+    ensures through_many { circle (awaited [] 3) 0 3 ≡ Some ItsWaiter }
+    ensures elsewhere { circle (awaited [] 3) 0 2 ≡ None }
     ensures itself_text { circle_fault Itself ≡ exception_of RuntimeError (codes "Task cannot await on itself") }
 {}
 
 /// A step takes the mark away and throws CancelledError, but for an input that throws one already.
 pub fn begins_steps()
-    ensures parts { (begin_step 0 (Send Nothing) (woken_and_marked 2)).parts ≡ begun 2 }
-    ensures sent { (begin_step 0 (Send Nothing) (woken_and_marked 2)).input ≡ Throw cancelled_error }
-    ensures thrown { (begin_step 0 (Throw (value_error (codes "a"))) (woken_and_marked 2)).input ≡ Throw cancelled_error }
-    ensures cancelled { (begin_step 0 (Throw (exception_of CancelledError (codes "a"))) (woken_and_marked 2)).input
+    ensures parts { (begin_step 0 (Send Nothing) (taken [] (woken_and_marked 2))).parts ≡ begun 2 }
+    ensures sent { (begin_step 0 (Send Nothing) (taken [] (woken_and_marked 2))).input ≡ Throw cancelled_error }
+    ensures thrown { (begin_step 0 (Throw (value_error (codes "a"))) (taken [] (woken_and_marked 2))).input
+        ≡ Throw cancelled_error }
+    ensures cancelled { (begin_step 0 (Throw (exception_of CancelledError (codes "a"))) (taken [] (woken_and_marked 2))).input
         ≡ Throw (exception_of CancelledError (codes "a")) }
-    ensures unmarked { (begin_step 0 (Send (Truth true)) running).input ≡ Send (Truth true) }
+    ensures unmarked { (begin_step 0 (Send (Truth true)) (taken [] (paused (Step 0)))).input ≡ Send (Truth true) }
 {}
 
 /// What a step ends with.

@@ -10,6 +10,3 @@ mod target;
 mod words;
 
 pub use program::print;
-
-#[cfg(test)]
-mod tests;

@@ -11,8 +11,6 @@ mod pass;
 mod places;
 mod standing;
 mod terms;
-#[cfg(test)]
-mod tests;
 mod text;
 
 pub use fault::FormFault;

@@ -12,8 +12,6 @@ mod part;
 mod pass;
 mod scope;
 mod target;
-#[cfg(test)]
-mod tests;
 
 pub use fault::NameFault;
 pub use part::profile_of;

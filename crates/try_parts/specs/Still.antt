@@ -8,6 +8,6 @@ pub record IsStill (v : View) : Type 0 where
   pub running : v.running ≡ None
 
 -- this task's step goes on
-pub record IsRunning (task : ℕ) (v : View) : Type 0 where
+pub record RunsTask (task : ℕ) (v : View) : Type 0 where
   pub called : v.called ≡ None
   pub running : v.running ≡ Some task

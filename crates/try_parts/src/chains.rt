@@ -1,5 +1,5 @@
 //! Cancels through long chains.
-use crate::step::{Stepped, Then};
+use crate::step::{CameTo, Then};
 use crate::still::Still;
 use aio_base::Memory;
 use aio_task::FutureId;
@@ -48,7 +48,7 @@ fn wait_in_a_row(count: u32, end: FutureId, still: &mut Still) -> bool {
         } else {
             end
         };
-        right = right && still.step(Then::Awaits(on)) == Stepped::Sent(task);
+        right = right && still.step(Then::Awaits(on)) == CameTo::Sent(task);
     }
     right
 }

@@ -1,5 +1,5 @@
 //! The lives of tasks, timers and callbacks.
-use crate::step::{Stepped, Then};
+use crate::step::{CameTo, Then};
 use crate::still::Still;
 use aio_base::Memory;
 use std::alloc::Global;
@@ -10,12 +10,12 @@ pub fn awaits_another(alloc: Global, still: &mut Still) -> Result<bool, Memory> 
     let second = still.spawn(alloc)?;
     let on = still.parts().future_of(second);
     still.set_bar();
-    let waits = still.step(Then::Awaits(on)) == Stepped::Sent(first)
+    let waits = still.step(Then::Awaits(on)) == CameTo::Sent(first)
         && still.parts().waiter(first) == Some(on)
-        && still.step(Then::Returns) == Stepped::Sent(second)
-        && still.step(Then::Pauses) == Stepped::Nothing;
+        && still.step(Then::Returns) == CameTo::Sent(second)
+        && still.step(Then::Pauses) == CameTo::Nothing;
     still.set_bar();
-    let woken = still.step(Then::Returns) == Stepped::Sent(first);
+    let woken = still.step(Then::Returns) == CameTo::Sent(first);
     let own = still.parts().future_of(first);
     Ok(waits && woken && !still.parts().is_pending(own) && !still.parts().is_pending(on))
 }
@@ -26,9 +26,9 @@ pub fn mark_is_used_up(alloc: Global, still: &mut Still) -> Result<bool, Memory>
     let own = still.parts().future_of(task);
     let asked = still.cancel(own) && still.cancel(own);
     still.set_bar();
-    let thrown = still.step(Then::Pauses) == Stepped::Thrown(task);
+    let thrown = still.step(Then::Pauses) == CameTo::Thrown(task);
     still.set_bar();
-    let sent = still.step(Then::Pauses) == Stepped::Sent(task);
+    let sent = still.step(Then::Pauses) == CameTo::Sent(task);
     let counts = still.parts().cancelling(task) == 2
         && still.uncancel(task) == 1
         && still.uncancel(task) == 0
@@ -41,10 +41,10 @@ pub fn await_of_itself(alloc: Global, still: &mut Still) -> Result<bool, Memory>
     let task = still.spawn(alloc)?;
     let own = still.parts().future_of(task);
     still.set_bar();
-    let first = still.step(Then::Awaits(own)) == Stepped::Sent(task);
+    let first = still.step(Then::Awaits(own)) == CameTo::Sent(task);
     let free = still.parts().waiter(task).is_none();
     still.set_bar();
-    let ended = still.step(Then::Raises) == Stepped::Sent(task);
+    let ended = still.step(Then::Raises) == CameTo::Sent(task);
     Ok(first && free && ended && !still.parts().is_pending(own) && !still.cancel(own))
 }
 

@@ -1,7 +1,7 @@
 //! Steps of tasks, and firings.
 ghost use Rattle.std.specs.Prelude.{◌≡◌};
 ghost use Rattle.aio_task.specs.View.{stepped};
-ghost use Rattle.try_parts.specs.Still.{IsStill, IsRunning};
+ghost use Rattle.try_parts.specs.Still.{IsStill, RunsTask};
 
 use aio_base::{Action, Exc, Input, Kind, Value};
 use aio_task::{FutureId, Parts, Suspension};
@@ -17,7 +17,7 @@ pub enum Then {
 
 /// What a step came to.
 #[derive(Clone, Copy, PartialEq, Eq)]
-pub enum Stepped {
+pub enum CameTo {
     /// Nothing is pending before the bar, or what is pending is no step.
     Nothing,
     /// The task was resumed with a value.
@@ -40,27 +40,27 @@ fn task_of(action: &Action) -> Option<u32>
 }
 
 /// The next handle before the bar is a step, and ends so.
-pub fn step(parts: &mut Parts, then: Then) -> Stepped
+pub fn step(parts: &mut Parts, then: Then) -> CameTo
     requires { IsStill parts.old }
     ensures { IsStill parts.new }
 {
     let Some((action, ticket)) = parts.next_below() else {
-        return Stepped::Nothing;
+        return CameTo::Nothing;
     };
     let Some(task) = task_of(&action) else {
-        return Stepped::Nothing;
+        return CameTo::Nothing;
     };
     let input = parts.begin_step(task, ticket, Input::Send(Value::nothing()));
     end(parts, task, then);
     match input {
-        Input::Send(_) => Stepped::Sent(task),
-        Input::Throw(_) => Stepped::Thrown(task),
+        Input::Send(_) => CameTo::Sent(task),
+        Input::Throw(_) => CameTo::Thrown(task),
     }
 }
 
 // The step of a task that runs ends.
 fn end(parts: &mut Parts, task: u32, then: Then)
-    requires { IsRunning task parts.old }
+    requires { RunsTask task parts.old }
     ensures { IsStill parts.new }
 {
     match then {
@@ -73,7 +73,7 @@ fn end(parts: &mut Parts, task: u32, then: Then)
 
 // A future that is done isn't waited for.
 fn wait_for(parts: &mut Parts, task: u32, on: FutureId)
-    requires { IsRunning task parts.old }
+    requires { RunsTask task parts.old }
     ensures { IsStill parts.new }
 {
     if !parts.is_pending(on) {

@@ -1,7 +1,7 @@
 //! The loop's parts between two callbacks.
 ghost use Rattle.try_parts.specs.Still.{IsStill};
 
-use crate::step::{Stepped, Then, firing, step};
+use crate::step::{CameTo, Then, firing, step};
 use aio_base::{Action, Memory, Outcome, Value};
 use aio_task::{FutureId, Parts, TimerId};
 use std::alloc::Global;
@@ -79,7 +79,7 @@ impl Still {
         Ok(())
     }
 
-    pub fn step(&mut self, then: Then) -> Stepped {
+    pub fn step(&mut self, then: Then) -> CameTo {
         step(&mut self.parts, then)
     }
 

@@ -19,6 +19,8 @@ pub enum RowLine<'a> {
     Text(&'a [u8]),
     /// `:TEXT`: the end of the text that began last, without a newline.
     End(&'a [u8]),
+    /// `times NUMBER TEXT`: so many times this text, without a newline.
+    Times(&'a str),
     /// Any other line: a comment, or an empty one.
     Comment,
 }
@@ -42,6 +44,7 @@ fn head_of(words: &str) -> RowLine<'_> {
         Some(("file", name)) => RowLine::File(name),
         Some(("status", number)) => RowLine::Status(number),
         Some(("fails", call)) => RowLine::Fails(call),
+        Some(("times", words)) => RowLine::Times(words),
         _ if words == "written" => RowLine::Written,
         _ => RowLine::Comment,
     }

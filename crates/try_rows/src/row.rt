@@ -80,6 +80,7 @@ impl Row {
                 self.add_text(alloc, b"\n")
             }
             RowLine::End(text) => self.add_text(alloc, text),
+            RowLine::Times(words) => self.add_times(alloc, words),
             RowLine::Row(_) | RowLine::Comment => Ok(()),
         }
     }
@@ -96,6 +97,20 @@ impl Row {
             "shelf" => self.shelf.calls.push(number)?,
             "sink" => self.out.calls.push(number)?,
             _ => {}
+        }
+        Ok(())
+    }
+
+    /// Adds a text so many times, as `12 x` says.
+    fn add_times(&mut self, alloc: Global, words: &str) -> Result<(), Memory> {
+        let Some((count, text)) = words.split_once(' ') else {
+            return Ok(());
+        };
+        let Some(count) = number(count.as_bytes()) else {
+            return Ok(());
+        };
+        for _ in 0..count {
+            self.add_text(alloc, text.as_bytes())?;
         }
         Ok(())
     }

@@ -1,9 +1,9 @@
 -- Each statement is smaller than its list, and the names so far grow by the statement's; clauses likewise.
-use Rattle.std.proofs.Common.{rules, ◌≡◌, ℕ, ◌+◌, ◌*◌, ◌<◌, ◌++◌, [], ◌∷◌, take, ap, sym, ◌∙◌, append_assoc, arith, option_to_list}
+use Rattle.std.proofs.Common.{rules, ◌≡◌, ◌+◌, ◌*◌, ◌<◌, ◌++◌, [], ◌∷◌, take, ap, sym, ◌∙◌, append_assoc, arith, option_to_list}
 use Rattle.std.proofs.lemmas.List.{take_more}
 use Rattle.model_tree.specs.Syntax.{statements, handlers}
 use Rattle.model_says.specs.Variables.{names_bound, names_of, names_of_handlers}
-use Rattle.aio_program.specs.StatementSize.{statement_size, statement_list_size, handler_size, handler_list_size, statements_size}
+use Rattle.aio_program.specs.StatementSize.{statement_size, statement_list_size, handler_list_size, statements_size}
 use Rattle.aio_flat.proofs.KnownLemmas.{statement_size-item, handler_size-item, names_of-push, names_of_handlers-push}
 use Rattle.aio_flat.proofs.bound.+bound.Goals as goal
 

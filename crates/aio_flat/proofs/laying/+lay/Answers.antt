@@ -1,24 +1,26 @@
 -- What was laid is the statement, and each statement is smaller than its list.
-use Rattle.std.proofs.Common.{rules, ◌≡◌, ℕ, ◌+◌, ◌*◌, ◌<◌, ◌++◌, [], ◌∷◌, take, ap, ap₂, subst, sym, ◌∙◌, arith}
+use Rattle.std.proofs.Common.{rules, ◌≡◌, ◌+◌, ◌*◌, ◌<◌, ◌++◌, [], ◌∷◌, take, ap, ap₂, subst, sym, ◌∙◌, arith}
 use Rattle.std.specs.Option.{option_copied}
 use Rattle.std.specs.Rc.{rc_str_bytes}
 use Rattle.std.proofs.lemmas.List.{take_more}
 use Rattle.std.proofs.lemmas.Result.{on_ok_weaker}
 use Rattle.model_tree.specs.Syntax.{statements, handlers}
+use Rattle.law_locals.specs.Numbered.{numbered_name, numbered_expr, numbered_manager, numbered_statement, numbered_statements, numbered_branch, numbered_handlers}
 use Rattle.law_flat.specs.Laid.{LaidAll, LaidHandlers, enter_op}
 use Rattle.aio_program.specs.StatementSize.{statement_size, statement_list_size, handler_size, handler_list_size}
 use Rattle.aio_program.specs.Target.{plain_branch, plain_manager}
 use Rattle.aio_flat.specs.Built.{built, Lays}
 use Rattle.aio_flat.specs.Grows.{Grows}
 use Rattle.aio_flat.proofs.KnownLemmas.{statement_size-item, handler_size-item}
-use Rattle.aio_flat.proofs.Blocks.{single-lays, if-lays, while-lays, try-lays, with-lays, put-same, push-same, test-same, jump-same, guard-same, repeat-same, range-same, all-grows, handlers-grow}
+use Rattle.aio_flat.proofs.Blocks.{single-lays, if-lays, while-lays, try-lays, with-lays, put-same, push-same, test-same, jump-same, guard-same, repeat-same, range-same, exit-same, all-grows, handlers-grow}
 use Rattle.aio_flat.proofs.laying.+lay.Goals as goal
 
 pub lay-returns-in-Some : goal.lay-returns-in-Some
 lay-returns-in-Some t c =
     on_ok_weaker c.push_op.result
     (λ pushed.
-    single-lays c.args.places.now (built c.args.builder.now) (built c.push_op.new.self) c.args.statement.now c.in-Some.op
+    single-lays c.args.places.now (built c.args.builder.now) (built c.push_op.new.self)
+    (numbered_statement c.args.numbers.now c.args.statement.now) c.in-Some.op
     (rw c.in-Some.is at c.in_ok-op.ensures) pushed)
     c.push_op.ensures
 
@@ -36,8 +38,12 @@ lay_all-loop-item-preserved t c =
     let item = c.item-item.result in
     let more : take (l.item-index + 1) c.args.items.now ≡ front ++ item ∷ [] =
     take_more c.args.items.now l.item-index item c.loop-item-test.true ∙ ap (λ x. front ++ x ∷ []) (sym c.item-item.is) in
-    subst (λ items. Lays c.args.builder.now c.lay.new.builder (λ code. LaidAll c.args.places.now code (statements items))) (sym more)
-    (all-grows c.args.places.now (built c.args.builder.now) (built l.builder) (built c.lay.new.builder) front item l.invariant
+    subst
+    (λ items.
+    Lays c.args.builder.now c.lay.new.builder
+    (λ code. LaidAll c.args.places.now code (numbered_statements c.args.numbers.now (statements items))))
+    (sym more)
+    (all-grows c.args.places.now c.args.numbers.now (built c.args.builder.now) (built l.builder) (built c.lay.new.builder) front item l.invariant
     c.in_ok-lay.ensures)
 
 pub lay_handlers-lay_clause-requires : goal.lay_handlers-lay_clause-requires
@@ -58,13 +64,13 @@ lay_handlers-loop-clause-preserved t c =
     subst
     (λ list.
     Grows (built c.args.builder.now) (built c.lay_clause.new.builder)
-    (λ code. LaidHandlers c.args.places.now code list (handlers (take (l.clause-index + 1) c.args.clauses.now))))
+    (λ code. LaidHandlers c.args.places.now code list (numbered_handlers c.args.numbers.now (handlers (take (l.clause-index + 1) c.args.clauses.now)))))
     (sym c.in_ok-push.ensures.items)
     (subst
     (λ clauses.
     Grows (built c.args.builder.now) (built c.lay_clause.new.builder)
-    (λ code. LaidHandlers c.args.places.now code (l.list.items ++ clause ∷ []) (handlers clauses))) (sym more)
-    (handlers-grow c.args.places.now (built c.args.builder.now) (built l.builder) (built c.lay_clause.new.builder) l.list.items front
+    (λ code. LaidHandlers c.args.places.now code (l.list.items ++ clause ∷ []) (numbered_handlers c.args.numbers.now (handlers clauses)))) (sym more)
+    (handlers-grow c.args.places.now c.args.numbers.now (built c.args.builder.now) (built l.builder) (built c.lay_clause.new.builder) l.list.items front
     clause handler l.invariant c.in_ok-lay_clause.ensures))
 
 -- ---- blocks
@@ -74,10 +80,13 @@ lay_if-returns t c =
     let middle = built c.lay_all.new.builder in
     let last = built c.lay_else.new.builder in
     let done = built c.put_op.new.self in
-    if-lays c.args.places.now (built c.args.builder.now) held middle last done c.args.test.now (statements c.args.body.now)
-    (plain_branch (option_copied c.args.otherwise)) c.in_ok-push_op.ensures
+    if-lays c.args.places.now (built c.args.builder.now) held middle last done (numbered_expr c.args.numbers.now c.args.test.now)
+    (numbered_statements c.args.numbers.now (statements c.args.body.now))
+    (numbered_branch c.args.numbers.now (plain_branch (option_copied c.args.otherwise))) c.in_ok-push_op.ensures
     (subst
-    (λ items. Lays c.push_op.new.self c.lay_all.new.builder (λ code. LaidAll c.args.places.now code (statements items)))
+    (λ items.
+    Lays c.push_op.new.self c.lay_all.new.builder
+    (λ code. LaidAll c.args.places.now code (numbered_statements c.args.numbers.now (statements items))))
     c.items.ensures c.in_ok-lay_all.ensures)
     c.in_ok-lay_else.ensures
     (put-same done last _ _ _ _ c.next_place-from.ensures
@@ -89,10 +98,13 @@ lay_while-returns t c =
     let middle = built c.lay_all.new.builder in
     let last = built c.push_op-2.new.self in
     let done = built c.put_op.new.self in
-    while-lays c.args.places.now (built c.args.builder.now) held middle last done c.args.test.now (statements c.args.body.now)
+    while-lays c.args.places.now (built c.args.builder.now) held middle last done (numbered_expr c.args.numbers.now c.args.test.now)
+    (numbered_statements c.args.numbers.now (statements c.args.body.now))
     c.in_ok-push_op.ensures
     (subst
-    (λ items. Lays c.push_op.new.self c.lay_all.new.builder (λ code. LaidAll c.args.places.now code (statements items)))
+    (λ items.
+    Lays c.push_op.new.self c.lay_all.new.builder
+    (λ code. LaidAll c.args.places.now code (numbered_statements c.args.numbers.now (statements items))))
     c.items.ensures c.in_ok-lay_all.ensures)
     (push-same last middle _ _ (repeat-same _ _ _ _ c.in_ok-test.ensures c.next_place-from.ensures) c.in_ok-push_op-2.ensures)
     (put-same done last _ _ _ _ c.next_place-from.ensures (jump-same _ _ c.next_place-last.ensures) c.put_op.ensures)
@@ -107,12 +119,16 @@ lay_try-returns t c =
     let resumed = built c.push_op-3.new.self in
     let ranged = built c.push_range.new.self in
     let done = built c.put_op.new.self in
-    try-lays c.args.places.now (built c.args.builder.now) held middle left (statements c.args.body.now) c.in_ok-push_op.ensures
+    try-lays c.args.places.now (built c.args.builder.now) held middle left
+    (numbered_statements c.args.numbers.now (statements c.args.body.now)) c.in_ok-push_op.ensures
     (subst
-    (λ items. Lays c.push_op.new.self c.lay_all.new.builder (λ code. LaidAll c.args.places.now code (statements items)))
+    (λ items.
+    Lays c.push_op.new.self c.lay_all.new.builder
+    (λ code. LaidAll c.args.places.now code (numbered_statements c.args.numbers.now (statements items))))
     c.items.ensures c.in_ok-lay_all.ensures)
-    c.in_ok-push_op-2.ensures handled finished resumed ranged done c.in_ok-list.list.items (handlers c.args.clauses.now)
-    (plain_branch (option_copied c.args.finally)) c.in_ok-list.ensures c.in_ok-lay_branch.ensures c.in_ok-push_op-3.ensures
+    c.in_ok-push_op-2.ensures handled finished resumed ranged done c.in_ok-list.list.items
+    (numbered_handlers c.args.numbers.now (handlers c.args.clauses.now))
+    (numbered_branch c.args.numbers.now (plain_branch (option_copied c.args.finally))) c.in_ok-list.ensures c.in_ok-lay_branch.ensures c.in_ok-push_op-3.ensures
     (range-same ranged resumed _ _ _ _ c.of.ensures c.next_place-place.ensures c.in_ok-number.ensures.range)
     (put-same done ranged _ _ _ _ c.next_place-from.ensures (guard-same _ _ c.in_ok-number.ensures.number) c.put_op.ensures)
 
@@ -125,14 +141,20 @@ lay_with-returns t c =
     let resumed = built c.push_op-4.new.self in
     let ranged = built c.push_range.new.self in
     let done = built c.put_op.new.self in
-    let name : c.of-name.result ≡ rc_str_bytes c.args.name.now = search rules in
-    let enters =
-    c.in_ok-enter.ensures ∙ ap₂ (enter_op (plain_manager c.args.manager.now)) name c.in_ok-number.ensures.number in
-    with-lays c.args.places.now (built c.args.builder.now) held middle left (statements c.args.body.now) c.in_ok-push_op.ensures
+    let manager = numbered_manager c.args.numbers.now (plain_manager c.args.manager.now) in
+    let name : c.local_of-name.result ≡ numbered_name c.args.numbers.now (rc_str_bytes c.args.name.now) =
+    c.local_of-name.ensures ∙ ap (numbered_name c.args.numbers.now) c.as_str.ensures.value in
+    let enters = c.in_ok-enter.ensures ∙ ap₂ (enter_op manager) name c.in_ok-number.ensures.number in
+    with-lays c.args.places.now (built c.args.builder.now) held middle left
+    (numbered_statements c.args.numbers.now (statements c.args.body.now)) c.in_ok-push_op.ensures
     (subst
-    (λ items. Lays c.push_op.new.self c.lay_all.new.builder (λ code. LaidAll c.args.places.now code (statements items)))
+    (λ items.
+    Lays c.push_op.new.self c.lay_all.new.builder
+    (λ code. LaidAll c.args.places.now code (numbered_statements c.args.numbers.now (statements items))))
     c.items.ensures c.in_ok-lay_all.ensures)
-    c.in_ok-push_op-2.ensures exited resumed ranged done [] (plain_manager c.args.manager.now) (rc_str_bytes c.args.name.now)
-    (push-same exited left _ _ c.exit_op.ensures c.in_ok-push_op-3.ensures) c.in_ok-push_op-4.ensures
+    c.in_ok-push_op-2.ensures exited resumed ranged done [] manager
+    (numbered_name c.args.numbers.now (rc_str_bytes c.args.name.now))
+    (push-same exited left _ _ (c.exit_op.ensures ∙ exit-same c.args.numbers.now (plain_manager c.args.manager.now))
+    c.in_ok-push_op-3.ensures) c.in_ok-push_op-4.ensures
     (range-same ranged resumed _ _ _ _ (c.of.ensures ∙ c.new.ensures.items) c.next_place-place.ensures c.in_ok-number.ensures.range)
     (put-same done ranged _ _ _ _ c.next_place-from.ensures enters c.put_op.ensures)

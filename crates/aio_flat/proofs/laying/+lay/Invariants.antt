@@ -1,6 +1,7 @@
 use Rattle.std.proofs.Common.{◌+◌, ◌*◌, take}
 use Rattle.std.specs.Option.{option_copied}
 use Rattle.model_tree.specs.Syntax.{statements, handlers}
+use Rattle.law_locals.specs.Numbered.{numbered_statements, numbered_handlers}
 use Rattle.law_flat.specs.Laid.{LaidAll, LaidHandlers}
 use Rattle.aio_program.specs.StatementSize.{statement_size, statement_list_size, branch_size, handler_size, handler_list_size}
 use Rattle.aio_program.specs.Target.{plain_branch}
@@ -45,9 +46,9 @@ decreases-lay_clause l = 4 * handler_size l.handler.now
 
 abbrev pub invariant-lay_all-loop-item : goal.invariant-lay_all-loop-item
 invariant-lay_all-loop-item l =
-    Lays l.initial.builder l.builder (λ code. LaidAll l.places code (statements (take l.item-index l.items)))
+    Lays l.initial.builder l.builder (λ code. LaidAll l.places code (numbered_statements l.numbers (statements (take l.item-index l.items))))
 
 abbrev pub invariant-lay_handlers-loop-clause : goal.invariant-lay_handlers-loop-clause
 invariant-lay_handlers-loop-clause l =
     Grows (built l.initial.builder) (built l.builder)
-    (λ code. LaidHandlers l.places code l.list.items (handlers (take l.clause-index l.clauses)))
+    (λ code. LaidHandlers l.places code l.list.items (numbered_handlers l.numbers (handlers (take l.clause-index l.clauses))))

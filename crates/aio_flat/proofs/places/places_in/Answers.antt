@@ -1,4 +1,4 @@
-use Rattle.std.proofs.Common.{◌≡◌, ◌+◌, ◌-◌, ◌≤◌, drop, length, subst, sym, ◌∙◌, arith}
+use Rattle.std.proofs.Common.{◌≡◌, ◌+◌, ◌-◌, drop, subst, sym, ◌∙◌, arith}
 use Rattle.aio_flat.specs.Places.{HasPlaces}
 use Rattle.aio_flat.proofs.PlaceLemmas.{HasPlaces-insert, drop-before}
 use Rattle.aio_flat.proofs.places.places_in.Goals as goal

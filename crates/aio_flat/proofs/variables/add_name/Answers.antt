@@ -1,4 +1,4 @@
-use Rattle.std.proofs.Common.{rules, ◌++◌, [], ◌∷◌, subst, sym, ap, ◌∙◌}
+use Rattle.std.proofs.Common.{rules, subst}
 use Rattle.aio_flat.specs.Known.{Knows}
 use Rattle.aio_flat.proofs.KnownLemmas.{Knows-insert}
 use Rattle.aio_flat.proofs.variables.add_name.Goals as goal

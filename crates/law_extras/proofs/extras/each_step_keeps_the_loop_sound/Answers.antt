@@ -1,6 +1,7 @@
 use Rattle.law_sound.proofs.Steps.{many_step_sound, plain_step_sound, settle_step_sound}
 use Rattle.model_machine.specs.Extra.{Cancels, Uncancels}
-use Rattle.law_extras.proofs.Steps.{all_sound, register_sound, revoke_sound, soon_sound, step_sound}
+use Rattle.law_extras.proofs.Handles.{later_sound, register_sound, soon_sound}
+use Rattle.law_extras.proofs.Steps.{all_sound, revoke_sound, step_sound}
 use Rattle.law_extras.proofs.extras.each_step_keeps_the_loop_sound.Goals as goal
 
 pub returns-clause-plain : goal.returns-clause-plain
@@ -13,10 +14,13 @@ pub returns-clause-settles : goal.returns-clause-settles
 returns-clause-settles c = λ running told l future outcome plain s. settle_step_sound running told future outcome l plain s
 
 pub returns-clause-registers : goal.returns-clause-registers
-returns-clause-registers c = λ running told l future key done s. register_sound running told future key l done s
+returns-clause-registers c = λ running told l future key s. register_sound running told future key l s
 
 pub returns-clause-soon : goal.returns-clause-soon
 returns-clause-soon c = λ running told l key s. soon_sound running told key l s
+
+pub returns-clause-later : goal.returns-clause-later
+returns-clause-later c = λ running told l when key s. later_sound running told when key l s
 
 pub returns-clause-revokes : goal.returns-clause-revokes
 returns-clause-revokes c = λ running told l tag none s. revoke_sound running told tag l none s

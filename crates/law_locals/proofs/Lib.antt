@@ -1,0 +1,4 @@
+pub mod Environments
+pub mod Coroutines
+pub mod Agreeing
+pub mod Bodies

@@ -1,0 +1,5 @@
+mod Building
+mod CancelStates
+mod StepStates
+mod TimeoutStates
+mod GroupStates

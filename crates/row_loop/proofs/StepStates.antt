@@ -1,0 +1,74 @@
+-- The states of steps, and those of the end of a run, are sound.
+use Rattle.std.proofs.Common.{[], ◌∷◌, Some, None, Ok, refl}
+use Rattle.model_value.specs.Value.{Nothing}
+use Rattle.model_value.specs.declared.action.Action.TheVariants.{Step}
+use Rattle.model_loop.specs.Sound.{IsSound}
+use Rattle.law_sound.proofs.Beginning.{first_sound}
+use Rattle.row_loop.specs.Ledgers.{main_done}
+use Rattle.row_loop.specs.Standing.{PartsStand, Stands, bare}
+use Rattle.row_loop.specs.Steps.{awaited, nothing_made, one_task, paused, running, running_marked, running_over_none, sleeping, three_timers, two_due, woken_and_marked, woken_at_once}
+use Rattle.row_loop.proofs.Building.{asks, at, begins, below, falls_due, finishes, lowers, many, no_group, nobody, nothing, pauses, plain, sleeps, task, waits}
+
+pub nothing_made_stands : PartsStand None nothing_made
+nothing_made_stands = ([], (nobody, nothing))
+
+pub one_task_stands : PartsStand None one_task
+one_task_stands = ([], (nobody, task nothing))
+
+main_runs : IsSound (Some 0) nobody (bare running [])
+main_runs = plain (begins first_sound 0 refl refl refl)
+
+pub running_stands : PartsStand (Some 0) running
+running_stands = ([], (nobody, main_runs))
+
+-- it asked for its own cancel, once and twice, and took that back
+pub running_marked_once : PartsStand (Some 0) (running_marked 1)
+running_marked_once = (_, (nobody, asks main_runs 0 0))
+
+pub running_marked_twice : PartsStand (Some 0) (running_marked 2)
+running_marked_twice = (_, (nobody, asks (asks main_runs 0 0) 0 0))
+
+pub running_marked_never : PartsStand (Some 0) (running_marked 0)
+running_marked_never = (_, (nobody, lowers (asks main_runs 0 0) 0 0))
+
+main_sleeps : IsSound None nobody (bare sleeping [])
+main_sleeps = waits main_runs 1 refl
+
+pub sleeping_stands : PartsStand None sleeping
+sleeping_stands = ([], (nobody, main_sleeps))
+
+pub woken_at_once_stands : PartsStand None (woken_at_once 1)
+woken_at_once_stands = (_, (nobody, asks main_sleeps 0 0))
+
+pub woken_and_marked_stands : PartsStand None (woken_and_marked 2)
+woken_and_marked_stands = (_, (nobody, asks (asks main_sleeps 0 0) 0 0))
+
+pub paused_stands : PartsStand None (paused (Step 0))
+paused_stands = ([], (nobody, pauses main_runs))
+
+pub running_over_none_stands : PartsStand (Some 0) running_over_none
+running_over_none_stands = (_, (nobody, asks (begins (many (task nothing) [] (below 1 [] refl)) 0 refl refl refl) 0 0))
+
+pub awaited_stands : PartsStand (Some 0) (awaited [] 3)
+awaited_stands =
+    let made = many (plain (task (task nothing))) (2 ∷ 1 ∷ []) (below 3 (2 ∷ 1 ∷ []) refl) in
+    let zero_ = pauses (begins made 0 refl refl refl) in
+    ([], (nobody, begins (waits (begins zero_ 1 refl refl refl) 0 refl) 0 refl refl refl))
+
+timers_wait : IsSound None nobody (bare three_timers [])
+timers_wait =
+    let made = plain (plain (plain (begins first_sound 0 refl refl refl))) in
+    let slept = sleeps (sleeps (sleeps made 20 0 1 refl) 30 0 2 refl) 10 0 3 refl in
+    at (finishes slept (Ok Nothing) (no_group 0)) 20
+
+pub three_timers_stands : PartsStand None three_timers
+three_timers_stands = ([], (nobody, timers_wait))
+
+pub two_due_stands : PartsStand None two_due
+two_due_stands = ([], (nobody, falls_due timers_wait))
+
+pub main_done_stands : Stands None main_done
+main_done_stands =
+    let made = plain (task (task (task nothing))) in
+    let zero_ = finishes (begins made 0 refl refl refl) (Ok Nothing) (no_group 0) in
+    (nobody, waits (begins (waits (begins zero_ 1 refl refl refl) 3 refl) 2 refl refl refl) 1 refl)

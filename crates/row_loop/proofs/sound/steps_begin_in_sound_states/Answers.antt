@@ -1,0 +1,47 @@
+use Rattle.row_loop.proofs.StepStates.{awaited_stands, main_done_stands, nothing_made_stands, one_task_stands, paused_stands, running_marked_never, running_marked_once, running_marked_twice, running_over_none_stands, running_stands, sleeping_stands, three_timers_stands, two_due_stands, woken_and_marked_stands, woken_at_once_stands}
+use Rattle.row_loop.proofs.sound.steps_begin_in_sound_states.Goals as goal
+
+pub returns-clause-nothing_made : goal.returns-clause-nothing_made
+returns-clause-nothing_made c = nothing_made_stands
+
+pub returns-clause-one_task : goal.returns-clause-one_task
+returns-clause-one_task c = one_task_stands
+
+pub returns-clause-running : goal.returns-clause-running
+returns-clause-running c = running_stands
+
+pub returns-clause-marked_once : goal.returns-clause-marked_once
+returns-clause-marked_once c = running_marked_once
+
+pub returns-clause-marked_twice : goal.returns-clause-marked_twice
+returns-clause-marked_twice c = running_marked_twice
+
+pub returns-clause-marked_uncounted : goal.returns-clause-marked_uncounted
+returns-clause-marked_uncounted c = running_marked_never
+
+pub returns-clause-sleeping : goal.returns-clause-sleeping
+returns-clause-sleeping c = sleeping_stands
+
+pub returns-clause-woken_at_once : goal.returns-clause-woken_at_once
+returns-clause-woken_at_once c = woken_at_once_stands
+
+pub returns-clause-woken_and_marked : goal.returns-clause-woken_and_marked
+returns-clause-woken_and_marked c = woken_and_marked_stands
+
+pub returns-clause-paused : goal.returns-clause-paused
+returns-clause-paused c = paused_stands
+
+pub returns-clause-over_none : goal.returns-clause-over_none
+returns-clause-over_none c = running_over_none_stands
+
+pub returns-clause-awaited : goal.returns-clause-awaited
+returns-clause-awaited c = awaited_stands
+
+pub returns-clause-timers : goal.returns-clause-timers
+returns-clause-timers c = three_timers_stands
+
+pub returns-clause-due : goal.returns-clause-due
+returns-clause-due c = two_due_stands
+
+pub returns-clause-main_done : goal.returns-clause-main_done
+returns-clause-main_done c = main_done_stands

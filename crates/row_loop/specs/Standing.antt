@@ -1,0 +1,18 @@
+-- What it is for a state that is written by hand to be sound. Its groups were told of tasks in some way; and where only the
+-- parts are written, some ledger stands beside them.
+use Rattle.std.specs.Prelude.{ℕ, List, [], Option}
+use Rattle.model_loop.specs.Ledger.{LedgerEntry}
+use Rattle.model_loop.specs.Loop.{Loop}
+use Rattle.model_loop.specs.Parts.{Parts}
+use Rattle.model_loop.specs.Sound.{IsSound}
+
+-- while this task is running, or none
+abbrev pub Stands : Option ℕ → Loop → Type 0
+Stands running l = (told : ℕ → List ℕ) × IsSound running told l
+
+-- a loop without timeouts and groups
+abbrev pub bare : Parts → List LedgerEntry → Loop
+bare p ledger = record { parts = p; timeouts = []; groups = []; ledger = ledger }
+
+abbrev pub PartsStand : Option ℕ → Parts → Type 0
+PartsStand running p = (ledger : List LedgerEntry) × Stands running (bare p ledger)
