@@ -9,7 +9,7 @@ use Rattle.aio_timer.specs.Schedule as schedule
 use Rattle.aio_timer.specs.declared.live.TimerId.{TimerId}
 use Rattle.aio_task.specs.View.{View}
 use Rattle.aio_body.specs.declared.standing.Standing.{Standing}
-use Rattle.aio_body.specs.declared.standing.Standing.TheVariants.{Asked, Sleeping, Leaving}
+use Rattle.aio_body.specs.declared.standing.Standing.TheVariants.{Asked, Sleeping, Leaving, Serving}
 
 abbrev pub timer_cancelled : TimerId → View → View
 timer_cancelled id v = record v {
@@ -29,9 +29,11 @@ given_up_in Asked v = v
 given_up_in (Sleeping timer future) v =
     let_go_if (is_some (outcome_at (slice_get v.futures future))) future (timer_cancelled timer v)
 given_up_in (Leaving group) v = v
+given_up_in (Serving key) v = v
 
 -- the future of a sleep is no task's
 abbrev pub IsNoTasks : Standing → View → Type 0
 IsNoTasks Asked v = Unit {0}
 IsNoTasks (Sleeping timer future) v = owner_at (slice_get v.futures future) ≡ None
 IsNoTasks (Leaving group) v = Unit {0}
+IsNoTasks (Serving key) v = Unit {0}

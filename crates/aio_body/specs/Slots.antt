@@ -25,7 +25,7 @@ abbrev pub no_slot : Slot
 no_slot = record { coroutine = None; standing = Asked }
 
 -- one slot more, for a task that begins
-pub record HoldsMore (coroutine : ℕ) (arguments : List Value) (old new : Body) : Type 0 where
+pub record HoldsMore {X : Type 0} (coroutine : ℕ) (arguments : List Value) (old new : Body X) : Type 0 where
   pub slot : Slot
   pub beside : new ≡ record old { slots = new.slots }
   pub slots : new.slots.items ≡ old.slots.items ++ slot ∷ []

@@ -10,7 +10,6 @@ use Rattle.model_loop.specs.Parts.{Parts}
 use Rattle.model_loop.specs.Owning.{is_plain}
 use Rattle.model_loop.specs.Tasks.{cancelling, lives, next_task, waiter_of}
 use Rattle.model_loop.specs.Ways.{is_running}
-use Rattle.model_machine.specs.Extra.{no_extra}
 use Rattle.model_machine.specs.Sound.{IsStateSound}
 use Rattle.model_machine.specs.State as plain
 use Rattle.model_machine.specs.State.{Generator, State, generator_of}
@@ -20,6 +19,7 @@ use Rattle.aio_flat.specs.declared.code.Code.{Code}
 use Rattle.aio_gen.specs.Gens.{StandsFor}
 use Rattle.aio_gen.specs.declared.generator.Gen.{Gen}
 use Rattle.aio_task.specs.Keeps.{Ties, Keeps, Knows, ByTimer}
+use Rattle.aio_extra.specs.Added.{Added, named_in}
 use Rattle.aio_timeout.specs.declared.timeout.Timeout.{Timeout}
 use Rattle.aio_timeout.specs.Kept.{AreTimeouts}
 use Rattle.aio_group.specs.Held.{Held}
@@ -27,20 +27,22 @@ use Rattle.aio_group.specs.Stands.{KeepsAt}
 use Rattle.aio_body.specs.declared.body.Body.{Body}
 use Rattle.aio_body.specs.declared.standing.Slot.{Slot}
 use Rattle.aio_body.specs.declared.standing.Standing.{Standing}
-use Rattle.aio_body.specs.declared.standing.Standing.TheVariants.{Asked, Sleeping, Leaving}
+use Rattle.aio_body.specs.declared.standing.Standing.TheVariants.{Asked, Sleeping, Leaving, Serving}
 
--- The future of a sleep, which nobody else waits for and no script names. `sleeper` is the task that sleeps, if it does still.
-pub record IsOwnSleep (p : Parts) (named : List ℕ) (sleeper : Option ℕ) (id : ℕ) : Type 0 where
+-- The future of a sleep, which nobody else waits for: no script names it, and it is no own one of what is added. `sleeper` is
+-- the task that sleeps, if it does still.
+pub record IsOwnSleep (p : Parts) (named : ℕ → Type 0) (sleeper : Option ℕ) (id : ℕ) : Type 0 where
   pub plain : is_plain p id ≡ true
-  pub unnamed : (place : ℕ) → slice_get named place ≡ Some id → ⊥
+  pub unnamed : named id → ⊥
   pub alone : (task : ℕ) → waiter_of p task ≡ Some id → sleeper ≡ Some task
 
 -- what a task stands at, as the code has it
-abbrev pub StandsAt : Ties → Parts → (named : List ℕ) → (task : ℕ) → Standing → plain.Standing → Type 0
+abbrev pub StandsAt : Ties → Parts → (named : ℕ → Type 0) → (task : ℕ) → Standing → plain.Standing → Type 0
 StandsAt ties p named task Asked plain.Asked = Unit {0}
 StandsAt ties p named task (Sleeping timer future) (plain.Sleeping tag) =
     Knows ties p tag (ByTimer timer) × IsOwnSleep p named (Some task) future
 StandsAt ties p named task (Leaving group) (plain.Leaving id) = group ≡ id
+StandsAt ties p named task (Serving key) (plain.Serving kept) = key ≡ kept
 StandsAt ties p named task _ _ = ⊥
 
 -- a coroutine waits, and it stands for the task's generator
@@ -54,15 +56,17 @@ coroutine_in true taken own = taken
 coroutine_in false taken own = own
 
 -- a task's slot
-pub record IsSlotOf (out : Option ℕ) (taken : Option Gen) (ties : Ties) (code : Code) (s : State (Unit {0})) (task : ℕ) (slot : Slot) : Type 0 where
+pub record IsSlotOf {X : Type 0} (a : Added X) (out : Option ℕ) (taken : Option Gen) (ties : Ties) (code : Code)
+    (s : State a.Kept) (task : ℕ) (slot : Slot) : Type 0 where
   pub waits : WaitsAs s.program code (generator_of task s) (coroutine_in (is_running out task) taken slot.coroutine)
-  pub standing : StandsAt ties s.loop.parts s.futures task slot.standing (generator_of task s).standing
+  pub standing : StandsAt ties s.loop.parts (named_in a s) task slot.standing (generator_of task s).standing
 
 -- a task has its slot
-pub record HasSlot (out : Option ℕ) (taken : Option Gen) (ties : Ties) (code : Code) (slots : List Slot) (s : State (Unit {0})) (task : ℕ) : Type 0 where
+pub record HasSlot {X : Type 0} (a : Added X) (out : Option ℕ) (taken : Option Gen) (ties : Ties) (code : Code)
+    (slots : List Slot) (s : State a.Kept) (task : ℕ) : Type 0 where
   pub slot : Slot
   pub found : slice_get slots task ≡ Some slot
-  pub right : IsSlotOf out taken ties code s task slot
+  pub right : IsSlotOf a out taken ties code s task slot
 
 -- The timeouts and the groups stand for a loop's.
 pub record AreBlocks (t : Ties) (cut_off : List Timeout) (held : List Held) (l : Loop) : Type 0 where
@@ -70,19 +74,20 @@ pub record AreBlocks (t : Ties) (cut_off : List Timeout) (held : List Held) (l :
   pub groups : (id : ℕ) → KeepsAt t l.parts (slice_get held id) (slice_get l.groups id)
 
 -- What stays while handles run: which events were taken out before, what the outside has left to answer, how many handles
--- stand before the bar, and below which stamp they do; and in a step of a task its coroutine, which is taken out.
-pub record Setting : Type 0 where
+-- stand before the bar, and below which stamp they do; and in a step of a task its coroutine, which is taken out. It is one over
+-- what is added, so that whatever speaks of it says over what.
+pub record Setting {X : Type 0} (a : Added X) : Type 0 where
   pub past : List Event
   pub answers : List Entry
   pub left : ℕ
   pub bar : ℕ
   pub coroutine : Option Gen
 
-abbrev pub holding : Gen → Setting → Setting
+abbrev pub holding : {X : Type 0} {a : Added X} → Gen → Setting a → Setting a
 holding coroutine c = record c { coroutine = Some coroutine }
 
 -- What is kept stands for a state. `out` is the task whose coroutine is taken out, if one is.
-pub record Stands (out : Option ℕ) (c : Setting) (body : Body) (s : State (Unit {0})) : Type 0 where
+pub record Stands {X : Type 0} {a : Added X} (out : Option ℕ) (c : Setting a) (body : Body X) (s : State a.Kept) : Type 0 where
   pub ties : Ties
   pub code : IsCodeOf s.program body.code
   pub keeps : Keeps ties body.parts s.loop.parts
@@ -93,9 +98,9 @@ pub record Stands (out : Option ℕ) (c : Setting) (body : Body) (s : State (Uni
   pub made : length body.slots.items ≡ next_task s.loop.parts
   pub told : length s.generators ≡ next_task s.loop.parts
   pub few : length body.slots.items < 2 ^ 32
-  pub held : (task : ℕ) → lives s.loop.parts task ≡ true → HasSlot out c.coroutine ties body.code body.slots.items s task
+  pub held : (task : ℕ) → lives s.loop.parts task ≡ true → HasSlot a out c.coroutine ties body.code body.slots.items s task
   -- what was let go was the future of a sleep that is over
-  pub gone : (id : ℕ) → ties.gone id ≡ true → IsOwnSleep s.loop.parts s.futures None id
+  pub gone : (id : ℕ) → ties.gone id ≡ true → IsOwnSleep s.loop.parts (named_in a s) None id
   pub futures : body.futures.items ≡ s.futures
   pub few_futures : length s.futures < 2 ^ 32
   pub main_done : body.main_done ≡ s.main_done
@@ -104,11 +109,12 @@ pub record Stands (out : Option ℕ) (c : Setting) (body : Body) (s : State (Uni
   pub counts : (task : ℕ) → cancelling s.loop.parts task ≤ most
   pub events : s.events ≡ c.past ++ body.events.events
   pub rest : s.answers ≡ c.answers
+  pub extra : a.stands ties s.loop.parts body.extra s.extra
   pub count : body.events.answers ≡ min (answers_in s.events) (2 ^ 64 - 1)
 
 -- between two callbacks
-pub record IsBetween (c : Setting) (body : Body) (s : State (Unit {0})) : Type 0 where
+pub record IsBetween {X : Type 0} {a : Added X} (c : Setting a) (body : Body X) (s : State a.Kept) : Type 0 where
   pub stands : Stands None c body s
   pub called : body.parts.called ≡ None
   pub running : body.parts.running ≡ None
-  pub sound : IsStateSound no_extra s
+  pub sound : IsStateSound a.meaning s

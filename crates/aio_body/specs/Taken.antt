@@ -3,49 +3,49 @@ use Rattle.std.specs.Prelude.{◌≡◌, false, List, ◌∷◌, None}
 use Rattle.model_value.specs.Action.{Action}
 use Rattle.model_wire.specs.declared.event.Event.TheVariants as event
 use Rattle.model_loop.specs.Parts.{Handle}
-use Rattle.model_machine.specs.Extra.{no_extra}
 use Rattle.model_machine.specs.Sound.{IsStateSound}
 use Rattle.model_machine.specs.State.{State, noted, unbooked_in}
 use Rattle.aio_task.specs.View.{stepped}
+use Rattle.aio_extra.specs.Added.{Added}
 use Rattle.aio_body.specs.declared.body.Body.{Body}
 use Rattle.aio_body.specs.Stands.{Setting, Stands}
 
 -- A handle was taken from the queue and is about to run.
-pub record IsNext (action : Action) (c : Setting) (body : Body) (s : State (Unit {0})) : Type 0 where
-  pub before : State (Unit {0})
+pub record IsNext {X : Type 0} {a : Added X} (action : Action) (c : Setting a) (body : Body X) (s : State a.Kept) : Type 0 where
+  pub before : State a.Kept
   pub handle : Handle
   pub rest : List Handle
   pub pending : before.loop.parts.pending ≡ handle ∷ rest
   pub live : handle.dead ≡ false
   pub runs : handle.action ≡ action
-  pub sound : IsStateSound no_extra before
+  pub sound : IsStateSound a.meaning before
   pub after : s ≡ unbooked_in (λ p. record p { pending = rest }) before
   pub stands : Stands None c body s
   pub called : body.parts.called ≡ stepped action
   pub running : body.parts.running ≡ None
 
-abbrev pub MayRun : Action → Body → Type 0
-MayRun action body = ∥ ((c : Setting) × ((s : State (Unit {0})) × IsNext action c body s)) ∥₁
+abbrev pub MayRun : {X : Type 0} → Added X → Action → Body X → Type 0
+MayRun a action body = ∥ ((c : Setting a) × ((s : State a.Kept) × IsNext action c body s)) ∥₁
 
 -- It was noted that it runs.
-pub record IsTaken (action : Action) (c : Setting) (body : Body) (s : State (Unit {0})) : Type 0 where
-  pub before : State (Unit {0})
+pub record IsTaken {X : Type 0} {a : Added X} (action : Action) (c : Setting a) (body : Body X) (s : State a.Kept) : Type 0 where
+  pub before : State a.Kept
   pub handle : Handle
   pub rest : List Handle
   pub pending : before.loop.parts.pending ≡ handle ∷ rest
   pub live : handle.dead ≡ false
   pub runs : handle.action ≡ action
-  pub sound : IsStateSound no_extra before
+  pub sound : IsStateSound a.meaning before
   pub after : s ≡ noted (event.Ran action) (unbooked_in (λ p. record p { pending = rest }) before)
   pub stands : Stands None c body s
   pub called : body.parts.called ≡ stepped action
   pub running : body.parts.running ≡ None
 
-abbrev pub MayTake : Action → Body → Type 0
-MayTake action body = ∥ ((c : Setting) × ((s : State (Unit {0})) × IsTaken action c body s)) ∥₁
+abbrev pub MayTake : {X : Type 0} → Added X → Action → Body X → Type 0
+MayTake a action body = ∥ ((c : Setting a) × ((s : State a.Kept) × IsTaken action c body s)) ∥₁
 
 -- after a callback that steps no task
-pub record IsAfter (c : Setting) (body : Body) (s : State (Unit {0})) : Type 0 where
+pub record IsAfter {X : Type 0} {a : Added X} (c : Setting a) (body : Body X) (s : State a.Kept) : Type 0 where
   pub stands : Stands None c body s
   pub called : body.parts.called ≡ None
   pub running : body.parts.running ≡ None

@@ -9,7 +9,7 @@ use crate::body::Body;
 use aio_base::{Exc, Kind, Memory, Value, ValueCase, kind_matches};
 use aio_task::FutureId;
 
-impl Body {
+impl<X> Body<X> {
     /// A future of `future()`.
     pub fn as_future(&self, value: &Value) -> Option<FutureId>
         ensures { result ≡ future_in self.now.futures.items value.now }

@@ -6,9 +6,10 @@ use aio_task::{FutureId, Parts};
 use aio_timeout::Timeouts;
 use aio_wire::Events;
 
-/// What the kernel keeps of a run that goes on. Coroutines are numbered as the tasks are.
+/// What the kernel keeps of a run that goes on. Coroutines are numbered as the tasks are. `X` is what is added to the loop's
+/// own requests.
 #[derive(Drop)]
-pub struct Body {
+pub struct Body<X> {
     pub code: Code,
     pub parts: Parts,
     pub slots: Vec<Slot>,
@@ -19,4 +20,6 @@ pub struct Body {
     /// Whether main's callback ran.
     pub main_done: bool,
     pub events: Events,
+    /// What serves requests that are added.
+    pub extra: X,
 }

@@ -9,7 +9,7 @@ use aio_base::{Memory, Value, ValueList};
 use aio_gen::Gen;
 use std::alloc::Global;
 
-impl Body {
+impl<X> Body<X> {
     /// The coroutine of the task that is made next.
     pub fn hold(
         &mut self,
@@ -80,6 +80,7 @@ impl Body {
                 }
             }
             Standing::Leaving(_) => {}
+            Standing::Serving(_) => {}
         }
     }
 }

@@ -11,6 +11,8 @@ pub enum Standing {
     Sleeping { timer: TimerId, future: FutureId },
     /// The exit of a group, which waits for the tasks that are left.
     Leaving(u32),
+    /// A request that was added to the loop's own and waits, under its key.
+    Serving(u64),
 }
 
 /// The coroutine of a task, and the request at which it stands. While its step goes on the coroutine is taken out, and

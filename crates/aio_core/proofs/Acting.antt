@@ -1,5 +1,5 @@
 -- What a handle does, where it was taken from the queue and it was noted that it runs.
-use Rattle.std.proofs.Common.{◌≡◌, ℕ, Bool, true, false, ◌&&◌, not, cond, List, Option, Some, None, length, slice_get, ◌∙◌, refl, sym, ap, subst, arith}
+use Rattle.std.proofs.Common.{◌≡◌, ℕ, ℤ, Bool, true, false, ◌&&◌, not, cond, List, [], ◌∷◌, ◌++◌, Option, Some, None, length, slice_get, ◌∙◌, refl, sym, ap, subst, arith}
 use Rattle.std.proofs.Math.Logic.{∥∥₁_elim, ∥∥₁_map}
 use Rattle.std.proofs.Props.{props}
 use Rattle.std.proofs.lemmas.Bool.{eq-eqb, false_from_ne_true}
@@ -22,7 +22,6 @@ use Rattle.model_loop.specs.Parts.{Task}
 use Rattle.model_loop.specs.Tasks.{next_task, waiter_of}
 use Rattle.model_loop.specs.Timeouts.{fire}
 use Rattle.model_loop.specs.Ways.{steps}
-use Rattle.model_machine.specs.Extra.{no_extra}
 use Rattle.model_machine.specs.Outcomes.{input_of, woken_with}
 use Rattle.model_machine.specs.Sound.{sends_made}
 use Rattle.model_machine.specs.State.{State, in_loop, noted, unbooked_in}
@@ -31,7 +30,6 @@ use Rattle.model_machine.specs.Turn.{effect, ran}
 use Rattle.model_machine.specs.Went.{Goes}
 use Rattle.law_inside.specs.InStep.{LeavesStateSound}
 use Rattle.law_runs.proofs.Callbacks.{callback_in, woken_made}
-use Rattle.law_runs.proofs.Nothing.{nothing_keeps}
 use Rattle.law_settling.proofs.CancelSound.{plain_within}
 use Rattle.law_timeouts.proofs.Quiet.{handles-first}
 use Rattle.law_kept.proofs.Calls.{kept_settle}
@@ -42,6 +40,18 @@ use Rattle.aio_future.specs.Settled.{called}
 use Rattle.aio_task.specs.View.{View, parts, stepped}
 use Rattle.aio_wire.specs.EventList.{EventList}
 use Rattle.aio_wire.specs.Events.{pushed}
+use Rattle.aio_extra.specs.Added.{Added, named_in}
+use Rattle.model_loop.specs.Deadlines.{fires}
+use Rattle.model_machine.specs.Told.{told_by, told_in}
+use Rattle.law_settling.specs.Frames.{is_followed, taken}
+use Rattle.law_sound.proofs.Steps.{idle_sound}
+use Rattle.law_turns.specs.SoundState.{HasSoundLoop}
+use Rattle.law_turns.proofs.Turning.{as_told, tells_none}
+use Rattle.law_extras.specs.Allowed.{AreAllowed}
+use Rattle.model_machine.specs.Extra.{Extra, ExtraCall, called as called_after}
+use Rattle.aio_task.specs.Keeps.{Ties}
+use Rattle.aio_extra.specs.Called.{CallsAs, IsServed, MayServe}
+use Rattle.law_body.proofs.Adding.{served_of, stands_called}
 use Rattle.aio_body.specs.declared.body.Body.{Body}
 use Rattle.aio_body.specs.Stands.{Setting, Stands}
 use Rattle.aio_body.specs.Taken.{IsNext, IsTaken, IsAfter, MayRun, MayTake}
@@ -57,22 +67,23 @@ use Rattle.aio_core.specs.declared.effect.Effect.{Effect}
 use Rattle.aio_core.specs.declared.effect.Effect.TheVariants as code
 use Rattle.aio_core.specs.Effects.{effect_of, MayAct}
 
--- ---- it is noted that it runs
-pub taken_so : (it : Action) (c : Setting) (body : Body) (s : State (Unit {0})) (events : EventList) → events ≡ pushed body.events (event.Ran it)
-    → IsNext it c body s → IsTaken it c (record body { events = events }) (noted (event.Ran it) s)
-taken_so it c body s events e h = record {
-  before = h.before;
-  handle = h.handle;
-  rest = h.rest;
-  pending = h.pending;
-  live = h.live;
-  runs = h.runs;
-  sound = h.sound;
-  after = ap (noted (event.Ran it)) h.after;
-  stands = stands_noted None c body s (event.Ran it) events e h.stands;
-  called = h.called;
-  running = h.running;
-}
+module _ {X : Type 0} {a : Added X} where
+  -- ---- it is noted that it runs
+  pub taken_so : (it : Action) (c : Setting a) (body : Body X) (s : State a.Kept) (events : EventList) → events ≡ pushed body.events (event.Ran it)
+      → IsNext it c body s → IsTaken it c (record body { events = events }) (noted (event.Ran it) s)
+  taken_so it c body s events e h = record {
+    before = h.before;
+    handle = h.handle;
+    rest = h.rest;
+    pending = h.pending;
+    live = h.live;
+    runs = h.runs;
+    sound = h.sound;
+    after = ap (noted (event.Ran it)) h.after;
+    stands = stands_noted None c body s (event.Ran it) events e h.stands;
+    called = h.called;
+    running = h.running;
+  }
 
 -- ---- which action it was
 is_step : (task : ℕ) (it : Action) → code.Step task ≡ effect_of it → it ≡ action.Step task
@@ -145,17 +156,54 @@ is_main (action.Fires id) e = absurd (cc)
 is_main action.MainDone e = refl
 is_main _ e = absurd (cc)
 
+is_extra : (key : ℕ) (it : Action) → code.Extra key ≡ effect_of it → it ≡ action.Extra key
+is_extra key (action.Step other) e = absurd (cc)
+is_extra key (action.StepInCircle other circle) e = absurd (cc)
+is_extra key (action.Wakeup other) e = absurd (cc)
+is_extra key (action.SleepDone other future) e = absurd (cc)
+is_extra key (action.GroupDone group other) e = absurd (cc)
+is_extra key (action.Fires id) e = absurd (cc)
+is_extra key action.MainDone e = absurd (cc)
+is_extra key (action.Extra other) e = cc
+is_extra key _ e = absurd (cc)
+
+is_item : (number : ℤ) (bytes : List ℕ) (it : Action) → code.ExtraItem number bytes ≡ effect_of it → it ≡ action.ExtraItem number bytes
+is_item number bytes (action.Step other) e = absurd (cc)
+is_item number bytes (action.StepInCircle other circle) e = absurd (cc)
+is_item number bytes (action.Wakeup other) e = absurd (cc)
+is_item number bytes (action.SleepDone other future) e = absurd (cc)
+is_item number bytes (action.GroupDone group other) e = absurd (cc)
+is_item number bytes (action.Fires id) e = absurd (cc)
+is_item number bytes action.MainDone e = absurd (cc)
+is_item number bytes (action.ExtraItem other news) e = cc
+is_item number bytes _ e = absurd (cc)
+
 -- ---- what it leaves is sound
-module _ (it : Action) (c : Setting) (body : Body) (s : State (Unit {0})) (h : IsTaken it c body s) where
-  abbrev out : State (Unit {0})
+off : (b : Bool) → (b && false) ≡ false
+off true = refl
+off false = refl
+
+module _ {X : Type 0} {a : Added X} (it : Action) (c : Setting a) (body : Body X) (s : State a.Kept) (h : IsTaken it c body s) where
+  abbrev out : State a.Kept
   out = unbooked_in (λ p. record p { pending = h.rest }) h.before
 
-  pub sound_then : LeavesStateSound no_extra (effect step_limit no_extra it s)
+  pub sound_then : LeavesStateSound a.meaning (effect step_limit a.meaning it s)
   sound_then =
-      subst (λ t. LeavesStateSound no_extra (effect step_limit no_extra it t)) (sym h.after)
-      (subst (λ a. LeavesStateSound no_extra (effect step_limit no_extra a (noted (event.Ran a) out))) h.runs
-      (subst (λ d. LeavesStateSound no_extra (ran step_limit no_extra d h.handle.action out)) h.live
-      (callback_in no_extra nothing_keeps h.before h.handle h.rest h.pending h.sound)))
+      subst (λ t. LeavesStateSound a.meaning (effect step_limit a.meaning it t)) (sym h.after)
+      (subst (λ k. LeavesStateSound a.meaning (effect step_limit a.meaning k (noted (event.Ran k) out))) h.runs
+      (subst (λ d. LeavesStateSound a.meaning (ran step_limit a.meaning d h.handle.action out)) h.live
+      (callback_in a.meaning (extra_sound a) h.before h.handle h.rest h.pending h.sound)))
+
+  -- where it is of nothing that the loop follows, the loop is sound as it begins
+  pub idle_so : is_followed it ≡ false → ((id : ℕ) → fires id it ≡ false) → ((group : ℕ) → told_by group it [] ≡ []) → HasSoundLoop s
+  idle_so unfollowed no_fire none =
+      subst HasSoundLoop (sym h.after)
+      (as_told None (told_in h.before.events) (told_in (h.before.events ++ event.Ran it ∷ [])) (in_parts (taken h.rest) h.before.loop)
+      (tells_none h.before.events it none)
+      (idle_sound (told_in h.before.events) h.handle h.rest h.before.loop h.pending
+      (λ test follows. ap (λ k. not h.handle.dead && test k) h.runs ∙ ap (λ b. not h.handle.dead && b) (follows it unfollowed) ∙ off (not h.handle.dead))
+      (λ id. ap (λ k. not h.handle.dead && fires id k) h.runs ∙ ap (λ b. not h.handle.dead && b) (no_fire id) ∙ off (not h.handle.dead))
+      h.sound.loop))
 
   pub called_so : (task : ℕ) → steps task it ≡ true → stepped it ≡ Some task → IsCalled task c body s
   called_so task mine one = record {
@@ -173,80 +221,88 @@ module _ (it : Action) (c : Setting) (body : Body) (s : State (Unit {0})) (h : I
   }
 
   -- after a call that steps no task
-  pub after_so : (new : Body) (now : State (Unit {0})) → effect step_limit no_extra it s ≡ Goes now → IsAfter c new now
-      → Steps c new went.Goes (effect step_limit no_extra it s)
+  pub after_so : (new : Body X) (now : State a.Kept) → effect step_limit a.meaning it s ≡ Goes now → IsAfter c new now
+      → Steps c new went.Goes (effect step_limit a.meaning it s)
   after_so new now is a =
       subst (Steps c new went.Goes) (sym is)
-      (record { stands = a.stands; called = a.called; running = a.running; sound = subst (LeavesStateSound no_extra) is sound_then })
-
--- ---- steps
-pub step_called : (task : ℕ) (c : Setting) (body : Body) (s : State (Unit {0})) → IsTaken (action.Step task) c body s → IsCalled task c body s
-step_called task c body s h = called_so (action.Step task) c body s h task (eq-eqb task task refl) refl
-
-pub circle_called : (task : ℕ) (circle : Circle) (c : Setting) (body : Body) (s : State (Unit {0})) → IsTaken (action.StepInCircle task circle) c body s
-    → IsCalled task c body s
-circle_called task circle c body s h = called_so (action.StepInCircle task circle) c body s h task (eq-eqb task task refl) refl
-
-pub wakeup_called : (task : ℕ) (c : Setting) (body : Body) (s : State (Unit {0})) → IsTaken (action.Wakeup task) c body s → IsCalled task c body s
-wakeup_called task c body s h = called_so (action.Wakeup task) c body s h task (eq-eqb task task refl) refl
-
-pub step_begins : (task : ℕ) (body : Body) → MayAct (code.Step task) body → MayBegin task body
-step_begins task body m =
-    ∥∥₁_map m (λ w. (w.1.1.0, (w.1.1.1.0, step_called task w.1.1.0 body w.1.1.1.0 (subst (λ a. IsTaken a w.1.1.0 body w.1.1.1.0) (is_step task w.0 w.1.0) w.1.1.1.1))))
-
-pub circle_begins : (task : ℕ) (circle : Circle) (body : Body) → MayAct (code.StepInCircle task circle) body → MayBegin task body
-circle_begins task circle body m =
-    ∥∥₁_map m (λ w. (
-      w.1.1.0,
-      (
-        w.1.1.1.0,
-        circle_called task circle w.1.1.0 body w.1.1.1.0 (subst (λ a. IsTaken a w.1.1.0 body w.1.1.1.0) (is_circle task circle w.0 w.1.0) w.1.1.1.1),
-      ),
-    ))
-
-pub wakeup_begins : (task : ℕ) (body : Body) → MayAct (code.Wakeup task) body → MayBegin task body
-wakeup_begins task body m =
-    ∥∥₁_map m (λ w. (
-      w.1.1.0,
-      (
-        w.1.1.1.0,
-        wakeup_called task w.1.1.0 body w.1.1.1.0 (subst (λ a. IsTaken a w.1.1.0 body w.1.1.1.0) (is_wakeup task w.0 w.1.0) w.1.1.1.1),
-      ),
-    ))
+      (record { stands = a.stands; called = a.called; running = a.running; sound = subst (LeavesStateSound a.meaning) is sound_then })
 
 -- what a step comes to, of a task that was called
-abbrev pub StepsAs : ℕ → (input : State (Unit {0}) → Input) → (old new : Body) → Stepped → Type 0
-StepsAs task input old new said =
-    (c : Setting) (s : State (Unit {0})) → IsCalled task c old s → Steps c new said (step step_limit no_extra task (input s) s)
+abbrev pub StepsAs : {X : Type 0} → (a : Added X) → ℕ → (input : State a.Kept → Input) → (old new : Body X) → Stepped → Type 0
+StepsAs a task input old new said =
+    (c : Setting a) (s : State a.Kept) → IsCalled task c old s → Steps c new said (step step_limit a.meaning task (input s) s)
 
 -- what a handle comes to
-abbrev pub Acts : Effect → (old new : Body) → Stepped → Type 0
-Acts what old new said =
-    (c : Setting) (s : State (Unit {0})) (it : Action) → what ≡ effect_of it → IsTaken it c old s
-    → Steps c new said (effect step_limit no_extra it s)
+abbrev pub Acts : {X : Type 0} → (a : Added X) → Effect → (old new : Body X) → Stepped → Type 0
+Acts a what old new said =
+    (c : Setting a) (s : State a.Kept) (it : Action) → what ≡ effect_of it → IsTaken it c old s
+    → Steps c new said (effect step_limit a.meaning it s)
 
-module _ (old new : Body) (said : Stepped) where
-  pub step_acts : (task : ℕ) → StepsAs task (λ s. Send Nothing) old new said → Acts (code.Step task) old new said
+module _ {X : Type 0} {a : Added X} where
+  -- ---- steps
+  pub step_called : (task : ℕ) (c : Setting a) (body : Body X) (s : State a.Kept) → IsTaken (action.Step task) c body s → IsCalled task c body s
+  step_called task c body s h = called_so (action.Step task) c body s h task (eq-eqb task task refl) refl
+
+  pub circle_called : (task : ℕ) (circle : Circle) (c : Setting a) (body : Body X) (s : State a.Kept) → IsTaken (action.StepInCircle task circle) c body s
+      → IsCalled task c body s
+  circle_called task circle c body s h = called_so (action.StepInCircle task circle) c body s h task (eq-eqb task task refl) refl
+
+  pub wakeup_called : (task : ℕ) (c : Setting a) (body : Body X) (s : State a.Kept) → IsTaken (action.Wakeup task) c body s → IsCalled task c body s
+  wakeup_called task c body s h = called_so (action.Wakeup task) c body s h task (eq-eqb task task refl) refl
+
+  pub step_begins : (task : ℕ) (body : Body X) → MayAct a (code.Step task) body → MayBegin a task body
+  step_begins task body m =
+      ∥∥₁_map m (λ w. (
+        w.1.1.0,
+        (
+          w.1.1.1.0,
+          step_called task w.1.1.0 body w.1.1.1.0
+              (subst (λ k. IsTaken k w.1.1.0 body w.1.1.1.0) (is_step task w.0 w.1.0) w.1.1.1.1),
+        ),
+      ))
+
+  pub circle_begins : (task : ℕ) (circle : Circle) (body : Body X) → MayAct a (code.StepInCircle task circle) body → MayBegin a task body
+  circle_begins task circle body m =
+      ∥∥₁_map m (λ w. (
+        w.1.1.0,
+        (
+          w.1.1.1.0,
+          circle_called task circle w.1.1.0 body w.1.1.1.0 (subst (λ k. IsTaken k w.1.1.0 body w.1.1.1.0) (is_circle task circle w.0 w.1.0) w.1.1.1.1),
+        ),
+      ))
+
+  pub wakeup_begins : (task : ℕ) (body : Body X) → MayAct a (code.Wakeup task) body → MayBegin a task body
+  wakeup_begins task body m =
+      ∥∥₁_map m (λ w. (
+        w.1.1.0,
+        (
+          w.1.1.1.0,
+          wakeup_called task w.1.1.0 body w.1.1.1.0 (subst (λ k. IsTaken k w.1.1.0 body w.1.1.1.0) (is_wakeup task w.0 w.1.0) w.1.1.1.1),
+        ),
+      ))
+
+module _ {X : Type 0} {a : Added X} (old new : Body X) (said : Stepped) where
+  pub step_acts : (task : ℕ) → StepsAs a task (λ s. Send Nothing) old new said → Acts a (code.Step task) old new said
   unfolding effect
   step_acts task does c s it is h =
-      subst (λ a. Steps c new said (effect step_limit no_extra a s)) (sym (is_step task it is))
-      (does c s (step_called task c old s (subst (λ a. IsTaken a c old s) (is_step task it is) h)))
+      subst (λ k. Steps c new said (effect step_limit a.meaning k s)) (sym (is_step task it is))
+      (does c s (step_called task c old s (subst (λ k. IsTaken k c old s) (is_step task it is) h)))
 
-  pub circle_acts : (task : ℕ) (circle : Circle) → StepsAs task (λ s. Throw (circle_fault circle)) old new said
-      → Acts (code.StepInCircle task circle) old new said
+  pub circle_acts : (task : ℕ) (circle : Circle) → StepsAs a task (λ s. Throw (circle_fault circle)) old new said
+      → Acts a (code.StepInCircle task circle) old new said
   unfolding effect
   circle_acts task circle does c s it is h =
-      subst (λ a. Steps c new said (effect step_limit no_extra a s)) (sym (is_circle task circle it is))
-      (does c s (circle_called task circle c old s (subst (λ a. IsTaken a c old s) (is_circle task circle it is) h)))
+      subst (λ k. Steps c new said (effect step_limit a.meaning k s)) (sym (is_circle task circle it is))
+      (does c s (circle_called task circle c old s (subst (λ k. IsTaken k c old s) (is_circle task circle it is) h)))
 
-  pub wakeup_acts : (task : ℕ) → StepsAs task (λ s. woken_with s.loop.parts task) old new said → Acts (code.Wakeup task) old new said
+  pub wakeup_acts : (task : ℕ) → StepsAs a task (λ s. woken_with s.loop.parts task) old new said → Acts a (code.Wakeup task) old new said
   unfolding effect
   wakeup_acts task does c s it is h =
-      subst (λ a. Steps c new said (effect step_limit no_extra a s)) (sym (is_wakeup task it is))
-      (does c s (wakeup_called task c old s (subst (λ a. IsTaken a c old s) (is_wakeup task it is) h)))
+      subst (λ k. Steps c new said (effect step_limit a.meaning k s)) (sym (is_wakeup task it is))
+      (does c s (wakeup_called task c old s (subst (λ k. IsTaken k c old s) (is_wakeup task it is) h)))
 
 -- ---- what a task is woken with
-module _ (task : ℕ) (c : Setting) (body : Body) (s : State (Unit {0})) (h : IsCalled task c body s) where
+module _ {X : Type 0} {a : Added X} (task : ℕ) (c : Setting a) (body : Body X) (s : State a.Kept) (h : IsCalled task c body s) where
   woken_there : (on : ℕ) → waiter_of s.loop.parts task ≡ Some on → h.stands.ties.gone on ≡ false
   woken_there on waits = false_from_ne_true (h.stands.ties.gone on) (λ e. absurd (none_some ((h.stands.gone on e).alone task waits)))
     where
@@ -272,31 +328,33 @@ module _ (task : ℕ) (c : Setting) (body : Body) (s : State (Unit {0})) (h : Is
   pub woken_sends : sends_made (length body.slots.items) (woken_with s.loop.parts task) ≡ true
   woken_sends = sends
     where
-      at : (t : State (Unit {0})) → s ≡ t → sends_made (next_task t.loop.parts) (woken_with t.loop.parts task) ≡ true
+      at : (t : State a.Kept) → s ≡ t → sends_made (next_task t.loop.parts) (woken_with t.loop.parts task) ≡ true
           → sends_made (length body.slots.items) (woken_with s.loop.parts task) ≡ true
       at t e m =
-          ap (λ n. sends_made n (woken_with s.loop.parts task)) (h.stands.made ∙ ap (λ (x : State (Unit {0})). next_task x.loop.parts) e)
-          ∙ ap (λ (x : State (Unit {0})). sends_made (next_task t.loop.parts) (woken_with x.loop.parts task)) e ∙ m
+          ap (λ n. sends_made n (woken_with s.loop.parts task)) (h.stands.made ∙ ap (λ (x : State a.Kept). next_task x.loop.parts) e)
+          ∙ ap (λ (x : State a.Kept). sends_made (next_task t.loop.parts) (woken_with x.loop.parts task)) e ∙ m
 
       sends : sends_made (length body.slots.items) (woken_with s.loop.parts task) ≡ true
       sends =
           at (noted (event.Ran h.handle.action) (unbooked_in (λ p. record p { pending = h.rest }) h.before)) h.after
-          (woken_made no_extra h.before h.sound task)
+          (woken_made a.meaning h.before h.sound task)
 
-pub woken_sends_may : (task : ℕ) (body : Body) (input : Input) → MayBegin task body
-    → ((c : Setting) (s : State (Unit {0})) → IsCalled task c body s → input ≡ woken_with s.loop.parts task)
-    → sends_made (length body.slots.items) input ≡ true
-woken_sends_may task body input m is =
-    ∥∥₁_elim m (bool_prop (sends_made (length body.slots.items) input) true)
-    (λ w. ap (sends_made (length body.slots.items)) (is w.0 w.1.0 w.1.1) ∙ woken_sends task w.0 body w.1.0 w.1.1)
-  where
-    bool_prop : (a b : Bool) → IsProp (a ≡ b)
-    bool_prop a b = hlevel props
+module _ {X : Type 0} {a : Added X} where
+  pub woken_sends_may : (task : ℕ) (body : Body X) (input : Input) → MayBegin a task body
+      → ((c : Setting a) (s : State a.Kept) → IsCalled task c body s → input ≡ woken_with s.loop.parts task)
+      → sends_made (length body.slots.items) input ≡ true
+  woken_sends_may task body input m is =
+      ∥∥₁_elim m (bool_prop (sends_made (length body.slots.items) input) true)
+      (λ w. ap (sends_made (length body.slots.items)) (is w.0 w.1.0 w.1.1) ∙ woken_sends task w.0 body w.1.0 w.1.1)
+    where
+      bool_prop : (a b : Bool) → IsProp (a ≡ b)
+      bool_prop a b = hlevel props
 
 -- ---- the end of a sleep
-module _ (task future : ℕ) (c : Setting) (body : Body) (s : State (Unit {0})) (h : IsTaken (action.SleepDone task future) c body s) where
+module _ {X : Type 0} {a : Added X} (task future : ℕ) (c : Setting a) (body : Body X) (s : State a.Kept)
+    (h : IsTaken (action.SleepDone task future) c body s) where
   sleeps_plainly : is_plain s.loop.parts future ≡ true
-  sleeps_plainly = subst (λ (t : State (Unit {0})). is_plain t.loop.parts future ≡ true) (sym h.after) plain
+  sleeps_plainly = subst (λ (t : State a.Kept). is_plain t.loop.parts future ≡ true) (sym h.after) plain
     where
       plain : is_plain h.before.loop.parts future ≡ true
       plain = h.sound.loop.timed.sleeps future (
@@ -323,121 +381,188 @@ module _ (task future : ℕ) (c : Setting) (body : Body) (s : State (Unit {0})) 
         }) (in_parts (settle future (Returned Nothing))) h.stands
         (kept_settle h.stands.ties body.parts s.loop.parts h.stands.keeps future (Returned Nothing))
         (leaves_settle future (Returned Nothing) s.loop.parts (plain_within s.loop.parts future sleeps_plainly).0)
-        (spares_none s.loop.parts s.futures) (refl, refl) (ap length (below_soon_all (called future body.parts.futures) body.parts.queue));
+        (spares_none s.loop.parts (named_in a s)) (refl, refl) (ap length (below_soon_all (called future body.parts.futures) body.parts.queue));
     called = h.called;
     running = h.running;
   })
 
-pub sleep_idle : (task future : ℕ) (body : Body) → MayAct (code.SleepDone task future) body → body.parts.called ≡ None
-sleep_idle task future body m =
-    ∥∥₁_elim m (same_prop body.parts.called None)
-    (λ w. (subst (λ a. IsTaken a w.1.1.0 body w.1.1.1.0) (is_sleep task future w.0 w.1.0) w.1.1.1.1).called)
+module _ {X : Type 0} {a : Added X} where
+  pub sleep_idle : (task future : ℕ) (body : Body X) → MayAct a (code.SleepDone task future) body → body.parts.called ≡ None
+  sleep_idle task future body m =
+      ∥∥₁_elim m (same_prop body.parts.called None)
+      (λ w. (subst (λ k. IsTaken k w.1.1.0 body w.1.1.1.0) (is_sleep task future w.0 w.1.0) w.1.1.1.1).called)
 
-pub sleep_free : (task future : ℕ) (body : Body) → MayAct (code.SleepDone task future) body → owner_at (slice_get body.parts.futures future) ≡ None
-sleep_free task future body m =
-    ∥∥₁_elim m (same_prop (owner_at (slice_get body.parts.futures future)) None)
-    (λ w. sleeps_own task future w.1.1.0 body w.1.1.1.0 (subst (λ a. IsTaken a w.1.1.0 body w.1.1.1.0) (is_sleep task future w.0 w.1.0) w.1.1.1.1))
+  pub sleep_free : (task future : ℕ) (body : Body X) → MayAct a (code.SleepDone task future) body → owner_at (slice_get body.parts.futures future) ≡ None
+  sleep_free task future body m =
+      ∥∥₁_elim m (same_prop (owner_at (slice_get body.parts.futures future)) None)
+      (λ w. sleeps_own task future w.1.1.0 body w.1.1.1.0 (subst (λ k. IsTaken k w.1.1.0 body w.1.1.1.0) (is_sleep task future w.0 w.1.0) w.1.1.1.1))
 
-pub sleep_acts : (task future : ℕ) (old : Body) (v : View)
-    → v ≡ record old.parts {
-      futures = settled.settled future (Returned Nothing) old.parts.futures;
-      queue = soon_all (called future old.parts.futures) old.parts.queue;
-    }
-    → Acts (code.SleepDone task future) old (record old { parts = v }) went.Goes
-unfolding effect
-sleep_acts task future old v is c s it what h =
-    let e = is_sleep task future it what in
-    let taken = subst (λ a. IsTaken a c old s) e h in
-    subst (λ a. Steps c (record old { parts = v }) went.Goes (effect step_limit no_extra a s)) (sym e)
-    (after_so (action.SleepDone task future) c old s taken (record old { parts = v }) (unbooked_in (settle future (Returned Nothing)) s) refl
-    (sleep_over task future c old s taken v is))
+  pub sleep_acts : (task future : ℕ) (old : Body X) (v : View)
+      → v ≡ record old.parts {
+        futures = settled.settled future (Returned Nothing) old.parts.futures;
+        queue = soon_all (called future old.parts.futures) old.parts.queue;
+      }
+      → Acts a (code.SleepDone task future) old (record old { parts = v }) went.Goes
+  unfolding effect
+  sleep_acts task future old v is c s it what h =
+      let e = is_sleep task future it what in
+      let taken = subst (λ k. IsTaken k c old s) e h in
+      subst (λ k. Steps c (record old { parts = v }) went.Goes (effect step_limit a.meaning k s)) (sym e)
+      (after_so (action.SleepDone task future) c old s taken (record old { parts = v }) (unbooked_in (settle future (Returned Nothing)) s) refl
+      (sleep_over task future c old s taken v is))
 
--- ---- groups and timeouts
-pub group_takes : (group task : ℕ) (body : Body) → MayAct (code.GroupDone group task) body → MayTake (action.GroupDone group task) body
-group_takes group task body m =
-    ∥∥₁_map m (λ w. (w.1.1.0, (w.1.1.1.0, subst (λ a. IsTaken a w.1.1.0 body w.1.1.1.0) (is_group group task w.0 w.1.0) w.1.1.1.1)))
+  -- ---- groups and timeouts
+  pub group_takes : (group task : ℕ) (body : Body X) → MayAct a (code.GroupDone group task) body → MayTake a (action.GroupDone group task) body
+  group_takes group task body m =
+      ∥∥₁_map m (λ w. (w.1.1.0, (w.1.1.1.0, subst (λ k. IsTaken k w.1.1.0 body w.1.1.1.0) (is_group group task w.0 w.1.0) w.1.1.1.1)))
 
-pub fire_takes : (timeout : ℕ) (body : Body) → MayAct (code.Fires timeout) body → MayTake (action.Fires timeout) body
-fire_takes timeout body m =
-    ∥∥₁_map m (λ w. (w.1.1.0, (w.1.1.1.0, subst (λ a. IsTaken a w.1.1.0 body w.1.1.1.0) (is_firing timeout w.0 w.1.0) w.1.1.1.1)))
+  pub fire_takes : (timeout : ℕ) (body : Body X) → MayAct a (code.Fires timeout) body → MayTake a (action.Fires timeout) body
+  fire_takes timeout body m =
+      ∥∥₁_map m (λ w. (w.1.1.0, (w.1.1.1.0, subst (λ k. IsTaken k w.1.1.0 body w.1.1.1.0) (is_firing timeout w.0 w.1.0) w.1.1.1.1)))
 
-pub group_acts : (group task : ℕ) (old new : Body)
-    → ((c : Setting) (s : State (Unit {0})) → IsTaken (action.GroupDone group task) c old s → IsAfter c new (in_loop (child_done group task) s))
-    → Acts (code.GroupDone group task) old new went.Goes
-unfolding effect
-group_acts group task old new does c s it what h =
-    let e = is_group group task it what in
-    let taken = subst (λ a. IsTaken a c old s) e h in
-    subst (λ a. Steps c new went.Goes (effect step_limit no_extra a s)) (sym e)
-    (after_so (action.GroupDone group task) c old s taken new (in_loop (child_done group task) s) refl (does c s taken))
+  pub group_acts : (group task : ℕ) (old new : Body X)
+      → ((c : Setting a) (s : State a.Kept) → IsTaken (action.GroupDone group task) c old s → IsAfter c new (in_loop (child_done group task) s))
+      → Acts a (code.GroupDone group task) old new went.Goes
+  unfolding effect
+  group_acts group task old new does c s it what h =
+      let e = is_group group task it what in
+      let taken = subst (λ k. IsTaken k c old s) e h in
+      subst (λ k. Steps c new went.Goes (effect step_limit a.meaning k s)) (sym e)
+      (after_so (action.GroupDone group task) c old s taken new (in_loop (child_done group task) s) refl (does c s taken))
 
-pub fire_acts : (timeout : ℕ) (old new : Body)
-    → ((c : Setting) (s : State (Unit {0})) → IsTaken (action.Fires timeout) c old s → IsAfter c new (in_loop (fire timeout) s))
-    → Acts (code.Fires timeout) old new went.Goes
-unfolding effect
-fire_acts timeout old new does c s it what h =
-    let e = is_firing timeout it what in
-    let taken = subst (λ a. IsTaken a c old s) e h in
-    subst (λ a. Steps c new went.Goes (effect step_limit no_extra a s)) (sym e)
-    (after_so (action.Fires timeout) c old s taken new (in_loop (fire timeout) s) refl (does c s taken))
+  pub fire_acts : (timeout : ℕ) (old new : Body X)
+      → ((c : Setting a) (s : State a.Kept) → IsTaken (action.Fires timeout) c old s → IsAfter c new (in_loop (fire timeout) s))
+      → Acts a (code.Fires timeout) old new went.Goes
+  unfolding effect
+  fire_acts timeout old new does c s it what h =
+      let e = is_firing timeout it what in
+      let taken = subst (λ k. IsTaken k c old s) e h in
+      subst (λ k. Steps c new went.Goes (effect step_limit a.meaning k s)) (sym e)
+      (after_so (action.Fires timeout) c old s taken new (in_loop (fire timeout) s) refl (does c s taken))
 
--- ---- main's callback
-pub main_acts : (old : Body) → Acts code.MainDone old (record old { main_done = true }) went.Goes
-unfolding effect
-main_acts old c s it what h =
-    let e = is_main it what in
-    let taken = subst (λ a. IsTaken a c old s) e h in
-    subst (λ a. Steps c (record old { main_done = true }) went.Goes (effect step_limit no_extra a s)) (sym e)
-    (after_so action.MainDone c old s taken (record old { main_done = true }) (record s { main_done = true }) refl
-    (record { stands = stands_main c old s taken.stands; called = taken.called; running = taken.running }))
-  where
-    stands_main : (c : Setting) (old : Body) (s : State (Unit {0})) → Stands None c old s
-        → Stands None c (record old { main_done = true }) (record s { main_done = true })
-    stands_main c old s h = record {
-      ties = h.ties;
-      code = h.code;
-      keeps = h.keeps;
-      left = h.left;
-      bar = h.bar;
-      blocks = h.blocks;
-      made = h.made;
-      told = h.told;
-      few = h.few;
-      held = λ task l. let has = h.held task l in record {
-        slot = has.slot;
-        found = has.found;
-        right = record { waits = has.right.waits; standing = has.right.standing };
-      };
-      gone = h.gone;
-      futures = h.futures;
-      few_futures = h.few_futures;
-      main_done = refl;
-      time = h.time;
-      counts = h.counts;
-      events = h.events;
-      rest = h.rest;
-      count = h.count;
-    }
+  -- ---- main's callback
+  pub main_acts : (old : Body X) → Acts a code.MainDone old (record old { main_done = true }) went.Goes
+  unfolding effect
+  main_acts old c s it what h =
+      let e = is_main it what in
+      let taken = subst (λ k. IsTaken k c old s) e h in
+      subst (λ k. Steps c (record old { main_done = true }) went.Goes (effect step_limit a.meaning k s)) (sym e)
+      (after_so action.MainDone c old s taken (record old { main_done = true }) (record s { main_done = true }) refl
+      (record { stands = stands_main c old s taken.stands; called = taken.called; running = taken.running }))
+    where
+      stands_main : (c : Setting a) (old : Body X) (s : State a.Kept) → Stands None c old s
+          → Stands None c (record old { main_done = true }) (record s { main_done = true })
+      stands_main c old s h = record {
+        ties = h.ties;
+        code = h.code;
+        keeps = h.keeps;
+        left = h.left;
+        bar = h.bar;
+        blocks = h.blocks;
+        made = h.made;
+        told = h.told;
+        few = h.few;
+        held = λ task l. let has = h.held task l in record {
+          slot = has.slot;
+          found = has.found;
+          right = record { waits = has.right.waits; standing = has.right.standing };
+        };
+        gone = h.gone;
+        futures = h.futures;
+        few_futures = h.few_futures;
+        main_done = refl;
+        time = h.time;
+        counts = h.counts;
+        events = h.events;
+        rest = h.rest;
+        extra = h.extra;
+        count = h.count;
+      }
 
--- a handle that was taken may do what it does
-pub may_act : (it : Action) (what : Effect) (body : Body) (events : EventList) → what ≡ effect_of it → events ≡ pushed body.events (event.Ran it)
-    → MayRun it body → MayAct what (record body { events = events })
-may_act it what body events same e m =
-    ∥∥₁_map m (λ w. (it, (same, (w.0, (noted (event.Ran it) w.1.0, taken_so it w.0 body w.1.0 events e w.1.1)))))
+  -- a handle that was taken may do what it does
+  pub may_act : (it : Action) (what : Effect) (body : Body X) (events : EventList) → what ≡ effect_of it → events ≡ pushed body.events (event.Ran it)
+      → MayRun a it body → MayAct a what (record body { events = events })
+  may_act it what body events same e m =
+      ∥∥₁_map m (λ w. (it, (same, (w.0, (noted (event.Ran it) w.1.0, taken_so it w.0 body w.1.0 events e w.1.1)))))
+
+-- what is added heard this news
+abbrev pub HearsNews : {X : Type 0} → (a : Added X) → (old : Body X) (v : View) (x : X) (number : ℤ) (bytes : List ℕ) → Type 0
+HearsNews a old v x number bytes =
+    (t : Ties) (s : State a.Kept) → IsServed a None t s old.extra old.parts → CallsAs a t s old.parts v x (a.meaning.item number bytes s)
+
+module _ {X : Type 0} {a : Added X} where
+  -- ---- handles of what is added, and news for it
+  idle_served : (it : Action) (body : Body X) → is_followed it ≡ false → ((id : ℕ) → fires id it ≡ false) → ((group : ℕ) → told_by group it [] ≡ [])
+      → stepped it ≡ None → MayTake a it body → MayServe a None body.extra body.parts
+  idle_served it body unfollowed no_fire none idle m =
+      ∥∥₁_map m (λ w.
+      let h = w.1.1 in
+      (h.stands.ties, (w.1.0, served_of None None w.0 body w.1.0 h.stands (h.called ∙ idle) h.running (idle_so it w.0 body w.1.0 h unfollowed no_fire none))))
+
+  -- a call of it that steps no task
+  module _ (it : Action) (c : Setting a) (old : Body X) (s : State a.Kept) (h : IsTaken it c old s) (sound : HasSoundLoop s) (idle : stepped it ≡ None)
+      (call : ExtraCall a.Kept) (may : AreAllowed call.steps s.loop) (does : effect step_limit a.meaning it s ≡ Goes (called_after call s)) (v : View)
+      (x : X) where
+    calls_so : ((t : Ties) (now : State a.Kept) → IsServed a None t now old.extra old.parts → now ≡ s → CallsAs a t s old.parts v x call)
+        → Steps c (record old { parts = v; extra = x }) went.Goes (effect step_limit a.meaning it s)
+    calls_so calls =
+        let r = calls h.stands.ties s (served_of None None c old s h.stands (h.called ∙ idle) h.running sound) refl in
+        after_so it c old s h (record old { parts = v; extra = x }) (called_after call s) does (record {
+          stands = stands_called None None c old s v x call h.stands may sound r;
+          called = r.called ∙ h.called ∙ idle;
+          running = r.running ∙ h.running;
+        })
+
+  pub extra_serves : (key : ℕ) (body : Body X) → MayAct a (code.Extra key) body → MayServe a None body.extra body.parts
+  extra_serves key body m =
+      idle_served (action.Extra key) body refl (λ id. refl) (λ g. refl) refl
+      (∥∥₁_map m (λ w. (w.1.1.0, (w.1.1.1.0, subst (λ k. IsTaken k w.1.1.0 body w.1.1.1.0) (is_extra key w.0 w.1.0) w.1.1.1.1))))
+
+  pub extra_acts : (key : ℕ) (old : Body X) (v : View) (x : X)
+      → ((t : Ties) (s : State a.Kept) → IsServed a None t s old.extra old.parts → CallsAs a t s old.parts v x (a.meaning.act key s))
+      → Acts a (code.Extra key) old (record old { parts = v; extra = x }) went.Goes
+  unfolding effect
+  extra_acts key old v x does c s it what h =
+      let e = is_extra key it what in
+      let taken = subst (λ k. IsTaken k c old s) e h in
+      let sound = idle_so (action.Extra key) c old s taken refl (λ id. refl) (λ g. refl) in
+      subst (λ k. Steps c (record old { parts = v; extra = x }) went.Goes (effect step_limit a.meaning k s)) (sym e)
+      (calls_so (action.Extra key) c old s taken sound refl (a.meaning.act key s) (a.allowed.act key s sound) refl v x
+      (λ t now served same. does t s (subst (λ n. IsServed a None t n old.extra old.parts) same served)))
+
+  pub item_serves : (number : ℤ) (bytes : List ℕ) (body : Body X) → MayAct a (code.ExtraItem number bytes) body → MayServe a None body.extra body.parts
+  item_serves number bytes body m =
+      idle_served (action.ExtraItem number bytes) body refl (λ id. refl) (λ g. refl) refl
+      (∥∥₁_map m (λ w. (w.1.1.0, (w.1.1.1.0, subst (λ k. IsTaken k w.1.1.0 body w.1.1.1.0) (is_item number bytes w.0 w.1.0) w.1.1.1.1))))
+
+  pub item_acts : (number : ℤ) (bytes : List ℕ) (old : Body X) (v : View) (x : X)
+      → HearsNews a old v x number bytes → Acts a (code.ExtraItem number bytes) old (record old { parts = v; extra = x }) went.Goes
+  unfolding effect
+  item_acts number bytes old v x does c s it what h =
+      let e = is_item number bytes it what in
+      let taken = subst (λ k. IsTaken k c old s) e h in
+      let sound = idle_so (action.ExtraItem number bytes) c old s taken refl (λ id. refl) (λ g. refl) in
+      subst (λ k. Steps c (record old { parts = v; extra = x }) went.Goes (effect step_limit a.meaning k s)) (sym e)
+      (calls_so (action.ExtraItem number bytes) c old s taken sound refl (a.meaning.item number bytes s) (a.allowed.item number bytes s sound) refl v x
+      (λ t now served same. does t s (subst (λ n. IsServed a None t n old.extra old.parts) same served)))
 
 -- ---- what isn't here so far
-nothing_goes : (it : Action) → code.Nothing ≡ effect_of it → (s : State (Unit {0})) → (effect step_limit no_extra it s ≡ Goes s) × (stepped it ≡ None)
+nothing_goes : {S : Type 0} (added : Extra S) (it : Action) → code.Nothing ≡ effect_of it → (s : State S)
+    → (effect step_limit added it s ≡ Goes s) × (stepped it ≡ None)
 unfolding effect
-nothing_goes (action.Step other) e s = absurd (cc)
-nothing_goes (action.StepInCircle other circle) e s = absurd (cc)
-nothing_goes (action.Wakeup other) e s = absurd (cc)
-nothing_goes (action.SleepDone other future) e s = absurd (cc)
-nothing_goes (action.GroupDone group other) e s = absurd (cc)
-nothing_goes (action.Fires id) e s = absurd (cc)
-nothing_goes action.MainDone e s = absurd (cc)
-nothing_goes _ e s = (refl, refl)
+nothing_goes added (action.Step other) e s = absurd (cc)
+nothing_goes added (action.StepInCircle other circle) e s = absurd (cc)
+nothing_goes added (action.Wakeup other) e s = absurd (cc)
+nothing_goes added (action.SleepDone other future) e s = absurd (cc)
+nothing_goes added (action.GroupDone group other) e s = absurd (cc)
+nothing_goes added (action.Fires id) e s = absurd (cc)
+nothing_goes added action.MainDone e s = absurd (cc)
+nothing_goes added (action.Extra key) e s = absurd (cc)
+nothing_goes added (action.ExtraItem number bytes) e s = absurd (cc)
+nothing_goes added _ e s = (refl, refl)
 
-pub nothing_acts : (old : Body) → Acts code.Nothing old old went.Goes
-nothing_acts old c s it what h =
-    let same = nothing_goes it what s in
-    after_so it c old s h old s same.0 (record { stands = h.stands; called = h.called ∙ same.1; running = h.running })
+module _ {X : Type 0} {a : Added X} where
+  pub nothing_acts : (old : Body X) → Acts a code.Nothing old old went.Goes
+  nothing_acts old c s it what h =
+      let same = nothing_goes a.meaning it what s in
+      after_so it c old s h old s same.0 (record { stands = h.stands; called = h.called ∙ same.1; running = h.running })

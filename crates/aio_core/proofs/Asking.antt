@@ -10,7 +10,7 @@ use Rattle.model_wire.specs.Event.{Event}
 use Rattle.model_wire.specs.Fits.{fits}
 use Rattle.model_wire.specs.Journal.{Entry, Answered}
 use Rattle.model_wire.specs.Told.{Agrees, WireSeen}
-use Rattle.model_machine.specs.Extra.{no_extra}
+use Rattle.model_machine.specs.Extra.{Extra}
 use Rattle.model_machine.specs.Outcomes.{end_of}
 use Rattle.model_machine.specs.State.{State, noted, unbooked_in}
 use Rattle.model_machine.specs.Turn.{call_of, is_stalled, turn, turn_unless, turned_by, woken_by}
@@ -26,6 +26,7 @@ use Rattle.aio_wire.specs.declared.stop.Stop.TheVariants as stop
 use Rattle.aio_wire.specs.declared.wire.JournalFault.{JournalFault}
 use Rattle.aio_wire.specs.declared.wire.Reply.{Reply}
 use Rattle.aio_wire.specs.declared.wire.Reply.TheVariants as reply
+use Rattle.aio_extra.specs.Added.{Added}
 use Rattle.aio_body.specs.declared.body.Body.{Body}
 use Rattle.aio_body.specs.Stands.{Setting, Stands, IsBetween}
 use Rattle.law_body.proofs.Noting.{counted, stands_noted}
@@ -34,68 +35,71 @@ use Rattle.aio_core.specs.declared.went.Went.TheVariants as went
 use Rattle.aio_core.specs.Turning.{AliveIfWent, ComesTo, EndsTelling, Is, IsAlive, IsAtRest, OfFailing, StallsAs, Stood, Turned, UnlessFailed, all_below, at_bar, resting, stood_by}
 
 -- ---- the machine
-turn_asks : (s : State (Unit {0})) → is_stalled no_extra s ≡ false → turn step_limit no_extra s ≡ ask (call_of no_extra s) (turned_by step_limit no_extra) s
+turn_asks : {S : Type 0} (added : Extra S) (s : State S) → is_stalled added s ≡ false
+    → turn step_limit added s ≡ ask (call_of added s) (turned_by step_limit added) s
 unfolding turn
-turn_asks s e = ap (λ b. turn_unless step_limit no_extra b s) e
+turn_asks added s e = ap (λ b. turn_unless step_limit added b s) e
 
-turn_stalls : (s : State (Unit {0})) → is_stalled no_extra s ≡ true → turn step_limit no_extra s ≡ Stops end.Stalled s
+turn_stalls : {S : Type 0} (added : Extra S) (s : State S) → is_stalled added s ≡ true → turn step_limit added s ≡ Stops end.Stalled s
 unfolding turn
-turn_stalls s e = ap (λ b. turn_unless step_limit no_extra b s) e
+turn_stalls added s e = ap (λ b. turn_unless step_limit added b s) e
 
 -- the call is noted
-abbrev pub called_at : Call → State (Unit {0}) → State (Unit {0})
+abbrev pub called_at : {S : Type 0} → Call → State S → State S
 called_at call s = noted (event.Called call) s
 
 -- and the answer
-abbrev pub got_at : Call → Answer → List Entry → State (Unit {0}) → State (Unit {0})
+abbrev pub got_at : {S : Type 0} → Call → Answer → List Entry → State S → State S
 got_at call answer rest s = noted (event.Got answer) (record (called_at call s) { answers = rest })
 
--- the outside's answers are other ones
-stands_answers : (c : Setting) (body : Body) (s : State (Unit {0})) (answers : List Entry) → Stands None c body s
-    → Stands None (record c { answers = answers }) body (record s { answers = answers })
-stands_answers c body s answers h = record {
-  ties = h.ties;
-  code = h.code;
-  keeps = h.keeps;
-  left = h.left;
-  bar = h.bar;
-  blocks = h.blocks;
-  made = h.made;
-  told = h.told;
-  few = h.few;
-  held = λ task l. let has = h.held task l in record {
-    slot = has.slot;
-    found = has.found;
-    right = record { waits = has.right.waits; standing = has.right.standing };
-  };
-  gone = h.gone;
-  futures = h.futures;
-  few_futures = h.few_futures;
-  main_done = h.main_done;
-  time = h.time;
-  counts = h.counts;
-  events = h.events;
-  rest = refl;
-  count = h.count;
-}
+module _ {X : Type 0} {a : Added X} where
+  -- the outside's answers are other ones
+  stands_answers : (c : Setting a) (body : Body X) (s : State a.Kept) (answers : List Entry) → Stands None c body s
+      → Stands None (record c { answers = answers }) body (record s { answers = answers })
+  stands_answers c body s answers h = record {
+    ties = h.ties;
+    code = h.code;
+    keeps = h.keeps;
+    left = h.left;
+    bar = h.bar;
+    blocks = h.blocks;
+    made = h.made;
+    told = h.told;
+    few = h.few;
+    held = λ task l. let has = h.held task l in record {
+      slot = has.slot;
+      found = has.found;
+      right = record { waits = has.right.waits; standing = has.right.standing };
+    };
+    gone = h.gone;
+    futures = h.futures;
+    few_futures = h.few_futures;
+    main_done = h.main_done;
+    time = h.time;
+    counts = h.counts;
+    events = h.events;
+    rest = refl;
+    extra = h.extra;
+    count = h.count;
+  }
 
 -- ---- of a turn that isn't stalled, by its call
-module _ (old : Body) (call : Call)
-    (is : (c : Setting) (s : State (Unit {0})) → IsBetween c old s → call ≡ call_of no_extra s)
-    (goes : (c : Setting) (s : State (Unit {0})) → IsBetween c old s → false ≡ is_stalled no_extra s) where
-  turned_as : (c : Setting) (s : State (Unit {0})) → IsBetween c old s → (answers : List Entry) → s.answers ≡ answers
-      → turn step_limit no_extra s ≡ answered_by answers call (turned_by step_limit no_extra) (called_at call s)
+module _ {X : Type 0} {a : Added X} (old : Body X) (call : Call)
+    (is : (c : Setting a) (s : State a.Kept) → IsBetween c old s → call ≡ call_of a.meaning s)
+    (goes : (c : Setting a) (s : State a.Kept) → IsBetween c old s → false ≡ is_stalled a.meaning s) where
+  turned_as : (c : Setting a) (s : State a.Kept) → IsBetween c old s → (answers : List Entry) → s.answers ≡ answers
+      → turn step_limit a.meaning s ≡ answered_by answers call (turned_by step_limit a.meaning) (called_at call s)
   turned_as c s h answers e =
-      turn_asks s (sym (goes c s h)) ∙ ap (λ it. ask it (turned_by step_limit no_extra) s) (sym (is c s h))
-      ∙ ap (λ those. answered_by those call (turned_by step_limit no_extra) (called_at call s)) e
+      turn_asks a.meaning s (sym (goes c s h)) ∙ ap (λ it. ask it (turned_by step_limit a.meaning) s) (sym (is c s h))
+      ∙ ap (λ those. answered_by those call (turned_by step_limit a.meaning) (called_at call s)) e
 
-  told_call : (past answers : List Event) (rest : List Entry) (s : State (Unit {0})) (events : EventList) → s.events ≡ past ++ old.events.events
+  told_call : (past answers : List Event) (rest : List Entry) (s : State a.Kept) (events : EventList) → s.events ≡ past ++ old.events.events
       → events ≡ pushed old.events (event.Called call) → (called_at call s).events ≡ past ++ events.events
   told_call past answers rest s events told e =
       ap (λ es. es ++ event.Called call ∷ []) told ∙ append_assoc past old.events.events (event.Called call ∷ [])
       ∙ ap (λ (l : EventList). past ++ l.events) (sym e)
 
-  told_got : (past : List Event) (s : State (Unit {0})) (answer : Answer) (rest : List Entry) (events : EventList) → s.events ≡ past ++ old.events.events
+  told_got : (past : List Event) (s : State a.Kept) (answer : Answer) (rest : List Entry) (events : EventList) → s.events ≡ past ++ old.events.events
       → events ≡ pushed (pushed old.events (event.Called call)) (event.Got answer) → (got_at call answer rest s).events ≡ past ++ events.events
   told_got past s answer rest events told e =
       ap (λ es. es ++ event.Got answer ∷ []) (told_call past [] rest s (pushed old.events (event.Called call)) told refl)
@@ -104,8 +108,8 @@ module _ (old : Body) (call : Call)
 
   -- ---- it has none
   module _ (events : EventList) (before after : WireSeen) where
-    stops_over : Replied call before after reply.Over → events ≡ pushed old.events (event.Called call) → (new : Stood)
-        → ComesTo before.left after.left before.faults after.faults (stood_by old) new events.events (went.Stopped (stop.Over call))
+    stops_over : Replied call before after reply.Over → events ≡ pushed old.events (event.Called call) → (new : Stood a.Kept)
+        → ComesTo a.meaning before.left after.left before.faults after.faults (stood_by a old) new events.events (went.Stopped (stop.Over call))
     stops_over replied e new = (
       [],
       (
@@ -114,14 +118,14 @@ module _ (old : Body) (call : Call)
           end = end.Over call;
           last = called_at call s;
           way = refl;
-          stops = turned_as (resting past rest h.0) s h.1 [] (h.1.stands.rest ∙ none);
+          stops = turned_as (resting a past rest h.0) s h.1 [] (h.1.stands.rest ∙ none);
           told = told_call past [] rest s events h.1.stands.events e;
         },
       ),
     )
 
-    stops_bad : (fault : JournalFault) → Replied call before after (reply.Bad fault) → events ≡ pushed old.events (event.Called call) → (new : Stood)
-        → ComesTo before.left after.left before.faults after.faults (stood_by old) new events.events (went.Stopped (stop.Bad fault))
+    stops_bad : (fault : JournalFault) → Replied call before after (reply.Bad fault) → events ≡ pushed old.events (event.Called call) → (new : Stood a.Kept)
+        → ComesTo a.meaning before.left after.left before.faults after.faults (stood_by a old) new events.events (went.Stopped (stop.Bad fault))
     stops_bad fault replied e new = (
       [],
       (
@@ -130,14 +134,14 @@ module _ (old : Body) (call : Call)
           end = end.JournalRefused fault.line fault.cause;
           last = called_at call s;
           way = refl;
-          stops = turned_as (resting past rest h.0) s h.1 (refused_of fault ∷ next.0) (h.1.stands.rest ∙ next.1);
+          stops = turned_as (resting a past rest h.0) s h.1 (refused_of fault ∷ next.0) (h.1.stands.rest ∙ next.1);
           told = told_call past [] rest s events h.1.stands.events e;
         },
       ),
     )
 
-    stops_failed : Replied call before after reply.Failed → events ≡ pushed old.events (event.Called call) → (new : Stood)
-        → ComesTo before.left after.left before.faults after.faults (stood_by old) new events.events (went.Stopped (stop.Failed call))
+    stops_failed : Replied call before after reply.Failed → events ≡ pushed old.events (event.Called call) → (new : Stood a.Kept)
+        → ComesTo a.meaning before.left after.left before.faults after.faults (stood_by a old) new events.events (went.Stopped (stop.Failed call))
     stops_failed replied e new = (
       [],
       (
@@ -146,7 +150,7 @@ module _ (old : Body) (call : Call)
           end = end.Over call;
           last = called_at call s;
           way = refl;
-          stops = turned_as (resting past rest h.0) s h.1 [] (h.1.stands.rest ∙ none);
+          stops = turned_as (resting a past rest h.0) s h.1 [] (h.1.stands.rest ∙ none);
           told = told_call past [] rest s events h.1.stands.events e;
         },
         replied.failed,
@@ -154,8 +158,8 @@ module _ (old : Body) (call : Call)
     )
 
     stops_misfit : (answer : Answer) → Replied call before after (reply.Got answer)
-        → events ≡ pushed (pushed old.events (event.Called call)) (event.Got answer) → fits call answer ≡ false → (new : Stood)
-        → ComesTo before.left after.left before.faults after.faults (stood_by old) new events.events
+        → events ≡ pushed (pushed old.events (event.Called call)) (event.Got answer) → fits call answer ≡ false → (new : Stood a.Kept)
+        → ComesTo a.meaning before.left after.left before.faults after.faults (stood_by a old) new events.events
         (went.Stopped (stop.Mismatch events.answers call))
     stops_misfit answer replied e misfits new = (
       answer ∷ [],
@@ -173,8 +177,8 @@ module _ (old : Body) (call : Call)
                     (counted old.events.answers s.events (event.Called call) h_stands.count)),
               );
               stops =
-                  turned_as (resting past (Answered answer ∷ rest) h.0) s h.1 (Answered answer ∷ rest) h_stands.rest
-                  ∙ ap (λ b. fitted b call answer (turned_by step_limit no_extra) (got_at call answer rest s)) misfits;
+                  turned_as (resting a past (Answered answer ∷ rest) h.0) s h.1 (Answered answer ∷ rest) h_stands.rest
+                  ∙ ap (λ b. fitted b call answer (turned_by step_limit a.meaning) (got_at call answer rest s)) misfits;
               told = told_got past s answer rest events h_stands.events e;
             },
       ),
@@ -184,10 +188,10 @@ module _ (old : Body) (call : Call)
     pub stops_so : (result : Result Answer Stop) (why : Stop) → result ≡ Err why
         → ((said : Reply) × Exchanges call old.events events result said × Replied call before after said)
         ⊎ (StopsShort old.events events result × MayHaveReplied call before after)
-        → (new : Stood)
-        → ComesTo before.left after.left before.faults after.faults (stood_by old) new events.events (went.Stopped why)
+        → (new : Stood a.Kept)
+        → ComesTo a.meaning before.left after.left before.faults after.faults (stood_by a old) new events.events (went.Stopped why)
     stops_so result why e (inr short) new =
-        subst (λ w. ComesTo before.left after.left before.faults after.faults (stood_by old) new events.events (went.Stopped w))
+        subst (λ w. ComesTo a.meaning before.left after.left before.faults after.faults (stood_by a old) new events.events (went.Stopped w))
         (err_same stop.Memory why (sym short.0.0 ∙ e)) tt
       where
         err_same : (a b : Stop) → ◌≡◌ {A = Result Answer Stop} (Err a) (Err b) → a ≡ b
@@ -195,7 +199,7 @@ module _ (old : Body) (call : Call)
     stops_so result why e (inl (said, exchanged, replied)) new = at said exchanged replied
       where
         Comes : Stop → Type 0
-        Comes w = ComesTo before.left after.left before.faults after.faults (stood_by old) new events.events (went.Stopped w)
+        Comes w = ComesTo a.meaning before.left after.left before.faults after.faults (stood_by a old) new events.events (went.Stopped w)
 
         err_same : (a b : Stop) → ◌≡◌ {A = Result Answer Stop} (Err a) (Err b) → a ≡ b
         err_same a b e = cc
@@ -245,7 +249,7 @@ module _ (old : Body) (call : Call)
 
   -- what is stood for then
   got_between : (answer : Answer) (events : EventList) → events ≡ pushed (pushed old.events (event.Called call)) (event.Got answer)
-      → (c : Setting) (s : State (Unit {0})) (rest : List Entry) → IsBetween c old s
+      → (c : Setting a) (s : State a.Kept) (rest : List Entry) → IsBetween c old s
       → IsBetween (record c { answers = rest }) (record old { events = events }) (got_at call answer rest s)
   got_between answer events e c s rest h = record {
     stands =
@@ -255,83 +259,84 @@ module _ (old : Body) (call : Call)
         (stands_noted None c old s (event.Called call) (pushed old.events (event.Called call)) refl h.stands));
     called = h.called;
     running = h.running;
-    sound = noted_in no_extra s rest call answer h.sound;
+    sound = noted_in a.meaning s rest call answer h.sound;
   }
 
   pub got_alive : (answer : Answer) (events : EventList) → events ≡ pushed (pushed old.events (event.Called call)) (event.Got answer)
-      → IsAlive old → IsAlive (record old { events = events })
+      → IsAlive a old → IsAlive a (record old { events = events })
   got_alive answer events e alive =
       ∥∥₁_map alive (λ w. (record w.0 { answers = [] }, (got_at call answer [] w.1.0, got_between answer events e w.0 w.1.0 [] w.1.1)))
 
   -- a turn with this answer
-  module _ (answer : Answer) (events : EventList) (before after : WireSeen) (got : HasGot answer events before after) (new : Body) (said : code.Went)
-      (does : (c : Setting) (s : State (Unit {0})) → IsBetween c (record old { events = events }) s
-      → Turned (at_bar (all_below c (unbooked_in (woken_by answer) s))) new said (turned_by step_limit no_extra answer s)) where
-    abbrev barred : List Event → List Entry → State (Unit {0}) → ℕ
+  module _ (answer : Answer) (events : EventList) (before after : WireSeen) (got : HasGot answer events before after) (new : Body X) (said : code.Went)
+      (does : (c : Setting a) (s : State a.Kept) → IsBetween c (record old { events = events }) s
+      → Turned (at_bar (all_below c (unbooked_in (woken_by answer) s))) new said (turned_by step_limit a.meaning answer s)) where
+    abbrev barred : List Event → List Entry → State a.Kept → ℕ
     barred past rest s = (unbooked_in (woken_by answer) (got_at call answer rest s)).loop.parts.next_stamp
 
     abbrev Does : code.Went → Type 0
     Does it =
-        (c : Setting) (s : State (Unit {0})) → IsBetween c (record old { events = events }) s
-        → Turned (at_bar (all_below c (unbooked_in (woken_by answer) s))) new it (turned_by step_limit no_extra answer s)
+        (c : Setting a) (s : State a.Kept) → IsBetween c (record old { events = events }) s
+        → Turned (at_bar (all_below c (unbooked_in (woken_by answer) s))) new it (turned_by step_limit a.meaning answer s)
 
-    none_stalled : (c : Setting) (w : Went (Unit {0})) → Turned c new went.Stalled w → ⊥
+    none_stalled : (c : Setting a) (w : Went a.Kept) → Turned c new went.Stalled w → ⊥
     none_stalled c (Goes now) t = t
     none_stalled c (Stops how last) t = t
 
-    none_stopped : (why : Stop) (c : Setting) (w : Went (Unit {0})) → Turned c new (went.Stopped why) w → ⊥
+    none_stopped : (why : Stop) (c : Setting a) (w : Went a.Kept) → Turned c new (went.Stopped why) w → ⊥
     none_stopped why c (Goes now) t = t
     none_stopped why c (Stops how last) t = t
 
-    never : (it : code.Went) → Does it → IsAlive (record old { events = events })
-        → ((c : Setting) (w : Went (Unit {0})) → Turned c new it w → ⊥) → ⊥
+    never : (it : code.Went) → Does it → IsAlive a (record old { events = events })
+        → ((c : Setting a) (w : Went a.Kept) → Turned c new it w → ⊥) → ⊥
     never it both alive refutes =
         ∥∥₁_elim alive (λ a b. absurd a)
-        (λ w. refutes (at_bar (all_below w.0 (unbooked_in (woken_by answer) w.1.0))) (turned_by step_limit no_extra answer w.1.0) (both w.0 w.1.0 w.1.1))
+        (λ w. refutes (at_bar (all_below w.0 (unbooked_in (woken_by answer) w.1.0))) (turned_by step_limit a.meaning answer w.1.0) (both w.0 w.1.0 w.1.1))
 
     -- what the machine's turn comes to
-    turned_at : (past : List Event) (rest : List Entry) (s : State (Unit {0})) → IsAtRest past (Answered answer ∷ rest) old s
-        → Turned (resting past rest (barred past rest s)) new said (turn step_limit no_extra s)
+    turned_at : (past : List Event) (rest : List Entry) (s : State a.Kept) → IsAtRest a past (Answered answer ∷ rest) old s
+        → Turned (resting a past rest (barred past rest s)) new said (turn step_limit a.meaning s)
     turned_at past rest s h =
-        subst (Turned (resting past rest (barred past rest s)) new said)
-        (sym (turned_as (resting past (Answered answer ∷ rest) h.0) s h.1 (Answered answer ∷ rest) h.1.stands.rest
-        ∙ ap (λ b. fitted b call answer (turned_by step_limit no_extra) (got_at call answer rest s)) got.is_fit))
-        (does (resting past rest h.0) (got_at call answer rest s)
-        (got_between answer events got.is_noted (resting past (Answered answer ∷ rest) h.0) s rest h.1))
+        subst (Turned (resting a past rest (barred past rest s)) new said)
+        (sym (turned_as (resting a past (Answered answer ∷ rest) h.0) s h.1 (Answered answer ∷ rest) h.1.stands.rest
+        ∙ ap (λ b. fitted b call answer (turned_by step_limit a.meaning) (got_at call answer rest s)) got.is_fit))
+        (does (resting a past rest h.0) (got_at call answer rest s)
+        (got_between answer events got.is_noted (resting a past (Answered answer ∷ rest) h.0) s rest h.1))
 
-    pub comes_so : IsAlive (record old { events = events })
-        → ComesTo before.left after.left before.faults after.faults (stood_by old) (stood_by new) new.events.events said
+    pub comes_so : IsAlive a (record old { events = events })
+        → ComesTo a.meaning before.left after.left before.faults after.faults (stood_by a old) (stood_by a new) new.events.events said
     comes_so alive = at said (λ past rest s h. turned_at past rest s h) does
       where
-        goes_at : (past : List Event) (rest : List Entry) (bar : ℕ) (w : Went (Unit {0})) → Turned (resting past rest bar) new went.Went w
-            → (now : State (Unit {0})) × ((w ≡ Goes now) × IsAtRest past rest new now)
+        goes_at : (past : List Event) (rest : List Entry) (bar : ℕ) (w : Went a.Kept) → Turned (resting a past rest bar) new went.Went w
+            → (now : State a.Kept) × ((w ≡ Goes now) × IsAtRest a past rest new now)
         goes_at past rest bar (Goes now) t = (now, (refl, (bar, t)))
         goes_at past rest bar (Stops how last) t = absurd t
 
-        finishes_at : (outcome : Outcome) (past : List Event) (rest : List Entry) (bar : ℕ) (s : State (Unit {0})) (w : Went (Unit {0}))
-            → turn step_limit no_extra s ≡ w → Turned (resting past rest bar) new (went.Finished outcome) w
-            → EndsTelling (Is (end_of outcome)) past new.events.events s
+        finishes_at : (outcome : Outcome) (past : List Event) (rest : List Entry) (bar : ℕ) (s : State a.Kept) (w : Went a.Kept)
+            → turn step_limit a.meaning s ≡ w → Turned (resting a past rest bar) new (went.Finished outcome) w
+            → EndsTelling a.meaning (Is (end_of outcome)) past new.events.events s
         finishes_at outcome past rest bar s (Goes now) e t = absurd t
         finishes_at outcome past rest bar s (Stops how last) e t = record { end = how; last = last; way = t.0; stops = e; told = t.1 }
 
-        runs_at : (task : ℕ) (past : List Event) (rest : List Entry) (bar : ℕ) (s : State (Unit {0})) (w : Went (Unit {0}))
-            → turn step_limit no_extra s ≡ w → Turned (resting past rest bar) new (went.Runaway task) w
-            → EndsTelling (Is (end.Runaway task)) past new.events.events s
+        runs_at : (task : ℕ) (past : List Event) (rest : List Entry) (bar : ℕ) (s : State a.Kept) (w : Went a.Kept)
+            → turn step_limit a.meaning s ≡ w → Turned (resting a past rest bar) new (went.Runaway task) w
+            → EndsTelling a.meaning (Is (end.Runaway task)) past new.events.events s
         runs_at task past rest bar s (Goes now) e t = absurd t
         runs_at task past rest bar s (Stops how last) e t = record { end = how; last = last; way = t.0; stops = e; told = t.1 }
 
         Each : code.Went → Type 0
         Each it =
-            (past : List Event) (rest : List Entry) (s : State (Unit {0})) → IsAtRest past (Answered answer ∷ rest) old s
-            → Turned (resting past rest (barred past rest s)) new it (turn step_limit no_extra s)
+            (past : List Event) (rest : List Entry) (s : State a.Kept) → IsAtRest a past (Answered answer ∷ rest) old s
+            → Turned (resting a past rest (barred past rest s)) new it (turn step_limit a.meaning s)
 
-        at : (it : code.Went) → Each it → Does it → ComesTo before.left after.left before.faults after.faults (stood_by old) (stood_by new) new.events.events it
+        at : (it : code.Went) → Each it → Does it
+            → ComesTo a.meaning before.left after.left before.faults after.faults (stood_by a old) (stood_by a new) new.events.events it
         at went.Went each both = (
           answer ∷ [],
           (
             got.was_left,
             λ past rest s h.
-                goes_at past rest (barred past rest s) (turn step_limit no_extra s) (each past rest s h),
+                goes_at past rest (barred past rest s) (turn step_limit a.meaning s) (each past rest s h),
           ),
         )
         at (went.Finished outcome) each both = (
@@ -339,7 +344,7 @@ module _ (old : Body) (call : Call)
           (
             got.was_left,
             λ past rest s any h.
-                finishes_at outcome past rest (barred past rest s) s (turn step_limit no_extra s) refl (each past rest s h),
+                finishes_at outcome past rest (barred past rest s) s (turn step_limit a.meaning s) refl (each past rest s h),
           ),
         )
         at (went.Runaway task) each both = (
@@ -347,14 +352,14 @@ module _ (old : Body) (call : Call)
           (
             got.was_left,
             λ past rest s any h.
-                runs_at task past rest (barred past rest s) s (turn step_limit no_extra s) refl (each past rest s h),
+                runs_at task past rest (barred past rest s) s (turn step_limit a.meaning s) refl (each past rest s h),
           ),
         )
         at went.Stalled each both = absurd (never went.Stalled both alive (λ c w t. none_stalled c w t))
         at (went.Stopped why) each both = absurd (never (went.Stopped why) both alive (λ c w t. none_stopped why c w t))
 
     -- the run goes on, or it is over, and memory alone stops it
-    pub stalls_after : IsAlive (record old { events = events }) → StallsAs false said
+    pub stalls_after : IsAlive a (record old { events = events }) → StallsAs false said
     stalls_after alive = at said does
       where
         at : (it : code.Went) → Does it → StallsAs false it
@@ -364,35 +369,37 @@ module _ (old : Body) (call : Call)
         at went.Stalled both = absurd (never went.Stalled both alive (λ c w t. none_stalled c w t))
         at (went.Stopped why) both = absurd (never (went.Stopped why) both alive (λ c w t. none_stopped why c w t))
 
-    pub alive_after : IsAlive (record old { events = events }) → AliveIfWent said new
+    pub alive_after : IsAlive a (record old { events = events }) → AliveIfWent a said new
     alive_after alive = at said does
       where
-        goes_between : (c : Setting) (w : Went (Unit {0})) → Turned c new went.Went w → (now : State (Unit {0})) × IsBetween c new now
+        goes_between : (c : Setting a) (w : Went a.Kept) → Turned c new went.Went w → (now : State a.Kept) × IsBetween c new now
         goes_between c (Goes now) t = (now, t)
         goes_between c (Stops how last) t = absurd t
 
-        at : (it : code.Went) → Does it → AliveIfWent it new
+        at : (it : code.Went) → Does it → AliveIfWent a it new
         at went.Went both =
-            ∥∥₁_map alive (λ w. let it = goes_between (at_bar (all_below w.0 (unbooked_in (woken_by answer) w.1.0))) (turned_by step_limit no_extra answer w.1.0)
+            ∥∥₁_map alive (λ w. let it = goes_between (at_bar (all_below w.0 (unbooked_in (woken_by answer) w.1.0)))
+            (turned_by step_limit a.meaning answer w.1.0)
             (both w.0 w.1.0 w.1.1) in (at_bar (all_below w.0 (unbooked_in (woken_by answer) w.1.0)), (it.0, it.1)))
         at (went.Finished outcome) both = tt
         at (went.Runaway task) both = tt
         at went.Stalled both = tt
         at (went.Stopped why) both = tt
 
--- ---- a turn that is stalled
-pub stalls_so : (old : Body) (seen : WireSeen) → ((c : Setting) (s : State (Unit {0})) → IsBetween c old s → true ≡ is_stalled no_extra s)
-    → ComesTo seen.left seen.left seen.faults seen.faults (stood_by old) (stood_by old) old.events.events went.Stalled
-stalls_so old seen is = (
-  refl,
-  λ past rest s any h. record {
-    end = end.Stalled;
-    last = s;
-    way = refl;
-    stops = turn_stalls s (sym (is (resting past rest h.0) s h.1));
-    told = h.1.stands.events;
-  },
-)
+module _ {X : Type 0} {a : Added X} where
+  -- ---- a turn that is stalled
+  pub stalls_so : (old : Body X) (seen : WireSeen) → ((c : Setting a) (s : State a.Kept) → IsBetween c old s → true ≡ is_stalled a.meaning s)
+      → ComesTo a.meaning seen.left seen.left seen.faults seen.faults (stood_by a old) (stood_by a old) old.events.events went.Stalled
+  stalls_so old seen is = (
+    refl,
+    λ past rest s any h. record {
+      end = end.Stalled;
+      last = s;
+      way = refl;
+      stops = turn_stalls a.meaning s (sym (is (resting a past rest h.0) s h.1));
+      told = h.1.stands.events;
+    },
+  )
 
 -- ---- what holds of the wire
 pub still_after : (fact : Type 0) (said : code.Went) → fact → UnlessFailed fact said

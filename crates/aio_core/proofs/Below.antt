@@ -9,7 +9,7 @@ use Rattle.model_says.specs.Says.{step_limit}
 use Rattle.model_wire.specs.declared.event.Event.TheVariants as event
 use Rattle.model_loop.specs.Loop.{in_parts}
 use Rattle.model_loop.specs.Parts.{Handle, Parts}
-use Rattle.model_machine.specs.Extra.{no_extra}
+use Rattle.model_machine.specs.Extra.{Extra}
 use Rattle.model_machine.specs.Sound.{IsStateSound}
 use Rattle.model_machine.specs.State.{State, noted, unbooked_in}
 use Rattle.model_machine.specs.Turn.{effect, next_below, ran, run_below, run_if}
@@ -17,6 +17,7 @@ use Rattle.model_machine.specs.Went.{Goes, went_on}
 use Rattle.aio_ready.specs.Queue as queue
 use Rattle.aio_task.specs.View.{View, stepped_at}
 use Rattle.aio_task.specs.Keeps.{Ties, Keeps, Kept}
+use Rattle.aio_extra.specs.Added.{Added, named_in}
 use Rattle.aio_body.specs.declared.body.Body.{Body}
 use Rattle.aio_body.specs.Stands.{Setting, IsBetween}
 use Rattle.aio_body.specs.Taken.{IsNext}
@@ -29,60 +30,62 @@ use Rattle.law_body.proofs.Left.{leaves_handles}
 use Rattle.law_body.proofs.Sound.{dead_sound}
 
 -- the state with these handles pending
-abbrev pub with_pending : List Handle → State (Unit {0}) → State (Unit {0})
+abbrev pub with_pending : {S : Type 0} → List Handle → State S → State S
 with_pending handles s = unbooked_in (λ p. record p { pending = handles }) s
 
 abbrev pub AreDead : ℕ → List Handle → Type 0
 AreDead bar = Each (λ (handle : Handle). (handle.dead ≡ true) × (handle.stamp < bar))
 
 -- ---- the machine
-one_dead : (bar k : ℕ) (handle : Handle) (rest : List Handle) (s : State (Unit {0})) → s.loop.parts.pending ≡ handle ∷ rest → handle.stamp < bar
-    → handle.dead ≡ true → run_below step_limit no_extra bar (suc k) s ≡ run_below step_limit no_extra bar k (with_pending rest s)
+one_dead : {S : Type 0} (added : Extra S) (bar k : ℕ) (handle : Handle) (rest : List Handle) (s : State S) → s.loop.parts.pending ≡ handle ∷ rest
+    → handle.stamp < bar
+    → handle.dead ≡ true → run_below step_limit added bar (suc k) s ≡ run_below step_limit added bar k (with_pending rest s)
 unfolding run_below
-one_dead bar k handle rest s pending early dead =
-    ap (λ xs. next_below step_limit no_extra bar xs (run_below step_limit no_extra bar k) s) pending
-    ∙ ap (λ b. run_if step_limit no_extra b handle rest (run_below step_limit no_extra bar k) s) (lt-ltb handle.stamp bar early)
-    ∙ ap (λ b. went_on (run_below step_limit no_extra bar k) (ran step_limit no_extra b handle.action (with_pending rest s))) dead
+one_dead added bar k handle rest s pending early dead =
+    ap (λ xs. next_below step_limit added bar xs (run_below step_limit added bar k) s) pending
+    ∙ ap (λ b. run_if step_limit added b handle rest (run_below step_limit added bar k) s) (lt-ltb handle.stamp bar early)
+    ∙ ap (λ b. went_on (run_below step_limit added bar k) (ran step_limit added b handle.action (with_pending rest s))) dead
 
-pub all_dead : (bar m : ℕ) (dead left : List Handle) (s : State (Unit {0})) → s.loop.parts.pending ≡ dead ++ left → AreDead bar dead
-    → run_below step_limit no_extra bar (length dead + m) s ≡ run_below step_limit no_extra bar m (with_pending left s)
-all_dead bar m [] left s pending are =
-    ap (λ k. run_below step_limit no_extra bar k s) (none m) ∙ ap (λ xs. run_below step_limit no_extra bar m (with_pending xs s)) pending
+pub all_dead : {S : Type 0} (added : Extra S) (bar m : ℕ) (dead left : List Handle) (s : State S) → s.loop.parts.pending ≡ dead ++ left → AreDead bar dead
+    → run_below step_limit added bar (length dead + m) s ≡ run_below step_limit added bar m (with_pending left s)
+all_dead added bar m [] left s pending are =
+    ap (λ k. run_below step_limit added bar k s) (none m) ∙ ap (λ xs. run_below step_limit added bar m (with_pending xs s)) pending
   where
     none : (m : ℕ) → 0 + m ≡ m
     none m = omega arith
-all_dead bar m (handle ∷ dead) left s pending are =
-    ap (λ k. run_below step_limit no_extra bar k s) (more (length dead) m)
-    ∙ one_dead bar (length dead + m) handle (dead ++ left) s pending are.0.1 are.0.0
-    ∙ all_dead bar m dead left (with_pending (dead ++ left) s) refl are.1
+all_dead added bar m (handle ∷ dead) left s pending are =
+    ap (λ k. run_below step_limit added bar k s) (more (length dead) m)
+    ∙ one_dead added bar (length dead + m) handle (dead ++ left) s pending are.0.1 are.0.0
+    ∙ all_dead added bar m dead left (with_pending (dead ++ left) s) refl are.1
   where
     more : (a b : ℕ) → suc a + b ≡ suc (a + b)
     more a b = omega arith
 
-pub one_live : (bar m : ℕ) (handle : Handle) (rest : List Handle) (s : State (Unit {0})) → s.loop.parts.pending ≡ handle ∷ rest → handle.stamp < bar
+pub one_live : {S : Type 0} (added : Extra S) (bar m : ℕ) (handle : Handle) (rest : List Handle) (s : State S) → s.loop.parts.pending ≡ handle ∷ rest
+    → handle.stamp < bar
     → handle.dead ≡ false
-    → run_below step_limit no_extra bar (suc m) s
-    ≡ went_on (run_below step_limit no_extra bar m) (effect step_limit no_extra handle.action (noted (event.Ran handle.action) (with_pending rest s)))
+    → run_below step_limit added bar (suc m) s
+    ≡ went_on (run_below step_limit added bar m) (effect step_limit added handle.action (noted (event.Ran handle.action) (with_pending rest s)))
 unfolding run_below
-one_live bar m handle rest s pending early live =
-    ap (λ xs. next_below step_limit no_extra bar xs (run_below step_limit no_extra bar m) s) pending
-    ∙ ap (λ b. run_if step_limit no_extra b handle rest (run_below step_limit no_extra bar m) s) (lt-ltb handle.stamp bar early)
-    ∙ ap (λ b. went_on (run_below step_limit no_extra bar m) (ran step_limit no_extra b handle.action (with_pending rest s))) live
+one_live added bar m handle rest s pending early live =
+    ap (λ xs. next_below step_limit added bar xs (run_below step_limit added bar m) s) pending
+    ∙ ap (λ b. run_if step_limit added b handle rest (run_below step_limit added bar m) s) (lt-ltb handle.stamp bar early)
+    ∙ ap (λ b. went_on (run_below step_limit added bar m) (ran step_limit added b handle.action (with_pending rest s))) live
 
-pub none_left : (bar m : ℕ) (s : State (Unit {0})) → IsPastBar bar s.loop.parts.pending → run_below step_limit no_extra bar m s ≡ Goes s
+pub none_left : {S : Type 0} (added : Extra S) (bar m : ℕ) (s : State S) → IsPastBar bar s.loop.parts.pending → run_below step_limit added bar m s ≡ Goes s
 unfolding run_below
-none_left bar zero s past = refl
-none_left bar (suc m) s past = at s.loop.parts.pending past
+none_left added bar zero s past = refl
+none_left added bar (suc m) s past = at s.loop.parts.pending past
   where
-    at : (xs : List Handle) → IsPastBar bar xs → next_below step_limit no_extra bar xs (run_below step_limit no_extra bar m) s ≡ Goes s
+    at : (xs : List Handle) → IsPastBar bar xs → next_below step_limit added bar xs (run_below step_limit added bar m) s ≡ Goes s
     at [] past = refl
-    at (handle ∷ rest) past = ap (λ b. run_if step_limit no_extra b handle rest (run_below step_limit no_extra bar m) s) (le-ltb handle.stamp bar past)
+    at (handle ∷ rest) past = ap (λ b. run_if step_limit added b handle rest (run_below step_limit added bar m) s) (le-ltb handle.stamp bar past)
 
-pub deads_sound : (bar : ℕ) (dead left : List Handle) (s : State (Unit {0})) → s.loop.parts.pending ≡ dead ++ left → AreDead bar dead
-    → IsStateSound no_extra s → IsStateSound no_extra (with_pending left s)
-deads_sound bar [] left s pending are sound = subst (λ xs. IsStateSound no_extra (with_pending xs s)) pending sound
-deads_sound bar (handle ∷ dead) left s pending are sound =
-    deads_sound bar dead left (with_pending (dead ++ left) s) refl are.1 (dead_sound s handle (dead ++ left) sound pending are.0.0)
+pub deads_sound : {S : Type 0} (added : Extra S) (bar : ℕ) (dead left : List Handle) (s : State S) → s.loop.parts.pending ≡ dead ++ left → AreDead bar dead
+    → IsStateSound added s → IsStateSound added (with_pending left s)
+deads_sound added bar [] left s pending are sound = subst (λ xs. IsStateSound added (with_pending xs s)) pending sound
+deads_sound added bar (handle ∷ dead) left s pending are sound =
+    deads_sound added bar dead left (with_pending (dead ++ left) s) refl are.1 (dead_sound added keeps s handle (dead ++ left) sound pending are.0.0)
 
 -- ---- counts
 early : ℕ → Handle → Bool
@@ -109,114 +112,117 @@ pending_kept t v p handles k = record {
   extends = record { known = λ tag below. refl; tags = omega arith; gone = refl; bar = refl };
 }
 
--- after a call of `next_below` that gave an action
-pub record IsRunning (action : Action) (c : Setting) (body : Body) (w : View) (s : State (Unit {0})) : Type 0 where
-  pub now : State (Unit {0})
-  pub next : IsNext action (record c { left = length w.queue.below }) (record body { parts = w }) now
-  pub goes : run_below step_limit no_extra c.bar c.left s
-      ≡ went_on (run_below step_limit no_extra c.bar (length w.queue.below)) (effect step_limit no_extra action (noted (event.Ran action) now))
+module _ {X : Type 0} {a : Added X} where
+  -- after a call of `next_below` that gave an action
+  pub record IsRunning (action : Action) (c : Setting a) (body : Body X) (w : View) (s : State a.Kept) : Type 0 where
+    pub now : State a.Kept
+    pub next : IsNext action (record c { left = length w.queue.below }) (record body { parts = w }) now
+    pub goes : run_below step_limit a.meaning c.bar c.left s
+        ≡ went_on (run_below step_limit a.meaning c.bar (length w.queue.below)) (effect step_limit a.meaning action (noted (event.Ran action) now))
 
 -- the parts' view after a call of `next_below`
 abbrev pub left_by : View → View
 left_by v = record v { queue = queue.taken v.queue; called = stepped_at (queue.next_action v.queue) }
 
-pub next_runs : (c : Setting) (body : Body) (s : State (Unit {0})) (w : View) (action : Action) → (h : IsBetween c body s)
-    → (skips : Skips h.stands.ties w s.loop.parts (Some action)) → w ≡ left_by body.parts → queue.next_action body.parts.queue ≡ Some action
-    → IsRunning action c body w s
-next_runs c body s w action h skips is next = at skips.left skips.pending skips.runs
-  where
-    t : Ties
-    t = h.stands.ties
+module _ {X : Type 0} {a : Added X} where
+  pub next_runs : (c : Setting a) (body : Body X) (s : State a.Kept) (w : View) (action : Action) → (h : IsBetween c body s)
+      → (skips : Skips h.stands.ties w s.loop.parts (Some action)) → w ≡ left_by body.parts → queue.next_action body.parts.queue ≡ Some action
+      → IsRunning action c body w s
+  next_runs c body s w action h skips is next = at skips.left skips.pending skips.runs
+    where
+      t : Ties
+      t = h.stands.ties
 
-    p : Parts
-    p = s.loop.parts
+      p : Parts
+      p = s.loop.parts
 
-    at : (left : List Handle) → p.pending ≡ skips.dead ++ left → Runs t w p (Some action) left → IsRunning action c body w s
-    at [] pending runs = absurd runs
-    at (handle ∷ handles) pending runs = record {
-      now = with_pending handles s;
-      next = record {
-        before = with_pending (handle ∷ handles) s;
-        handle = handle;
-        rest = handles;
-        pending = refl;
-        live = runs.1;
-        runs = runs.2;
-        sound = deads_sound t.bar skips.dead (handle ∷ handles) s pending skips.are_dead h.sound;
-        after = refl;
-        stands =
-            stands_left None None c body s w (in_parts (λ q. record q { pending = handles })) h.stands (pending_kept t w p handles runs.3)
-            (pending_leaves p handles) (spares_none p s.futures) (refl, refl);
-        called = ap (λ (x : View). x.called) is ∙ ap stepped_at next;
-        running = ap (λ (x : View). x.running) is ∙ h.running;
-      };
-      goes =
-          subst
-          (λ b. run_below step_limit no_extra b c.left s
-          ≡ went_on (run_below step_limit no_extra b (length w.queue.below)) (effect step_limit no_extra action (noted (event.Ran action) (with_pending handles s))))
-          h.stands.bar
-          (ap (λ k. run_below step_limit no_extra t.bar k s) many
-          ∙ all_dead t.bar (suc (length w.queue.below)) skips.dead (handle ∷ handles) s pending skips.are_dead
-          ∙ one_live t.bar (length w.queue.below) handle handles (with_pending (handle ∷ handles) s) refl runs.0 runs.1
-          ∙ ap
-          (λ it. went_on (run_below step_limit no_extra t.bar (length w.queue.below))
-          (effect step_limit no_extra it (noted (event.Ran it) (with_pending handles s)))) runs.2);
-    }
-      where
-        many : c.left ≡ length skips.dead + suc (length w.queue.below)
-        many =
-            let all = count_early t body.parts p h.stands.keeps in
-            let dead = ap (count_by (λ (x : Handle). nat_lt x.stamp t.bar)) pending ∙ count_dead t.bar skips.dead (handle ∷ handles) skips.are_dead in
-            let rest = count_early t w (record p { pending = handles }) runs.3 in
-            let more = sum_by-cons (λ (x : Handle). cond (nat_lt x.stamp t.bar) 1 0) handle handles in
-            let one : ◌≡◌ {A = ℕ} (cond (nat_lt handle.stamp t.bar) 1 0) 1 = rw (lt-ltb handle.stamp t.bar runs.0) refl in
-            let few = h.stands.left in
-            omega (arith, all, dead, rest, more, one, few)
+      at : (left : List Handle) → p.pending ≡ skips.dead ++ left → Runs t w p (Some action) left → IsRunning action c body w s
+      at [] pending runs = absurd runs
+      at (handle ∷ handles) pending runs = record {
+        now = with_pending handles s;
+        next = record {
+          before = with_pending (handle ∷ handles) s;
+          handle = handle;
+          rest = handles;
+          pending = refl;
+          live = runs.1;
+          runs = runs.2;
+          sound = deads_sound a.meaning t.bar skips.dead (handle ∷ handles) s pending skips.are_dead h.sound;
+          after = refl;
+          stands =
+              stands_left None None c body s w (in_parts (λ q. record q { pending = handles })) h.stands (pending_kept t w p handles runs.3)
+              (pending_leaves p handles) (spares_none p (named_in a s)) (refl, refl);
+          called = ap (λ (x : View). x.called) is ∙ ap stepped_at next;
+          running = ap (λ (x : View). x.running) is ∙ h.running;
+        };
+        goes =
+            subst
+            (λ b. run_below step_limit a.meaning b c.left s
+            ≡ went_on (run_below step_limit a.meaning b (length w.queue.below))
+            (effect step_limit a.meaning action (noted (event.Ran action) (with_pending handles s))))
+            h.stands.bar
+            (ap (λ k. run_below step_limit a.meaning t.bar k s) many
+            ∙ all_dead a.meaning t.bar (suc (length w.queue.below)) skips.dead (handle ∷ handles) s pending skips.are_dead
+            ∙ one_live a.meaning t.bar (length w.queue.below) handle handles (with_pending (handle ∷ handles) s) refl runs.0 runs.1
+            ∙ ap
+            (λ it. went_on (run_below step_limit a.meaning t.bar (length w.queue.below))
+            (effect step_limit a.meaning it (noted (event.Ran it) (with_pending handles s)))) runs.2);
+      }
+        where
+          many : c.left ≡ length skips.dead + suc (length w.queue.below)
+          many =
+              let all = count_early t body.parts p h.stands.keeps in
+              let dead = ap (count_by (λ (x : Handle). nat_lt x.stamp t.bar)) pending ∙ count_dead t.bar skips.dead (handle ∷ handles) skips.are_dead in
+              let rest = count_early t w (record p { pending = handles }) runs.3 in
+              let more = sum_by-cons (λ (x : Handle). cond (nat_lt x.stamp t.bar) 1 0) handle handles in
+              let one : ◌≡◌ {A = ℕ} (cond (nat_lt handle.stamp t.bar) 1 0) 1 = rw (lt-ltb handle.stamp t.bar runs.0) refl in
+              let few = h.stands.left in
+              omega (arith, all, dead, rest, more, one, few)
 
--- where it gave none, none is left
-pub record IsAtBar (c : Setting) (body : Body) (w : View) (s : State (Unit {0})) : Type 0 where
-  pub now : State (Unit {0})
-  pub between : IsBetween (record c { left = length w.queue.below }) (record body { parts = w }) now
-  pub goes : run_below step_limit no_extra c.bar c.left s ≡ Goes now
+  -- where it gave none, none is left
+  pub record IsAtBar (c : Setting a) (body : Body X) (w : View) (s : State a.Kept) : Type 0 where
+    pub now : State a.Kept
+    pub between : IsBetween (record c { left = length w.queue.below }) (record body { parts = w }) now
+    pub goes : run_below step_limit a.meaning c.bar c.left s ≡ Goes now
 
-pub next_none : (c : Setting) (body : Body) (s : State (Unit {0})) (w : View) → (h : IsBetween c body s)
-    → (skips : Skips h.stands.ties w s.loop.parts None) → w ≡ left_by body.parts → queue.next_action body.parts.queue ≡ None
-    → IsAtBar c body w s
-next_none c body s w h skips is next = record {
-  now = with_pending skips.left s;
-  between = record {
-    stands =
-        stands_left None None c body s w (in_parts (λ q. record q { pending = skips.left })) h.stands (pending_kept t w p skips.left skips.runs.1)
-        (pending_leaves p skips.left) (spares_none p s.futures) (refl, refl);
-    called = ap (λ (x : View). x.called) is ∙ ap stepped_at next;
-    running = ap (λ (x : View). x.running) is ∙ h.running;
-    sound = deads_sound t.bar skips.dead skips.left s skips.pending skips.are_dead h.sound;
-  };
-  goes =
-      subst (λ b. run_below step_limit no_extra b c.left s ≡ Goes (with_pending skips.left s)) h.stands.bar
-      (ap (λ k. run_below step_limit no_extra t.bar k s) many
-      ∙ all_dead t.bar (length w.queue.below) skips.dead skips.left s skips.pending skips.are_dead
-      ∙ none_left t.bar (length w.queue.below) (with_pending skips.left s) skips.runs.0);
-}
-  where
-    t : Ties
-    t = h.stands.ties
+  pub next_none : (c : Setting a) (body : Body X) (s : State a.Kept) (w : View) → (h : IsBetween c body s)
+      → (skips : Skips h.stands.ties w s.loop.parts None) → w ≡ left_by body.parts → queue.next_action body.parts.queue ≡ None
+      → IsAtBar c body w s
+  next_none c body s w h skips is next = record {
+    now = with_pending skips.left s;
+    between = record {
+      stands =
+          stands_left None None c body s w (in_parts (λ q. record q { pending = skips.left })) h.stands (pending_kept t w p skips.left skips.runs.1)
+          (pending_leaves p skips.left) (spares_none p (named_in a s)) (refl, refl);
+      called = ap (λ (x : View). x.called) is ∙ ap stepped_at next;
+      running = ap (λ (x : View). x.running) is ∙ h.running;
+      sound = deads_sound a.meaning t.bar skips.dead skips.left s skips.pending skips.are_dead h.sound;
+    };
+    goes =
+        subst (λ b. run_below step_limit a.meaning b c.left s ≡ Goes (with_pending skips.left s)) h.stands.bar
+        (ap (λ k. run_below step_limit a.meaning t.bar k s) many
+        ∙ all_dead a.meaning t.bar (length w.queue.below) skips.dead skips.left s skips.pending skips.are_dead
+        ∙ none_left a.meaning t.bar (length w.queue.below) (with_pending skips.left s) skips.runs.0);
+  }
+    where
+      t : Ties
+      t = h.stands.ties
 
-    p : Parts
-    p = s.loop.parts
+      p : Parts
+      p = s.loop.parts
 
-    many : c.left ≡ length skips.dead + length w.queue.below
-    many =
-        let all = count_early t body.parts p h.stands.keeps in
-        let dead = ap (count_by (λ (x : Handle). nat_lt x.stamp t.bar)) skips.pending ∙ count_dead t.bar skips.dead skips.left skips.are_dead in
-        let rest = count_early t w (record p { pending = skips.left }) skips.runs.1 in
-        let few = h.stands.left in
-        omega (arith, all, dead, rest, few)
+      many : c.left ≡ length skips.dead + length w.queue.below
+      many =
+          let all = count_early t body.parts p h.stands.keeps in
+          let dead = ap (count_by (λ (x : Handle). nat_lt x.stamp t.bar)) skips.pending ∙ count_dead t.bar skips.dead skips.left skips.are_dead in
+          let rest = count_early t w (record p { pending = skips.left }) skips.runs.1 in
+          let few = h.stands.left in
+          omega (arith, all, dead, rest, few)
 
--- what the parts beneath say of this call
-pub skipped : (c : Setting) (body : Body) (s : State (Unit {0})) (w : View) (next : Option Action) → (h : IsBetween c body s)
-    → w ≡ left_by body.parts → queue.next_action body.parts.queue ≡ next → Skips h.stands.ties w s.loop.parts next
-skipped c body s w next h is same =
-    subst (λ n. Skips h.stands.ties w s.loop.parts n) same
-    (subst (λ x. Skips h.stands.ties x s.loop.parts (queue.next_action body.parts.queue)) (sym is)
-    (keeps_next h.stands.ties body.parts s.loop.parts (stepped_at (queue.next_action body.parts.queue)) h.stands.keeps))
+  -- what the parts beneath say of this call
+  pub skipped : (c : Setting a) (body : Body X) (s : State a.Kept) (w : View) (next : Option Action) → (h : IsBetween c body s)
+      → w ≡ left_by body.parts → queue.next_action body.parts.queue ≡ next → Skips h.stands.ties w s.loop.parts next
+  skipped c body s w next h is same =
+      subst (λ n. Skips h.stands.ties w s.loop.parts n) same
+      (subst (λ x. Skips h.stands.ties x s.loop.parts (queue.next_action body.parts.queue)) (sym is)
+      (keeps_next h.stands.ties body.parts s.loop.parts (stepped_at (queue.next_action body.parts.queue)) h.stands.keeps))

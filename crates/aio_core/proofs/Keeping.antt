@@ -7,11 +7,11 @@ use Rattle.model_wire.specs.Event.{Event}
 use Rattle.model_wire.specs.Journal.{Entry}
 use Rattle.model_wire.specs.Told.{WireSeen}
 use Rattle.model_wire.specs.Trace.{End}
-use Rattle.model_machine.specs.Extra.{no_extra}
 use Rattle.model_machine.specs.State.{State}
 use Rattle.model_machine.specs.Turn.{is_stalled}
 use Rattle.aio_wire.specs.EventList.{EventList}
 use Rattle.aio_wire.specs.declared.stop.Stop.TheVariants as stop
+use Rattle.aio_extra.specs.Added.{Added}
 use Rattle.aio_body.specs.declared.body.Body.{Body}
 use Rattle.aio_body.specs.Stands.{Setting, IsBetween}
 use Rattle.aio_core.specs.declared.kernel.Kernel.{Kernel}
@@ -21,18 +21,19 @@ use Rattle.aio_core.specs.Again.{Again, IsKept}
 use Rattle.aio_core.specs.Turned.{KeepsEnd, StandsFor, TurnedBy, ended, stood_for, untaken}
 use Rattle.aio_core.specs.Turning.{AliveIfWent, AliveUnless, ComesTo, EndsFrom, IsAlive, IsAtRest, OfFailing, StallsAs, UnlessFailed, resting, stood_by}
 
-pub stands_up : (past : List Event) (left : List Entry) (kernel : Kernel) (s : State (Unit {0})) → ended kernel ≡ None
-    → IsAtRest past left kernel.body s → StandsFor past left kernel s
-stands_up past left kernel s goes h = record { events = h.1.stands.events; answers = h.1.stands.rest; goes = goes; rests = h }
+module _ {X : Type 0} {a : Added X} where
+  pub stands_up : {g : _} (past : List Event) (left : List Entry) (kernel : Kernel X g) (s : State a.Kept) → ended kernel ≡ None
+      → IsAtRest a past left kernel.body s → StandsFor a past left kernel s
+  stands_up past left kernel s goes h = record { events = h.1.stands.events; answers = h.1.stands.rest; goes = goes; rests = h }
 
-module _ (old new : Kernel) (before after : Option (List Entry)) (was is : ℕ) where
-  ends_up : (had : List Answer) (left : List Entry → Type 0) (ways : End → State (Unit {0}) → Type 0)
-      → EndsFrom had left ways (stood_by old.body) (untaken new) → EndsFrom had left ways (stood_for old) (untaken new)
+module _ {X : Type 0} (a : Added X) {g : _} (old new : Kernel X g) (before after : Option (List Entry)) (was is : ℕ) where
+  ends_up : (had : List Answer) (left : List Entry → Type 0) (ways : End → State a.Kept → Type 0)
+      → EndsFrom a.meaning had left ways (stood_by a old.body) (untaken new) → EndsFrom a.meaning had left ways (stood_for a old) (untaken new)
   ends_up had left ways ends past rest s l h = ends past rest s l h.rests
 
   pub comes_up : (said : code.Went) → (said ≡ went.Went → ended new ≡ None)
-      → ComesTo before after was is (stood_by old.body) (stood_by new.body) (untaken new) said
-      → ComesTo before after was is (stood_for old) (stood_for new) (untaken new) said
+      → ComesTo a.meaning before after was is (stood_by a old.body) (stood_by a new.body) (untaken new) said
+      → ComesTo a.meaning before after was is (stood_for a old) (stood_for a new) (untaken new) said
   comes_up went.Went goes c = (
     c.0,
     (
@@ -50,71 +51,73 @@ module _ (old new : Kernel) (before after : Option (List Entry)) (was is : ℕ) 
   comes_up (went.Stopped (stop.Failed call)) goes c = (c.0, (c.1.0, λ past rest s l h. c.1.1 past rest s l h.rests, c.1.2))
   comes_up (went.Stopped stop.Memory) goes c = tt
 
--- a run that hasn't ended
-pub turned_up : (fails quiet : Type 0) (before after : WireSeen) (old new : Kernel) (result said : code.Went)
-    → (said ≡ went.Went → ended new ≡ None)
-    → ComesTo before.left after.left before.faults after.faults (stood_by old.body) (stood_by new.body) (untaken new) said
-    → ((past : List Event) (answers : List Entry) (s : State (Unit {0})) → IsAtRest past answers old.body s → StallsAs (is_stalled no_extra s) said)
-    → UnlessFailed quiet said → (fails → OfFailing said) → Again said result → TurnedBy fails quiet before after old new result said
-turned_up fails quiet before after old new result said goes comes stalls still failing either = record {
-  turns = comes_up old new before.left after.left before.faults after.faults said goes comes;
-  stalls = λ past answers s h. stalls past answers s h.rests;
-  still = still;
-  failing = failing;
-  either = either;
-}
+module _ {X : Type 0} {a : Added X} where
+  -- a run that hasn't ended
+  pub turned_up : {g : _} (fails quiet : Type 0) (before after : WireSeen) (old new : Kernel X g) (result said : code.Went)
+      → (said ≡ went.Went → ended new ≡ None)
+      → ComesTo a.meaning before.left after.left before.faults after.faults (stood_by a old.body) (stood_by a new.body) (untaken new) said
+      → ((past : List Event) (answers : List Entry) (s : State a.Kept) → IsAtRest a past answers old.body s → StallsAs (is_stalled a.meaning s) said)
+      → UnlessFailed quiet said → (fails → OfFailing said) → Again said result → TurnedBy a fails quiet before after old new result said
+  turned_up fails quiet before after old new result said goes comes stalls still failing either = record {
+    turns = comes_up a old new before.left after.left before.faults after.faults said goes comes;
+    stalls = λ past answers s h. stalls past answers s h.rests;
+    still = still;
+    failing = failing;
+    either = either;
+  }
 
--- ---- events are taken out
-pub between_taken : (c : Setting) (body : Body) (events : EventList) (s : State (Unit {0})) → events ≡ record body.events { events = [] }
-    → IsBetween c body s → IsBetween (record c { past = c.past ++ body.events.events }) (record body { events = events }) s
-between_taken c body events s e h = record {
-  stands = record {
-    ties = h.stands.ties;
-    code = h.stands.code;
-    keeps = h.stands.keeps;
-    left = h.stands.left;
-    bar = h.stands.bar;
-    blocks = h.stands.blocks;
-    made = h.stands.made;
-    told = h.stands.told;
-    few = h.stands.few;
-    held = λ task l. let has = h.stands.held task l in record {
-      slot = has.slot;
-      found = has.found;
-      right = record { waits = has.right.waits; standing = has.right.standing };
+  -- ---- events are taken out
+  pub between_taken : (c : Setting a) (body : Body X) (events : EventList) (s : State a.Kept) → events ≡ record body.events { events = [] }
+      → IsBetween c body s → IsBetween (record c { past = c.past ++ body.events.events }) (record body { events = events }) s
+  between_taken c body events s e h = record {
+    stands = record {
+      ties = h.stands.ties;
+      code = h.stands.code;
+      keeps = h.stands.keeps;
+      left = h.stands.left;
+      bar = h.stands.bar;
+      blocks = h.stands.blocks;
+      made = h.stands.made;
+      told = h.stands.told;
+      few = h.stands.few;
+      held = λ task l. let has = h.stands.held task l in record {
+        slot = has.slot;
+        found = has.found;
+        right = record { waits = has.right.waits; standing = has.right.standing };
+      };
+      gone = h.stands.gone;
+      futures = h.stands.futures;
+      few_futures = h.stands.few_futures;
+      main_done = h.stands.main_done;
+      time = h.stands.time;
+      counts = h.stands.counts;
+      events =
+          h.stands.events ∙ sym (append-nil (c.past ++ body.events.events))
+          ∙ ap (λ (l : EventList). (c.past ++ body.events.events) ++ l.events) (sym e);
+      rest = h.stands.rest;
+      extra = h.stands.extra;
+      count = ap (λ (l : EventList). l.answers) e ∙ h.stands.count;
     };
-    gone = h.stands.gone;
-    futures = h.stands.futures;
-    few_futures = h.stands.few_futures;
-    main_done = h.stands.main_done;
-    time = h.stands.time;
-    counts = h.stands.counts;
-    events =
-        h.stands.events ∙ sym (append-nil (c.past ++ body.events.events))
-        ∙ ap (λ (l : EventList). (c.past ++ body.events.events) ++ l.events) (sym e);
-    rest = h.stands.rest;
-    count = ap (λ (l : EventList). l.answers) e ∙ h.stands.count;
-  };
-  called = h.called;
-  running = h.running;
-  sound = h.sound;
-}
+    called = h.called;
+    running = h.running;
+    sound = h.sound;
+  }
 
-pub events_taken : (past : List Event) (answers : List Entry) (body : Body) (events : EventList) (s : State (Unit {0}))
-    → events ≡ record body.events { events = [] }
-    → IsAtRest past answers body s → IsAtRest (past ++ body.events.events) answers (record body { events = events }) s
-events_taken past answers body events s e h = (h.0, between_taken (resting past answers h.0) body events s e h.1)
+  pub events_taken : (past : List Event) (answers : List Entry) (body : Body X) (events : EventList) (s : State a.Kept)
+      → events ≡ record body.events { events = [] }
+      → IsAtRest a past answers body s → IsAtRest a (past ++ body.events.events) answers (record body { events = events }) s
+  events_taken past answers body events s e h = (h.0, between_taken (resting a past answers h.0) body events s e h.1)
 
-pub alive_taken : (kept : Option code.Went) (body : Body) (events : EventList) → events ≡ record body.events { events = [] }
-    → ∥ AliveUnless kept body ∥₁ → ∥ AliveUnless kept (record body { events = events }) ∥₁
-alive_taken kept body events e alive = ∥∥₁_map alive (at kept)
-  where
-    at : (o : Option code.Went) → AliveUnless o body → AliveUnless o (record body { events = events })
-    at None it = ∥∥₁_map it (λ w. (record w.0 { past = w.0.past ++ body.events.events }, (w.1.0, between_taken w.0 body events w.1.0 e w.1.1)))
-    at (Some end) it = tt
+  pub alive_taken : (kept : Option code.Went) (body : Body X) (events : EventList) → events ≡ record body.events { events = [] }
+      → ∥ AliveUnless a kept body ∥₁ → ∥ AliveUnless a kept (record body { events = events }) ∥₁
+  alive_taken kept body events e alive = ∥∥₁_map alive (at kept)
+    where
+      at : (o : Option code.Went) → AliveUnless a o body → AliveUnless a o (record body { events = events })
+      at None it = ∥∥₁_map it (λ w. (record w.0 { past = w.0.past ++ body.events.events }, (w.1.0, between_taken w.0 body events w.1.0 e w.1.1)))
+      at (Some end) it = tt
 
-pub alive_of : (kept : Option code.Went) (body : Body) → kept ≡ None → ∥ AliveUnless kept body ∥₁ → IsAlive body
-alive_of kept body none alive = ∥∥₁_elim (subst (λ o. ∥ AliveUnless o body ∥₁) none alive) ∥∥₁_prop (λ it. it)
+  pub alive_of : (kept : Option code.Went) (body : Body X) → kept ≡ None → ∥ AliveUnless a kept body ∥₁ → IsAlive a body
+  alive_of kept body none alive = ∥∥₁_elim (subst (λ o. ∥ AliveUnless a o body ∥₁) none alive) ∥∥₁_prop (λ it. it)
 
 -- ---- an end is kept
 pub kept_end : (result : code.Went) (kept : Option code.Went) → kept ≡ Some result → KeepsEnd result kept
@@ -124,11 +127,12 @@ kept_end went.Stalled kept e = e
 kept_end (went.Runaway task) kept e = e
 kept_end (went.Stopped why) kept e = e
 
-pub alive_ended : (kept : Option code.Went) (result : code.Went) (body : Body) → kept ≡ Some result → ∥ AliveUnless kept body ∥₁
-alive_ended kept result body e = subst (λ o. ∥ AliveUnless o body ∥₁) (sym e) ∣ tt ∣₁
+module _ {X : Type 0} {a : Added X} where
+  pub alive_ended : (kept : Option code.Went) (result : code.Went) (body : Body X) → kept ≡ Some result → ∥ AliveUnless a kept body ∥₁
+  alive_ended kept result body e = subst (λ o. ∥ AliveUnless a o body ∥₁) (sym e) ∣ tt ∣₁
 
 -- a turn was made, and what it said is kept
-module _ (said result : code.Went) (kept now : Option code.Went) (none : kept ≡ None) (is : IsKept said kept now result) where
+module _ {X : Type 0} {a : Added X} (said result : code.Went) (kept now : Option code.Went) (none : kept ≡ None) (is : IsKept said kept now result) where
   pub kept_goes : said ≡ went.Went → now ≡ None
   kept_goes e = let it = subst (λ w. IsKept w kept now result) e is in it.0 ∙ none
 
@@ -152,11 +156,11 @@ module _ (said result : code.Went) (kept now : Option code.Went) (none : kept �
       at (went.Runaway task) k = kept_end result now k.1
       at (went.Stopped why) k = kept_end result now k.1
 
-  pub kept_alive : (body : Body) → AliveIfWent said body → ∥ AliveUnless now body ∥₁
+  pub kept_alive : (body : Body X) → AliveIfWent a said body → ∥ AliveUnless a now body ∥₁
   kept_alive body alive = at said is alive
     where
-      at : (it : code.Went) → IsKept it kept now result → AliveIfWent it body → ∥ AliveUnless now body ∥₁
-      at went.Went k a = subst (λ o. ∥ AliveUnless o body ∥₁) (sym (k.0 ∙ none)) ∣ a ∣₁
+      at : (it : code.Went) → IsKept it kept now result → AliveIfWent a it body → ∥ AliveUnless a now body ∥₁
+      at went.Went k a = subst (λ o. ∥ AliveUnless a o body ∥₁) (sym (k.0 ∙ none)) ∣ a ∣₁
       at (went.Finished outcome) k a = alive_ended now result body k.1
       at went.Stalled k a = alive_ended now result body k.1
       at (went.Runaway task) k a = alive_ended now result body k.1

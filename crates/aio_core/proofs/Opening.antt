@@ -12,7 +12,6 @@ use Rattle.model_wire.specs.Journal.{Entry}
 use Rattle.model_loop.specs.Parts.{OfTask, Future, Parts, Task}
 use Rattle.model_loop.specs.Start.{first_parts, no_parts}
 use Rattle.model_loop.specs.Tasks.{cancelling, future_of, lives, spawn}
-use Rattle.model_machine.specs.Extra.{no_extra}
 use Rattle.model_machine.specs.State as machine
 use Rattle.model_machine.specs.State.{State, generator, generator_of, start}
 use Rattle.law_kept.proofs.Calls.{kept_register, kept_spawn}
@@ -23,6 +22,7 @@ use Rattle.aio_future.specs.Settled.{registered, soon_if_done}
 use Rattle.aio_task.specs.View.{View, empty, parts}
 use Rattle.aio_task.specs.Keeps.{Ties, Keeps, Kept, ByHandle}
 use Rattle.aio_ready.specs.declared.handle.Name.TheVariants.{Nameless}
+use Rattle.aio_extra.specs.Added.{Added, KeepsNothing, named_in}
 use Rattle.aio_body.specs.declared.body.Body.{Body}
 use Rattle.aio_body.specs.declared.standing.Slot.{Slot}
 use Rattle.aio_body.specs.declared.standing.Standing.{Standing}
@@ -119,106 +119,115 @@ registered_so profile v w is after =
     }) is
 
 -- ---- the whole
-module _ (program : Program) (none held : Body) (e : IsEmpty program none)
+module _ {X : Type 0} (a : Added X) (program : Program) (none held : Body X) (x : X) (kept : a.Kept) (fresh : KeepsNothing a x kept)
+    (e : IsEmpty program x none)
     (holds : HoldsMore (place_of program main_text) [] none held) where
-  abbrev begun : Body
+  abbrev begun : Body X
   begun = record held { parts = with_callback e.profile }
 
   one_slot : held.slots.items ≡ holds.slot ∷ []
   one_slot = holds.slots ∙ ap (λ (xs : List Slot). xs ++ holds.slot ∷ []) e.slots
 
-  begins_at : (answers : List Entry) → Stands None (resting [] answers (callback_kept e.profile).ties.bar) begun (start tt program answers)
+  begins_at : (answers : List Entry) → Stands None (resting a [] answers (callback_kept e.profile).ties.bar) begun (start kept program answers)
   begins_at answers = record {
     ties = (callback_kept e.profile).ties;
-    code = subst (IsCodeOf program) (sym (ap (λ (b : Body). b.code) holds.beside)) e.code;
+    code = subst (IsCodeOf program) (sym (ap (λ (b : Body X). b.code) holds.beside)) e.code;
     keeps = (callback_kept e.profile).keeps;
     left = refl;
     bar = refl;
     blocks = record {
       timeouts =
-          subst (λ ts. AreTimeouts (callback_kept e.profile).ties first_parts ts []) (sym (ap (λ (b : Body). b.timeouts) holds.beside ∙ e.timeouts)) tt;
+          subst (λ ts. AreTimeouts (callback_kept e.profile).ties first_parts ts []) (sym (ap (λ (b : Body X). b.timeouts) holds.beside ∙ e.timeouts)) tt;
       groups =
           subst (λ (gs : List Held). (id : ℕ) → KeepsAt (callback_kept e.profile).ties first_parts (slice_get gs id) (slice_get [] id))
-          (sym (ap (λ (b : Body). b.groups) holds.beside ∙ e.groups)) (λ id. tt);
+          (sym (ap (λ (b : Body X). b.groups) holds.beside ∙ e.groups)) (λ id. tt);
     };
     made = ap length one_slot;
     told = refl;
     few = subst (λ (xs : List Slot). length xs < 2 ^ 32) (sym one_slot) (omega arith);
     held = has;
     gone = λ id gone. absurd (false≢true (sym (none_gone e.profile id) ∙ gone));
-    futures = ap (λ (b : Body). b.futures.items) holds.beside ∙ e.futures;
+    futures = ap (λ (b : Body X). b.futures.items) holds.beside ∙ e.futures;
     few_futures = omega arith;
-    main_done = ap (λ (b : Body). b.main_done) holds.beside ∙ e.main_done;
+    main_done = ap (λ (b : Body X). b.main_done) holds.beside ∙ e.main_done;
     time = omega arith;
     counts = counts;
-    events = sym (ap (λ (b : Body). b.events.events) holds.beside ∙ ap (λ (l : EventList). l.events) e.events);
+    events = sym (ap (λ (b : Body X). b.events.events) holds.beside ∙ ap (λ (l : EventList). l.events) e.events);
     rest = refl;
-    count = ap (λ (b : Body). b.events.answers) holds.beside ∙ ap (λ (l : EventList). l.answers) e.events;
+    extra =
+        subst (λ y. a.stands (callback_kept e.profile).ties first_parts y kept) (sym (ap (λ (b : Body X). b.extra) holds.beside ∙ e.added))
+        (fresh (callback_kept e.profile).ties first_parts);
+    count = ap (λ (b : Body X). b.events.answers) holds.beside ∙ ap (λ (l : EventList). l.answers) e.events;
   }
     where
       counts : (task : ℕ) → cancelling first_parts task ≤ most
       counts zero = omega arith
       counts (suc task) = omega arith
 
-      stand : (code : Standing) → code ≡ Asked → StandsAt (callback_kept e.profile).ties first_parts [] 0 code machine.Asked
-      stand code is = subst (λ (x : Standing). StandsAt (callback_kept e.profile).ties first_parts [] 0 x machine.Asked) (sym is) tt
+      stand : (code : Standing) → code ≡ Asked
+          → StandsAt (callback_kept e.profile).ties first_parts (named_in a (start kept program answers)) 0 code machine.Asked
+      stand code is =
+          subst (λ (x : Standing). StandsAt (callback_kept e.profile).ties first_parts (named_in a (start kept program answers)) 0 x machine.Asked) (sym is) tt
 
       has : (task : ℕ) → lives first_parts task ≡ true
-          → HasSlot None None (callback_kept e.profile).ties held.code held.slots.items (start tt program answers) task
+          → HasSlot a None None (callback_kept e.profile).ties held.code held.slots.items (start kept program answers) task
       has zero l = record {
         slot = holds.slot;
         found = ap (λ (xs : List Slot). slice_get xs 0) one_slot;
         right = record {
           waits =
               subst (λ code. WaitsAs program code (generator (place_of program main_text) []) holds.slot.coroutine)
-              (sym (ap (λ (b : Body). b.code) holds.beside)) (holds.waits program e.code);
+              (sym (ap (λ (b : Body X). b.code) holds.beside)) (holds.waits program e.code);
           standing = stand holds.slot.standing holds.standing;
         };
       }
       has (suc task) l = absurd (false≢true l)
 
-  pub begins_so : (last : Body) → last ≡ record held { parts = with_callback e.profile } → (answers : List Entry)
-      → IsAtRest [] answers last (start tt program answers)
-  begins_so last is answers = subst (λ b. IsAtRest [] answers b (start tt program answers)) (sym is) (
+  pub begins_so : (last : Body X) → last ≡ record held { parts = with_callback e.profile } → (answers : List Entry)
+      → IsAtRest a [] answers last (start kept program answers)
+  begins_so last is answers = subst (λ b. IsAtRest a [] answers b (start kept program answers)) (sym is) (
     (callback_kept e.profile).ties.bar,
     record {
       stands = begins_at answers;
       called = refl;
       running = refl;
-      sound = begins_sound no_extra tt program answers;
+      sound = begins_sound a.meaning kept program answers;
     },
   )
 
--- main's task is made in a body that is empty
-pub main_made : (program : Program) (none held last : Body) (e : IsEmpty program none) (place : ℕ) (arguments : List Value)
-    → place ≡ place_of program main_text → arguments ≡ [] → HoldsMore place arguments none held
-    → (ticketed v w : View) (task own : ℕ) → ticketed ≡ held.parts → task ≡ length ticketed.tasks → parts v ≡ spawn (parts ticketed)
-    → v.queue ≡ queue.soon (Step (length ticketed.tasks)) ticketed.queue
-    → v ≡ record ticketed { queue = v.queue; futures = v.futures; tasks = v.tasks } → own ≡ future_of (parts v) task
-    → w ≡ record v { futures = registered own MainDone v.futures; queue = soon_if_done own MainDone v.futures v.queue }
-    → last ≡ record held { parts = w } → (answers : List Entry) → IsAtRest [] answers last (start tt program answers)
-main_made program none held last e place arguments at_place no_arguments holds ticketed v w task own ticket number after pending beside is_own on is answers =
-    begins_so program none held e held_main last (is ∙ ap (λ (x : View). record held { parts = x }) is_w) answers
-  where
-    start_view : ticketed ≡ empty e.profile
-    start_view = ticket ∙ ap (λ (b : Body). b.parts) holds.beside ∙ e.parts
+module _ {X : Type 0} {a : Added X} where
+  -- main's task is made in a body that is empty
+  pub main_made : (program : Program) (none held last : Body X) (x : X) (kept : a.Kept) → KeepsNothing a x kept
+      → (e : IsEmpty program x none) (place : ℕ) (arguments : List Value)
+      → place ≡ place_of program main_text → arguments ≡ [] → HoldsMore place arguments none held
+      → (ticketed v w : View) (task own : ℕ) → ticketed ≡ held.parts → task ≡ length ticketed.tasks → parts v ≡ spawn (parts ticketed)
+      → v.queue ≡ queue.soon (Step (length ticketed.tasks)) ticketed.queue
+      → v ≡ record ticketed { queue = v.queue; futures = v.futures; tasks = v.tasks } → own ≡ future_of (parts v) task
+      → w ≡ record v { futures = registered own MainDone v.futures; queue = soon_if_done own MainDone v.futures v.queue }
+      → last ≡ record held { parts = w } → (answers : List Entry) → IsAtRest a [] answers last (start kept program answers)
+  main_made program none held last x kept fresh e place arguments at_place no_arguments holds ticketed v w task own ticket number after pending
+      beside is_own on is answers =
+      begins_so a program none held x kept fresh e held_main last (is ∙ ap (λ (x : View). record held { parts = x }) is_w) answers
+    where
+      start_view : ticketed ≡ empty e.profile
+      start_view = ticket ∙ ap (λ (b : Body X). b.parts) holds.beside ∙ e.parts
 
-    held_main : HoldsMore (place_of program main_text) [] none held
-    held_main =
-        subst (λ n. HoldsMore n [] none held) at_place (subst (λ xs. HoldsMore place xs none held) no_arguments holds)
+      held_main : HoldsMore (place_of program main_text) [] none held
+      held_main =
+          subst (λ n. HoldsMore n [] none held) at_place (subst (λ xs. HoldsMore place xs none held) no_arguments holds)
 
-    is_v : v ≡ with_main e.profile
-    is_v =
-        spawned_so e.profile v (after ∙ ap (λ (x : View). spawn (parts x)) start_view)
-        (pending ∙ ap (λ (x : View). queue.soon (Step (length x.tasks)) x.queue) start_view)
-        (beside ∙ ap (λ (x : View). record x { queue = v.queue; futures = v.futures; tasks = v.tasks }) start_view)
+      is_v : v ≡ with_main e.profile
+      is_v =
+          spawned_so e.profile v (after ∙ ap (λ (x : View). spawn (parts x)) start_view)
+          (pending ∙ ap (λ (x : View). queue.soon (Step (length x.tasks)) x.queue) start_view)
+          (beside ∙ ap (λ (x : View). record x { queue = v.queue; futures = v.futures; tasks = v.tasks }) start_view)
 
-    first : task ≡ 0
-    first = number ∙ ap (λ (x : View). length x.tasks) start_view
+      first : task ≡ 0
+      first = number ∙ ap (λ (x : View). length x.tasks) start_view
 
-    is_w : w ≡ with_callback e.profile
-    is_w =
-        registered_so e.profile v w is_v (on ∙ ap (λ id. record v {
-          futures = registered id MainDone v.futures;
-          queue = soon_if_done id MainDone v.futures v.queue;
-        }) (is_own ∙ ap (future_of (parts v)) first))
+      is_w : w ≡ with_callback e.profile
+      is_w =
+          registered_so e.profile v w is_v (on ∙ ap (λ id. record v {
+            futures = registered id MainDone v.futures;
+            queue = soon_if_done id MainDone v.futures v.queue;
+          }) (is_own ∙ ap (future_of (parts v)) first))

@@ -2,17 +2,17 @@
 use Rattle.std.proofs.Common.{List}
 use Rattle.model_wire.specs.Event.{Event}
 use Rattle.model_wire.specs.Journal.{Entry}
-use Rattle.model_machine.specs.Extra.{no_extra}
 use Rattle.model_machine.specs.State.{State}
-use Rattle.law_runs.proofs.Nothing.{nothing_keeps}
 use Rattle.law_runs.proofs.Turning.{mids_in}
 use Rattle.law_ends.proofs.Leaving.{turn_in}
+use Rattle.aio_extra.specs.Added.{Added}
 use Rattle.aio_core.specs.declared.kernel.Kernel.{Kernel}
 use Rattle.aio_core.specs.Sound.{IsTurnSound}
 use Rattle.aio_core.specs.Turned.{StandsFor}
 
-pub turn_sound : (past : List Event) (answers : List Entry) (kernel : Kernel) (s : State (Unit {0})) → StandsFor past answers kernel s → IsTurnSound s
-turn_sound past answers kernel s h = record {
-  between = mids_in no_extra nothing_keeps s h.rests.1.sound;
-  after = turn_in no_extra nothing_keeps s h.rests.1.sound;
+pub turn_sound : {X : Type 0} {g : _} (a : Added X) (past : List Event) (answers : List Entry) (kernel : Kernel X g) (s : State a.Kept)
+    → StandsFor a past answers kernel s → IsTurnSound a s
+turn_sound a past answers kernel s h = record {
+  between = mids_in a.meaning (extra_sound a) s h.rests.1.sound;
+  after = turn_in a.meaning (extra_sound a) s h.rests.1.sound;
 }

@@ -11,7 +11,7 @@ use Rattle.model_loop.specs.Ledger.{ByEnd, Booked, request, request_each, reques
 use Rattle.model_loop.specs.Loop.{book}
 use Rattle.model_loop.specs.Parts.{Parts}
 use Rattle.model_loop.specs.Tasks.{future_of, lives, next_task}
-use Rattle.model_machine.specs.Extra.{no_extra}
+use Rattle.model_machine.specs.Extra.{Extra}
 use Rattle.model_machine.specs.Outcomes.{finished_as, no_task_lives}
 use Rattle.model_machine.specs.Sound.{IsStateSound, names_made}
 use Rattle.model_machine.specs.Told.{told_in}
@@ -27,6 +27,7 @@ use Rattle.law_kept.proofs.Requesting.{each_one}
 use Rattle.law_kept.proofs.Telling.{future_of_kept, outcome_kept, pending_kept}
 use Rattle.aio_cancel.specs.Body.{Appended}
 use Rattle.aio_task.specs.View.{View, parts}
+use Rattle.aio_extra.specs.Added.{Added}
 use Rattle.aio_body.specs.declared.body.Body.{Body}
 use Rattle.aio_body.specs.Stands.{Setting, Stands, IsBetween}
 use Rattle.aio_body.specs.Taken.{IsAfter}
@@ -82,30 +83,32 @@ some_not test first (suc count) n above below fails =
 
 -- ---- which tasks live
 -- a task's own future, as the code has it
-abbrev pub own_of : Body → ℕ → ℕ
+abbrev pub own_of : {X : Type 0} → Body X → ℕ → ℕ
 own_of body task = future_of (parts body.parts) task
 
-pub pends_so : (out : Option ℕ) (c : Setting) (body : Body) (s : State (Unit {0})) (task : ℕ) → Stands out c body s
-    → is_pending_at (slice_get body.parts.futures (own_of body task)) ≡ lives s.loop.parts task
-pends_so out c body s task h =
-    pending_kept h.ties body.parts s.loop.parts h.keeps (own_of body task)
-    ∙ ap (is_pending s.loop.parts) (future_of_kept h.ties body.parts s.loop.parts h.keeps task)
+module _ {X : Type 0} {a : Added X} where
+  pub pends_so : (out : Option ℕ) (c : Setting a) (body : Body X) (s : State a.Kept) (task : ℕ) → Stands out c body s
+      → is_pending_at (slice_get body.parts.futures (own_of body task)) ≡ lives s.loop.parts task
+  pends_so out c body s task h =
+      pending_kept h.ties body.parts s.loop.parts h.keeps (own_of body task)
+      ∙ ap (is_pending s.loop.parts) (future_of_kept h.ties body.parts s.loop.parts h.keeps task)
 
 -- ---- all are cancelled
 abbrev pub tasks_to : ℕ → List ℕ
 tasks_to count = range_with_len 0 count
 
-abbrev pub ended_to : ℕ → State (Unit {0}) → State (Unit {0})
+abbrev pub ended_to : {S : Type 0} → ℕ → State S → State S
 ended_to count s = in_loop (book (request_each ByEnd (tasks_to count))) s
 
 -- so far, from wherever it began
-abbrev pub HasCancelled : (first body : Body) → ℕ → Type 0
-HasCancelled first body count = (c : Setting) (s : State (Unit {0})) → IsBetween c first s → IsAfter c body (ended_to count s)
+abbrev pub HasCancelled : {X : Type 0} → (a : Added X) → (first body : Body X) → ℕ → Type 0
+HasCancelled a first body count = (c : Setting a) (s : State a.Kept) → IsBetween c first s → IsAfter c body (ended_to count s)
 
-pub cancelled_first : (body : Body) → HasCancelled body body 0
-cancelled_first body c s h =
-    subst (IsAfter c body) (ap (λ es. record s { loop = record s.loop { ledger = es } }) (sym (append-nil s.loop.ledger)))
-    (record { stands = h.stands; called = h.called; running = h.running })
+module _ {X : Type 0} {a : Added X} where
+  pub cancelled_first : (body : Body X) → HasCancelled a body body 0
+  cancelled_first body c s h =
+      subst (IsAfter c body) (ap (λ es. record s { loop = record s.loop { ledger = es } }) (sym (append-nil s.loop.ledger)))
+      (record { stands = h.stands; called = h.called; running = h.running })
 
 -- one task more
 range_more : (count : ℕ) → tasks_to (suc count) ≡ tasks_to count ++ count ∷ []
@@ -114,7 +117,7 @@ range_more count = range_last 0 count ∙ ap (λ n. tasks_to count ++ n ∷ []) 
     none : (n : ℕ) → 0 + n ≡ n
     none n = omega arith
 
-ended_more : (count : ℕ) (s : State (Unit {0}))
+ended_more : {S : Type 0} (count : ℕ) (s : State S)
     → ended_to (suc count) s
     ≡ in_loop (book (request_where (lives (ended_to count s).loop.parts count) ByEnd (future_of (ended_to count s).loop.parts count))) (ended_to count s)
 ended_more count s =
@@ -129,75 +132,77 @@ ended_more count s =
     last : Booked
     last = request_where (lives those.parts count) ByEnd (future_of those.parts count) those.parts
 
--- it lives, and was asked to end
-pub cancelled_more : (first body : Body) (count : ℕ) (v : View) → HasCancelled first body count
-    → is_pending_at (slice_get body.parts.futures (own_of body count)) ≡ true
-    → parts v ≡ (cancel (own_of body count) (parts body.parts)).parts → Appended body.parts.queue v.queue
-    → v ≡ record body.parts { queue = v.queue; futures = v.futures; tasks = v.tasks }
-    → HasCancelled first (record body { parts = v }) (suc count)
-cancelled_more first body count v had pends after appended beside c s h =
-    subst (IsAfter c (record body { parts = v })) (sym (ended_more count s ∙ ap (λ b. in_loop (book (request_where b ByEnd (future_of p count))) t) alive
-    ∙ ap (λ id. in_loop (book (request_where true ByEnd id)) t) (sym same)))
-    (record {
-      stands =
-          stands_on None None c body t v (book (λ q. (request ByEnd own q).booked)) so.stands
-          (kept_request so.stands.ties body.parts v p so.stands.keeps ByEnd own (record {
-            parts = after;
-            queue = appended;
-            time = ap (λ (x : View). x.time) beside;
-            schedule = ap (λ (x : View). x.schedule) beside;
-          }))
-          (leaves_request ByEnd own p) (spares_none p t.futures) (refl, refl) (below_appended body.parts.queue v.queue appended);
-      called = ap (λ (x : View). x.called) beside ∙ so.called;
-      running = ap (λ (x : View). x.running) beside ∙ so.running;
-    })
-  where
-    t : State (Unit {0})
-    t = ended_to count s
+module _ {X : Type 0} {a : Added X} where
+  -- it lives, and was asked to end
+  pub cancelled_more : (first body : Body X) (count : ℕ) (v : View) → HasCancelled a first body count
+      → is_pending_at (slice_get body.parts.futures (own_of body count)) ≡ true
+      → parts v ≡ (cancel (own_of body count) (parts body.parts)).parts → Appended body.parts.queue v.queue
+      → v ≡ record body.parts { queue = v.queue; futures = v.futures; tasks = v.tasks }
+      → HasCancelled a first (record body { parts = v }) (suc count)
+  cancelled_more first body count v had pends after appended beside c s h =
+      subst (IsAfter c (record body { parts = v })) (sym (ended_more count s ∙ ap (λ b. in_loop (book (request_where b ByEnd (future_of p count))) t) alive
+      ∙ ap (λ id. in_loop (book (request_where true ByEnd id)) t) (sym same)))
+      (record {
+        stands =
+            stands_on None None c body t v (book (λ q. (request ByEnd own q).booked)) so.stands
+            (kept_request so.stands.ties body.parts v p so.stands.keeps ByEnd own (record {
+              parts = after;
+              queue = appended;
+              time = ap (λ (x : View). x.time) beside;
+              schedule = ap (λ (x : View). x.schedule) beside;
+            }))
+            (leaves_request ByEnd own p) (spares_none p t.futures) (refl, refl) (below_appended body.parts.queue v.queue appended);
+        called = ap (λ (x : View). x.called) beside ∙ so.called;
+        running = ap (λ (x : View). x.running) beside ∙ so.running;
+      })
+    where
+      t : State a.Kept
+      t = ended_to count s
 
-    p : Parts
-    p = t.loop.parts
+      p : Parts
+      p = t.loop.parts
 
-    own : ℕ
-    own = own_of body count
+      own : ℕ
+      own = own_of body count
 
-    so : IsAfter c body t
-    so = had c s h
+      so : IsAfter c body t
+      so = had c s h
 
-    same : own ≡ future_of p count
-    same = future_of_kept so.stands.ties body.parts p so.stands.keeps count
+      same : own ≡ future_of p count
+      same = future_of_kept so.stands.ties body.parts p so.stands.keeps count
 
-    alive : lives p count ≡ true
-    alive = sym (pends_so None c body t count so.stands) ∙ pends
+      alive : lives p count ≡ true
+      alive = sym (pends_so None c body t count so.stands) ∙ pends
 
 pub plus_one : (n : ℕ) → suc n ≡ n + 1
 plus_one n = omega arith
 
--- it is done
-pub cancelled_on : (first body : Body) (count : ℕ) → HasCancelled first body count
-    → is_pending_at (slice_get body.parts.futures (own_of body count)) ≡ false → HasCancelled first body (suc count)
-cancelled_on first body count had done c s h =
-    subst (IsAfter c body) (sym (ended_more count s ∙ ap (λ b. in_loop (book (request_where b ByEnd (future_of t.loop.parts count))) t) over
-    ∙ ap (λ es. record t { loop = record t.loop { ledger = es } }) (append-nil t.loop.ledger))) so
-  where
-    t : State (Unit {0})
-    t = ended_to count s
+module _ {X : Type 0} {a : Added X} where
+  -- it is done
+  pub cancelled_on : (first body : Body X) (count : ℕ) → HasCancelled a first body count
+      → is_pending_at (slice_get body.parts.futures (own_of body count)) ≡ false → HasCancelled a first body (suc count)
+  cancelled_on first body count had done c s h =
+      subst (IsAfter c body) (sym (ended_more count s ∙ ap (λ b. in_loop (book (request_where b ByEnd (future_of t.loop.parts count))) t) over
+      ∙ ap (λ es. record t { loop = record t.loop { ledger = es } }) (append-nil t.loop.ledger))) so
+    where
+      t : State a.Kept
+      t = ended_to count s
 
-    so : IsAfter c body t
-    so = had c s h
+      so : IsAfter c body t
+      so = had c s h
 
-    over : lives t.loop.parts count ≡ false
-    over = sym (pends_so None c body t count so.stands) ∙ done
+      over : lives t.loop.parts count ≡ false
+      over = sym (pends_so None c body t count so.stands) ∙ done
 
-pub cancelled_idle : (first body : Body) (count : ℕ) → IsAlive first → HasCancelled first body count → body.parts.called ≡ None
-cancelled_idle first body count alive had =
-    ∥∥₁_elim alive (same_prop body.parts.called None) (λ w. (had w.0 w.1.0 w.1.1).called)
+  pub cancelled_idle : (first body : Body X) (count : ℕ) → IsAlive a first → HasCancelled a first body count → body.parts.called ≡ None
+  cancelled_idle first body count alive had =
+      ∥∥₁_elim alive (same_prop body.parts.called None) (λ w. (had w.0 w.1.0 w.1.1).called)
 
 -- all of them: that leaves a sound state
-cancelled_sound : (s : State (Unit {0})) → IsStateSound no_extra s → IsStateSound no_extra (in_loop cancel_everything s)
-cancelled_sound s sound =
-    nobody no_extra s sound (in_loop cancel_everything s) (record { program = refl; generators = refl }) refl
-    (over_as no_extra s sound (cancel_everything s.loop) all) all (end_of_run_sound None (told_in s.events) s.loop sound.loop)
+cancelled_sound : {S : Type 0} (added : Extra S) (s : State S) → IsStateSound added s → IsStateSound added (in_loop cancel_everything s)
+cancelled_sound added s sound =
+    nobody added s sound (in_loop cancel_everything s) (record { program = refl; generators = refl }) refl
+    (over_as added s sound (cancel_everything s.loop) all) all (end_of_run_sound None (told_in s.events) s.loop sound.loop)
   where
     all : IsLoopAfter (names_made (next_task s.loop.parts)) false None None None None s.loop (cancel_everything s.loop)
     all =
@@ -205,35 +210,11 @@ cancelled_sound s sound =
         (request_each ByEnd (range_with_len 0 (next_task s.loop.parts))) s.loop
         (each_after (names_made (next_task s.loop.parts)) false None ByEnd (range_with_len 0 (next_task s.loop.parts)) s.loop.parts)
 
-pub cancelled_all : (first body : Body) (count : ℕ) → count ≡ length first.slots.items → HasCancelled first body count
-    → (c : Setting) (s : State (Unit {0})) → IsBetween c first s → IsBetween c body (in_loop cancel_everything s)
-cancelled_all first body count all had c s h =
-    let so = subst (λ n. IsAfter c body (ended_to n s)) (all ∙ h.stands.made) (had c s h) in
-    record { stands = so.stands; called = so.called; running = so.running; sound = cancelled_sound s h.sound }
-
 -- ---- whether one lives
-abbrev pub NoneLives : Body → ℕ → Type 0
+abbrev pub NoneLives : {X : Type 0} → Body X → ℕ → Type 0
 NoneLives body count = (task : ℕ) → task < count → is_pending_at (slice_get body.parts.futures (own_of body task)) ≡ false
 
-pub some_lives : (body : Body) (task : ℕ) → task < length body.slots.items
-    → is_pending_at (slice_get body.parts.futures (own_of body task)) ≡ true
-    → (c : Setting) (s : State (Unit {0})) → IsBetween c body s → true ≡ not (no_task_lives s.loop.parts)
-some_lives body task within pends c s h =
-    let alive = sym (pends_so None c body s task h.stands) ∙ pends in
-    let made = h.stands.made in
-    sym (ap not (some_not (λ t. not (lives s.loop.parts t)) 0 (next_task s.loop.parts) task (omega arith) (omega (arith, within, made)) (ap not alive)))
-
-pub none_lives : (body : Body) → NoneLives body (length body.slots.items)
-    → (c : Setting) (s : State (Unit {0})) → IsBetween c body s → false ≡ not (no_task_lives s.loop.parts)
-none_lives body none c s h =
-    sym (ap not (all_so (λ t. not (lives s.loop.parts t)) 0 (next_task s.loop.parts) each))
-  where
-    each : (task : ℕ) → 0 ≤ task → task < 0 + next_task s.loop.parts → not (lives s.loop.parts task) ≡ true
-    each task above below =
-        let made = h.stands.made in
-        ap not (sym (pends_so None c body s task h.stands) ∙ none task (omega (arith, below, made)))
-
-pub none_more : (body : Body) (count : ℕ) → NoneLives body count → is_pending_at (slice_get body.parts.futures (own_of body count)) ≡ false
+pub none_more : {X : Type 0} (body : Body X) (count : ℕ) → NoneLives body count → is_pending_at (slice_get body.parts.futures (own_of body count)) ≡ false
     → NoneLives body (count + 1)
 none_more body count none done task below = at (cases_eq task count)
   where
@@ -245,13 +226,38 @@ none_more body count none done task below = at (cases_eq task count)
         lower (inl less) = less
         lower (inr more) = let same : task ≡ count = omega (arith, below, more) in absurd (other same)
 
--- ---- the end of a turn
-pub outcome_so : (c : Setting) (body : Body) (s : State (Unit {0})) → IsBetween c body s
-    → outcome_at (slice_get body.parts.futures (own_of body 0)) ≡ future_outcome s.loop.parts (future_of s.loop.parts 0)
-outcome_so c body s h =
-    ap (λ id. outcome_at (slice_get body.parts.futures id)) (future_of_kept h.stands.ties body.parts s.loop.parts h.stands.keeps 0)
-    ∙ outcome_kept h.stands.ties body.parts s.loop.parts h.stands.keeps (future_of s.loop.parts 0)
-    (own_stays None c body s h.stands h.sound.loop.parts.owns 0)
+module _ {X : Type 0} {a : Added X} where
+  pub cancelled_all : (first body : Body X) (count : ℕ) → count ≡ length first.slots.items → HasCancelled a first body count
+      → (c : Setting a) (s : State a.Kept) → IsBetween c first s → IsBetween c body (in_loop cancel_everything s)
+  cancelled_all first body count all had c s h =
+      let so = subst (λ n. IsAfter c body (ended_to n s)) (all ∙ h.stands.made) (had c s h) in
+      record { stands = so.stands; called = so.called; running = so.running; sound = cancelled_sound a.meaning s h.sound }
+
+  pub some_lives : (body : Body X) (task : ℕ) → task < length body.slots.items
+      → is_pending_at (slice_get body.parts.futures (own_of body task)) ≡ true
+      → (c : Setting a) (s : State a.Kept) → IsBetween c body s → true ≡ not (no_task_lives s.loop.parts)
+  some_lives body task within pends c s h =
+      let alive = sym (pends_so None c body s task h.stands) ∙ pends in
+      let made = h.stands.made in
+      sym (ap not (some_not (λ t. not (lives s.loop.parts t)) 0 (next_task s.loop.parts) task (omega arith) (omega (arith, within, made)) (ap not alive)))
+
+  pub none_lives : (body : Body X) → NoneLives body (length body.slots.items)
+      → (c : Setting a) (s : State a.Kept) → IsBetween c body s → false ≡ not (no_task_lives s.loop.parts)
+  none_lives body none c s h =
+      sym (ap not (all_so (λ t. not (lives s.loop.parts t)) 0 (next_task s.loop.parts) each))
+    where
+      each : (task : ℕ) → 0 ≤ task → task < 0 + next_task s.loop.parts → not (lives s.loop.parts task) ≡ true
+      each task above below =
+          let made = h.stands.made in
+          ap not (sym (pends_so None c body s task h.stands) ∙ none task (omega (arith, below, made)))
+
+  -- ---- the end of a turn
+  pub outcome_so : (c : Setting a) (body : Body X) (s : State a.Kept) → IsBetween c body s
+      → outcome_at (slice_get body.parts.futures (own_of body 0)) ≡ future_outcome s.loop.parts (future_of s.loop.parts 0)
+  outcome_so c body s h =
+      ap (λ id. outcome_at (slice_get body.parts.futures id)) (future_of_kept h.stands.ties body.parts s.loop.parts h.stands.keeps 0)
+      ∙ outcome_kept h.stands.ties body.parts s.loop.parts h.stands.keeps (future_of s.loop.parts 0)
+      (own_stays None c body s h.stands h.sound.loop.parts.owns 0)
 
 -- main's outcome, where main's callback ran and no task lives
 abbrev pub finished_by : (main_done none_lives : Bool) → Option Outcome → Option Outcome
@@ -262,7 +268,7 @@ abbrev pub said_at : Option Outcome → Said.Went
 said_at None = went.Went
 said_at (Some outcome) = went.Finished outcome
 
-module _ (c : Setting) (body : Body) (s : State (Unit {0})) (h : IsBetween c body s) where
+module _ {X : Type 0} {a : Added X} (c : Setting a) (body : Body X) (s : State a.Kept) (h : IsBetween c body s) where
   said_so : (o : Option Outcome) → finished_as s ≡ o → Turned c body (said_at o) (finished_if (finished_as s) s)
   said_so None e = subst (λ o. Turned c body went.Went (finished_if o s)) (sym e) h
   said_so (Some outcome) e = subst (λ o. Turned c body (went.Finished outcome) (finished_if o s)) (sym e) (refl, h.stands.events)

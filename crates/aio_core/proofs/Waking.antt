@@ -13,11 +13,10 @@ use Rattle.model_wire.specs.Fits.{fits, are_few, are_awaited}
 use Rattle.model_loop.specs.Handles.{by_deadline, due, fall_due}
 use Rattle.model_loop.specs.Loop.{in_parts}
 use Rattle.model_loop.specs.Parts.{Parts, Timer}
-use Rattle.model_machine.specs.Extra.{no_extra}
-use Rattle.model_machine.specs.Outside.{select, time_of}
+use Rattle.model_machine.specs.Outside.{select, time_of, watch_list}
 use Rattle.model_machine.specs.State as plain
 use Rattle.model_machine.specs.State.{State, generator_of, unbooked_in}
-use Rattle.model_machine.specs.Turn.{call_of, is_stalled, longest_wait, woken_by}
+use Rattle.model_machine.specs.Turn.{call_of, is_stalled, longest_wait, nothing_comes, wait_of, woken_by}
 use Rattle.law_handles.proofs.Appending.{waiting_kept}
 use Rattle.law_handles.proofs.Running.{keeps_barred}
 use Rattle.law_handles.proofs.Scheduling.{due_ties, keeps_fallen, stall_kept, wait_kept}
@@ -32,9 +31,10 @@ use Rattle.aio_group.specs.GoesOn.{GoesOn}
 use Rattle.aio_group.proofs.Standing.{groups_on}
 use Rattle.aio_task.specs.View.{View}
 use Rattle.aio_task.specs.Keeps.{Ties, Keeps, Knows, ByTimer, handle_as}
+use Rattle.aio_extra.specs.Added.{Added, GoesBeside, named_in}
 use Rattle.aio_body.specs.declared.body.Body.{Body}
 use Rattle.aio_body.specs.declared.standing.Standing.{Standing}
-use Rattle.aio_body.specs.declared.standing.Standing.TheVariants.{Asked, Sleeping, Leaving}
+use Rattle.aio_body.specs.declared.standing.Standing.TheVariants.{Asked, Sleeping, Leaving, Serving}
 use Rattle.aio_body.specs.Stands.{Setting, Stands, IsBetween, IsOwnSleep, StandsAt}
 use Rattle.law_body.proofs.Lasting.{spares_none, stands_left}
 use Rattle.law_body.proofs.Left.{leaves_handles}
@@ -82,7 +82,7 @@ keeps_timed t v p now k = record {
   numbered = record { stamps = k.numbered.stamps; tags = k.numbered.tags; members = k.numbered.members };
 }
 
-own_timed : (p : Parts) (now : ℕ) (named : List ℕ) (sleeper : Option ℕ) (id : ℕ) → IsOwnSleep p named sleeper id
+own_timed : (p : Parts) (now : ℕ) (named : ℕ → Type 0) (sleeper : Option ℕ) (id : ℕ) → IsOwnSleep p named sleeper id
     → IsOwnSleep (record p { time = now }) named sleeper id
 own_timed p now named sleeper id own = record { plain = own.plain; unnamed = own.unnamed; alone = own.alone }
 
@@ -90,7 +90,7 @@ knows_timed : (t : Ties) (p : Parts) (now bar tag : ℕ) (id : TimerId) → Know
     → Knows (record t { bar = bar }) (record p { time = now }) tag (ByTimer id)
 knows_timed t p now bar tag id k = record { given = k.given; known = k.known }
 
-at_timed : (t : Ties) (p : Parts) (now bar : ℕ) (named : List ℕ) (task : ℕ) (code : Standing) (standing : plain.Standing)
+at_timed : (t : Ties) (p : Parts) (now bar : ℕ) (named : ℕ → Type 0) (task : ℕ) (code : Standing) (standing : plain.Standing)
     → StandsAt t p named task code standing → StandsAt (record t { bar = bar }) (record p { time = now }) named task code standing
 at_timed t p now bar named task Asked plain.Asked h = tt
 at_timed t p now bar named task Asked (plain.Sleeping tag) h = h
@@ -105,60 +105,76 @@ at_timed t p now bar named task (Leaving group) plain.Asked h = h
 at_timed t p now bar named task (Leaving group) (plain.Sleeping tag) h = h
 at_timed t p now bar named task (Leaving group) (plain.Leaving id) h = h
 at_timed t p now bar named task (Leaving group) (plain.Serving key) h = h
+at_timed t p now bar named task (Serving key) plain.Asked h = h
+at_timed t p now bar named task (Serving key) (plain.Sleeping tag) h = h
+at_timed t p now bar named task (Serving key) (plain.Leaving id) h = h
+at_timed t p now bar named task (Serving key) (plain.Serving kept) h = h
 
--- The time is set, and the bar stands here.
-pub stands_timed : (c : Setting) (body : Body) (s : State (Unit {0})) (v : View) (now bar : ℕ) (h : Stands None c body s) → now ≤ most
-    → Keeps (record h.ties { bar = bar }) v (record s.loop.parts { time = now })
-    → Stands None (record c { left = length v.queue.below; bar = bar }) (record body { parts = v }) (unbooked_in (λ p. record p { time = now }) s)
-stands_timed c body s v now bar h few keeps = record {
-  ties = u;
-  code = h.code;
-  keeps = keeps;
-  left = refl;
-  bar = refl;
-  blocks = record {
-    timeouts = timeouts_stay h.ties u p q body.timeouts s.loop.timeouts (λ tag below. refl) (omega arith) h.blocks.timeouts;
-    groups = groups_on h.ties u p q on refl body.groups s.loop.groups h.blocks.groups;
-  };
-  made = h.made;
-  told = h.told;
-  few = h.few;
-  held = λ task l. let it = h.held task l in record {
-    slot = it.slot;
-    found = it.found;
-    right = record {
-      waits = it.right.waits;
-      standing = at_timed h.ties p now bar s.futures task it.slot.standing (generator_of task s).standing it.right.standing;
+module _ {X : Type 0} {a : Added X} where
+  -- The time is set, and the bar stands here.
+  pub stands_timed : (c : Setting a) (body : Body X) (s : State a.Kept) (v : View) (now bar : ℕ) (h : Stands None c body s) → now ≤ most
+      → Keeps (record h.ties { bar = bar }) v (record s.loop.parts { time = now })
+      → Stands None (record c { left = length v.queue.below; bar = bar }) (record body { parts = v }) (unbooked_in (λ p. record p { time = now }) s)
+  stands_timed c body s v now bar h few keeps = record {
+    ties = u;
+    code = h.code;
+    keeps = keeps;
+    left = refl;
+    bar = refl;
+    blocks = record {
+      timeouts = timeouts_stay h.ties u p q body.timeouts s.loop.timeouts (λ tag below. refl) (omega arith) h.blocks.timeouts;
+      groups = groups_on h.ties u p q on refl body.groups s.loop.groups h.blocks.groups;
     };
-  };
-  gone = λ id e. own_timed p now s.futures None id (h.gone id e);
-  futures = h.futures;
-  few_futures = h.few_futures;
-  main_done = h.main_done;
-  time = few;
-  counts = h.counts;
-  events = h.events;
-  rest = h.rest;
-  count = h.count;
-}
-  where
-    p : Parts
-    p = s.loop.parts
+    made = h.made;
+    told = h.told;
+    few = h.few;
+    held = λ task l. let it = h.held task l in record {
+      slot = it.slot;
+      found = it.found;
+      right = record {
+        waits = it.right.waits;
+        standing = at_timed h.ties p now bar (named_in a s) task it.slot.standing (generator_of task s).standing it.right.standing;
+      };
+    };
+    gone = λ id e. own_timed p now (named_in a s) None id (h.gone id e);
+    futures = h.futures;
+    few_futures = h.few_futures;
+    main_done = h.main_done;
+    time = few;
+    counts = h.counts;
+    events = h.events;
+    rest = h.rest;
+    extra = a.goes_on h.ties u p q body.extra s.extra h.extra beside;
+    count = h.count;
+  }
+    where
+      p : Parts
+      p = s.loop.parts
 
-    q : Parts
-    q = record s.loop.parts { time = now }
+      q : Parts
+      q = record s.loop.parts { time = now }
 
-    u : Ties
-    u = record h.ties { bar = bar }
+      u : Ties
+      u = record h.ties { bar = bar }
 
-    on : GoesOn p q
-    on = record {
-      tasks = omega arith;
-      futures = omega arith;
-      own = λ _ _. refl;
-      owners = λ _ _. refl;
-      failures = λ _ _ e. e;
-    }
+      on : GoesOn p q
+      on = record {
+        tasks = omega arith;
+        futures = omega arith;
+        own = λ _ _. refl;
+        owners = λ _ _. refl;
+        failures = λ _ _ e. e;
+      }
+
+      beside : GoesBeside (a.owns s.extra) h.ties p u q
+      beside = record {
+        known = λ tag below. refl;
+        tags = omega arith;
+        gone = λ id own. refl;
+        futures = omega arith;
+        plain = λ id e. e;
+        owners = λ id below. refl;
+      }
 
 -- ---- timers fall due
 fall_due_keeps : (timers : List Timer) (p : Parts)
@@ -192,11 +208,11 @@ due_keeps p =
     fall_due_keeps (by_deadline (filter (λ (timer : Timer). nat_le timer.when p.time) p.timers))
     (record p { timers = filter (λ (timer : Timer). nat_lt p.time timer.when) p.timers })
 
-module _ (c : Setting) (body : Body) (s : State (Unit {0})) (now : ℕ) (few : now ≤ most) where
-  abbrev timed : State (Unit {0})
+module _ {X : Type 0} {a : Added X} (c : Setting a) (body : Body X) (s : State a.Kept) (now : ℕ) (few : now ≤ most) where
+  abbrev timed : State a.Kept
   timed = unbooked_in (λ p. record p { time = now }) s
 
-  abbrev fell : State (Unit {0})
+  abbrev fell : State a.Kept
   fell = unbooked_in due timed
 
   timed_stands : (h : Stands None c body s)
@@ -204,7 +220,7 @@ module _ (c : Setting) (body : Body) (s : State (Unit {0})) (now : ℕ) (few : n
   timed_stands h =
       stands_timed c body s (timed_view now body.parts) now h.ties.bar h few (keeps_timed h.ties body.parts s.loop.parts now h.keeps)
 
-  fell_stands : (d : Setting) (h : Stands None d (record body { parts = timed_view now body.parts }) timed)
+  fell_stands : (d : Setting a) (h : Stands None d (record body { parts = timed_view now body.parts }) timed)
       → Stands None (record d { left = length (due_view now (timed_view now body.parts)).queue.below })
       (record body { parts = due_view now (timed_view now body.parts) }) fell
   fell_stands d h =
@@ -215,9 +231,9 @@ module _ (c : Setting) (body : Body) (s : State (Unit {0})) (now : ℕ) (few : n
         keeps = keeps_fallen h.ties (timed_view now body.parts) timed.loop.parts now h.keeps refl;
         extends = due_ties h.ties timed.loop.parts;
       })
-      (leaves_handles timed.loop.parts (due timed.loop.parts) is.0 is.1 is.2) (spares_none timed.loop.parts timed.futures) (refl, refl)
+      (leaves_handles timed.loop.parts (due timed.loop.parts) is.0 is.1 is.2) (spares_none timed.loop.parts (named_in a timed)) (refl, refl)
 
-  all_stand : (d : Setting) (h : Stands None d (record body { parts = due_view now (timed_view now body.parts) }) fell)
+  all_stand : (d : Setting a) (h : Stands None d (record body { parts = due_view now (timed_view now body.parts) }) fell)
       → Stands None (record d { left = length fell.loop.parts.pending; bar = fell.loop.parts.next_stamp })
       (record body { parts = woken_view now body.parts }) fell
   all_stand d h =
@@ -244,36 +260,37 @@ most_of _ h = absurd h
 pub later_time : (it : Answer) → IsTime it → (time : ℕ) → time ≤ most → max time (time_of it) ≤ most
 later_time it h time few = let most_it = most_of it h in omega (arith, few, most_it)
 
-pub time_few : (body : Body) → IsAlive body → body.parts.time ≤ most
-time_few body alive =
-    ∥∥₁_elim alive le_prop (λ w. subst (λ n. n ≤ most) (sym w.1.1.stands.keeps.time) w.1.1.stands.time)
+module _ {X : Type 0} {a : Added X} where
+  pub time_few : (body : Body X) → IsAlive a body → body.parts.time ≤ most
+  time_few body alive =
+      ∥∥₁_elim alive le_prop (λ w. subst (λ n. n ≤ most) (sym w.1.1.stands.keeps.time) w.1.1.stands.time)
 
-pub idle_alive : (body : Body) → IsAlive body → body.parts.called ≡ None
-idle_alive body alive = ∥∥₁_elim alive (same_prop body.parts.called None) (λ w. w.1.1.called)
+  pub idle_alive : (body : Body X) → IsAlive a body → body.parts.called ≡ None
+  idle_alive body alive = ∥∥₁_elim alive (same_prop body.parts.called None) (λ w. w.1.1.called)
 
-pub wakes_so : (c : Setting) (body : Body) (s : State (Unit {0})) (it : Answer) → IsTime it → IsBetween c body s
-    → IsBetween (all_below c (unbooked_in (woken_by it) s)) (record body { parts = woken_view (max body.parts.time (time_of it)) body.parts })
-    (unbooked_in (woken_by it) s)
-wakes_so c body s it is h = record {
-  stands =
-      subst (λ q. Stands None (all_below c (unbooked_in (λ p. q) s)) (record body { parts = woken_view now body.parts }) (unbooked_in (λ p. q) s))
-      (sym same)
-      (wakes c body s now (later_time it is body.parts.time (subst (λ n. n ≤ most) (sym h.stands.keeps.time) h.stands.time)) h.stands);
-  called = h.called;
-  running = h.running;
-  sound = woken_in no_extra s it h.sound;
-}
-  where
-    now : ℕ
-    now = max body.parts.time (time_of it)
+  pub wakes_so : (c : Setting a) (body : Body X) (s : State a.Kept) (it : Answer) → IsTime it → IsBetween c body s
+      → IsBetween (all_below c (unbooked_in (woken_by it) s)) (record body { parts = woken_view (max body.parts.time (time_of it)) body.parts })
+      (unbooked_in (woken_by it) s)
+  wakes_so c body s it is h = record {
+    stands =
+        subst (λ q. Stands None (all_below c (unbooked_in (λ p. q) s)) (record body { parts = woken_view now body.parts }) (unbooked_in (λ p. q) s))
+        (sym same)
+        (wakes c body s now (later_time it is body.parts.time (subst (λ n. n ≤ most) (sym h.stands.keeps.time) h.stands.time)) h.stands);
+    called = h.called;
+    running = h.running;
+    sound = woken_in a.meaning s it h.sound;
+  }
+    where
+      now : ℕ
+      now = max body.parts.time (time_of it)
 
-    same : woken_by it s.loop.parts ≡ due (record s.loop.parts { time = now })
-    same =
-        woken_as it is s.loop.parts
-        ∙ ap (λ n. due (record s.loop.parts { time = max n (time_of it) })) (sym h.stands.keeps.time)
+      same : woken_by it s.loop.parts ≡ due (record s.loop.parts { time = now })
+      same =
+          woken_as it is s.loop.parts
+          ∙ ap (λ n. due (record s.loop.parts { time = max n (time_of it) })) (sym h.stands.keeps.time)
 
-pub tasks_few : (body : Body) → IsAlive body → length body.slots.items < 2 ^ 32
-tasks_few body alive = ∥∥₁_elim alive le_prop (λ w. w.1.1.stands.few)
+  pub tasks_few : (body : Body X) → IsAlive a body → length body.slots.items < 2 ^ 32
+  tasks_few body alive = ∥∥₁_elim alive le_prop (λ w. w.1.1.stands.few)
 
 -- ---- what a turn asks first
 pub stall_then : (idle : Bool) (first : Option ℕ) (none : Bool) → idle ≡ true → (told : Option ℕ) → told ≡ first → is_some told ≡ not none
@@ -299,11 +316,16 @@ pub wait_idle : (idle : Bool) (first : Option ℕ) (time : ℕ) → idle ≡ tru
 wait_idle true first time e = refl
 wait_idle false first time e = absurd (false≢true e)
 
-pub stalls_so : (c : Setting) (body : Body) (s : State (Unit {0})) → IsBetween c body s
-    → stalls_by (queue.is_empty (waiting body.parts.queue)) (schedule.first_when body.parts.schedule.live) false ≡ is_stalled no_extra s
-stalls_so c body s h = sym (stall_kept h.stands.ties body.parts s.loop.parts h.stands.keeps false)
+module _ {X : Type 0} {a : Added X} where
+  pub stalls_so : (c : Setting a) (body : Body X) (s : State a.Kept) → IsBetween c body s
+      → stalls_by (queue.is_empty (waiting body.parts.queue)) (schedule.first_when body.parts.schedule.live) false ≡ is_stalled a.meaning s
+  stalls_so c body s h =
+      sym (stall_kept h.stands.ties body.parts s.loop.parts h.stands.keeps false)
+      ∙ ap (nothing_comes s.loop.parts.pending s.loop.parts.timers) (sym (a.quiet s.extra))
 
-pub waits_for : (c : Setting) (body : Body) (s : State (Unit {0})) → IsBetween c body s
-    → select (wait_by (queue.is_empty (waiting body.parts.queue)) (schedule.first_when body.parts.schedule.live) body.parts.time) []
-    ≡ call_of no_extra s
-waits_for c body s h = ap (λ w. select w []) (sym (wait_kept h.stands.ties body.parts s.loop.parts h.stands.keeps))
+  pub waits_for : (c : Setting a) (body : Body X) (s : State a.Kept) → IsBetween c body s
+      → select (wait_by (queue.is_empty (waiting body.parts.queue)) (schedule.first_when body.parts.schedule.live) body.parts.time) []
+      ≡ call_of a.meaning s
+  waits_for c body s h =
+      ap (λ w. select w []) (sym (wait_kept h.stands.ties body.parts s.loop.parts h.stands.keeps))
+      ∙ ap (λ b. select (wait_of s.loop.parts) (watch_list b)) (sym (a.quiet s.extra))

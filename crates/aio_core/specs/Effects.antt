@@ -3,6 +3,7 @@ use Rattle.std.specs.Prelude.{◌≡◌}
 use Rattle.model_value.specs.Action.{Action}
 use Rattle.model_value.specs.declared.action.Action.TheVariants as action
 use Rattle.model_machine.specs.State.{State}
+use Rattle.aio_extra.specs.Added.{Added}
 use Rattle.aio_body.specs.declared.body.Body.{Body}
 use Rattle.aio_body.specs.Stands.{Setting}
 use Rattle.aio_body.specs.Taken.{IsTaken}
@@ -17,9 +18,11 @@ effect_of (action.SleepDone task future) = code.SleepDone task future
 effect_of (action.GroupDone group task) = code.GroupDone group task
 effect_of (action.Fires timeout) = code.Fires timeout
 effect_of action.MainDone = code.MainDone
+effect_of (action.Extra key) = code.Extra key
+effect_of (action.ExtraItem number bytes) = code.ExtraItem number bytes
 effect_of _ = code.Nothing
 
 -- a handle that does this was taken from the queue, and it was noted that it runs
-abbrev pub MayAct : Effect → Body → Type 0
-MayAct what body =
-    ∥ ((it : Action) × ((what ≡ effect_of it) × ((c : Setting) × ((s : State (Unit {0})) × IsTaken it c body s)))) ∥₁
+abbrev pub MayAct : {X : Type 0} → Added X → Effect → Body X → Type 0
+MayAct a what body =
+    ∥ ((it : Action) × ((what ≡ effect_of it) × ((c : Setting a) × ((s : State a.Kept) × IsTaken it c body s)))) ∥₁

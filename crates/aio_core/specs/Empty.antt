@@ -5,7 +5,7 @@ use Rattle.aio_flat.specs.Code.{IsCodeOf}
 use Rattle.aio_task.specs.View.{empty}
 use Rattle.aio_body.specs.declared.body.Body.{Body}
 
-pub record IsEmpty (program : Program) (body : Body) : Type 0 where
+pub record IsEmpty {X : Type 0} (program : Program) (extra : X) (body : Body X) : Type 0 where
   pub code : IsCodeOf program body.code
   pub profile : ℕ
   pub parts : body.parts ≡ empty profile
@@ -13,5 +13,6 @@ pub record IsEmpty (program : Program) (body : Body) : Type 0 where
   pub timeouts : body.timeouts ≡ []
   pub groups : body.groups ≡ []
   pub futures : body.futures.items ≡ []
+  pub added : body.extra ≡ extra
   pub main_done : body.main_done ≡ false
   pub events : body.events ≡ record { events = []; answers = 0 }

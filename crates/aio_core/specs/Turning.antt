@@ -9,7 +9,7 @@ use Rattle.model_wire.specs.Event.{Event}
 use Rattle.model_wire.specs.Journal.{Entry, Answered}
 use Rattle.model_wire.specs.Told.{Agrees, Rose}
 use Rattle.model_wire.specs.Trace.{End}
-use Rattle.model_machine.specs.Extra.{no_extra}
+use Rattle.model_machine.specs.Extra.{Extra}
 use Rattle.model_machine.specs.Outcomes.{end_of}
 use Rattle.model_machine.specs.Outside.{select}
 use Rattle.model_machine.specs.State.{State}
@@ -18,25 +18,26 @@ use Rattle.model_machine.specs.Went.{Went, Goes, Stops, answers_in}
 use Rattle.aio_wire.specs.Told.{refused_of}
 use Rattle.aio_wire.specs.declared.stop.Stop.{Stop}
 use Rattle.aio_wire.specs.declared.stop.Stop.TheVariants as stop
+use Rattle.aio_extra.specs.Added.{Added}
 use Rattle.aio_body.specs.declared.body.Body.{Body}
 use Rattle.aio_core.specs.declared.went.Went as code
 use Rattle.aio_core.specs.declared.went.Went.TheVariants as went
 use Rattle.aio_body.specs.Stands.{Setting, IsBetween}
 
-abbrev pub IsAlive : Body → Type 0
-IsAlive body = ∥ ((c : Setting) × ((s : State (Unit {0})) × IsBetween c body s)) ∥₁
+abbrev pub IsAlive : {X : Type 0} → Added X → Body X → Type 0
+IsAlive a body = ∥ ((c : Setting a) × ((s : State a.Kept) × IsBetween c body s)) ∥₁
 
 -- none stands before the bar any more
-abbrev pub at_bar : Setting → Setting
+abbrev pub at_bar : {X : Type 0} {a : Added X} → Setting a → Setting a
 at_bar c = record c { left = 0 }
 
 -- ---- between two turns
 -- these events were taken out before, and the outside has these answers left
-abbrev pub resting : List Event → List Entry → (bar : ℕ) → Setting
-resting past answers bar = record { past = past; answers = answers; left = 0; bar = bar; coroutine = None }
+abbrev pub resting : {X : Type 0} → (a : Added X) → List Event → List Entry → (bar : ℕ) → Setting a
+resting a past answers bar = record { past = past; answers = answers; left = 0; bar = bar; coroutine = None }
 
-abbrev pub IsAtRest : List Event → List Entry → Body → State (Unit {0}) → Type 0
-IsAtRest past answers body s = (bar : ℕ) × IsBetween (resting past answers bar) body s
+abbrev pub IsAtRest : {X : Type 0} → (a : Added X) → List Event → List Entry → Body X → State a.Kept → Type 0
+IsAtRest a past answers body s = (bar : ℕ) × IsBetween (resting a past answers bar) body s
 
 -- ---- what a turn asks
 -- a select that watches nothing
@@ -49,12 +50,12 @@ IsTime (answer.Turn now items) = (now ≤ most) × (items ≡ [])
 IsTime _ = ⊥
 
 -- all that is pending stands before the bar
-abbrev pub all_below : Setting → State (Unit {0}) → Setting
+abbrev pub all_below : {X : Type 0} {a : Added X} → Setting a → State a.Kept → Setting a
 all_below c s = record c { left = length s.loop.parts.pending; bar = s.loop.parts.next_stamp }
 
 -- ---- the end of a turn
 -- the run goes on, or it ended in this way, and what happened is told
-abbrev pub Turned : Setting → Body → code.Went → Went (Unit {0}) → Type 0
+abbrev pub Turned : {X : Type 0} {a : Added X} → Setting a → Body X → code.Went → Went a.Kept → Type 0
 Turned c body went.Went (Goes now) = IsBetween c body now
 Turned c body (went.Finished outcome) (Stops it last) = (it ≡ end_of outcome) × (last.events ≡ c.past ++ body.events.events)
 Turned c body (went.Runaway task) (Stops it last) = (it ≡ end.Runaway task) × (last.events ≡ c.past ++ body.events.events)
@@ -71,37 +72,37 @@ abbrev pub Takes : (before after : Option (List Entry)) → List Answer → Type
 Takes before after had = (rest : List Entry) → Agrees after rest → Agrees before (map Answered had ++ rest)
 
 -- Which states are stood for, after events that were taken out before, and over answers that the outside has left.
-abbrev pub Stood : Type 1
-Stood = List Event → List Entry → State (Unit {0}) → Type 0
+abbrev pub Stood : Type 0 → Type 1
+Stood S = List Event → List Entry → State S → Type 0
 
-abbrev pub stood_by : Body → Stood
-stood_by body past answers s = IsAtRest past answers body s
+abbrev pub stood_by : {X : Type 0} → (a : Added X) → Body X → Stood a.Kept
+stood_by a body past answers s = IsAtRest a past answers body s
 
 -- The machine's turn goes on, and is stood for, whatever the outside has left.
-abbrev pub GoesOnFrom : List Answer → (old new : Stood) → Type 0
-GoesOnFrom had old new =
-    (past : List Event) (rest : List Entry) (s : State (Unit {0})) → old past (map Answered had ++ rest) s
-    → (now : State (Unit {0})) × ((turn step_limit no_extra s ≡ Goes now) × new past rest now)
+abbrev pub GoesOnFrom : {S : Type 0} → Extra S → List Answer → (old new : Stood S) → Type 0
+GoesOnFrom {S} added had old new =
+    (past : List Event) (rest : List Entry) (s : State S) → old past (map Answered had ++ rest) s
+    → (now : State S) × ((turn step_limit added s ≡ Goes now) × new past rest now)
 
 -- It ends the run in such a way, and what happened is told: what was taken out before, and these events.
-pub record EndsTelling (ways : End → State (Unit {0}) → Type 0) (past untaken : List Event) (s : State (Unit {0})) : Type 0 where
+pub record EndsTelling {S : Type 0} (added : Extra S) (ways : End → State S → Type 0) (past untaken : List Event) (s : State S) : Type 0 where
   pub end : End
-  pub last : State (Unit {0})
+  pub last : State S
   pub way : ways end last
-  pub stops : turn step_limit no_extra s ≡ Stops end last
+  pub stops : turn step_limit added s ≡ Stops end last
   pub told : last.events ≡ past ++ untaken
 
-abbrev pub EndsFrom : List Answer → (left : List Entry → Type 0) → (ways : End → State (Unit {0}) → Type 0) → (old : Stood)
-    → (untaken : List Event) → Type 0
-EndsFrom had left ways old untaken =
-    (past : List Event) (rest : List Entry) (s : State (Unit {0})) → left rest → old past (map Answered had ++ rest) s
-    → EndsTelling ways past untaken s
+abbrev pub EndsFrom : {S : Type 0} → Extra S → List Answer → (left : List Entry → Type 0) → (ways : End → State S → Type 0)
+    → (old : Stood S) → (untaken : List Event) → Type 0
+EndsFrom {S} added had left ways old untaken =
+    (past : List Event) (rest : List Entry) (s : State S) → left rest → old past (map Answered had ++ rest) s
+    → EndsTelling added ways past untaken s
 
-abbrev pub Is : End → End → State (Unit {0}) → Type 0
+abbrev pub Is : {S : Type 0} → End → End → State S → Type 0
 Is wanted it last = it ≡ wanted
 
 -- the number is the answer's, or the greatest of its type
-abbrev pub IsMismatch : ℕ → Call → End → State (Unit {0}) → Type 0
+abbrev pub IsMismatch : {S : Type 0} → ℕ → Call → End → State S → Type 0
 IsMismatch count call it last =
     (it ≡ end.Mismatch (answers_in last.events) call) × (count ≡ min (answers_in last.events) (2 ^ 64 - 1))
 
@@ -116,33 +117,33 @@ NextIs entry rest = (others : List Entry) × (rest ≡ entry ∷ others)
 
 -- What a turn comes to. `before` and `after` are what the wire told of its answers, `was` and `is` how often it had failed;
 -- `old` and `new` say which states were stood for and are then, and `untaken` are the events that weren't taken out yet.
-abbrev pub ComesTo : (before after : Option (List Entry)) (was is : ℕ) (old new : Stood) (untaken : List Event) → code.Went → Type 0
-ComesTo before after was is old new untaken went.Went = (had : List Answer) × (Takes before after had × GoesOnFrom had old new)
-ComesTo before after was is old new untaken (went.Finished outcome) =
-    (had : List Answer) × (Takes before after had × EndsFrom had AnyLeft (Is (end_of outcome)) old untaken)
-ComesTo before after was is old new untaken went.Stalled = (before ≡ after) × EndsFrom [] AnyLeft (Is end.Stalled) old untaken
-ComesTo before after was is old new untaken (went.Runaway task) =
-    (had : List Answer) × (Takes before after had × EndsFrom had AnyLeft (Is (end.Runaway task)) old untaken)
-ComesTo before after was is old new untaken (went.Stopped (stop.Over call)) =
-    (had : List Answer) × (Agrees before (map Answered had) × EndsFrom had NoneLeft (Is (end.Over call)) old untaken)
-ComesTo before after was is old new untaken (went.Stopped (stop.Bad fault)) =
+abbrev pub ComesTo : {S : Type 0} → Extra S → (before after : Option (List Entry)) (was is : ℕ) (old new : Stood S) (untaken : List Event) → code.Went → Type 0
+ComesTo added before after was is old new untaken went.Went = (had : List Answer) × (Takes before after had × GoesOnFrom added had old new)
+ComesTo added before after was is old new untaken (went.Finished outcome) =
+    (had : List Answer) × (Takes before after had × EndsFrom added had AnyLeft (Is (end_of outcome)) old untaken)
+ComesTo added before after was is old new untaken went.Stalled = (before ≡ after) × EndsFrom added [] AnyLeft (Is end.Stalled) old untaken
+ComesTo added before after was is old new untaken (went.Runaway task) =
+    (had : List Answer) × (Takes before after had × EndsFrom added had AnyLeft (Is (end.Runaway task)) old untaken)
+ComesTo added before after was is old new untaken (went.Stopped (stop.Over call)) =
+    (had : List Answer) × (Agrees before (map Answered had) × EndsFrom added had NoneLeft (Is (end.Over call)) old untaken)
+ComesTo added before after was is old new untaken (went.Stopped (stop.Bad fault)) =
     (had : List Answer) × (((rest : List Entry) × Agrees before (map Answered had ++ refused_of fault ∷ rest))
-    × EndsFrom had (NextIs (refused_of fault)) (Is (end.JournalRefused fault.line fault.cause)) old untaken)
-ComesTo before after was is old new untaken (went.Stopped (stop.Mismatch count call)) =
-    (had : List Answer) × (Takes before after had × EndsFrom had AnyLeft (IsMismatch count call) old untaken)
-ComesTo before after was is old new untaken (went.Stopped (stop.Failed call)) =
-    (had : List Answer) × (Takes before after had × EndsFrom had NoneLeft (Is (end.Over call)) old untaken × Rose was is)
-ComesTo before after was is old new untaken (went.Stopped stop.Memory) = Unit {0}
+    × EndsFrom added had (NextIs (refused_of fault)) (Is (end.JournalRefused fault.line fault.cause)) old untaken)
+ComesTo added before after was is old new untaken (went.Stopped (stop.Mismatch count call)) =
+    (had : List Answer) × (Takes before after had × EndsFrom added had AnyLeft (IsMismatch count call) old untaken)
+ComesTo added before after was is old new untaken (went.Stopped (stop.Failed call)) =
+    (had : List Answer) × (Takes before after had × EndsFrom added had NoneLeft (Is (end.Over call)) old untaken × Rose was is)
+ComesTo added before after was is old new untaken (went.Stopped stop.Memory) = Unit {0}
 
 -- where the run goes on there is a state that is stood for
-abbrev pub AliveIfWent : code.Went → Body → Type 0
-AliveIfWent went.Went body = IsAlive body
-AliveIfWent _ body = Unit {0}
+abbrev pub AliveIfWent : {X : Type 0} → Added X → code.Went → Body X → Type 0
+AliveIfWent a went.Went body = IsAlive a body
+AliveIfWent a _ body = Unit {0}
 
 -- between two turns there is such a state, unless the run ended
-abbrev pub AliveUnless : (ended : Option code.Went) → Body → Type 0
-AliveUnless None body = IsAlive body
-AliveUnless (Some _) body = Unit {0}
+abbrev pub AliveUnless : {X : Type 0} → Added X → (ended : Option code.Went) → Body X → Type 0
+AliveUnless a None body = IsAlive a body
+AliveUnless a (Some _) body = Unit {0}
 
 -- whether a state is stalled, by what was said
 abbrev pub StallsAs : Bool → code.Went → Type 0

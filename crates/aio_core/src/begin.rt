@@ -4,11 +4,13 @@ ghost use Rattle.model_text.specs.SecondPass.{main_text};
 ghost use Rattle.model_wire.specs.Journal.{Entry};
 ghost use Rattle.model_says.specs.Requests.{place_among, place_of};
 ghost use Rattle.model_machine.specs.State.{start};
+ghost use Rattle.aio_extra.specs.Added.{KeepsNothing};
 ghost use Rattle.aio_core.specs.Empty.{IsEmpty};
 ghost use Rattle.aio_core.specs.Turning.{IsAtRest};
 
 use aio_base::{Action, Memory, ValueList};
 use aio_body::Body;
+use aio_extra::Extra;
 use aio_flat::flatten;
 use aio_group::Groups;
 use aio_program::{Coroutine, Program};
@@ -18,19 +20,21 @@ use aio_wire::Events;
 use std::alloc::Global;
 
 /// A run begins at time 0, with main's task, whose first step is pending, and what is called when it is done.
-pub fn begin(alloc: Global, program: &Program) -> Result<Body, Memory>
-    ensures { IfOk result (λ body. (answers : List Entry) → IsAtRest [] answers body (start tt program.now answers)) }
+pub fn begin<X: Extra + Drop>(alloc: Global, program: &Program, extra: X) -> Result<Body<X>, Memory>
+    ensures { IfOk result (λ body. (kept : X.added.Kept) → KeepsNothing X.added extra kept
+        → (answers : List Entry) → IsAtRest X.added [] answers body (start kept program.now answers)) }
 {
-    let mut body = empty(alloc, program)?;
+    let mut body = empty(alloc, program, extra)?;
     make_main(alloc, program, &mut body)?;
     Ok(body)
 }
 
 // Main's task is made.
-fn make_main(alloc: Global, program: &Program, body: &mut Body) -> Result<(), Memory>
+fn make_main<X: Extra>(alloc: Global, program: &Program, body: &mut Body<X>) -> Result<(), Memory>
     requires idle { body.old.parts.called ≡ None }
-    ensures { OnOk result (IsEmpty program.now body.old
-        → (answers : List Entry) → IsAtRest [] answers body.new (start tt program.now answers)) }
+    ensures { OnOk result ((extra : X) (kept : X.added.Kept) → KeepsNothing X.added extra kept
+        → IsEmpty program.now extra body.old → (answers : List Entry)
+        → IsAtRest X.added [] answers body.new (start kept program.now answers)) }
 {
     let main = main_of(program)?;
     body.hold(alloc, main, &ValueList::of(Vec::new(alloc)))?;
@@ -42,8 +46,8 @@ fn make_main(alloc: Global, program: &Program, body: &mut Body) -> Result<(), Me
 }
 
 // Nothing has happened, and there are no tasks.
-fn empty(alloc: Global, program: &Program) -> Result<Body, Memory>
-    ensures { IfOk result (IsEmpty program.now) }
+fn empty<X: Drop>(alloc: Global, program: &Program, extra: X) -> Result<Body<X>, Memory>
+    ensures { IfOk result (IsEmpty program.now extra) }
 {
     let profile = u8::try_from(program.profile()).unwrap_or(u8::MAX);
     let timeouts = Timeouts::new(alloc)?;
@@ -59,6 +63,7 @@ fn empty(alloc: Global, program: &Program) -> Result<Body, Memory>
         futures: Vec::new(alloc),
         main_done: false,
         events: Events::new(alloc),
+        extra,
     })
 }
 

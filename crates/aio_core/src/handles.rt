@@ -4,7 +4,6 @@ ghost use Rattle.model_value.specs.Action.{Action as AnyAction};
 ghost use Rattle.model_says.specs.Says.{step_limit};
 ghost use Rattle.model_wire.specs.declared.event.Event.TheVariants as event;
 ghost use Rattle.model_loop.specs.Circles.{circle_fault as plain_circle_fault};
-ghost use Rattle.model_machine.specs.Extra.{no_extra};
 ghost use Rattle.model_machine.specs.Outcomes.{woken_with as plain_woken_with};
 ghost use Rattle.model_machine.specs.State.{State, noted};
 ghost use Rattle.model_machine.specs.Turn.{effect as plain_effect, run_below as plain_run_below};
@@ -17,6 +16,7 @@ ghost use Rattle.aio_core.specs.Turning.{IsAlive, at_bar};
 use crate::effect::{Effect, effect_of};
 use aio_base::{Action, Circle, Exc, Input, Kind, Memory, Outcome, Value, exception};
 use aio_body::{Body, input_of};
+use aio_extra::Extra;
 use aio_serve::{child_done, fire};
 use aio_step::{Stepped, step};
 use aio_task::Ticket;
@@ -24,10 +24,10 @@ use aio_wire::Event;
 use std::alloc::Global;
 
 /// The handles before the bar run, in order.
-pub fn run_below(body: &mut Body, alloc: Global) -> Result<Stepped, Memory>
-    requires { IsAlive body.old }
-    ensures { IfOk result (λ went. (c : Setting) (s : State (Unit {0})) → IsBetween c body.old s
-        → Steps (at_bar c) body.new went (plain_run_below step_limit no_extra c.bar c.left s)) }
+pub fn run_below<X: Extra>(body: &mut Body<X>, alloc: Global) -> Result<Stepped, Memory>
+    requires { IsAlive X.added body.old }
+    ensures { IfOk result (λ went. (c : Setting X.added) (s : State X.added.Kept) → IsBetween c body.old s
+        → Steps (at_bar c) body.new went (plain_run_below step_limit X.added.meaning c.bar c.left s)) }
 {
     while let Some((action, ticket)) = body.parts.next_below() {
         match run(body, alloc, action, ticket)? {
@@ -39,21 +39,31 @@ pub fn run_below(body: &mut Body, alloc: Global) -> Result<Stepped, Memory>
 }
 
 // A handle runs.
-fn run(body: &mut Body, alloc: Global, action: Action, ticket: Ticket) -> Result<Stepped, Memory>
-    requires { MayRun action body.old }
-    ensures { IfOk result (λ went. (c : Setting) (s : State (Unit {0})) → IsNext action c body.old s
-        → Steps c body.new went (plain_effect step_limit no_extra action (noted (event.Ran action) s))) }
+fn run<X: Extra>(
+    body: &mut Body<X>,
+    alloc: Global,
+    action: Action,
+    ticket: Ticket,
+) -> Result<Stepped, Memory>
+    requires { MayRun X.added action body.old }
+    ensures { IfOk result (λ went. (c : Setting X.added) (s : State X.added.Kept) → IsNext action c body.old s
+        → Steps c body.new went (plain_effect step_limit X.added.meaning action (noted (event.Ran action) s))) }
 {
-    let what = effect_of(&action);
+    let what = effect_of(alloc, &action)?;
     body.events.push(Event::Ran(action))?;
     act(body, alloc, what, ticket)
 }
 
 // What a handle does.
-fn act(body: &mut Body, alloc: Global, what: Effect, ticket: Ticket) -> Result<Stepped, Memory>
-    requires { MayAct what body.old }
-    ensures { IfOk result (λ went. (c : Setting) (s : State (Unit {0})) (it : AnyAction) → what ≡ plain_effect_of it
-        → IsTaken it c body.old s → Steps c body.new went (plain_effect step_limit no_extra it s)) }
+fn act<X: Extra>(
+    body: &mut Body<X>,
+    alloc: Global,
+    what: Effect,
+    ticket: Ticket,
+) -> Result<Stepped, Memory>
+    requires { MayAct X.added what body.old }
+    ensures { IfOk result (λ went. (c : Setting X.added) (s : State X.added.Kept) (it : AnyAction) → what ≡ plain_effect_of it
+        → IsTaken it c body.old s → Steps c body.new went (plain_effect step_limit X.added.meaning it s)) }
 {
     match what {
         Effect::Step(task) => step(body, alloc, task, ticket, Input::Send(Value::nothing())),
@@ -84,14 +94,23 @@ fn act(body: &mut Body, alloc: Global, what: Effect, ticket: Ticket) -> Result<S
             body.main_done = true;
             Ok(Stepped::Goes)
         }
+        Effect::Extra(key) => {
+            body.extra.act(alloc, key, &mut body.parts)?;
+            Ok(Stepped::Goes)
+        }
+        Effect::ExtraItem { code, bytes } => {
+            body.extra
+                .item(alloc, code, bytes.items(), &mut body.parts)?;
+            Ok(Stepped::Goes)
+        }
         Effect::Nothing => Ok(Stepped::Goes),
     }
 }
 
 // What a task is woken with: how that ended for which it waits.
-fn woken_with(body: &Body, task: u32) -> Result<Input, Memory>
-    requires { MayBegin task body.now }
-    ensures input { IfOk result (λ input. (c : Setting) (s : State (Unit {0})) → IsCalled task c body.now s
+fn woken_with<X: Extra>(body: &Body<X>, task: u32) -> Result<Input, Memory>
+    requires { MayBegin X.added task body.now }
+    ensures input { IfOk result (λ input. (c : Setting X.added) (s : State X.added.Kept) → IsCalled task c body.now s
         → input ≡ plain_woken_with s.loop.parts task) }
     ensures made { IfOk result (λ input. HearsMade input body.now) }
 {

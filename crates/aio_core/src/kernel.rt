@@ -7,37 +7,42 @@ use crate::turns::turn;
 use crate::went::Went;
 use aio_base::Memory;
 use aio_body::Body;
+use aio_extra::Extra;
 use aio_program::Program;
 use aio_wire::{Events, Wire};
 use std::alloc::Global;
 
-/// A run of a program, between two turns. After any answer of a turn but `Went` the run has ended.
+/// A run of a program, between two turns, over what is added to the loop's own requests. After any answer of a turn but `Went`
+/// the run has ended.
 #[derive(Drop)]
-pub struct Kernel {
-    body: Body,
+pub struct Kernel<X: Extra> {
+    body: Body<X>,
     // how the run ended
     ended: Option<Went>,
     // once main is done, the task that was seen last to live
     seen: u32,
-    ghost alive: { ∥ AliveUnless ended body ∥₁ },
+    ghost alive: { ∥ AliveUnless X.added ended body ∥₁ },
 }
 
-impl Kernel {
+impl<X: Extra + Drop> Kernel<X> {
     ghost use Rattle.std.specs.Prelude.{◌≡◌, ◌≤◌, List, [], ◌++◌, None, IfOk, IfSome};
     ghost use Rattle.model_wire.specs.Event.{Event};
     ghost use Rattle.model_wire.specs.Journal.{Entry};
     ghost use Rattle.model_loop.specs.Tasks.{next_task};
     ghost use Rattle.model_machine.specs.State.{State};
+    ghost use Rattle.aio_extra.specs.Added.{KeepsNothing};
     ghost use Rattle.aio_core.specs.declared.went.Went.{Went as AnyWent};
     ghost use Rattle.aio_core.specs.Turned.{StandsFor, Begins, TurnedBy, KeepsEnd, ended, untaken};
     ghost use Rattle.aio_core.specs.Again.{Again};
     ghost use Rattle.aio_core.specs.Sound.{IsTurnSound};
 
-    /// A run begins at time 0, with main's task, whose first step is pending.
-    pub fn new(alloc: Global, program: &Program) -> Result<Kernel, Memory>
-        ensures { IfOk result (Begins program.now) }
+    /// A run begins at time 0, with main's task, whose first step is pending. What is added keeps nothing so far.
+    pub fn new(alloc: Global, program: &Program, extra: X) -> Result<Kernel<X>, Memory>
+        requires fresh { ∥ ((kept : X.added.Kept) × KeepsNothing X.added extra kept) ∥₁ }
+        ensures { IfOk result (λ kernel. (kept : X.added.Kept) → KeepsNothing X.added extra kept
+            → Begins X.added kept program.now kernel) }
     {
-        let body = begin(alloc, program)?;
+        let body = begin(alloc, program, extra)?;
         Ok(Kernel {
             body,
             ended: None,
@@ -47,10 +52,10 @@ impl Kernel {
 
     /// A turn. After any answer but `Went` it answers that again, or that memory was refused, and asks nothing.
     pub fn turn<W: Wire>(&mut self, alloc: Global, wire: &mut W) -> Went
-        ensures turned { ended self.old ≡ None → (said : AnyWent) × TurnedBy (W.fails wire.old) (W.quiet wire.old wire.new)
+        ensures turned { ended self.old ≡ None → (said : AnyWent) × TurnedBy X.added (W.fails wire.old) (W.quiet wire.old wire.new)
             (W.seen wire.old) (W.seen wire.new) self.old self.new result said }
-        ensures sound { (past : List Event) (answers : List Entry) (s : State (Unit {0}))
-            → StandsFor past answers self.old s → IsTurnSound s }
+        ensures sound { (past : List Event) (answers : List Entry) (s : State X.added.Kept)
+            → StandsFor X.added past answers self.old s → IsTurnSound X.added s }
         ensures keeps { W.keeps wire.old wire.new }
         ensures later { (W.seen wire.old).faults ≤ (W.seen wire.new).faults }
         ensures kept { KeepsEnd result (ended self.new) }
@@ -71,16 +76,16 @@ impl Kernel {
         ensures taken { result.events ≡ untaken self.old }
         ensures left { untaken self.new ≡ [] }
         ensures ended { ended self.new ≡ ended self.old }
-        ensures stands { (past : List Event) (answers : List Entry) (s : State (Unit {0}))
-            → StandsFor past answers self.old s → StandsFor (past ++ untaken self.old) answers self.new s }
+        ensures stands { (past : List Event) (answers : List Entry) (s : State X.added.Kept)
+            → StandsFor X.added past answers self.old s → StandsFor X.added (past ++ untaken self.old) answers self.new s }
     {
         self.body.events.take()
     }
 
     /// How many tasks were made so far.
     pub fn tasks(&self) -> u32
-        ensures { (past : List Event) (answers : List Entry) (s : State (Unit {0}))
-            → StandsFor past answers self.now s → result ≡ next_task s.loop.parts }
+        ensures { (past : List Event) (answers : List Entry) (s : State X.added.Kept)
+            → StandsFor X.added past answers self.now s → result ≡ next_task s.loop.parts }
     {
         u32::try_from(self.body.slots.len()).unwrap_or(u32::MAX)
     }

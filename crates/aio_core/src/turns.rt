@@ -4,7 +4,6 @@ ghost use Rattle.model_wire.specs.Event.{Event};
 ghost use Rattle.model_wire.specs.Fits.{fits};
 ghost use Rattle.model_wire.specs.Journal.{Entry};
 ghost use Rattle.model_loop.specs.Ending.{cancel_everything as plain_cancel_everything};
-ghost use Rattle.model_machine.specs.Extra.{no_extra};
 ghost use Rattle.model_machine.specs.Outcomes.{finished_as, no_task_lives};
 ghost use Rattle.model_machine.specs.Outside.{select as plain_select, time_of as plain_time_of};
 ghost use Rattle.model_machine.specs.State.{State, in_loop, unbooked_in};
@@ -20,6 +19,7 @@ use crate::handles::run_below;
 use crate::went::{Went, copy_of_outcome};
 use aio_base::Memory;
 use aio_body::Body;
+use aio_extra::Extra;
 use aio_step::Stepped;
 use aio_wire::{Answer, Call, Port, Stop, WatchList, Wire};
 use std::alloc::Global;
@@ -29,18 +29,18 @@ const LONGEST_WAIT: u64 = 86_400_000;
 
 /// A turn: the outside is asked for the time and what came, and then the handles that are pending run. Once main is done,
 /// `seen` is the task that was seen last to live.
-pub fn turn<W: Wire>(
-    body: &mut Body,
+pub fn turn<W: Wire, X: Extra>(
+    body: &mut Body<X>,
     alloc: Global,
     wire: &mut W,
     seen: &mut u32,
 ) -> Result<Went, Stop>
-    requires { IsAlive body.old }
-    ensures comes { ComesTo (W.seen wire.old).left (W.seen wire.new).left (W.seen wire.old).faults (W.seen wire.new).faults
-        (stood_by body.old) (stood_by body.new) body.new.events.events (said_by result) }
-    ensures stalls { (past : List Event) (answers : List Entry) (s : State (Unit {0}))
-        → IsAtRest past answers body.old s → StallsAs (plain_is_stalled no_extra s) (said_by result) }
-    ensures alive { AliveIfWent (said_by result) body.new }
+    requires { IsAlive X.added body.old }
+    ensures comes { ComesTo X.added.meaning (W.seen wire.old).left (W.seen wire.new).left (W.seen wire.old).faults (W.seen wire.new).faults
+        (stood_by X.added body.old) (stood_by X.added body.new) body.new.events.events (said_by result) }
+    ensures stalls { (past : List Event) (answers : List Entry) (s : State X.added.Kept)
+        → IsAtRest X.added past answers body.old s → StallsAs (plain_is_stalled X.added.meaning s) (said_by result) }
+    ensures alive { AliveIfWent X.added (said_by result) body.new }
     ensures fails { W.fails wire.old → OfFailing (said_by result) }
     ensures keeps { W.keeps wire.old wire.new }
     ensures quiet { UnlessFailed (W.quiet wire.old wire.new) (said_by result) }
@@ -55,15 +55,15 @@ pub fn turn<W: Wire>(
 }
 
 // Nothing is pending, and nothing can come.
-fn is_stalled(body: &Body) -> bool
-    ensures { (c : Setting) (s : State (Unit {0})) → IsBetween c body.now s → result ≡ plain_is_stalled no_extra s }
+fn is_stalled<X: Extra>(body: &Body<X>) -> bool
+    ensures { (c : Setting X.added) (s : State X.added.Kept) → IsBetween c body.now s → result ≡ plain_is_stalled X.added.meaning s }
 {
     body.parts.is_empty() && body.parts.earliest().is_none()
 }
 
 // What a turn asks first. Nothing is watched.
-fn first_call(body: &Body, alloc: Global) -> Call
-    ensures call { (c : Setting) (s : State (Unit {0})) → IsBetween c body.now s → result ≡ call_of no_extra s }
+fn first_call<X: Extra>(body: &Body<X>, alloc: Global) -> Call
+    ensures call { (c : Setting X.added) (s : State X.added.Kept) → IsBetween c body.now s → result ≡ call_of X.added.meaning s }
     ensures shape { IsSelect result }
 {
     select(alloc, wait(body))
@@ -78,8 +78,8 @@ fn select(alloc: Global, wait: Option<u64>) -> Call
 
 // How long a turn waits: not at all where something is pending, else until the next deadline, and without a bound where
 // there is none.
-fn wait(body: &Body) -> Option<u64>
-    ensures { (c : Setting) (s : State (Unit {0})) → IsBetween c body.now s → plain_select result [] ≡ call_of no_extra s }
+fn wait<X: Extra>(body: &Body<X>) -> Option<u64>
+    ensures { (c : Setting X.added) (s : State X.added.Kept) → IsBetween c body.now s → plain_select result [] ≡ call_of X.added.meaning s }
 {
     if !body.parts.is_empty() {
         return Some(0);
@@ -91,7 +91,12 @@ fn wait(body: &Body) -> Option<u64>
 }
 
 // The outside is asked once, and it is noted.
-fn ask<W: Wire>(body: &mut Body, alloc: Global, wire: &mut W, call: Call) -> Result<Answer, Stop>
+fn ask<W: Wire, X: Extra>(
+    body: &mut Body<X>,
+    alloc: Global,
+    wire: &mut W,
+    call: Call,
+) -> Result<Answer, Stop>
     ensures beside { body.new ≡ record body.old { events = body.new.events } }
     ensures asks { ((said : AnyReply) × Exchanges call body.old.events body.new.events result said
         × Replied call (W.seen wire.old) (W.seen wire.new) said)
@@ -107,12 +112,12 @@ fn ask<W: Wire>(body: &mut Body, alloc: Global, wire: &mut W, call: Call) -> Res
 }
 
 // What a turn does once it has its answer.
-fn after(body: &mut Body, alloc: Global, answer: &Answer, seen: &mut u32) -> Result<Went, Memory>
-    requires alive { IsAlive body.old }
+fn after<X: Extra>(body: &mut Body<X>, alloc: Global, answer: &Answer, seen: &mut u32) -> Result<Went, Memory>
+    requires alive { IsAlive X.added body.old }
     requires time { IsTime answer.now }
-    ensures { IfOk result (λ went. (c : Setting) (s : State (Unit {0})) → IsBetween c body.old s
+    ensures { IfOk result (λ went. (c : Setting X.added) (s : State X.added.Kept) → IsBetween c body.old s
         → Turned (at_bar (all_below c (unbooked_in (woken_by answer.now) s))) body.new went
-        (turned_by step_limit no_extra answer.now s)) }
+        (turned_by step_limit X.added.meaning answer.now s)) }
 {
     wake(body, answer);
     let done_before = body.main_done;
@@ -124,10 +129,10 @@ fn after(body: &mut Body, alloc: Global, answer: &Answer, seen: &mut u32) -> Res
 
 // The time goes on, and never back, and timers fall due. All that is pending then stands before the bar. Nothing is
 // watched, so nothing else came.
-fn wake(body: &mut Body, answer: &Answer)
-    requires alive { IsAlive body.old }
+fn wake<X: Extra>(body: &mut Body<X>, answer: &Answer)
+    requires alive { IsAlive X.added body.old }
     requires time { IsTime answer.now }
-    ensures { (c : Setting) (s : State (Unit {0})) → IsBetween c body.old s
+    ensures { (c : Setting X.added) (s : State X.added.Kept) → IsBetween c body.old s
         → IsBetween (all_below c (unbooked_in (woken_by answer.now) s)) body.new (unbooked_in (woken_by answer.now) s) }
 {
     let now = body.parts.now().max(time_of(answer));
@@ -138,18 +143,18 @@ fn wake(body: &mut Body, answer: &Answer)
 
 // After the turn in which main's callback ran, each task that lives is cancelled. The run ends with the first turn, from
 // that one on, after which none lives.
-fn end_turn(body: &mut Body, done_before: bool, seen: &mut u32) -> Result<Went, Memory>
-    requires { IsAlive body.old }
-    ensures { IfOk result (λ went. (c : Setting) (s : State (Unit {0})) → IsBetween c body.old s
+fn end_turn<X: Extra>(body: &mut Body<X>, done_before: bool, seen: &mut u32) -> Result<Went, Memory>
+    requires { IsAlive X.added body.old }
+    ensures { IfOk result (λ went. (c : Setting X.added) (s : State X.added.Kept) → IsBetween c body.old s
         → Turned c body.new went (turn_over done_before s)) }
 {
     cancel_after_main(body, done_before);
     finish(body, seen)
 }
 
-fn cancel_after_main(body: &mut Body, done_before: bool)
-    requires { IsAlive body.old }
-    ensures { (c : Setting) (s : State (Unit {0})) → IsBetween c body.old s
+fn cancel_after_main<X: Extra>(body: &mut Body<X>, done_before: bool)
+    requires { IsAlive X.added body.old }
+    ensures { (c : Setting X.added) (s : State X.added.Kept) → IsBetween c body.old s
         → IsBetween c body.new (cancelled_if (s.main_done && not done_before) s) }
 {
     if body.main_done && !done_before {
@@ -158,9 +163,9 @@ fn cancel_after_main(body: &mut Body, done_before: bool)
 }
 
 // The run ends where main's callback ran and no task lives.
-fn finish(body: &Body, seen: &mut u32) -> Result<Went, Memory>
-    requires { IsAlive body.now }
-    ensures { IfOk result (λ went. (c : Setting) (s : State (Unit {0})) → IsBetween c body.now s
+fn finish<X: Extra>(body: &Body<X>, seen: &mut u32) -> Result<Went, Memory>
+    requires { IsAlive X.added body.now }
+    ensures { IfOk result (λ went. (c : Setting X.added) (s : State X.added.Kept) → IsBetween c body.now s
         → Turned c body.now went (finished_if (finished_as s) s)) }
 {
     if !body.main_done || some_task_lives(body, seen) {
@@ -173,9 +178,9 @@ fn finish(body: &Body, seen: &mut u32) -> Result<Went, Memory>
 }
 
 // Each task that lives is cancelled, in order of making.
-fn cancel_everything(body: &mut Body)
-    requires { IsAlive body.old }
-    ensures { (c : Setting) (s : State (Unit {0})) → IsBetween c body.old s → IsBetween c body.new (in_loop plain_cancel_everything s) }
+fn cancel_everything<X: Extra>(body: &mut Body<X>)
+    requires { IsAlive X.added body.old }
+    ensures { (c : Setting X.added) (s : State X.added.Kept) → IsBetween c body.old s → IsBetween c body.new (in_loop plain_cancel_everything s) }
 {
     for task in 0..tasks(body) {
         let own = body.parts.future_of(task);
@@ -187,17 +192,17 @@ fn cancel_everything(body: &mut Body)
 
 // From the task on that was seen last to live, and then from the first on. Tasks that are done stay done, and new ones have
 // greater numbers, so all turns together look at each task about once.
-fn some_task_lives(body: &Body, seen: &mut u32) -> bool
-    requires { IsAlive body.now }
-    ensures { (c : Setting) (s : State (Unit {0})) → IsBetween c body.now s → result ≡ not (no_task_lives s.loop.parts) }
+fn some_task_lives<X: Extra>(body: &Body<X>, seen: &mut u32) -> bool
+    requires { IsAlive X.added body.now }
+    ensures { (c : Setting X.added) (s : State X.added.Kept) → IsBetween c body.now s → result ≡ not (no_task_lives s.loop.parts) }
 {
     lives_from(body, seen) || any_lives(body)
 }
 
 // Whether a task lives from this one on, which is then that task.
-fn lives_from(body: &Body, seen: &mut u32) -> bool
-    requires { IsAlive body.now }
-    ensures { result ≡ true → (c : Setting) (s : State (Unit {0})) → IsBetween c body.now s
+fn lives_from<X: Extra>(body: &Body<X>, seen: &mut u32) -> bool
+    requires { IsAlive X.added body.now }
+    ensures { result ≡ true → (c : Setting X.added) (s : State X.added.Kept) → IsBetween c body.now s
         → true ≡ not (no_task_lives s.loop.parts) }
 {
     for task in *seen..tasks(body) {
@@ -209,9 +214,9 @@ fn lives_from(body: &Body, seen: &mut u32) -> bool
     false
 }
 
-fn any_lives(body: &Body) -> bool
-    requires { IsAlive body.now }
-    ensures { (c : Setting) (s : State (Unit {0})) → IsBetween c body.now s → result ≡ not (no_task_lives s.loop.parts) }
+fn any_lives<X: Extra>(body: &Body<X>) -> bool
+    requires { IsAlive X.added body.now }
+    ensures { (c : Setting X.added) (s : State X.added.Kept) → IsBetween c body.now s → result ≡ not (no_task_lives s.loop.parts) }
 {
     for task in 0..tasks(body) {
         if body.parts.is_pending(body.parts.future_of(task)) {
@@ -222,8 +227,8 @@ fn any_lives(body: &Body) -> bool
 }
 
 /// How many tasks were made.
-pub fn tasks(body: &Body) -> u32
-    requires { IsAlive body.now }
+pub fn tasks<X: Extra>(body: &Body<X>) -> u32
+    requires { IsAlive X.added body.now }
     ensures { result ≡ length body.now.slots.items }
 {
     body.slots.len() as u32

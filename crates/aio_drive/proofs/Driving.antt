@@ -20,6 +20,8 @@ use Rattle.model_machine.specs.Went.{Went, Goes, Stops, answers_in}
 use Rattle.law_machine.proofs.Turns.{run-grows}
 use Rattle.aio_wire.specs.Told.{refused_of}
 use Rattle.aio_wire.specs.declared.stop.Stop.TheVariants as stop
+use Rattle.aio_extra.specs.Nothing.{nothing_added}
+use Rattle.aio_extra.specs.declared.nothing.NoExtra.{NoExtra}
 use Rattle.aio_core.specs.Turned.{Begins, Ends, EndsAs, GoesOn, StandsFor, TurnsTo, untaken}
 use Rattle.aio_core.specs.Turning.{AnyLeft, Is, IsMismatch, NextIs, NoneLeft, Takes}
 use Rattle.aio_core.specs.declared.kernel.Kernel.{Kernel}
@@ -38,16 +40,16 @@ use Rattle.aio_drive.proofs.Turns.{got-one, lines-append, run_on-last, run_on-tu
 
 -- The state of a run after some turns, over entries that are left: the kernel stands for it, and the run from the start is
 -- the run from it.
-pub record At (program : Program) (how : Manner) (made left : ℕ) (kernel : Kernel) (past : List Entry) (taken : List Event)
+pub record At {g : _} (program : Program) (how : Manner) (made left : ℕ) (kernel : Kernel NoExtra g) (past : List Entry) (taken : List Event)
     (rest : List Entry) : Type 0 where
   pub s : State (Unit {0})
-  pub stands : StandsFor taken rest kernel s
+  pub stands : StandsFor nothing_added taken rest kernel s
   pub on : run program (past ++ rest) how.turns ≡ run_on step_limit no_extra how.turns left s
   pub begun : made ≡ 0 → s ≡ start tt program rest
 
 -- A run of a program, driven in this manner, in which some turns were made and others are left: the answers so far, the
 -- events that were taken out, what the wire told first and tells now, and what the sink took.
-pub record Running (program : Program) (how : Manner) (made left : ℕ) (kernel : Kernel) (past : List Entry) (taken : List Event)
+pub record Running {g : _} (program : Program) (how : Manner) (made left : ℕ) (kernel : Kernel NoExtra g) (past : List Entry) (taken : List Event)
     (first_told now_told : Option (List Entry)) (first now : SinkSeen) : Type 0 where
   pub at : (rest : List Entry) → At program how made left kernel past taken rest
   pub none : untaken kernel ≡ []
@@ -57,11 +59,12 @@ pub record Running (program : Program) (how : Manner) (made left : ℕ) (kernel 
   pub got : answers_in taken ≤ made
   pub begun : made ≡ 0 → taken ≡ []
 
-none-taken : (kernel : Kernel) (s : State (Unit {0})) → s.events ≡ [] → s.events ≡ [] ++ untaken kernel → untaken kernel ≡ []
+none-taken : {g : _} (kernel : Kernel NoExtra g) (s : State (Unit {0})) → s.events ≡ [] → s.events ≡ [] ++ untaken kernel → untaken kernel ≡ []
 none-taken kernel s none is = sym is ∙ none
 
 -- a run that begins
-pub running_first : (program : Program) (how : Manner) (kernel : Kernel) (told : Option (List Entry)) (sink : SinkSeen) → Begins program kernel
+pub running_first : {g : _} (program : Program) (how : Manner) (kernel : Kernel NoExtra g) (told : Option (List Entry)) (sink : SinkSeen)
+    → Begins nothing_added tt program kernel
     → Running program how 0 how.turns kernel [] [] told told sink sink
 running_first program how kernel told sink begins =
     record {
@@ -102,7 +105,7 @@ pub record GoesOnHere (program : Program) (how : Manner) (first_told : Option (L
   pub more : List Event
   pub is : (run program entries how.turns).events ≡ events ++ more
 
-module _ {program : Program} {how : Manner} {made left : ℕ} {kernel : Kernel} {past : List Entry} {taken : List Event}
+module _ {g : _} {program : Program} {how : Manner} {made left : ℕ} {kernel : Kernel NoExtra g} {past : List Entry} {taken : List Event}
     {first_told now_told : Option (List Entry)} {first now : SinkSeen}
     (running : Running program how made left kernel past taken first_told now_told first now) where
   -- no event is in the kernel
@@ -125,7 +128,7 @@ module _ {program : Program} {how : Manner} {made left : ℕ} {kernel : Kernel} 
 
   -- where no turn is left
   pub ends_last : left ≡ 0 → (end : End)
-      → ((past : List Event) (answers : List Entry) (s : State (Unit {0})) → StandsFor past answers kernel s
+      → ((past : List Event) (answers : List Entry) (s : State (Unit {0})) → StandsFor nothing_added past answers kernel s
       → end ≡ turns_over (is_stalled no_extra s) how.turns)
       → EndsHere program how first_told taken end
   ends_last none end is =
@@ -141,8 +144,8 @@ module _ {program : Program} {how : Manner} {made left : ℕ} {kernel : Kernel} 
       }
 
 -- a turn, by what was said of it
-module _ {program : Program} {how : Manner} {made left : ℕ} {kernel : Kernel} {past : List Entry} {taken : List Event}
-    {first_told now_told : Option (List Entry)} {first sink : SinkSeen} (new : Kernel) (new_told : Option (List Entry))
+module _ {g : _} {program : Program} {how : Manner} {made left : ℕ} {kernel : Kernel NoExtra g} {past : List Entry} {taken : List Event}
+    {first_told now_told : Option (List Entry)} {first sink : SinkSeen} (new : Kernel NoExtra g) (new_told : Option (List Entry))
     (running : Running program how made (suc left) kernel past taken first_told now_told first sink) where
   -- what happened so far
   abbrev so_far : List Event
@@ -152,14 +155,14 @@ module _ {program : Program} {how : Manner} {made left : ℕ} {kernel : Kernel} 
       → run program (past ++ entries) how.turns ≡ run_after (run_on step_limit no_extra how.turns left) went
   on_turn entries went e = (running.at entries).on ∙ run_on-turn how.turns left (running.at entries).s went e
 
-  ends_with : (entries : List Entry) (ways : End → State (Unit {0}) → Type 0) → (it : Ends ways taken new (running.at entries).s)
+  ends_with : (entries : List Entry) (ways : End → State (Unit {0}) → Type 0) → (it : Ends nothing_added ways taken new (running.at entries).s)
       → run program (past ++ entries) how.turns ≡ record { events = so_far; end = it.end }
   ends_with entries ways it =
       on_turn entries (Stops it.end it.last) it.stops ∙ ap (λ (es : List Event). record { events = es; end = it.end }) it.told
 
   -- over entries that agree with what is told
   ends_over : (entries : List Entry) (ways : End → State (Unit {0}) → Type 0) → Agrees now_told entries
-      → (it : Ends ways taken new (running.at entries).s) → (end : End) → end ≡ it.end → EndsHere program how first_told so_far end
+      → (it : Ends nothing_added ways taken new (running.at entries).s) → (end : End) → end ≡ it.end → EndsHere program how first_told so_far end
   ends_over entries ways agrees it end is =
       record {
         entries = past ++ entries;
@@ -167,12 +170,12 @@ module _ {program : Program} {how : Manner} {made left : ℕ} {kernel : Kernel} 
         is = ends_with entries ways it ∙ ap (λ (e : End). record { events = so_far; end = e }) (sym is);
       }
 
-  ends_after : (had : List Answer) (ways : End → State (Unit {0}) → Type 0) → Takes now_told new_told had → EndsAs had AnyLeft ways kernel new
-      → (rest : List Entry) → Agrees new_told rest → Ends ways taken new (running.at (map Answered had ++ rest)).s
+  ends_after : (had : List Answer) (ways : End → State (Unit {0}) → Type 0) → Takes now_told new_told had → EndsAs nothing_added had AnyLeft ways kernel new
+      → (rest : List Entry) → Agrees new_told rest → Ends nothing_added ways taken new (running.at (map Answered had ++ rest)).s
   ends_after had ways takes turns rest agrees =
       let here = running.at (map Answered had ++ rest) in turns taken rest here.s tt here.stands
 
-  ends_so : (had : List Answer) (wanted : End) → Takes now_told new_told had → EndsAs had AnyLeft (Is wanted) kernel new
+  ends_so : (had : List Answer) (wanted : End) → Takes now_told new_told had → EndsAs nothing_added had AnyLeft (Is wanted) kernel new
       → (end : End) → end ≡ wanted → EndsHere program how first_told so_far end
   ends_so had wanted takes turns end is =
       let (rest, agrees) = agreed new_told in
@@ -190,7 +193,7 @@ module _ {program : Program} {how : Manner} {made left : ℕ} {kernel : Kernel} 
       omega arith
 
   ends_misfit : how.turns ≤ 2 ^ 64 - 1 → (had : List Answer) (count : ℕ) (call : Call) → Takes now_told new_told had
-      → EndsAs had AnyLeft (IsMismatch count call) kernel new
+      → EndsAs nothing_added had AnyLeft (IsMismatch count call) kernel new
       → (end : End) → end ≡ ends.Mismatch count call → EndsHere program how first_told so_far end
   ends_misfit fits had count call takes turns end is =
       let (rest, agrees) = agreed new_told in
@@ -199,7 +202,7 @@ module _ {program : Program} {how : Manner} {made left : ℕ} {kernel : Kernel} 
       ends_over (map Answered had ++ rest) (IsMismatch count call) (takes rest agrees) it end
       (is ∙ ap (λ n. ends.Mismatch n call) count_is ∙ sym it.way.0)
 
-  pub ended : how.turns ≤ 2 ^ 64 - 1 → (before after : ℕ) (said : code.Went) → TurnsTo now_told new_told before after kernel new said
+  pub ended : how.turns ≤ 2 ^ 64 - 1 → (before after : ℕ) (said : code.Went) → TurnsTo nothing_added now_told new_told before after kernel new said
       → (end : End) → NextOf said (next.Ends end) → EndsHere program how first_told so_far end
   ended fits before after went.Went comes end is = absurd (cc is)
   ended fits before after (went.Finished outcome) (had, (takes, turns)) end is = ends_so had (end_of outcome) takes turns end is
@@ -224,7 +227,7 @@ module _ {program : Program} {how : Manner} {made left : ℕ} {kernel : Kernel} 
   had_so_far : (had : List Answer) (rest : List Entry) → past ++ (map Answered had ++ rest) ≡ (past ++ (map Answered had ++ [])) ++ rest
   had_so_far had rest = simp (append_assoc, append-nil)
 
-  pub fails_so : (before after : ℕ) (call : Call) → TurnsTo now_told new_told before after kernel new (went.Stopped (stop.Failed call))
+  pub fails_so : (before after : ℕ) (call : Call) → TurnsTo nothing_added now_told new_told before after kernel new (went.Stopped (stop.Failed call))
       → FailsHere program how first_told so_far
   fails_so before after call (had, (takes, turns, rose)) =
       let entries = map Answered had ++ [] in
@@ -240,7 +243,7 @@ module _ {program : Program} {how : Manner} {made left : ℕ} {kernel : Kernel} 
         is = ends_with entries (Is (ends.Over call)) it ∙ ap (λ (e : End). record { events = so_far; end = e }) it.way;
       }
 
-  pub fails : (before after : ℕ) (said : code.Went) → TurnsTo now_told new_told before after kernel new said → NextOf said next.Fails
+  pub fails : (before after : ℕ) (said : code.Went) → TurnsTo nothing_added now_told new_told before after kernel new said → NextOf said next.Fails
       → FailsHere program how first_told so_far × Rose before after
   fails before after went.Went comes is = absurd (cc is)
   fails before after (went.Finished outcome) comes is = absurd is
@@ -252,9 +255,10 @@ module _ {program : Program} {how : Manner} {made left : ℕ} {kernel : Kernel} 
   fails before after (went.Stopped (stop.Failed call)) comes is = (fails_so before after call comes, comes.1.2)
   fails before after (went.Stopped stop.Memory) comes is = absurd (cc is)
 
-  module _ (had : List Answer) (takes : Takes now_told new_told had) (goes : GoesOn had kernel new) where
+  module _ (had : List Answer) (takes : Takes now_told new_told had) (goes : GoesOn nothing_added had kernel new) where
     goes_over : (rest : List Entry)
-        → (now : State (Unit {0})) × ((turn step_limit no_extra (running.at (map Answered had ++ rest)).s ≡ Goes now) × StandsFor taken rest new now)
+        → (now : State (Unit {0})) × ((turn step_limit no_extra (running.at (map Answered had ++ rest)).s ≡ Goes now)
+        × StandsFor nothing_added taken rest new now)
     goes_over rest = let here = running.at (map Answered had ++ rest) in goes taken rest here.s here.stands
 
     -- the run goes on after it
@@ -275,8 +279,9 @@ module _ {program : Program} {how : Manner} {made left : ℕ} {kernel : Kernel} 
     regrouped : (rest : List Entry) → past ++ (map Answered had ++ rest) ≡ (past ++ map Answered had) ++ rest
     regrouped rest = sym (append_assoc past (map Answered had) rest)
 
-    pub turned_on : (after : Kernel) (sink_after : SinkSeen)
-        → ((past : List Event) (answers : List Entry) (s : State (Unit {0})) → StandsFor past answers new s → StandsFor (past ++ untaken new) answers after s)
+    pub turned_on : (after : Kernel NoExtra g) (sink_after : SinkSeen)
+        → ((past : List Event) (answers : List Entry) (s : State (Unit {0})) → StandsFor nothing_added past answers new s
+        → StandsFor nothing_added (past ++ untaken new) answers after s)
         → untaken after ≡ [] → sink_after ≡ took sink (lines_of_events how.trace (untaken new))
         → Running program how (made + 1) left after (past ++ map Answered had) so_far first_told new_told first sink_after
     turned_on after sink_after takes_out none wrote =

@@ -15,6 +15,8 @@ use Rattle.model_machine.specs.Theorem.{Output}
 use Rattle.model_machine.specs.Turn.{is_stalled, turn}
 use Rattle.model_machine.specs.Went.{Stops}
 use Rattle.aio_wire.specs.declared.stop.Stop.TheVariants as stop
+use Rattle.aio_extra.specs.Nothing.{nothing_added}
+use Rattle.aio_extra.specs.declared.nothing.NoExtra.{NoExtra}
 use Rattle.aio_core.specs.Turned.{StandsFor, TurnedBy, TurnsTo, untaken}
 use Rattle.aio_core.specs.Turning.{OfFailing, StallsAs, UnlessFailed}
 use Rattle.aio_core.specs.declared.kernel.Kernel.{Kernel}
@@ -84,21 +86,21 @@ last_by (went.Stopped (stop.Mismatch count call)) turns end stalled stalls is = 
 last_by (went.Stopped (stop.Failed call)) turns end stalled stalls is = is ∙ ap (λ b. turns_over b turns) (sym stalls)
 last_by (went.Stopped stop.Memory) turns end stalled stalls is = absurd is
 
-pub last_as : {fails quiet : Type 0} {before after : WireSeen} {old new : Kernel} {result said : code.Went}
-    → TurnedBy fails quiet before after old new result said → (turns : ℕ) (end : End) → LastSays result turns end → LastOf old turns end
+pub last_as : {g : _} {fails quiet : Type 0} {before after : WireSeen} {old new : Kernel NoExtra g} {result said : code.Went}
+    → TurnedBy nothing_added fails quiet before after old new result said → (turns : ℕ) (end : End) → LastSays result turns end → LastOf old turns end
 last_as {old = old} {result = result} {said = said} by turns end is = λ past answers s stands. at past answers s stands by.either
   where
-    at : (past : List Event) (answers : List Entry) (s : State (Unit {0})) → StandsFor past answers old s
+    at : (past : List Event) (answers : List Entry) (s : State (Unit {0})) → StandsFor nothing_added past answers old s
         → (result ≡ said) ⊎ (result ≡ went.Stopped stop.Memory) → end ≡ turns_over (is_stalled no_extra s) turns
     at past answers s stands (inl same) =
         last_by said turns end (is_stalled no_extra s) (by.stalls past answers s stands) (subst (λ (w : code.Went). LastSays w turns end) same is)
     at past answers s stands (inr none) = absurd (subst (λ (w : code.Went). LastSays w turns end) none is)
 
-module _ {program : Program} {how : Manner} {made left : ℕ} {kernel : Kernel} {past : List Entry} {taken : List Event}
-    {first_told now_told : Option (List Entry)} {first sink : SinkSeen} (new : Kernel) (new_told : Option (List Entry)) (before after : ℕ)
+module _ {g : _} {program : Program} {how : Manner} {made left : ℕ} {kernel : Kernel NoExtra g} {past : List Entry} {taken : List Event}
+    {first_told now_told : Option (List Entry)} {first sink : SinkSeen} (new : Kernel NoExtra g) (new_told : Option (List Entry)) (before after : ℕ)
     (running : Running program how made (suc left) kernel past taken first_told now_told first sink) where
   -- no run ends in its first turn over a wire that fails at each call
-  pub alive : (said : code.Went) → TurnsTo now_told new_told before after kernel new said → (end : End) → NextOf said (next.Ends end)
+  pub alive : (said : code.Went) → TurnsTo nothing_added now_told new_told before after kernel new said → (end : End) → NextOf said (next.Ends end)
       → OfFailing said → made ≡ 0 → ⊥
   alive went.Went comes end is failing none = failing
   alive (went.Finished outcome) comes end is failing none = failing
@@ -116,8 +118,8 @@ module _ {program : Program} {how : Manner} {made left : ℕ} {kernel : Kernel} 
   alive (went.Stopped stop.Memory) comes end is failing none = cc is
 
 -- memory was refused in the turn, or after it
-module _ {program : Program} {how : Manner} {made left : ℕ} {kernel : Kernel} {past : List Entry} {taken : List Event}
-    {now_told : Option (List Entry)} {first sink : SinkSeen} (new : Kernel) (new_told : Option (List Entry)) (before after : ℕ)
+module _ {g : _} {program : Program} {how : Manner} {made left : ℕ} {kernel : Kernel NoExtra g} {past : List Entry} {taken : List Event}
+    {now_told : Option (List Entry)} {first sink : SinkSeen} (new : Kernel NoExtra g) (new_told : Option (List Entry)) (before after : ℕ)
     (seen last : WireSeen) (fault : End) (fails quiet : Type 0)
     (running : Running program how made (suc left) kernel past taken seen.left now_told first sink) (rose : Rose before after → Rose seen.faults last.faults)
     (first_turn : fails → made ≡ 0) where
@@ -132,13 +134,13 @@ module _ {program : Program} {how : Manner} {made left : ℕ} {kernel : Kernel} 
       (subst (λ (es : List Event). GoesOnHere program how seen.left es) (sym (append-nil taken)) (goes_on_here running))
       (λ is. absurd (cc (first_turn is)), holds) Memory ([], ([], refl), sym (took-nil sink))
 
-  pub refused : (said : code.Went) → TurnsTo now_told new_told before after kernel new said → UnlessFailed quiet said
+  pub refused : (said : code.Went) → TurnsTo nothing_added now_told new_told before after kernel new said → UnlessFailed quiet said
       → EndsEarly May quiet first sink Memory
   refused said comes still = at (failed_or said quiet still)
     where
       at : ((call : Call) × (said ≡ went.Stopped (stop.Failed call))) ⊎ quiet → EndsEarly May quiet first sink Memory
       at (inl (call, failed)) =
-          let so = subst (λ (w : code.Went). TurnsTo now_told new_told before after kernel new w) failed comes in
+          let so = subst (λ (w : code.Went). TurnsTo nothing_added now_told new_told before after kernel new w) failed comes in
           fails_silent program how fault seen last (Undisturbed fails quiet) quiet first sink sink taken (untaken new) running.sink
           (fails_so new new_told running before after call so) (rose so.1.2)
       at (inr holds) = by_turns holds made refl

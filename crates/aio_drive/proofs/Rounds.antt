@@ -10,6 +10,8 @@ use Rattle.model_machine.specs.State.{State}
 use Rattle.model_machine.specs.Theorem.{Output, WritesWhole}
 use Rattle.model_machine.specs.Transcript.{status_of}
 use Rattle.aio_wire.specs.declared.stop.Stop.TheVariants as stop
+use Rattle.aio_extra.specs.Nothing.{nothing_added}
+use Rattle.aio_extra.specs.declared.nothing.NoExtra.{NoExtra}
 use Rattle.aio_core.specs.Turned.{GoesOn, StandsFor, TurnedBy, TurnsTo, untaken}
 use Rattle.aio_core.specs.Turning.{OfFailing, Takes, UnlessFailed}
 use Rattle.aio_core.specs.declared.kernel.Kernel.{Kernel}
@@ -28,23 +30,25 @@ use Rattle.aio_drive.proofs.Exits.{alive, ended-quiet, going, of_said, refused}
 use Rattle.aio_drive.proofs.Fronts.{append-nil, took-nil}
 
 -- a turn is left
-pub with_turn : {program : Program} {how : Manner} {made : ℕ} {kernel : Kernel} {past : List Entry} {taken : List Event} {told now_told : Option (List Entry)}
+pub with_turn : {g : _} {program : Program} {how : Manner} {made : ℕ} {kernel : Kernel NoExtra g} {past : List Entry} {taken : List Event}
+    {told now_told : Option (List Entry)}
     {first sink : SinkSeen} (left : ℕ) → Running program how made left kernel past taken told now_told first sink → made < how.turns
     → (fewer : ℕ) × Running program how made (suc fewer) kernel past taken told now_told first sink
 with_turn zero running some = absurd (let turns = running.turns in omega arith)
 with_turn (suc fewer) running some = (fewer, running)
 
 -- none is
-pub none_left : {program : Program} {how : Manner} {made left : ℕ} {kernel : Kernel} {past : List Entry} {taken : List Event} {told now_told : Option (List Entry)}
+pub none_left : {g : _} {program : Program} {how : Manner} {made left : ℕ} {kernel : Kernel NoExtra g} {past : List Entry} {taken : List Event}
+    {told now_told : Option (List Entry)}
     {first sink : SinkSeen} → Running program how made left kernel past taken told now_told first sink → how.turns ≤ made → left ≡ 0
 none_left running most = let turns = running.turns in omega arith
 
 -- `seen` is the wire as the run began, `now` as the turn did, and `last` after it.
-module _ {program : Program} {how : Manner} {made left : ℕ} {kernel new : Kernel} {past : List Entry} {taken : List Event}
+module _ {g : _} {program : Program} {how : Manner} {made left : ℕ} {kernel new : Kernel NoExtra g} {past : List Entry} {taken : List Event}
     {now last : WireSeen} {first sink : SinkSeen} {fails_first fails_now quiet_now quiet : Type 0} {result said : code.Went} (seen : WireSeen)
     (running : Running program how made (suc left) kernel past taken seen.left now.left first sink)
     (fails_then : fails_first → (made ≡ 0) × fails_now) (later : seen.faults ≤ now.faults)
-    (turned : TurnedBy fails_now quiet_now now last kernel new result said) (quietly : quiet_now → quiet) where
+    (turned : TurnedBy nothing_added fails_now quiet_now now last kernel new result said) (quietly : quiet_now → quiet) where
   pub ends_at : how.turns ≤ 2 ^ 64 - 1 → (end : End) → NextOf result (next.Ends end)
       → EndsHere program how seen.left (taken ++ untaken new) end × Undisturbed fails_first quiet
   ends_at fits end is =
@@ -65,11 +69,11 @@ module _ {program : Program} {how : Manner} {made left : ℕ} {kernel new : Kern
       (here, rose_earlier seen.faults now.faults last.faults later rose)
 
   pub goes_at : NextOf result next.Turn
-      → (had : List Answer) × (Takes now.left last.left had × (GoesOn had kernel new × Undisturbed fails_first quiet))
+      → (had : List Answer) × (Takes now.left last.left had × (GoesOn nothing_added had kernel new × Undisturbed fails_first quiet))
   goes_at is =
       let what = of_said result said next.Turn turned.either is (λ e. cc e) in
       let went = going said what in
-      let (had, (takes, goes)) = subst (λ (w : code.Went). TurnsTo now.left last.left now.faults last.faults kernel new w) went turned.turns in (
+      let (had, (takes, goes)) = subst (λ (w : code.Went). TurnsTo nothing_added now.left last.left now.faults last.faults kernel new w) went turned.turns in (
         had,
         (
           takes,
@@ -143,8 +147,9 @@ module _ {program : Program} {how : Manner} {made left : ℕ} {kernel new : Kern
         (subst (λ (es : List Event). StopsWriting (lines_of_events how.trace es) sink final halt) out stops)
 
     -- the run is under way after it
-    pub goes_on : NextOf result next.Turn → (after : Kernel)
-        → ((past : List Event) (answers : List Entry) (s : State (Unit {0})) → StandsFor past answers new s → StandsFor (past ++ untaken new) answers after s)
+    pub goes_on : NextOf result next.Turn → (after : Kernel NoExtra g)
+        → ((past : List Event) (answers : List Entry) (s : State (Unit {0})) → StandsFor nothing_added past answers new s
+        → StandsFor nothing_added (past ++ untaken new) answers after s)
         → untaken after ≡ [] → final ≡ took sink lines
         → (left_then : ℕ) × (past_then : List Entry) × (taken_then : List Event)
         × Running program how (made + 1) left_then after past_then taken_then seen.left last.left first final
@@ -153,11 +158,12 @@ module _ {program : Program} {how : Manner} {made left : ℕ} {kernel new : Kern
           left,
           past ++ map Answered had,
           taken ++ untaken new,
-          turned_on new last.left running had takes goes after final takes_out none (wrote ∙ ap (λ (es : List Event). took sink (lines_of_events how.trace es)) out),
+          turned_on new last.left running had takes goes after final takes_out none
+          (wrote ∙ ap (λ (es : List Event). took sink (lines_of_events how.trace es)) out),
         )
 
 -- where no turn is left
-module _ {program : Program} {how : Manner} {made left : ℕ} {kernel : Kernel} {past : List Entry} {taken : List Event} {first sink : SinkSeen}
+module _ {g : _} {program : Program} {how : Manner} {made left : ℕ} {kernel : Kernel NoExtra g} {past : List Entry} {taken : List Event} {first sink : SinkSeen}
     {fails_first quiet : Type 0} (seen now : WireSeen) (running : Running program how made left kernel past taken seen.left now.left first sink)
     (most : how.turns ≤ made) (still : Undisturbed fails_first quiet) (fault : End) (final : SinkSeen) where
   abbrev LastDrives : Output → Type 0

@@ -11,6 +11,8 @@ use Rattle.model_machine.specs.Run.{run, turns_over}
 use Rattle.model_machine.specs.State.{State}
 use Rattle.model_machine.specs.Theorem.{Output}
 use Rattle.model_machine.specs.Turn.{is_stalled}
+use Rattle.aio_extra.specs.Nothing.{nothing_added}
+use Rattle.aio_extra.specs.declared.nothing.NoExtra.{NoExtra}
 use Rattle.aio_core.specs.Turned.{StandsFor}
 use Rattle.aio_core.specs.declared.kernel.Kernel.{Kernel}
 use Rattle.aio_drive.specs.declared.driver.Manner.{Manner}
@@ -31,7 +33,7 @@ MayDrive program how fault before after undisturbed output =
     × (output ≡ output_of how.trace (record (run program had how.turns) { end = fault })))
 
 -- how a run ends that may make no further turn
-abbrev pub LastOf : Kernel → (turns : ℕ) → End → Type 0
+abbrev pub LastOf : {g : _} → Kernel NoExtra g → (turns : ℕ) → End → Type 0
 LastOf kernel turns end =
-    (past : List Event) (answers : List Entry) (s : State (Unit {0})) → StandsFor past answers kernel s
+    (past : List Event) (answers : List Entry) (s : State (Unit {0})) → StandsFor nothing_added past answers kernel s
     → end ≡ turns_over (is_stalled no_extra s) turns

@@ -10,6 +10,7 @@ use crate::lines::{write_end, write_events};
 use crate::silent::Silent;
 use aio_base::Memory;
 use aio_core::Kernel;
+use aio_extra::NoExtra;
 use aio_program::Program;
 use aio_trace::End;
 use aio_wire::{Events, Sink, Wire};
@@ -41,7 +42,7 @@ pub fn drive<W: Wire, K: Sink>(
         (W.quiet wire.old wire.new) (K.seen out.old) (K.seen out.new)) }
     ensures keeps { W.keeps wire.old wire.new }
 {
-    let mut kernel = Kernel::new(alloc, program)?;
+    let mut kernel = Kernel::new(alloc, program, NoExtra)?;
     for _made in 0..manner.turns {
         let next = next_of(kernel.turn(alloc, wire));
         let events = kernel.events();
@@ -58,7 +59,7 @@ pub fn drive<W: Wire, K: Sink>(
 
 /// How a run ends that may make no further turn, of which so many were allowed: a turn more is asked for over a wire that
 /// has no answers, and it stalls or it is over.
-fn last_of(alloc: Global, kernel: &mut Kernel, turns: u64) -> Result<End, Memory>
+fn last_of(alloc: Global, kernel: &mut Kernel<NoExtra>, turns: u64) -> Result<End, Memory>
     ensures { IfOk result (LastOf kernel.old turns) }
 {
     let went = kernel.turn(alloc, &mut Silent);

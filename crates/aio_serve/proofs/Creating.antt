@@ -27,6 +27,7 @@ use Rattle.aio_group.specs.GoesOn.{Moves}
 use Rattle.aio_group.specs.Stands.{Came}
 use Rattle.aio_group.proofs.Going.{register_on, then_on}
 use Rattle.aio_task.specs.View.{View}
+use Rattle.aio_extra.specs.Added.{Added}
 use Rattle.aio_body.specs.Asked.{IsGoing, IsInStep, Says}
 use Rattle.aio_body.specs.Slots.{HoldsMore}
 use Rattle.aio_body.specs.Stands.{Setting, Stands, WaitsAs}
@@ -131,7 +132,8 @@ refused_is (Some NotEntered) task = refl
 refused_is (Some IsFinished) task = refl
 refused_is (Some IsShuttingDown) task = refl
 
-module _ (task id coroutine : ℕ) (arguments : List Value) (c : Setting) (old mid : Body) (s : State (Unit {0})) (h : IsGoing task c old s)
+module _ {X : Type 0} {a : Added X} (task id coroutine : ℕ) (arguments : List Value) (c : Setting a) (old mid : Body X) (s : State a.Kept)
+    (h : IsGoing task c old s)
     (moves : Moves old.parts mid.parts) (beside : mid ≡ record old { parts = mid.parts; groups = mid.groups })
     (came : Came h.in_step.stands.ties s.loop mid.groups mid.parts (create id s.loop)) where
   called_is : mid.parts.called ≡ None
@@ -155,7 +157,7 @@ module _ (task id coroutine : ℕ) (arguments : List Value) (c : Setting) (old m
       same : create id s.loop ≡ s.loop
       same = ap (λ o. create_unless o id s.loop) r
 
-  made_stands : (new : Body) → refusal (group_of s.loop id) ≡ None → HoldsMore coroutine arguments mid new → length old.slots.items + 1 < 2 ^ 32
+  made_stands : (new : Body X) → refusal (group_of s.loop id) ≡ None → HoldsMore coroutine arguments mid new → length old.slots.items + 1 < 2 ^ 32
       → IsInStep task c new (with_coroutine coroutine arguments (in_loop (create id) s))
   made_stands new r holds few = record {
     stands =
@@ -169,15 +171,15 @@ module _ (task id coroutine : ℕ) (arguments : List Value) (c : Setting) (old m
         (record {
           slot = holds.slot;
           beside = refl;
-          slots = holds.slots ∙ ap (λ (b : Body). b.slots.items ++ holds.slot ∷ []) beside;
+          slots = holds.slots ∙ ap (λ (b : Body X). b.slots.items ++ holds.slot ∷ []) beside;
           standing = holds.standing;
           waits = λ program code.
-              subst (λ (b : Body). WaitsAs program b.code (generator coroutine arguments) holds.slot.coroutine) beside
-              (holds.waits program (subst (λ (b : Body). IsCodeOf program b.code) (sym beside) code));
+              subst (λ (b : Body X). WaitsAs program b.code (generator coroutine arguments) holds.slot.coroutine) beside
+              (holds.waits program (subst (λ (b : Body X). IsCodeOf program b.code) (sym beside) code));
         })
         few (runs_no_other task (next_task p) (λ e. let within = within_going task c old s h in omega (arith, within, e))));
-    called = ap (λ (b : Body). b.parts.called) holds.beside ∙ called_is;
-    running = ap (λ (b : Body). b.parts.running) holds.beside ∙ running_is;
+    called = ap (λ (b : Body X). b.parts.called) holds.beside ∙ called_is;
+    running = ap (λ (b : Body X). b.parts.running) holds.beside ∙ running_is;
   }
     where
       p : Parts
@@ -190,7 +192,7 @@ module _ (task id coroutine : ℕ) (arguments : List Value) (c : Setting) (old m
       same = ap (λ o. create_unless o id s.loop) r
 
       whole : new ≡ record old { slots = new.slots; parts = mid.parts; groups = mid.groups }
-      whole = holds.beside ∙ ap (λ (b : Body). record b { slots = new.slots }) beside
+      whole = holds.beside ∙ ap (λ (b : Body X). record b { slots = new.slots }) beside
 
   -- what the call answered tells which
   fault_of : option_map refusal_fault (refusal_in (created_of (refusal (group_of s.loop id)) (next_task s.loop.parts)))
@@ -210,7 +212,7 @@ module _ (task id coroutine : ℕ) (arguments : List Value) (c : Setting) (old m
           raises_so task c mid s said (creates id coroutine arguments s) (refusal_fault cause) (says ∙ ap Raises same)
           (ap (λ o. creates_unless o id coroutine arguments s) r) (refused_stands cause r)
 
-  pub creates_so : (answer : Created) (new : Body) (said : Reply) → answer ≡ created_of (refusal (group_of s.loop id)) (next_task s.loop.parts)
+  pub creates_so : (answer : Created) (new : Body X) (said : Reply) → answer ≡ created_of (refusal (group_of s.loop id)) (next_task s.loop.parts)
       → None ≡ option_map refusal_fault (refusal_in answer) → said ≡ Answers (values.Task (next_task s.loop.parts))
       → HoldsMore coroutine arguments mid new → length old.slots.items + 1 < 2 ^ 32
       → Says task c new said (creates id coroutine arguments s)

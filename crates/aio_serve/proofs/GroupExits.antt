@@ -24,6 +24,7 @@ use Rattle.aio_group.specs.Answers.{exit_of}
 use Rattle.aio_group.specs.GoesOn.{Moves}
 use Rattle.aio_group.specs.Stands.{Came}
 use Rattle.aio_group.proofs.Standing.{then_extends}
+use Rattle.aio_extra.specs.Added.{Added, named_in}
 use Rattle.aio_body.specs.declared.body.Body.{Body}
 use Rattle.aio_body.specs.declared.reply.Reply.{Reply}
 use Rattle.aio_body.specs.declared.standing.Standing.TheVariants.{Leaving}
@@ -92,7 +93,7 @@ exit_pends t l groups v exited came fresh said future answer is =
     pending_kept came.ties v exited.loop.parts came.stands.keeps future ∙ fresh.pends future (sym answer ∙ ap exit_of is)
 
 -- ---- what it makes of the step
-module _ (task group : ℕ) (c : Setting) (old mid new : Body) (s : State (Unit {0})) (exited : Exited) (h : IsInStep task c old s)
+module _ {X : Type 0} {a : Added X} (task group : ℕ) (c : Setting a) (old mid new : Body X) (s : State a.Kept) (exited : Exited) (h : IsInStep task c old s)
     (within : task < next_task s.loop.parts) (moves : Moves old.parts mid.parts)
     (beside : mid ≡ record old { parts = mid.parts; groups = mid.groups })
     (came : Came h.stands.ties s.loop mid.groups mid.parts exited.loop) (leaves : StepLeaves s.loop exited.loop)
@@ -106,7 +107,7 @@ module _ (task group : ℕ) (c : Setting) (old mid new : Body) (s : State (Unit 
     running = ap (λ (v : View). v.running) moves.beside ∙ h.running;
   }
 
-  spares : (future : ℕ) → next_future s.loop.parts ≤ future → Spares (Some (task, future)) s.loop.parts s.futures
+  spares : (future : ℕ) → next_future s.loop.parts ≤ future → Spares (Some (task, future)) s.loop.parts (named_in a s)
   spares future new other id is sleeper own =
       let inside = (plain_within s.loop.parts id own.plain).1 in
       let same = is.1 in
@@ -147,8 +148,8 @@ module _ (task group : ℕ) (c : Setting) (old mid new : Body) (s : State (Unit 
         stands =
             stands_standing c (record old { parts = new.parts; groups = mid.groups }) new (waits task future (with_loop exited.loop s)) task (Leaving group)
             (standing.Leaving group) (suspended future later is) refl
-            (is.beside ∙ ap (λ (b : Body). record b { parts = new.parts; slots = new.slots }) beside)
-            (is.slots ∙ ap (λ (b : Body). standing_at task (Leaving group) b.slots.items) beside) (omega (arith, within, tasks, suspends));
+            (is.beside ∙ ap (λ (b : Body X). record b { parts = new.parts; slots = new.slots }) beside)
+            (is.slots ∙ ap (λ (b : Body X). standing_at task (Leaving group) b.slots.items) beside) (omega (arith, within, tasks, suspends));
         called = ap (λ (v : View). v.called) is.parts ∙ gone_stands.called;
         running = ap (λ (v : View). v.running) is.parts;
       }

@@ -14,13 +14,14 @@ use Rattle.model_loop.specs.Loop.{Group}
 use Rattle.model_loop.specs.Tasks.{next_task}
 use Rattle.model_loop.specs.Ways.{is_running}
 use Rattle.model_machine.specs.Arguments.{as_group}
-use Rattle.model_machine.specs.Extra.{no_extra}
+use Rattle.model_machine.specs.Extra.{Extra}
 use Rattle.model_machine.specs.Replies.{Raises, creates, enters_group, exits_group, most_ids, numbered_if, reply}
 use Rattle.model_machine.specs.State as standing
 use Rattle.model_machine.specs.State.{State}
 use Rattle.law_inside.proofs.Counts.{lives_within}
 use Rattle.aio_group.specs.Held.{held_at}
 use Rattle.aio_group.specs.Stands.{AllBelong}
+use Rattle.aio_extra.specs.Added.{Added}
 use Rattle.aio_body.specs.declared.body.Body.{Body}
 use Rattle.aio_body.specs.Asked.{IsDeciding, IsGoing, MayAsk, MayDecide, MayGo, SomeGoes}
 use Rattle.aio_body.specs.Stands.{Setting, Stands}
@@ -29,124 +30,128 @@ use Rattle.aio_serve.proofs.GroupsNeed.{all_belong, all_belong_prop, is_child, m
 use Rattle.aio_serve.proofs.GroupsOn.{groups_stand}
 
 -- ---- what is meant
-module _ (task : ℕ) (s : State (Unit {0})) where
-  pub none_grouped : most_ids ≤ next_group s.loop → reply no_extra task request.GroupEnter s ≡ Raises out_of_range s
+module _ {S : Type 0} (added : Extra S) (task : ℕ) (s : State S) where
+  pub none_grouped : most_ids ≤ next_group s.loop → reply added task request.GroupEnter s ≡ Raises out_of_range s
   unfolding reply
   none_grouped many = ap (λ b. numbered_if b (enters_group task) s) (le-ltb (next_group s.loop) most_ids many)
 
-  pub one_grouped : next_group s.loop < most_ids → reply no_extra task request.GroupEnter s ≡ enters_group task s
+  pub one_grouped : next_group s.loop < most_ids → reply added task request.GroupEnter s ≡ enters_group task s
   unfolding reply
   one_grouped few = ap (λ b. numbered_if b (enters_group task) s) (lt-ltb (next_group s.loop) most_ids few)
 
   pub exit_refused : (group : Value) (raised : Option Exc) → as_group group ≡ None
-      → reply no_extra task (request.GroupExit group raised) s ≡ Raises bad_argument s
+      → reply added task (request.GroupExit group raised) s ≡ Raises bad_argument s
   unfolding reply
   exit_refused group raised e = rw e refl
 
   pub exit_means : (group : Value) (raised : Option Exc) (id : ℕ) → as_group group ≡ Some id
-      → reply no_extra task (request.GroupExit group raised) s ≡ exits_group (exit_begin raised id s.loop) task id s
+      → reply added task (request.GroupExit group raised) s ≡ exits_group (exit_begin raised id s.loop) task id s
   unfolding reply
   exit_means group raised id e = rw e refl
 
   pub create_refused : (group : Value) (coroutine : ℕ) (arguments : List Value) → as_group group ≡ None
-      → reply no_extra task (request.Create group coroutine arguments) s ≡ Raises bad_argument s
+      → reply added task (request.Create group coroutine arguments) s ≡ Raises bad_argument s
   unfolding reply
   create_refused group coroutine arguments e = rw e refl
 
   pub none_created : (group : Value) (id coroutine : ℕ) (arguments : List Value) → as_group group ≡ Some id → most_ids ≤ next_task s.loop.parts
-      → reply no_extra task (request.Create group coroutine arguments) s ≡ Raises out_of_range s
+      → reply added task (request.Create group coroutine arguments) s ≡ Raises out_of_range s
   unfolding reply
   none_created group id coroutine arguments e many =
       rw e (ap (λ b. numbered_if b (creates id coroutine arguments) s) (le-ltb (next_task s.loop.parts) most_ids many))
 
   pub one_created : (group : Value) (id coroutine : ℕ) (arguments : List Value) → as_group group ≡ Some id → next_task s.loop.parts < most_ids
-      → reply no_extra task (request.Create group coroutine arguments) s ≡ creates id coroutine arguments s
+      → reply added task (request.Create group coroutine arguments) s ≡ creates id coroutine arguments s
   unfolding reply
   one_created group id coroutine arguments e few =
       rw e (ap (λ b. numbered_if b (creates id coroutine arguments) s) (lt-ltb (next_task s.loop.parts) most_ids few))
 
--- ---- that groups belong to the parts
-belong_going : (task : ℕ) (c : Setting) (body : Body) (s : State (Unit {0})) → IsGoing task c body s → AllBelong body.parts body.groups
-belong_going task c body s h =
-    all_belong (Some task) c body s h.in_step.stands (λ id. (h.sound.others.loop.groups id).plain_exit)
+module _ {X : Type 0} {a : Added X} where
+  -- ---- that groups belong to the parts
+  belong_going : (task : ℕ) (c : Setting a) (body : Body X) (s : State a.Kept) → IsGoing task c body s → AllBelong body.parts body.groups
+  belong_going task c body s h =
+      all_belong (Some task) c body s h.in_step.stands (λ id. (h.sound.others.loop.groups id).plain_exit)
 
-pub belong_may : (task : ℕ) (body : Body) → MayGo task body → AllBelong body.parts body.groups
-belong_may task body m = ∥∥₁_elim m (all_belong_prop body.parts body.groups) (λ w. belong_going task w.0 body w.1.0 w.1.1)
+  pub belong_may : (task : ℕ) (body : Body X) → MayGo a task body → AllBelong body.parts body.groups
+  belong_may task body m = ∥∥₁_elim m (all_belong_prop body.parts body.groups) (λ w. belong_going task w.0 body w.1.0 w.1.1)
 
-pub belong_some : (body : Body) → SomeGoes body → AllBelong body.parts body.groups
-belong_some body m = ∥∥₁_elim m (all_belong_prop body.parts body.groups) (λ w. belong_going w.0 w.1.0 body w.1.1.0 w.1.1.1)
+  pub belong_some : (body : Body X) → SomeGoes a body → AllBelong body.parts body.groups
+  belong_some body m = ∥∥₁_elim m (all_belong_prop body.parts body.groups) (λ w. belong_going w.0 w.1.0 body w.1.1.0 w.1.1.1)
 
-pub belong_decides : (task : ℕ) (stood : standing.Standing) (body : Body) → MayDecide task stood body → AllBelong body.parts body.groups
-belong_decides task stood body m =
-    ∥∥₁_elim m (all_belong_prop body.parts body.groups) (λ w.
-    all_belong (Some task) w.0 body w.1.0 w.1.1.in_step.stands (λ id. (w.1.1.asked.others.loop.groups id).plain_exit))
+  pub belong_decides : (task : ℕ) (stood : standing.Standing) (body : Body X) → MayDecide a task stood body → AllBelong body.parts body.groups
+  belong_decides task stood body m =
+      ∥∥₁_elim m (all_belong_prop body.parts body.groups) (λ w.
+      all_belong (Some task) w.0 body w.1.0 w.1.1.in_step.stands (λ id. (w.1.1.asked.others.loop.groups id).plain_exit))
 
-belong_taken : (group task : ℕ) (c : Setting) (body : Body) (s : State (Unit {0})) → IsTaken (GroupDone group task) c body s
-    → AllBelong body.parts body.groups
-belong_taken group task c body s h =
-    subst (λ x. Stands None c body x → AllBelong body.parts body.groups) (sym h.after)
-    (λ stands. all_belong None c body _ stands (λ id. (h.sound.loop.groups id).plain_exit)) h.stands
+  belong_taken : (group task : ℕ) (c : Setting a) (body : Body X) (s : State a.Kept) → IsTaken (GroupDone group task) c body s
+      → AllBelong body.parts body.groups
+  belong_taken group task c body s h =
+      subst (λ x. Stands None c body x → AllBelong body.parts body.groups) (sym h.after)
+      (λ stands. all_belong None c body _ stands (λ id. (h.sound.loop.groups id).plain_exit)) h.stands
 
-pub belong_takes : (group task : ℕ) (body : Body) → MayTake (GroupDone group task) body → AllBelong body.parts body.groups
-belong_takes group task body m =
-    ∥∥₁_elim m (all_belong_prop body.parts body.groups) (λ w. belong_taken group task w.0 body w.1.0 w.1.1)
+  pub belong_takes : (group task : ℕ) (body : Body X) → MayTake a (GroupDone group task) body → AllBelong body.parts body.groups
+  belong_takes group task body m =
+      ∥∥₁_elim m (all_belong_prop body.parts body.groups) (λ w. belong_taken group task w.0 body w.1.0 w.1.1)
 
--- ---- an exit
-pub exit_entered : (task : ℕ) (group : Value) (raised : Option Exc) (id : ℕ) (body : Body) → MayAsk task (request.GroupExit group raised) body
-    → as_group group ≡ Some id → (held_at body.groups id).entered ≡ true
-exit_entered task group raised id body m named =
-    ∥∥₁_elim m (hlevel props) (λ w.
-    let h = w.1.1.going in
-    let same = shown_is h.in_step.stands.ties body.parts w.1.0.loop.parts body.groups w.1.0.loop id (groups_stand (Some task) w.0 body w.1.0 h.in_step.stands) in
-    ap (λ (g : Group). g.entered) same ∙ (may_exit task w.1.0 group raised id h.sound w.1.1.says named).entered)
+  -- ---- an exit
+  pub exit_entered : (task : ℕ) (group : Value) (raised : Option Exc) (id : ℕ) (body : Body X) → MayAsk a task (request.GroupExit group raised) body
+      → as_group group ≡ Some id → (held_at body.groups id).entered ≡ true
+  exit_entered task group raised id body m named =
+      ∥∥₁_elim m (hlevel props) (λ w.
+      let h = w.1.1.going in
+      let same = shown_is h.in_step.stands.ties body.parts w.1.0.loop.parts body.groups w.1.0.loop id
+      (groups_stand (Some task) w.0 body w.1.0 h.in_step.stands) in
+      ap (λ (g : Group). g.entered) same ∙ (may_exit a.meaning task w.1.0 group raised id h.sound w.1.1.says named).entered)
 
-pub exit_fresh : (task : ℕ) (group : Value) (raised : Option Exc) (id : ℕ) (body : Body) → MayAsk task (request.GroupExit group raised) body
-    → as_group group ≡ Some id → (held_at body.groups id).exiting ≡ false
-exit_fresh task group raised id body m named =
-    ∥∥₁_elim m (hlevel props) (λ w.
-    let h = w.1.1.going in
-    let same = shown_is h.in_step.stands.ties body.parts w.1.0.loop.parts body.groups w.1.0.loop id (groups_stand (Some task) w.0 body w.1.0 h.in_step.stands) in
-    ap (λ (g : Group). g.exiting) same ∙ (may_exit task w.1.0 group raised id h.sound w.1.1.says named).fresh)
+  pub exit_fresh : (task : ℕ) (group : Value) (raised : Option Exc) (id : ℕ) (body : Body X) → MayAsk a task (request.GroupExit group raised) body
+      → as_group group ≡ Some id → (held_at body.groups id).exiting ≡ false
+  exit_fresh task group raised id body m named =
+      ∥∥₁_elim m (hlevel props) (λ w.
+      let h = w.1.1.going in
+      let same = shown_is h.in_step.stands.ties body.parts w.1.0.loop.parts body.groups w.1.0.loop id
+      (groups_stand (Some task) w.0 body w.1.0 h.in_step.stands) in
+      ap (λ (g : Group). g.exiting) same ∙ (may_exit a.meaning task w.1.0 group raised id h.sound w.1.1.says named).fresh)
 
-pub exit_goes_on : (task group : ℕ) (body : Body) → MayDecide task (standing.Leaving group) body
-    → ((held_at body.groups group).exiting && not (held_at body.groups group).ended) ≡ true
-exit_goes_on task group body m =
-    ∥∥₁_elim m (hlevel props) (λ w.
-    let h = w.1.1 in
-    let same = shown_is h.in_step.stands.ties body.parts w.1.0.loop.parts body.groups w.1.0.loop group (groups_stand (Some task) w.0 body w.1.0 h.in_step.stands) in
-    ap (λ (g : Group). g.exiting && not g.ended) same ∙ h.leaving group refl)
+  pub exit_goes_on : (task group : ℕ) (body : Body X) → MayDecide a task (standing.Leaving group) body
+      → ((held_at body.groups group).exiting && not (held_at body.groups group).ended) ≡ true
+  exit_goes_on task group body m =
+      ∥∥₁_elim m (hlevel props) (λ w.
+      let h = w.1.1 in
+      let same = shown_is h.in_step.stands.ties body.parts w.1.0.loop.parts body.groups w.1.0.loop group
+      (groups_stand (Some task) w.0 body w.1.0 h.in_step.stands) in
+      ap (λ (g : Group). g.exiting && not g.ended) same ∙ h.leaving group refl)
 
--- ---- a step that began
-pub within_deciding : (task : ℕ) (stood : standing.Standing) (c : Setting) (body : Body) (s : State (Unit {0})) → IsDeciding task stood c body s
-    → task < next_task s.loop.parts
-within_deciding task stood c body s h =
-    lives_within s.loop.parts task (h.asked.others.loop.parts.runs task (runs task))
-  where
-    runs : (n : ℕ) → is_running (Some n) n ≡ true
-    runs n = eq-eqb n n refl
+  -- ---- a step that began
+  pub within_deciding : (task : ℕ) (stood : standing.Standing) (c : Setting a) (body : Body X) (s : State a.Kept) → IsDeciding task stood c body s
+      → task < next_task s.loop.parts
+  within_deciding task stood c body s h =
+      lives_within s.loop.parts task (h.asked.others.loop.parts.runs task (runs task))
+    where
+      runs : (n : ℕ) → is_running (Some n) n ≡ true
+      runs n = eq-eqb n n refl
 
-pub idle_decides : (task : ℕ) (stood : standing.Standing) (body : Body) → MayDecide task stood body → body.parts.called ≡ None
-idle_decides task stood body m = ∥∥₁_elim m (hlevel props) (λ w. w.1.1.in_step.called)
+  pub idle_decides : (task : ℕ) (stood : standing.Standing) (body : Body X) → MayDecide a task stood body → body.parts.called ≡ None
+  idle_decides task stood body m = ∥∥₁_elim m (hlevel props) (λ w. w.1.1.in_step.called)
 
-pub running_decides : (task : ℕ) (stood : standing.Standing) (body : Body) → MayDecide task stood body → body.parts.running ≡ Some task
-running_decides task stood body m = ∥∥₁_elim m (hlevel props) (λ w. w.1.1.in_step.running)
+  pub running_decides : (task : ℕ) (stood : standing.Standing) (body : Body X) → MayDecide a task stood body → body.parts.running ≡ Some task
+  running_decides task stood body m = ∥∥₁_elim m (hlevel props) (λ w. w.1.1.in_step.running)
 
-pub slot_decides : (task : ℕ) (stood : standing.Standing) (body : Body) → MayDecide task stood body → task < length body.slots.items
-slot_decides task stood body m =
-    ∥∥₁_elim m (hlevel props) (λ w.
-    subst (λ n. task < n) (sym w.1.1.in_step.stands.made) (within_deciding task stood w.0 body w.1.0 w.1.1))
+  pub slot_decides : (task : ℕ) (stood : standing.Standing) (body : Body X) → MayDecide a task stood body → task < length body.slots.items
+  slot_decides task stood body m =
+      ∥∥₁_elim m (hlevel props) (λ w.
+      subst (λ n. task < n) (sym w.1.1.in_step.stands.made) (within_deciding task stood w.0 body w.1.0 w.1.1))
 
--- ---- a child is done
-child_taken : (group task : ℕ) (c : Setting) (body : Body) (s : State (Unit {0})) → IsTaken (GroupDone group task) c body s
-    → has_seen (held_at body.groups group).children task ≡ true
-child_taken group task c body s h =
-    let same = shown_is h.stands.ties body.parts s.loop.parts body.groups s.loop group (groups_stand None c body s h.stands) in
-    ap (λ (g : Group). has_seen g.children task) same
-    ∙ ap (λ (x : State (Unit {0})). has_seen (group_of x.loop group).children task) h.after
-    ∙ is_child group task _ (group_of h.before.loop group) h.before.loop.parts h.handle h.rest (h.sound.loop.groups group).tellings h.pending h.live h.runs
+  -- ---- a child is done
+  child_taken : (group task : ℕ) (c : Setting a) (body : Body X) (s : State a.Kept) → IsTaken (GroupDone group task) c body s
+      → has_seen (held_at body.groups group).children task ≡ true
+  child_taken group task c body s h =
+      let same = shown_is h.stands.ties body.parts s.loop.parts body.groups s.loop group (groups_stand None c body s h.stands) in
+      ap (λ (g : Group). has_seen g.children task) same
+      ∙ ap (λ (x : State a.Kept). has_seen (group_of x.loop group).children task) h.after
+      ∙ is_child group task _ (group_of h.before.loop group) h.before.loop.parts h.handle h.rest (h.sound.loop.groups group).tellings h.pending h.live h.runs
 
-pub child_takes : (group task : ℕ) (body : Body) → MayTake (GroupDone group task) body → has_seen (held_at body.groups group).children task ≡ true
-child_takes group task body m = ∥∥₁_elim m (hlevel props) (λ w. child_taken group task w.0 body w.1.0 w.1.1)
+  pub child_takes : (group task : ℕ) (body : Body X) → MayTake a (GroupDone group task) body → has_seen (held_at body.groups group).children task ≡ true
+  child_takes group task body m = ∥∥₁_elim m (hlevel props) (λ w. child_taken group task w.0 body w.1.0 w.1.1)
 
-pub idle_takes : (group task : ℕ) (body : Body) → MayTake (GroupDone group task) body → body.parts.called ≡ None
-idle_takes group task body m = ∥∥₁_elim m (hlevel props) (λ w. w.1.1.called)
+  pub idle_takes : (group task : ℕ) (body : Body X) → MayTake a (GroupDone group task) body → body.parts.called ≡ None
+  idle_takes group task body m = ∥∥₁_elim m (hlevel props) (λ w. w.1.1.called)

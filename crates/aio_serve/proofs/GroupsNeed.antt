@@ -18,7 +18,7 @@ use Rattle.model_loop.specs.Numbered.{occurrences}
 use Rattle.model_loop.specs.Parts.{Handle, Parts}
 use Rattle.model_loop.specs.Totals.{pending_where}
 use Rattle.model_machine.specs.Arguments.{as_group}
-use Rattle.model_machine.specs.Extra.{no_extra}
+use Rattle.model_machine.specs.Extra.{Extra}
 use Rattle.model_machine.specs.State.{State}
 use Rattle.model_machine.specs.Step.{says_of}
 use Rattle.law_settling.proofs.CancelSound.{plain_within}
@@ -30,6 +30,7 @@ use Rattle.aio_group.proofs.Listing.{all_to, index_at, index_past}
 use Rattle.aio_group.proofs.Standing.{there}
 use Rattle.aio_group.specs.Held.{Held, held_at, new_held, shown}
 use Rattle.aio_group.specs.Stands.{AllBelong, Belongs, IsLive, IsOwn, KeepsAt, StandsFor, bare}
+use Rattle.aio_extra.specs.Added.{Added}
 use Rattle.aio_body.specs.declared.body.Body.{Body}
 use Rattle.aio_body.specs.Stands.{Setting, Stands}
 use Rattle.law_kept.proofs.Telling.{next_kept, owner_kept}
@@ -77,32 +78,33 @@ same_many t p [] (y ∷ plain) each = absurd (each zero)
 same_many t p (x ∷ groups) [] each = absurd (each zero)
 same_many t p (x ∷ groups) (y ∷ plain) each = ap suc (same_many t p groups plain (λ id. each (suc id)))
 
--- what groups keep belongs to the parts, where exits wait for plain futures
-pub all_belong : (out : Option ℕ) (c : Setting) (body : Body) (s : State (Unit {0})) → Stands out c body s
-    → ((id : ℕ) → HasPlainExit s.loop.parts (group_of s.loop id)) → AllBelong body.parts body.groups
-all_belong out c body s h plain id held e =
-    let it = there h.ties body.groups body.parts s.loop id held e (groups_stand out c body s h) in
-    record {
-      children =
-          all_to (IsLive h.ties s.loop.parts) (λ task. task < length body.parts.tasks) held.children
-          (λ task live. subst (λ (n : ℕ). task < n) (sym (ap length h.keeps.tasks)) live.made) it.is.children;
-      exit = λ future x.
-          let waits : (group_of s.loop id).exit_future ≡ Some future = sym (ap (λ (g : Group). g.exit_future) it.is.same) ∙ x in
-          let is = plain_within s.loop.parts future (plain id future waits) in (
-            subst (λ (n : ℕ). future < n) (sym (next_kept h.ties body.parts s.loop.parts h.keeps)) is.1,
-            owner_kept h.ties body.parts s.loop.parts h.keeps future is.0,
-          );
-    }
+module _ {X : Type 0} {a : Added X} where
+  -- what groups keep belongs to the parts, where exits wait for plain futures
+  pub all_belong : (out : Option ℕ) (c : Setting a) (body : Body X) (s : State a.Kept) → Stands out c body s
+      → ((id : ℕ) → HasPlainExit s.loop.parts (group_of s.loop id)) → AllBelong body.parts body.groups
+  all_belong out c body s h plain id held e =
+      let it = there h.ties body.groups body.parts s.loop id held e (groups_stand out c body s h) in
+      record {
+        children =
+            all_to (IsLive h.ties s.loop.parts) (λ task. task < length body.parts.tasks) held.children
+            (λ task live. subst (λ (n : ℕ). task < n) (sym (ap length h.keeps.tasks)) live.made) it.is.children;
+        exit = λ future x.
+            let waits : (group_of s.loop id).exit_future ≡ Some future = sym (ap (λ (g : Group). g.exit_future) it.is.same) ∙ x in
+            let is = plain_within s.loop.parts future (plain id future waits) in (
+              subst (λ (n : ℕ). future < n) (sym (next_kept h.ties body.parts s.loop.parts h.keeps)) is.1,
+              owner_kept h.ties body.parts s.loop.parts h.keeps future is.0,
+            );
+      }
 
 -- ---- the block of a group ends
-pub record MayExit (s : State (Unit {0})) (id : ℕ) : Type 0 where
+pub record MayExit {S : Type 0} (s : State S) (id : ℕ) : Type 0 where
   pub entered : (group_of s.loop id).entered ≡ true
   pub fresh : (group_of s.loop id).exiting ≡ false
 
-pub may_exit : (task : ℕ) (s : State (Unit {0})) (group : Value) (raised : Option Exc) (id : ℕ) → IsStepSound no_extra task s
-    → says_of step_limit no_extra task s ≡ Asks (request.GroupExit group raised) → as_group group ≡ Some id → MayExit s id
-may_exit task s group raised id sound says named =
-    let fit = fits_in no_extra task s sound (request.GroupExit group raised) says refl id named in
+pub may_exit : {S : Type 0} (added : Extra S) (task : ℕ) (s : State S) (group : Value) (raised : Option Exc) (id : ℕ) → IsStepSound added task s
+    → says_of step_limit added task s ≡ Asks (request.GroupExit group raised) → as_group group ≡ Some id → MayExit s id
+may_exit added task s group raised id sound says named =
+    let fit = fits_in added task s sound (request.GroupExit group raised) says refl id named in
     record { entered = fit.1; fresh = fit.2 }
 
 -- ---- a child is done

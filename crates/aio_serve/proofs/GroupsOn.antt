@@ -24,11 +24,12 @@ use Rattle.aio_timeout.proofs.Keeping.{timeouts_stay}
 use Rattle.aio_timeout.specs.Kept.{AreTimeouts}
 use Rattle.aio_group.specs.Held.{Held}
 use Rattle.aio_group.specs.Stands.{Came, StandsFor}
+use Rattle.aio_extra.specs.Added.{Added, named_in}
 use Rattle.aio_body.specs.declared.body.Body.{Body}
 use Rattle.aio_body.specs.Stands.{AreBlocks, Setting, Stands}
 use Rattle.aio_serve.proofs.Appending.{Appends, appends_same, appends_on, appends_only, below_kept}
 use Rattle.law_body.proofs.Left.{AreOwnMade, leaves_plain, leaves_request, leaves_settle, leaves_uncancel}
-use Rattle.law_body.proofs.Lasting.{Spares, own_on, spares_none, stands_at_on}
+use Rattle.law_body.proofs.Lasting.{Spares, goes_beside, own_on, spares_none, stands_at_on}
 use Rattle.law_body.proofs.Leaving.{Leaves, leaves_same, leaves_on}
 
 -- ---- what a step of a group leaves
@@ -227,48 +228,53 @@ exit_woken_leaves input id l made =
     let first = heard_leaves input id l in
     step_on l m (wait_or_end id m).loop first (wait_or_end_leaves id m (made_on l.parts m.parts first.parts made))
 
--- ---- what is stood for goes on
--- An operation after which timeouts and groups stand for the machine's, by whatever the code made of them.
-pub stands_blocks : (new : Option (ℕ × ℕ)) (out : Option ℕ) (c : Setting) (old : Body) (s : State (Unit {0})) (v : View) (groups : List Held)
-    (change : Loop → Loop) → (h : Stands out c old s) → (kept : Kept h.ties s.loop.parts v (change s.loop).parts)
-    → Leaves new s.loop.parts (change s.loop).parts → Spares new s.loop.parts s.futures
-    → AreBlocks kept.ties old.timeouts groups (change s.loop) → length v.queue.below ≡ length old.parts.queue.below
-    → Stands out c (record old { parts = v; groups = groups }) (in_loop change s)
-stands_blocks new out c old s v groups change h kept leaves spares blocks below = record {
-  ties = kept.ties;
-  code = h.code;
-  keeps = kept.keeps;
-  blocks = blocks;
-  left = below ∙ h.left;
-  bar = kept.extends.bar ∙ h.bar;
-  made = h.made ∙ sym leaves.tasks;
-  told = h.told ∙ sym leaves.tasks;
-  few = h.few;
-  held = λ task l. let it = h.held task (leaves.living task l) in record {
-    slot = it.slot;
-    found = it.found;
-    right = record {
-      waits = it.right.waits;
-      standing =
-          stands_at_on new h.ties kept.ties s.loop.parts (change s.loop).parts s.futures task it.slot.standing (generator_of task s).standing leaves spares kept.extends
-          it.right.standing;
+module _ {X : Type 0} {a : Added X} where
+  -- ---- what is stood for goes on
+  -- An operation after which timeouts and groups stand for the machine's, by whatever the code made of them.
+  pub stands_blocks : (new : Option (ℕ × ℕ)) (out : Option ℕ) (c : Setting a) (old : Body X) (s : State a.Kept) (v : View) (groups : List Held)
+      (change : Loop → Loop) → (h : Stands out c old s) → (kept : Kept h.ties s.loop.parts v (change s.loop).parts)
+      → Leaves new s.loop.parts (change s.loop).parts → Spares new s.loop.parts (named_in a s)
+      → AreBlocks kept.ties old.timeouts groups (change s.loop) → length v.queue.below ≡ length old.parts.queue.below
+      → Stands out c (record old { parts = v; groups = groups }) (in_loop change s)
+  stands_blocks new out c old s v groups change h kept leaves spares blocks below = record {
+    ties = kept.ties;
+    code = h.code;
+    keeps = kept.keeps;
+    blocks = blocks;
+    left = below ∙ h.left;
+    bar = kept.extends.bar ∙ h.bar;
+    made = h.made ∙ sym leaves.tasks;
+    told = h.told ∙ sym leaves.tasks;
+    few = h.few;
+    held = λ task l. let it = h.held task (leaves.living task l) in record {
+      slot = it.slot;
+      found = it.found;
+      right = record {
+        waits = it.right.waits;
+        standing =
+            stands_at_on new h.ties kept.ties s.loop.parts (change s.loop).parts (named_in a s) task it.slot.standing
+            (generator_of task s).standing leaves spares kept.extends
+            it.right.standing;
+      };
     };
-  };
-  gone = λ id e. own_on new s.loop.parts (change s.loop).parts s.futures None id leaves spares (h.gone id (sym (ap (λ f. f id) kept.extends.gone) ∙ e));
-  futures = h.futures;
-  few_futures = h.few_futures;
-  main_done = h.main_done;
-  time = subst (λ n. n ≤ most) (sym leaves.time) h.time;
-  counts = leaves.counts h.counts;
-  events = h.events;
-  rest = h.rest;
-  count = h.count;
-}
+    gone = λ id e. own_on new s.loop.parts (change s.loop).parts (named_in a s) None id leaves spares (h.gone id (sym (ap (λ f. f id) kept.extends.gone) ∙ e));
+    futures = h.futures;
+    few_futures = h.few_futures;
+    main_done = h.main_done;
+    time = subst (λ n. n ≤ most) (sym leaves.time) h.time;
+    counts = leaves.counts h.counts;
+    events = h.events;
+    rest = h.rest;
+    extra =
+        a.goes_on h.ties kept.ties s.loop.parts (change s.loop).parts old.extra s.extra h.extra
+        (goes_beside (a.owns s.extra) h.ties kept.ties s.loop.parts (change s.loop).parts kept.extends leaves.plain leaves.goes_on);
+    count = h.count;
+  }
 
--- groups and parts of a body stand for its loop
-pub groups_stand : (out : Option ℕ) (c : Setting) (body : Body) (s : State (Unit {0})) → (h : Stands out c body s)
-    → StandsFor h.ties body.groups body.parts s.loop.parts s.loop.groups
-groups_stand out c body s h = record { keeps = h.keeps; each = h.blocks.groups }
+  -- groups and parts of a body stand for its loop
+  pub groups_stand : (out : Option ℕ) (c : Setting a) (body : Body X) (s : State a.Kept) → (h : Stands out c body s)
+      → StandsFor h.ties body.groups body.parts s.loop.parts s.loop.groups
+  groups_stand out c body s h = record { keeps = h.keeps; each = h.blocks.groups }
 
 -- the timeouts stay where tags are known as before
 pub blocks_came : (t : Ties) (timeouts : List _) (groups others : List Held) (v : View) (l m : Loop) → (came : Came t l others v m)
@@ -283,11 +289,12 @@ blocks_came t timeouts groups others v l m came same b = record {
 abbrev pub kept_of : {t : Ties} {l m : Loop} {groups : List Held} {v : View} → (came : Came t l groups v m) → Kept t l.parts v m.parts
 kept_of came = record { ties = came.ties; keeps = came.stands.keeps; extends = came.extends }
 
--- a step of a group
-pub stands_stepped : (out : Option ℕ) (c : Setting) (old : Body) (s : State (Unit {0})) (v : View) (groups : List Held) (change : Loop → Loop)
-    → (h : Stands out c old s) → Came h.ties s.loop groups v (change s.loop) → StepLeaves s.loop (change s.loop)
-    → Stands out c (record old { parts = v; groups = groups }) (in_loop change s)
-stands_stepped out c old s v groups change h came leaves =
-    stands_blocks None out c old s v groups change h (kept_of came) leaves.parts (spares_none s.loop.parts s.futures)
-    (blocks_came h.ties old.timeouts old.groups groups v s.loop (change s.loop) came leaves.timeouts h.blocks)
-    (below_kept h.ties came.ties old.parts v s.loop.parts (change s.loop).parts h.keeps came.stands.keeps came.extends.bar leaves.handles)
+module _ {X : Type 0} {a : Added X} where
+  -- a step of a group
+  pub stands_stepped : (out : Option ℕ) (c : Setting a) (old : Body X) (s : State a.Kept) (v : View) (groups : List Held) (change : Loop → Loop)
+      → (h : Stands out c old s) → Came h.ties s.loop groups v (change s.loop) → StepLeaves s.loop (change s.loop)
+      → Stands out c (record old { parts = v; groups = groups }) (in_loop change s)
+  stands_stepped out c old s v groups change h came leaves =
+      stands_blocks None out c old s v groups change h (kept_of came) leaves.parts (spares_none s.loop.parts (named_in a s))
+      (blocks_came h.ties old.timeouts old.groups groups v s.loop (change s.loop) came leaves.timeouts h.blocks)
+      (below_kept h.ties came.ties old.parts v s.loop.parts (change s.loop).parts h.keeps came.stands.keeps came.extends.bar leaves.handles)

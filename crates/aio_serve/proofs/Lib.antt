@@ -11,3 +11,4 @@ pub mod GroupsNeed
 pub mod GroupExits
 pub mod Grouping
 pub mod Creating
+pub mod Adding

@@ -13,6 +13,7 @@ use Rattle.model_machine.specs.Arguments.{as_awaited, as_future}
 use Rattle.model_machine.specs.State.{State}
 use Rattle.law_kept.proofs.Telling.{outcome_kept, owner_kept}
 use Rattle.aio_task.specs.View.{parts}
+use Rattle.aio_extra.specs.Added.{Added}
 use Rattle.aio_body.specs.declared.body.Body.{Body}
 use Rattle.aio_body.specs.Asked.{IsGoing, SomeGoes}
 use Rattle.aio_body.specs.Named.{awaited_in, future_in}
@@ -20,26 +21,27 @@ use Rattle.aio_body.specs.Stands.{Setting, Stands}
 use Rattle.law_body.proofs.May.{same_prop}
 use Rattle.law_body.proofs.Telling.{awaited_named, awaited_stays, future_named, named_stays}
 
--- a task's count
-pub count_read : (out : Option ℕ) (c : Setting) (body : Body) (s : State (Unit {0})) → Stands out c body s → (task : ℕ)
-    → cancelling (parts body.parts) task ≡ cancelling s.loop.parts task
-count_read out c body s h task = ap (λ (tasks : List Task). option_map_or (λ (it : Task). it.cancels) (slice_get tasks task) 0) h.keeps.tasks
+module _ {X : Type 0} {a : Added X} where
+  -- a task's count
+  pub count_read : (out : Option ℕ) (c : Setting a) (body : Body X) (s : State a.Kept) → Stands out c body s → (task : ℕ)
+      → cancelling (parts body.parts) task ≡ cancelling s.loop.parts task
+  count_read out c body s h task = ap (λ (tasks : List Task). option_map_or (λ (it : Task). it.cancels) (slice_get tasks task) 0) h.keeps.tasks
 
-pub few_counts : (body : Body) → SomeGoes body → (task : ℕ) → cancelling (parts body.parts) task ≤ most
-few_counts body m task =
-    ∥∥₁_elim m le_prop (λ w.
-    subst (λ n. n ≤ most) (sym (count_read (Some w.0) w.1.0 body w.1.1.0 w.1.1.1.in_step.stands task)) (w.1.1.1.in_step.stands.counts task))
+  pub few_counts : (body : Body X) → SomeGoes a body → (task : ℕ) → cancelling (parts body.parts) task ≤ most
+  few_counts body m task =
+      ∥∥₁_elim m le_prop (λ w.
+      subst (λ n. n ≤ most) (sym (count_read (Some w.0) w.1.0 body w.1.1.0 w.1.1.1.in_step.stands task)) (w.1.1.1.in_step.stands.counts task))
 
--- the time
-pub few_moments : (body : Body) → SomeGoes body → body.parts.time ≤ most
-few_moments body m =
-    ∥∥₁_elim m le_prop (λ w. subst (λ n. n ≤ most) (sym w.1.1.1.in_step.stands.keeps.time) w.1.1.1.in_step.stands.time)
+  -- the time
+  pub few_moments : (body : Body X) → SomeGoes a body → body.parts.time ≤ most
+  few_moments body m =
+      ∥∥₁_elim m le_prop (λ w. subst (λ n. n ≤ most) (sym w.1.1.1.in_step.stands.keeps.time) w.1.1.1.in_step.stands.time)
 
 some_copied : {A : Type 0} (o : Option (Bor A)) → is_some (option_copied o) ≡ is_some o
 some_copied None = refl
 some_copied (Some it) = refl
 
-module _ (task : ℕ) (c : Setting) (body : Body) (s : State (Unit {0})) (h : IsGoing task c body s) where
+module _ {X : Type 0} {a : Added X} (task : ℕ) (c : Setting a) (body : Body X) (s : State a.Kept) (h : IsGoing task c body s) where
   -- what is named
   pub awaited_as : (x : Value) (on : Option ℕ) → awaited_in body.futures.items (parts body.parts) x ≡ on → as_awaited s x ≡ on
   awaited_as x on e = sym (awaited_named (Some task) c body s h.in_step.stands x) ∙ e
@@ -77,9 +79,10 @@ module _ (task : ℕ) (c : Setting) (body : Body) (s : State (Unit {0})) (h : Is
       ap owner_at found.1 ∙ ap owner_in found.2
   unowned _ on e = absurd (cc)
 
-pub unowned_kept : (body : Body) → SomeGoes body → (x : Value) (on : ℕ) → future_in body.futures.items x ≡ Some on
-    → owner_at (slice_get body.parts.futures on) ≡ None
-unowned_kept body m x on e =
-    ∥∥₁_elim m (same_prop (owner_at (slice_get body.parts.futures on)) None) (λ w.
-    let h = w.1.1.1 in
-    owner_kept h.in_step.stands.ties body.parts w.1.1.0.loop.parts h.in_step.stands.keeps on (unowned w.0 w.1.0 body w.1.1.0 h x on e))
+module _ {X : Type 0} {a : Added X} where
+  pub unowned_kept : (body : Body X) → SomeGoes a body → (x : Value) (on : ℕ) → future_in body.futures.items x ≡ Some on
+      → owner_at (slice_get body.parts.futures on) ≡ None
+  unowned_kept body m x on e =
+      ∥∥₁_elim m (same_prop (owner_at (slice_get body.parts.futures on)) None) (λ w.
+      let h = w.1.1.1 in
+      owner_kept h.in_step.stands.ties body.parts w.1.1.0.loop.parts h.in_step.stands.keeps on (unowned w.0 w.1.0 body w.1.1.0 h x on e))

@@ -14,13 +14,14 @@ use Rattle.model_loop.specs.Owning.{OwnsFutures, is_plain, own_future, owner_of}
 use Rattle.model_loop.specs.Parts.{Parts, Task}
 use Rattle.model_loop.specs.Tasks.{future_of, next_task}
 use Rattle.model_machine.specs.Arguments.{as_awaited, as_int}
-use Rattle.model_machine.specs.Extra.{no_extra}
+use Rattle.model_machine.specs.Extra.{Extra}
 use Rattle.model_machine.specs.Replies.{Raises, awaits_as, most_ids, numbered_if, pauses, reply, sleeps, sleeps_for, spawns}
 use Rattle.model_machine.specs.State.{State}
 use Rattle.law_inside.proofs.Counts.{lives_within}
 use Rattle.law_kept.proofs.Telling.{pending_kept}
 use Rattle.law_settling.proofs.CancelSound.{plain_within}
 use Rattle.aio_task.specs.View.{parts}
+use Rattle.aio_extra.specs.Added.{Added}
 use Rattle.aio_body.specs.Asked.{IsGoing, MayAsk, MayGo}
 use Rattle.aio_body.specs.Named.{awaited_in}
 use Rattle.aio_body.specs.Stands.{IsOwnSleep, Setting}
@@ -30,21 +31,21 @@ use Rattle.law_body.proofs.Sound.{awaited_pends, runs_living}
 use Rattle.aio_serve.proofs.Reading.{awaited_as, outcome_read}
 
 -- ---- what is meant
-module _ (task : ℕ) (s : State (Unit {0})) where
-  pub await_refused : (x : Value) → as_awaited s x ≡ None → reply no_extra task (request.Await x) s ≡ Raises bad_argument s
+module _ {S : Type 0} (added : Extra S) (task : ℕ) (s : State S) where
+  pub await_refused : (x : Value) → as_awaited s x ≡ None → reply added task (request.Await x) s ≡ Raises bad_argument s
   unfolding reply
   await_refused x e = rw e refl
 
   pub await_means : (x : Value) (on : ℕ) → as_awaited s x ≡ Some on
-      → reply no_extra task (request.Await x) s ≡ awaits_as (future_outcome s.loop.parts on) task on s
+      → reply added task (request.Await x) s ≡ awaits_as (future_outcome s.loop.parts on) task on s
   unfolding reply
   await_means x on e = rw e refl
 
-  pub sleep_refused : (delay : Value) → as_int delay ≡ None → reply no_extra task (request.Sleep delay) s ≡ Raises bad_argument s
+  pub sleep_refused : (delay : Value) → as_int delay ≡ None → reply added task (request.Sleep delay) s ≡ Raises bad_argument s
   unfolding reply
   sleep_refused delay e = rw e refl
 
-  pub sleep_means : (delay : Value) (number : ℤ) → as_int delay ≡ Some number → reply no_extra task (request.Sleep delay) s ≡ sleeps task number s
+  pub sleep_means : (delay : Value) (number : ℤ) → as_int delay ≡ Some number → reply added task (request.Sleep delay) s ≡ sleeps task number s
   unfolding reply
   sleep_means delay number e = rw e refl
 
@@ -59,12 +60,12 @@ module _ (task : ℕ) (s : State (Unit {0})) where
   sleeps_none (negsuc n) h = refl
 
   pub none_spawned : (coroutine : ℕ) (arguments : List Value) → most_ids ≤ next_task s.loop.parts
-      → reply no_extra task (request.Spawn coroutine arguments) s ≡ Raises out_of_range s
+      → reply added task (request.Spawn coroutine arguments) s ≡ Raises out_of_range s
   unfolding reply
   none_spawned coroutine arguments many = ap (λ b. numbered_if b (spawns coroutine arguments) s) (le-ltb (next_task s.loop.parts) most_ids many)
 
   pub one_spawned : (coroutine : ℕ) (arguments : List Value) → next_task s.loop.parts < most_ids
-      → reply no_extra task (request.Spawn coroutine arguments) s ≡ spawns coroutine arguments s
+      → reply added task (request.Spawn coroutine arguments) s ≡ spawns coroutine arguments s
   unfolding reply
   one_spawned coroutine arguments few = ap (λ b. numbered_if b (spawns coroutine arguments) s) (lt-ltb (next_task s.loop.parts) most_ids few)
 
@@ -88,39 +89,41 @@ own_not_plain p owns task plain = at (slice_get p.tasks task) refl
         let own : own_future p task ≡ Some it.future = ap (option_map (λ (it : Task). it.future)) x in
         none_some (future_of p task) within.0 (ap (owner_of p) same ∙ (owns it.future task).1 own)
 
-awaited_no_sleep : (s : State (Unit {0})) → OwnsFutures s.loop.parts → (x : Value) (on : ℕ) → as_awaited s x ≡ Some on → (sleeper : Option ℕ)
-    → IsOwnSleep s.loop.parts s.futures sleeper on → ⊥
-awaited_no_sleep s owns (Fut id) on e sleeper own = own.unnamed id e
-awaited_no_sleep s owns (TaskId id) on e sleeper own =
-    own_not_plain s.loop.parts owns id (subst (λ k. is_plain s.loop.parts k ≡ true) (some_is on (future_of s.loop.parts id) (sym e)) own.plain)
-  where
-    some_is : (a b : ℕ) → Some a ≡ Some b → a ≡ b
-    some_is a b e = cc
-awaited_no_sleep s owns _ on e sleeper own = absurd (cc)
+module _ {S : Type 0} (s : State S) (named : ℕ → Type 0) (names : (place id : ℕ) → slice_get s.futures place ≡ Some id → named id) where
+  awaited_no_sleep : OwnsFutures s.loop.parts → (x : Value) (on : ℕ) → as_awaited s x ≡ Some on → (sleeper : Option ℕ)
+      → IsOwnSleep s.loop.parts named sleeper on → ⊥
+  awaited_no_sleep owns (Fut id) on e sleeper own = own.unnamed (names id on e)
+  awaited_no_sleep owns (TaskId id) on e sleeper own =
+      own_not_plain s.loop.parts owns id (subst (λ k. is_plain s.loop.parts k ≡ true) (some_is on (future_of s.loop.parts id) (sym e)) own.plain)
+    where
+      some_is : (a b : ℕ) → Some a ≡ Some b → a ≡ b
+      some_is a b e = cc
+  awaited_no_sleep owns _ on e sleeper own = absurd (cc)
 
-pub awaited_spares : (task : ℕ) (s : State (Unit {0})) → OwnsFutures s.loop.parts → (x : Value) (on : ℕ) → as_awaited s x ≡ Some on
-    → Spares (Some (task, on)) s.loop.parts s.futures
-awaited_spares task s owns x on e other id new sleeper own =
-    absurd (awaited_no_sleep s owns x on e sleeper (subst (IsOwnSleep s.loop.parts s.futures sleeper) new.1 own))
+  pub awaited_spares : (task : ℕ) → OwnsFutures s.loop.parts → (x : Value) (on : ℕ) → as_awaited s x ≡ Some on
+      → Spares (Some (task, on)) s.loop.parts named
+  awaited_spares task owns x on e other id new sleeper own =
+      absurd (awaited_no_sleep owns x on e sleeper (subst (IsOwnSleep s.loop.parts named sleeper) new.1 own))
 
--- ---- what a wait needs
-pub awaited_waits : (task : ℕ) (x : Value) (on : ℕ) (body : Body) → MayAsk task (request.Await x) body
-    → awaited_in body.futures.items (parts body.parts) x ≡ Some on → outcome_at (slice_get body.parts.futures on) ≡ None
-    → is_pending_at (slice_get body.parts.futures on) ≡ true
-awaited_waits task x on body m named none =
-    ∥∥₁_elim m (hlevel props) (λ w.
-    let s = w.1.0 in
-    let going = w.1.1.going in
-    let stands = going.in_step.stands in
-    pending_kept stands.ties body.parts s.loop.parts stands.keeps on
-    ∙ awaited_pends task x s going.sound w.1.1.says on (awaited_as task w.0 body s going x (Some on) named)
-    (sym (outcome_read task w.0 body s going x on named) ∙ none))
+module _ {X : Type 0} {a : Added X} where
+  -- ---- what a wait needs
+  pub awaited_waits : (task : ℕ) (x : Value) (on : ℕ) (body : Body X) → MayAsk a task (request.Await x) body
+      → awaited_in body.futures.items (parts body.parts) x ≡ Some on → outcome_at (slice_get body.parts.futures on) ≡ None
+      → is_pending_at (slice_get body.parts.futures on) ≡ true
+  awaited_waits task x on body m named none =
+      ∥∥₁_elim m (hlevel props) (λ w.
+      let s = w.1.0 in
+      let going = w.1.1.going in
+      let stands = going.in_step.stands in
+      pending_kept stands.ties body.parts s.loop.parts stands.keeps on
+      ∙ awaited_pends a.meaning task x s going.sound w.1.1.says on (awaited_as task w.0 body s going x (Some on) named)
+      (sym (outcome_read task w.0 body s going x on named) ∙ none))
 
--- the task whose step goes on has a slot
-pub within_going : (task : ℕ) (c : Setting) (body : Body) (s : State (Unit {0})) → IsGoing task c body s → task < next_task s.loop.parts
-within_going task c body s h = lives_within s.loop.parts task (runs_living task s h.sound)
+  -- the task whose step goes on has a slot
+  pub within_going : (task : ℕ) (c : Setting a) (body : Body X) (s : State a.Kept) → IsGoing task c body s → task < next_task s.loop.parts
+  within_going task c body s h = lives_within s.loop.parts task (runs_living a.meaning task s h.sound)
 
-pub slot_there : (task : ℕ) (body : Body) → MayGo task body → task < length body.slots.items
-slot_there task body m =
-    ∥∥₁_elim m (hlevel props) (λ w.
-    subst (λ n. task < n) (sym w.1.1.in_step.stands.made) (within_going task w.0 body w.1.0 w.1.1))
+  pub slot_there : (task : ℕ) (body : Body X) → MayGo a task body → task < length body.slots.items
+  slot_there task body m =
+      ∥∥₁_elim m (hlevel props) (λ w.
+      subst (λ n. task < n) (sym w.1.1.in_step.stands.made) (within_going task w.0 body w.1.0 w.1.1))

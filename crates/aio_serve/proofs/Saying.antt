@@ -6,6 +6,7 @@ use Rattle.model_value.specs.Value.{Value, Exc, Outcome}
 use Rattle.model_machine.specs.Outcomes.{input_of}
 use Rattle.model_machine.specs.Replies as plain
 use Rattle.model_machine.specs.State.{State}
+use Rattle.aio_extra.specs.Added.{Added}
 use Rattle.aio_body.specs.declared.body.Body.{Body}
 use Rattle.aio_body.specs.declared.reply.Reply.{Reply}
 use Rattle.aio_body.specs.declared.reply.Reply.TheVariants.{Answers, Raises}
@@ -13,7 +14,7 @@ use Rattle.aio_body.specs.Outcomes.{RepliesAs, reply_of}
 use Rattle.aio_body.specs.Asked.{IsInStep, Says}
 use Rattle.aio_body.specs.Stands.{Setting}
 
-module _ (task : ℕ) (c : Setting) (body : Body) (now : State (Unit {0})) (said : Reply) (machine : plain.Reply (Unit {0})) where
+module _ {X : Type 0} {a : Added X} (task : ℕ) (c : Setting a) (body : Body X) (now : State a.Kept) (said : Reply) (machine : plain.Reply a.Kept) where
   pub answers_so : (value : Value) → said ≡ Answers value → machine ≡ plain.Answers value now → IsInStep task c body now
       → Says task c body said machine
   answers_so value e m h = rw (e, m) (refl, h)

@@ -7,7 +7,7 @@ use Rattle.aio_timer.specs.declared.live.TimerId.{TimerId}
 use Rattle.aio_timer.specs.Schedule as schedule
 use Rattle.aio_body.specs.declared.body.Body.{Body}
 
-pub record IsAlarmed (task delay : ℕ) (timer : TimerId) (future : ℕ) (old new : Body) : Type 0 where
+pub record IsAlarmed {X : Type 0} (task delay : ℕ) (timer : TimerId) (future : ℕ) (old new : Body X) : Type 0 where
   pub number : future ≡ length old.parts.futures
   pub id : timer ≡ record { number = old.parts.schedule.next; when = min (old.parts.time + delay) most }
   pub after : new ≡ record old {

@@ -13,7 +13,7 @@ use Rattle.aio_body.specs.declared.standing.Standing.TheVariants.{Leaving}
 use Rattle.aio_body.specs.Slots.{standing_at}
 
 -- the task waits for this future, and stands at the group's exit
-pub record WaitsAtExit (task group future : ℕ) (old new : Body) : Type 0 where
+pub record WaitsAtExit {X : Type 0} (task group future : ℕ) (old new : Body X) : Type 0 where
   pub after : parts new.parts ≡ (suspend task future (parts old.parts)).parts
   pub queue : Appended old.parts.queue new.parts.queue
   pub parts : new.parts ≡ record old.parts {
@@ -25,7 +25,7 @@ pub record WaitsAtExit (task group future : ℕ) (old new : Body) : Type 0 where
   pub beside : new ≡ record old { parts = new.parts; slots = new.slots }
   pub slots : new.slots.items ≡ standing_at task (Leaving group) old.slots.items
 
-abbrev pub GoneOn : (task group : ℕ) → GroupExit → (old new : Body) → Reply → Type 0
+abbrev pub GoneOn : {X : Type 0} → (task group : ℕ) → GroupExit → (old new : Body X) → Reply → Type 0
 GoneOn task group (exit.Waits future) old new said = WaitsAtExit task group future old new × (said ≡ Rests)
 GoneOn task group exit.Passes old new said = (new ≡ old) × (said ≡ Answers Nothing)
 GoneOn task group (exit.Raises fault) old new said = (new ≡ old) × (said ≡ Raises fault)

@@ -1,3 +1,4 @@
 pub mod Alarm
 pub mod Left
 pub mod GoneOn
+pub mod Adding

@@ -9,12 +9,13 @@ ghost use Rattle.aio_body.specs.Asked.{SomeGoes, Replies, Serves};
 
 use aio_base::{Exc, Kind, Memory, Outcome, Value};
 use aio_body::{Body, MOST_IDS, Reply, as_failure, bad_argument, out_of_range, raises, replied};
+use aio_extra::Extra;
 use std::alloc::Global;
 
 /// `future()`.
-pub fn make_future(body: &mut Body, alloc: Global) -> Result<Reply, Memory>
-    requires { SomeGoes body.old }
-    ensures { (task : ℕ) → Serves task request.MakeFuture body.old body.new result }
+pub fn make_future<X: Extra>(body: &mut Body<X>, alloc: Global) -> Result<Reply, Memory>
+    requires { SomeGoes X.added body.old }
+    ensures { (task : ℕ) → Serves X.added task request.MakeFuture body.old body.new result }
 {
     let made = body.futures.len();
     if made >= MOST_IDS {
@@ -25,16 +26,26 @@ pub fn make_future(body: &mut Body, alloc: Global) -> Result<Reply, Memory>
     Ok(Reply::Answers(Value::fut(made as u32)))
 }
 
-pub fn set(body: &mut Body, alloc: Global, future: &Value, value: Value) -> Result<Reply, Memory>
-    requires { SomeGoes body.old }
-    ensures { (task : ℕ) → Serves task (request.Set future.now value) body.old body.new result }
+pub fn set<X: Extra>(
+    body: &mut Body<X>,
+    alloc: Global,
+    future: &Value,
+    value: Value,
+) -> Result<Reply, Memory>
+    requires { SomeGoes X.added body.old }
+    ensures { (task : ℕ) → Serves X.added task (request.Set future.now value) body.old body.new result }
 {
     settle(body, alloc, future, Some(Outcome::Value(value)))
 }
 
-pub fn fail(body: &mut Body, alloc: Global, future: &Value, fault: &Value) -> Result<Reply, Memory>
-    requires { SomeGoes body.old }
-    ensures { (task : ℕ) → Serves task (request.Fail future.now fault.now) body.old body.new result }
+pub fn fail<X: Extra>(
+    body: &mut Body<X>,
+    alloc: Global,
+    future: &Value,
+    fault: &Value,
+) -> Result<Reply, Memory>
+    requires { SomeGoes X.added body.old }
+    ensures { (task : ℕ) → Serves X.added task (request.Fail future.now fault.now) body.old body.new result }
 {
     let outcome = failed_with(as_failure(fault)?);
     settle(body, alloc, future, outcome)
@@ -47,14 +58,14 @@ fn failed_with(fault: Option<Exc>) -> Option<Outcome>
 }
 
 // A done future is refused.
-fn settle(
-    body: &mut Body,
+fn settle<X: Extra>(
+    body: &mut Body<X>,
     alloc: Global,
     future: &Value,
     outcome: Option<Outcome>,
 ) -> Result<Reply, Memory>
-    requires { SomeGoes body.old }
-    ensures { (task : ℕ) → Replies task
+    requires { SomeGoes X.added body.old }
+    ensures { (task : ℕ) → Replies X.added task
         (λ s. given (as_future s future.now) (λ on. given outcome (settles on)) s) body.old body.new result }
 {
     let Some(on) = body.as_future(future) else {
@@ -70,8 +81,8 @@ fn settle(
     Ok(Reply::Answers(Value::nothing()))
 }
 
-pub fn is_done(body: &Body, alloc: Global, x: &Value) -> Result<Reply, Memory>
-    ensures { (task : ℕ) → Serves task (request.IsDone x.now) body.now body.now result }
+pub fn is_done<X: Extra>(body: &Body<X>, alloc: Global, x: &Value) -> Result<Reply, Memory>
+    ensures { (task : ℕ) → Serves X.added task (request.IsDone x.now) body.now body.now result }
 {
     match body.as_awaited(x) {
         Some(on) => Ok(Reply::Answers(Value::bool(body.parts.outcome(on).is_some()))),
@@ -79,8 +90,8 @@ pub fn is_done(body: &Body, alloc: Global, x: &Value) -> Result<Reply, Memory>
     }
 }
 
-pub fn is_cancelled(body: &Body, alloc: Global, x: &Value) -> Result<Reply, Memory>
-    ensures { (task : ℕ) → Serves task (request.IsCancelled x.now) body.now body.now result }
+pub fn is_cancelled<X: Extra>(body: &Body<X>, alloc: Global, x: &Value) -> Result<Reply, Memory>
+    ensures { (task : ℕ) → Serves X.added task (request.IsCancelled x.now) body.now body.now result }
 {
     match body.as_awaited(x) {
         Some(on) => Ok(Reply::Answers(Value::bool(ended_cancelled(body.parts.outcome(on))))),
@@ -88,8 +99,8 @@ pub fn is_cancelled(body: &Body, alloc: Global, x: &Value) -> Result<Reply, Memo
     }
 }
 
-pub fn result_of(body: &Body, alloc: Global, x: &Value) -> Result<Reply, Memory>
-    ensures { (task : ℕ) → Serves task (request.ResultOf x.now) body.now body.now result }
+pub fn result_of<X: Extra>(body: &Body<X>, alloc: Global, x: &Value) -> Result<Reply, Memory>
+    ensures { (task : ℕ) → Serves X.added task (request.ResultOf x.now) body.now body.now result }
 {
     let Some(on) = body.as_awaited(x) else {
         return bad_argument(alloc);

@@ -4,7 +4,6 @@ ghost use Rattle.model_value.specs.declared.action.Action.TheVariants.{GroupDone
 ghost use Rattle.model_value.specs.declared.request.Request.TheVariants as request;
 ghost use Rattle.model_loop.specs.Futures.{is_pending_at};
 ghost use Rattle.model_loop.specs.Groups.{child_done};
-ghost use Rattle.model_machine.specs.Extra.{no_extra};
 ghost use Rattle.model_machine.specs.Replies.{decides};
 ghost use Rattle.model_machine.specs.State.{State, Leaving, in_loop};
 ghost use Rattle.aio_group.specs.declared.exit.GroupExit.TheVariants.{Waits};
@@ -15,13 +14,14 @@ ghost use Rattle.aio_serve.specs.GoneOn.{GoneOn};
 
 use aio_base::{Exc, Input, Memory, Value, ValueList};
 use aio_body::{Body, MOST_IDS, Reply, Standing, as_group, bad_argument, out_of_range};
+use aio_extra::Extra;
 use aio_group::GroupExit;
 use std::alloc::Global;
 
 /// The group is made and entered at once.
-pub fn enter_group(body: &mut Body, alloc: Global, task: u32) -> Result<Reply, Memory>
-    requires { MayGo task body.old }
-    ensures { Serves task request.GroupEnter body.old body.new result }
+pub fn enter_group<X: Extra>(body: &mut Body<X>, alloc: Global, task: u32) -> Result<Reply, Memory>
+    requires { MayGo X.added task body.old }
+    ensures { Serves X.added task request.GroupEnter body.old body.new result }
 {
     if body.groups.len() >= MOST_IDS {
         return out_of_range(alloc);
@@ -31,15 +31,15 @@ pub fn enter_group(body: &mut Body, alloc: Global, task: u32) -> Result<Reply, M
     Ok(Reply::Answers(Value::group(id)))
 }
 
-pub fn exit_group(
-    body: &mut Body,
+pub fn exit_group<X: Extra>(
+    body: &mut Body<X>,
     alloc: Global,
     task: u32,
     group: &Value,
     fault: Option<Exc>,
 ) -> Result<Reply, Memory>
-    requires { MayAsk task (request.GroupExit group.now fault) body.old }
-    ensures { Serves task (request.GroupExit group.now fault) body.old body.new result }
+    requires { MayAsk X.added task (request.GroupExit group.now fault) body.old }
+    ensures { Serves X.added task (request.GroupExit group.now fault) body.old body.new result }
 {
     let Some(id) = as_group(group) else {
         return bad_argument(alloc);
@@ -49,7 +49,7 @@ pub fn exit_group(
 }
 
 // An exit that waits suspends its task.
-fn go_on(body: &mut Body, task: u32, group: u32, exit: GroupExit) -> Reply
+fn go_on<X: Extra>(body: &mut Body<X>, task: u32, group: u32, exit: GroupExit) -> Reply
     requires idle { body.old.parts.called ≡ None }
     requires running { body.old.parts.running ≡ Some task }
     requires within { task < length body.old.slots.items }
@@ -68,15 +68,15 @@ fn go_on(body: &mut Body, task: u32, group: u32, exit: GroupExit) -> Reply
     }
 }
 
-pub fn create(
-    body: &mut Body,
+pub fn create<X: Extra>(
+    body: &mut Body<X>,
     alloc: Global,
     group: &Value,
     coroutine: u32,
     arguments: &ValueList,
 ) -> Result<Reply, Memory>
-    requires { SomeGoes body.old }
-    ensures { (task : ℕ) → Serves task (request.Create group.now coroutine arguments.now) body.old body.new result }
+    requires { SomeGoes X.added body.old }
+    ensures { (task : ℕ) → Serves X.added task (request.Create group.now coroutine arguments.now) body.old body.new result }
 {
     let Some(id) = as_group(group) else {
         return bad_argument(alloc);
@@ -94,16 +94,16 @@ pub fn create(
 }
 
 /// The exit of a group goes on after its wait.
-pub fn leave_group(
-    body: &mut Body,
+pub fn leave_group<X: Extra>(
+    body: &mut Body<X>,
     alloc: Global,
     task: u32,
     group: u32,
     input: Input,
 ) -> Result<Reply, Memory>
-    requires { MayDecide task (Leaving group) body.old }
-    ensures { IfOk result (λ said. (c : Setting) (s : State (Unit {0})) → IsDeciding task (Leaving group) c body.old s
-        → Says task c body.new said (decides no_extra (Leaving group) task input s)) }
+    requires { MayDecide X.added task (Leaving group) body.old }
+    ensures { IfOk result (λ said. (c : Setting X.added) (s : State X.added.Kept) → IsDeciding task (Leaving group) c body.old s
+        → Says task c body.new said (decides X.added.meaning (Leaving group) task input s)) }
 {
     let exit = body
         .groups
@@ -112,9 +112,9 @@ pub fn leave_group(
 }
 
 /// A task of a group is done.
-pub fn child_done(body: &mut Body, group: u32, task: u32)
-    requires { MayTake (GroupDone group task) body.old }
-    ensures { (c : Setting) (s : State (Unit {0})) → IsTaken (GroupDone group task) c body.old s
+pub fn child_done<X: Extra>(body: &mut Body<X>, group: u32, task: u32)
+    requires { MayTake X.added (GroupDone group task) body.old }
+    ensures { (c : Setting X.added) (s : State X.added.Kept) → IsTaken (GroupDone group task) c body.old s
         → IsAfter c body.new (in_loop (child_done group task) s) }
 {
     body.groups.child_done(group, task, &mut body.parts);

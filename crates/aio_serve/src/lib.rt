@@ -1,6 +1,7 @@
 //! The requests of tasks, as the kernel serves them.
 #![tactic(auto)]
 
+mod added;
 mod futures;
 mod groups;
 mod table;
@@ -9,6 +10,7 @@ mod time;
 mod timeouts;
 mod waiting;
 
+pub use added::{Answered, wake};
 pub use groups::{child_done, leave_group};
 pub use table::reply;
 pub use timeouts::fire;

@@ -1,15 +1,21 @@
 //! The table of requests.
 ghost use Rattle.aio_body.specs.Asked.{MayAsk, Serves};
 
-use crate::{futures, groups, tasks, time, timeouts, waiting};
+use crate::{added, futures, groups, tasks, time, timeouts, waiting};
 use aio_base::{Memory, Request, Value};
 use aio_body::{Body, Reply, undefined};
+use aio_extra::Extra;
 use std::alloc::Global;
 
 /// Serves a request of the task whose step goes on.
-pub fn reply(body: &mut Body, alloc: Global, task: u32, request: Request) -> Result<Reply, Memory>
-    requires { MayAsk task request body.old }
-    ensures { Serves task request body.old body.new result }
+pub fn reply<X: Extra>(
+    body: &mut Body<X>,
+    alloc: Global,
+    task: u32,
+    request: Request,
+) -> Result<Reply, Memory>
+    requires { MayAsk X.added task request body.old }
+    ensures { Serves X.added task request body.old body.new result }
 {
     match request {
         Request::Pause => Ok(waiting::pause(body, task)),
@@ -44,7 +50,7 @@ pub fn reply(body: &mut Body, alloc: Global, task: u32, request: Request) -> Res
             coroutine,
             arguments,
         } => groups::create(body, alloc, &group, coroutine, &arguments),
-        Request::Extra { code, arguments } => time::extra(body, alloc, &code, &arguments),
+        Request::Extra { code, arguments } => added::extra(body, alloc, task, &code, &arguments),
         Request::Listen { .. }
         | Request::Connect(_)
         | Request::Write { .. }

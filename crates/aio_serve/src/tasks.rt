@@ -8,11 +8,12 @@ ghost use Rattle.aio_body.specs.Asked.{SomeGoes, Serves};
 
 use aio_base::{Memory, Value, ValueList};
 use aio_body::{Body, MOST_IDS, Reply, as_task, bad_argument, out_of_range};
+use aio_extra::Extra;
 use std::alloc::Global;
 
-pub fn cancel(body: &mut Body, alloc: Global, x: &Value) -> Result<Reply, Memory>
-    requires { SomeGoes body.old }
-    ensures { (task : ℕ) → Serves task (request.Cancel x.now) body.old body.new result }
+pub fn cancel<X: Extra>(body: &mut Body<X>, alloc: Global, x: &Value) -> Result<Reply, Memory>
+    requires { SomeGoes X.added body.old }
+    ensures { (task : ℕ) → Serves X.added task (request.Cancel x.now) body.old body.new result }
 {
     match body.as_awaited(x) {
         Some(on) => Ok(Reply::Answers(Value::bool(body.parts.cancel(on)))),
@@ -20,9 +21,9 @@ pub fn cancel(body: &mut Body, alloc: Global, x: &Value) -> Result<Reply, Memory
     }
 }
 
-pub fn cancelling(body: &Body, alloc: Global, x: &Value) -> Result<Reply, Memory>
-    requires { SomeGoes body.now }
-    ensures { (task : ℕ) → Serves task (request.Cancelling x.now) body.now body.now result }
+pub fn cancelling<X: Extra>(body: &Body<X>, alloc: Global, x: &Value) -> Result<Reply, Memory>
+    requires { SomeGoes X.added body.now }
+    ensures { (task : ℕ) → Serves X.added task (request.Cancelling x.now) body.now body.now result }
 {
     match as_task(x) {
         Some(task) => Ok(number(body.parts.cancelling(task))),
@@ -30,9 +31,9 @@ pub fn cancelling(body: &Body, alloc: Global, x: &Value) -> Result<Reply, Memory
     }
 }
 
-pub fn uncancel(body: &mut Body, alloc: Global, x: &Value) -> Result<Reply, Memory>
-    requires { SomeGoes body.old }
-    ensures { (task : ℕ) → Serves task (request.Uncancel x.now) body.old body.new result }
+pub fn uncancel<X: Extra>(body: &mut Body<X>, alloc: Global, x: &Value) -> Result<Reply, Memory>
+    requires { SomeGoes X.added body.old }
+    ensures { (task : ℕ) → Serves X.added task (request.Uncancel x.now) body.old body.new result }
 {
     match as_task(x) {
         Some(task) => Ok(number(body.parts.uncancel(task))),
@@ -40,14 +41,14 @@ pub fn uncancel(body: &mut Body, alloc: Global, x: &Value) -> Result<Reply, Memo
     }
 }
 
-pub fn spawn(
-    body: &mut Body,
+pub fn spawn<X: Extra>(
+    body: &mut Body<X>,
     alloc: Global,
     coroutine: u32,
     arguments: &ValueList,
 ) -> Result<Reply, Memory>
-    requires { SomeGoes body.old }
-    ensures { (task : ℕ) → Serves task (request.Spawn coroutine arguments.now) body.old body.new result }
+    requires { SomeGoes X.added body.old }
+    ensures { (task : ℕ) → Serves X.added task (request.Spawn coroutine arguments.now) body.old body.new result }
 {
     if body.slots.len() >= MOST_IDS {
         return out_of_range(alloc);

@@ -16,17 +16,18 @@ ghost use Rattle.aio_serve.specs.Left.{left_as};
 
 use aio_base::{Exc, Memory, Value};
 use aio_body::{Body, MOST_IDS, Reply, as_delay, as_timeout, bad_argument, out_of_range};
+use aio_extra::Extra;
 use aio_timeout::{Rescheduled, TimeoutExit, TimeoutState, timeout_fault};
 use std::alloc::Global;
 
-pub fn enter_timeout(
-    body: &mut Body,
+pub fn enter_timeout<X: Extra>(
+    body: &mut Body<X>,
     alloc: Global,
     task: u32,
     delay: &Value,
 ) -> Result<Reply, Memory>
-    requires { MayGo task body.old }
-    ensures { Serves task (request.TimeoutEnter delay.now) body.old body.new result }
+    requires { MayGo X.added task body.old }
+    ensures { Serves X.added task (request.TimeoutEnter delay.now) body.old body.new result }
 {
     let Some(delay) = as_delay(delay) else {
         return bad_argument(alloc);
@@ -38,15 +39,15 @@ pub fn enter_timeout(
     Ok(Reply::Answers(Value::timeout(id)))
 }
 
-pub fn exit_timeout(
-    body: &mut Body,
+pub fn exit_timeout<X: Extra>(
+    body: &mut Body<X>,
     alloc: Global,
     task: u32,
     timeout: &Value,
     fault: Option<Exc>,
 ) -> Result<Reply, Memory>
-    requires { MayAsk task (request.TimeoutExit timeout.now fault) body.old }
-    ensures { Serves task (request.TimeoutExit timeout.now fault) body.old body.new result }
+    requires { MayAsk X.added task (request.TimeoutExit timeout.now fault) body.old }
+    ensures { Serves X.added task (request.TimeoutExit timeout.now fault) body.old body.new result }
 {
     let Some(id) = as_timeout(timeout) else {
         return bad_argument(alloc);
@@ -66,14 +67,14 @@ fn left(exit: TimeoutExit) -> Reply
 }
 
 /// A value may name a timeout that was not made: such a one is finished.
-pub fn reschedule(
-    body: &mut Body,
+pub fn reschedule<X: Extra>(
+    body: &mut Body<X>,
     alloc: Global,
     timeout: &Value,
     when: &Value,
 ) -> Result<Reply, Memory>
-    requires { SomeGoes body.old }
-    ensures { (task : ℕ) → Serves task (request.Reschedule timeout.now when.now) body.old body.new result }
+    requires { SomeGoes X.added body.old }
+    ensures { (task : ℕ) → Serves X.added task (request.Reschedule timeout.now when.now) body.old body.new result }
 {
     let Some(id) = as_timeout(timeout) else {
         return bad_argument(alloc);
@@ -96,8 +97,8 @@ fn refused(alloc: Global, state: TimeoutState) -> Result<Reply, Memory>
     Ok(Reply::Raises(state.fault(alloc)?))
 }
 
-pub fn expired(body: &Body, alloc: Global, timeout: &Value) -> Result<Reply, Memory>
-    ensures { (task : ℕ) → Serves task (request.Expired timeout.now) body.now body.now result }
+pub fn expired<X: Extra>(body: &Body<X>, alloc: Global, timeout: &Value) -> Result<Reply, Memory>
+    ensures { (task : ℕ) → Serves X.added task (request.Expired timeout.now) body.now body.now result }
 {
     match as_timeout(timeout) {
         Some(id) => Ok(Reply::Answers(Value::bool(has_expired(body, id)))),
@@ -105,7 +106,7 @@ pub fn expired(body: &Body, alloc: Global, timeout: &Value) -> Result<Reply, Mem
     }
 }
 
-fn has_expired(body: &Body, id: u32) -> bool
+fn has_expired<X: Extra>(body: &Body<X>, id: u32) -> bool
     ensures { (t : Ties) (l : Loop) → AreTimeouts t l.parts body.now.timeouts l.timeouts
         → result ≡ has_expired (timeout_of l id).state }
 {
@@ -116,9 +117,9 @@ fn has_expired(body: &Body, id: u32) -> bool
 }
 
 /// The time of a timeout is over.
-pub fn fire(body: &mut Body, timeout: u32)
-    requires { MayTake (Fires timeout) body.old }
-    ensures { (c : Setting) (s : State (Unit {0})) → IsTaken (Fires timeout) c body.old s
+pub fn fire<X: Extra>(body: &mut Body<X>, timeout: u32)
+    requires { MayTake X.added (Fires timeout) body.old }
+    ensures { (c : Setting X.added) (s : State X.added.Kept) → IsTaken (Fires timeout) c body.old s
         → IsAfter c body.new (in_loop (fire timeout) s) }
 {
     body.timeouts.fire(timeout, &mut body.parts);

@@ -8,6 +8,7 @@ ghost use Rattle.aio_body.specs.Slots.{standing_at};
 
 use aio_base::{Action, Memory, Value};
 use aio_body::{Body, Reply, Standing, as_int, bad_argument, replied};
+use aio_extra::Extra;
 use aio_task::{FutureId, TimerId};
 use std::alloc::Global;
 
@@ -15,18 +16,23 @@ use std::alloc::Global;
 const MOST: u64 = 0x7FFF_FFFF_FFFF_FFFF;
 
 /// A bare `yield`.
-pub fn pause(body: &mut Body, task: u32) -> Reply
-    requires { MayGo task body.old }
-    ensures { Replies task (pauses task) body.old body.new (Ok result) }
+pub fn pause<X: Extra>(body: &mut Body<X>, task: u32) -> Reply
+    requires { MayGo X.added task body.old }
+    ensures { Replies X.added task (pauses task) body.old body.new (Ok result) }
 {
     body.parts.pause(task);
     Reply::Rests
 }
 
 /// What is done is awaited at once.
-pub fn await_value(body: &mut Body, alloc: Global, task: u32, x: &Value) -> Result<Reply, Memory>
-    requires { MayAsk task (request.Await x.now) body.old }
-    ensures { Serves task (request.Await x.now) body.old body.new result }
+pub fn await_value<X: Extra>(
+    body: &mut Body<X>,
+    alloc: Global,
+    task: u32,
+    x: &Value,
+) -> Result<Reply, Memory>
+    requires { MayAsk X.added task (request.Await x.now) body.old }
+    ensures { Serves X.added task (request.Await x.now) body.old body.new result }
 {
     let Some(on) = body.as_awaited(x) else {
         return bad_argument(alloc);
@@ -39,9 +45,14 @@ pub fn await_value(body: &mut Body, alloc: Global, task: u32, x: &Value) -> Resu
 }
 
 /// A sleep of 0 or less is a bare `yield`.
-pub fn sleep(body: &mut Body, alloc: Global, task: u32, delay: &Value) -> Result<Reply, Memory>
-    requires { MayGo task body.old }
-    ensures { Serves task (request.Sleep delay.now) body.old body.new result }
+pub fn sleep<X: Extra>(
+    body: &mut Body<X>,
+    alloc: Global,
+    task: u32,
+    delay: &Value,
+) -> Result<Reply, Memory>
+    requires { MayGo X.added task body.old }
+    ensures { Serves X.added task (request.Sleep delay.now) body.old body.new result }
 {
     match as_int(delay) {
         Some(delay) if delay > 0 => sleep_for(body, alloc, task, delay as u64),
@@ -50,9 +61,14 @@ pub fn sleep(body: &mut Body, alloc: Global, task: u32, delay: &Value) -> Result
     }
 }
 
-fn sleep_for(body: &mut Body, alloc: Global, task: u32, delay: u64) -> Result<Reply, Memory>
-    requires { MayGo task body.old }
-    ensures { Replies task (sleeps_for task (pos delay)) body.old body.new result }
+fn sleep_for<X: Extra>(
+    body: &mut Body<X>,
+    alloc: Global,
+    task: u32,
+    delay: u64,
+) -> Result<Reply, Memory>
+    requires { MayGo X.added task body.old }
+    ensures { Replies X.added task (sleeps_for task (pos delay)) body.old body.new result }
 {
     let (timer, future) = alarm(body, alloc, task, delay)?;
     let _suspension = body.parts.suspend(task, future);
@@ -61,13 +77,13 @@ fn sleep_for(body: &mut Body, alloc: Global, task: u32, delay: u64) -> Result<Re
 }
 
 // A future of a sleep, which a timer's handle will resolve.
-fn alarm(
-    body: &mut Body,
+fn alarm<X: Extra>(
+    body: &mut Body<X>,
     alloc: Global,
     task: u32,
     delay: u64,
 ) -> Result<(TimerId, FutureId), Memory>
-    requires { MayGo task body.old }
+    requires { MayGo X.added task body.old }
     ensures { IfOk result (λ made. IsAlarmed task delay made.0 made.1 body.old body.new) }
 {
     let future = body.parts.new_plain(alloc)?;

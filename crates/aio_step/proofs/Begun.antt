@@ -14,10 +14,11 @@ use Rattle.model_machine.specs.Step.{given_up}
 use Rattle.aio_task.specs.View.{View, parts}
 use Rattle.aio_task.specs.Keeps.{Ties}
 use Rattle.aio_gen.specs.declared.generator.Gen.{Gen}
+use Rattle.aio_extra.specs.Added.{Added, named_in}
 use Rattle.aio_body.specs.declared.body.Body.{Body}
 use Rattle.aio_body.specs.declared.standing.Slot.{Slot}
 use Rattle.aio_body.specs.declared.standing.Standing.{Standing}
-use Rattle.aio_body.specs.declared.standing.Standing.TheVariants.{Asked, Sleeping, Leaving}
+use Rattle.aio_body.specs.declared.standing.Standing.TheVariants.{Asked, Sleeping, Leaving, Serving}
 use Rattle.aio_body.specs.GivingUp.{given_up_in, let_go_if, timer_cancelled}
 use Rattle.aio_body.specs.Slots.{no_slot}
 use Rattle.aio_body.specs.Stands.{Setting, Stands, HasSlot, StandsAt}
@@ -75,14 +76,16 @@ given_calls : (standing : Standing) (v : View) → (given_up_in standing v).call
 given_calls Asked v = refl
 given_calls (Sleeping timer future) v = let_go_calls (is_some (outcome_at (slice_get v.futures future))) future (timer_cancelled timer v)
 given_calls (Leaving group) v = refl
+given_calls (Serving key) v = refl
 
 given_runs : (standing : Standing) (v : View) → (given_up_in standing v).running ≡ v.running
 given_runs Asked v = refl
 given_runs (Sleeping timer future) v = let_go_runs (is_some (outcome_at (slice_get v.futures future))) future (timer_cancelled timer v)
 given_runs (Leaving group) v = refl
+given_runs (Serving key) v = refl
 
 -- ---- what it stood at
-pub stood_decides : (t : Ties) (p : Parts) (named : List ℕ) (task : ℕ) (code : Standing) (standing : plain.Standing)
+pub stood_decides : (t : Ties) (p : Parts) (named : ℕ → Type 0) (task : ℕ) (code : Standing) (standing : plain.Standing)
     → StandsAt t p named task code standing → DecidesAs code standing
 stood_decides t p named task Asked plain.Asked at = tt
 stood_decides t p named task Asked (plain.Sleeping tag) at = at
@@ -96,15 +99,19 @@ stood_decides t p named task (Leaving group) plain.Asked at = at
 stood_decides t p named task (Leaving group) (plain.Sleeping tag) at = at
 stood_decides t p named task (Leaving group) (plain.Leaving id) at = at
 stood_decides t p named task (Leaving group) (plain.Serving key) at = at
+stood_decides t p named task (Serving key) plain.Asked at = at
+stood_decides t p named task (Serving key) (plain.Sleeping tag) at = at
+stood_decides t p named task (Serving key) (plain.Leaving id) at = at
+stood_decides t p named task (Serving key) (plain.Serving kept) at = at
 
-module _ (task : ℕ) (input : Input) (c : Setting) (body : Body) (s : State (Unit {0})) (h : IsCalled task c body s)
+module _ {X : Type 0} {a : Added X} (task : ℕ) (input : Input) (c : Setting a) (body : Body X) (s : State a.Kept) (h : IsCalled task c body s)
     (v : View) (after : parts v ≡ (begin_step task input (parts body.parts)).parts)
     (beside : v ≡ record body.parts { tasks = v.tasks; running = Some task; called = None }) where
   abbrev stood : plain.Standing
   stood = (generator_of task s).standing
 
   -- the loop's step, before anything is given up
-  abbrev begun : State (Unit {0})
+  abbrev begun : State a.Kept
   begun = unbooked_in (λ p. (begin_step task input p).parts) s
 
   stands_begun : Stands None c (record body { parts = v }) begun
@@ -116,7 +123,7 @@ module _ (task : ℕ) (input : Input) (c : Setting) (body : Body) (s : State (Un
         time = ap (λ (x : View). x.time) beside;
         schedule = ap (λ (x : View). x.schedule) beside;
       }))
-      (leaves_begin task input s.loop.parts) (spares_none s.loop.parts s.futures) (refl, refl)
+      (leaves_begin task input s.loop.parts) (spares_none s.loop.parts (named_in a s)) (refl, refl)
       (ap (λ (x : View). length x.queue.below) beside)
 
   same_parts : given_up stood begun.loop.parts ≡ (begun_by task input s).parts
@@ -132,19 +139,19 @@ module _ (task : ℕ) (input : Input) (c : Setting) (body : Body) (s : State (Un
       given_up_owns stood begun.loop.parts
       (subst OwnsFutures (sym same_parts) (called_asked task c body s h input).others.loop.parts.owns)
 
-  abbrev begun_has : HasSlot None c.coroutine stands_begun.ties body.code body.slots.items begun task
+  abbrev begun_has : HasSlot a None c.coroutine stands_begun.ties body.code body.slots.items begun task
   begun_has = stands_begun.held task begun_lives
 
   some_is : (a b : Slot) → Some a ≡ Some b → a ≡ b
   some_is a b e = cc
 
   module _ (slot : Slot) (coroutine : Gen) (there : slice_get body.slots.items task ≡ Some slot) (its : slot.coroutine ≡ Some coroutine) where
-    stood_at : StandsAt stands_begun.ties begun.loop.parts s.futures task slot.standing (generator_of task s).standing
+    stood_at : StandsAt stands_begun.ties begun.loop.parts (named_in a s) task slot.standing (generator_of task s).standing
     stood_at =
-        subst (λ (x : Slot). StandsAt stands_begun.ties begun.loop.parts s.futures task x.standing (generator_of task s).standing)
+        subst (λ (x : Slot). StandsAt stands_begun.ties begun.loop.parts (named_in a s) task x.standing (generator_of task s).standing)
         (some_is begun_has.slot slot (sym begun_has.found ∙ there)) begun_has.right.standing
 
-    abbrev given : Body
+    abbrev given : Body X
     given = record body { parts = given_up_in slot.standing v }
 
     stands_given : Stands None c given (unbooked_in (λ p. (begun_by task input s).parts) s)
@@ -156,7 +163,7 @@ module _ (task : ℕ) (input : Input) (c : Setting) (body : Body) (s : State (Un
     within : task < next_task (begun_by task input s).parts
     within = subst (λ n. task < n) (sym h.stands.told ∙ stands_given.told) (called_within task c body s h)
 
-    begins_so : (new : Body) → new ≡ record body { parts = given_up_in slot.standing v; slots = new.slots }
+    begins_so : (new : Body X) → new ≡ record body { parts = given_up_in slot.standing v; slots = new.slots }
         → new.slots.items ≡ slice_set body.slots.items task no_slot
         → HasBegun task input c s (record { coroutine = coroutine; standing = slot.standing; input = (begin_step task input (parts body.parts)).input }) new
     begins_so new same items = record {
@@ -164,8 +171,8 @@ module _ (task : ℕ) (input : Input) (c : Setting) (body : Body) (s : State (Un
         in_step = record {
           stands =
               stands_taken c given new (unbooked_in (λ p. (begun_by task input s).parts) s) task slot coroutine stands_given there its within same items;
-          called = ap (λ (x : Body). x.parts.called) same ∙ given_calls slot.standing v ∙ ap (λ (x : View). x.called) beside;
-          running = ap (λ (x : Body). x.parts.running) same ∙ given_runs slot.standing v ∙ ap (λ (x : View). x.running) beside;
+          called = ap (λ (x : Body X). x.parts.called) same ∙ given_calls slot.standing v ∙ ap (λ (x : View). x.called) beside;
+          running = ap (λ (x : Body X). x.parts.running) same ∙ given_runs slot.standing v ∙ ap (λ (x : View). x.running) beside;
         };
         request = (called_asking task c body s h).asked;
         asked = called_asked task c body s h input;
@@ -174,16 +181,16 @@ module _ (task : ℕ) (input : Input) (c : Setting) (body : Body) (s : State (Un
       heard =
           input_kept h.stands.ties body.parts s.loop.parts h.stands.keeps task input
           ∙ given_up_heard (generator_of task s).standing task input s.loop.parts;
-      decides = stood_decides stands_begun.ties begun.loop.parts s.futures task slot.standing (generator_of task s).standing stood_at;
+      decides = stood_decides stands_begun.ties begun.loop.parts (named_in a s) task slot.standing (generator_of task s).standing stood_at;
     }
 
     -- by what taking the coroutine out leaves, and then giving up
-    pub begins_as : (taken new : Body) → taken ≡ record body { parts = v; slots = taken.slots }
+    pub begins_as : (taken new : Body X) → taken ≡ record body { parts = v; slots = taken.slots }
         → taken.slots.items ≡ slice_set body.slots.items task no_slot → new ≡ record taken { parts = given_up_in slot.standing taken.parts }
         → HasBegun task input c s (record { coroutine = coroutine; standing = slot.standing; input = (begin_step task input (parts body.parts)).input }) new
     begins_as taken new beside items gives =
-        begins_so new (whole ∙ ap (λ x. record body { parts = given_up_in slot.standing v; slots = x }) (sym (ap (λ (b : Body). b.slots) whole)))
-        (ap (λ (b : Body). b.slots.items) gives ∙ items)
+        begins_so new (whole ∙ ap (λ x. record body { parts = given_up_in slot.standing v; slots = x }) (sym (ap (λ (b : Body X). b.slots) whole)))
+        (ap (λ (b : Body X). b.slots.items) gives ∙ items)
       where
         whole : new ≡ record body { parts = given_up_in slot.standing v; slots = taken.slots }
-        whole = gives ∙ ap (λ (b : Body). record b { parts = given_up_in slot.standing b.parts }) beside
+        whole = gives ∙ ap (λ (b : Body X). record b { parts = given_up_in slot.standing b.parts }) beside

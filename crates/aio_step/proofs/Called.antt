@@ -4,7 +4,6 @@ use Rattle.model_value.specs.Input.{Input}
 use Rattle.model_value.specs.Value.{Nothing}
 use Rattle.model_value.specs.declared.input.Input.TheVariants.{Send}
 use Rattle.model_loop.specs.Tasks.{lives, next_task}
-use Rattle.model_machine.specs.Extra.{no_extra}
 use Rattle.model_machine.specs.Replies.{decides}
 use Rattle.model_machine.specs.Sound.{IsAsking, sends_made}
 use Rattle.model_machine.specs.State as plain
@@ -12,19 +11,20 @@ use Rattle.model_machine.specs.State.{State, generator_of}
 use Rattle.law_cancel.proofs.Lookups.{get_within}
 use Rattle.law_inside.specs.InStep.{IsAsked, IsLeft, RepliesInStep}
 use Rattle.law_runs.proofs.Beginning.{begins_in, begun_asked, stepped_lives}
-use Rattle.law_runs.proofs.Nothing.{nothing_keeps}
 use Rattle.law_steps.proofs.Waiting.{task_there}
+use Rattle.aio_extra.specs.Added.{Added}
 use Rattle.aio_body.specs.declared.body.Body.{Body}
 use Rattle.aio_body.specs.declared.standing.Slot.{Slot}
 use Rattle.aio_body.specs.Stands.{Setting, HasSlot}
 use Rattle.aio_step.specs.Stepping.{IsCalled, HearsMade, begun_by, begun_in}
+use Rattle.law_body.proofs.Sound.{extra_sound}
 
-module _ (task : ℕ) (c : Setting) (body : Body) (s : State (Unit {0})) (h : IsCalled task c body s) where
+module _ {X : Type 0} {a : Added X} (task : ℕ) (c : Setting a) (body : Body X) (s : State a.Kept) (h : IsCalled task c body s) where
   lived : lives h.before.loop.parts task ≡ true
-  lived = stepped_lives no_extra h.before task (Send Nothing) h.handle h.rest h.pending h.live h.steps h.sound
+  lived = stepped_lives a.meaning h.before task (Send Nothing) h.handle h.rest h.pending h.live h.steps h.sound
 
   pub called_lives : lives s.loop.parts task ≡ true
-  called_lives = subst (λ (x : State (Unit {0})). lives x.loop.parts task ≡ true) (sym h.after) lived
+  called_lives = subst (λ (x : State a.Kept). lives x.loop.parts task ≡ true) (sym h.after) lived
 
   pub called_within : task < next_task s.loop.parts
   called_within = let it = task_there s.loop.parts task called_lives in get_within s.loop.parts.tasks task it.0 it.1
@@ -33,7 +33,7 @@ module _ (task : ℕ) (c : Setting) (body : Body) (s : State (Unit {0})) (h : Is
   called_slot = subst (λ n. task < n) (sym h.stands.made) called_within
 
   -- ---- its slot
-  abbrev pub own_slot : HasSlot None c.coroutine h.stands.ties body.code body.slots.items s task
+  abbrev pub own_slot : HasSlot a None c.coroutine h.stands.ties body.code body.slots.items s task
   own_slot = h.stands.held task called_lives
 
   some_is : (a b : Slot) → Some a ≡ Some b → a ≡ b
@@ -43,29 +43,29 @@ module _ (task : ℕ) (c : Setting) (body : Body) (s : State (Unit {0})) (h : Is
   called_own slot there = some_is slot own_slot.slot (sym there ∙ own_slot.found)
 
   -- ---- what its coroutine asked
-  pub called_asking : IsAsking no_extra h.before task
+  pub called_asking : IsAsking a.meaning h.before task
   called_asking = h.sound.tasks.asking task lived
 
-  pub called_asked : (input : Input) → IsAsked no_extra task (generator_of task s).standing called_asking.asked (begun_in task input s)
+  pub called_asked : (input : Input) → IsAsked a.meaning task (generator_of task s).standing called_asking.asked (begun_in task input s)
   called_asked input =
-      subst (λ (x : State (Unit {0})). IsAsked no_extra task (generator_of task x).standing called_asking.asked (begun_in task input x)) (sym h.after)
-      (begun_asked no_extra h.before task input h.handle h.rest h.pending h.live h.steps h.sound called_asking.asked called_asking.says)
+      subst (λ (x : State a.Kept). IsAsked a.meaning task (generator_of task x).standing called_asking.asked (begun_in task input x)) (sym h.after)
+      (begun_asked a.meaning h.before task input h.handle h.rest h.pending h.live h.steps h.sound called_asking.asked called_asking.says)
 
   -- a group at whose exit it stands goes on being left
   pub called_leaving : (input : Input) (id : ℕ) → (generator_of task s).standing ≡ plain.Leaving id → IsLeft (begun_in task input s) id
   called_leaving input =
-      subst (λ (x : State (Unit {0})). (id : ℕ) → (generator_of task x).standing ≡ plain.Leaving id → IsLeft (begun_in task input x) id) (sym h.after)
+      subst (λ (x : State a.Kept). (id : ℕ) → (generator_of task x).standing ≡ plain.Leaving id → IsLeft (begun_in task input x) id) (sym h.after)
       (h.sound.standing task lived).leaving_now
 
   same_count : length body.slots.items ≡ next_task h.before.loop.parts
-  same_count = h.stands.made ∙ ap (λ (x : State (Unit {0})). next_task x.loop.parts) h.after
+  same_count = h.stands.made ∙ ap (λ (x : State a.Kept). next_task x.loop.parts) h.after
 
   -- what the input means is sound
   pub called_sound : (input : Input) → HearsMade input body
-      → RepliesInStep no_extra true task (decides no_extra (generator_of task s).standing task (begun_by task input s).input (begun_in task input s))
+      → RepliesInStep a.meaning true task (decides a.meaning (generator_of task s).standing task (begun_by task input s).input (begun_in task input s))
   called_sound input made =
-      subst (λ (x : State (Unit {0})).
-      RepliesInStep no_extra true task (decides no_extra (generator_of task x).standing task (begun_by task input x).input (begun_in task input x)))
+      subst (λ (x : State a.Kept).
+      RepliesInStep a.meaning true task (decides a.meaning (generator_of task x).standing task (begun_by task input x).input (begun_in task input x)))
       (sym h.after)
-      (begins_in no_extra h.before task input h.handle h.rest h.pending h.live h.steps h.sound nothing_keeps
+      (begins_in a.meaning h.before task input h.handle h.rest h.pending h.live h.steps h.sound (extra_sound a)
       (ap (λ n. sends_made n input) (sym same_count) ∙ made))

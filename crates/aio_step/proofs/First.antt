@@ -5,7 +5,7 @@ use Rattle.model_value.specs.Input.{Input}
 use Rattle.model_value.specs.Value.{Value, Exc}
 use Rattle.model_value.specs.declared.input.Input.TheVariants.{Send, Throw}
 use Rattle.model_loop.specs.Tasks.{lives, next_task}
-use Rattle.model_machine.specs.Extra.{no_extra}
+use Rattle.model_machine.specs.Extra.{Extra}
 use Rattle.model_machine.specs.Replies as machine
 use Rattle.model_machine.specs.Replies.{decides, replied}
 use Rattle.model_machine.specs.Sound.{IsStateSound}
@@ -18,10 +18,11 @@ use Rattle.law_inside.specs.InStep.{RepliesInStep}
 use Rattle.law_machine.proofs.Kept.{reply_state, decides-keeps}
 use Rattle.aio_timer.specs.declared.live.TimerId.{TimerId}
 use Rattle.aio_gen.specs.declared.generator.Gen.{Gen}
+use Rattle.aio_extra.specs.Added.{Added}
 use Rattle.aio_body.specs.declared.body.Body.{Body}
 use Rattle.aio_body.specs.declared.reply.Reply.{Reply}
 use Rattle.aio_body.specs.declared.reply.Reply.TheVariants as said
-use Rattle.aio_body.specs.declared.standing.Standing.TheVariants.{Asked, Sleeping, Leaving}
+use Rattle.aio_body.specs.declared.standing.Standing.TheVariants.{Asked, Sleeping, Leaving, Serving}
 use Rattle.aio_body.specs.Asked.{IsInStep, HasRested, IsDeciding, Says}
 use Rattle.aio_body.specs.Outcomes.{reply_of}
 use Rattle.aio_body.specs.Stands.{Setting, holding}
@@ -29,25 +30,26 @@ use Rattle.aio_step.specs.declared.steps.Started.{Started}
 use Rattle.aio_step.specs.Stepping.{DecidesAs, HasBegun, HearsMade, IsCalled, IsServing, begun_by, begun_in}
 use Rattle.aio_step.proofs.Called.{called_sound}
 
--- ---- what it means
-pub says_replied : (task : ℕ) (c : Setting) (body : Body) (s : State (Unit {0})) (input : Input) → IsInStep task c body s
-    → Says task c body (reply_of input) (replied input s)
-says_replied task c body s (Send value) h = (refl, h)
-says_replied task c body s (Throw fault) h = (refl, h)
+module _ {X : Type 0} {a : Added X} where
+  -- ---- what it means
+  pub says_replied : (task : ℕ) (c : Setting a) (body : Body X) (s : State a.Kept) (input : Input) → IsInStep task c body s
+      → Says task c body (reply_of input) (replied input s)
+  says_replied task c body s (Send value) h = (refl, h)
+  says_replied task c body s (Throw fault) h = (refl, h)
 
-pub asked_decides : (task : ℕ) (c : Setting) (body : Body) (s : State (Unit {0})) (input : Input) (stood : plain.Standing) → DecidesAs Asked stood
-    → IsInStep task c body s → Says task c body (reply_of input) (decides no_extra stood task input s)
-asked_decides task c body s input plain.Asked d h = says_replied task c body s input h
-asked_decides task c body s input (plain.Sleeping tag) d h = absurd d
-asked_decides task c body s input (plain.Leaving id) d h = absurd d
-asked_decides task c body s input (plain.Serving key) d h = absurd d
+  pub asked_decides : (task : ℕ) (c : Setting a) (body : Body X) (s : State a.Kept) (input : Input) (stood : plain.Standing) → DecidesAs Asked stood
+      → IsInStep task c body s → Says task c body (reply_of input) (decides a.meaning stood task input s)
+  asked_decides task c body s input plain.Asked d h = says_replied task c body s input h
+  asked_decides task c body s input (plain.Sleeping tag) d h = absurd d
+  asked_decides task c body s input (plain.Leaving id) d h = absurd d
+  asked_decides task c body s input (plain.Serving key) d h = absurd d
 
-pub sleeping_decides : (timer : TimerId) (future : ℕ) (task : ℕ) (c : Setting) (body : Body) (s : State (Unit {0})) (input : Input) (stood : plain.Standing)
-    → DecidesAs (Sleeping timer future) stood → IsInStep task c body s → Says task c body (reply_of input) (decides no_extra stood task input s)
-sleeping_decides timer future task c body s input plain.Asked d h = absurd d
-sleeping_decides timer future task c body s input (plain.Sleeping tag) d h = says_replied task c body s input h
-sleeping_decides timer future task c body s input (plain.Leaving id) d h = absurd d
-sleeping_decides timer future task c body s input (plain.Serving key) d h = absurd d
+  pub sleeping_decides : (timer : TimerId) (future : ℕ) (task : ℕ) (c : Setting a) (body : Body X) (s : State a.Kept) (input : Input) (stood : plain.Standing)
+      → DecidesAs (Sleeping timer future) stood → IsInStep task c body s → Says task c body (reply_of input) (decides a.meaning stood task input s)
+  sleeping_decides timer future task c body s input plain.Asked d h = absurd d
+  sleeping_decides timer future task c body s input (plain.Sleeping tag) d h = says_replied task c body s input h
+  sleeping_decides timer future task c body s input (plain.Leaving id) d h = absurd d
+  sleeping_decides timer future task c body s input (plain.Serving key) d h = absurd d
 
 pub leaving_is : (group : ℕ) (stood : plain.Standing) → DecidesAs (Leaving group) stood → plain.Leaving group ≡ stood
 leaving_is group plain.Asked d = absurd d
@@ -55,32 +57,49 @@ leaving_is group (plain.Sleeping tag) d = absurd d
 leaving_is group (plain.Leaving id) d = ap plain.Leaving d
 leaving_is group (plain.Serving key) d = absurd d
 
-pub leaving_decides : (group : ℕ) (task : ℕ) (c : Setting) (old new : Body) (s : State (Unit {0})) (input : Input) (it : Reply) (stood : plain.Standing)
-    → DecidesAs (Leaving group) stood → IsDeciding task stood c old s
-    → (IsDeciding task (plain.Leaving group) c old s → Says task c new it (decides no_extra (plain.Leaving group) task input s))
-    → Says task c new it (decides no_extra stood task input s)
-leaving_decides group task c old new s input it stood d h go =
-    subst (λ st. Says task c new it (decides no_extra st task input s)) (leaving_is group stood d)
-    (go (subst (λ st. IsDeciding task st c old s) (sym (leaving_is group stood d)) h))
+module _ {X : Type 0} {a : Added X} where
+  pub leaving_decides : (group : ℕ) (task : ℕ) (c : Setting a) (old new : Body X) (s : State a.Kept) (input : Input) (it : Reply) (stood : plain.Standing)
+      → DecidesAs (Leaving group) stood → IsDeciding task stood c old s
+      → (IsDeciding task (plain.Leaving group) c old s → Says task c new it (decides a.meaning (plain.Leaving group) task input s))
+      → Says task c new it (decides a.meaning stood task input s)
+  leaving_decides group task c old new s input it stood d h go =
+      subst (λ st. Says task c new it (decides a.meaning st task input s)) (leaving_is group stood d)
+      (go (subst (λ st. IsDeciding task st c old s) (sym (leaving_is group stood d)) h))
+
+pub serving_is : (key : ℕ) (stood : plain.Standing) → DecidesAs (Serving key) stood → plain.Serving key ≡ stood
+serving_is key plain.Asked d = absurd d
+serving_is key (plain.Sleeping tag) d = absurd d
+serving_is key (plain.Leaving id) d = absurd d
+serving_is key (plain.Serving kept) d = ap plain.Serving d
+
+module _ {X : Type 0} {a : Added X} where
+  pub serving_decides : (key : ℕ) (task : ℕ) (c : Setting a) (old new : Body X) (s : State a.Kept) (input : Input) (it : Reply) (stood : plain.Standing)
+      → DecidesAs (Serving key) stood → IsDeciding task stood c old s
+      → (IsDeciding task (plain.Serving key) c old s → Says task c new it (decides a.meaning (plain.Serving key) task input s))
+      → Says task c new it (decides a.meaning stood task input s)
+  serving_decides key task c old new s input it stood d h go =
+      subst (λ st. Says task c new it (decides a.meaning st task input s)) (serving_is key stood d)
+      (go (subst (λ st. IsDeciding task st c old s) (sym (serving_is key stood d)) h))
 
 -- ---- how the step goes on
--- the coroutine is resumed
-pub record Resumes (task : ℕ) (next : Input) (c : Setting) (body : Body) (coroutine : Gen) (it : machine.Reply (Unit {0})) : Type 0 where
-  pub now : State (Unit {0})
-  pub serving : IsServing task true next c body coroutine now
-  pub goes : (go_on : State (Unit {0}) → Went (Unit {0})) → taken_as it true task go_on ≡ go_on (resumed true task next now)
+module _ {X : Type 0} {a : Added X} where
+  -- the coroutine is resumed
+  pub record Resumes (task : ℕ) (next : Input) (c : Setting a) (body : Body X) (coroutine : Gen) (it : machine.Reply a.Kept) : Type 0 where
+    pub now : State a.Kept
+    pub serving : IsServing task true next c body coroutine now
+    pub goes : (go_on : State a.Kept → Went a.Kept) → taken_as it true task go_on ≡ go_on (resumed true task next now)
 
--- or waits on
-pub record WaitsOn (task : ℕ) (c : Setting) (body : Body) (it : machine.Reply (Unit {0})) : Type 0 where
-  pub now : State (Unit {0})
-  pub rested : HasRested task c body now
-  pub sound : IsStateSound no_extra now
-  pub kept : reply_state it ≡ now
-  pub goes : (go_on : State (Unit {0}) → Went (Unit {0})) → taken_as it true task go_on ≡ Goes now
+  -- or waits on
+  pub record WaitsOn (task : ℕ) (c : Setting a) (body : Body X) (it : machine.Reply a.Kept) : Type 0 where
+    pub now : State a.Kept
+    pub rested : HasRested task c body now
+    pub sound : IsStateSound a.meaning now
+    pub kept : reply_state it ≡ now
+    pub goes : (go_on : State a.Kept → Went a.Kept) → taken_as it true task go_on ≡ Goes now
 
-module _ (task : ℕ) (c : Setting) (body : Body) (coroutine : Gen) where
-  pub answers_so : (value : Value) (it : machine.Reply (Unit {0})) → Says task (holding coroutine c) body (said.Answers value) it
-      → RepliesInStep no_extra true task it → Resumes task (Send value) c body coroutine it
+module _ {X : Type 0} {a : Added X} (task : ℕ) (c : Setting a) (body : Body X) (coroutine : Gen) where
+  pub answers_so : (value : Value) (it : machine.Reply a.Kept) → Says task (holding coroutine c) body (said.Answers value) it
+      → RepliesInStep a.meaning true task it → Resumes task (Send value) c body coroutine it
   answers_so value (machine.Answers v now) h sound =
       subst (λ x. Resumes task (Send x) c body coroutine (machine.Answers v now)) (sym h.0) (record {
         now = now;
@@ -91,8 +110,8 @@ module _ (task : ℕ) (c : Setting) (body : Body) (coroutine : Gen) where
   answers_so value (machine.Rests now) h sound = absurd h
   answers_so value (machine.Halts end last) h sound = absurd h
 
-  pub raises_so : (fault : Exc) (it : machine.Reply (Unit {0})) → Says task (holding coroutine c) body (said.Raises fault) it
-      → RepliesInStep no_extra true task it → Resumes task (Throw fault) c body coroutine it
+  pub raises_so : (fault : Exc) (it : machine.Reply a.Kept) → Says task (holding coroutine c) body (said.Raises fault) it
+      → RepliesInStep a.meaning true task it → Resumes task (Throw fault) c body coroutine it
   raises_so fault (machine.Raises f now) h sound =
       subst (λ x. Resumes task (Throw x) c body coroutine (machine.Raises f now)) (sym h.0) (record {
         now = now;
@@ -103,7 +122,7 @@ module _ (task : ℕ) (c : Setting) (body : Body) (coroutine : Gen) where
   raises_so fault (machine.Rests now) h sound = absurd h
   raises_so fault (machine.Halts end last) h sound = absurd h
 
-  pub rests_so : (it : machine.Reply (Unit {0})) → Says task (holding coroutine c) body said.Rests it → RepliesInStep no_extra true task it
+  pub rests_so : (it : machine.Reply a.Kept) → Says task (holding coroutine c) body said.Rests it → RepliesInStep a.meaning true task it
       → WaitsOn task (holding coroutine c) body it
   rests_so (machine.Rests now) h sound = record { now = now; rested = h; sound = sound; kept = refl; goes = λ go_on. refl }
   rests_so (machine.Answers value now) h sound = absurd h
@@ -112,45 +131,45 @@ module _ (task : ℕ) (c : Setting) (body : Body) (coroutine : Gen) where
 
 -- ---- from a step that has begun
 -- what the machine decides
-abbrev pub decided : ℕ → Input → State (Unit {0}) → machine.Reply (Unit {0})
-decided task input s = decides no_extra (generator_of task s).standing task (begun_by task input s).input (begun_in task input s)
+abbrev pub decided : {S : Type 0} (added : Extra S) → ℕ → Input → State S → machine.Reply S
+decided added task input s = decides added (generator_of task s).standing task (begun_by task input s).input (begun_in task input s)
 
 -- what the code decides
-abbrev pub Decides : (task : ℕ) → Started → (begun new : Body) → Reply → Type 0
-Decides task started begun new it =
-    (c : Setting) (s : State (Unit {0})) (stood : plain.Standing) → IsDeciding task stood c begun s → DecidesAs started.standing stood
-    → Says task c new it (decides no_extra stood task started.input s)
+abbrev pub Decides : {X : Type 0} → (a : Added X) → (task : ℕ) → Started → (begun new : Body X) → Reply → Type 0
+Decides a task started begun new it =
+    (c : Setting a) (s : State a.Kept) (stood : plain.Standing) → IsDeciding task stood c begun s → DecidesAs started.standing stood
+    → Says task c new it (decides a.meaning stood task started.input s)
 
-module _ (task : ℕ) (input : Input) (c : Setting) (old : Body) (s : State (Unit {0})) (h : IsCalled task c old s) (made : HearsMade input old)
-    (started : Started) (begun : Body) (b : HasBegun task input c s started begun) (body : Body) where
-  says_decided : (it : Reply) → Decides task started begun body it → Says task (holding started.coroutine c) body it (decided task input s)
+module _ {X : Type 0} {a : Added X} (task : ℕ) (input : Input) (c : Setting a) (old : Body X) (s : State a.Kept) (h : IsCalled task c old s)
+    (made : HearsMade input old) (started : Started) (begun : Body X) (b : HasBegun task input c s started begun) (body : Body X) where
+  says_decided : (it : Reply) → Decides a task started begun body it → Says task (holding started.coroutine c) body it (decided a.meaning task input s)
   says_decided it d =
-      subst (λ x. Says task (holding started.coroutine c) body it (decides no_extra (generator_of task s).standing task x (begun_in task input s))) b.heard
+      subst (λ x. Says task (holding started.coroutine c) body it (decides a.meaning (generator_of task s).standing task x (begun_in task input s))) b.heard
       (d (holding started.coroutine c) (begun_in task input s) (generator_of task s).standing b.deciding b.decides)
 
-  sound : RepliesInStep no_extra true task (decided task input s)
+  sound : RepliesInStep a.meaning true task (decided a.meaning task input s)
   sound = called_sound task c old s h input made
 
-  pub answers_first : (value : Value) → Decides task started begun body (said.Answers value)
-      → Resumes task (Send value) c body started.coroutine (decided task input s)
-  answers_first value d = answers_so task c body started.coroutine value (decided task input s) (says_decided (said.Answers value) d) sound
+  pub answers_first : (value : Value) → Decides a task started begun body (said.Answers value)
+      → Resumes task (Send value) c body started.coroutine (decided a.meaning task input s)
+  answers_first value d = answers_so task c body started.coroutine value (decided a.meaning task input s) (says_decided (said.Answers value) d) sound
 
-  pub raises_first : (fault : Exc) → Decides task started begun body (said.Raises fault)
-      → Resumes task (Throw fault) c body started.coroutine (decided task input s)
-  raises_first fault d = raises_so task c body started.coroutine fault (decided task input s) (says_decided (said.Raises fault) d) sound
+  pub raises_first : (fault : Exc) → Decides a task started begun body (said.Raises fault)
+      → Resumes task (Throw fault) c body started.coroutine (decided a.meaning task input s)
+  raises_first fault d = raises_so task c body started.coroutine fault (decided a.meaning task input s) (says_decided (said.Raises fault) d) sound
 
-  pub rests_first : Decides task started begun body said.Rests → WaitsOn task (holding started.coroutine c) body (decided task input s)
-  rests_first d = rests_so task c body started.coroutine (decided task input s) (says_decided said.Rests d) sound
+  pub rests_first : Decides a task started begun body said.Rests → WaitsOn task (holding started.coroutine c) body (decided a.meaning task input s)
+  rests_first d = rests_so task c body started.coroutine (decided a.meaning task input s) (says_decided said.Rests d) sound
 
   -- the task was made before
-  pub made_first : WaitsOn task (holding started.coroutine c) body (decided task input s) → task < length body.slots.items
+  pub made_first : WaitsOn task (holding started.coroutine c) body (decided a.meaning task input s) → task < length body.slots.items
   made_first w =
       let living = b.deciding.asked.others.loop.parts.runs task (eq-eqb task task refl) in
       let there = within (begun_in task input s) living b.deciding.asked.others.generators in
-      let more = (decides-keeps no_extra (generator_of task s).standing task (begun_by task input s).input (begun_in task input s)).generators in
-      let same : length (reply_state (decided task input s)).generators ≡ length body.slots.items =
-      ap (λ (x : State (Unit {0})). length x.generators) w.kept ∙ w.rested.stands.told ∙ sym w.rested.stands.made in
+      let more = (decides-keeps a.meaning (generator_of task s).standing task (begun_by task input s).input (begun_in task input s)).generators in
+      let same : length (reply_state (decided a.meaning task input s)).generators ≡ length body.slots.items =
+      ap (λ (x : State a.Kept). length x.generators) w.kept ∙ w.rested.stands.told ∙ sym w.rested.stands.made in
       omega (arith, there, more, same)
     where
-      within : (t : State (Unit {0})) → lives t.loop.parts task ≡ true → length t.generators ≡ next_task t.loop.parts → task < length t.generators
+      within : (t : State a.Kept) → lives t.loop.parts task ≡ true → length t.generators ≡ next_task t.loop.parts → task < length t.generators
       within t living count = subst (λ n. task < n) (sym count) (lives_within t.loop.parts task living)

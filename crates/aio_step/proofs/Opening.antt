@@ -20,9 +20,10 @@ use Rattle.aio_ready.specs.Queue.{Queue}
 use Rattle.aio_ready.specs.Names.{marked}
 use Rattle.aio_ready.specs.declared.handle.Name.{Name}
 use Rattle.aio_task.specs.View.{View}
+use Rattle.aio_extra.specs.Added.{Added, named_in}
 use Rattle.aio_body.specs.declared.body.Body.{Body}
 use Rattle.aio_body.specs.declared.standing.Standing.{Standing}
-use Rattle.aio_body.specs.declared.standing.Standing.TheVariants.{Asked, Sleeping, Leaving}
+use Rattle.aio_body.specs.declared.standing.Standing.TheVariants.{Asked, Sleeping, Leaving, Serving}
 use Rattle.aio_body.specs.GivingUp.{given_up_in, let_go_if, timer_cancelled}
 use Rattle.aio_body.specs.Stands.{Setting, Stands, StandsAt}
 use Rattle.aio_step.proofs.Beginning.{change_revoke, stands_released}
@@ -61,38 +62,44 @@ done_at (Some future) e = at future.outcome e
     at None e = absurd (cc)
     at (Some it) e = refl
 
--- A state in which the task waits for nothing: what it stood at is given up, in code and in the machine.
-pub gives_up : (c : Setting) (body : Body) (s : State (Unit {0})) (task : ℕ) (code : Standing) (standing : plain.Standing) → (h : Stands None c body s)
-    → OwnsFutures s.loop.parts → StandsAt h.ties s.loop.parts s.futures task code standing → waiter_of s.loop.parts task ≡ None
-    → Stands None c (record body { parts = given_up_in code body.parts }) (unbooked_in (given_up standing) s)
-gives_up c body s task Asked plain.Asked h owns at none = h
-gives_up c body s task Asked (plain.Sleeping tag) h owns at none = absurd at
-gives_up c body s task Asked (plain.Leaving id) h owns at none = absurd at
-gives_up c body s task Asked (plain.Serving key) h owns at none = absurd at
-gives_up c body s task (Leaving group) plain.Asked h owns at none = absurd at
-gives_up c body s task (Leaving group) (plain.Sleeping tag) h owns at none = absurd at
-gives_up c body s task (Leaving group) (plain.Leaving id) h owns at none = h
-gives_up c body s task (Leaving group) (plain.Serving key) h owns at none = absurd at
-gives_up c body s task (Sleeping timer future) plain.Asked h owns at none = absurd at
-gives_up c body s task (Sleeping timer future) (plain.Leaving id) h owns at none = absurd at
-gives_up c body s task (Sleeping timer future) (plain.Serving key) h owns at none = absurd at
-gives_up c body s task (Sleeping timer future) (plain.Sleeping tag) h owns at none = go (is_some (outcome_at (slice_get body.parts.futures future))) refl
-  where
-    p : Parts
-    p = s.loop.parts
+module _ {X : Type 0} {a : Added X} where
+  -- A state in which the task waits for nothing: what it stood at is given up, in code and in the machine.
+  pub gives_up : (c : Setting a) (body : Body X) (s : State a.Kept) (task : ℕ) (code : Standing) (standing : plain.Standing) → (h : Stands None c body s)
+      → OwnsFutures s.loop.parts → StandsAt h.ties s.loop.parts (named_in a s) task code standing → waiter_of s.loop.parts task ≡ None
+      → Stands None c (record body { parts = given_up_in code body.parts }) (unbooked_in (given_up standing) s)
+  gives_up c body s task Asked plain.Asked h owns at none = h
+  gives_up c body s task Asked (plain.Sleeping tag) h owns at none = absurd at
+  gives_up c body s task Asked (plain.Leaving id) h owns at none = absurd at
+  gives_up c body s task Asked (plain.Serving key) h owns at none = absurd at
+  gives_up c body s task (Leaving group) plain.Asked h owns at none = absurd at
+  gives_up c body s task (Leaving group) (plain.Sleeping tag) h owns at none = absurd at
+  gives_up c body s task (Leaving group) (plain.Leaving id) h owns at none = h
+  gives_up c body s task (Leaving group) (plain.Serving key) h owns at none = absurd at
+  gives_up c body s task (Serving key) plain.Asked h owns at none = absurd at
+  gives_up c body s task (Serving key) (plain.Sleeping tag) h owns at none = absurd at
+  gives_up c body s task (Serving key) (plain.Leaving id) h owns at none = absurd at
+  gives_up c body s task (Serving key) (plain.Serving kept) h owns at none = h
+  gives_up c body s task (Sleeping timer future) plain.Asked h owns at none = absurd at
+  gives_up c body s task (Sleeping timer future) (plain.Leaving id) h owns at none = absurd at
+  gives_up c body s task (Sleeping timer future) (plain.Serving key) h owns at none = absurd at
+  gives_up c body s task (Sleeping timer future) (plain.Sleeping tag) h owns at none = go (is_some (outcome_at (slice_get body.parts.futures future))) refl
+    where
+      p : Parts
+      p = s.loop.parts
 
-    cancelled : View
-    cancelled = timer_cancelled timer body.parts
+      cancelled : View
+      cancelled = timer_cancelled timer body.parts
 
-    revoked : Stands None c (record body { parts = cancelled }) (unbooked_in (revoke tag) s)
-    revoked =
-        stands_on None None c body s cancelled (in_parts (revoke tag)) h (kept_revoked h.ties body.parts p h.keeps tag timer at.0) (leaves_revoke tag p)
-        (spares_none p s.futures) (refl, refl) (below_cancelled (schedule.lives timer body.parts.schedule.live) (name.Timer timer.number) body.parts.queue)
+      revoked : Stands None c (record body { parts = cancelled }) (unbooked_in (revoke tag) s)
+      revoked =
+          stands_on None None c body s cancelled (in_parts (revoke tag)) h (kept_revoked h.ties body.parts p h.keeps tag timer at.0) (leaves_revoke tag p)
+          (spares_none p (named_in a s)) (refl, refl)
+          (below_cancelled (schedule.lives timer body.parts.schedule.live) (name.Timer timer.number) body.parts.queue)
 
-    go : (b : Bool) → is_some (outcome_at (slice_get body.parts.futures future)) ≡ b
-        → Stands None c (record body { parts = let_go_if b future cancelled }) (unbooked_in (revoke tag) s)
-    go false e = revoked
-    go true e =
-        stands_released None c (record body { parts = cancelled }) (unbooked_in (revoke tag) s) task future revoked owns
-        (own_on None p (revoke tag p) s.futures (Some task) future (leaves_revoke tag p) (spares_none p s.futures) at.1) none
-        (sym (pending_kept h.ties body.parts p h.keeps future) ∙ done_at (slice_get body.parts.futures future) e)
+      go : (b : Bool) → is_some (outcome_at (slice_get body.parts.futures future)) ≡ b
+          → Stands None c (record body { parts = let_go_if b future cancelled }) (unbooked_in (revoke tag) s)
+      go false e = revoked
+      go true e =
+          stands_released None c (record body { parts = cancelled }) (unbooked_in (revoke tag) s) task future revoked owns
+          (own_on None p (revoke tag p) (named_in a s) (Some task) future (leaves_revoke tag p) (spares_none p (named_in a s)) at.1) none
+          (sym (pending_kept h.ties body.parts p h.keeps future) ∙ done_at (slice_get body.parts.futures future) e)

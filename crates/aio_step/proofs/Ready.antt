@@ -13,10 +13,11 @@ use Rattle.aio_gen.specs.declared.generator.Gen.{Gen}
 use Rattle.aio_task.specs.Keeps.{Ties, Keeps}
 use Rattle.aio_task.specs.View.{View}
 use Rattle.aio_timer.specs.declared.live.TimerId.{TimerId}
+use Rattle.aio_extra.specs.Added.{Added, named_in}
 use Rattle.aio_body.specs.declared.body.Body.{Body}
 use Rattle.aio_body.specs.declared.standing.Slot.{Slot}
 use Rattle.aio_body.specs.declared.standing.Standing.{Standing}
-use Rattle.aio_body.specs.declared.standing.Standing.TheVariants.{Asked, Sleeping, Leaving}
+use Rattle.aio_body.specs.declared.standing.Standing.TheVariants.{Asked, Sleeping, Leaving, Serving}
 use Rattle.aio_body.specs.Asked.{IsDeciding, MayDecide}
 use Rattle.aio_body.specs.GivingUp.{IsNoTasks}
 use Rattle.aio_body.specs.Stands.{Setting, StandsAt, WaitsAs, holding}
@@ -24,10 +25,10 @@ use Rattle.law_body.proofs.May.{same_prop}
 use Rattle.aio_step.specs.declared.steps.Started.{Started}
 use Rattle.aio_step.specs.Stepping.{HasBegun, IsCalled, MayBegin, MayDecideAs, begun_in}
 use Rattle.aio_step.proofs.Called.{called_own, called_slot, own_slot}
-use Rattle.aio_step.proofs.First.{leaving_is}
+use Rattle.aio_step.proofs.First.{leaving_is, serving_is}
 
 -- ---- a step begins
-module _ (task : ℕ) (body : Body) (may : MayBegin task body) where
+module _ {X : Type 0} {a : Added X} (task : ℕ) (body : Body X) (may : MayBegin a task body) where
   pub begin_called : body.parts.called ≡ Some task
   begin_called = ∥∥₁_elim may (same_prop body.parts.called (Some task)) (λ w. w.1.1.called)
 
@@ -38,7 +39,7 @@ module _ (task : ℕ) (body : Body) (may : MayBegin task body) where
   begin_there = ∥∥₁_elim may le_prop (λ w. called_slot task w.0 body w.1.0 w.1.1)
 
   -- the future of a sleep is no task's
-  at_sleep : (t : Ties) (p : Parts) (named : List ℕ) (timer : TimerId) (future : ℕ) (v : View) → Keeps t v p → (standing : plain.Standing)
+  at_sleep : (t : Ties) (p : Parts) (named : ℕ → Type 0) (timer : TimerId) (future : ℕ) (v : View) → Keeps t v p → (standing : plain.Standing)
       → StandsAt t p named task (Sleeping timer future) standing → owner_at (slice_get v.futures future) ≡ None
   at_sleep t p named timer future v k (plain.Sleeping tag) at = owner_kept t v p k future (plain_within p future at.1.plain).0
   at_sleep t p named timer future v k plain.Asked at = absurd at
@@ -51,8 +52,8 @@ module _ (task : ℕ) (body : Body) (may : MayBegin task body) where
       ∥∥₁_elim may (same_prop (owner_at (slice_get body.parts.futures future)) None) (λ w.
       let h : IsCalled task w.0 body w.1.0 = w.1.1 in
       let has = own_slot task w.0 body w.1.0 h in
-      at_sleep h.stands.ties w.1.0.loop.parts w.1.0.futures timer future body.parts h.stands.keeps (generator_of task w.1.0).standing
-      (subst (λ x. StandsAt h.stands.ties w.1.0.loop.parts w.1.0.futures task x (generator_of task w.1.0).standing)
+      at_sleep h.stands.ties w.1.0.loop.parts (named_in a w.1.0) timer future body.parts h.stands.keeps (generator_of task w.1.0).standing
+      (subst (λ x. StandsAt h.stands.ties w.1.0.loop.parts (named_in a w.1.0) task x (generator_of task w.1.0).standing)
       (sym (ap (λ (x : Slot). x.standing) (called_own task w.0 body w.1.0 h slot there)) ∙ e) has.right.standing))
 
   pub begin_no_task : (v : View) → v.futures ≡ body.parts.futures → (slot : Slot) → slice_get body.slots.items task ≡ Some slot
@@ -62,6 +63,7 @@ module _ (task : ℕ) (body : Body) (may : MayBegin task body) where
       at : (standing : Standing) → slot.standing ≡ standing → IsNoTasks standing v
       at Asked e = tt
       at (Leaving group) e = tt
+      at (Serving key) e = tt
       at (Sleeping timer future) e = ap (λ fs. owner_at (slice_get fs future)) same ∙ of_sleep timer future slot e there
 
   -- there is a coroutine
@@ -71,17 +73,22 @@ module _ (task : ℕ) (body : Body) (may : MayBegin task body) where
       let has = own_slot task w.0 body w.1.0 w.1.1 in
       no_waits w.1.0 has.slot.coroutine (sym (ap (λ (x : Slot). x.coroutine) (called_own task w.0 body w.1.0 w.1.1 slot there)) ∙ none) has.right.waits)
     where
-      no_waits : (s : State (Unit {0})) (o : Option Gen) → o ≡ None → WaitsAs s.program body.code (generator_of task s) o → ⊥
+      no_waits : (s : State a.Kept) (o : Option Gen) → o ≡ None → WaitsAs s.program body.code (generator_of task s) o → ⊥
       no_waits s None e h = h
       no_waits s (Some coroutine) e h = absurd (cc)
 
--- ---- what its input means
-pub decide_of : (task : ℕ) (input : Input) (old new : Body) (started : Started) → MayBegin task old
-    → ((c : Setting) (s : State (Unit {0})) → IsCalled task c old s → HasBegun task input c s started new) → MayDecideAs task started.standing new
-decide_of task input old new started may begun =
-    ∥∥₁_map may (λ w. let b = begun w.0 w.1.0 w.1.1 in
-    ((generator_of task w.1.0).standing, (b.decides, (holding started.coroutine w.0, (begun_in task input w.1.0, b.deciding)))))
+module _ {X : Type 0} {a : Added X} where
+  -- ---- what its input means
+  pub decide_of : (task : ℕ) (input : Input) (old new : Body X) (started : Started) → MayBegin a task old
+      → ((c : Setting a) (s : State a.Kept) → IsCalled task c old s → HasBegun task input c s started new) → MayDecideAs a task started.standing new
+  decide_of task input old new started may begun =
+      ∥∥₁_map may (λ w. let b = begun w.0 w.1.0 w.1.1 in
+      ((generator_of task w.1.0).standing, (b.decides, (holding started.coroutine w.0, (begun_in task input w.1.0, b.deciding)))))
 
-pub leave_of : (task group : ℕ) (body : Body) → MayDecideAs task (Leaving group) body → MayDecide task (plain.Leaving group) body
-leave_of task group body may =
-    ∥∥₁_map may (λ w. (w.1.1.0, (w.1.1.1.0, subst (λ st. IsDeciding task st w.1.1.0 body w.1.1.1.0) (sym (leaving_is group w.0 w.1.0)) w.1.1.1.1)))
+  pub leave_of : (task group : ℕ) (body : Body X) → MayDecideAs a task (Leaving group) body → MayDecide a task (plain.Leaving group) body
+  leave_of task group body may =
+      ∥∥₁_map may (λ w. (w.1.1.0, (w.1.1.1.0, subst (λ st. IsDeciding task st w.1.1.0 body w.1.1.1.0) (sym (leaving_is group w.0 w.1.0)) w.1.1.1.1)))
+
+  pub wake_of : (task key : ℕ) (body : Body X) → MayDecideAs a task (Serving key) body → MayDecide a task (plain.Serving key) body
+  wake_of task key body may =
+      ∥∥₁_map may (λ w. (w.1.1.0, (w.1.1.1.0, subst (λ st. IsDeciding task st w.1.1.0 body w.1.1.1.0) (sym (serving_is key w.0 w.1.0)) w.1.1.1.1)))

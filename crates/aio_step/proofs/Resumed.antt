@@ -10,7 +10,6 @@ use Rattle.model_says.specs.Endings.{Saying}
 use Rattle.model_says.specs.Says.{says, step_limit}
 use Rattle.model_says.specs.Tape.{Tape}
 use Rattle.model_loop.specs.Tasks.{finish}
-use Rattle.model_machine.specs.Extra.{no_extra}
 use Rattle.model_machine.specs.Replies.{reply}
 use Rattle.model_machine.specs.State.{State, resumed}
 use Rattle.model_machine.specs.Step.{says_of, served}
@@ -21,6 +20,7 @@ use Rattle.aio_gen.specs.declared.generator.Gen.{Gen}
 use Rattle.aio_gen.specs.declared.generator.GenOut.{GenOut}
 use Rattle.aio_gen.specs.declared.generator.GenOut.TheVariants.{Asks, Returns, Raises, Runaway}
 use Rattle.aio_task.specs.View.{View, parts}
+use Rattle.aio_extra.specs.Added.{Added}
 use Rattle.aio_body.specs.declared.body.Body.{Body}
 use Rattle.aio_body.specs.declared.reply.Reply.{Reply}
 use Rattle.aio_body.specs.Asked.{IsAsking, MayAsk, Says}
@@ -31,12 +31,13 @@ use Rattle.law_body.proofs.Sound.{raised_sound, requests_sound, returned_sound}
 use Rattle.aio_step.specs.Stepping.{EndsAt, IsServing, MayServe, RunsAway, ServesOne, served_by}
 use Rattle.aio_step.proofs.Resuming.{asks_out, ends_out, its_inside, runs_out, says_out}
 use Rattle.aio_step.proofs.Serving.{answered}
+use Rattle.law_body.proofs.Sound.{extra_sound}
 
-module _ (task : ℕ) (fresh : Bool) (input : Input) (body : Body) (before : Gen) where
-  pub serve_idle : MayServe task fresh input body before → body.parts.called ≡ None
+module _ {X : Type 0} {a : Added X} (task : ℕ) (fresh : Bool) (input : Input) (body : Body X) (before : Gen) where
+  pub serve_idle : MayServe a task fresh input body before → body.parts.called ≡ None
   serve_idle may = ∥∥₁_elim may (same_prop body.parts.called None) (λ w. w.1.1.in_step.called)
 
-  pub serve_runs : MayServe task fresh input body before → body.parts.running ≡ Some task
+  pub serve_runs : MayServe a task fresh input body before → body.parts.running ≡ Some task
   serve_runs may = ∥∥₁_elim may (same_prop body.parts.running (Some task)) (λ w. w.1.1.in_step.running)
 
   module _ (now : Gen) (out : GenOut)
@@ -46,12 +47,12 @@ module _ (task : ℕ) (fresh : Bool) (input : Input) (body : Body) (before : Gen
       (stands : (program : Program) (coroutine : ℕ) (arguments : List Value) (tape : Tape) → IsCodeOf program body.code
       → StandsFor program body.code coroutine arguments tape before → (request : Request) → out ≡ Asks request
       → StandsFor program body.code coroutine arguments (tape ++ record { input = input; fresh = fresh } ∷ []) now) where
-    module _ (c : Setting) (s : State (Unit {0})) (h : IsServing task fresh input c body before s) where
-      says_so : says_of step_limit no_extra task (resumed fresh task input s) ≡ saying_of_out out
+    module _ (c : Setting a) (s : State a.Kept) (h : IsServing task fresh input c body before s) where
+      says_so : says_of step_limit a.meaning task (resumed fresh task input s) ≡ saying_of_out out
       says_so = says_out task fresh input c body before s h (saying_of_out out) said
 
       -- it asks
-      says_asks : (request : Request) → out ≡ Asks request → says_of step_limit no_extra task (resumed fresh task input s) ≡ endings.Asks request
+      says_asks : (request : Request) → out ≡ Asks request → says_of step_limit a.meaning task (resumed fresh task input s) ≡ endings.Asks request
       says_asks request e = says_so ∙ ap saying_of_out e
 
       pub asking : (request : Request) → out ≡ Asks request → IsAsking task request (holding now c) body (resumed fresh task input s)
@@ -62,12 +63,12 @@ module _ (task : ℕ) (fresh : Bool) (input : Input) (body : Body) (before : Gen
       made : task < length (resumed fresh task input s).generators
       made = subst (λ n. task < n) (sym (set_length task _ s)) (its_inside task fresh input c body before s h)
 
-      pub asks_so : (request : Request) → out ≡ Asks request → (new : Body) (it : Reply)
-          → Says task (holding now c) new it (reply no_extra task request (resumed fresh task input s))
+      pub asks_so : (request : Request) → out ≡ Asks request → (new : Body X) (it : Reply)
+          → Says task (holding now c) new it (reply a.meaning task request (resumed fresh task input s))
           → ServesOne task c new now (served_by it) (resumed fresh task input s)
       asks_so request e new it told =
           answered task c new now it (resumed fresh task input s) request made (says_asks request e) told
-          (requests_sound task request (resumed fresh task input s) h.sound (says_asks request e))
+          (requests_sound a.meaning (extra_sound a) task request (resumed fresh task input s) h.sound (says_asks request e))
 
       -- it returns, or raises
       pub returns_so : (value : Value) → out ≡ Returns value → (v : View) → parts v ≡ finish task (Ok value) (parts body.parts)
@@ -77,8 +78,8 @@ module _ (task : ℕ) (fresh : Bool) (input : Input) (body : Body) (before : Gen
       returns_so value e v became appended beside =
           let x = says_so ∙ ap saying_of_out e in
           ends_out task fresh input c body before s h (Ok value) v
-          (λ go_on. ap (λ saying. served step_limit no_extra saying task go_on (resumed fresh task input s)) x)
-          (returned_sound task value (resumed fresh task input s) h.sound x) became appended beside
+          (λ go_on. ap (λ saying. served step_limit a.meaning saying task go_on (resumed fresh task input s)) x)
+          (returned_sound a.meaning task value (resumed fresh task input s) h.sound x) became appended beside
 
       pub raises_so : (fault : Exc) → out ≡ Raises fault → (v : View) → parts v ≡ finish task (Err fault) (parts body.parts)
           → Appended body.parts.queue v.queue
@@ -87,12 +88,12 @@ module _ (task : ℕ) (fresh : Bool) (input : Input) (body : Body) (before : Gen
       raises_so fault e v became appended beside =
           let x = says_so ∙ ap saying_of_out e in
           ends_out task fresh input c body before s h (Err fault) v
-          (λ go_on. ap (λ saying. served step_limit no_extra saying task go_on (resumed fresh task input s)) x)
-          (raised_sound task fault (resumed fresh task input s) h.sound x) became appended beside
+          (λ go_on. ap (λ saying. served step_limit a.meaning saying task go_on (resumed fresh task input s)) x)
+          (raised_sound a.meaning task fault (resumed fresh task input s) h.sound x) became appended beside
 
       -- it runs away
       pub runs_so : out ≡ Runaway → RunsAway task c body (resumed fresh task input s)
       runs_so e = runs_out task fresh input c body before s h (says_so ∙ ap saying_of_out e)
 
-    pub ask_of : MayServe task fresh input body before → (request : Request) → out ≡ Asks request → MayAsk task request body
+    pub ask_of : MayServe a task fresh input body before → (request : Request) → out ≡ Asks request → MayAsk a task request body
     ask_of may request e = ∥∥₁_map may (λ w. (holding now w.0, (resumed fresh task input w.1.0, asking w.0 w.1.0 w.1.1 request e)))

@@ -9,7 +9,6 @@ use Rattle.model_says.specs.Says.{course, says, step_limit}
 use Rattle.model_says.specs.Tape.{Tape}
 use Rattle.model_loop.specs.Loop.{in_parts}
 use Rattle.model_loop.specs.Tasks.{finish, lives, next_task}
-use Rattle.model_machine.specs.Extra.{no_extra}
 use Rattle.model_machine.specs.Sound.{IsStateSound}
 use Rattle.model_machine.specs.State.{Generator, State, generator_of, resumed, unbooked_in}
 use Rattle.model_machine.specs.Step.{says_of, served}
@@ -19,6 +18,7 @@ use Rattle.law_cancel.proofs.Lookups.{get_within}
 use Rattle.aio_cancel.specs.Body.{Appended}
 use Rattle.aio_flat.specs.Code.{IsCodeOf}
 use Rattle.aio_task.specs.View.{View, parts}
+use Rattle.aio_extra.specs.Added.{Added, named_in}
 use Rattle.aio_body.specs.declared.body.Body.{Body}
 use Rattle.aio_gen.specs.declared.generator.Gen.{Gen}
 use Rattle.aio_body.specs.Asked.{IsAsking}
@@ -32,10 +32,10 @@ use Rattle.law_body.proofs.Lasting.{spares_none, stands_on}
 use Rattle.law_body.proofs.Rooms.{below_appended}
 use Rattle.law_body.proofs.Slotting.{set_same, stands_resumed, stands_over, stands_dead, stood}
 
-module _ (task : ℕ) (fresh : Bool) (input : Input) (c : Setting) (body : Body) (before : Gen) (s : State (Unit {0}))
+module _ {X : Type 0} {a : Added X} (task : ℕ) (fresh : Bool) (input : Input) (c : Setting a) (body : Body X) (before : Gen) (s : State a.Kept)
     (h : IsServing task fresh input c body before s) where
   its_lives : lives s.loop.parts task ≡ true
-  its_lives = runs_living task (resumed fresh task input s) h.sound
+  its_lives = runs_living a.meaning task (resumed fresh task input s) h.sound
 
   its_within : task < next_task s.loop.parts
   its_within = let it = task_there s.loop.parts task its_lives in get_within s.loop.parts.tasks task it.0 it.1
@@ -51,7 +51,7 @@ module _ (task : ℕ) (fresh : Bool) (input : Input) (c : Setting) (body : Body)
       → ((program : Program) (coroutine : ℕ) (arguments : List Value) (tape : Tape) → IsCodeOf program body.code
       → StandsFor program body.code coroutine arguments tape before
       → says program coroutine arguments (tape ++ record { input = input; fresh = fresh } ∷ []) ≡ out)
-      → says_of step_limit no_extra task (resumed fresh task input s) ≡ out
+      → says_of step_limit a.meaning task (resumed fresh task input s) ≡ out
   says_out out said =
       ap (λ (g : Generator). saying_of (course step_limit s.program g.coroutine g.arguments g.tape)) (set_same task (record (generator_of task s) {
         tape = (generator_of task s).tape ++ record { input = input; fresh = fresh } ∷ [];
@@ -60,7 +60,7 @@ module _ (task : ℕ) (fresh : Bool) (input : Input) (c : Setting) (body : Body)
 
   -- it asks
   pub asks_out : (now : Gen) (request : Request)
-      → says_of step_limit no_extra task (resumed fresh task input s) ≡ Asks request
+      → says_of step_limit a.meaning task (resumed fresh task input s) ≡ Asks request
       → ((program : Program) (coroutine : ℕ) (arguments : List Value) (tape : Tape) → IsCodeOf program body.code
       → StandsFor program body.code coroutine arguments tape before
       → StandsFor program body.code coroutine arguments (tape ++ record { input = input; fresh = fresh } ∷ []) now)
@@ -81,10 +81,10 @@ module _ (task : ℕ) (fresh : Bool) (input : Input) (c : Setting) (body : Body)
 
   -- it ends, and the task is done
   pub ends_out : (end : Result Value Exc) (v : View)
-      → ((go_on : State (Unit {0}) → Went (Unit {0}))
-      → served step_limit no_extra (says_of step_limit no_extra task (resumed fresh task input s)) task go_on (resumed fresh task input s)
+      → ((go_on : State a.Kept → Went a.Kept)
+      → served step_limit a.meaning (says_of step_limit a.meaning task (resumed fresh task input s)) task go_on (resumed fresh task input s)
       ≡ Goes (unbooked_in (finish task end) (resumed fresh task input s)))
-      → IsStateSound no_extra (unbooked_in (finish task end) (resumed fresh task input s))
+      → IsStateSound a.meaning (unbooked_in (finish task end) (resumed fresh task input s))
       → parts v ≡ finish task end (parts body.parts) → Appended body.parts.queue v.queue
       → v ≡ record body.parts { queue = v.queue; futures = v.futures; tasks = v.tasks; running = None }
       → EndsAt task c (record body { parts = v }) (resumed fresh task input s)
@@ -103,7 +103,7 @@ module _ (task : ℕ) (fresh : Bool) (input : Input) (c : Setting) (body : Body)
             time = ap (λ (x : View). x.time) beside;
             schedule = ap (λ (x : View). x.schedule) beside;
           }))
-          (leaves_finish task end s.loop.parts) (spares_none s.loop.parts s.futures) (refl, refl) (below_appended body.parts.queue v.queue appended))
+          (leaves_finish task end s.loop.parts) (spares_none s.loop.parts (named_in a s)) (refl, refl) (below_appended body.parts.queue v.queue appended))
           (finish_done task end s.loop.parts))
           (finish_done task end s.loop.parts);
       called = ap (λ (x : View). x.called) beside ∙ h.in_step.called;
@@ -114,9 +114,9 @@ module _ (task : ℕ) (fresh : Bool) (input : Input) (c : Setting) (body : Body)
   }
 
   -- it runs away
-  pub runs_out : says_of step_limit no_extra task (resumed fresh task input s) ≡ Runaway
+  pub runs_out : says_of step_limit a.meaning task (resumed fresh task input s) ≡ Runaway
       → RunsAway task c body (resumed fresh task input s)
   runs_out says = record {
     told = h.in_step.stands.events;
-    goes = λ go_on. ap (λ saying. served step_limit no_extra saying task go_on (resumed fresh task input s)) says;
+    goes = λ go_on. ap (λ saying. served step_limit a.meaning saying task go_on (resumed fresh task input s)) says;
   }

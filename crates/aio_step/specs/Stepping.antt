@@ -8,13 +8,14 @@ use Rattle.model_wire.specs.declared.event.Event.TheVariants as event
 use Rattle.model_loop.specs.Parts.{Handle}
 use Rattle.model_loop.specs.Tasks.{Begun, begin_step}
 use Rattle.model_loop.specs.Ways.{steps}
-use Rattle.model_machine.specs.Extra.{no_extra}
+use Rattle.model_machine.specs.Extra.{Extra}
 use Rattle.model_machine.specs.Sound.{IsStateSound, sends_made}
 use Rattle.model_machine.specs.State as plain
 use Rattle.model_machine.specs.State.{State, generator_of, noted, resumed, stands, unbooked_in}
 use Rattle.model_machine.specs.Step.{given_up, says_of, served}
 use Rattle.model_machine.specs.Went.{Went, Goes, Stops}
 use Rattle.aio_gen.specs.declared.generator.Gen.{Gen}
+use Rattle.aio_extra.specs.Added.{Added}
 use Rattle.aio_body.specs.declared.body.Body.{Body}
 use Rattle.aio_body.specs.declared.reply.Reply.{Reply}
 use Rattle.aio_body.specs.declared.reply.Reply.TheVariants as reply
@@ -31,7 +32,7 @@ use Rattle.law_inside.specs.InStep.{IsStepSound}
 
 -- ---- what a step comes to
 -- it goes on, or the task ran away and what happened is told
-abbrev pub Steps : Setting → Body → stepped.Stepped → Went (Unit {0}) → Type 0
+abbrev pub Steps : {X : Type 0} {a : Added X} → Setting a → Body X → stepped.Stepped → Went a.Kept → Type 0
 Steps c body went.Goes (Goes now) = IsBetween c body now
 Steps c body (went.Runaway task) (Stops it last) =
     (it ≡ end.Runaway task) × (last.events ≡ c.past ++ body.events.events)
@@ -39,31 +40,31 @@ Steps c body _ _ = ⊥
 
 -- ---- how it begins
 -- The task's handle was taken from the queue, and it was noted that it runs; the step hasn't begun.
-pub record IsCalled (task : ℕ) (c : Setting) (body : Body) (s : State (Unit {0})) : Type 0 where
-  pub before : State (Unit {0})
+pub record IsCalled {X : Type 0} {a : Added X} (task : ℕ) (c : Setting a) (body : Body X) (s : State a.Kept) : Type 0 where
+  pub before : State a.Kept
   pub handle : Handle
   pub rest : List Handle
   pub pending : before.loop.parts.pending ≡ handle ∷ rest
   pub live : handle.dead ≡ false
   pub steps : steps task handle.action ≡ true
-  pub sound : IsStateSound no_extra before
+  pub sound : IsStateSound a.meaning before
   pub after : s ≡ noted (event.Ran handle.action) (unbooked_in (λ p. record p { pending = rest }) before)
   pub stands : Stands None c body s
   pub called : body.parts.called ≡ Some task
   pub running : body.parts.running ≡ None
 
-abbrev pub MayBegin : ℕ → Body → Type 0
-MayBegin task body = ∥ ((c : Setting) × ((s : State (Unit {0})) × IsCalled task c body s)) ∥₁
+abbrev pub MayBegin : {X : Type 0} → Added X → ℕ → Body X → Type 0
+MayBegin a task body = ∥ ((c : Setting a) × ((s : State a.Kept) × IsCalled task c body s)) ∥₁
 
 -- the tasks that an input names were made
-abbrev pub HearsMade : Input → Body → Type 0
+abbrev pub HearsMade : {X : Type 0} → Input → Body X → Type 0
 HearsMade input body = sends_made (length body.slots.items) input ≡ true
 
 -- the machine's step, as it has begun
-abbrev pub begun_by : ℕ → Input → State (Unit {0}) → Begun
+abbrev pub begun_by : {S : Type 0} → ℕ → Input → State S → Begun
 begun_by task input s = begin_step task input (given_up (generator_of task s).standing s.loop.parts)
 
-abbrev pub begun_in : ℕ → Input → State (Unit {0}) → State (Unit {0})
+abbrev pub begun_in : {S : Type 0} → ℕ → Input → State S → State S
 begun_in task input s = stands plain.Asked task (unbooked_in (λ p. (begun_by task input s).parts) s)
 
 -- what a step begins at decides the same in code
@@ -71,57 +72,58 @@ abbrev pub DecidesAs : Standing → plain.Standing → Type 0
 DecidesAs standing.Asked plain.Asked = Unit {0}
 DecidesAs (standing.Sleeping timer future) (plain.Sleeping tag) = Unit {0}
 DecidesAs (standing.Leaving group) (plain.Leaving id) = group ≡ id
+DecidesAs (standing.Serving key) (plain.Serving kept) = key ≡ kept
 DecidesAs _ _ = ⊥
 
-abbrev pub MayDecideAs : ℕ → Standing → Body → Type 0
-MayDecideAs task code body =
-    ∥ ((stood : plain.Standing) × (DecidesAs code stood × ((c : Setting) × ((s : State (Unit {0})) × IsDeciding task stood c body s)))) ∥₁
+abbrev pub MayDecideAs : {X : Type 0} → Added X → ℕ → Standing → Body X → Type 0
+MayDecideAs a task code body =
+    ∥ ((stood : plain.Standing) × (DecidesAs code stood × ((c : Setting a) × ((s : State a.Kept) × IsDeciding task stood c body s)))) ∥₁
 
-pub record HasBegun (task : ℕ) (input : Input) (c : Setting) (s : State (Unit {0})) (started : Started) (body : Body) : Type 0 where
+pub record HasBegun {X : Type 0} {a : Added X} (task : ℕ) (input : Input) (c : Setting a) (s : State a.Kept) (started : Started)
+    (body : Body X) : Type 0 where
   pub deciding : IsDeciding task (generator_of task s).standing (holding started.coroutine c) body (begun_in task input s)
   pub heard : started.input ≡ (begun_by task input s).input
   pub decides : DecidesAs started.standing (generator_of task s).standing
 
 -- ---- how it goes on
 -- the coroutine is to be resumed with this
-pub record IsServing (task : ℕ) (fresh : Bool) (input : Input) (c : Setting) (body : Body) (coroutine : Gen)
-    (s : State (Unit {0})) : Type 0 where
+pub record IsServing {X : Type 0} {a : Added X} (task : ℕ) (fresh : Bool) (input : Input) (c : Setting a) (body : Body X)
+    (coroutine : Gen) (s : State a.Kept) : Type 0 where
   pub in_step : IsInStep task (holding coroutine c) body s
-  pub sound : IsStepSound no_extra task (resumed fresh task input s)
+  pub sound : IsStepSound a.meaning task (resumed fresh task input s)
 
-abbrev pub MayServe : ℕ → Bool → Input → Body → Gen → Type 0
-MayServe task fresh input body coroutine =
-    ∥ ((c : Setting) × ((s : State (Unit {0})) × IsServing task fresh input c body coroutine s)) ∥₁
+abbrev pub MayServe : {X : Type 0} → Added X → ℕ → Bool → Input → Body X → Gen → Type 0
+MayServe a task fresh input body coroutine =
+    ∥ ((c : Setting a) × ((s : State a.Kept) × IsServing task fresh input c body coroutine s)) ∥₁
 
 -- what serving what the coroutine says comes to, whatever comes after
-abbrev pub ServedAs : ℕ → State (Unit {0}) → ((State (Unit {0}) → Went (Unit {0})) → Went (Unit {0})) → Type 0
-ServedAs task s machine =
-    (go_on : State (Unit {0}) → Went (Unit {0}))
-    → served step_limit no_extra (says_of step_limit no_extra task s) task go_on s ≡ machine go_on
+abbrev pub ServedAs : {S : Type 0} → Extra S → ℕ → State S → ((State S → Went S) → Went S) → Type 0
+ServedAs {S} added task s machine =
+    (go_on : State S → Went S) → served step_limit added (says_of step_limit added task s) task go_on s ≡ machine go_on
 
-pub record GoesOnWith (task : ℕ) (next : Input) (c : Setting) (body : Body) (coroutine : Gen) (s : State (Unit {0})) : Type 0 where
-  pub now : State (Unit {0})
+pub record GoesOnWith {X : Type 0} {a : Added X} (task : ℕ) (next : Input) (c : Setting a) (body : Body X) (coroutine : Gen) (s : State a.Kept) : Type 0 where
+  pub now : State a.Kept
   pub serving : IsServing task false next c body coroutine now
-  pub goes : ServedAs task s (λ go_on. go_on (resumed false task next now))
+  pub goes : ServedAs a.meaning task s (λ go_on. go_on (resumed false task next now))
 
-pub record RestsAt (task : ℕ) (c : Setting) (body : Body) (coroutine : Gen) (s : State (Unit {0})) : Type 0 where
-  pub now : State (Unit {0})
+pub record RestsAt {X : Type 0} {a : Added X} (task : ℕ) (c : Setting a) (body : Body X) (coroutine : Gen) (s : State a.Kept) : Type 0 where
+  pub now : State a.Kept
   pub rested : HasRested task (holding coroutine c) body now
   pub made : task < length now.generators
-  pub sound : IsStateSound no_extra now
-  pub goes : ServedAs task s (λ go_on. Goes now)
+  pub sound : IsStateSound a.meaning now
+  pub goes : ServedAs a.meaning task s (λ go_on. Goes now)
 
-pub record EndsAt (task : ℕ) (c : Setting) (body : Body) (s : State (Unit {0})) : Type 0 where
-  pub now : State (Unit {0})
+pub record EndsAt {X : Type 0} {a : Added X} (task : ℕ) (c : Setting a) (body : Body X) (s : State a.Kept) : Type 0 where
+  pub now : State a.Kept
   pub between : IsBetween c body now
-  pub goes : ServedAs task s (λ go_on. Goes now)
+  pub goes : ServedAs a.meaning task s (λ go_on. Goes now)
 
-pub record RunsAway (task : ℕ) (c : Setting) (body : Body) (s : State (Unit {0})) : Type 0 where
+pub record RunsAway {X : Type 0} {a : Added X} (task : ℕ) (c : Setting a) (body : Body X) (s : State a.Kept) : Type 0 where
   pub told : s.events ≡ c.past ++ body.events.events
-  pub goes : ServedAs task s (λ go_on. Stops (end.Runaway task) s)
+  pub goes : ServedAs a.meaning task s (λ go_on. Stops (end.Runaway task) s)
 
 -- `s` is the state after the coroutine was resumed
-abbrev pub ServesOne : ℕ → Setting → Body → Gen → Served → State (Unit {0}) → Type 0
+abbrev pub ServesOne : {X : Type 0} {a : Added X} → ℕ → Setting a → Body X → Gen → Served → State a.Kept → Type 0
 ServesOne task c body coroutine (code.GoesOn next) s = GoesOnWith task next c body coroutine s
 ServesOne task c body coroutine code.Rests s = RestsAt task c body coroutine s
 ServesOne task c body coroutine code.Ends s = EndsAt task c body s

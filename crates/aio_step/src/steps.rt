@@ -1,7 +1,6 @@
 //! A step of a task.
 ghost use Rattle.std.specs.Prelude.{◌≡◌, true, IfOk};
 ghost use Rattle.model_says.specs.Says.{step_limit};
-ghost use Rattle.model_machine.specs.Extra.{no_extra};
 ghost use Rattle.model_machine.specs.Replies.{decides};
 ghost use Rattle.model_machine.specs.State as plain;
 ghost use Rattle.model_machine.specs.State.{State, resumed};
@@ -12,8 +11,9 @@ ghost use Rattle.aio_step.specs.Stepping.{Steps, served_by, IsCalled, MayBegin, 
 
 use aio_base::{Input, Memory};
 use aio_body::{Body, Reply, Slot, Standing, reply_of};
+use aio_extra::Extra;
 use aio_gen::{Gen, GenOut};
-use aio_serve::{leave_group, reply};
+use aio_serve::{leave_group, reply, wake};
 use aio_task::Ticket;
 use std::alloc::Global;
 
@@ -45,17 +45,17 @@ pub struct Started {
 }
 
 /// A step of a task, by the handle whose memory the ticket is.
-pub fn step(
-    body: &mut Body,
+pub fn step<X: Extra>(
+    body: &mut Body<X>,
     alloc: Global,
     task: u32,
     ticket: Ticket,
     input: Input,
 ) -> Result<Stepped, Memory>
-    requires called { MayBegin task body.old }
+    requires called { MayBegin X.added task body.old }
     requires made { HearsMade input body.old }
-    ensures { IfOk result (λ went. (c : Setting) (s : State (Unit {0})) → IsCalled task c body.old s
-        → Steps c body.new went (step step_limit no_extra task input s)) }
+    ensures { IfOk result (λ went. (c : Setting X.added) (s : State X.added.Kept) → IsCalled task c body.old s
+        → Steps c body.new went (step step_limit X.added.meaning task input s)) }
 {
     let Started {
         coroutine,
@@ -73,9 +73,9 @@ pub fn step(
 }
 
 // The step begins, and what the task runs is taken out.
-fn begin(body: &mut Body, task: u32, ticket: Ticket, input: Input) -> Started
-    requires { MayBegin task body.old }
-    ensures { (c : Setting) (s : State (Unit {0})) → IsCalled task c body.old s
+fn begin<X: Extra>(body: &mut Body<X>, task: u32, ticket: Ticket, input: Input) -> Started
+    requires { MayBegin X.added task body.old }
+    ensures { (c : Setting X.added) (s : State X.added.Kept) → IsCalled task c body.old s
         → HasBegun task input c s result body.new }
 {
     let input = body.parts.begin_step(task, ticket, input);
@@ -95,17 +95,17 @@ fn begin(body: &mut Body, task: u32, ticket: Ticket, input: Input) -> Started
 }
 
 // What the request at which a task stood makes of the input that its step begins with.
-fn decide(
-    body: &mut Body,
+fn decide<X: Extra>(
+    body: &mut Body<X>,
     alloc: Global,
     task: u32,
     standing: Standing,
     input: Input,
 ) -> Result<Reply, Memory>
-    requires { MayDecideAs task standing body.old }
-    ensures { IfOk result (λ said. (c : Setting) (s : State (Unit {0})) (stood : plain.Standing)
+    requires { MayDecideAs X.added task standing body.old }
+    ensures { IfOk result (λ said. (c : Setting X.added) (s : State X.added.Kept) (stood : plain.Standing)
         → IsDeciding task stood c body.old s → DecidesAs standing stood
-        → Says task c body.new said (decides no_extra stood task input s)) }
+        → Says task c body.new said (decides X.added.meaning stood task input s)) }
 {
     match standing {
         Standing::Asked => Ok(reply_of(input)),
@@ -114,21 +114,22 @@ fn decide(
             future: _,
         } => Ok(reply_of(input)),
         Standing::Leaving(group) => leave_group(body, alloc, task, group, input),
+        Standing::Serving(key) => wake(body, alloc, task, key, input),
     }
 }
 
 // The coroutine says on until the step ends.
-fn serve(
-    body: &mut Body,
+fn serve<X: Extra>(
+    body: &mut Body<X>,
     alloc: Global,
     task: u32,
     coroutine: Gen,
     input: Input,
 ) -> Result<Stepped, Memory>
-    requires { MayServe task true input body.old coroutine }
-    ensures { IfOk result (λ went. (c : Setting) (s : State (Unit {0}))
+    requires { MayServe X.added task true input body.old coroutine }
+    ensures { IfOk result (λ went. (c : Setting X.added) (s : State X.added.Kept)
         → IsServing task true input c body.old coroutine s
-        → Steps c body.new went (serve_all step_limit no_extra task (resumed true task input s))) }
+        → Steps c body.new went (serve_all step_limit X.added.meaning task (resumed true task input s))) }
 {
     let mut coroutine = coroutine;
     let mut input = input;
@@ -149,16 +150,16 @@ fn serve(
 }
 
 // The coroutine is resumed, and what it says is served.
-fn serve_one(
-    body: &mut Body,
+fn serve_one<X: Extra>(
+    body: &mut Body<X>,
     alloc: Global,
     task: u32,
     coroutine: &mut Gen,
     input: Input,
     fresh: bool,
 ) -> Result<Served, Memory>
-    requires { MayServe task fresh input body.old coroutine.old }
-    ensures { IfOk result (λ told. (c : Setting) (s : State (Unit {0}))
+    requires { MayServe X.added task fresh input body.old coroutine.old }
+    ensures { IfOk result (λ told. (c : Setting X.added) (s : State X.added.Kept)
         → IsServing task fresh input c body.old coroutine.old s
         → ServesOne task c body.new coroutine.new told (resumed fresh task input s)) }
 {

@@ -23,6 +23,7 @@ use Rattle.aio_timer.specs.declared.live.TimerId.{TimerId}
 use Rattle.aio_timer.specs.Schedule.{placed_after, timer}
 use Rattle.aio_task.specs.Keeps.{ByTimer, Keeps, Kept, Knows, Ties}
 use Rattle.aio_task.specs.View.{View, parts}
+use Rattle.aio_extra.specs.Added.{Added, named_in}
 use Rattle.aio_body.specs.Asked.{HasRested, IsInStep}
 use Rattle.aio_body.specs.Slots.{standing_at}
 use Rattle.aio_body.specs.Stands.{IsOwnSleep, Setting, Stands}
@@ -94,7 +95,7 @@ leaves_alarm task delay p owns =
 
 -- ---- the wait
 -- that a task waits for a future that was not there before is new to no sleep's own
-pub fresh_spares : (task : ℕ) (p q : Parts) (named : List ℕ)
+pub fresh_spares : (task : ℕ) (p q : Parts) (named : ℕ → Type 0)
     → ((sleeper : Option ℕ) (id : ℕ) → IsOwnSleep q named sleeper id → is_plain p id ≡ true)
     → Spares (Some (task, next_future p)) q named
 fresh_spares task p q named old other id new sleeper own =
@@ -106,14 +107,14 @@ abbrev pub slept : (task delay on : ℕ) → Loop → Loop
 slept task delay on l = book (suspend task on) (in_parts (alarmed task (pos delay)) l)
 
 -- the future of the sleep is the task's own, which no script names
-own_sleep : (task delay : ℕ) (p : Parts) (named : List ℕ) → OwnsFutures p → ((place id : ℕ) → slice_get named place ≡ Some id → is_plain p id ≡ true)
+own_sleep : (task delay : ℕ) (p : Parts) (named : ℕ → Type 0) → ((id : ℕ) → named id → id < next_future p)
     → ((other on : ℕ) → waiter_of p other ≡ Some on → on < next_future p)
     → Leaves (Some (task, next_future p)) p (suspend task (next_future p) (alarmed task (pos delay) p)).parts
     → is_plain (suspend task (next_future p) (alarmed task (pos delay) p)).parts (next_future p) ≡ true
     → IsOwnSleep (suspend task (next_future p) (alarmed task (pos delay) p)).parts named (Some task) (next_future p)
-own_sleep task delay p named owns plains waiting leaves plain = record {
+own_sleep task delay p named there waiting leaves plain = record {
   plain = plain;
-  unnamed = λ place e. let within = (plain_within p (next_future p) (plains place (next_future p) e)).1 in omega (arith, within);
+  unnamed = λ e. let within = there (next_future p) e in omega (arith, within);
   alone = λ other e. at other (leaves.waits other (next_future p) e);
 }
   where
@@ -121,81 +122,86 @@ own_sleep task delay p named owns plains waiting leaves plain = record {
     at other (inl e) = let within = waiting other (next_future p) e in absurd (omega (arith, within))
     at other (inr new) = ap Some (sym new.0)
 
--- a sleep, up to what the task stands at
-pub sleeps_so : (task delay : ℕ) (c : Setting) (old new : Body) (s : State (Unit {0})) (v w : View) (id : TimerId) (future : ℕ)
-    → (h : IsInStep task c old s) → OwnsFutures s.loop.parts
-    → ((place it : ℕ) → slice_get s.futures place ≡ Some it → is_plain s.loop.parts it ≡ true)
-    → ((other on : ℕ) → waiter_of s.loop.parts other ≡ Some on → on < next_future s.loop.parts) → task < next_task s.loop.parts
-    → future ≡ length old.parts.futures → id ≡ record { number = old.parts.schedule.next; when = min (old.parts.time + delay) most }
-    → length old.parts.futures ≡ next_future s.loop.parts
-    → v ≡ alarmed_view id task old.parts
-    → parts w ≡ (suspend task future (parts v)).parts → Appended v.queue w.queue
-    → w ≡ record v { queue = w.queue; futures = w.futures; tasks = w.tasks; running = None }
-    → new ≡ record old { parts = w; slots = new.slots } → new.slots.items ≡ standing_at task (Sleeping id future) old.slots.items
-    → HasRested task c new
-    (stands (plain.Sleeping s.loop.parts.next_tag) task
-    (waits task (next_future s.loop.parts) (unbooked_in (alarmed task (pos delay)) s)))
-sleeps_so task delay c old new s v w id future h owns plains waiting within number is made alarm after appended beside slots items = record {
-  stands =
-      stands_standing c (record old { parts = w }) new (waits task on (unbooked_in (alarmed task (pos delay)) s)) task (Sleeping id future)
-      (plain.Sleeping p.next_tag) asleep (at_it) slots items tasks;
-  called = ap (λ (b : Body). b.parts.called) slots ∙ ap (λ (x : View). x.called) beside ∙ ap (λ (x : View). x.called) alarm ∙ h.called;
-  running = ap (λ (b : Body). b.parts.running) slots ∙ ap (λ (x : View). x.running) beside;
-}
-  where
-    p : Parts
-    p = s.loop.parts
+module _ {X : Type 0} {a : Added X} where
+  -- a sleep, up to what the task stands at
+  pub sleeps_so : (task delay : ℕ) (c : Setting a) (old new : Body X) (s : State a.Kept) (v w : View) (id : TimerId) (future : ℕ)
+      → (h : IsInStep task c old s) → OwnsFutures s.loop.parts
+      → ((place it : ℕ) → slice_get s.futures place ≡ Some it → is_plain s.loop.parts it ≡ true)
+      → ((other on : ℕ) → waiter_of s.loop.parts other ≡ Some on → on < next_future s.loop.parts) → task < next_task s.loop.parts
+      → future ≡ length old.parts.futures → id ≡ record { number = old.parts.schedule.next; when = min (old.parts.time + delay) most }
+      → length old.parts.futures ≡ next_future s.loop.parts
+      → v ≡ alarmed_view id task old.parts
+      → parts w ≡ (suspend task future (parts v)).parts → Appended v.queue w.queue
+      → w ≡ record v { queue = w.queue; futures = w.futures; tasks = w.tasks; running = None }
+      → new ≡ record old { parts = w; slots = new.slots } → new.slots.items ≡ standing_at task (Sleeping id future) old.slots.items
+      → HasRested task c new
+      (stands (plain.Sleeping s.loop.parts.next_tag) task
+      (waits task (next_future s.loop.parts) (unbooked_in (alarmed task (pos delay)) s)))
+  sleeps_so task delay c old new s v w id future h owns plains waiting within number is made alarm after appended beside slots items = record {
+    stands =
+        stands_standing c (record old { parts = w }) new (waits task on (unbooked_in (alarmed task (pos delay)) s)) task (Sleeping id future)
+        (plain.Sleeping p.next_tag) asleep (at_it) slots items tasks;
+    called = ap (λ (b : Body X). b.parts.called) slots ∙ ap (λ (x : View). x.called) beside ∙ ap (λ (x : View). x.called) alarm ∙ h.called;
+    running = ap (λ (b : Body X). b.parts.running) slots ∙ ap (λ (x : View). x.running) beside;
+  }
+    where
+      p : Parts
+      p = s.loop.parts
 
-    on : ℕ
-    on = next_future p
+      on : ℕ
+      on = next_future p
 
-    q : Parts
-    q = alarmed task (pos delay) p
+      q : Parts
+      q = alarmed task (pos delay) p
 
-    r : Parts
-    r = (suspend task on q).parts
+      r : Parts
+      r = (suspend task on q).parts
 
-    here : future ≡ on
-    here = number ∙ made
+      here : future ≡ on
+      here = number ∙ made
 
-    alarms : (kept : Kept h.stands.ties p (alarmed_view id task old.parts) q) × Knows kept.ties q p.next_tag (ByTimer id)
-    alarms = kept_alarm h.stands.ties old.parts p h.stands.keeps task delay id made is
+      alarms : (kept : Kept h.stands.ties p (alarmed_view id task old.parts) q) × Knows kept.ties q p.next_tag (ByTimer id)
+      alarms = kept_alarm h.stands.ties old.parts p h.stands.keeps task delay id made is
 
-    waited : Kept alarms.0.ties q w r
-    waited =
-        kept_suspend alarms.0.ties (alarmed_view id task old.parts) w q alarms.0.keeps task on (record {
-          parts = after ∙ ap (λ f. (suspend task f (parts v)).parts) here ∙ ap (λ x. (suspend task on (parts x)).parts) alarm;
-          queue = subst (λ (x : View). Appended x.queue w.queue) alarm appended;
-          time = ap (λ (x : View). x.time) beside ∙ ap (λ (x : View). x.time) alarm;
-          schedule = ap (λ (x : View). x.schedule) beside ∙ ap (λ (x : View). x.schedule) alarm;
-        })
+      waited : Kept alarms.0.ties q w r
+      waited =
+          kept_suspend alarms.0.ties (alarmed_view id task old.parts) w q alarms.0.keeps task on (record {
+            parts = after ∙ ap (λ f. (suspend task f (parts v)).parts) here ∙ ap (λ x. (suspend task on (parts x)).parts) alarm;
+            queue = subst (λ (x : View). Appended x.queue w.queue) alarm appended;
+            time = ap (λ (x : View). x.time) beside ∙ ap (λ (x : View). x.time) alarm;
+            schedule = ap (λ (x : View). x.schedule) beside ∙ ap (λ (x : View). x.schedule) alarm;
+          })
 
-    kept : Kept h.stands.ties p w r
-    kept = kept_then h.stands.ties p q r (alarmed_view id task old.parts) w alarms.0 waited
+      kept : Kept h.stands.ties p w r
+      kept = kept_then h.stands.ties p q r (alarmed_view id task old.parts) w alarms.0 waited
 
-    leaves : Leaves (Some (task, on)) p r
-    leaves = leaves_on (Some (task, on)) p q r (leaves_alarm task delay p owns) (leaves_suspend task on q)
+      leaves : Leaves (Some (task, on)) p r
+      leaves = leaves_on (Some (task, on)) p q r (leaves_alarm task delay p owns) (leaves_suspend task on q)
 
-    spares : Spares (Some (task, on)) p s.futures
-    spares = fresh_spares task p p s.futures (λ sleeper it own. own.plain)
+      spares : Spares (Some (task, on)) p (named_in a s)
+      spares = fresh_spares task p p (named_in a s) (λ sleeper it own. own.plain)
 
-    below : length w.queue.below ≡ c.left
-    below = below_appended v.queue w.queue appended ∙ ap (λ (x : View). length x.queue.below) alarm ∙ h.stands.left
+      below : length w.queue.below ≡ c.left
+      below = below_appended v.queue w.queue appended ∙ ap (λ (x : View). length x.queue.below) alarm ∙ h.stands.left
 
-    asleep : Stands (Some task) c (record old { parts = w }) (waits task on (unbooked_in (alarmed task (pos delay)) s))
-    asleep = stands_by (Some (task, on)) (Some task) c old s w (slept task delay on) h.stands kept leaves spares (refl, refl) c.left below
+      asleep : Stands (Some task) c (record old { parts = w }) (waits task on (unbooked_in (alarmed task (pos delay)) s))
+      asleep = stands_by (Some (task, on)) (Some task) c old s w (slept task delay on) h.stands kept leaves spares (refl, refl) c.left below
 
-    ties : asleep.ties ≡ kept.ties
-    ties = by_ties (Some (task, on)) (Some task) c old s w (slept task delay on) h.stands kept leaves spares (refl, refl) c.left below
+      ties : asleep.ties ≡ kept.ties
+      ties = by_ties (Some (task, on)) (Some task) c old s w (slept task delay on) h.stands kept leaves spares (refl, refl) c.left below
 
-    plain_on : is_plain r on ≡ true
-    plain_on = (leaves_suspend task on q).plain on (of_plain q on (record { kind = Plain; outcome = None; callbacks = [] }) (get-push_last p.futures _) refl)
+      plain_on : is_plain r on ≡ true
+      plain_on = (leaves_suspend task on q).plain on (of_plain q on (record { kind = Plain; outcome = None; callbacks = [] }) (get-push_last p.futures _) refl)
 
-    knows : Knows asleep.ties r p.next_tag (ByTimer id)
-    knows = subst (λ t. Knows t r p.next_tag (ByTimer id)) (sym ties) (knows_on alarms.0.ties waited.ties q r p.next_tag id waited.extends alarms.1)
+      knows : Knows asleep.ties r p.next_tag (ByTimer id)
+      knows = subst (λ t. Knows t r p.next_tag (ByTimer id)) (sym ties) (knows_on alarms.0.ties waited.ties q r p.next_tag id waited.extends alarms.1)
 
-    at_it : Knows asleep.ties r p.next_tag (ByTimer id) × IsOwnSleep r s.futures (Some task) future
-    at_it = (knows, subst (IsOwnSleep r s.futures (Some task)) (sym here) (own_sleep task delay p s.futures owns plains waiting leaves plain_on))
+      there : (it : ℕ) → named_in a s it → it < next_future p
+      there it (inl found) = (plain_within p it (plains found.0 it found.1)).1
+      there it (inr own) = a.made h.stands.ties p old.extra s.extra h.stands.extra it own
 
-    tasks : task < next_task r
-    tasks = subst (λ n. task < n) (sym leaves.tasks) within
+      at_it : Knows asleep.ties r p.next_tag (ByTimer id) × IsOwnSleep r (named_in a s) (Some task) future
+      at_it = (knows, subst (IsOwnSleep r (named_in a s) (Some task)) (sym here) (own_sleep task delay p (named_in a s) there waiting leaves plain_on))
+
+      tasks : task < next_task r
+      tasks = subst (λ n. task < n) (sym leaves.tasks) within

@@ -1,5 +1,5 @@
 -- What each operation on the parts leaves.
-use Rattle.std.proofs.Common.{◌≡◌, ℕ, ◌-◌, ◌<◌, ◌≤◌, ◌⊎◌, Bool, true, false, cond, List, [], ◌∷◌, ◌++◌, Option, Some, None, Result, Ok, Err, length, slice_get, slice_set, length-set, refl, sym, ap, subst, ◌∙◌, inl, inr, arith, if◌then◌else◌}
+use Rattle.std.proofs.Common.{◌≡◌, ℕ, ◌-◌, ◌<◌, ◌≤◌, ◌⊎◌, Bool, true, false, cond, List, [], ◌∷◌, ◌++◌, Option, Some, None, Result, Ok, Err, length, length-append, slice_get, slice_set, length-set, refl, sym, ap, subst, ◌∙◌, inl, inr, arith, if◌then◌else◌}
 use Rattle.std.specs.Prelude.{is_none}
 use Rattle.std.specs.Option.{option_map_or}
 use Rattle.std.proofs.lemmas.Bool.{cases_eq, cases_lt, false≢true, le-ltb, lt-ltb}
@@ -11,31 +11,32 @@ use Rattle.model_value.specs.declared.action.Action.TheVariants.{StepInCircle, W
 use Rattle.model_value.specs.declared.outcome.Outcome.TheVariants.{Value as Returned, Failed, Cancelled}
 use Rattle.model_loop.specs.Cancel.{cancel, has_seen}
 use Rattle.model_loop.specs.Circles.{circle}
-use Rattle.model_loop.specs.Futures.{is_pending, is_pending_at, new_plain, next_future, outcome_at, register, registered, registered_on, settle, settled, settled_as}
+use Rattle.model_loop.specs.Futures.{is_pending, is_pending_at, make_future, new_plain, next_future, outcome_at, register, registered, registered_on, settle, settled, settled_as}
 use Rattle.model_loop.specs.Handles.{later, revoke, soon, soon_all}
 use Rattle.model_loop.specs.Ledger.{Origin, request}
 use Rattle.model_loop.specs.Owning.{is_plain_at, owner_at, owner_of}
-use Rattle.model_loop.specs.Parts.{Future, Parts, Plain, Task}
+use Rattle.model_loop.specs.Parts.{Future, FutureKind, Parts, Plain, Task}
 use Rattle.model_loop.specs.Suspend.{cancel_wait, suspend, suspend_unless, wait_on}
 use Rattle.model_loop.specs.Tasks.{begin_step, cancelling, change_task, finish, future_of, is_marked, lives, next_task, one_more, pause, set_waiter, uncancel, unmark, waiter_of}
+use Rattle.model_machine.specs.Sound.{is_main_done}
 use Rattle.law_cancel.proofs.Counting.{change_task-kept, goes-counts}
 use Rattle.law_cancel.proofs.Effects.{change_task-futures, length-change_task, register-tasks, settle-pending, settle-tasks}
-use Rattle.law_cancel.proofs.Lookups.{get-set_other, get-set_same, get_within}
+use Rattle.law_cancel.proofs.Lookups.{get-push_other, get-set_other, get-set_same, get_within}
 use Rattle.law_cancel.proofs.Trace.{with_row}
 use Rattle.law_settling.proofs.Settling.{settle_cases, settle_effect}
 use Rattle.law_settling.proofs.Spreading.{with_spread}
 use Rattle.law_steps.proofs.Stepping.{waits_none}
 use Rattle.law_told.proofs.Holding.{cancels_names}
 use Rattle.law_after.specs.After.{IsAfter, OutcomeIn, ResultIn}
-use Rattle.law_after.proofs.Made.{make_after}
+use Rattle.law_after.proofs.Made.{make_after, register_after}
 use Rattle.law_after.proofs.Parts.{change_after, settle_after}
 use Rattle.law_after.proofs.Requests.{begin_after, cancel_after, finish_after, suspend_after}
 use Rattle.law_inside.proofs.Counts.{lives_within}
 use Rattle.law_kept.specs.Waits.{WaitedBefore}
 use Rattle.law_kept.proofs.Only.{OnlyAppends, appends, changes_begin, changes_task, only_cancel, only_finish, only_settle, only_suspend}
-use Rattle.law_kept.proofs.Waiting.{before_begin, before_cancel, before_finish, before_settle, before_uncancel, waits_suspend}
+use Rattle.law_kept.proofs.Waiting.{before_begin, before_cancel, before_finish, before_register, before_settle, before_uncancel, waits_suspend}
 use Rattle.aio_group.specs.GoesOn.{GoesOn}
-use Rattle.aio_group.proofs.Going.{cancel_on, new_plain_on, register_on, settle_on, then_on, uncancel_on}
+use Rattle.aio_group.proofs.Going.{cancel_on, own_there as own_stays, register_on, settle_on, then_on, uncancel_on}
 use Rattle.law_body.proofs.Leaving.{Leaves}
 
 -- ---- values of every kind
@@ -233,18 +234,56 @@ leaves_revoke tag p = leaves_handles p (revoke tag p) refl refl refl
 pub leaves_later : (when : ℕ) (action : Action) (p : Parts) → Leaves None p (later when action p)
 leaves_later when action p = leaves_handles p (later when action p) refl refl refl
 
-pub leaves_plain : (p : Parts) → AreOwnMade p → Leaves None p (new_plain p)
-leaves_plain p made =
-    let a : After p (new_plain p) = make_after any false None p Plain in
+make_on : (kind : FutureKind) (p : Parts) → GoesOn p (make_future kind p)
+make_on kind p = record {
+  tasks = omega arith;
+  futures = let l = length-append p.futures (made ∷ []) in omega (arith, l);
+  own = λ task m. own_stays p.tasks task (next_future (make_future kind p)) (next_future p) m;
+  owners = λ id m. ap owner_at (within_at id m);
+  failures = λ id fault e. ap outcome_at (within_at id (there id fault (slice_get p.futures id) refl e)) ∙ e;
+}
+  where
+    made : Future
+    made = record { kind = kind; outcome = None; callbacks = [] }
+
+    within_at : (id : ℕ) → id < length p.futures → slice_get (p.futures ++ made ∷ []) id ≡ slice_get p.futures id
+    within_at id m = get-push_other p.futures made id (λ e. absurd (omega (arith, m, e)))
+
+    there : (id : ℕ) (fault : Exc) (o : Option Future) → slice_get p.futures id ≡ o → outcome_at o ≡ Some (Failed fault) → id < length p.futures
+    there id fault None g d = absurd (cc)
+    there id fault (Some future) g d = get_within p.futures id future g
+
+pub leaves_make : (kind : FutureKind) (p : Parts) → AreOwnMade p → Leaves None p (make_future kind p)
+leaves_make kind p made =
+    let a : After p (make_future kind p) = make_after any false None p kind in
     record {
       tasks = refl;
-      living = λ task l. living_made false p (new_plain p) a made task (lives_within (new_plain p) task l) l;
+      living = λ task l. living_made false p (make_future kind p) a made task (lives_within (make_future kind p) task l) l;
       plain = a.plain;
       waits = λ task id e. inl e;
       time = refl;
       counts = λ h. h;
-      goes_on = new_plain_on p;
+      goes_on = make_on kind p;
     }
+
+pub leaves_plain : (p : Parts) → AreOwnMade p → Leaves None p (new_plain p)
+leaves_plain p made = leaves_make Plain p made
+
+register_time : (id : ℕ) (action : Action) (p : Parts) → (register id action p).time ≡ p.time
+register_time id action p = at (slice_get p.futures id)
+  where
+    until : (future : Future) (o : Option Outcome) → (registered_on o id future action p).time ≡ p.time
+    until future (Some done) = refl
+    until future None = refl
+
+    at : (o : Option Future) → (registered o id action p).time ≡ p.time
+    at None = refl
+    at (Some future) = until future future.outcome
+
+pub leaves_register : (id : ℕ) (action : Action) (p : Parts) → is_main_done action ≡ false → Leaves None p (register id action p)
+leaves_register id action p other =
+    leaves_by p (register id action p) (register_after any false None id action p other) (made_register id action p) (before_register id action p)
+    (register_time id action p) (counts_same p (register id action p) (register-tasks id action p)) (register_on id action p)
 
 pub leaves_settle : (id : ℕ) (outcome : Outcome) (p : Parts) → owner_of p id ≡ None → Leaves None p (settle id outcome p)
 leaves_settle id outcome p o =

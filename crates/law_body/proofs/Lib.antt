@@ -13,3 +13,4 @@ pub mod Rooms
 pub mod Making
 pub mod Asleep
 pub mod TimeoutsOn
+pub mod Adding

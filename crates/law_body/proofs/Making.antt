@@ -16,9 +16,10 @@ use Rattle.aio_future.specs.Settled as settled
 use Rattle.aio_future.specs.Settled.{called}
 use Rattle.aio_task.specs.View.{View}
 use Rattle.aio_task.specs.Keeps.{Kept}
+use Rattle.aio_extra.specs.Added.{Added, IsNamed, named_in}
 use Rattle.aio_body.specs.declared.body.Body.{Body}
 use Rattle.aio_body.specs.declared.standing.Standing.{Standing}
-use Rattle.aio_body.specs.declared.standing.Standing.TheVariants.{Asked, Sleeping, Leaving}
+use Rattle.aio_body.specs.declared.standing.Standing.TheVariants.{Asked, Sleeping, Leaving, Serving}
 use Rattle.aio_body.specs.Asked.{IsInStep}
 use Rattle.aio_body.specs.Stands.{Setting, Stands, IsOwnSleep, StandsAt}
 use Rattle.law_kept.proofs.Calls.{kept_settle}
@@ -27,28 +28,29 @@ use Rattle.law_body.proofs.Lasting.{spares_none, stands_on}
 use Rattle.law_body.proofs.Left.{leaves_plain, leaves_settle}
 use Rattle.law_body.proofs.Rooms.{below_soon_all}
 
--- ---- a future is settled
-pub settles_so : (task id : ℕ) (outcome : Outcome) (c : Setting) (old : Body) (s : State (Unit {0})) (v : View) → IsInStep task c old s
-    → owner_of s.loop.parts id ≡ None
-    → v ≡ record old.parts { futures = settled.settled id outcome old.parts.futures; queue = soon_all (called id old.parts.futures) old.parts.queue }
-    → IsInStep task c (record old { parts = v }) (unbooked_in (settle id outcome) s)
-settles_so task id outcome c old s v h none is = record {
-  stands =
-      stands_on None (Some task) c old s v (in_parts (settle id outcome)) h.stands
-      (subst (λ x. Kept h.stands.ties s.loop.parts x (settle id outcome s.loop.parts)) (sym is)
-      (kept_settle h.stands.ties old.parts s.loop.parts h.stands.keeps id outcome))
-      (leaves_settle id outcome s.loop.parts none) (spares_none s.loop.parts s.futures) (refl, refl)
-      (ap (λ (x : View). length x.queue.below) is ∙ ap length (below_soon_all (called id old.parts.futures) old.parts.queue));
-  called = ap (λ (x : View). x.called) is ∙ h.called;
-  running = ap (λ (x : View). x.running) is ∙ h.running;
-}
+module _ {X : Type 0} {a : Added X} where
+  -- ---- a future is settled
+  pub settles_so : (task id : ℕ) (outcome : Outcome) (c : Setting a) (old : Body X) (s : State a.Kept) (v : View) → IsInStep task c old s
+      → owner_of s.loop.parts id ≡ None
+      → v ≡ record old.parts { futures = settled.settled id outcome old.parts.futures; queue = soon_all (called id old.parts.futures) old.parts.queue }
+      → IsInStep task c (record old { parts = v }) (unbooked_in (settle id outcome) s)
+  settles_so task id outcome c old s v h none is = record {
+    stands =
+        stands_on None (Some task) c old s v (in_parts (settle id outcome)) h.stands
+        (subst (λ x. Kept h.stands.ties s.loop.parts x (settle id outcome s.loop.parts)) (sym is)
+        (kept_settle h.stands.ties old.parts s.loop.parts h.stands.keeps id outcome))
+        (leaves_settle id outcome s.loop.parts none) (spares_none s.loop.parts (named_in a s)) (refl, refl)
+        (ap (λ (x : View). length x.queue.below) is ∙ ap length (below_soon_all (called id old.parts.futures) old.parts.queue));
+    called = ap (λ (x : View). x.called) is ∙ h.called;
+    running = ap (λ (x : View). x.running) is ∙ h.running;
+  }
 
 -- ---- a future is made, and the script names it
-own_named : (p : Parts) (named : List ℕ) (sleeper : Option ℕ) (id : ℕ) → IsOwnSleep p named sleeper id
-    → IsOwnSleep p (named ++ next_future p ∷ []) sleeper id
-own_named p named sleeper id own = record {
+own_named : (p : Parts) (named : List ℕ) (owned : ℕ → Type 0) (sleeper : Option ℕ) (id : ℕ) → IsOwnSleep p (IsNamed named owned) sleeper id
+    → IsOwnSleep p (IsNamed (named ++ next_future p ∷ []) owned) sleeper id
+own_named p named owned sleeper id own = record {
   plain = own.plain;
-  unnamed = λ place e. at place e (cases_eq place (length named));
+  unnamed = either;
   alone = own.alone;
 }
   where
@@ -66,80 +68,91 @@ own_named p named sleeper id own = record {
 
     at : (place : ℕ) → slice_get (named ++ next_future p ∷ []) place ≡ Some id → (place ≡ length named) ⊎ (place ≡ length named → ⊥) → ⊥
     at place e (inl same) = last place e same
-    at place e (inr n) = own.unnamed place (sym (get-push_other named (next_future p) place n) ∙ e)
+    at place e (inr n) = own.unnamed (inl (place, sym (get-push_other named (next_future p) place n) ∙ e))
 
-pub stands_named : (out : Option ℕ) (c : Setting) (old new : Body) (s : State (Unit {0})) → Stands out c old s → new ≡ record old { futures = new.futures }
-    → new.futures.items ≡ old.futures.items ++ next_future s.loop.parts ∷ [] → length s.futures + 1 < 2 ^ 32
-    → Stands out c new (record s { futures = s.futures ++ next_future s.loop.parts ∷ [] })
-stands_named out c old new s h beside items few = subst (λ b. Stands out c b now) (sym beside) (record {
-  ties = h.ties;
-  code = h.code;
-  keeps = h.keeps;
-  blocks = h.blocks;
-  left = h.left;
-  bar = h.bar;
-  made = h.made;
-  told = h.told;
-  few = h.few;
-  held = λ task l. let it = h.held task l in record {
-    slot = it.slot;
-    found = it.found;
-    right = record {
-      waits = it.right.waits;
-      standing = at_named task it.slot.standing (generator_of task s).standing it.right.standing;
+    either : IsNamed (named ++ next_future p ∷ []) owned id → ⊥
+    either (inl found) = at found.0 found.1 (cases_eq found.0 (length named))
+    either (inr mine) = own.unnamed (inr mine)
+
+module _ {X : Type 0} {a : Added X} where
+  pub stands_named : (out : Option ℕ) (c : Setting a) (old new : Body X) (s : State a.Kept) → Stands out c old s → new ≡ record old { futures = new.futures }
+      → new.futures.items ≡ old.futures.items ++ next_future s.loop.parts ∷ [] → length s.futures + 1 < 2 ^ 32
+      → Stands out c new (record s { futures = s.futures ++ next_future s.loop.parts ∷ [] })
+  stands_named out c old new s h beside items few = subst (λ b. Stands out c b now) (sym beside) (record {
+    ties = h.ties;
+    code = h.code;
+    keeps = h.keeps;
+    blocks = h.blocks;
+    left = h.left;
+    bar = h.bar;
+    made = h.made;
+    told = h.told;
+    few = h.few;
+    held = λ task l. let it = h.held task l in record {
+      slot = it.slot;
+      found = it.found;
+      right = record {
+        waits = it.right.waits;
+        standing = at_named task it.slot.standing (generator_of task s).standing it.right.standing;
+      };
     };
-  };
-  gone = λ id e. own_named p s.futures None id (h.gone id e);
-  futures = items ∙ ap (λ xs. xs ++ next_future p ∷ []) h.futures;
-  few_futures = let l = length-append s.futures (next_future p ∷ []) in omega (arith, few, l);
-  main_done = h.main_done;
-  time = h.time;
-  counts = h.counts;
-  events = h.events;
-  rest = h.rest;
-  count = h.count;
-})
-  where
-    p : Parts
-    p = s.loop.parts
+    gone = λ id e. own_named p s.futures (a.owns s.extra) None id (h.gone id e);
+    futures = items ∙ ap (λ xs. xs ++ next_future p ∷ []) h.futures;
+    few_futures = let l = length-append s.futures (next_future p ∷ []) in omega (arith, few, l);
+    main_done = h.main_done;
+    time = h.time;
+    counts = h.counts;
+    events = h.events;
+    rest = h.rest;
+    extra = h.extra;
+    count = h.count;
+  })
+    where
+      p : Parts
+      p = s.loop.parts
 
-    now : State (Unit {0})
-    now = record s { futures = s.futures ++ next_future s.loop.parts ∷ [] }
+      now : State a.Kept
+      now = record s { futures = s.futures ++ next_future s.loop.parts ∷ [] }
 
-    named : List ℕ
-    named = s.futures ++ next_future s.loop.parts ∷ []
+      named : List ℕ
+      named = s.futures ++ next_future s.loop.parts ∷ []
 
-    at_named : (task : ℕ) (code : Standing) (standing : plain.Standing) → StandsAt h.ties p s.futures task code standing
-        → StandsAt h.ties p (s.futures ++ next_future s.loop.parts ∷ []) task code standing
-    at_named task Asked plain.Asked a = tt
-    at_named task Asked (plain.Sleeping tag) a = a
-    at_named task Asked (plain.Leaving group) a = a
-    at_named task Asked (plain.Serving key) a = a
-    at_named task (Sleeping timer future) plain.Asked a = a
-    at_named task (Sleeping timer future) (plain.Sleeping tag) a = (a.0, own_named p s.futures (Some task) future a.1)
-    at_named task (Sleeping timer future) (plain.Leaving group) a = a
-    at_named task (Sleeping timer future) (plain.Serving key) a = a
-    at_named task (Leaving group) plain.Asked a = a
-    at_named task (Leaving group) (plain.Sleeping tag) a = a
-    at_named task (Leaving group) (plain.Leaving id) a = a
-    at_named task (Leaving group) (plain.Serving key) a = a
+      at_named : (task : ℕ) (code : Standing) (standing : plain.Standing) → StandsAt h.ties p (named_in a s) task code standing
+          → StandsAt h.ties p (named_in a now) task code standing
+      at_named task Asked plain.Asked e = tt
+      at_named task Asked (plain.Sleeping tag) e = e
+      at_named task Asked (plain.Leaving group) e = e
+      at_named task Asked (plain.Serving key) e = e
+      at_named task (Sleeping timer future) plain.Asked e = e
+      at_named task (Sleeping timer future) (plain.Sleeping tag) e = (e.0, own_named p s.futures (a.owns s.extra) (Some task) future e.1)
+      at_named task (Sleeping timer future) (plain.Leaving group) e = e
+      at_named task (Sleeping timer future) (plain.Serving key) e = e
+      at_named task (Leaving group) plain.Asked e = e
+      at_named task (Leaving group) (plain.Sleeping tag) e = e
+      at_named task (Leaving group) (plain.Leaving id) e = e
+      at_named task (Leaving group) (plain.Serving key) e = e
+      at_named task (Serving key) plain.Asked e = e
+      at_named task (Serving key) (plain.Sleeping tag) e = e
+      at_named task (Serving key) (plain.Leaving id) e = e
+      at_named task (Serving key) (plain.Serving kept) e = e
 
-pub makes_so : (task : ℕ) (c : Setting) (old new : Body) (s : State (Unit {0})) (v : View) → IsInStep task c old s → OwnsFutures s.loop.parts
-    → v ≡ record old.parts { futures = old.parts.futures ++ record { kind = Plain; outcome = None; callbacks = [] } ∷ [] }
-    → new ≡ record old { parts = v; futures = new.futures } → new.futures.items ≡ old.futures.items ++ next_future s.loop.parts ∷ []
-    → length s.futures + 1 < 2 ^ 32
-    → IsInStep task c new (unbooked_in new_plain (record s { futures = s.futures ++ next_future s.loop.parts ∷ [] }))
-makes_so task c old new s v h owns is beside items few =
-    subst (λ b. IsInStep task c b (unbooked_in new_plain (record s { futures = s.futures ++ next_future s.loop.parts ∷ [] }))) (sym beside) (record {
-      stands =
-          stands_on None (Some task) c (record old { futures = new.futures }) (record s { futures = s.futures ++ next_future s.loop.parts ∷ [] }) v
-          (in_parts new_plain) named
-          (subst (λ x. Kept named.ties s.loop.parts x (new_plain s.loop.parts)) (sym is) (kept_plain named.ties old.parts s.loop.parts named.keeps))
-          (leaves_plain s.loop.parts (own_there s.loop.parts owns)) (spares_none s.loop.parts (s.futures ++ next_future s.loop.parts ∷ [])) (refl, refl)
-          (ap (λ (x : View). length x.queue.below) is);
-      called = ap (λ (x : View). x.called) is ∙ h.called;
-      running = ap (λ (x : View). x.running) is ∙ h.running;
-    })
-  where
-    named : Stands (Some task) c (record old { futures = new.futures }) (record s { futures = s.futures ++ next_future s.loop.parts ∷ [] })
-    named = stands_named (Some task) c old (record old { futures = new.futures }) s h.stands refl items few
+  pub makes_so : (task : ℕ) (c : Setting a) (old new : Body X) (s : State a.Kept) (v : View) → IsInStep task c old s → OwnsFutures s.loop.parts
+      → v ≡ record old.parts { futures = old.parts.futures ++ record { kind = Plain; outcome = None; callbacks = [] } ∷ [] }
+      → new ≡ record old { parts = v; futures = new.futures } → new.futures.items ≡ old.futures.items ++ next_future s.loop.parts ∷ []
+      → length s.futures + 1 < 2 ^ 32
+      → IsInStep task c new (unbooked_in new_plain (record s { futures = s.futures ++ next_future s.loop.parts ∷ [] }))
+  makes_so task c old new s v h owns is beside items few =
+      subst (λ b. IsInStep task c b (unbooked_in new_plain (record s { futures = s.futures ++ next_future s.loop.parts ∷ [] }))) (sym beside) (record {
+        stands =
+            stands_on None (Some task) c (record old { futures = new.futures }) (record s { futures = s.futures ++ next_future s.loop.parts ∷ [] }) v
+            (in_parts new_plain) named
+            (subst (λ x. Kept named.ties s.loop.parts x (new_plain s.loop.parts)) (sym is) (kept_plain named.ties old.parts s.loop.parts named.keeps))
+            (leaves_plain s.loop.parts (own_there s.loop.parts owns))
+            (spares_none s.loop.parts (named_in a (record s { futures = s.futures ++ next_future s.loop.parts ∷ [] }))) (refl, refl)
+            (ap (λ (x : View). length x.queue.below) is);
+        called = ap (λ (x : View). x.called) is ∙ h.called;
+        running = ap (λ (x : View). x.running) is ∙ h.running;
+      })
+    where
+      named : Stands (Some task) c (record old { futures = new.futures }) (record s { futures = s.futures ++ next_future s.loop.parts ∷ [] })
+      named = stands_named (Some task) c old (record old { futures = new.futures }) s h.stands refl items few

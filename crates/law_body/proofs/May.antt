@@ -3,23 +3,25 @@ use Rattle.std.proofs.Common.{◌≡◌, ℕ, Option, Some, None}
 use Rattle.std.proofs.Math.Logic.{∥∥₁_elim, ∥∥₁_map}
 use Rattle.std.proofs.Props.{props}
 use Rattle.model_value.specs.Request.{Request}
+use Rattle.aio_extra.specs.Added.{Added}
 use Rattle.aio_body.specs.declared.body.Body.{Body}
 use Rattle.aio_body.specs.Asked.{MayGo, MayAsk, SomeGoes}
 
 pub same_prop : (a b : Option ℕ) → IsProp (a ≡ b)
 same_prop a b = hlevel props
 
-pub going_of : (task : ℕ) (request : Request) (body : Body) → MayAsk task request body → MayGo task body
-going_of task request body m = ∥∥₁_map m (λ w. (w.0, (w.1.0, w.1.1.going)))
+module _ {X : Type 0} {a : Added X} where
+  pub going_of : (task : ℕ) (request : Request) (body : Body X) → MayAsk a task request body → MayGo a task body
+  going_of task request body m = ∥∥₁_map m (λ w. (w.0, (w.1.0, w.1.1.going)))
 
-pub some_of : (task : ℕ) (body : Body) → MayGo task body → SomeGoes body
-some_of task body m = ∥∥₁_map m (λ w. (task, w))
+  pub some_of : (task : ℕ) (body : Body X) → MayGo a task body → SomeGoes a body
+  some_of task body m = ∥∥₁_map m (λ w. (task, w))
 
-pub idle_of : (task : ℕ) (body : Body) → MayGo task body → body.parts.called ≡ None
-idle_of task body m = ∥∥₁_elim m (same_prop body.parts.called None) (λ w. w.1.1.in_step.called)
+  pub idle_of : (task : ℕ) (body : Body X) → MayGo a task body → body.parts.called ≡ None
+  idle_of task body m = ∥∥₁_elim m (same_prop body.parts.called None) (λ w. w.1.1.in_step.called)
 
-pub running_of : (task : ℕ) (body : Body) → MayGo task body → body.parts.running ≡ Some task
-running_of task body m = ∥∥₁_elim m (same_prop body.parts.running (Some task)) (λ w. w.1.1.in_step.running)
+  pub running_of : (task : ℕ) (body : Body X) → MayGo a task body → body.parts.running ≡ Some task
+  running_of task body m = ∥∥₁_elim m (same_prop body.parts.running (Some task)) (λ w. w.1.1.in_step.running)
 
-pub idle_some : (body : Body) → SomeGoes body → body.parts.called ≡ None
-idle_some body m = ∥∥₁_elim m (same_prop body.parts.called None) (λ w. w.1.1.1.in_step.called)
+  pub idle_some : (body : Body X) → SomeGoes a body → body.parts.called ≡ None
+  idle_some body m = ∥∥₁_elim m (same_prop body.parts.called None) (λ w. w.1.1.1.in_step.called)

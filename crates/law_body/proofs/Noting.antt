@@ -6,6 +6,7 @@ use Rattle.model_machine.specs.State.{State, noted}
 use Rattle.model_machine.specs.Went.{answers_in}
 use Rattle.aio_wire.specs.EventList.{EventList}
 use Rattle.aio_wire.specs.Events.{answers_after, pushed}
+use Rattle.aio_extra.specs.Added.{Added}
 use Rattle.aio_body.specs.declared.body.Body.{Body}
 use Rattle.aio_body.specs.Stands.{Setting, Stands}
 
@@ -38,33 +39,35 @@ counted n xs (event.Got answer) e =
     ap (λ k. min (k + 1) (2 ^ 64 - 1)) e ∙ min-suc (answers_in xs) (2 ^ 64 - 1)
     ∙ ap (λ k. min k (2 ^ 64 - 1)) (sym (answers-append xs (event.Got answer ∷ [])))
 
--- one event more
-pub stands_noted : (out : Option ℕ) (c : Setting) (body : Body) (s : State (Unit {0})) (it : Event) (events : EventList) → events ≡ pushed body.events it
-    → Stands out c body s → Stands out c (record body { events = events }) (noted it s)
-stands_noted out c body s it events e h = record {
-  ties = h.ties;
-  code = h.code;
-  keeps = h.keeps;
-  blocks = h.blocks;
-  left = h.left;
-  bar = h.bar;
-  made = h.made;
-  told = h.told;
-  few = h.few;
-  held = λ task l. let has = h.held task l in record {
-    slot = has.slot;
-    found = has.found;
-    right = record { waits = has.right.waits; standing = has.right.standing };
-  };
-  gone = h.gone;
-  futures = h.futures;
-  few_futures = h.few_futures;
-  main_done = h.main_done;
-  time = h.time;
-  counts = h.counts;
-  events =
-      ap (λ (es : List Event). es ++ it ∷ []) h.events ∙ append_assoc c.past body.events.events (it ∷ [])
-      ∙ ap (λ (l : EventList). c.past ++ l.events) (sym e);
-  rest = h.rest;
-  count = ap (λ (l : EventList). l.answers) e ∙ counted body.events.answers s.events it h.count;
-}
+module _ {X : Type 0} {a : Added X} where
+  -- one event more
+  pub stands_noted : (out : Option ℕ) (c : Setting a) (body : Body X) (s : State a.Kept) (it : Event) (events : EventList) → events ≡ pushed body.events it
+      → Stands out c body s → Stands out c (record body { events = events }) (noted it s)
+  stands_noted out c body s it events e h = record {
+    ties = h.ties;
+    code = h.code;
+    keeps = h.keeps;
+    blocks = h.blocks;
+    left = h.left;
+    bar = h.bar;
+    made = h.made;
+    told = h.told;
+    few = h.few;
+    held = λ task l. let has = h.held task l in record {
+      slot = has.slot;
+      found = has.found;
+      right = record { waits = has.right.waits; standing = has.right.standing };
+    };
+    gone = h.gone;
+    futures = h.futures;
+    few_futures = h.few_futures;
+    main_done = h.main_done;
+    time = h.time;
+    counts = h.counts;
+    events =
+        ap (λ (es : List Event). es ++ it ∷ []) h.events ∙ append_assoc c.past body.events.events (it ∷ [])
+        ∙ ap (λ (l : EventList). c.past ++ l.events) (sym e);
+    rest = h.rest;
+    extra = h.extra;
+    count = ap (λ (l : EventList). l.answers) e ∙ counted body.events.answers s.events it h.count;
+  }

@@ -10,6 +10,7 @@ use Rattle.model_value.specs.Input.{Input}
 use Rattle.model_machine.specs.State.{Generator, State, generator, generator_of, resumed, with_generator, stands}
 use Rattle.law_cancel.proofs.Lookups.{get-set_same, get-set_other}
 use Rattle.aio_gen.specs.declared.generator.Gen.{Gen}
+use Rattle.aio_extra.specs.Added.{Added, named_in}
 use Rattle.aio_body.specs.declared.body.Body.{Body}
 use Rattle.aio_body.specs.declared.standing.Slot.{Slot}
 use Rattle.aio_body.specs.declared.standing.Standing.{Standing}
@@ -18,14 +19,14 @@ use Rattle.aio_body.specs.Slots.{with_slot, standing_at, put_back}
 use Rattle.aio_body.specs.Stands.{Setting, Stands, StandsAt, HasSlot, WaitsAs, coroutine_in, holding}
 
 -- ---- generators
-pub set_same : (task : ℕ) (it : Generator) (s : State (Unit {0})) → task < length s.generators → generator_of task (with_generator task it s) ≡ it
+pub set_same : {S : Type 0} (task : ℕ) (it : Generator) (s : State S) → task < length s.generators → generator_of task (with_generator task it s) ≡ it
 set_same task it s within = get_or-set_same s.generators task it (generator 0 []) within
 
-pub set_other : (task other : ℕ) (it : Generator) (s : State (Unit {0})) → (task ≡ other → ⊥)
+pub set_other : {S : Type 0} (task other : ℕ) (it : Generator) (s : State S) → (task ≡ other → ⊥)
     → generator_of other (with_generator task it s) ≡ generator_of other s
 set_other task other it s n = get_or-set_other s.generators task other it (generator 0 []) (λ e. n (sym e))
 
-pub set_length : (task : ℕ) (it : Generator) (s : State (Unit {0})) → length (with_generator task it s).generators ≡ length s.generators
+pub set_length : {S : Type 0} (task : ℕ) (it : Generator) (s : State S) → length (with_generator task it s).generators ≡ length s.generators
 set_length task it s = length-set s.generators task it
 
 -- ---- slots
@@ -60,282 +61,294 @@ runs_itself task = eq-eqb task task refl
 pub runs_no_other : (task other : ℕ) → (task ≡ other → ⊥) → is_running (Some task) other ≡ false
 runs_no_other task other n = ne_eqb task other n
 
--- What a task stands at changes, in code and in the machine, while its coroutine is taken out.
-pub stands_standing : (c : Setting) (old new : Body) (s : State (Unit {0})) (task : ℕ) (code : Standing) (standing : plain.Standing)
-    → (h : Stands (Some task) c old s)
-    → StandsAt h.ties s.loop.parts s.futures task code standing → new ≡ record old { slots = new.slots }
-    → new.slots.items ≡ standing_at task code old.slots.items → task < next_task s.loop.parts
-    → Stands (Some task) c new (stands standing task s)
-stands_standing c old new s task code standing h at_it beside items within = subst (λ b. Stands (Some task) c b now) (sym beside) (record {
-  ties = h.ties;
-  code = h.code;
-  keeps = h.keeps;
-  blocks = h.blocks;
-  left = h.left;
-  bar = h.bar;
-  made = ap length items ∙ with_length task change old.slots.items ∙ h.made;
-  told = set_length task it s ∙ h.told;
-  few = subst (λ n. n < 2 ^ 32) (sym (ap length items ∙ with_length task change old.slots.items)) h.few;
-  held = λ other l. has other l (cases_eq task other);
-  gone = h.gone;
-  futures = h.futures;
-  few_futures = h.few_futures;
-  main_done = h.main_done;
-  time = h.time;
-  counts = h.counts;
-  events = h.events;
-  rest = h.rest;
-  count = h.count;
-})
-  where
-    change : Slot → Slot
-    change slot = record slot { standing = code }
+module _ {X : Type 0} {a : Added X} where
+  -- What a task stands at changes, in code and in the machine, while its coroutine is taken out.
+  pub stands_standing : (c : Setting a) (old new : Body X) (s : State a.Kept) (task : ℕ) (code : Standing) (standing : plain.Standing)
+      → (h : Stands (Some task) c old s)
+      → StandsAt h.ties s.loop.parts (named_in a s) task code standing → new ≡ record old { slots = new.slots }
+      → new.slots.items ≡ standing_at task code old.slots.items → task < next_task s.loop.parts
+      → Stands (Some task) c new (stands standing task s)
+  stands_standing c old new s task code standing h at_it beside items within = subst (λ b. Stands (Some task) c b now) (sym beside) (record {
+    ties = h.ties;
+    code = h.code;
+    keeps = h.keeps;
+    blocks = h.blocks;
+    left = h.left;
+    bar = h.bar;
+    made = ap length items ∙ with_length task change old.slots.items ∙ h.made;
+    told = set_length task it s ∙ h.told;
+    few = subst (λ n. n < 2 ^ 32) (sym (ap length items ∙ with_length task change old.slots.items)) h.few;
+    held = λ other l. has other l (cases_eq task other);
+    gone = h.gone;
+    futures = h.futures;
+    few_futures = h.few_futures;
+    main_done = h.main_done;
+    time = h.time;
+    counts = h.counts;
+    events = h.events;
+    rest = h.rest;
+    extra = h.extra;
+    count = h.count;
+  })
+    where
+      change : Slot → Slot
+      change slot = record slot { standing = code }
 
-    it : Generator
-    it = record (generator_of task s) { standing = standing }
+      it : Generator
+      it = record (generator_of task s) { standing = standing }
 
-    now : State (Unit {0})
-    now = stands standing task s
+      now : State a.Kept
+      now = stands standing task s
 
-    has : (other : ℕ) → lives s.loop.parts other ≡ true → (task ≡ other) ⊎ (task ≡ other → ⊥)
-        → HasSlot (Some task) c.coroutine h.ties old.code new.slots.items now other
-    has other l (inr n) = let old_one = h.held other l in record {
-      slot = old_one.slot;
-      found = ap (λ (xs : List Slot). slice_get xs other) items ∙ with_other task other change old.slots.items n ∙ old_one.found;
-      right = record {
-        waits =
-            subst (λ g. WaitsAs s.program old.code g (coroutine_in (is_running (Some task) other) c.coroutine old_one.slot.coroutine))
-            (sym (set_other task other it s n)) old_one.right.waits;
-        standing =
-            subst (λ (g : Generator). StandsAt h.ties s.loop.parts s.futures other old_one.slot.standing g.standing) (sym (set_other task other it s n))
-            old_one.right.standing;
-      };
-    }
-    has other l (inl same) = subst (λ k. HasSlot (Some task) c.coroutine h.ties old.code new.slots.items now k) same
-        (own (h.held task (subst (λ k. lives s.loop.parts k ≡ true) (sym same) l)))
-      where
-        own : HasSlot (Some task) c.coroutine h.ties old.code old.slots.items s task → HasSlot (Some task) c.coroutine h.ties old.code new.slots.items now task
-        own old_one = record {
-          slot = change old_one.slot;
-          found = ap (λ (xs : List Slot). slice_get xs task) items ∙ with_same task change old.slots.items old_one.slot old_one.found;
-          right = record {
-            waits =
-                subst (λ g. WaitsAs s.program old.code g (coroutine_in (is_running (Some task) task) c.coroutine old_one.slot.coroutine))
-                (sym (set_same task it s (subst (λ n. task < n) (sym h.told) within))) old_one.right.waits;
-            standing =
-                subst (λ (g : Generator). StandsAt h.ties s.loop.parts s.futures task code g.standing)
-                (sym (set_same task it s (subst (λ n. task < n) (sym h.told) within))) at_it;
-          };
-        }
-
--- The coroutine is put back.
-pub stands_back : (c : Setting) (old new : Body) (s : State (Unit {0})) (task : ℕ) (coroutine : Gen) → (h : Stands (Some task) (holding coroutine c) old s)
-    → new ≡ record old { slots = new.slots }
-    → new.slots.items ≡ put_back task coroutine old.slots.items → Stands None c new s
-stands_back c old new s task coroutine h beside items = subst (λ b. Stands None c b s) (sym beside) (record {
-  ties = h.ties;
-  code = h.code;
-  keeps = h.keeps;
-  blocks = h.blocks;
-  left = h.left;
-  bar = h.bar;
-  made = ap length items ∙ with_length task change old.slots.items ∙ h.made;
-  told = h.told;
-  few = subst (λ n. n < 2 ^ 32) (sym (ap length items ∙ with_length task change old.slots.items)) h.few;
-  held = λ other l. has other l (cases_eq task other);
-  gone = h.gone;
-  futures = h.futures;
-  few_futures = h.few_futures;
-  main_done = h.main_done;
-  time = h.time;
-  counts = h.counts;
-  events = h.events;
-  rest = h.rest;
-  count = h.count;
-})
-  where
-    change : Slot → Slot
-    change slot = record slot { coroutine = Some coroutine }
-
-    has : (other : ℕ) → lives s.loop.parts other ≡ true → (task ≡ other) ⊎ (task ≡ other → ⊥) → HasSlot None c.coroutine h.ties old.code new.slots.items s other
-    has other l (inr n) = let old_one = h.held other l in record {
-      slot = old_one.slot;
-      found = ap (λ (xs : List Slot). slice_get xs other) items ∙ with_other task other change old.slots.items n ∙ old_one.found;
-      right = record {
-        waits =
-            subst (λ b. WaitsAs s.program old.code (generator_of other s) (coroutine_in b (Some coroutine) old_one.slot.coroutine)) (runs_no_other task other n)
-            old_one.right.waits;
-        standing = old_one.right.standing;
-      };
-    }
-    has other l (inl same) = subst (λ k. HasSlot None c.coroutine h.ties old.code new.slots.items s k) same
-        (own (h.held task (subst (λ k. lives s.loop.parts k ≡ true) (sym same) l)))
-      where
-        own : HasSlot (Some task) (Some coroutine) h.ties old.code old.slots.items s task → HasSlot None c.coroutine h.ties old.code new.slots.items s task
-        own old_one = record {
-          slot = change old_one.slot;
-          found = ap (λ (xs : List Slot). slice_get xs task) items ∙ with_same task change old.slots.items old_one.slot old_one.found;
-          right = record {
-            waits =
-                subst (λ b. WaitsAs s.program old.code (generator_of task s) (coroutine_in b (Some coroutine) old_one.slot.coroutine)) (runs_itself task)
-                old_one.right.waits;
-            standing = old_one.right.standing;
-          };
-        }
-
--- A task that is done needs no coroutine.
-pub stands_over : (c : Setting) (body : Body) (s : State (Unit {0})) (task : ℕ) (coroutine : Gen)
-    → (h : Stands (Some task) (holding coroutine c) body s) → lives s.loop.parts task ≡ false
-    → Stands None c body s
-stands_over c body s task coroutine h done = record {
-  ties = h.ties;
-  code = h.code;
-  keeps = h.keeps;
-  blocks = h.blocks;
-  left = h.left;
-  bar = h.bar;
-  made = h.made;
-  told = h.told;
-  few = h.few;
-  held = λ other l. let it = h.held other l in record {
-    slot = it.slot;
-    found = it.found;
-    right = record {
-      waits =
-          subst (λ b. WaitsAs s.program body.code (generator_of other s) (coroutine_in b (Some coroutine) it.slot.coroutine))
-          (runs_no_other task other (λ same. false≢true (sym done ∙ ap (lives s.loop.parts) same ∙ l))) it.right.waits;
-      standing = it.right.standing;
-    };
-  };
-  gone = h.gone;
-  futures = h.futures;
-  few_futures = h.few_futures;
-  main_done = h.main_done;
-  time = h.time;
-  counts = h.counts;
-  events = h.events;
-  rest = h.rest;
-  count = h.count;
-}
-
--- What a task that is done was resumed with doesn't matter.
-pub stands_dead : (c : Setting) (body : Body) (s : State (Unit {0})) (task : ℕ) (it : Generator) → Stands None c body s → lives s.loop.parts task ≡ false
-    → Stands None c body (with_generator task it s)
-stands_dead c body s task it h done = record {
-  ties = h.ties;
-  code = h.code;
-  keeps = h.keeps;
-  blocks = h.blocks;
-  left = h.left;
-  bar = h.bar;
-  made = h.made;
-  told = set_length task it s ∙ h.told;
-  few = h.few;
-  held = λ other l.
-      let n : task ≡ other → ⊥ = λ same. false≢true (sym done ∙ ap (lives s.loop.parts) same ∙ l) in
-      let old_one = h.held other l in record {
+      has : (other : ℕ) → lives s.loop.parts other ≡ true → (task ≡ other) ⊎ (task ≡ other → ⊥)
+          → HasSlot a (Some task) c.coroutine h.ties old.code new.slots.items now other
+      has other l (inr n) = let old_one = h.held other l in record {
         slot = old_one.slot;
-        found = old_one.found;
+        found = ap (λ (xs : List Slot). slice_get xs other) items ∙ with_other task other change old.slots.items n ∙ old_one.found;
         right = record {
-          waits = subst (λ g. WaitsAs s.program body.code g old_one.slot.coroutine) (sym (set_other task other it s n)) old_one.right.waits;
+          waits =
+              subst (λ g. WaitsAs s.program old.code g (coroutine_in (is_running (Some task) other) c.coroutine old_one.slot.coroutine))
+              (sym (set_other task other it s n)) old_one.right.waits;
           standing =
-              subst (λ (g : Generator). StandsAt h.ties s.loop.parts s.futures other old_one.slot.standing g.standing) (sym (set_other task other it s n))
+              subst (λ (g : Generator). StandsAt h.ties s.loop.parts (named_in a s) other old_one.slot.standing g.standing) (sym (set_other task other it s n))
               old_one.right.standing;
         };
-      };
-  gone = h.gone;
-  futures = h.futures;
-  few_futures = h.few_futures;
-  main_done = h.main_done;
-  time = h.time;
-  counts = h.counts;
-  events = h.events;
-  rest = h.rest;
-  count = h.count;
-}
+      }
+      has other l (inl same) = subst (λ k. HasSlot a (Some task) c.coroutine h.ties old.code new.slots.items now k) same
+          (own (h.held task (subst (λ k. lives s.loop.parts k ≡ true) (sym same) l)))
+        where
+          own : HasSlot a (Some task) c.coroutine h.ties old.code old.slots.items s task
+              → HasSlot a (Some task) c.coroutine h.ties old.code new.slots.items now task
+          own old_one = record {
+            slot = change old_one.slot;
+            found = ap (λ (xs : List Slot). slice_get xs task) items ∙ with_same task change old.slots.items old_one.slot old_one.found;
+            right = record {
+              waits =
+                  subst (λ g. WaitsAs s.program old.code g (coroutine_in (is_running (Some task) task) c.coroutine old_one.slot.coroutine))
+                  (sym (set_same task it s (subst (λ n. task < n) (sym h.told) within))) old_one.right.waits;
+              standing =
+                  subst (λ (g : Generator). StandsAt h.ties s.loop.parts (named_in a s) task code g.standing)
+                  (sym (set_same task it s (subst (λ n. task < n) (sym h.told) within))) at_it;
+            };
+          }
 
--- The coroutine that is taken out was resumed.
-pub stands_resumed : (c : Setting) (body : Body) (s : State (Unit {0})) (task : ℕ) (fresh : Bool) (input : Input) (before now : Gen)
-    → Stands (Some task) (holding before c) body s → task < next_task s.loop.parts
-    → (StandsFor s.program body.code (generator_of task s).coroutine (generator_of task s).arguments (generator_of task s).tape before
-    → StandsFor s.program body.code (generator_of task s).coroutine (generator_of task s).arguments
-    ((generator_of task s).tape ++ record { input = input; fresh = fresh } ∷ []) now)
-    → Stands (Some task) (holding now c) body (resumed fresh task input s)
-stands_resumed c body s task fresh input before now h within goes = record {
-  ties = h.ties;
-  code = h.code;
-  keeps = h.keeps;
-  blocks = h.blocks;
-  left = h.left;
-  bar = h.bar;
-  made = h.made;
-  told = set_length task it s ∙ h.told;
-  few = h.few;
-  held = λ other l. has other l (cases_eq task other);
-  gone = h.gone;
-  futures = h.futures;
-  few_futures = h.few_futures;
-  main_done = h.main_done;
-  time = h.time;
-  counts = h.counts;
-  events = h.events;
-  rest = h.rest;
-  count = h.count;
-}
-  where
-    it : Generator
-    it = record (generator_of task s) { tape = (generator_of task s).tape ++ record { input = input; fresh = fresh } ∷ [] }
+  -- The coroutine is put back.
+  pub stands_back : (c : Setting a) (old new : Body X) (s : State a.Kept) (task : ℕ) (coroutine : Gen) → (h : Stands (Some task) (holding coroutine c) old s)
+      → new ≡ record old { slots = new.slots }
+      → new.slots.items ≡ put_back task coroutine old.slots.items → Stands None c new s
+  stands_back c old new s task coroutine h beside items = subst (λ b. Stands None c b s) (sym beside) (record {
+    ties = h.ties;
+    code = h.code;
+    keeps = h.keeps;
+    blocks = h.blocks;
+    left = h.left;
+    bar = h.bar;
+    made = ap length items ∙ with_length task change old.slots.items ∙ h.made;
+    told = h.told;
+    few = subst (λ n. n < 2 ^ 32) (sym (ap length items ∙ with_length task change old.slots.items)) h.few;
+    held = λ other l. has other l (cases_eq task other);
+    gone = h.gone;
+    futures = h.futures;
+    few_futures = h.few_futures;
+    main_done = h.main_done;
+    time = h.time;
+    counts = h.counts;
+    events = h.events;
+    rest = h.rest;
+    extra = h.extra;
+    count = h.count;
+  })
+    where
+      change : Slot → Slot
+      change slot = record slot { coroutine = Some coroutine }
 
-    after : State (Unit {0})
-    after = resumed fresh task input s
+      has : (other : ℕ) → lives s.loop.parts other ≡ true → (task ≡ other) ⊎ (task ≡ other → ⊥)
+          → HasSlot a None c.coroutine h.ties old.code new.slots.items s other
+      has other l (inr n) = let old_one = h.held other l in record {
+        slot = old_one.slot;
+        found = ap (λ (xs : List Slot). slice_get xs other) items ∙ with_other task other change old.slots.items n ∙ old_one.found;
+        right = record {
+          waits =
+              subst (λ b. WaitsAs s.program old.code (generator_of other s) (coroutine_in b (Some coroutine) old_one.slot.coroutine))
+              (runs_no_other task other n)
+              old_one.right.waits;
+          standing = old_one.right.standing;
+        };
+      }
+      has other l (inl same) = subst (λ k. HasSlot a None c.coroutine h.ties old.code new.slots.items s k) same
+          (own (h.held task (subst (λ k. lives s.loop.parts k ≡ true) (sym same) l)))
+        where
+          own : HasSlot a (Some task) (Some coroutine) h.ties old.code old.slots.items s task
+              → HasSlot a None c.coroutine h.ties old.code new.slots.items s task
+          own old_one = record {
+            slot = change old_one.slot;
+            found = ap (λ (xs : List Slot). slice_get xs task) items ∙ with_same task change old.slots.items old_one.slot old_one.found;
+            right = record {
+              waits =
+                  subst (λ b. WaitsAs s.program old.code (generator_of task s) (coroutine_in b (Some coroutine) old_one.slot.coroutine)) (runs_itself task)
+                  old_one.right.waits;
+              standing = old_one.right.standing;
+            };
+          }
 
-    inside : task < length s.generators
-    inside = subst (λ n. task < n) (sym h.told) within
-
-    has : (other : ℕ) → lives s.loop.parts other ≡ true → (task ≡ other) ⊎ (task ≡ other → ⊥)
-        → HasSlot (Some task) (Some now) h.ties body.code body.slots.items after other
-    has other l (inr n) = let old_one = h.held other l in record {
-      slot = old_one.slot;
-      found = old_one.found;
+  -- A task that is done needs no coroutine.
+  pub stands_over : (c : Setting a) (body : Body X) (s : State a.Kept) (task : ℕ) (coroutine : Gen)
+      → (h : Stands (Some task) (holding coroutine c) body s) → lives s.loop.parts task ≡ false
+      → Stands None c body s
+  stands_over c body s task coroutine h done = record {
+    ties = h.ties;
+    code = h.code;
+    keeps = h.keeps;
+    blocks = h.blocks;
+    left = h.left;
+    bar = h.bar;
+    made = h.made;
+    told = h.told;
+    few = h.few;
+    held = λ other l. let it = h.held other l in record {
+      slot = it.slot;
+      found = it.found;
       right = record {
         waits =
-            subst (λ g. WaitsAs s.program body.code g (coroutine_in (is_running (Some task) other) (Some now) old_one.slot.coroutine))
-            (sym (set_other task other it s n))
-            (subst (λ b. WaitsAs s.program body.code (generator_of other s) (coroutine_in b (Some now) old_one.slot.coroutine))
-            (sym (runs_no_other task other n))
-            (subst (λ b. WaitsAs s.program body.code (generator_of other s) (coroutine_in b (Some before) old_one.slot.coroutine)) (runs_no_other task other n)
-            old_one.right.waits));
-        standing =
-            subst (λ (g : Generator). StandsAt h.ties s.loop.parts s.futures other old_one.slot.standing g.standing) (sym (set_other task other it s n))
-            old_one.right.standing;
+            subst (λ b. WaitsAs s.program body.code (generator_of other s) (coroutine_in b (Some coroutine) it.slot.coroutine))
+            (runs_no_other task other (λ same. false≢true (sym done ∙ ap (lives s.loop.parts) same ∙ l))) it.right.waits;
+        standing = it.right.standing;
       };
-    }
-    has other l (inl same) =
-        subst (λ k. HasSlot (Some task) (Some now) h.ties body.code body.slots.items after k) same
-        (own (h.held task (subst (λ k. lives s.loop.parts k ≡ true) (sym same) l)))
-      where
-        own : HasSlot (Some task) (Some before) h.ties body.code body.slots.items s task
-            → HasSlot (Some task) (Some now) h.ties body.code body.slots.items after task
-        own old_one = record {
+    };
+    gone = h.gone;
+    futures = h.futures;
+    few_futures = h.few_futures;
+    main_done = h.main_done;
+    time = h.time;
+    counts = h.counts;
+    events = h.events;
+    rest = h.rest;
+    extra = h.extra;
+    count = h.count;
+  }
+
+  -- What a task that is done was resumed with doesn't matter.
+  pub stands_dead : (c : Setting a) (body : Body X) (s : State a.Kept) (task : ℕ) (it : Generator) → Stands None c body s → lives s.loop.parts task ≡ false
+      → Stands None c body (with_generator task it s)
+  stands_dead c body s task it h done = record {
+    ties = h.ties;
+    code = h.code;
+    keeps = h.keeps;
+    blocks = h.blocks;
+    left = h.left;
+    bar = h.bar;
+    made = h.made;
+    told = set_length task it s ∙ h.told;
+    few = h.few;
+    held = λ other l.
+        let n : task ≡ other → ⊥ = λ same. false≢true (sym done ∙ ap (lives s.loop.parts) same ∙ l) in
+        let old_one = h.held other l in record {
           slot = old_one.slot;
           found = old_one.found;
           right = record {
-            waits =
-                subst (λ g. WaitsAs s.program body.code g (coroutine_in (is_running (Some task) task) (Some now) old_one.slot.coroutine))
-                (sym (set_same task it s inside))
-                (subst (λ b. WaitsAs s.program body.code it (coroutine_in b (Some now) old_one.slot.coroutine)) (sym (runs_itself task))
-                (goes (subst (λ b. WaitsAs s.program body.code (generator_of task s) (coroutine_in b (Some before) old_one.slot.coroutine)) (runs_itself task)
-                old_one.right.waits)));
+            waits = subst (λ g. WaitsAs s.program body.code g old_one.slot.coroutine) (sym (set_other task other it s n)) old_one.right.waits;
             standing =
-                subst (λ (g : Generator). StandsAt h.ties s.loop.parts s.futures task old_one.slot.standing g.standing) (sym (set_same task it s inside))
+                subst (λ (g : Generator). StandsAt h.ties s.loop.parts (named_in a s) other old_one.slot.standing g.standing)
+                (sym (set_other task other it s n))
                 old_one.right.standing;
           };
-        }
+        };
+    gone = h.gone;
+    futures = h.futures;
+    few_futures = h.few_futures;
+    main_done = h.main_done;
+    time = h.time;
+    counts = h.counts;
+    events = h.events;
+    rest = h.rest;
+    extra = h.extra;
+    count = h.count;
+  }
 
--- The coroutine that is taken out stands for the task's generator.
-pub stood : (c : Setting) (body : Body) (s : State (Unit {0})) (task : ℕ) (coroutine : Gen) → Stands (Some task) (holding coroutine c) body s
-    → lives s.loop.parts task ≡ true
-    → StandsFor s.program body.code (generator_of task s).coroutine (generator_of task s).arguments (generator_of task s).tape coroutine
-stood c body s task coroutine h l =
-    let has = h.held task l in
-    subst (λ b. WaitsAs s.program body.code (generator_of task s) (coroutine_in b (Some coroutine) has.slot.coroutine)) (runs_itself task) has.right.waits
+  -- The coroutine that is taken out was resumed.
+  pub stands_resumed : (c : Setting a) (body : Body X) (s : State a.Kept) (task : ℕ) (fresh : Bool) (input : Input) (before now : Gen)
+      → Stands (Some task) (holding before c) body s → task < next_task s.loop.parts
+      → (StandsFor s.program body.code (generator_of task s).coroutine (generator_of task s).arguments (generator_of task s).tape before
+      → StandsFor s.program body.code (generator_of task s).coroutine (generator_of task s).arguments
+      ((generator_of task s).tape ++ record { input = input; fresh = fresh } ∷ []) now)
+      → Stands (Some task) (holding now c) body (resumed fresh task input s)
+  stands_resumed c body s task fresh input before now h within goes = record {
+    ties = h.ties;
+    code = h.code;
+    keeps = h.keeps;
+    blocks = h.blocks;
+    left = h.left;
+    bar = h.bar;
+    made = h.made;
+    told = set_length task it s ∙ h.told;
+    few = h.few;
+    held = λ other l. has other l (cases_eq task other);
+    gone = h.gone;
+    futures = h.futures;
+    few_futures = h.few_futures;
+    main_done = h.main_done;
+    time = h.time;
+    counts = h.counts;
+    events = h.events;
+    rest = h.rest;
+    extra = h.extra;
+    count = h.count;
+  }
+    where
+      it : Generator
+      it = record (generator_of task s) { tape = (generator_of task s).tape ++ record { input = input; fresh = fresh } ∷ [] }
+
+      after : State a.Kept
+      after = resumed fresh task input s
+
+      inside : task < length s.generators
+      inside = subst (λ n. task < n) (sym h.told) within
+
+      has : (other : ℕ) → lives s.loop.parts other ≡ true → (task ≡ other) ⊎ (task ≡ other → ⊥)
+          → HasSlot a (Some task) (Some now) h.ties body.code body.slots.items after other
+      has other l (inr n) = let old_one = h.held other l in record {
+        slot = old_one.slot;
+        found = old_one.found;
+        right = record {
+          waits =
+              subst (λ g. WaitsAs s.program body.code g (coroutine_in (is_running (Some task) other) (Some now) old_one.slot.coroutine))
+              (sym (set_other task other it s n))
+              (subst (λ b. WaitsAs s.program body.code (generator_of other s) (coroutine_in b (Some now) old_one.slot.coroutine))
+              (sym (runs_no_other task other n))
+              (subst (λ b. WaitsAs s.program body.code (generator_of other s) (coroutine_in b (Some before) old_one.slot.coroutine))
+              (runs_no_other task other n)
+              old_one.right.waits));
+          standing =
+              subst (λ (g : Generator). StandsAt h.ties s.loop.parts (named_in a s) other old_one.slot.standing g.standing) (sym (set_other task other it s n))
+              old_one.right.standing;
+        };
+      }
+      has other l (inl same) =
+          subst (λ k. HasSlot a (Some task) (Some now) h.ties body.code body.slots.items after k) same
+          (own (h.held task (subst (λ k. lives s.loop.parts k ≡ true) (sym same) l)))
+        where
+          own : HasSlot a (Some task) (Some before) h.ties body.code body.slots.items s task
+              → HasSlot a (Some task) (Some now) h.ties body.code body.slots.items after task
+          own old_one = record {
+            slot = old_one.slot;
+            found = old_one.found;
+            right = record {
+              waits =
+                  subst (λ g. WaitsAs s.program body.code g (coroutine_in (is_running (Some task) task) (Some now) old_one.slot.coroutine))
+                  (sym (set_same task it s inside))
+                  (subst (λ b. WaitsAs s.program body.code it (coroutine_in b (Some now) old_one.slot.coroutine)) (sym (runs_itself task))
+                  (goes (subst (λ b. WaitsAs s.program body.code (generator_of task s) (coroutine_in b (Some before) old_one.slot.coroutine)) (runs_itself task)
+                  old_one.right.waits)));
+              standing =
+                  subst (λ (g : Generator). StandsAt h.ties s.loop.parts (named_in a s) task old_one.slot.standing g.standing) (sym (set_same task it s inside))
+                  old_one.right.standing;
+            };
+          }
+
+  -- The coroutine that is taken out stands for the task's generator.
+  pub stood : (c : Setting a) (body : Body X) (s : State a.Kept) (task : ℕ) (coroutine : Gen) → Stands (Some task) (holding coroutine c) body s
+      → lives s.loop.parts task ≡ true
+      → StandsFor s.program body.code (generator_of task s).coroutine (generator_of task s).arguments (generator_of task s).tape coroutine
+  stood c body s task coroutine h l =
+      let has = h.held task l in
+      subst (λ b. WaitsAs s.program body.code (generator_of task s) (coroutine_in b (Some coroutine) has.slot.coroutine)) (runs_itself task) has.right.waits

@@ -1,5 +1,5 @@
 -- What the code reads is what the machine reads, where a state is stood for.
-use Rattle.std.proofs.Common.{◌≡◌, ℕ, true, false, List, Option, Some, None, length, slice_get, ◌∙◌, refl, ap, subst, arith}
+use Rattle.std.proofs.Common.{◌≡◌, ℕ, true, false, List, Option, Some, None, length, slice_get, ◌∙◌, refl, ap, subst, inl, arith}
 use Rattle.std.specs.Option.{option_map, option_map_or}
 use Rattle.std.proofs.lemmas.Bool.{false_from_ne_true}
 use Rattle.model_value.specs.Value.{Value, Fut, Task as TaskId}
@@ -10,12 +10,13 @@ use Rattle.model_machine.specs.Arguments.{as_future, as_awaited}
 use Rattle.model_machine.specs.State.{State}
 use Rattle.law_settling.proofs.CancelSound.{plain_within}
 use Rattle.aio_task.specs.View.{parts}
+use Rattle.aio_extra.specs.Added.{Added}
 use Rattle.aio_body.specs.declared.body.Body.{Body}
 use Rattle.aio_body.specs.Named.{future_in, awaited_in}
 use Rattle.aio_body.specs.Stands.{Setting, Stands}
 use Rattle.law_kept.proofs.Telling.{future_of_kept}
 
-module _ (out : Option ℕ) (c : Setting) (body : Body) (s : State (Unit {0})) (h : Stands out c body s) where
+module _ {X : Type 0} {a : Added X} (out : Option ℕ) (c : Setting a) (body : Body X) (s : State a.Kept) (h : Stands out c body s) where
   pub future_named : (x : Value) → future_in body.futures.items x ≡ as_future s x
   future_named (Fut id) = ap (λ (xs : List ℕ). slice_get xs id) h.futures
   future_named _ = refl
@@ -27,7 +28,7 @@ module _ (out : Option ℕ) (c : Setting) (body : Body) (s : State (Unit {0})) (
 
   -- what a script names was not let go
   pub named_stays : (place id : ℕ) → slice_get s.futures place ≡ Some id → h.ties.gone id ≡ false
-  named_stays place id found = false_from_ne_true (h.ties.gone id) (λ e. (h.gone id e).unnamed place found)
+  named_stays place id found = false_from_ne_true (h.ties.gone id) (λ e. (h.gone id e).unnamed (inl (place, found)))
 
   -- nor was a task's own future
   pub own_stays : OwnsFutures s.loop.parts → (task : ℕ) → h.ties.gone (future_of s.loop.parts task) ≡ false

@@ -17,11 +17,12 @@ use Rattle.aio_timeout.specs.declared.timeout.Timeout.{Timeout}
 use Rattle.aio_timeout.specs.Kept.{IsSameStep, KeepsTimeouts, KeptTimeouts}
 use Rattle.aio_group.proofs.Standing.{groups_on}
 use Rattle.aio_group.specs.Stands.{KeepsAt}
+use Rattle.aio_extra.specs.Added.{Added, named_in}
 use Rattle.aio_body.specs.declared.body.Body.{Body}
 use Rattle.aio_body.specs.Asked.{IsInStep}
 use Rattle.aio_body.specs.Stands.{Setting, Stands}
 use Rattle.law_body.proofs.Left.{leaves_later, leaves_request, leaves_revoke, leaves_uncancel}
-use Rattle.law_body.proofs.Lasting.{own_on, spares_none, stands_at_on}
+use Rattle.law_body.proofs.Lasting.{goes_beside, own_on, spares_none, stands_at_on}
 use Rattle.law_body.proofs.Leaving.{Leaves, leaves_on, leaves_same}
 
 -- ---- what calls of timeouts leave of the parts
@@ -63,63 +64,67 @@ schedule_groups : (id : ℕ) (when : Option ℕ) (l : Loop) → (schedule id whe
 schedule_groups id None l = refl
 schedule_groups id (Some when) l = refl
 
--- ---- the state after a change of the timeouts and of the parts, whose view is `v` then
-pub stands_timed : (out : Option ℕ) (c : Setting) (old : Body) (s : State (Unit {0})) (v : View) (timeouts : List Timeout) (m : Loop)
-    → (h : Stands out c old s) → KeptTimeouts h.ties s.loop timeouts v m → Leaves None s.loop.parts m.parts → m.groups ≡ s.loop.groups
-    → length v.queue.below ≡ length old.parts.queue.below
-    → Stands out c (record old { parts = v; timeouts = timeouts }) (with_loop m s)
-stands_timed out c old s v timeouts m h kept leaves groups below = record {
-  ties = kept.ties;
-  code = h.code;
-  keeps = kept.keeps.parts;
-  left = below ∙ h.left;
-  bar = kept.extends.bar ∙ h.bar;
-  blocks = record {
-    timeouts = kept.keeps.timeouts;
-    groups =
-        subst (λ (gs : List Group). (id : ℕ) → KeepsAt kept.ties m.parts (slice_get old.groups id) (slice_get gs id)) (sym groups)
-        (groups_on h.ties kept.ties s.loop.parts m.parts leaves.goes_on kept.extends.gone old.groups s.loop.groups h.blocks.groups);
-  };
-  made = h.made ∙ sym leaves.tasks;
-  told = h.told ∙ sym leaves.tasks;
-  few = h.few;
-  held = λ task l. let it = h.held task (leaves.living task l) in record {
-    slot = it.slot;
-    found = it.found;
-    right = record {
-      waits = it.right.waits;
-      standing =
-          stands_at_on None h.ties kept.ties s.loop.parts m.parts s.futures task it.slot.standing (generator_of task s).standing leaves
-          (spares_none s.loop.parts s.futures) kept.extends it.right.standing;
+module _ {X : Type 0} {a : Added X} where
+  -- ---- the state after a change of the timeouts and of the parts, whose view is `v` then
+  pub stands_timed : (out : Option ℕ) (c : Setting a) (old : Body X) (s : State a.Kept) (v : View) (timeouts : List Timeout) (m : Loop)
+      → (h : Stands out c old s) → KeptTimeouts h.ties s.loop timeouts v m → Leaves None s.loop.parts m.parts → m.groups ≡ s.loop.groups
+      → length v.queue.below ≡ length old.parts.queue.below
+      → Stands out c (record old { parts = v; timeouts = timeouts }) (with_loop m s)
+  stands_timed out c old s v timeouts m h kept leaves groups below = record {
+    ties = kept.ties;
+    code = h.code;
+    keeps = kept.keeps.parts;
+    left = below ∙ h.left;
+    bar = kept.extends.bar ∙ h.bar;
+    blocks = record {
+      timeouts = kept.keeps.timeouts;
+      groups =
+          subst (λ (gs : List Group). (id : ℕ) → KeepsAt kept.ties m.parts (slice_get old.groups id) (slice_get gs id)) (sym groups)
+          (groups_on h.ties kept.ties s.loop.parts m.parts leaves.goes_on kept.extends.gone old.groups s.loop.groups h.blocks.groups);
     };
-  };
-  gone = λ id e.
-      own_on None s.loop.parts m.parts s.futures None id leaves (spares_none s.loop.parts s.futures)
-      (h.gone id (sym (ap (λ f. f id) kept.extends.gone) ∙ e));
-  futures = h.futures;
-  few_futures = h.few_futures;
-  main_done = h.main_done;
-  time = subst (λ n. n ≤ most) (sym leaves.time) h.time;
-  counts = leaves.counts h.counts;
-  events = h.events;
-  rest = h.rest;
-  count = h.count;
-}
+    made = h.made ∙ sym leaves.tasks;
+    told = h.told ∙ sym leaves.tasks;
+    few = h.few;
+    held = λ task l. let it = h.held task (leaves.living task l) in record {
+      slot = it.slot;
+      found = it.found;
+      right = record {
+        waits = it.right.waits;
+        standing =
+            stands_at_on None h.ties kept.ties s.loop.parts m.parts (named_in a s) task it.slot.standing (generator_of task s).standing leaves
+            (spares_none s.loop.parts (named_in a s)) kept.extends it.right.standing;
+      };
+    };
+    gone = λ id e.
+        own_on None s.loop.parts m.parts (named_in a s) None id leaves (spares_none s.loop.parts (named_in a s))
+        (h.gone id (sym (ap (λ f. f id) kept.extends.gone) ∙ e));
+    futures = h.futures;
+    few_futures = h.few_futures;
+    main_done = h.main_done;
+    time = subst (λ n. n ≤ most) (sym leaves.time) h.time;
+    counts = leaves.counts h.counts;
+    events = h.events;
+    rest = h.rest;
+    extra =
+        a.goes_on h.ties kept.ties s.loop.parts m.parts old.extra s.extra h.extra
+        (goes_beside (a.owns s.extra) h.ties kept.ties s.loop.parts m.parts kept.extends leaves.plain leaves.goes_on);
+    count = h.count;
+  }
 
-pub timeouts_of : (out : Option ℕ) (c : Setting) (body : Body) (s : State (Unit {0})) → (h : Stands out c body s)
-    → KeepsTimeouts h.ties body.timeouts body.parts s.loop
-timeouts_of out c body s h = record { parts = h.keeps; timeouts = h.blocks.timeouts }
+  pub timeouts_of : (out : Option ℕ) (c : Setting a) (body : Body X) (s : State a.Kept) → (h : Stands out c body s)
+      → KeepsTimeouts h.ties body.timeouts body.parts s.loop
+  timeouts_of out c body s h = record { parts = h.keeps; timeouts = h.blocks.timeouts }
 
--- in a step of a task
-pub goes_timed : (task : ℕ) (c : Setting) (old : Body) (s : State (Unit {0})) (v : View) (timeouts : List Timeout) (m : Loop)
-    → (h : IsInStep task c old s) → KeptTimeouts h.stands.ties s.loop timeouts v m → Leaves None s.loop.parts m.parts
-    → m.groups ≡ s.loop.groups → length v.queue.below ≡ length old.parts.queue.below → IsSameStep old.parts v
-    → IsInStep task c (record old { parts = v; timeouts = timeouts }) (with_loop m s)
-goes_timed task c old s v timeouts m h kept leaves groups below same = record {
-  stands = stands_timed (Some task) c old s v timeouts m h.stands kept leaves groups below;
-  called = same.called ∙ h.called;
-  running = same.running ∙ h.running;
-}
+  -- in a step of a task
+  pub goes_timed : (task : ℕ) (c : Setting a) (old : Body X) (s : State a.Kept) (v : View) (timeouts : List Timeout) (m : Loop)
+      → (h : IsInStep task c old s) → KeptTimeouts h.stands.ties s.loop timeouts v m → Leaves None s.loop.parts m.parts
+      → m.groups ≡ s.loop.groups → length v.queue.below ≡ length old.parts.queue.below → IsSameStep old.parts v
+      → IsInStep task c (record old { parts = v; timeouts = timeouts }) (with_loop m s)
+  goes_timed task c old s v timeouts m h kept leaves groups below same = record {
+    stands = stands_timed (Some task) c old s v timeouts m h.stands kept leaves groups below;
+    called = same.called ∙ h.called;
+    running = same.running ∙ h.running;
+  }
 
 -- ---- each call
 pub leaves_enter : (task : ℕ) (delay : Option ℤ) (l : Loop) → Leaves None l.parts (enter_timeout task delay l).parts

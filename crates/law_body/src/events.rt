@@ -7,9 +7,11 @@ ghost use Rattle.aio_wire.specs.Events.{pushed};
 ghost use Rattle.aio_body.specs.Stands.{Setting, Stands};
 ghost use Rattle.aio_body.specs.declared.body.Body.{Body};
 
+use aio_extra::Extra;
+
 /// An event that is pushed is one event more of the state.
-pub fn an_event_more_is_noted()
-    ensures { (out : Option ℕ) (c : Setting) (body : Body) (s : State (Unit {0})) (it : Event) (events : EventList)
+pub fn an_event_more_is_noted<X: Extra>()
+    ensures { (out : Option ℕ) (c : Setting X.added) (body : Body X) (s : State X.added.Kept) (it : Event) (events : EventList)
         → events ≡ pushed body.events it → Stands out c body s
         → Stands out c (record body { events = events }) (noted it s) }
 {}

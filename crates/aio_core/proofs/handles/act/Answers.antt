@@ -1,9 +1,9 @@
-use Rattle.std.proofs.Common.{true, length, ◌∙◌, refl, sym, ap, subst}
+use Rattle.std.proofs.Common.{true, length, rules, SFits, w64, to_z, of_z, ◌∙◌, refl, sym, ap, subst}
+use Rattle.std.proofs.lemmas.Int.{to_z-of_z}
 use Rattle.std.proofs.lemmas.Result.{IfOk-weaker}
 use Rattle.model_value.specs.declared.input.Input.TheVariants.{Send, Throw}
 use Rattle.model_value.specs.declared.outcome.Outcome.TheVariants.{Value as Returned}
 use Rattle.model_says.specs.Says.{step_limit}
-use Rattle.model_machine.specs.Extra.{no_extra}
 use Rattle.model_machine.specs.Sound.{sends_made}
 use Rattle.model_machine.specs.Step.{step}
 use Rattle.aio_ready.specs.Queue.{soon_all}
@@ -12,73 +12,75 @@ use Rattle.aio_future.specs.Settled.{called}
 use Rattle.aio_step.specs.Stepping.{Steps}
 use Rattle.aio_step.specs.declared.steps.Stepped.TheVariants as went
 use Rattle.aio_core.specs.Effects.{MayAct}
-use Rattle.aio_core.proofs.Acting.{Acts, StepsAs, circle_acts, circle_begins, fire_acts, fire_takes, group_acts, group_takes, main_acts, nothing_acts, sleep_acts, sleep_free, sleep_idle, step_acts, step_begins, wakeup_acts, wakeup_begins}
+use Rattle.aio_core.proofs.Acting.{Acts, HearsNews, StepsAs, circle_acts, extra_acts, extra_serves, item_acts, item_serves, circle_begins, fire_acts, fire_takes, group_acts, group_takes, main_acts, nothing_acts, sleep_acts, sleep_free, sleep_idle, step_acts, step_begins, wakeup_acts, wakeup_begins}
 use Rattle.aio_core.proofs.handles.act.Goals as goal
 
 pub step-requires-clause-called : goal.step-requires-clause-called
-step-requires-clause-called c = step_begins c.in-Step.task c.args.body.now (subst (λ w. MayAct w c.args.body.now) c.in-Step.is c.requires)
+step-requires-clause-called g c = step_begins c.in-Step.task c.args.body.now (subst (λ w. MayAct g.X.Extra.added w c.args.body.now) c.in-Step.is c.requires)
 
 pub step-requires-clause-made : goal.step-requires-clause-made
-step-requires-clause-made c = ap (λ v. sends_made (length c.args.body.now.slots.items) (Send v)) c.nothing.ensures
+step-requires-clause-made g c = ap (λ v. sends_made (length c.args.body.now.slots.items) (Send v)) c.nothing.ensures
 
 pub step-requires-in-StepInCircle-clause-called : goal.step-requires-in-StepInCircle-clause-called
-step-requires-in-StepInCircle-clause-called c =
+step-requires-in-StepInCircle-clause-called g c =
     circle_begins c.in-StepInCircle.task c.in-StepInCircle.circle c.args.body.now
-    (subst (λ w. MayAct w c.args.body.now) c.in-StepInCircle.is c.requires)
+    (subst (λ w. MayAct g.X.Extra.added w c.args.body.now) c.in-StepInCircle.is c.requires)
 
 pub step-requires-in-StepInCircle-clause-made : goal.step-requires-in-StepInCircle-clause-made
-step-requires-in-StepInCircle-clause-made c = refl
+step-requires-in-StepInCircle-clause-made g c = refl
 
 pub woken_with-requires : goal.woken_with-requires
-woken_with-requires c = wakeup_begins c.in-Wakeup.task c.args.body.now (subst (λ w. MayAct w c.args.body.now) c.in-Wakeup.is c.requires)
+woken_with-requires g c = wakeup_begins c.in-Wakeup.task c.args.body.now (subst (λ w. MayAct g.X.Extra.added w c.args.body.now) c.in-Wakeup.is c.requires)
 
 pub step-requires-in-Wakeup-clause-called : goal.step-requires-in-Wakeup-clause-called
-step-requires-in-Wakeup-clause-called c =
-    wakeup_begins c.in-Wakeup.task c.args.body.now (subst (λ w. MayAct w c.args.body.now) c.in-Wakeup.is c.requires)
+step-requires-in-Wakeup-clause-called g c =
+    wakeup_begins c.in-Wakeup.task c.args.body.now (subst (λ w. MayAct g.X.Extra.added w c.args.body.now) c.in-Wakeup.is c.requires)
 
 pub step-requires-in-Wakeup-clause-made : goal.step-requires-in-Wakeup-clause-made
-step-requires-in-Wakeup-clause-made c = c.in_ok-input-in-Wakeup.ensures.made
+step-requires-in-Wakeup-clause-made g c = c.in_ok-input-in-Wakeup.ensures.made
 
 pub resolve-was_pending-requires-clause-idle : goal.resolve-was_pending-requires-clause-idle
-resolve-was_pending-requires-clause-idle c =
-    sleep_idle c.in-SleepDone._sleeper c.in-SleepDone.future c.args.body.now (subst (λ w. MayAct w c.args.body.now) c.in-SleepDone.is c.requires)
+resolve-was_pending-requires-clause-idle g c =
+    sleep_idle c.in-SleepDone._sleeper c.in-SleepDone.future c.args.body.now
+    (subst (λ w. MayAct g.X.Extra.added w c.args.body.now) c.in-SleepDone.is c.requires)
 
 pub resolve-was_pending-requires-clause-no_task : goal.resolve-was_pending-requires-clause-no_task
-resolve-was_pending-requires-clause-no_task c =
-    sleep_free c.in-SleepDone._sleeper c.in-SleepDone.future c.args.body.now (subst (λ w. MayAct w c.args.body.now) c.in-SleepDone.is c.requires)
+resolve-was_pending-requires-clause-no_task g c =
+    sleep_free c.in-SleepDone._sleeper c.in-SleepDone.future c.args.body.now
+    (subst (λ w. MayAct g.X.Extra.added w c.args.body.now) c.in-SleepDone.is c.requires)
 
 pub child_done-requires : goal.child_done-requires
-child_done-requires c =
-    group_takes c.in-GroupDone.group c.in-GroupDone.task c.args.body.now (subst (λ w. MayAct w c.args.body.now) c.in-GroupDone.is c.requires)
+child_done-requires g c =
+    group_takes c.in-GroupDone.group c.in-GroupDone.task c.args.body.now (subst (λ w. MayAct g.X.Extra.added w c.args.body.now) c.in-GroupDone.is c.requires)
 
 pub fire-requires : goal.fire-requires
-fire-requires c = fire_takes c.in-Fires.timeout c.args.body.now (subst (λ w. MayAct w c.args.body.now) c.in-Fires.is c.requires)
+fire-requires g c = fire_takes c.in-Fires.timeout c.args.body.now (subst (λ w. MayAct g.X.Extra.added w c.args.body.now) c.in-Fires.is c.requires)
 
 pub returns-in-Step : goal.returns-in-Step
-returns-in-Step c =
+returns-in-Step g c =
     IfOk-weaker c.step.result _ _
-    (λ said does. subst (λ w. Acts w c.args.body.now c.step.new.body said) (sym c.in-Step.is)
+    (λ said does. subst (λ w. Acts g.X.Extra.added w c.args.body.now c.step.new.body said) (sym c.in-Step.is)
     (step_acts c.args.body.now c.step.new.body said c.in-Step.task
-    (subst (λ v. StepsAs c.in-Step.task (λ s. Send v) c.args.body.now c.step.new.body said) c.nothing.ensures does))) c.step.ensures
+    (subst (λ v. StepsAs g.X.Extra.added c.in-Step.task (λ s. Send v) c.args.body.now c.step.new.body said) c.nothing.ensures does))) c.step.ensures
 
 pub returns-in_ok-fault-in-StepInCircle : goal.returns-in_ok-fault-in-StepInCircle
-returns-in_ok-fault-in-StepInCircle c =
+returns-in_ok-fault-in-StepInCircle g c =
     IfOk-weaker c.step-in-StepInCircle.result _ _
-    (λ said does. subst (λ w. Acts w c.args.body.now c.step-in-StepInCircle.new.body said) (sym c.in-StepInCircle.is)
+    (λ said does. subst (λ w. Acts g.X.Extra.added w c.args.body.now c.step-in-StepInCircle.new.body said) (sym c.in-StepInCircle.is)
     (circle_acts c.args.body.now c.step-in-StepInCircle.new.body said c.in-StepInCircle.task c.in-StepInCircle.circle
-    (subst (λ f. StepsAs c.in-StepInCircle.task (λ s. Throw f) c.args.body.now c.step-in-StepInCircle.new.body said)
+    (subst (λ f. StepsAs g.X.Extra.added c.in-StepInCircle.task (λ s. Throw f) c.args.body.now c.step-in-StepInCircle.new.body said)
     c.in_ok-fault-in-StepInCircle.ensures does))) c.step-in-StepInCircle.ensures
 
 pub returns-in_ok-input-in-Wakeup : goal.returns-in_ok-input-in-Wakeup
-returns-in_ok-input-in-Wakeup c =
+returns-in_ok-input-in-Wakeup g c =
     IfOk-weaker c.step-in-Wakeup.result _ _
-    (λ said does. subst (λ w. Acts w c.args.body.now c.step-in-Wakeup.new.body said) (sym c.in-Wakeup.is)
+    (λ said does. subst (λ w. Acts g.X.Extra.added w c.args.body.now c.step-in-Wakeup.new.body said) (sym c.in-Wakeup.is)
     (wakeup_acts c.args.body.now c.step-in-Wakeup.new.body said c.in-Wakeup.task
-    (λ d s h. subst (λ i. Steps d c.step-in-Wakeup.new.body said (step step_limit no_extra c.in-Wakeup.task i s))
+    (λ d s h. subst (λ i. Steps d c.step-in-Wakeup.new.body said (step step_limit g.X.Extra.added.meaning c.in-Wakeup.task i s))
     (c.in_ok-input-in-Wakeup.ensures.input d s h) (does d s h)))) c.step-in-Wakeup.ensures
 
 pub returns-in-SleepDone : goal.returns-in-SleepDone
-returns-in-SleepDone c =
+returns-in-SleepDone g c =
     let body = c.args.body.now in
     let future = c.in-SleepDone.future in
     let is = c.resolve-was_pending.ensures.after
@@ -86,23 +88,52 @@ returns-in-SleepDone c =
       futures = settled.settled future (Returned v) body.parts.futures;
       queue = soon_all (called future body.parts.futures) body.parts.queue;
     }) c.nothing-in-SleepDone.ensures in
-    subst (λ w. Acts w body (record body { parts = c.resolve-was_pending.new.self }) went.Goes) (sym c.in-SleepDone.is)
+    subst (λ w. Acts g.X.Extra.added w body (record body { parts = c.resolve-was_pending.new.self }) went.Goes) (sym c.in-SleepDone.is)
     (sleep_acts c.in-SleepDone._sleeper future body c.resolve-was_pending.new.self is)
 
 pub returns-in-GroupDone : goal.returns-in-GroupDone
-returns-in-GroupDone c =
-    subst (λ w. Acts w c.args.body.now c.child_done.new.body went.Goes) (sym c.in-GroupDone.is)
+returns-in-GroupDone g c =
+    subst (λ w. Acts g.X.Extra.added w c.args.body.now c.child_done.new.body went.Goes) (sym c.in-GroupDone.is)
     (group_acts c.in-GroupDone.group c.in-GroupDone.task c.args.body.now c.child_done.new.body c.child_done.ensures)
 
 pub returns-in-Fires : goal.returns-in-Fires
-returns-in-Fires c =
-    subst (λ w. Acts w c.args.body.now c.fire.new.body went.Goes) (sym c.in-Fires.is)
+returns-in-Fires g c =
+    subst (λ w. Acts g.X.Extra.added w c.args.body.now c.fire.new.body went.Goes) (sym c.in-Fires.is)
     (fire_acts c.in-Fires.timeout c.args.body.now c.fire.new.body c.fire.ensures)
 
 pub returns-in-MainDone : goal.returns-in-MainDone
-returns-in-MainDone c =
-    subst (λ w. Acts w c.args.body.now (record c.args.body.now { main_done = true }) went.Goes) (sym c.in-MainDone.is) (main_acts c.args.body.now)
+returns-in-MainDone g c =
+    subst (λ w. Acts g.X.Extra.added w c.args.body.now (record c.args.body.now { main_done = true }) went.Goes) (sym c.in-MainDone.is)
+    (main_acts c.args.body.now)
 
 pub returns-in-Nothing : goal.returns-in-Nothing
-returns-in-Nothing c =
-    subst (λ w. Acts w c.args.body.now c.args.body.now went.Goes) (sym c.in-Nothing.is) (nothing_acts c.args.body.now)
+returns-in-Nothing g c =
+    subst (λ w. Acts g.X.Extra.added w c.args.body.now c.args.body.now went.Goes) (sym c.in-Nothing.is) (nothing_acts c.args.body.now)
+
+-- ---- what is added
+pub act-requires : goal.act-requires
+act-requires g c = record {
+  serves = extra_serves c.in-Extra.key c.args.body.now (subst (λ w. MayAct g.X.Extra.added w c.args.body.now) c.in-Extra.is c.requires);
+}
+
+pub returns-in_ok-act-in-Extra : goal.returns-in_ok-act-in-Extra
+returns-in_ok-act-in-Extra g c =
+    subst (λ w. Acts g.X.Extra.added w c.args.body.now (record c.args.body.now { parts = c.act.new.parts; extra = c.act.new.self }) went.Goes)
+    (sym c.in-Extra.is) (extra_acts c.in-Extra.key c.args.body.now c.act.new.parts c.act.new.self c.in_ok-act-in-Extra.ensures)
+
+pub item-requires : goal.item-requires
+item-requires g c = record {
+  serves = item_serves c.in-ExtraItem.code c.in-ExtraItem.bytes c.args.body.now
+      (subst (λ w. MayAct g.X.Extra.added w c.args.body.now) c.in-ExtraItem.is c.requires);
+}
+
+pub returns-in_ok-item-in-ExtraItem : goal.returns-in_ok-item-in-ExtraItem
+returns-in_ok-item-in-ExtraItem g c =
+    let fits : SFits w64 c.in-ExtraItem.code = search rules in
+    let body = c.args.body.now in
+    let v = c.item.new.parts in
+    let x = c.item.new.self in
+    subst (λ w. Acts g.X.Extra.added w body (record body { parts = v; extra = x }) went.Goes) (sym c.in-ExtraItem.is)
+    (item_acts c.in-ExtraItem.code c.in-ExtraItem.bytes body v x
+    (subst (λ n. HearsNews g.X.Extra.added body v x n c.in-ExtraItem.bytes) (to_z-of_z w64 c.in-ExtraItem.code fits)
+    (subst (HearsNews g.X.Extra.added body v x (to_z w64 (of_z w64 c.in-ExtraItem.code))) c.items.ensures c.in_ok-item-in-ExtraItem.ensures)))

@@ -5,32 +5,32 @@ use Rattle.aio_core.proofs.Waking.{idle_alive}
 use Rattle.aio_core.proofs.handles.run_below.Goals as goal
 
 pub next_below-requires : goal.next_below-requires
-next_below-requires c =
+next_below-requires g c =
     let l = c.loop-action in
     record { idle = idle_alive l.body (alive_on c.args.body.now l.body c.requires l.invariant) }
 
 pub run-requires : goal.run-requires
-run-requires c =
+run-requires g c =
     let l = c.loop-action in
     let next = sym c.next_below.ensures.action ∙ ap (option_map (λ it. it.0)) c.in-Some.is in
     may_run l.body c.next_below.new.self c.in-Some.action c.next_below.ensures.after next (alive_on c.args.body.now l.body c.requires l.invariant)
 
 pub loop-action-smaller : goal.loop-action-smaller
-loop-action-smaller c =
+loop-action-smaller g c =
     let l = c.loop-action in
     let next = sym c.next_below.ensures.action ∙ ap (option_map (λ it. it.0)) c.in-Some.is in
     let ran = rw c.in-Goes.is at c.in_ok-run.ensures in
     fewer c.args.body.now l.body c.run.new.body c.next_below.new.self c.in-Some.action c.next_below.ensures.after next l.invariant c.requires ran
 
 pub loop-action-preserved : goal.loop-action-preserved
-loop-action-preserved c =
+loop-action-preserved g c =
     let l = c.loop-action in
     let next = sym c.next_below.ensures.action ∙ ap (option_map (λ it. it.0)) c.in-Some.is in
     let ran = rw c.in-Goes.is at c.in_ok-run.ensures in
     reached_next c.args.body.now l.body c.run.new.body c.next_below.new.self c.in-Some.action c.next_below.ensures.after next l.invariant ran
 
 pub returns-in-Runaway : goal.returns-in-Runaway
-returns-in-Runaway c =
+returns-in-Runaway g c =
     let l = c.loop-action in
     let next = sym c.next_below.ensures.action ∙ ap (option_map (λ it. it.0)) c.in-Some.is in
     let ran = rw c.in-Runaway.is at c.in_ok-run.ensures in
@@ -38,7 +38,7 @@ returns-in-Runaway c =
     c.in-Runaway.task ran
 
 pub returns : goal.returns
-returns c =
+returns g c =
     let l = c.loop-action in
     let next = sym c.next_below.ensures.action ∙ ap (option_map (λ it. it.0)) c.in_default.is in
     at_bar_so c.args.body.now l.body c.next_below.new.self c.next_below.ensures.after next l.invariant

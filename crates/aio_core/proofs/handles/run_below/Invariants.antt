@@ -4,7 +4,7 @@ use Rattle.aio_core.proofs.Running.{HasReached}
 use Rattle.aio_core.proofs.handles.run_below.Given as goal
 
 abbrev pub invariant-loop-action : goal.invariant-loop-action
-invariant-loop-action l = HasReached l.fn.body l.body
+invariant-loop-action g l = HasReached g.X.Extra.added l.fn.body l.body
 
 abbrev pub decreases-loop-action : goal.decreases-loop-action
-decreases-loop-action l = length l.body.parts.queue.below
+decreases-loop-action g l = length l.body.parts.queue.below

@@ -4,31 +4,31 @@ use Rattle.aio_core.proofs.Following.{after_goes, after_runs_away, alive_by, ali
 use Rattle.aio_core.proofs.turns.after.Goals as goal
 
 pub wake-requires-clause-alive : goal.wake-requires-clause-alive
-wake-requires-clause-alive c = c.requires.alive
+wake-requires-clause-alive g c = c.requires.alive
 
 pub wake-requires-clause-time : goal.wake-requires-clause-time
-wake-requires-clause-time c = c.requires.time
+wake-requires-clause-time g c = c.requires.time
 
 pub run_below-requires : goal.run_below-requires
-run_below-requires c =
+run_below-requires g c =
     let answer = c.args.answer.now in
     alive_by c.args.body.now c.wake.new.body (λ d s. all_below d (woken_to answer s)) (woken_to answer) c.requires.alive c.wake.ensures
 
 pub end_turn-requires : goal.end_turn-requires
-end_turn-requires c =
+end_turn-requires g c =
     let answer = c.args.answer.now in
     let ran = rw c.in-Goes.is at c.in_ok-run_below.ensures in
     let alive = alive_by c.args.body.now c.wake.new.body (λ d s. all_below d (woken_to answer s)) (woken_to answer) c.requires.alive c.wake.ensures in
     alive_ran answer c.args.body.now c.wake.new.body c.run_below.new.body c.wake.ensures alive ran
 
 pub returns-in-Goes : goal.returns-in-Goes
-returns-in-Goes c =
+returns-in-Goes g c =
     let ran = rw c.in-Goes.is at c.in_ok-run_below.ensures in
     IfOk-weaker c.end_turn.result _ _
     (λ said does. after_goes c.args.answer.now c.args.body.now c.wake.new.body c.run_below.new.body c.wake.ensures c.end_turn.new.body said ran does)
     c.end_turn.ensures
 
 pub returns-in-Runaway : goal.returns-in-Runaway
-returns-in-Runaway c =
+returns-in-Runaway g c =
     let ran = rw c.in-Runaway.is at c.in_ok-run_below.ensures in
     after_runs_away c.args.answer.now c.args.body.now c.wake.new.body c.run_below.new.body c.wake.ensures c.in-Runaway.task ran

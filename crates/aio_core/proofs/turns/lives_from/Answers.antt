@@ -4,10 +4,10 @@ use Rattle.aio_core.proofs.Stopping.{some_lives}
 use Rattle.aio_core.proofs.turns.lives_from.Goals as goal
 
 pub tasks-task-end-requires : goal.tasks-task-end-requires
-tasks-task-end-requires c = c.requires
+tasks-task-end-requires g c = c.requires
 
 pub returns-then-is_pending : goal.returns-then-is_pending
-returns-then-is_pending c =
+returns-then-is_pending g c =
     let body = c.args.body.now in
     let within = c.loop-task-test.true in
     let all = c.tasks-task-end.ensures in

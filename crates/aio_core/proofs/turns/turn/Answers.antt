@@ -2,7 +2,6 @@ use Rattle.std.proofs.Common.{Ok, Err, true, false, ◌≡◌, ◌∙◌, refl, 
 use Rattle.std.proofs.lemmas.Result.{err_from_is_err_and}
 use Rattle.model_wire.specs.Fits.{fits}
 use Rattle.model_says.specs.Says.{step_limit}
-use Rattle.model_machine.specs.Extra.{no_extra}
 use Rattle.model_machine.specs.State.{State, unbooked_in}
 use Rattle.model_machine.specs.Turn.{is_stalled, turned_by, woken_by}
 use Rattle.aio_body.specs.Stands.{IsBetween, Setting}
@@ -18,7 +17,7 @@ returns-then-is_stalled-clause-comes g c =
 
 pub returns-then-is_stalled-clause-stalls : goal.returns-then-is_stalled-clause-stalls
 returns-then-is_stalled-clause-stalls g c =
-    λ past answers s h. sym (c.is_stalled.ensures (resting past answers h.0) s h.1) ∙ c.if-is_stalled.true
+    λ past answers s h. sym (c.is_stalled.ensures (resting g.X.Extra.added past answers h.0) s h.1) ∙ c.if-is_stalled.true
 
 pub returns-then-is_stalled-clause-keeps : goal.returns-then-is_stalled-clause-keeps
 returns-then-is_stalled-clause-keeps g c = g.met.W.Wire.keeps_same c.args.wire.now
@@ -36,19 +35,19 @@ returns-in_err-answer-clause-comes g c =
     let why = c.in_err-answer.field-0.0 in
     rw (p.1, p.2) (stops_so c.args.body.now c.first_call-call.result c.first_call-call.ensures.call
     (λ d s h. sym c.if-is_stalled.false ∙ c.is_stalled.ensures d s h) c.ask.new.body.events (g.W.Wire.seen c.args.wire.now) (g.W.Wire.seen c.ask.new.wire)
-    (Err why) why refl c.in_err-answer.ensures.asks (stood_by c.ask.new.body))
+    (Err why) why refl c.in_err-answer.ensures.asks (stood_by g.X.Extra.added c.ask.new.body))
 
 pub returns-in_err-answer-clause-stalls : goal.returns-in_err-answer-clause-stalls
 returns-in_err-answer-clause-stalls g c =
     let p = err_from_is_err_and c.from_residual.result c.from_residual.ensures.1 in
     let why = c.in_err-answer.field-0.0 in
     rw (p.1, p.2) (λ past answers s h. subst (λ b. StallsAs b (went.Stopped why))
-    (sym c.if-is_stalled.false ∙ c.is_stalled.ensures (resting past answers h.0) s h.1) (stalls_stopped why))
+    (sym c.if-is_stalled.false ∙ c.is_stalled.ensures (resting g.X.Extra.added past answers h.0) s h.1) (stalls_stopped why))
 
 pub returns-in_err-answer-clause-alive : goal.returns-in_err-answer-clause-alive
 returns-in_err-answer-clause-alive g c =
     let p = err_from_is_err_and c.from_residual.result c.from_residual.ensures.1 in
-    subst (λ r. AliveIfWent (said_by r) c.ask.new.body) (sym p.1) tt
+    subst (λ r. AliveIfWent g.X.Extra.added (said_by r) c.ask.new.body) (sym p.1) tt
 
 pub returns-in_err-answer-clause-fails : goal.returns-in_err-answer-clause-fails
 returns-in_err-answer-clause-fails g c =
@@ -74,18 +73,19 @@ after-requires-clause-alive g c =
     let old = c.args.body.now in
     let call = c.first_call-call.result in
     let is = c.first_call-call.ensures.call in
-    let goes : (d : Setting) (s : State (Unit {0})) → IsBetween d old s → false ≡ is_stalled no_extra s = λ d s h.
+    let goes : (d : Setting g.X.Extra.added) (s : State _) → IsBetween d old s → false ≡ is_stalled g.X.Extra.added.meaning s = λ d s h.
     sym c.if-is_stalled.false ∙ c.is_stalled.ensures d s h in
     let got = got_so old call is goes (Ok c.in_ok-answer.answer) c.in_ok-answer.answer c.ask.new.body.events (g.W.Wire.seen c.args.wire.now)
     (g.W.Wire.seen c.ask.new.wire) refl c.in_ok-answer.ensures.asks in
-    subst IsAlive (sym c.in_ok-answer.ensures.beside) (got_alive old call is goes c.in_ok-answer.answer c.ask.new.body.events got.is_noted c.requires)
+    subst (IsAlive g.X.Extra.added) (sym c.in_ok-answer.ensures.beside)
+    (got_alive old call is goes c.in_ok-answer.answer c.ask.new.body.events got.is_noted c.requires)
 
 pub after-requires-clause-time : goal.after-requires-clause-time
 after-requires-clause-time g c =
     let old = c.args.body.now in
     let call = c.first_call-call.result in
     let is = c.first_call-call.ensures.call in
-    let goes : (d : Setting) (s : State (Unit {0})) → IsBetween d old s → false ≡ is_stalled no_extra s = λ d s h.
+    let goes : (d : Setting g.X.Extra.added) (s : State _) → IsBetween d old s → false ≡ is_stalled g.X.Extra.added.meaning s = λ d s h.
     sym c.if-is_stalled.false ∙ c.is_stalled.ensures d s h in
     let got = got_so old call is goes (Ok c.in_ok-answer.answer) c.in_ok-answer.answer c.ask.new.body.events (g.W.Wire.seen c.args.wire.now)
     (g.W.Wire.seen c.ask.new.wire) refl c.in_ok-answer.ensures.asks in
@@ -107,7 +107,7 @@ returns-in_err-after-clause-stalls g c =
 pub returns-in_err-after-clause-alive : goal.returns-in_err-after-clause-alive
 returns-in_err-after-clause-alive g c =
     let p = err_from_is_err_and c.from_residual-in_err-after.result c.from_residual-in_err-after.ensures.1 in
-    subst (λ r. AliveIfWent (said_by r) c.after.new.body) (sym p.1) tt
+    subst (λ r. AliveIfWent g.X.Extra.added (said_by r) c.after.new.body) (sym p.1) tt
 
 pub returns-in_err-after-clause-fails : goal.returns-in_err-after-clause-fails
 returns-in_err-after-clause-fails g c =
@@ -132,7 +132,7 @@ returns-clause-comes g c =
     let old = c.args.body.now in
     let call = c.first_call-call.result in
     let is = c.first_call-call.ensures.call in
-    let goes : (d : Setting) (s : State (Unit {0})) → IsBetween d old s → false ≡ is_stalled no_extra s = λ d s h.
+    let goes : (d : Setting g.X.Extra.added) (s : State _) → IsBetween d old s → false ≡ is_stalled g.X.Extra.added.meaning s = λ d s h.
     sym c.if-is_stalled.false ∙ c.is_stalled.ensures d s h in
     let answer = c.in_ok-answer.answer in
     let events = c.ask.new.body.events in
@@ -140,8 +140,9 @@ returns-clause-comes g c =
     let after = g.W.Wire.seen c.ask.new.wire in
     let got = got_so old call is goes (Ok answer) answer events before after refl c.in_ok-answer.ensures.asks in
     let alive = got_alive old call is goes answer events got.is_noted c.requires in
-    let does : (d : Setting) (s : State (Unit {0})) → IsBetween d (record old { events = events }) s
-    → Turned (at_bar (all_below d (unbooked_in (woken_by answer) s))) c.after.new.body c.in_ok-after.field-0 (turned_by step_limit no_extra answer s) = λ d s h.
+    let does : (d : Setting g.X.Extra.added) (s : State _) → IsBetween d (record old { events = events }) s
+    → Turned (at_bar (all_below d (unbooked_in (woken_by answer) s))) c.after.new.body c.in_ok-after.field-0
+    (turned_by step_limit g.X.Extra.added.meaning answer s) = λ d s h.
     c.in_ok-after.ensures d s (subst (λ b. IsBetween d b s) (sym c.in_ok-answer.ensures.beside) h) in
     comes_so old call is goes answer events before after got c.after.new.body c.in_ok-after.field-0 does alive
 
@@ -150,7 +151,7 @@ returns-clause-stalls g c =
     let old = c.args.body.now in
     let call = c.first_call-call.result in
     let is = c.first_call-call.ensures.call in
-    let goes : (d : Setting) (s : State (Unit {0})) → IsBetween d old s → false ≡ is_stalled no_extra s = λ d s h.
+    let goes : (d : Setting g.X.Extra.added) (s : State _) → IsBetween d old s → false ≡ is_stalled g.X.Extra.added.meaning s = λ d s h.
     sym c.if-is_stalled.false ∙ c.is_stalled.ensures d s h in
     let answer = c.in_ok-answer.answer in
     let events = c.ask.new.body.events in
@@ -158,11 +159,12 @@ returns-clause-stalls g c =
     let after = g.W.Wire.seen c.ask.new.wire in
     let got = got_so old call is goes (Ok answer) answer events before after refl c.in_ok-answer.ensures.asks in
     let alive = got_alive old call is goes answer events got.is_noted c.requires in
-    let does : (d : Setting) (s : State (Unit {0})) → IsBetween d (record old { events = events }) s
-    → Turned (at_bar (all_below d (unbooked_in (woken_by answer) s))) c.after.new.body c.in_ok-after.field-0 (turned_by step_limit no_extra answer s) = λ d s h.
+    let does : (d : Setting g.X.Extra.added) (s : State _) → IsBetween d (record old { events = events }) s
+    → Turned (at_bar (all_below d (unbooked_in (woken_by answer) s))) c.after.new.body c.in_ok-after.field-0
+    (turned_by step_limit g.X.Extra.added.meaning answer s) = λ d s h.
     c.in_ok-after.ensures d s (subst (λ b. IsBetween d b s) (sym c.in_ok-answer.ensures.beside) h) in
     λ past answers s h. subst (λ b. StallsAs b c.in_ok-after.field-0)
-    (sym c.if-is_stalled.false ∙ c.is_stalled.ensures (resting past answers h.0) s h.1)
+    (sym c.if-is_stalled.false ∙ c.is_stalled.ensures (resting g.X.Extra.added past answers h.0) s h.1)
     (stalls_after old call is goes answer events before after got c.after.new.body c.in_ok-after.field-0 does alive)
 
 pub returns-clause-alive : goal.returns-clause-alive
@@ -170,7 +172,7 @@ returns-clause-alive g c =
     let old = c.args.body.now in
     let call = c.first_call-call.result in
     let is = c.first_call-call.ensures.call in
-    let goes : (d : Setting) (s : State (Unit {0})) → IsBetween d old s → false ≡ is_stalled no_extra s = λ d s h.
+    let goes : (d : Setting g.X.Extra.added) (s : State _) → IsBetween d old s → false ≡ is_stalled g.X.Extra.added.meaning s = λ d s h.
     sym c.if-is_stalled.false ∙ c.is_stalled.ensures d s h in
     let answer = c.in_ok-answer.answer in
     let events = c.ask.new.body.events in
@@ -178,8 +180,9 @@ returns-clause-alive g c =
     let after = g.W.Wire.seen c.ask.new.wire in
     let got = got_so old call is goes (Ok answer) answer events before after refl c.in_ok-answer.ensures.asks in
     let alive = got_alive old call is goes answer events got.is_noted c.requires in
-    let does : (d : Setting) (s : State (Unit {0})) → IsBetween d (record old { events = events }) s
-    → Turned (at_bar (all_below d (unbooked_in (woken_by answer) s))) c.after.new.body c.in_ok-after.field-0 (turned_by step_limit no_extra answer s) = λ d s h.
+    let does : (d : Setting g.X.Extra.added) (s : State _) → IsBetween d (record old { events = events }) s
+    → Turned (at_bar (all_below d (unbooked_in (woken_by answer) s))) c.after.new.body c.in_ok-after.field-0
+    (turned_by step_limit g.X.Extra.added.meaning answer s) = λ d s h.
     c.in_ok-after.ensures d s (subst (λ b. IsBetween d b s) (sym c.in_ok-answer.ensures.beside) h) in
     alive_after old call is goes answer events before after got c.after.new.body c.in_ok-after.field-0 does alive
 
@@ -188,7 +191,7 @@ returns-clause-fails g c =
     let old = c.args.body.now in
     let call = c.first_call-call.result in
     let is = c.first_call-call.ensures.call in
-    let goes : (d : Setting) (s : State (Unit {0})) → IsBetween d old s → false ≡ is_stalled no_extra s = λ d s h.
+    let goes : (d : Setting g.X.Extra.added) (s : State _) → IsBetween d old s → false ≡ is_stalled g.X.Extra.added.meaning s = λ d s h.
     sym c.if-is_stalled.false ∙ c.is_stalled.ensures d s h in
     let answer = c.in_ok-answer.answer in
     λ fails. absurd (failing_answered call answer (c.in_ok-answer.ensures.fails fails))

@@ -9,14 +9,14 @@ use Rattle.aio_core.proofs.Waking.{wait_busy, wait_idle, waits_for}
 use Rattle.aio_core.proofs.turns.wait.Goals as goal
 
 pub returns-then-not-is_empty : goal.returns-then-not-is_empty
-returns-then-not-is_empty c =
+returns-then-not-is_empty g c =
     let body = c.args.body.now in
     λ d s h. ap (λ w. select w [])
     (wait_busy (queue.is_empty (waiting body.parts.queue)) (schedule.first_when body.parts.schedule.live) body.parts.time
     (sym c.is_empty.ensures ∙ c.if-not-is_empty.true)) ∙ waits_for d body s h
 
 pub returns-in-Some : goal.returns-in-Some
-returns-in-Some c =
+returns-in-Some g c =
     let body = c.args.body.now in
     let found = sym c.in-Some.is ∙ c.earliest.ensures.first in
     λ d s h. ap (λ w. select w [])
@@ -26,7 +26,7 @@ returns-in-Some c =
     (sym c.is_empty.ensures ∙ c.if-not-is_empty.false)) ∙ waits_for d body s h
 
 pub returns-in-None : goal.returns-in-None
-returns-in-None c =
+returns-in-None g c =
     let body = c.args.body.now in
     let found = sym c.in-None.is ∙ c.earliest.ensures.first in
     λ d s h. ap (λ w. select w [])

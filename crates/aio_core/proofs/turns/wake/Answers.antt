@@ -10,24 +10,24 @@ use Rattle.aio_core.proofs.Waking.{barred_view, due_view, idle_alive, later_time
 use Rattle.aio_core.proofs.turns.wake.Goals as goal
 
 pub set_now-requires : goal.set_now-requires
-set_now-requires c =
+set_now-requires g c =
     let body = c.args.body.now in
     let is : c.max-now.result ≡ max body.parts.time (time_of c.args.answer.now) =
     c.max-now.ensures ∙ ap (λ n. max n c.time_of.result) c.now.ensures ∙ ap (max body.parts.time) c.time_of.ensures in
     subst (λ n. n ≤ most) (sym is) (later_time c.args.answer.now c.requires.time body.parts.time (time_few body c.requires.alive))
 
 pub due-requires : goal.due-requires
-due-requires c = record { idle = ap (λ (v : View). v.called) c.set_now.ensures ∙ idle_alive c.args.body.now c.requires.alive }
+due-requires g c = record { idle = ap (λ (v : View). v.called) c.set_now.ensures ∙ idle_alive c.args.body.now c.requires.alive }
 
 pub set_bar-requires : goal.set_bar-requires
-set_bar-requires c = record {
+set_bar-requires g c = record {
   idle =
       ap (λ (v : View). v.called) c.due.ensures ∙ ap (λ (v : View). v.called) c.set_now.ensures
       ∙ idle_alive c.args.body.now c.requires.alive;
 }
 
 pub returns : goal.returns
-returns c =
+returns g c =
     let body = c.args.body.now in
     let it = c.args.answer.now in
     let now_is : c.max-now.result ≡ max body.parts.time (time_of it) =

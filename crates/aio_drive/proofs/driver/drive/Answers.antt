@@ -19,6 +19,9 @@ returns-in_err-kernel-clause-err g c =
     (g.K.Sink.seen c.args.out.now) (g.K.Sink.seen c.args.out.now) [] (sym (took-nil (g.K.Sink.seen c.args.out.now))) refl
     (g.met.W.Wire.quiet_same c.args.wire.now))
 
+pub new-kernel-requires : goal.new-kernel-requires
+new-kernel-requires g c = ∣ (tt, λ t p. tt) ∣₁
+
 pub loop-made-init : goal.loop-made-init
 loop-made-init g c = record {
   running = (
@@ -26,7 +29,7 @@ loop-made-init g c = record {
     [],
     [],
     running_first c.args.program.now c.args.manner c.in_ok-kernel.kernel (g.W.Wire.seen c.args.wire.now).left (g.K.Sink.seen c.args.out.now)
-        c.in_ok-kernel.ensures,
+        (c.in_ok-kernel.ensures tt (λ t p. tt)),
   );
   fails = λ fails. (refl, fails);
   later = omega arith;
@@ -115,7 +118,8 @@ loop-made-preserved g c =
     let (had, (takes, (goes, still))) = goes_at (g.W.Wire.seen c.args.wire.now) running l.invariant.fails l.invariant.later turned quietly is in
     record {
       running =
-          goes_on (g.W.Wire.seen c.args.wire.now) running l.invariant.fails l.invariant.later turned quietly c.args.fault.now (g.K.Sink.seen c.write_events.new.out)
+          goes_on (g.W.Wire.seen c.args.wire.now) running l.invariant.fails l.invariant.later turned quietly c.args.fault.now
+          (g.K.Sink.seen c.write_events.new.out)
           c.events-events.result.events c.events-events.ensures.taken is c.events-events.new.self c.events-events.ensures.stands
           c.events-events.ensures.left c.in_ok-write_events-in-Turn.ensures.ok;
       fails = λ fails. absurd (still.0 fails);
@@ -137,7 +141,8 @@ returns-clause-ok g c =
     let l = c.loop-made in
     let (left, past, taken, running) = l.invariant.running in
     IfOk-weaker c.write_end-2.result _ _
-    (last_ok (g.W.Wire.seen c.args.wire.now) (g.W.Wire.seen l.wire) running c.loop-made-test.false (λ fails. absurd (let (none, here) = l.invariant.fails fails in omega arith), l.invariant.quiet)
+    (last_ok (g.W.Wire.seen c.args.wire.now) (g.W.Wire.seen l.wire) running c.loop-made-test.false
+    (λ fails. absurd (let (none, here) = l.invariant.fails fails in omega arith), l.invariant.quiet)
     c.args.fault.now (g.K.Sink.seen c.write_end-2.new.out) c.in_ok-end.end c.in_ok-end.ensures c.new-2.result.events
     (ap (λ (l : EventList). l.events) c.new-2.ensures))
     c.write_end-2.ensures.ok
@@ -147,7 +152,8 @@ returns-clause-err g c =
     let l = c.loop-made in
     let (left, past, taken, running) = l.invariant.running in
     IfErr-weaker c.write_end-2.result _ _
-    (last_err (g.W.Wire.seen c.args.wire.now) (g.W.Wire.seen l.wire) running c.loop-made-test.false (λ fails. absurd (let (none, here) = l.invariant.fails fails in omega arith), l.invariant.quiet)
+    (last_err (g.W.Wire.seen c.args.wire.now) (g.W.Wire.seen l.wire) running c.loop-made-test.false
+    (λ fails. absurd (let (none, here) = l.invariant.fails fails in omega arith), l.invariant.quiet)
     c.args.fault.now (g.K.Sink.seen c.write_end-2.new.out) c.in_ok-end.end c.in_ok-end.ensures c.new-2.result.events
     (ap (λ (l : EventList). l.events) c.new-2.ensures))
     c.write_end-2.ensures.err
@@ -162,7 +168,8 @@ pub returns-in-Fails-clause-keeps : goal.returns-in-Fails-clause-keeps
 returns-in-Fails-clause-keeps g c = g.met.W.Wire.keeps_on c.args.wire.now c.loop-made.wire c.turn.new.wire c.loop-made.invariant.keeps c.turn.ensures.keeps
 
 pub returns-in_err-write_events-in-Turn-clause-keeps : goal.returns-in_err-write_events-in-Turn-clause-keeps
-returns-in_err-write_events-in-Turn-clause-keeps g c = g.met.W.Wire.keeps_on c.args.wire.now c.loop-made.wire c.turn.new.wire c.loop-made.invariant.keeps c.turn.ensures.keeps
+returns-in_err-write_events-in-Turn-clause-keeps g c =
+    g.met.W.Wire.keeps_on c.args.wire.now c.loop-made.wire c.turn.new.wire c.loop-made.invariant.keeps c.turn.ensures.keeps
 
 pub returns-in_err-kernel-clause-keeps : goal.returns-in_err-kernel-clause-keeps
 returns-in_err-kernel-clause-keeps g c = g.met.W.Wire.keeps_same c.args.wire.now

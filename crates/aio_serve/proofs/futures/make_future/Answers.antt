@@ -14,20 +14,20 @@ use Rattle.aio_serve.proofs.Saying.{answers_so, raises_so}
 use Rattle.aio_serve.proofs.futures.make_future.Goals as goal
 
 pub returns-then-made-ge-MOST_IDS : goal.returns-then-made-ge-MOST_IDS
-returns-then-made-ge-MOST_IDS c task =
+returns-then-made-ge-MOST_IDS g c task =
     let body = c.args.body.now in
     IfOk-weaker c.out_of_range.result _ _ (λ said e at s h.
     let same = c.args.body.now.futures.ok.0 in
     let stands = ap length h.going.in_step.stands.futures in
     let many : most_ids ≤ length s.futures = omega (arith, same, stands, c.len-made.ensures, c.if-made-ge-MOST_IDS.true) in
-    raises_so task at body s said _ out_of_range e (none_made task s many) h.going.in_step)
+    raises_so task at body s said _ out_of_range e (none_made g.X.Extra.added.meaning task s many) h.going.in_step)
     c.out_of_range.ensures
 
 pub new_plain-requires : goal.new_plain-requires
-new_plain-requires c = record { idle = idle_some c.args.body.now c.requires }
+new_plain-requires g c = record { idle = idle_some c.args.body.now c.requires }
 
 pub returns : goal.returns
-returns c task at s h =
+returns g c task at s h =
     let body = c.args.body.now in
     let step = h.going.in_step in
     let p = s.loop.parts in
@@ -38,6 +38,6 @@ returns c task at s h =
     let few : length s.futures < most_ids = omega (arith, made, c.if-made-ge-MOST_IDS.false) in
     let now = record body { parts = c.new_plain.new.self; futures = c.push.new.self } in
     answers_so task at now (unbooked_in new_plain (record s { futures = s.futures ++ next_future p ∷ [] })) _ _ (Fut (length s.futures))
-    (ap Answers (c.fut.ensures ∙ ap Fut made)) (one_more_made task s few)
+    (ap Answers (c.fut.ensures ∙ ap Fut made)) (one_more_made g.X.Extra.added.meaning task s few)
     (makes_so task at body now s c.new_plain.new.self step h.going.sound.others.loop.parts.owns c.in_ok-id.ensures.after refl
     (c.in_ok-push.ensures.items ∙ ap (λ n. body.futures.items ++ n ∷ []) number) (omega (arith, few)))

@@ -14,7 +14,7 @@ use Rattle.aio_serve.proofs.Saying.{answers_so, raises_so}
 use Rattle.aio_serve.proofs.futures.settle.Goals as goal
 
 pub returns-in_default : goal.returns-in_default
-returns-in_default c task =
+returns-in_default g c task =
     let body = c.args.body.now in
     let x = c.args.future.now in
     IfOk-weaker c.bad_argument.result _ _ (λ said e at s h.
@@ -23,7 +23,7 @@ returns-in_default c task =
     c.bad_argument.ensures
 
 pub returns-in_default-outcome : goal.returns-in_default-outcome
-returns-in_default-outcome c task =
+returns-in_default-outcome g c task =
     let body = c.args.body.now in
     let x = c.args.future.now in
     let on = c.in-Some.on in
@@ -34,7 +34,7 @@ returns-in_default-outcome c task =
     c.bad_argument-in_default-outcome.ensures
 
 pub returns-then-is_some : goal.returns-then-is_some
-returns-then-is_some c task =
+returns-then-is_some g c task =
     let body = c.args.body.now in
     let x = c.args.future.now in
     let on = c.in-Some.on in
@@ -46,14 +46,14 @@ returns-then-is_some c task =
     c.raises.ensures
 
 pub resolve-was_pending-requires-clause-idle : goal.resolve-was_pending-requires-clause-idle
-resolve-was_pending-requires-clause-idle c = idle_some c.args.body.now c.requires
+resolve-was_pending-requires-clause-idle g c = idle_some c.args.body.now c.requires
 
 pub resolve-was_pending-requires-clause-no_task : goal.resolve-was_pending-requires-clause-no_task
-resolve-was_pending-requires-clause-no_task c =
+resolve-was_pending-requires-clause-no_task g c =
     unowned_kept c.args.body.now c.requires c.args.future.now c.in-Some.on (sym c.as_future.ensures ∙ c.in-Some.is)
 
 pub returns : goal.returns
-returns c task at s h =
+returns g c task at s h =
     let body = c.args.body.now in
     let x = c.args.future.now in
     let on = c.in-Some.on in

@@ -15,32 +15,33 @@ use Rattle.aio_serve.proofs.GroupsOn.{groups_stand}
 use Rattle.aio_serve.proofs.groups.create.Goals as goal
 
 pub returns-in_default : goal.returns-in_default
-returns-in_default c task =
+returns-in_default g c task =
     let body = c.args.body.now in
     IfOk-weaker c.bad_argument.result _ _ (λ said e at s h.
     raises_so task at body s said _ bad_argument e
-    (create_refused task s c.args.group.now c.args.coroutine c.args.arguments.now (sym c.as_group.ensures ∙ c.in_default.is))
+    (create_refused g.X.Extra.added.meaning task s c.args.group.now c.args.coroutine c.args.arguments.now (sym c.as_group.ensures ∙ c.in_default.is))
     h.going.in_step) c.bad_argument.ensures
 
 pub returns-then-made-ge-MOST_IDS : goal.returns-then-made-ge-MOST_IDS
-returns-then-made-ge-MOST_IDS c task =
+returns-then-made-ge-MOST_IDS g c task =
     let body = c.args.body.now in
     IfOk-weaker c.out_of_range.result _ _ (λ said e at s h.
     let same = body.slots.ok.0 in
     let made = h.going.in_step.stands.made in
     let many : most_ids ≤ next_task s.loop.parts = omega (arith, same, made, c.len-made.ensures, c.if-made-ge-MOST_IDS.true) in
     raises_so task at body s said _ out_of_range e
-    (none_created task s c.args.group.now c.in-Some.id c.args.coroutine c.args.arguments.now (sym c.as_group.ensures ∙ c.in-Some.is) many)
+    (none_created g.X.Extra.added.meaning task s c.args.group.now c.in-Some.id c.args.coroutine c.args.arguments.now
+    (sym c.as_group.ensures ∙ c.in-Some.is) many)
     h.going.in_step) c.out_of_range.ensures
 
 pub create-requires-clause-idle : goal.create-requires-clause-idle
-create-requires-clause-idle c = idle_some c.args.body.now c.requires
+create-requires-clause-idle g c = idle_some c.args.body.now c.requires
 
 pub create-requires-clause-belongs : goal.create-requires-clause-belongs
-create-requires-clause-belongs c = belong_some c.args.body.now c.requires
+create-requires-clause-belongs g c = belong_some c.args.body.now c.requires
 
 pub returns-in-Some-2 : goal.returns-in-Some-2
-returns-in-Some-2 c task at s h =
+returns-in-Some-2 g c task at s h =
     let body = c.args.body.now in
     let id = c.in-Some.id in
     let coroutine = c.args.coroutine in
@@ -52,12 +53,12 @@ returns-in-Some-2 c task at s h =
     let made = stands.made in
     let few : next_task s.loop.parts < most_ids = omega (arith, same, made, c.len-made.ensures, c.if-made-ge-MOST_IDS.false) in
     subst (Says task at mid (Raises c.in-Some-2.fault))
-    (sym (one_created task s c.args.group.now id coroutine arguments (sym c.as_group.ensures ∙ c.in-Some.is) few))
+    (sym (one_created g.X.Extra.added.meaning task s c.args.group.now id coroutine arguments (sym c.as_group.ensures ∙ c.in-Some.is) few))
     (refuses_so task id coroutine arguments at body mid s h.going c.create.ensures.moves refl came.0 c.in_ok-created.created c.in-Some-2.fault
     (Raises c.in-Some-2.fault) came.1 (sym c.in-Some-2.is ∙ c.in_ok-fault.ensures) refl)
 
 pub returns : goal.returns
-returns c task at s h =
+returns g c task at s h =
     let body = c.args.body.now in
     let id = c.in-Some.id in
     let coroutine = c.args.coroutine in
@@ -71,7 +72,7 @@ returns c task at s h =
     let number : c.len-made.result ≡ next_task s.loop.parts = omega (arith, same, made, c.len-made.ensures) in
     let room : length body.slots.items + 1 < 2 ^ 32 = omega (arith, few, made) in
     subst (Says task at c.hold.new.self (Answers c.task.result))
-    (sym (one_created task s c.args.group.now id coroutine arguments (sym c.as_group.ensures ∙ c.in-Some.is) few))
+    (sym (one_created g.X.Extra.added.meaning task s c.args.group.now id coroutine arguments (sym c.as_group.ensures ∙ c.in-Some.is) few))
     (creates_so task id coroutine arguments at body mid s h.going c.create.ensures.moves refl came.0 c.in_ok-created.created c.hold.new.self
     (Answers c.task.result) came.1 (sym c.in_default-2.is ∙ c.in_ok-fault.ensures)
     (ap Answers (c.task.ensures ∙ ap Task number)) c.in_ok-hold.ensures room)

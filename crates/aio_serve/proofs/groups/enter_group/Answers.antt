@@ -17,17 +17,17 @@ use Rattle.aio_serve.proofs.Saying.{answers_so, raises_so}
 use Rattle.aio_serve.proofs.groups.enter_group.Goals as goal
 
 pub returns-then-len-ge-MOST_IDS : goal.returns-then-len-ge-MOST_IDS
-returns-then-len-ge-MOST_IDS c =
+returns-then-len-ge-MOST_IDS g c =
     let body = c.args.body.now in
     IfOk-weaker c.out_of_range.result _ _ (λ said e at s h.
     let stands = h.going.in_step.stands in
     let same = same_many stands.ties s.loop.parts body.groups s.loop.groups stands.blocks.groups in
     let many : most_ids ≤ next_group s.loop = omega (arith, same, c.len.ensures, c.if-len-ge-MOST_IDS.true) in
-    raises_so c.args.task at body s said _ out_of_range e (none_grouped c.args.task s many) h.going.in_step)
+    raises_so c.args.task at body s said _ out_of_range e (none_grouped g.X.Extra.added.meaning c.args.task s many) h.going.in_step)
     c.out_of_range.ensures
 
 pub returns : goal.returns
-returns c at s h =
+returns g c at s h =
     let body = c.args.body.now in
     let task = c.args.task in
     let groups = c.enter.new.self in
@@ -47,7 +47,7 @@ returns c at s h =
       goes_on = same_on s.loop.parts;
     } in
     answers_so task at (record body { groups = groups }) (in_loop change s) _ _ (Group (next_group s.loop))
-    (ap Answers (c.group.ensures ∙ ap Group number)) (one_grouped task s few) (record {
+    (ap Answers (c.group.ensures ∙ ap Group number)) (one_grouped g.X.Extra.added.meaning task s few) (record {
       stands = stands_stepped (Some task) at body s body.parts groups change in_step.stands came (step_same s.loop (change s.loop) refl refl);
       called = in_step.called;
       running = in_step.running;

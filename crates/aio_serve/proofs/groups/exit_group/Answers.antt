@@ -17,15 +17,16 @@ use Rattle.aio_serve.proofs.Saying.{raises_so}
 use Rattle.aio_serve.proofs.groups.exit_group.Goals as goal
 
 pub returns-in_default : goal.returns-in_default
-returns-in_default c =
+returns-in_default g c =
     let body = c.args.body.now in
     let task = c.args.task in
     IfOk-weaker c.bad_argument.result _ _ (λ said e at s h.
-    raises_so task at body s said _ bad_argument e (exit_refused task s c.args.group.now c.args.fault (sym c.as_group.ensures ∙ c.in_default.is))
+    raises_so task at body s said _ bad_argument e
+    (exit_refused g.X.Extra.added.meaning task s c.args.group.now c.args.fault (sym c.as_group.ensures ∙ c.in_default.is))
     h.going.in_step) c.bad_argument.ensures
 
 pub exit_begin-requires : goal.exit_begin-requires
-exit_begin-requires c =
+exit_begin-requires g c =
     let task = c.args.task in
     let body = c.args.body.now in
     let may = going_of task (request.GroupExit c.args.group.now c.args.fault) body c.requires in
@@ -38,7 +39,7 @@ exit_begin-requires c =
     }
 
 pub go_on-requires : goal.go_on-requires
-go_on-requires c =
+go_on-requires g c =
     let task = c.args.task in
     let body = c.args.body.now in
     let may = going_of task (request.GroupExit c.args.group.now c.args.fault) body c.requires in
@@ -56,7 +57,7 @@ go_on-requires c =
     }
 
 pub returns : goal.returns
-returns c at s h =
+returns g c at s h =
     let task = c.args.task in
     let body = c.args.body.now in
     let id = c.in-Some.id in
@@ -64,7 +65,8 @@ returns c at s h =
     let mid = record body { parts = c.exit_begin.new.parts; groups = c.exit_begin.new.self } in
     let in_step = h.going.in_step in
     let came = c.in_ok-exit.ensures.stands in_step.stands.ties s.loop (groups_stand (Some task) at body s in_step.stands) in
-    subst (Says task at c.go_on.new.body c.go_on.result) (sym (exit_means task s c.args.group.now fault id (sym c.as_group.ensures ∙ c.in-Some.is)))
+    subst (Says task at c.go_on.new.body c.go_on.result)
+    (sym (exit_means g.X.Extra.added.meaning task s c.args.group.now fault id (sym c.as_group.ensures ∙ c.in-Some.is)))
     (exits_so task id at body mid c.go_on.new.body s (exit_begin fault id s.loop) in_step (within_going task at body s h.going) c.exit_begin.ensures.moves refl
     came.0 (exit_begin_leaves fault id s.loop (own_there s.loop.parts h.going.sound.others.loop.parts.owns)) (begins_freshly fault id s.loop)
     c.in_ok-exit.exit c.go_on.result came.1 c.go_on.ensures)

@@ -11,7 +11,7 @@ use Rattle.aio_serve.proofs.GroupsOn.{exit_woken_leaves, groups_stand}
 use Rattle.aio_serve.proofs.groups.leave_group.Goals as goal
 
 pub exit_woken-requires : goal.exit_woken-requires
-exit_woken-requires c =
+exit_woken-requires g c =
     let task = c.args.task in
     let body = c.args.body.now in
     record {
@@ -21,7 +21,7 @@ exit_woken-requires c =
     }
 
 pub go_on-requires : goal.go_on-requires
-go_on-requires c =
+go_on-requires g c =
     let task = c.args.task in
     let group = c.args.group in
     let body = c.args.body.now in
@@ -39,7 +39,7 @@ go_on-requires c =
     }
 
 pub returns : goal.returns
-returns c at s h =
+returns g c at s h =
     let task = c.args.task in
     let group = c.args.group in
     let body = c.args.body.now in

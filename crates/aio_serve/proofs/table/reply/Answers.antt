@@ -2,7 +2,7 @@ use Rattle.std.proofs.Common.{◌≡◌, ◌⊎◌, ℕ, inl, inr, refl, ap, sub
 use Rattle.std.proofs.lemmas.Result.{IfOk-weaker}
 use Rattle.model_value.specs.Request.{Request}
 use Rattle.model_value.specs.Value.{Task}
-use Rattle.model_machine.specs.Extra.{no_extra}
+use Rattle.model_machine.specs.Extra.{Extra}
 use Rattle.model_machine.specs.Replies as plain
 use Rattle.model_machine.specs.Replies.{reply, undefined}
 use Rattle.model_machine.specs.State.{State}
@@ -14,166 +14,170 @@ use Rattle.aio_serve.proofs.Saying.{answers_so, raises_so}
 use Rattle.aio_serve.proofs.table.reply.Goals as goal
 
 pub pause-requires : goal.pause-requires
-pause-requires c = going_of c.args.task c.args.request c.args.body.now c.requires
+pause-requires g c = going_of c.args.task c.args.request c.args.body.now c.requires
 
 pub returns-in-Pause : goal.returns-in-Pause
 unfolding reply
-returns-in-Pause c = rw c.in-Pause.is (λ at s h. c.pause.ensures at s h.going)
+returns-in-Pause g c = rw c.in-Pause.is (λ at s h. c.pause.ensures at s h.going)
 
 pub await_value-requires : goal.await_value-requires
-await_value-requires c = subst (λ r. MayAsk c.args.task r c.args.body.now) c.in-Await.is c.requires
+await_value-requires g c = subst (λ r. MayAsk g.X.Extra.added c.args.task r c.args.body.now) c.in-Await.is c.requires
 
 pub returns-in-Await : goal.returns-in-Await
-returns-in-Await c = rw c.in-Await.is c.await_value.ensures
+returns-in-Await g c = rw c.in-Await.is c.await_value.ensures
 
 pub returns-in-Print : goal.returns-in-Print
-returns-in-Print c = rw c.in-Print.is c.print.ensures
+returns-in-Print g c = rw c.in-Print.is c.print.ensures
 
 pub make_future-requires : goal.make_future-requires
-make_future-requires c = some_of c.args.task c.args.body.now (going_of c.args.task c.args.request c.args.body.now c.requires)
+make_future-requires g c = some_of c.args.task c.args.body.now (going_of c.args.task c.args.request c.args.body.now c.requires)
 
 pub returns-in-MakeFuture : goal.returns-in-MakeFuture
-returns-in-MakeFuture c = rw c.in-MakeFuture.is (c.make_future.ensures c.args.task)
+returns-in-MakeFuture g c = rw c.in-MakeFuture.is (c.make_future.ensures c.args.task)
 
 pub set-requires : goal.set-requires
-set-requires c = some_of c.args.task c.args.body.now (going_of c.args.task c.args.request c.args.body.now c.requires)
+set-requires g c = some_of c.args.task c.args.body.now (going_of c.args.task c.args.request c.args.body.now c.requires)
 
 pub returns-in-Set : goal.returns-in-Set
-returns-in-Set c = rw c.in-Set.is (c.set.ensures c.args.task)
+returns-in-Set g c = rw c.in-Set.is (c.set.ensures c.args.task)
 
 pub fail-requires : goal.fail-requires
-fail-requires c = some_of c.args.task c.args.body.now (going_of c.args.task c.args.request c.args.body.now c.requires)
+fail-requires g c = some_of c.args.task c.args.body.now (going_of c.args.task c.args.request c.args.body.now c.requires)
 
 pub returns-in-Fail : goal.returns-in-Fail
-returns-in-Fail c = rw c.in-Fail.is (c.fail.ensures c.args.task)
+returns-in-Fail g c = rw c.in-Fail.is (c.fail.ensures c.args.task)
 
 pub returns-in-IsDone : goal.returns-in-IsDone
-returns-in-IsDone c = rw c.in-IsDone.is (c.is_done.ensures c.args.task)
+returns-in-IsDone g c = rw c.in-IsDone.is (c.is_done.ensures c.args.task)
 
 pub returns-in-IsCancelled : goal.returns-in-IsCancelled
-returns-in-IsCancelled c = rw c.in-IsCancelled.is (c.is_cancelled.ensures c.args.task)
+returns-in-IsCancelled g c = rw c.in-IsCancelled.is (c.is_cancelled.ensures c.args.task)
 
 pub returns-in-ResultOf : goal.returns-in-ResultOf
-returns-in-ResultOf c = rw c.in-ResultOf.is (c.result_of.ensures c.args.task)
+returns-in-ResultOf g c = rw c.in-ResultOf.is (c.result_of.ensures c.args.task)
 
 pub cancel-requires : goal.cancel-requires
-cancel-requires c = some_of c.args.task c.args.body.now (going_of c.args.task c.args.request c.args.body.now c.requires)
+cancel-requires g c = some_of c.args.task c.args.body.now (going_of c.args.task c.args.request c.args.body.now c.requires)
 
 pub returns-in-Cancel : goal.returns-in-Cancel
-returns-in-Cancel c = rw c.in-Cancel.is (c.cancel.ensures c.args.task)
+returns-in-Cancel g c = rw c.in-Cancel.is (c.cancel.ensures c.args.task)
 
 pub cancelling-requires : goal.cancelling-requires
-cancelling-requires c = some_of c.args.task c.args.body.now (going_of c.args.task c.args.request c.args.body.now c.requires)
+cancelling-requires g c = some_of c.args.task c.args.body.now (going_of c.args.task c.args.request c.args.body.now c.requires)
 
 pub returns-in-Cancelling : goal.returns-in-Cancelling
-returns-in-Cancelling c = rw c.in-Cancelling.is (c.cancelling.ensures c.args.task)
+returns-in-Cancelling g c = rw c.in-Cancelling.is (c.cancelling.ensures c.args.task)
 
 pub uncancel-requires : goal.uncancel-requires
-uncancel-requires c = some_of c.args.task c.args.body.now (going_of c.args.task c.args.request c.args.body.now c.requires)
+uncancel-requires g c = some_of c.args.task c.args.body.now (going_of c.args.task c.args.request c.args.body.now c.requires)
 
 pub returns-in-Uncancel : goal.returns-in-Uncancel
-returns-in-Uncancel c = rw c.in-Uncancel.is (c.uncancel.ensures c.args.task)
+returns-in-Uncancel g c = rw c.in-Uncancel.is (c.uncancel.ensures c.args.task)
 
 pub time_now-requires : goal.time_now-requires
-time_now-requires c = some_of c.args.task c.args.body.now (going_of c.args.task c.args.request c.args.body.now c.requires)
+time_now-requires g c = some_of c.args.task c.args.body.now (going_of c.args.task c.args.request c.args.body.now c.requires)
 
 pub returns-in-Time : goal.returns-in-Time
-returns-in-Time c = rw c.in-Time.is (c.time_now.ensures c.args.task)
+returns-in-Time g c = rw c.in-Time.is (c.time_now.ensures c.args.task)
 
 pub spawn-requires : goal.spawn-requires
-spawn-requires c = some_of c.args.task c.args.body.now (going_of c.args.task c.args.request c.args.body.now c.requires)
+spawn-requires g c = some_of c.args.task c.args.body.now (going_of c.args.task c.args.request c.args.body.now c.requires)
 
 pub returns-in-Spawn : goal.returns-in-Spawn
-returns-in-Spawn c = rw c.in-Spawn.is (c.spawn.ensures c.args.task)
+returns-in-Spawn g c = rw c.in-Spawn.is (c.spawn.ensures c.args.task)
 
 pub sleep-requires : goal.sleep-requires
-sleep-requires c = going_of c.args.task c.args.request c.args.body.now c.requires
+sleep-requires g c = going_of c.args.task c.args.request c.args.body.now c.requires
 
 pub returns-in-Sleep : goal.returns-in-Sleep
-returns-in-Sleep c = rw c.in-Sleep.is c.sleep.ensures
+returns-in-Sleep g c = rw c.in-Sleep.is c.sleep.ensures
 
 pub enter_timeout-requires : goal.enter_timeout-requires
-enter_timeout-requires c = going_of c.args.task c.args.request c.args.body.now c.requires
+enter_timeout-requires g c = going_of c.args.task c.args.request c.args.body.now c.requires
 
 pub returns-in-TimeoutEnter : goal.returns-in-TimeoutEnter
-returns-in-TimeoutEnter c = rw c.in-TimeoutEnter.is c.enter_timeout.ensures
+returns-in-TimeoutEnter g c = rw c.in-TimeoutEnter.is c.enter_timeout.ensures
 
 pub exit_timeout-requires : goal.exit_timeout-requires
-exit_timeout-requires c = subst (λ r. MayAsk c.args.task r c.args.body.now) c.in-TimeoutExit.is c.requires
+exit_timeout-requires g c = subst (λ r. MayAsk g.X.Extra.added c.args.task r c.args.body.now) c.in-TimeoutExit.is c.requires
 
 pub returns-in-TimeoutExit : goal.returns-in-TimeoutExit
-returns-in-TimeoutExit c = rw c.in-TimeoutExit.is c.exit_timeout.ensures
+returns-in-TimeoutExit g c = rw c.in-TimeoutExit.is c.exit_timeout.ensures
 
 pub reschedule-requires : goal.reschedule-requires
-reschedule-requires c = some_of c.args.task c.args.body.now (going_of c.args.task c.args.request c.args.body.now c.requires)
+reschedule-requires g c = some_of c.args.task c.args.body.now (going_of c.args.task c.args.request c.args.body.now c.requires)
 
 pub returns-in-Reschedule : goal.returns-in-Reschedule
-returns-in-Reschedule c = rw c.in-Reschedule.is (c.reschedule.ensures c.args.task)
+returns-in-Reschedule g c = rw c.in-Reschedule.is (c.reschedule.ensures c.args.task)
 
 pub returns-in-Expired : goal.returns-in-Expired
-returns-in-Expired c = rw c.in-Expired.is (c.expired.ensures c.args.task)
+returns-in-Expired g c = rw c.in-Expired.is (c.expired.ensures c.args.task)
 
 pub enter_group-requires : goal.enter_group-requires
-enter_group-requires c = going_of c.args.task c.args.request c.args.body.now c.requires
+enter_group-requires g c = going_of c.args.task c.args.request c.args.body.now c.requires
 
 pub returns-in-GroupEnter : goal.returns-in-GroupEnter
-returns-in-GroupEnter c = rw c.in-GroupEnter.is c.enter_group.ensures
+returns-in-GroupEnter g c = rw c.in-GroupEnter.is c.enter_group.ensures
 
 pub exit_group-requires : goal.exit_group-requires
-exit_group-requires c = subst (λ r. MayAsk c.args.task r c.args.body.now) c.in-GroupExit.is c.requires
+exit_group-requires g c = subst (λ r. MayAsk g.X.Extra.added c.args.task r c.args.body.now) c.in-GroupExit.is c.requires
 
 pub returns-in-GroupExit : goal.returns-in-GroupExit
-returns-in-GroupExit c = rw c.in-GroupExit.is c.exit_group.ensures
+returns-in-GroupExit g c = rw c.in-GroupExit.is c.exit_group.ensures
 
 pub create-requires : goal.create-requires
-create-requires c = some_of c.args.task c.args.body.now (going_of c.args.task c.args.request c.args.body.now c.requires)
+create-requires g c = some_of c.args.task c.args.body.now (going_of c.args.task c.args.request c.args.body.now c.requires)
 
 pub returns-in-Create : goal.returns-in-Create
-returns-in-Create c = rw c.in-Create.is (c.create.ensures c.args.task)
+returns-in-Create g c = rw c.in-Create.is (c.create.ensures c.args.task)
+
+pub extra-requires : goal.extra-requires
+extra-requires g c = subst (λ r. MayAsk g.X.Extra.added c.args.task r c.args.body.now) c.in-Extra.is c.requires
 
 pub returns-in-Extra : goal.returns-in-Extra
-returns-in-Extra c = rw c.in-Extra.is (c.extra.ensures c.args.task)
+returns-in-Extra g c = rw c.in-Extra.is c.extra.ensures
 
 pub returns-in-Current : goal.returns-in-Current
-returns-in-Current c at s h =
+returns-in-Current g c at s h =
     answers_so c.args.task at c.args.body.now s _ _ (Task c.args.task) (ap Answers c.task.ensures)
-    (ap (λ r. reply no_extra c.args.task r s) c.in-Current.is ∙ current_means c.args.task s) h.going.in_step
+    (ap (λ r. reply g.X.Extra.added.meaning c.args.task r s) c.in-Current.is ∙ current_means g.X.Extra.added.meaning c.args.task s) h.going.in_step
 
 -- nothing is defined of connections and children
-module _ (task : ℕ) (s : State (Unit {0})) (r : Request) where
+module _ {S : Type 0} (added : Extra S) (task : ℕ) (s : State S) (r : Request) where
   abbrev IsUndefined : Type 0
-  IsUndefined = reply no_extra task r s ≡ plain.Raises undefined s
+  IsUndefined = reply added task r s ≡ plain.Raises undefined s
 
   either : {A B : Type 0} → A ⊎ B → (A → IsUndefined) → (B → IsUndefined) → IsUndefined
   either (inl a) f g = f a
   either (inr b) f g = g b
 
-  by : (other : Request) → r ≡ other → reply no_extra task other s ≡ plain.Raises undefined s → IsUndefined
-  by other same e = ap (λ x. reply no_extra task x s) same ∙ e
+  by : (other : Request) → r ≡ other → reply added task other s ≡ plain.Raises undefined s → IsUndefined
+  by other same e = ap (λ x. reply added task x s) same ∙ e
 
 pub returns : goal.returns
 unfolding reply
-returns c =
+returns g c =
     let task = c.args.task in
     let asked = c.args.request in
+    let m = g.X.Extra.added.meaning in
     IfOk-weaker c.undefined.result _ _ (λ said e at s h.
     raises_so task at c.args.body.now s said _ undefined e (
-    either task s asked c.in-Listen.is (λ w. by task s asked _ w.2 refl) (λ v.
-    either task s asked v (λ w. by task s asked _ w.1 refl) (λ v.
-    either task s asked v (λ w. by task s asked _ w.2 refl) (λ v.
-    either task s asked v (λ w. by task s asked _ w.1 refl) (λ v.
-    either task s asked v (λ w. by task s asked _ w.1 refl) (λ v.
-    either task s asked v (λ w. by task s asked _ w.1 refl) (λ v.
-    either task s asked v (λ w. by task s asked _ w.1 refl) (λ v.
-    either task s asked v (λ w. by task s asked _ w.3 refl) (λ v.
-    either task s asked v (λ w. by task s asked _ w.2 refl) (λ v.
-    either task s asked v (λ w. by task s asked _ w.2 refl) (λ v.
-    either task s asked v (λ w. by task s asked _ w.2 refl) (λ v.
-    either task s asked v (λ w. by task s asked _ w.1 refl) (λ v.
-    either task s asked v (λ w. by task s asked _ w.1 refl) (λ v.
-    either task s asked v (λ w. by task s asked _ w.1 refl) (λ v.
-    either task s asked v (λ w. by task s asked _ w.1 refl) (λ v.
-    either task s asked v (λ w. by task s asked _ w.1 refl) (λ v.
-    by task s asked _ v.1 refl))))))))))))))))
+    either m task s asked c.in-Listen.is (λ w. by m task s asked _ w.2 refl) (λ v.
+    either m task s asked v (λ w. by m task s asked _ w.1 refl) (λ v.
+    either m task s asked v (λ w. by m task s asked _ w.2 refl) (λ v.
+    either m task s asked v (λ w. by m task s asked _ w.1 refl) (λ v.
+    either m task s asked v (λ w. by m task s asked _ w.1 refl) (λ v.
+    either m task s asked v (λ w. by m task s asked _ w.1 refl) (λ v.
+    either m task s asked v (λ w. by m task s asked _ w.1 refl) (λ v.
+    either m task s asked v (λ w. by m task s asked _ w.3 refl) (λ v.
+    either m task s asked v (λ w. by m task s asked _ w.2 refl) (λ v.
+    either m task s asked v (λ w. by m task s asked _ w.2 refl) (λ v.
+    either m task s asked v (λ w. by m task s asked _ w.2 refl) (λ v.
+    either m task s asked v (λ w. by m task s asked _ w.1 refl) (λ v.
+    either m task s asked v (λ w. by m task s asked _ w.1 refl) (λ v.
+    either m task s asked v (λ w. by m task s asked _ w.1 refl) (λ v.
+    either m task s asked v (λ w. by m task s asked _ w.1 refl) (λ v.
+    either m task s asked v (λ w. by m task s asked _ w.1 refl) (λ v.
+    by m task s asked _ v.1 refl))))))))))))))))
     ) h.going.in_step)
     c.undefined.ensures

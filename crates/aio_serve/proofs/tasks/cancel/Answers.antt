@@ -15,10 +15,10 @@ use Rattle.aio_serve.proofs.Saying.{answers_so, raises_so}
 use Rattle.aio_serve.proofs.tasks.cancel.Goals as goal
 
 pub cancel-requires : goal.cancel-requires
-cancel-requires c = record { idle = idle_some c.args.body.now c.requires }
+cancel-requires g c = record { idle = idle_some c.args.body.now c.requires }
 
 pub returns-in-Some : goal.returns-in-Some
-returns-in-Some c task at s h =
+returns-in-Some g c task at s h =
     let body = c.args.body.now in
     let x = c.args.x.now in
     let on = c.in-Some.on in
@@ -28,13 +28,14 @@ returns-in-Some c task at s h =
     answers_so task at (record body { parts = v }) (in_loop (book (λ p. (request (ByScript task) on p).booked)) s) _ _
     (Truth (request (ByScript task) on s.loop.parts).answer)
     (ap Answers (c.bool.ensures ∙ ap Truth (c.cancel.ensures.answer ∙ answer_kept kept.ties body.parts s.loop.parts kept.keeps on)))
-    (cancel_means task s x on (awaited_as task at body s h.going x (Some on) named))
+    (cancel_means g.X.Extra.added.meaning task s x on (awaited_as task at body s h.going x (Some on) named))
     (requests_so (ByScript task) task on at body s v h.going.in_step c.cancel.ensures.after c.cancel.ensures.queue c.cancel.ensures.beside)
 
 pub returns-in-None : goal.returns-in-None
-returns-in-None c task =
+returns-in-None g c task =
     let body = c.args.body.now in
     IfOk-weaker c.bad_argument.result _ _ (λ said e at s h.
     raises_so task at body s said _ bad_argument e
-    (cancel_refused task s c.args.x.now (awaited_as task at body s h.going c.args.x.now None (sym c.as_awaited.ensures ∙ c.in-None.is))) h.going.in_step)
+    (cancel_refused g.X.Extra.added.meaning task s c.args.x.now
+    (awaited_as task at body s h.going c.args.x.now None (sym c.as_awaited.ensures ∙ c.in-None.is))) h.going.in_step)
     c.bad_argument.ensures

@@ -14,20 +14,20 @@ use Rattle.aio_serve.proofs.Spawning.{spawns_so}
 use Rattle.aio_serve.proofs.tasks.spawn.Goals as goal
 
 pub returns-then-len-ge-MOST_IDS : goal.returns-then-len-ge-MOST_IDS
-returns-then-len-ge-MOST_IDS c task =
+returns-then-len-ge-MOST_IDS g c task =
     let body = c.args.body.now in
     IfOk-weaker c.out_of_range.result _ _ (λ said e at s h.
     let same = body.slots.ok.0 in
     let made = h.going.in_step.stands.made in
     let many : most_ids ≤ next_task s.loop.parts = omega (arith, same, made, c.len.ensures, c.if-len-ge-MOST_IDS.true) in
-    raises_so task at body s said _ out_of_range e (none_spawned task s c.args.coroutine c.args.arguments.now many) h.going.in_step)
+    raises_so task at body s said _ out_of_range e (none_spawned g.X.Extra.added.meaning task s c.args.coroutine c.args.arguments.now many) h.going.in_step)
     c.out_of_range.ensures
 
 pub spawn-requires : goal.spawn-requires
-spawn-requires c = record { idle = ap (λ (b : Body). b.parts.called) c.in_ok-hold.ensures.beside ∙ idle_some c.args.body.now c.requires }
+spawn-requires g c = record { idle = ap (λ (b : Body _). b.parts.called) c.in_ok-hold.ensures.beside ∙ idle_some c.args.body.now c.requires }
 
 pub returns : goal.returns
-returns c task at s h =
+returns g c task at s h =
     let body = c.args.body.now in
     let held = c.hold.new.self in
     let v = c.spawn.new.self in
@@ -39,8 +39,8 @@ returns c task at s h =
     let made = stands.made in
     let few : length body.slots.items + 1 < 2 ^ 32 = omega (arith, same, c.len.ensures, c.if-len-ge-MOST_IDS.false) in
     let number : c.in_ok-task.task ≡ next_task p =
-    c.in_ok-task.ensures.number ∙ ap (λ (b : Body). length b.parts.tasks) c.in_ok-hold.ensures.beside ∙ ap length stands.keeps.tasks in
+    c.in_ok-task.ensures.number ∙ ap (λ (b : Body _). length b.parts.tasks) c.in_ok-hold.ensures.beside ∙ ap length stands.keeps.tasks in
     answers_so task at (record held { parts = v }) (with_coroutine coroutine arguments (unbooked_in spawn s)) _ _ (Task (next_task p))
-    (ap Answers (c.task.ensures ∙ ap Task number)) (one_spawned task s coroutine arguments (omega (arith, few, made)))
+    (ap Answers (c.task.ensures ∙ ap Task number)) (one_spawned g.X.Extra.added.meaning task s coroutine arguments (omega (arith, few, made)))
     (spawns_so task coroutine arguments at body held s v h.going c.in_ok-hold.ensures few c.in_ok-task.ensures.after c.in_ok-task.ensures.queue
     c.in_ok-task.ensures.beside)

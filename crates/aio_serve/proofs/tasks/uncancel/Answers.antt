@@ -15,16 +15,16 @@ use Rattle.aio_serve.proofs.Saying.{answers_so, raises_so}
 use Rattle.aio_serve.proofs.tasks.uncancel.Goals as goal
 
 pub uncancel-requires : goal.uncancel-requires
-uncancel-requires c = record { idle = idle_some c.args.body.now c.requires }
+uncancel-requires g c = record { idle = idle_some c.args.body.now c.requires }
 
 pub number-requires : goal.number-requires
-number-requires c =
+number-requires g c =
     let other = c.in-Some.task in
     rw c.uncancel.ensures.answer
     (few_left c.args.body.now c.uncancel.new.self c.requires other c.uncancel.ensures.after c.uncancel.ensures.beside other)
 
 pub returns-in-Some : goal.returns-in-Some
-returns-in-Some c task at s h =
+returns-in-Some g c task at s h =
     let body = c.args.body.now in
     let other = c.in-Some.task in
     let v = c.uncancel.new.self in
@@ -33,11 +33,12 @@ returns-in-Some c task at s h =
     answers_so task at (record body { parts = v }) now _ _ (Int (pos (cancelling now.loop.parts other)))
     (c.number.ensures
     ∙ ap (λ n. Answers (Int (pos n))) (c.uncancel.ensures.answer ∙ count_read (Some task) at (record body { parts = v }) now stands.stands other))
-    (uncancel_means task s c.args.x.now other (sym c.as_task.ensures ∙ c.in-Some.is)) stands
+    (uncancel_means g.X.Extra.added.meaning task s c.args.x.now other (sym c.as_task.ensures ∙ c.in-Some.is)) stands
 
 pub returns-in-None : goal.returns-in-None
-returns-in-None c task =
+returns-in-None g c task =
     let body = c.args.body.now in
     IfOk-weaker c.bad_argument.result _ _ (λ said e at s h.
-    raises_so task at body s said _ bad_argument e (uncancel_refused task s c.args.x.now (sym c.as_task.ensures ∙ c.in-None.is)) h.going.in_step)
+    raises_so task at body s said _ bad_argument e
+    (uncancel_refused g.X.Extra.added.meaning task s c.args.x.now (sym c.as_task.ensures ∙ c.in-None.is)) h.going.in_step)
     c.bad_argument.ensures

@@ -11,12 +11,12 @@ use Rattle.aio_serve.proofs.Saying.{answers_so}
 use Rattle.aio_serve.proofs.time.print.Goals as goal
 
 pub returns : goal.returns
-returns c at s h =
+returns g c at s h =
     let body = c.args.body.now in
     let task = c.args.task in
     let it = event.Said task (shown_all c.args.values.now) in
     let text = c.of-text.ensures ∙ c.in_ok-shown_all.ensures ∙ ap shown_all c.items.ensures in
     let events = c.in_ok-push.ensures.ok ∙ ap (λ t. pushed body.events (event.Said task t)) text in
     answers_so task at (record body { events = c.push.new.self }) (noted it s) _ _ Nothing (ap Answers c.nothing.ensures)
-    (print_means task s c.args.values.now)
+    (print_means g.X.Extra.added.meaning task s c.args.values.now)
     (notes_so task it at body s c.push.new.self events h.going.in_step)

@@ -7,10 +7,11 @@ use Rattle.aio_serve.proofs.Saying.{answers_so}
 use Rattle.aio_serve.proofs.time.time_now.Goals as goal
 
 pub number-requires : goal.number-requires
-number-requires c = rw c.now.ensures (few_moments c.args.body.now c.requires)
+number-requires g c = rw c.now.ensures (few_moments c.args.body.now c.requires)
 
 pub returns : goal.returns
-returns c task at s h =
+returns g c task at s h =
     let body = c.args.body.now in
     answers_so task at body s _ _ (Int (pos s.loop.parts.time))
-    (c.number.ensures ∙ ap (λ n. Answers (Int (pos n))) (c.now.ensures ∙ h.going.in_step.stands.keeps.time)) (time_means task s) h.going.in_step
+    (c.number.ensures ∙ ap (λ n. Answers (Int (pos n))) (c.now.ensures ∙ h.going.in_step.stands.keeps.time))
+    (time_means g.X.Extra.added.meaning task s) h.going.in_step

@@ -14,29 +14,29 @@ use Rattle.aio_serve.proofs.Timing.{count_is, enter_full, enter_goes, enter_unfi
 use Rattle.aio_serve.proofs.timeouts.enter_timeout.Goals as goal
 
 pub returns-in_default : goal.returns-in_default
-returns-in_default c =
+returns-in_default g c =
     let task = c.args.task in
     IfOk-weaker c.bad_argument.result _ _ (λ said e at s h.
     raises_so task at c.args.body.now s said _ bad_argument e
-    (enter_unfit task s c.args.delay.now (sym c.as_delay.ensures ∙ c.in_default.is)) h.going.in_step)
+    (enter_unfit g.X.Extra.added.meaning task s c.args.delay.now (sym c.as_delay.ensures ∙ c.in_default.is)) h.going.in_step)
     c.bad_argument.ensures
 
 pub returns-then-count-ge-MOST_IDS : goal.returns-then-count-ge-MOST_IDS
-returns-then-count-ge-MOST_IDS c =
+returns-then-count-ge-MOST_IDS g c =
     let task = c.args.task in
     let body = c.args.body.now in
     IfOk-weaker c.out_of_range.result _ _ (λ said e at s h.
     let count = count_is _ at body s h.going.in_step.stands in
     let many : most_ids ≤ length s.loop.timeouts = omega (arith, count, c.count.ensures, c.if-count-ge-MOST_IDS.true) in
     raises_so task at body s said _ out_of_range e
-    (enter_full task s c.args.delay.now c.in-Some.delay (sym c.as_delay.ensures ∙ c.in-Some.is) many) h.going.in_step)
+    (enter_full g.X.Extra.added.meaning task s c.args.delay.now c.in-Some.delay (sym c.as_delay.ensures ∙ c.in-Some.is) many) h.going.in_step)
     c.out_of_range.ensures
 
 pub enter-requires : goal.enter-requires
-enter-requires c = record { idle = idle_of c.args.task c.args.body.now c.requires }
+enter-requires g c = record { idle = idle_of c.args.task c.args.body.now c.requires }
 
 pub returns : goal.returns
-returns c at s h =
+returns g c at s h =
     let task = c.args.task in
     let body = c.args.body.now in
     let delay = c.in-Some.delay in
@@ -46,7 +46,7 @@ returns c at s h =
     answers_so task at (record body { parts = c.enter.new.parts; timeouts = c.enter.new.self }) (in_loop (enter_timeout task delay) s) _ _
     (Timeout (length s.loop.timeouts))
     (ap Answers (c.timeout.ensures ∙ ap Timeout (c.in_ok-id.ensures.number ∙ count)))
-    (enter_goes task s c.args.delay.now delay (sym c.as_delay.ensures ∙ c.in-Some.is) few)
+    (enter_goes g.X.Extra.added.meaning task s c.args.delay.now delay (sym c.as_delay.ensures ∙ c.in-Some.is) few)
     (goes_timed task at body s c.enter.new.parts c.enter.new.self (enter_timeout task delay s.loop) in_step
     (c.in_ok-id.ensures.after in_step.stands.ties s.loop (timeouts_of _ at body s in_step.stands))
     (leaves_enter task delay s.loop) (enter_groups task delay s.loop) c.in_ok-id.ensures.below c.in_ok-id.ensures.step)

@@ -4,7 +4,6 @@ use Rattle.model_value.specs.declared.request.Request.TheVariants as request
 use Rattle.model_says.specs.Requests.{bad_argument}
 use Rattle.model_loop.specs.Timeouts.{exit_timeout}
 use Rattle.model_machine.specs.Arguments.{as_timeout}
-use Rattle.model_machine.specs.Extra.{no_extra}
 use Rattle.model_machine.specs.Replies.{reply}
 use Rattle.model_machine.specs.State.{with_loop}
 use Rattle.aio_body.specs.declared.reply.Reply.{Reply}
@@ -17,30 +16,30 @@ use Rattle.aio_serve.proofs.Timing.{exit_goes, exit_there, exit_unfit, left_so, 
 use Rattle.aio_serve.proofs.timeouts.exit_timeout.Goals as goal
 
 pub returns-in_default : goal.returns-in_default
-returns-in_default c =
+returns-in_default g c =
     let task = c.args.task in
     IfOk-weaker c.bad_argument.result _ _ (λ said e at s h.
     raises_so task at c.args.body.now s said _ bad_argument e
-    (exit_unfit task s c.args.timeout.now c.args.fault (sym c.as_timeout.ensures ∙ c.in_default.is)) h.going.in_step)
+    (exit_unfit g.X.Extra.added.meaning task s c.args.timeout.now c.args.fault (sym c.as_timeout.ensures ∙ c.in_default.is)) h.going.in_step)
     c.bad_argument.ensures
 
 pub exit-exit-requires-clause-idle : goal.exit-exit-requires-clause-idle
-exit-exit-requires-clause-idle c =
+exit-exit-requires-clause-idle g c =
     idle_of c.args.task c.args.body.now
     (going_of c.args.task (request.TimeoutExit c.args.timeout.now c.args.fault) c.args.body.now c.requires)
 
 pub exit-exit-requires-clause-live : goal.exit-exit-requires-clause-live
-exit-exit-requires-clause-live c =
+exit-exit-requires-clause-live g c =
     exit_there c.args.task c.args.timeout.now c.args.fault c.in-Some.id c.args.body.now (sym c.as_timeout.ensures ∙ c.in-Some.is) c.requires
 
 pub exit-exit-requires-clause-steps_none : goal.exit-exit-requires-clause-steps_none
-exit-exit-requires-clause-steps_none c =
+exit-exit-requires-clause-steps_none g c =
     steps_none_some c.args.body.now c.in-Some.id
     (some_of c.args.task c.args.body.now
     (going_of c.args.task (request.TimeoutExit c.args.timeout.now c.args.fault) c.args.body.now c.requires))
 
 pub returns : goal.returns
-returns c at s h =
+returns g c at s h =
     let task = c.args.task in
     let body = c.args.body.now in
     let id = c.in-Some.id in
@@ -53,8 +52,8 @@ returns c at s h =
     let on = goes_timed task at body s c.exit-exit.new.parts c.exit-exit.new.self (exit_timeout raised id s.loop).loop in_step
     (c.exit-exit.ensures.after in_step.stands.ties s.loop keeps)
     (leaves_exit raised id s.loop) (exit_groups raised id s.loop) c.exit-exit.ensures.below c.exit-exit.ensures.step in
-    let machine = reply no_extra task (request.TimeoutExit c.args.timeout.now raised) s in
+    let machine = reply g.X.Extra.added.meaning task (request.TimeoutExit c.args.timeout.now raised) s in
     subst (λ (said : Reply). Says task at after said machine) (sym c.left.ensures)
-    (subst (Says task at after (left_as c.exit-exit.result)) (sym (exit_goes task s c.args.timeout.now raised id named))
+    (subst (Says task at after (left_as c.exit-exit.result)) (sym (exit_goes g.X.Extra.added.meaning task s c.args.timeout.now raised id named))
     (left_so task at after now on c.exit-exit.result (exit_timeout raised id s.loop).timed_out
     (c.exit-exit.ensures.answer in_step.stands.ties s.loop keeps)))

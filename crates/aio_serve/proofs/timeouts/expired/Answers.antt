@@ -9,17 +9,17 @@ use Rattle.aio_serve.proofs.Timing.{expired_goes, expired_unfit}
 use Rattle.aio_serve.proofs.timeouts.expired.Goals as goal
 
 pub returns-in-Some : goal.returns-in-Some
-returns-in-Some c task at s h =
+returns-in-Some g c task at s h =
     let body = c.args.body.now in
     let id = c.in-Some.id in
     let stands = h.going.in_step.stands in
     answers_so task at body s _ _ (Truth (has_expired (timeout_of s.loop id).state))
     (ap Answers (c.bool.ensures ∙ ap Truth (c.has_expired.ensures stands.ties s.loop stands.blocks.timeouts)))
-    (expired_goes task s c.args.timeout.now id (sym c.as_timeout.ensures ∙ c.in-Some.is)) h.going.in_step
+    (expired_goes g.X.Extra.added.meaning task s c.args.timeout.now id (sym c.as_timeout.ensures ∙ c.in-Some.is)) h.going.in_step
 
 pub returns-in-None : goal.returns-in-None
-returns-in-None c task =
+returns-in-None g c task =
     IfOk-weaker c.bad_argument.result _ _ (λ said e at s h.
     raises_so task at c.args.body.now s said _ bad_argument e
-    (expired_unfit task s c.args.timeout.now (sym c.as_timeout.ensures ∙ c.in-None.is)) h.going.in_step)
+    (expired_unfit g.X.Extra.added.meaning task s c.args.timeout.now (sym c.as_timeout.ensures ∙ c.in-None.is)) h.going.in_step)
     c.bad_argument.ensures

@@ -7,13 +7,13 @@ use Rattle.aio_serve.proofs.Timing.{fired_there}
 use Rattle.aio_serve.proofs.timeouts.fire.Goals as goal
 
 pub fire-requires-clause-idle : goal.fire-requires-clause-idle
-fire-requires-clause-idle c = ∥∥₁_elim c.requires (same_prop c.args.body.now.parts.called None) (λ w. w.1.1.called)
+fire-requires-clause-idle g c = ∥∥₁_elim c.requires (same_prop c.args.body.now.parts.called None) (λ w. w.1.1.called)
 
 pub fire-requires-clause-live : goal.fire-requires-clause-live
-fire-requires-clause-live c = fired_there c.args.timeout c.args.body.now c.requires
+fire-requires-clause-live g c = fired_there c.args.timeout c.args.body.now c.requires
 
 pub returns : goal.returns
-returns c at s h =
+returns g c at s h =
     let body = c.args.body.now in
     let id = c.args.timeout in
     record {

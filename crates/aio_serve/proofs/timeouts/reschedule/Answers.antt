@@ -11,22 +11,22 @@ use Rattle.aio_serve.proofs.Timing.{deadline_unfit, finished_so, refused_so, res
 use Rattle.aio_serve.proofs.timeouts.reschedule.Goals as goal
 
 pub returns-in_default : goal.returns-in_default
-returns-in_default c task =
+returns-in_default g c task =
     IfOk-weaker c.bad_argument.result _ _ (λ said e at s h.
     raises_so task at c.args.body.now s said _ bad_argument e
-    (reschedule_unfit task s c.args.timeout.now c.args.when.now (sym c.as_timeout.ensures ∙ c.in_default.is)) h.going.in_step)
+    (reschedule_unfit g.X.Extra.added.meaning task s c.args.timeout.now c.args.when.now (sym c.as_timeout.ensures ∙ c.in_default.is)) h.going.in_step)
     c.bad_argument.ensures
 
 pub returns-in_default-as_delay : goal.returns-in_default-as_delay
-returns-in_default-as_delay c task =
+returns-in_default-as_delay g c task =
     IfOk-weaker c.bad_argument-in_default-as_delay.result _ _ (λ said e at s h.
     raises_so task at c.args.body.now s said _ bad_argument e
-    (deadline_unfit task s c.args.timeout.now c.args.when.now c.in-Some.id (sym c.as_timeout.ensures ∙ c.in-Some.is)
+    (deadline_unfit g.X.Extra.added.meaning task s c.args.timeout.now c.args.when.now c.in-Some.id (sym c.as_timeout.ensures ∙ c.in-Some.is)
     (sym c.as_delay.ensures ∙ c.in_default-as_delay.is)) h.going.in_step)
     c.bad_argument-in_default-as_delay.ensures
 
 pub returns-then-id-count : goal.returns-then-id-count
-returns-then-id-count c task =
+returns-then-id-count g c task =
     let body = c.args.body.now in
     let past : length body.timeouts ≤ c.in-Some.id = omega (arith, c.count.ensures, c.if-id-count.true) in
     IfOk-weaker c.refused.result _ _ (λ said e at s h.
@@ -35,16 +35,16 @@ returns-then-id-count c task =
     c.refused.ensures
 
 pub reschedule-requires-clause-idle : goal.reschedule-requires-clause-idle
-reschedule-requires-clause-idle c = idle_some c.args.body.now c.requires
+reschedule-requires-clause-idle g c = idle_some c.args.body.now c.requires
 
 pub reschedule-requires-clause-live : goal.reschedule-requires-clause-live
-reschedule-requires-clause-live c = omega (arith, c.count.ensures, c.if-id-count.false)
+reschedule-requires-clause-live g c = omega (arith, c.count.ensures, c.if-id-count.false)
 
 pub reschedule-requires-clause-steps_none : goal.reschedule-requires-clause-steps_none
-reschedule-requires-clause-steps_none c = steps_none_some c.args.body.now c.in-Some.id c.requires
+reschedule-requires-clause-steps_none g c = steps_none_some c.args.body.now c.in-Some.id c.requires
 
 pub returns-in-Set : goal.returns-in-Set
-returns-in-Set c task at s h =
+returns-in-Set g c task at s h =
     let body = c.args.body.now in
     let id = c.in-Some.id in
     let when = c.in-Some-as_delay.when in
@@ -60,7 +60,7 @@ returns-in-Set c task at s h =
     _ (ap Answers c.nothing.ensures)
 
 pub returns-in-BadState : goal.returns-in-BadState
-returns-in-BadState c task =
+returns-in-BadState g c task =
     let body = c.args.body.now in
     let id = c.in-Some.id in
     let when = c.in-Some-as_delay.when in

@@ -15,28 +15,28 @@ use Rattle.aio_serve.proofs.Resting.{slot_there, within_going}
 use Rattle.aio_serve.proofs.waiting.sleep_for.Goals as goal
 
 pub suspend-suspension-requires-clause-idle : goal.suspend-suspension-requires-clause-idle
-suspend-suspension-requires-clause-idle c =
-    ap (λ (b : Body). b.parts.called) c.in_ok-timer.ensures.after ∙ idle_of c.args.task c.args.body.now c.requires
+suspend-suspension-requires-clause-idle g c =
+    ap (λ (b : Body _). b.parts.called) c.in_ok-timer.ensures.after ∙ idle_of c.args.task c.args.body.now c.requires
 
 pub suspend-suspension-requires-clause-running : goal.suspend-suspension-requires-clause-running
-suspend-suspension-requires-clause-running c =
-    ap (λ (b : Body). b.parts.running) c.in_ok-timer.ensures.after ∙ running_of c.args.task c.args.body.now c.requires
+suspend-suspension-requires-clause-running g c =
+    ap (λ (b : Body _). b.parts.running) c.in_ok-timer.ensures.after ∙ running_of c.args.task c.args.body.now c.requires
 
 pub suspend-suspension-requires-clause-pending : goal.suspend-suspension-requires-clause-pending
-suspend-suspension-requires-clause-pending c =
+suspend-suspension-requires-clause-pending g c =
     let old = c.args.body.now in
     let made : Future = record { kind = Plain; outcome = None; callbacks = [] } in
-    ap (λ (b : Body). is_pending_at (slice_get b.parts.futures c.in_ok-timer.future)) c.in_ok-timer.ensures.after
+    ap (λ (b : Body _). is_pending_at (slice_get b.parts.futures c.in_ok-timer.future)) c.in_ok-timer.ensures.after
     ∙ ap (λ n. is_pending_at (slice_get (old.parts.futures ++ made ∷ []) n)) c.in_ok-timer.ensures.number
     ∙ ap is_pending_at (get-push_last old.parts.futures made)
 
 pub stand-requires : goal.stand-requires
-stand-requires c =
-    subst (λ (b : Body). c.args.task < length b.slots.items) (sym c.in_ok-timer.ensures.after)
+stand-requires g c =
+    subst (λ (b : Body _). c.args.task < length b.slots.items) (sym c.in_ok-timer.ensures.after)
     (slot_there c.args.task c.args.body.now c.requires)
 
 pub returns : goal.returns
-returns c at s h =
+returns g c at s h =
     let old = c.args.body.now in
     let task = c.args.task in
     let p = s.loop.parts in
@@ -47,13 +47,14 @@ returns c at s h =
     let w = c.suspend-suspension.new.self in
     let stands = h.in_step.stands in
     let alarm =
-    ap (λ (b : Body). b.parts) made.after
+    ap (λ (b : Body _). b.parts) made.after
     ∙ ap (λ (n : ℕ). record old.parts {
       futures = old.parts.futures ++ record { kind = Plain; outcome = None; callbacks = [] } ∷ [];
       schedule = record { live = placed_after (timer id (SleepDone task n)) old.parts.schedule.live; next = old.parts.schedule.next + 1 };
     }) made.number in
-    sleeps_so task c.args.delay at old c.stand.new.self s v w id future h.in_step h.sound.others.loop.parts.owns (plain_named task s h.sound)
+    sleeps_so task c.args.delay at old c.stand.new.self s v w id future h.in_step h.sound.others.loop.parts.owns
+    (plain_named g.X.Extra.added.meaning task s h.sound)
     h.sound.others.loop.parts.waits_made (within_going task at old s h) made.number made.id (next_kept stands.ties old.parts p stands.keeps) alarm
     c.suspend-suspension.ensures.after c.suspend-suspension.ensures.queue c.suspend-suspension.ensures.beside
-    (c.stand.ensures.beside ∙ ap (λ (b : Body). record b { parts = w; slots = c.stand.new.self.slots }) made.after)
-    (c.stand.ensures.slots ∙ ap (λ (b : Body). standing_at task (Sleeping id future) b.slots.items) made.after)
+    (c.stand.ensures.beside ∙ ap (λ (b : Body _). record b { parts = w; slots = c.stand.new.self.slots }) made.after)
+    (c.stand.ensures.slots ∙ ap (λ (b : Body _). standing_at task (Sleeping id future) b.slots.items) made.after)

@@ -7,30 +7,30 @@ use Rattle.aio_step.proofs.Ready.{begin_alone, begin_called, begin_held, begin_n
 use Rattle.aio_step.proofs.steps.begin.Goals as goal
 
 pub begin_step-input-requires-clause-called : goal.begin_step-input-requires-clause-called
-begin_step-input-requires-clause-called c = begin_called c.args.task c.args.body.now c.requires
+begin_step-input-requires-clause-called g c = begin_called c.args.task c.args.body.now c.requires
 
 pub begin_step-input-requires-clause-alone : goal.begin_step-input-requires-clause-alone
-begin_step-input-requires-clause-alone c = begin_alone c.args.task c.args.body.now c.requires
+begin_step-input-requires-clause-alone g c = begin_alone c.args.task c.args.body.now c.requires
 
 pub take-coroutine-requires : goal.take-coroutine-requires
-take-coroutine-requires c = begin_there c.args.task c.args.body.now c.requires
+take-coroutine-requires g c = begin_there c.args.task c.args.body.now c.requires
 
 pub give_up-requires-clause-idle : goal.give_up-requires-clause-idle
-give_up-requires-clause-idle c =
-    ap (λ (x : Body). x.parts.called) c.take-coroutine.ensures.beside ∙ ap (λ (x : View). x.called) c.begin_step-input.ensures.beside
+give_up-requires-clause-idle g c =
+    ap (λ (x : Body _). x.parts.called) c.take-coroutine.ensures.beside ∙ ap (λ (x : View). x.called) c.begin_step-input.ensures.beside
 
 pub give_up-requires-clause-no_task : goal.give_up-requires-clause-no_task
-give_up-requires-clause-no_task c =
+give_up-requires-clause-no_task g c =
     begin_no_task c.args.task c.args.body.now c.requires c.take-coroutine.new.self.parts
-    (ap (λ (x : Body). x.parts.futures) c.take-coroutine.ensures.beside ∙ ap (λ (x : View). x.futures) c.begin_step-input.ensures.beside)
+    (ap (λ (x : Body _). x.parts.futures) c.take-coroutine.ensures.beside ∙ ap (λ (x : View). x.futures) c.begin_step-input.ensures.beside)
     c.take-coroutine.result c.take-coroutine.ensures.slot
 
 pub unreachable-requires : goal.unreachable-requires
-unreachable-requires c =
+unreachable-requires g c =
     begin_held c.args.task c.args.body.now c.requires c.take-coroutine.result c.take-coroutine.ensures.slot c.in_default.is
 
 pub returns : goal.returns
-returns c setting s h =
+returns g c setting s h =
     subst (λ x. HasBegun c.args.task c.args.input setting s
     (record { coroutine = c.in-Some.coroutine; standing = c.take-coroutine.result.standing; input = x }) c.give_up.new.self)
     (sym c.begin_step-input.ensures.input)

@@ -2,10 +2,10 @@ use Rattle.law_body.proofs.Slotting.{stands_back, stands_over, stands_resumed}
 use Rattle.law_body.proofs.slots.a_coroutine_goes_on.Goals as goal
 
 pub returns-clause-resumed : goal.returns-clause-resumed
-returns-clause-resumed c = stands_resumed
+returns-clause-resumed g c = stands_resumed
 
 pub returns-clause-back : goal.returns-clause-back
-returns-clause-back c = stands_back
+returns-clause-back g c = stands_back
 
 pub returns-clause-over : goal.returns-clause-over
-returns-clause-over c = stands_over
+returns-clause-over g c = stands_over

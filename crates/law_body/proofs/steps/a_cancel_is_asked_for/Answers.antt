@@ -2,4 +2,4 @@ use Rattle.law_body.proofs.Rooms.{requests_so}
 use Rattle.law_body.proofs.steps.a_cancel_is_asked_for.Goals as goal
 
 pub returns : goal.returns
-returns c = requests_so
+returns g c = requests_so

@@ -2,4 +2,4 @@ use Rattle.law_body.proofs.Rooms.{pauses_so}
 use Rattle.law_body.proofs.steps.a_pause_rests.Goals as goal
 
 pub returns : goal.returns
-returns c = pauses_so
+returns g c = pauses_so

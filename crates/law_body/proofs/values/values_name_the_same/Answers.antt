@@ -2,10 +2,10 @@ use Rattle.law_body.proofs.Telling.{awaited_named, awaited_stays, future_named}
 use Rattle.law_body.proofs.values.values_name_the_same.Goals as goal
 
 pub returns-clause-future : goal.returns-clause-future
-returns-clause-future c = future_named
+returns-clause-future g c = future_named
 
 pub returns-clause-awaited : goal.returns-clause-awaited
-returns-clause-awaited c = awaited_named
+returns-clause-awaited g c = awaited_named
 
 pub returns-clause-there : goal.returns-clause-there
-returns-clause-there c = awaited_stays
+returns-clause-there g c = awaited_stays

@@ -13,7 +13,7 @@ pub returns-in-Some-clause-turned : goal.returns-in-Some-clause-turned
 returns-in-Some-clause-turned g c = λ none. not_both c.args.self.now.ended c.in-Some.ended none (sym c.take.ensures.value ∙ c.in-Some.is)
 
 pub returns-in-Some-clause-sound : goal.returns-in-Some-clause-sound
-returns-in-Some-clause-sound g c = λ past answers s h. turn_sound past answers c.args.self.now s h
+returns-in-Some-clause-sound g c = λ past answers s h. turn_sound g.X.Extra.added past answers c.args.self.now s h
 
 pub returns-in-Some-clause-keeps : goal.returns-in-Some-clause-keeps
 returns-in-Some-clause-keeps g c = g.met.W.Wire.keeps_same c.args.wire.now
@@ -59,7 +59,7 @@ returns-in-Ok g c =
             c.in-Ok.ensures.comes c.in-Ok.ensures.stalls c.in-Ok.ensures.quiet c.in-Ok.ensures.fails
             (kept_again c.in-Ok.went c.keep.result c.take.new.self c.keep.new.kept c.take.ensures.after c.keep.ensures),
       );
-      sound = λ past answers s h. turn_sound past answers c.args.self.now s h;
+      sound = λ past answers s h. turn_sound g.X.Extra.added past answers c.args.self.now s h;
       keeps = c.in-Ok.ensures.keeps;
       later = c.in-Ok.ensures.later;
       kept = kept_now c.in-Ok.went c.keep.result c.take.new.self c.keep.new.kept c.take.ensures.after c.keep.ensures;
@@ -79,7 +79,7 @@ returns-in-Err g c =
             c.in-Err.ensures.comes c.in-Err.ensures.stalls c.in-Err.ensures.quiet c.in-Err.ensures.fails
             (kept_again said c.keep-in-Err.result c.take.new.self c.keep-in-Err.new.kept c.take.ensures.after c.keep-in-Err.ensures),
       );
-      sound = λ past answers s h. turn_sound past answers c.args.self.now s h;
+      sound = λ past answers s h. turn_sound g.X.Extra.added past answers c.args.self.now s h;
       keeps = c.in-Err.ensures.keeps;
       later = c.in-Err.ensures.later;
       kept = kept_now said c.keep-in-Err.result c.take.new.self c.keep-in-Err.new.kept c.take.ensures.after c.keep-in-Err.ensures;

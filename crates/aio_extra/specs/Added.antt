@@ -1,0 +1,53 @@
+-- What is added to the loop's own requests, in code and in the machine.
+use Rattle.std.specs.Prelude.{◌≡◌, ℕ, ◌<◌, ◌≤◌, ◌⊎◌, Bool, true, false, List, Some, slice_get}
+use Rattle.model_loop.specs.Futures.{next_future}
+use Rattle.model_loop.specs.Owning.{is_plain, owner_of}
+use Rattle.model_loop.specs.Parts.{Parts}
+use Rattle.model_machine.specs.Extra.{Extra, WakesFall}
+use Rattle.model_machine.specs.State.{State}
+use Rattle.law_extras.specs.Allowed.{MakesAllowedSteps}
+use Rattle.aio_task.specs.Keeps.{Ties}
+
+-- The loop goes on beside what is added: tags are known as before, what it made stays what it was, and of its own futures
+-- none is let go.
+pub record GoesBeside (owned : ℕ → Type 0) (t : Ties) (p : Parts) (u : Ties) (q : Parts) : Type 0 where
+  pub known : (tag : ℕ) → tag < p.next_tag → u.known tag ≡ t.known tag
+  pub tags : p.next_tag ≤ q.next_tag
+  pub gone : (id : ℕ) → owned id → u.gone id ≡ t.gone id
+  pub futures : next_future p ≤ next_future q
+  pub plain : (id : ℕ) → is_plain p id ≡ true → is_plain q id ≡ true
+  pub owners : (id : ℕ) → id < next_future p → owner_of q id ≡ owner_of p id
+
+-- `X` is the type of the object in code.
+pub record Added (X : Type 0) : Type 1 where
+  -- what the machine keeps of it
+  pub Kept : Type 0
+  -- what its calls mean
+  pub meaning : Extra Kept
+  -- the futures that are its own: it made them, and no script names them
+  pub owns : Kept → ℕ → Type 0
+  -- An object stands for what the machine keeps. It knows handles and timers by their names, where the machine has tags.
+  pub stands : Ties → Parts → X → Kept → Type 0
+  -- it goes on doing so whatever else the loop does
+  pub goes_on : (t u : Ties) (p q : Parts) (x : X) (kept : Kept) → stands t p x kept → GoesBeside (owns kept) t p u q
+      → stands u q x kept
+  -- what is its own was made
+  pub made : (t : Ties) (p : Parts) (x : X) (kept : Kept) → stands t p x kept → (id : ℕ) → owns kept id → id < next_future p
+  -- its steps keep a loop sound
+  pub allowed : MakesAllowedSteps meaning
+  -- a request that goes on waiting for what is done is woken fewer times each time
+  pub falls : WakesFall meaning
+  -- it watches nothing of the outside
+  pub quiet : (kept : Kept) → meaning.watches kept ≡ false
+
+-- a script names this future, or it is the own one of what is added
+abbrev pub IsNamed : (named : List ℕ) → (owned : ℕ → Type 0) → ℕ → Type 0
+IsNamed named owned id = ((place : ℕ) × (slice_get named place ≡ Some id)) ⊎ owned id
+
+-- which futures of a state are named so
+abbrev pub named_in : {X : Type 0} → (a : Added X) → State a.Kept → ℕ → Type 0
+named_in a s id = IsNamed s.futures (a.owns s.extra) id
+
+-- An object keeps nothing so far: it stands for this whatever was made.
+abbrev pub KeepsNothing : {X : Type 0} → (a : Added X) → X → a.Kept → Type 0
+KeepsNothing a x kept = (t : Ties) (p : Parts) → a.stands t p x kept

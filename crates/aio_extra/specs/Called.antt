@@ -1,0 +1,53 @@
+-- What a call of what is added comes to, by the states of the machine that the loop's parts and the object stand for.
+use Rattle.std.specs.Prelude.{◌≡◌, ℕ, ◌≤◌, ◌⊎◌, true, false, Option, None, length}
+use Rattle.model_loop.specs.Futures.{next_future}
+use Rattle.model_loop.specs.Owning.{is_plain}
+use Rattle.model_loop.specs.Sound.{IsSound}
+use Rattle.model_machine.specs.Extra as extra
+use Rattle.model_machine.specs.Extra.{ExtraAnswer, ExtraCall, ExtraSaid, called}
+use Rattle.model_machine.specs.State.{State}
+use Rattle.model_machine.specs.Told.{told_in}
+use Rattle.aio_task.specs.Keeps.{Ties, Keeps, Extends}
+use Rattle.aio_task.specs.View.{View}
+use Rattle.aio_extra.specs.Added.{Added, named_in}
+use Rattle.aio_extra.specs.declared.asked.Asked.{Asked}
+use Rattle.aio_extra.specs.declared.asked.Asked.TheVariants.{Answer, Raise, Wait}
+
+-- The parts and the object stand for a state, in which no task runs or this one does. Nothing was taken from the queue.
+pub record IsServed {X : Type 0} (a : Added X) (running : Option ℕ) (t : Ties) (s : State a.Kept) (x : X) (v : View) : Type 0 where
+  pub keeps : Keeps t v s.loop.parts
+  pub stands : a.stands t s.loop.parts x s.extra
+  pub called : v.called ≡ None
+  pub runs : v.running ≡ running
+  pub sound : IsSound running (told_in s.events) s.loop
+
+-- There is such a state. Which one it is doesn't matter to what a call may do.
+abbrev pub MayServe : {X : Type 0} → Added X → (running : Option ℕ) → X → View → Type 0
+MayServe a running x v = ∥ ((t : Ties) × ((s : State a.Kept) × IsServed a running t s x v)) ∥₁
+
+-- A call came to what the machine's does: by ties that go on, the parts stand for the loop's after its steps, and the object
+-- for what the machine keeps then. What is its own then was so before, or was made since. The running task runs on, and as
+-- many handles stand before the bar.
+pub record CallsAs {X : Type 0} (a : Added X) (t : Ties) (s : State a.Kept) (v w : View) (x : X) (call : ExtraCall a.Kept) : Type 0 where
+  pub ties : Ties
+  pub keeps : Keeps ties w (called call s).loop.parts
+  pub extends : Extends s.loop.parts t (called call s).loop.parts ties
+  pub stands : a.stands ties (called call s).loop.parts x call.state
+  pub own : (id : ℕ) → a.owns call.state id → a.owns s.extra id ⊎ (next_future s.loop.parts ≤ id)
+  pub below : length w.queue.below ≡ length v.queue.below
+  pub called : w.called ≡ v.called
+  pub running : w.running ≡ v.running
+
+-- The answer is the machine's. A future that is waited for wasn't let go, and is the own one of what is added, or a script's,
+-- or a task's.
+abbrev pub AnswersAs : {X : Type 0} → (a : Added X) → Ties → State a.Kept → Asked → ExtraAnswer → Type 0
+AnswersAs a t s (Answer value) (extra.Answers said) = value ≡ said
+AnswersAs a t s (Raise fault) (extra.Raises said) = fault ≡ said
+AnswersAs a t s (Wait on key) (extra.Waits future kept) =
+    (on ≡ future) × (key ≡ kept) × (t.gone on ≡ false) × (is_plain s.loop.parts on ≡ true → named_in a s on)
+AnswersAs a t s _ _ = ⊥
+
+pub record SaysAs {X : Type 0} (a : Added X) (t : Ties) (s : State a.Kept) (v w : View) (x : X) (asked : Asked)
+    (said : ExtraSaid a.Kept) : Type 0 where
+  pub calls : CallsAs a t s v w x said.call
+  pub answers : AnswersAs a calls.ties (called said.call s) asked said.answer

@@ -1,0 +1,337 @@
+-- What is added serves a request, in code as in the machine.
+use Rattle.std.proofs.Common.{◌≡◌, ℕ, ℤ, suc, ◌+◌, ◌-◌, ◌<◌, true, List, Option, Some, None, length, slice_get, ◌∙◌, refl, sym, ap, subst, inl, inr, arith}
+use Rattle.std.specs.Prelude.{is_none}
+use Rattle.std.proofs.Math.Logic.{∥∥₁_elim, ∥∥₁_map}
+use Rattle.std.proofs.Props.{props}
+use Rattle.std.proofs.lemmas.Bool.{eq-eqb}
+use Rattle.model_value.specs.Input.{Input}
+use Rattle.model_value.specs.Value.{Exc, Outcome, Value}
+use Rattle.model_value.specs.declared.request.Request.TheVariants as request
+use Rattle.model_loop.specs.Futures.{future_outcome, is_pending, is_pending_at, next_future, outcome_at}
+use Rattle.model_loop.specs.Owning.{is_plain}
+use Rattle.model_loop.specs.Parts.{Future}
+use Rattle.model_loop.specs.Sound.{IsSound}
+use Rattle.model_loop.specs.Suspend.{suspend}
+use Rattle.model_loop.specs.Tasks.{lives, next_task}
+use Rattle.model_machine.specs.Arguments.{as_int, as_list}
+use Rattle.model_machine.specs.Extra as extra
+use Rattle.model_machine.specs.Extra.{Extra, ExtraAnswer, ExtraSaid, WakesFall, called}
+use Rattle.model_machine.specs.Outcomes.{input_of}
+use Rattle.model_machine.specs.Replies as plain
+use Rattle.model_machine.specs.Replies.{ended, serves_as, serves_until, waits, woken, woken_within}
+use Rattle.model_machine.specs.State as standing
+use Rattle.model_machine.specs.State.{State, stands}
+use Rattle.model_machine.specs.Told.{told_in}
+use Rattle.law_extras.specs.Allowed.{IsSaidAllowed}
+use Rattle.law_inside.proofs.Counts.{get_there, lives_within}
+use Rattle.law_kept.proofs.Telling.{next_kept, outcome_kept, pending_kept}
+use Rattle.law_machine.proofs.Waking.{woken_ends}
+use Rattle.law_turns.specs.Replied.{RunsSound}
+use Rattle.aio_cancel.specs.Body.{Appended}
+use Rattle.aio_task.specs.Keeps.{Ties}
+use Rattle.aio_task.specs.View.{View, parts}
+use Rattle.aio_extra.specs.Added.{Added, named_in}
+use Rattle.aio_extra.specs.Called as by_call
+use Rattle.aio_extra.specs.Called.{IsServed, MayServe, SaysAs}
+use Rattle.aio_extra.specs.declared.asked.Asked.{Asked}
+use Rattle.aio_extra.specs.declared.asked.Asked.TheVariants.{Answer, Raise, Wait}
+use Rattle.aio_body.specs.Asked.{HasRested, IsAsking, IsDeciding, IsGoing, IsInStep, MayAsk, MayDecide, Says}
+use Rattle.aio_body.specs.Slots.{standing_at}
+use Rattle.aio_body.specs.Stands.{IsOwnSleep, Setting}
+use Rattle.aio_body.specs.declared.body.Body.{Body}
+use Rattle.aio_body.specs.declared.reply.Reply.{Reply}
+use Rattle.aio_body.specs.declared.reply.Reply.TheVariants as reply
+use Rattle.aio_body.specs.declared.standing.Standing.TheVariants.{Serving}
+use Rattle.law_body.proofs.Adding.{served_of, sound_called, stands_called, ties_called}
+use Rattle.law_body.proofs.Lasting.{Spares}
+use Rattle.law_body.proofs.Left.{leaves_suspend}
+use Rattle.law_body.proofs.May.{same_prop}
+use Rattle.law_body.proofs.Rooms.{waits_so}
+use Rattle.law_body.proofs.Slotting.{stands_standing}
+use Rattle.aio_serve.specs.Adding.{AnswersAgain, AnswersAs, IsAnswering, MayAnswer, answered}
+use Rattle.aio_serve.proofs.Meaning.{added_means}
+use Rattle.aio_serve.specs.declared.added.Answered.TheVariants.{Again, Replies}
+
+-- ---- in the machine
+-- a request is woken no more often than it says, so that the bound is not met
+module _ {S : Type 0} (added : Extra S) (falls : WakesFall added) (task : ℕ) where
+  enough : (count key : ℕ) (input : Input) (s : State S) → added.wakes_left key s.extra < count
+      → woken_within added count task key input s ≡ woken added task key input s
+  enough count key input s h =
+      let split : count ≡ suc (added.wakes_left key s.extra) + (count - suc (added.wakes_left key s.extra)) = omega (arith, h) in
+      ap (λ k. woken_within added k task key input s) split
+      ∙ woken_ends added falls task (suc (added.wakes_left key s.extra)) (count - suc (added.wakes_left key s.extra)) key input s (omega arith)
+
+  -- what a wait came to is answered, whatever comes after
+  pub woken_on : (key : ℕ) (input : Input) (s : State S)
+      → woken added task key input s ≡ answered added task (added.wake key input s).answer (called (added.wake key input s).call s)
+  woken_on key input s = at (added.wake key input s).answer refl
+    where
+      now : State S
+      now = called (added.wake key input s).call s
+
+      until : (on next : ℕ) → added.wakes_left next (added.wake key input s).call.state < added.wakes_left key s.extra → (o : Option Outcome)
+          → serves_until o (woken_within added (added.wakes_left key s.extra) task) task on next now ≡ serves_until o (woken added task) task on next now
+      until on next less (Some outcome) = enough (added.wakes_left key s.extra) next (input_of outcome) now less
+      until on next less None = refl
+
+      at : (answer : ExtraAnswer) → (added.wake key input s).answer ≡ answer
+          → serves_as answer (woken_within added (added.wakes_left key s.extra) task) task now ≡ serves_as answer (woken added task) task now
+      at (extra.Answers value) e = refl
+      at (extra.Raises fault) e = refl
+      at (extra.Waits on next) e = until on next (falls key input s on next e) (ended now on)
+
+-- ---- what it may rely on
+module _ {X : Type 0} {a : Added X} where
+  pub asks_served : (task : ℕ) (body : Body X) (code arguments : Value) → MayAsk a task (request.Extra code arguments) body
+      → MayServe a (Some task) body.extra body.parts
+  asks_served task body code arguments m =
+      ∥∥₁_map m (λ w.
+      let going = w.1.1.going in
+      let h = going.in_step in
+      (h.stands.ties, (w.1.0, served_of (Some task) (Some task) w.0 body w.1.0 h.stands h.called h.running going.sound.others.loop)))
+
+  pub decides_served : (task key : ℕ) (body : Body X) → MayDecide a task (standing.Serving key) body → MayServe a body.parts.running body.extra body.parts
+  decides_served task key body m =
+      ∥∥₁_map m (λ w.
+      let h = w.1.1.in_step in (
+        h.stands.ties,
+        (
+          w.1.0,
+          served_of (Some task) body.parts.running w.0 body w.1.0 h.stands h.called refl
+              (subst (λ r. IsSound r (told_in w.1.0.events) w.1.0.loop) (sym h.running) w.1.1.asked.others.loop),
+        ),
+      ))
+
+  pub answers_served : (task : ℕ) (asked : Asked) (body : Body X) → MayAnswer a task asked body → MayServe a body.parts.running body.extra body.parts
+  answers_served task asked body m =
+      ∥∥₁_map m (λ w.
+      let h = w.1.1.1.in_step in (
+        h.stands.ties,
+        (
+          w.1.0,
+          served_of (Some task) body.parts.running w.0 body w.1.0 h.stands h.called refl
+              (subst (λ r. IsSound r (told_in w.1.0.events) w.1.0.loop) (sym h.running) w.1.1.1.sound),
+        ),
+      ))
+
+-- what is known where an answer has come
+module _ {X : Type 0} {a : Added X} (task : ℕ) (asked : Asked) (body : Body X) (m : MayAnswer a task asked body) where
+  pub answers_idle : body.parts.called ≡ None
+  answers_idle = ∥∥₁_elim m (same_prop body.parts.called None) (λ w. w.1.1.1.in_step.called)
+
+  pub answers_run : body.parts.running ≡ Some task
+  answers_run = ∥∥₁_elim m (same_prop body.parts.running (Some task)) (λ w. w.1.1.1.in_step.running)
+
+  pub answers_there : task < length body.slots.items
+  answers_there =
+      ∥∥₁_elim m (hlevel props) (λ w.
+      subst (λ n. task < n) (sym w.1.1.1.in_step.stands.made)
+      (lives_within w.1.0.loop.parts task (w.1.1.1.sound.parts.runs task (eq-eqb task task refl))))
+
+pub decides_run : {X : Type 0} {a : Added X} (task key : ℕ) (body : Body X) → MayDecide a task (standing.Serving key) body
+    → body.parts.running ≡ Some task
+decides_run task key body m = ∥∥₁_elim m (same_prop body.parts.running (Some task)) (λ w. w.1.1.in_step.running)
+
+-- ---- what comes of a call
+module _ {X : Type 0} {a : Added X} (task : ℕ) (c : Setting a) (old : Body X) (s : State a.Kept) (h : IsInStep task c old s) (sound : RunsSound task s)
+    (v : View) (x : X) (asked : Asked) (said : ExtraSaid a.Kept) (may : IsSaidAllowed said s)
+    (r : SaysAs a h.stands.ties s old.parts v x asked said) where
+  pub answering_so : IsAnswering task asked said.answer c (record old { parts = v; extra = x }) (called said.call s)
+  answering_so = record {
+    in_step = record {
+      stands = stands_called (Some task) (Some task) c old s v x said.call h.stands may.0 sound r.calls;
+      called = r.calls.called ∙ h.called;
+      running = r.calls.running ∙ h.running;
+    };
+    sound = sound_called (Some task) (Some task) c old s v x said.call h.stands may.0 sound r.calls;
+    answers =
+        subst (λ t. by_call.AnswersAs a t (called said.call s) asked said.answer)
+        (sym (ties_called (Some task) (Some task) c old s v x said.call h.stands may.0 sound r.calls)) r.answers;
+    allowed = may.1;
+  }
+
+-- an answer that is none, and one that is
+module _ {X : Type 0} {a : Added X} (task : ℕ) (c : Setting a) (body : Body X) (s : State a.Kept) where
+  pub answer_so : (value : Value) (it : ExtraAnswer) → IsAnswering task (Answer value) it c body s
+      → Says task c body (reply.Answers value) (answered a.meaning task it s)
+  answer_so value (extra.Answers said) h = (h.answers, h.in_step)
+  answer_so value (extra.Raises fault) h = absurd h.answers
+  answer_so value (extra.Waits on key) h = absurd h.answers
+
+  pub raise_so : (fault : Exc) (it : ExtraAnswer) → IsAnswering task (Raise fault) it c body s
+      → Says task c body (reply.Raises fault) (answered a.meaning task it s)
+  raise_so fault (extra.Raises said) h = (h.answers, h.in_step)
+  raise_so fault (extra.Answers value) h = absurd h.answers
+  raise_so fault (extra.Waits on key) h = absurd h.answers
+
+  waits_is : (on key : ℕ) (it : ExtraAnswer) → IsAnswering task (Wait on key) it c body s → extra.Waits on key ≡ it
+  waits_is on key (extra.Waits future kept) h = ap (λ f. extra.Waits f key) h.answers.0 ∙ ap (extra.Waits future) h.answers.1
+  waits_is on key (extra.Answers value) h = absurd h.answers
+  waits_is on key (extra.Raises fault) h = absurd h.answers
+
+  -- of a wait, whatever the answer is called
+  pub waits_as : (P : ExtraAnswer → Type 0) (on key : ℕ) (it : ExtraAnswer) → IsAnswering task (Wait on key) it c body s
+      → (IsAnswering task (Wait on key) (extra.Waits on key) c body s → P (extra.Waits on key)) → P it
+  waits_as P on key it h go =
+      subst P (waits_is on key it h) (go (subst (λ x. IsAnswering task (Wait on key) x c body s) (sym (waits_is on key it h)) h))
+
+-- ---- a wait
+module _ {X : Type 0} {a : Added X} (task on key : ℕ) (c : Setting a) (body : Body X) (s : State a.Kept)
+    (h : IsAnswering task (Wait on key) (extra.Waits on key) c body s) where
+  pub outcome_is : outcome_at (slice_get body.parts.futures on) ≡ future_outcome s.loop.parts on
+  outcome_is = outcome_kept h.in_step.stands.ties body.parts s.loop.parts h.in_step.stands.keeps on h.answers.2
+
+  pub waits_pending : outcome_at (slice_get body.parts.futures on) ≡ None → is_pending_at (slice_get body.parts.futures on) ≡ true
+  waits_pending none =
+      let it = get_there s.loop.parts.futures on h.allowed in
+      pending_kept h.in_step.stands.ties body.parts s.loop.parts h.in_step.stands.keeps on ∙ ap is_pending_at it.1
+      ∙ ap is_none (sym (ap outcome_at it.1) ∙ sym outcome_is ∙ none)
+
+  pub within : task < next_task s.loop.parts
+  within = lives_within s.loop.parts task (h.sound.parts.runs task (eq-eqb task task refl))
+
+  -- what is waited for is no sleep's own
+  spares : Spares (Some (task, on)) s.loop.parts (named_in a s)
+  spares other id new sleeper own =
+      let there = subst (IsOwnSleep s.loop.parts (named_in a s) sleeper) new.1 own in
+      absurd (there.unnamed (h.answers.3 there.plain))
+
+  -- the task waits
+  pub rests_so : (new : Body X) (v : View) → outcome_at (slice_get body.parts.futures on) ≡ None
+      → parts v ≡ (suspend task on (parts body.parts)).parts → Appended body.parts.queue v.queue
+      → v ≡ record body.parts { queue = v.queue; futures = v.futures; tasks = v.tasks; running = None }
+      → new ≡ record body { parts = v; slots = new.slots } → new.slots.items ≡ standing_at task (Serving key) body.slots.items
+      → Says task c new reply.Rests (answered a.meaning task (extra.Waits on key) s)
+  rests_so new v none after appended beside slots items =
+      subst (λ o. Says task c new reply.Rests (serves_until o (woken a.meaning task) task on key s)) (sym (sym outcome_is ∙ none)) rested
+    where
+      waited : HasRested task c (record body { parts = v }) (waits task on s)
+      waited = waits_so task on c body s v h.in_step spares after appended beside
+
+      rested : HasRested task c new (stands (standing.Serving key) task (waits task on s))
+      rested = record {
+        stands =
+            stands_standing c (record body { parts = v }) new (waits task on s) task (Serving key) (standing.Serving key) waited.stands refl slots items
+            (subst (λ n. task < n) (sym (leaves_suspend task on s.loop.parts).tasks) within);
+        called = ap (λ (b : Body X). b.parts.called) slots ∙ waited.called;
+        running = ap (λ (b : Body X). b.parts.running) slots ∙ waited.running;
+      }
+
+  -- it is done: the request is woken at once
+  pub wakes_so : (outcome : Outcome) (input : Input) → outcome_at (slice_get body.parts.futures on) ≡ Some outcome → input ≡ input_of outcome
+      → (v : View) (x : X) (asked : Asked)
+      → ((t : Ties) (now : State a.Kept) → IsServed a body.parts.running t now body.extra body.parts
+      → SaysAs a t now body.parts v x asked (a.meaning.wake key input now))
+      → AnswersAgain task asked c (record body { parts = v; extra = x }) (answered a.meaning task (extra.Waits on key) s)
+  wakes_so outcome input is heard v x asked wakes = record {
+    now = called (a.meaning.wake key input s).call s;
+    it = (a.meaning.wake key input s).answer;
+    answering =
+        answering_so task c body s h.in_step h.sound v x asked (a.meaning.wake key input s) (a.allowed.wake task key input s h.sound)
+        (wakes h.in_step.stands.ties s
+        (served_of (Some task) body.parts.running c body s h.in_step.stands h.in_step.called refl
+        (subst (λ r. IsSound r (told_in s.events) s.loop) (sym h.in_step.running) h.sound)));
+    same =
+        sym (woken_on a.meaning a.falls task key input s)
+        ∙ ap (λ i. woken a.meaning task key i s) heard
+        ∙ ap (λ o. serves_until o (woken a.meaning task) task on key s) (sym (sym outcome_is ∙ is));
+  }
+
+pub waits_may : {X : Type 0} {a : Added X} (task on key : ℕ) (body : Body X) → MayAnswer a task (Wait on key) body
+    → outcome_at (slice_get body.parts.futures on) ≡ None → is_pending_at (slice_get body.parts.futures on) ≡ true
+waits_may task on key body m none =
+    ∥∥₁_elim m (hlevel props) (λ w.
+    waits_as task w.0 body w.1.0 (λ k. is_pending_at (slice_get body.parts.futures on) ≡ true) on key w.1.1.0 w.1.1.1
+    (λ h. waits_pending task on key w.0 body w.1.0 h none))
+
+-- ---- from a request, and from the wait of one
+-- it was asked, with this code
+abbrev pub Asks : {X : Type 0} → (a : Added X) → (task : ℕ) (body : Body X) (arguments : Value) (v : View) (x : X) (asked : Asked) (number : ℤ) → Type 0
+Asks a task body arguments v x asked number =
+    (t : Ties) (s : State a.Kept) (items : List Value) → as_list arguments ≡ Some items → IsServed a (Some task) t s body.extra body.parts
+    → SaysAs a t s body.parts v x asked (a.meaning.ask task number items s)
+
+module _ {X : Type 0} (a : Added X) (task : ℕ) (body : Body X) (code arguments : Value) (number : ℤ) (items : List Value)
+    (is_code : as_int code ≡ Some number) (are_items : as_list arguments ≡ Some items) (v : View) (x : X) (asked : Asked)
+    (asks : Asks a task body arguments v x asked number) where
+  asked_so : (c : Setting a) (s : State a.Kept) → IsGoing task c body s
+      → IsAnswering task asked (a.meaning.ask task number items s).answer c (record body { parts = v; extra = x })
+      (called (a.meaning.ask task number items s).call s)
+  asked_so c s h =
+      let sound = h.sound.others.loop in
+      answering_so task c body s h.in_step sound v x asked (a.meaning.ask task number items s) (a.allowed.ask task number items s sound)
+      (asks h.in_step.stands.ties s items are_items
+      (served_of (Some task) (Some task) c body s h.in_step.stands h.in_step.called h.in_step.running sound))
+
+  pub asks_answer : MayAsk a task (request.Extra code arguments) body → MayAnswer a task asked (record body { parts = v; extra = x })
+  asks_answer m =
+      ∥∥₁_map m (λ w.
+      (w.0, (called (a.meaning.ask task number items w.1.0).call w.1.0, ((a.meaning.ask task number items w.1.0).answer, asked_so w.0 w.1.0 w.1.1.going))))
+
+  pub asks_end : (new : Body X) (said : Reply)
+      → ((c : Setting a) (s : State a.Kept) (it : ExtraAnswer) → IsAnswering task asked it c (record body { parts = v; extra = x }) s
+      → Says task c new said (answered a.meaning task it s))
+      → (c : Setting a) (s : State a.Kept) → IsAsking task (request.Extra code arguments) c body s
+      → Says task c new said (plain.reply a.meaning task (request.Extra code arguments) s)
+  asks_end new said does c s h =
+      subst (Says task c new said) (sym (added_means a.meaning task s code arguments number items is_code are_items))
+      (does c (called (a.meaning.ask task number items s).call s) (a.meaning.ask task number items s).answer (asked_so c s h.going))
+
+module _ {X : Type 0} {a : Added X} (task key : ℕ) (body : Body X) (input : Input) (v : View) (x : X) (asked : Asked)
+    (wakes : (t : Ties) (s : State a.Kept) → IsServed a body.parts.running t s body.extra body.parts
+    → SaysAs a t s body.parts v x asked (a.meaning.wake key input s)) where
+  woken_so : (c : Setting a) (s : State a.Kept) → IsDeciding task (standing.Serving key) c body s
+      → IsAnswering task asked (a.meaning.wake key input s).answer c (record body { parts = v; extra = x })
+      (called (a.meaning.wake key input s).call s)
+  woken_so c s h =
+      let sound = h.asked.others.loop in
+      answering_so task c body s h.in_step sound v x asked (a.meaning.wake key input s) (a.allowed.wake task key input s sound)
+      (wakes h.in_step.stands.ties s
+      (served_of (Some task) body.parts.running c body s h.in_step.stands h.in_step.called refl
+      (subst (λ r. IsSound r (told_in s.events) s.loop) (sym h.in_step.running) sound)))
+
+  pub wakes_answer : MayDecide a task (standing.Serving key) body → MayAnswer a task asked (record body { parts = v; extra = x })
+  wakes_answer m =
+      ∥∥₁_map m (λ w.
+      (w.0, (called (a.meaning.wake key input w.1.0).call w.1.0, ((a.meaning.wake key input w.1.0).answer, woken_so w.0 w.1.0 w.1.1))))
+
+  pub wakes_end : (new : Body X) (said : Reply)
+      → ((c : Setting a) (s : State a.Kept) (it : ExtraAnswer) → IsAnswering task asked it c (record body { parts = v; extra = x }) s
+      → Says task c new said (answered a.meaning task it s))
+      → (c : Setting a) (s : State a.Kept) → IsDeciding task (standing.Serving key) c body s
+      → Says task c new said (plain.decides a.meaning (standing.Serving key) task input s)
+  wakes_end new said does c s h =
+      subst (Says task c new said) (sym (woken_on a.meaning a.falls task key input s))
+      (does c (called (a.meaning.wake key input s).call s) (a.meaning.wake key input s).answer (woken_so c s h))
+
+-- ---- one answer after another
+module _ {X : Type 0} (a : Added X) (task : ℕ) (first : Asked) (old : Body X) where
+  abbrev pub AreAnswered : Asked → Body X → Type 0
+  AreAnswered asked body =
+      (c : Setting a) (s : State a.Kept) (it : ExtraAnswer) → IsAnswering task first it c old s
+      → AnswersAgain task asked c body (answered a.meaning task it s)
+
+  pub on_first : AreAnswered first old
+  on_first = λ c s it h. record { now = s; it = it; answering = h; same = refl }
+
+  pub on_answer : (asked : Asked) (body : Body X) → AreAnswered asked body → MayAnswer a task first old → MayAnswer a task asked body
+  on_answer asked body are m =
+      ∥∥₁_map m (λ w. let again = are w.0 w.1.0 w.1.1.0 w.1.1.1 in (w.0, (again.now, (again.it, again.answering))))
+
+  pub on_next : (asked next : Asked) (body new : Body X) → AreAnswered asked body
+      → ((c : Setting a) (s : State a.Kept) (it : ExtraAnswer) → IsAnswering task asked it c body s
+      → AnswersAs task c new (Again next) (answered a.meaning task it s))
+      → AreAnswered next new
+  on_next asked next body new are one = λ c s it h.
+      let again = are c s it h in
+      let came = one c again.now again.it again.answering in
+      record { now = came.now; it = came.it; answering = came.answering; same = came.same ∙ again.same }
+
+  pub on_end : (asked : Asked) (body new : Body X) (said : Reply) → AreAnswered asked body
+      → ((c : Setting a) (s : State a.Kept) (it : ExtraAnswer) → IsAnswering task asked it c body s
+      → AnswersAs task c new (Replies said) (answered a.meaning task it s))
+      → (c : Setting a) (s : State a.Kept) (it : ExtraAnswer) → IsAnswering task first it c old s → Says task c new said (answered a.meaning task it s)
+  on_end asked body new said are one = λ c s it h.
+      let again = are c s it h in
+      subst (Says task c new said) again.same (one c again.now again.it again.answering)

@@ -1,0 +1,5 @@
+use Rattle.aio_serve.proofs.Adding.{AreAnswered}
+use Rattle.aio_serve.proofs.added.answer.Given as goal
+
+abbrev pub invariant-loop-woken : goal.invariant-loop-woken
+invariant-loop-woken g l = AreAnswered g.X.Extra.added l.fn.task l.fn.asked l.fn.body l.asked l.body

@@ -1,0 +1,56 @@
+use Rattle.std.proofs.Common.{◌≡◌, Option, Some, None, is_some, false, true, rules, SFits, w64, refl, sym, ap, subst, ◌∙◌}
+use Rattle.std.proofs.lemmas.Int.{to_z-of_z}
+use Rattle.std.proofs.lemmas.Result.{IfOk-weaker}
+use Rattle.model_says.specs.Requests.{bad_argument}
+use Rattle.model_machine.specs.Arguments.{as_list}
+use Rattle.aio_serve.proofs.Adding.{Asks, asks_answer, asks_end, asks_served}
+use Rattle.aio_serve.proofs.Meaning.{arguments_refused, code_refused}
+use Rattle.aio_serve.proofs.Saying.{raises_so}
+use Rattle.aio_serve.proofs.added.extra.Goals as goal
+
+none_of : {A : Type 0} (o : Option A) → is_some o ≡ false → o ≡ None
+none_of None e = refl
+none_of (Some x) e = absurd (cc)
+
+some_of : {A : Type 0} (o : Option A) → is_some o ≡ true → (x : A) × (o ≡ Some x)
+some_of None e = absurd (cc)
+some_of (Some x) e = (x, refl)
+
+pub returns-in_default : goal.returns-in_default
+returns-in_default g c =
+    let task = c.args.task in
+    IfOk-weaker c.bad_argument.result _ _ (λ said e at s h.
+    raises_so task at c.args.body.now s said _ bad_argument e
+    (code_refused g.X.Extra.added.meaning task s c.args.code.now c.args.arguments.now (sym c.as_int.ensures ∙ c.in_default.is)) h.going.in_step)
+    c.bad_argument.ensures
+
+pub returns-then-not-is_list : goal.returns-then-not-is_list
+returns-then-not-is_list g c =
+    let task = c.args.task in
+    IfOk-weaker c.bad_argument-then-not-is_list.result _ _ (λ said e at s h.
+    raises_so task at c.args.body.now s said _ bad_argument e
+    (arguments_refused g.X.Extra.added.meaning task s c.args.code.now c.args.arguments.now c.in-Some.code (sym c.as_int.ensures ∙ c.in-Some.is)
+    (none_of (as_list c.args.arguments.now) (sym c.is_list.ensures ∙ c.if-not-is_list.true))) h.going.in_step)
+    c.bad_argument-then-not-is_list.ensures
+
+pub ask-requires-clause-serves : goal.ask-requires-clause-serves
+ask-requires-clause-serves g c = asks_served c.args.task c.args.body.now c.args.code.now c.args.arguments.now c.requires
+
+pub answer-requires : goal.answer-requires
+answer-requires g c =
+    let fits : SFits w64 c.in-Some.code = search rules in
+    let items = some_of (as_list c.args.arguments.now) (sym c.is_list.ensures ∙ c.if-not-is_list.false) in
+    asks_answer g.X.Extra.added c.args.task c.args.body.now c.args.code.now c.args.arguments.now c.in-Some.code items.0
+    (sym c.as_int.ensures ∙ c.in-Some.is) items.1 c.ask.new.parts c.ask.new.self c.in_ok-asked.asked
+    (subst (Asks g.X.Extra.added c.args.task c.args.body.now c.args.arguments.now c.ask.new.parts c.ask.new.self c.in_ok-asked.asked)
+    (to_z-of_z w64 c.in-Some.code fits) c.in_ok-asked.ensures) c.requires
+
+pub returns : goal.returns
+returns g c =
+    let fits : SFits w64 c.in-Some.code = search rules in
+    let items = some_of (as_list c.args.arguments.now) (sym c.is_list.ensures ∙ c.if-not-is_list.false) in
+    IfOk-weaker c.answer.result _ _ (λ said does.
+    asks_end g.X.Extra.added c.args.task c.args.body.now c.args.code.now c.args.arguments.now c.in-Some.code items.0
+    (sym c.as_int.ensures ∙ c.in-Some.is) items.1 c.ask.new.parts c.ask.new.self c.in_ok-asked.asked
+    (subst (Asks g.X.Extra.added c.args.task c.args.body.now c.args.arguments.now c.ask.new.parts c.ask.new.self c.in_ok-asked.asked)
+    (to_z-of_z w64 c.in-Some.code fits) c.in_ok-asked.ensures) c.answer.new.body said does) c.answer.ensures

@@ -1,0 +1,44 @@
+-- What comes of an answer of what is added, in a state that is stood for.
+use Rattle.std.specs.Prelude.{◌≡◌, ℕ}
+use Rattle.model_machine.specs.Extra.{Extra, ExtraAnswer}
+use Rattle.model_machine.specs.Replies as plain
+use Rattle.model_machine.specs.Replies.{serves_as, woken}
+use Rattle.model_machine.specs.State.{State}
+use Rattle.law_extras.specs.Allowed.{IsAnswerAllowed}
+use Rattle.law_turns.specs.Replied.{RunsSound}
+use Rattle.aio_extra.specs.Added.{Added}
+use Rattle.aio_extra.specs.Called as called
+use Rattle.aio_extra.specs.declared.asked.Asked.{Asked}
+use Rattle.aio_body.specs.declared.body.Body.{Body}
+use Rattle.aio_body.specs.Asked.{IsInStep, Says}
+use Rattle.aio_body.specs.Stands.{Setting}
+use Rattle.aio_serve.specs.declared.added.Answered.{Answered}
+use Rattle.aio_serve.specs.declared.added.Answered.TheVariants.{Replies, Again}
+
+-- what the machine makes of an answer
+abbrev pub answered : {S : Type 0} → Extra S → ℕ → ExtraAnswer → State S → plain.Reply S
+answered added task it s = serves_as it (woken added task) task s
+
+-- A call of what is added has given this answer, and the machine's call that one; both are in the state after it.
+pub record IsAnswering {X : Type 0} {a : Added X} (task : ℕ) (asked : Asked) (it : ExtraAnswer) (c : Setting a)
+    (body : Body X) (s : State a.Kept) : Type 0 where
+  pub in_step : IsInStep task c body s
+  pub sound : RunsSound task s
+  pub answers : called.AnswersAs a in_step.stands.ties s asked it
+  pub allowed : IsAnswerAllowed it s
+
+abbrev pub MayAnswer : {X : Type 0} → Added X → ℕ → Asked → Body X → Type 0
+MayAnswer a task asked body =
+    ∥ ((c : Setting a) × ((s : State a.Kept) × ((it : ExtraAnswer) × IsAnswering task asked it c body s))) ∥₁
+
+-- another answer, from which the machine's reply is the same
+pub record AnswersAgain {X : Type 0} {a : Added X} (task : ℕ) (asked : Asked) (c : Setting a) (body : Body X)
+    (machine : plain.Reply a.Kept) : Type 0 where
+  pub now : State a.Kept
+  pub it : ExtraAnswer
+  pub answering : IsAnswering task asked it c body now
+  pub same : answered a.meaning task it now ≡ machine
+
+abbrev pub AnswersAs : {X : Type 0} {a : Added X} → ℕ → Setting a → Body X → Answered → plain.Reply a.Kept → Type 0
+AnswersAs task c body (Replies said) machine = Says task c body said machine
+AnswersAs task c body (Again asked) machine = AnswersAgain task asked c body machine

@@ -1,0 +1,125 @@
+//! Requests that are added to the loop's own.
+ghost use Rattle.std.specs.Prelude.{◌≡◌, IfOk};
+ghost use Rattle.model_value.specs.declared.request.Request.TheVariants as request;
+ghost use Rattle.model_machine.specs.Extra.{ExtraAnswer};
+ghost use Rattle.model_machine.specs.Replies.{decides};
+ghost use Rattle.model_machine.specs.State.{State, Serving};
+ghost use Rattle.aio_extra.specs.declared.asked.Asked.TheVariants.{Wait};
+ghost use Rattle.aio_body.specs.Asked.{IsDeciding, MayAsk, MayDecide, Says, Serves};
+ghost use Rattle.aio_body.specs.Stands.{Setting};
+ghost use Rattle.aio_serve.specs.Adding.{AnswersAs, IsAnswering, MayAnswer, answered};
+
+use aio_base::{Input, Memory, Value};
+use aio_body::{Body, Reply, Standing, as_int, bad_argument, input_of, is_list};
+use aio_extra::{Asked, Extra};
+use aio_task::FutureId;
+use std::alloc::Global;
+
+/// What comes of an answer of what is added: a reply to the task, or another answer, of a request that was woken at once.
+#[derive(Drop)]
+pub enum Answered {
+    Replies(Reply),
+    Again(Asked),
+}
+
+/// `extra(code, list)`.
+pub fn extra<X: Extra>(
+    body: &mut Body<X>,
+    alloc: Global,
+    task: u32,
+    code: &Value,
+    arguments: &Value,
+) -> Result<Reply, Memory>
+    requires { MayAsk X.added task (request.Extra code.now arguments.now) body.old }
+    ensures { Serves X.added task (request.Extra code.now arguments.now) body.old body.new result }
+{
+    let Some(code) = as_int(code) else {
+        return bad_argument(alloc);
+    };
+    if !is_list(arguments) {
+        return bad_argument(alloc);
+    }
+    let asked = body
+        .extra
+        .ask(alloc, task, code, arguments, &mut body.parts)?;
+    answer(body, alloc, task, asked)
+}
+
+/// The wait of such a request is over.
+pub fn wake<X: Extra>(
+    body: &mut Body<X>,
+    alloc: Global,
+    task: u32,
+    key: u64,
+    input: Input,
+) -> Result<Reply, Memory>
+    requires { MayDecide X.added task (Serving key) body.old }
+    ensures { IfOk result (λ said. (c : Setting X.added) (s : State X.added.Kept)
+        → IsDeciding task (Serving key) c body.old s
+        → Says task c body.new said (decides X.added.meaning (Serving key) task input s)) }
+{
+    let asked = body.extra.wake(alloc, key, input, &mut body.parts)?;
+    answer(body, alloc, task, asked)
+}
+
+// What is done is not waited for: the request is woken at once, for as long as it waits on.
+fn answer<X: Extra>(
+    body: &mut Body<X>,
+    alloc: Global,
+    task: u32,
+    asked: Asked,
+) -> Result<Reply, Memory>
+    requires { MayAnswer X.added task asked body.old }
+    ensures { IfOk result (λ said. (c : Setting X.added) (s : State X.added.Kept) (it : ExtraAnswer)
+        → IsAnswering task asked it c body.old s
+        → Says task c body.new said (answered X.added.meaning task it s)) }
+{
+    let mut asked = asked;
+    for _woken in 0..u64::MAX {
+        match answer_one(body, alloc, task, asked)? {
+            Answered::Replies(said) => return Ok(said),
+            Answered::Again(next) => asked = next,
+        }
+    }
+    Err(Memory)
+}
+
+fn answer_one<X: Extra>(
+    body: &mut Body<X>,
+    alloc: Global,
+    task: u32,
+    asked: Asked,
+) -> Result<Answered, Memory>
+    requires { MayAnswer X.added task asked body.old }
+    ensures { IfOk result (λ told. (c : Setting X.added) (s : State X.added.Kept) (it : ExtraAnswer)
+        → IsAnswering task asked it c body.old s
+        → AnswersAs task c body.new told (answered X.added.meaning task it s)) }
+{
+    match asked {
+        Asked::Answer(value) => Ok(Answered::Replies(Reply::Answers(value))),
+        Asked::Raise(fault) => Ok(Answered::Replies(Reply::Raises(fault))),
+        Asked::Wait { on, key } => wait(body, alloc, task, on, key),
+    }
+}
+
+fn wait<X: Extra>(
+    body: &mut Body<X>,
+    alloc: Global,
+    task: u32,
+    on: FutureId,
+    key: u64,
+) -> Result<Answered, Memory>
+    requires { MayAnswer X.added task (Wait on key) body.old }
+    ensures { IfOk result (λ told. (c : Setting X.added) (s : State X.added.Kept) (it : ExtraAnswer)
+        → IsAnswering task (Wait on key) it c body.old s
+        → AnswersAs task c body.new told (answered X.added.meaning task it s)) }
+{
+    let Some(outcome) = body.parts.outcome(on) else {
+        let _suspension = body.parts.suspend(task, on);
+        body.stand(task, Standing::Serving(key));
+        return Ok(Answered::Replies(Reply::Rests));
+    };
+    let input = input_of(outcome)?;
+    let asked = body.extra.wake(alloc, key, input, &mut body.parts)?;
+    Ok(Answered::Again(asked))
+}
