@@ -11,8 +11,8 @@ use Rattle.model_machine.specs.Step.{says_of}
 use Rattle.aio_base.specs.declared.memory.Memory.{Memory}
 use Rattle.aio_extra.specs.Added.{Added}
 use Rattle.aio_body.specs.declared.body.Body.{Body}
-use Rattle.aio_body.specs.declared.reply.Reply.{Reply}
-use Rattle.aio_body.specs.declared.reply.Reply.TheVariants.{Answers, Raises, Rests}
+use Rattle.aio_body.specs.declared.reply.RequestReply.{RequestReply}
+use Rattle.aio_body.specs.declared.reply.RequestReply.TheVariants.{Answers, Raises, Rests}
 use Rattle.aio_body.specs.Stands.{Setting, Stands}
 use Rattle.law_inside.specs.InStep.{IsAsked, IsLeft, IsStepSound}
 
@@ -34,7 +34,7 @@ pub record IsGoing {X : Type 0} {a : Added X} (task : ℕ) (c : Setting a) (body
   pub sound : IsStepSound a.meaning task s
 
 -- and the task's coroutine asks this
-pub record IsAsking {X : Type 0} {a : Added X} (task : ℕ) (request : Request) (c : Setting a) (body : Body X) (s : State a.Kept) : Type 0 where
+pub record IsAskingFor {X : Type 0} {a : Added X} (task : ℕ) (request : Request) (c : Setting a) (body : Body X) (s : State a.Kept) : Type 0 where
   pub going : IsGoing task c body s
   pub says : says_of step_limit a.meaning task s ≡ Asks request
 
@@ -51,7 +51,7 @@ abbrev pub MayGo : {X : Type 0} → Added X → ℕ → Body X → Type 0
 MayGo a task body = ∥ ((c : Setting a) × ((s : State a.Kept) × IsGoing task c body s)) ∥₁
 
 abbrev pub MayAsk : {X : Type 0} → Added X → ℕ → Request → Body X → Type 0
-MayAsk a task request body = ∥ ((c : Setting a) × ((s : State a.Kept) × IsAsking task request c body s)) ∥₁
+MayAsk a task request body = ∥ ((c : Setting a) × ((s : State a.Kept) × IsAskingFor task request c body s)) ∥₁
 
 abbrev pub MayDecide : {X : Type 0} → Added X → ℕ → standing.Standing → Body X → Type 0
 MayDecide a task stood body = ∥ ((c : Setting a) × ((s : State a.Kept) × IsDeciding task stood c body s)) ∥₁
@@ -61,19 +61,19 @@ abbrev pub SomeGoes : {X : Type 0} → Added X → Body X → Type 0
 SomeGoes a body = ∥ ((task : ℕ) × ((c : Setting a) × ((s : State a.Kept) × IsGoing task c body s))) ∥₁
 
 -- what came of a request, and the state that is stood for then
-abbrev pub Says : {X : Type 0} {a : Added X} → ℕ → Setting a → Body X → Reply → plain.Reply a.Kept → Type 0
+abbrev pub Says : {X : Type 0} {a : Added X} → ℕ → Setting a → Body X → RequestReply → plain.RequestReply a.Kept → Type 0
 Says task c body (Answers value) (plain.Answers said now) = (value ≡ said) × IsInStep task c body now
 Says task c body (Raises fault) (plain.Raises said now) = (fault ≡ said) × IsInStep task c body now
 Says task c body Rests (plain.Rests now) = HasRested task c body now
 Says task c body _ _ = ⊥
 
 -- A call comes to what the machine's reply is, whatever the state that was stood for.
-abbrev pub Replies : {X : Type 0} → (a : Added X) → ℕ → (State a.Kept → plain.Reply a.Kept) → (old new : Body X) → Result Reply Memory → Type 0
+abbrev pub Replies : {X : Type 0} → (a : Added X) → ℕ → (State a.Kept → plain.RequestReply a.Kept) → (old new : Body X) → Result RequestReply Memory → Type 0
 Replies a task machine old new result =
     IfOk result (λ said. (c : Setting a) (s : State a.Kept) → IsGoing task c old s → Says task c new said (machine s))
 
 -- It serves a request that was asked as the table of requests says.
-abbrev pub Serves : {X : Type 0} → Added X → ℕ → Request → (old new : Body X) → Result Reply Memory → Type 0
+abbrev pub Serves : {X : Type 0} → Added X → ℕ → Request → (old new : Body X) → Result RequestReply Memory → Type 0
 Serves a task request old new result =
-    IfOk result (λ said. (c : Setting a) (s : State a.Kept) → IsAsking task request c old s
+    IfOk result (λ said. (c : Setting a) (s : State a.Kept) → IsAskingFor task request c old s
     → Says task c new said (reply a.meaning task request s))

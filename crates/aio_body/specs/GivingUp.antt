@@ -4,7 +4,7 @@ use Rattle.model_loop.specs.Futures.{outcome_at}
 use Rattle.model_loop.specs.Owning.{owner_at}
 use Rattle.law_parts.specs.Forgotten.{released}
 use Rattle.aio_ready.specs.Queue as queue
-use Rattle.aio_ready.specs.declared.handle.Name.TheVariants as name
+use Rattle.aio_ready.specs.declared.handle.HandleName.TheVariants as name
 use Rattle.aio_timer.specs.Schedule as schedule
 use Rattle.aio_timer.specs.declared.live.TimerId.{TimerId}
 use Rattle.aio_task.specs.View.{View}

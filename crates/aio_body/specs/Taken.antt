@@ -45,7 +45,7 @@ abbrev pub MayTake : {X : Type 0} → Added X → Action → Body X → Type 0
 MayTake a action body = ∥ ((c : Setting a) × ((s : State a.Kept) × IsTaken action c body s)) ∥₁
 
 -- after a callback that steps no task
-pub record IsAfter {X : Type 0} {a : Added X} (c : Setting a) (body : Body X) (s : State a.Kept) : Type 0 where
+pub record IsAfterCallback {X : Type 0} {a : Added X} (c : Setting a) (body : Body X) (s : State a.Kept) : Type 0 where
   pub stands : Stands None c body s
   pub called : body.parts.called ≡ None
   pub running : body.parts.running ≡ None

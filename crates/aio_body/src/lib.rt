@@ -10,7 +10,7 @@ mod standing;
 pub use arguments::{as_delay, as_failure, as_group, as_int, as_task, as_timeout, is_list};
 pub use body::Body;
 pub use reply::{
-    MOST_IDS, Reply, bad_argument, cancelled_error, input_of, out_of_range, raises, replied,
+    MOST_IDS, RequestReply, bad_argument, cancelled_error, input_of, out_of_range, raises, replied,
     reply_of, undefined,
 };
 pub use standing::{Slot, Standing};

@@ -14,7 +14,7 @@ use std::alloc::Global;
 /// What a request comes to: the coroutine goes on with a value, or with an exception that is raised in it, or the task's
 /// step ends.
 #[derive(Drop)]
-pub enum Reply {
+pub enum RequestReply {
     Answers(Value),
     Raises(Exc),
     Rests,
@@ -24,37 +24,37 @@ pub enum Reply {
 pub const MOST_IDS: usize = 0xFFFF_FFFF;
 
 /// An exception of this kind with this text.
-pub fn raises(alloc: Global, kind: Kind, text: &str) -> Result<Reply, Memory>
-    ensures { IfOk result (λ said. said ≡ Reply.Raises (exception_of kind text.now)) }
+pub fn raises(alloc: Global, kind: Kind, text: &str) -> Result<RequestReply, Memory>
+    ensures { IfOk result (λ said. said ≡ RequestReply.Raises (exception_of kind text.now)) }
 {
-    Ok(Reply::Raises(exception(alloc, kind, text)?))
+    Ok(RequestReply::Raises(exception(alloc, kind, text)?))
 }
 
-pub fn bad_argument(alloc: Global) -> Result<Reply, Memory>
-    ensures { IfOk result (λ said. said ≡ Reply.Raises plain_bad_argument) }
+pub fn bad_argument(alloc: Global) -> Result<RequestReply, Memory>
+    ensures { IfOk result (λ said. said ≡ RequestReply.Raises plain_bad_argument) }
 {
     raises(alloc, Kind::TypeError, "bad argument")
 }
 
-pub fn out_of_range(alloc: Global) -> Result<Reply, Memory>
-    ensures { IfOk result (λ said. said ≡ Reply.Raises plain_out_of_range) }
+pub fn out_of_range(alloc: Global) -> Result<RequestReply, Memory>
+    ensures { IfOk result (λ said. said ≡ RequestReply.Raises plain_out_of_range) }
 {
     raises(alloc, Kind::OverflowError, "out of range")
 }
 
-pub fn undefined(alloc: Global) -> Result<Reply, Memory>
-    ensures { IfOk result (λ said. said ≡ Reply.Raises plain_undefined) }
+pub fn undefined(alloc: Global) -> Result<RequestReply, Memory>
+    ensures { IfOk result (λ said. said ≡ RequestReply.Raises plain_undefined) }
 {
     raises(alloc, Kind::NameError, "connections and children")
 }
 
 /// What an input is to the coroutine that it answers.
-pub fn reply_of(input: Input) -> Reply
+pub fn reply_of(input: Input) -> RequestReply
     ensures { result ≡ plain_reply_of input }
 {
     match input {
-        Input::Send(value) => Reply::Answers(value),
-        Input::Throw(fault) => Reply::Raises(fault),
+        Input::Send(value) => RequestReply::Answers(value),
+        Input::Throw(fault) => RequestReply::Raises(fault),
     }
 }
 
@@ -77,7 +77,7 @@ pub fn cancelled_error() -> Exc
 }
 
 /// What an outcome is to whoever asks for it.
-pub fn replied(outcome: &Outcome) -> Result<Reply, Memory>
+pub fn replied(outcome: &Outcome) -> Result<RequestReply, Memory>
     ensures { IfOk result (RepliesAs outcome.now) }
 {
     Ok(reply_of(input_of(outcome)?))

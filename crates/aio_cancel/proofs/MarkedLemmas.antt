@@ -5,10 +5,10 @@ use Rattle.std.proofs.lemmas.Bool.{cases_eq}
 use Rattle.std.proofs.lemmas.List.{get_or-set_same, get_or-set_other}
 use Rattle.model_loop.specs.Cancel.{has_seen}
 use Rattle.law_cancel.proofs.Seen.{left, left-push, has_seen_last, has_seen_other}
-use Rattle.aio_cancel.specs.Seen.{Marked, HasRoom, Clears}
+use Rattle.aio_cancel.specs.Seen.{Marked, HasRoomToMark, Clears}
 
 pub room_left : (marks : List Bool) (visited : List ℕ) (capacity task : ℕ) (now : Marked) → record { tasks = length marks; visited = visited } ≡ now
-    → HasRoom marks visited capacity → task < now.tasks → has_seen now.visited task ≡ false → length visited < capacity
+    → HasRoomToMark marks visited capacity → task < now.tasks → has_seen now.visited task ≡ false → length visited < capacity
 room_left marks visited capacity task now view r l n =
     let m : length marks ≡ now.tasks = ap (λ (x : Marked). x.tasks) view in
     let u : has_seen visited task ≡ false = ap (λ (x : Marked). has_seen x.visited task) view ∙ n in
@@ -18,8 +18,8 @@ room_left marks visited capacity task now view r l n =
     omega arith
 
 pub added : (marks : List Bool) (visited after : List ℕ) (capacity more task : ℕ) (now : Marked) → record { tasks = length marks; visited = visited } ≡ now
-    → HasRoom marks visited capacity → task < now.tasks → has_seen now.visited task ≡ false → after ≡ visited ++ task ∷ [] → capacity ≤ more
-    → HasRoom (slice_set marks task true) after more
+    → HasRoomToMark marks visited capacity → task < now.tasks → has_seen now.visited task ≡ false → after ≡ visited ++ task ∷ [] → capacity ≤ more
+    → HasRoomToMark (slice_set marks task true) after more
 added marks visited after capacity more task now view r l n e k =
     rw e (record {
       room = let c = r.room in let s = length-set marks task true in omega arith;
@@ -54,8 +54,8 @@ past_false : (marks : List Bool) → get_or marks (length marks) false ≡ false
 past_false [] = refl
 past_false (m ∷ marks) = past_false marks
 
-pub announced : (marks after : List Bool) (visited visited' : List ℕ) (capacity more : ℕ) → HasRoom marks visited capacity
-    → after ≡ marks ++ false ∷ [] → visited' ≡ visited → length marks + 1 ≤ more → HasRoom after visited' more
+pub announced : (marks after : List Bool) (visited visited' : List ℕ) (capacity more : ℕ) → HasRoomToMark marks visited capacity
+    → after ≡ marks ++ false ∷ [] → visited' ≡ visited → length marks + 1 ≤ more → HasRoomToMark after visited' more
 announced marks after visited visited' capacity more r e f k =
     rw (e, f) (record {
       room = let c = length-append marks (false ∷ []) in omega arith;
@@ -69,7 +69,7 @@ announced marks after visited visited' capacity more r e f k =
     })
 
 -- ---- clearing
-pub begins_clear : (marks : List Bool) (visited : List ℕ) (capacity : ℕ) → HasRoom marks visited capacity
+pub begins_clear : (marks : List Bool) (visited : List ℕ) (capacity : ℕ) → HasRoomToMark marks visited capacity
     → Clears marks visited capacity (length marks) capacity
 begins_clear marks visited capacity r = record { told = λ task h. sym (r.told task) ∙ h; size = refl; same = refl }
 
@@ -102,7 +102,7 @@ left_none (suc n) = let ih = left_none n in omega arith
 
 pub all_cleared : (marks : List Bool) (visited after : List ℕ) (capacity capacity' count room : ℕ)
     → Clears marks visited capacity count room → visited ≡ [] → after ≡ [] → capacity' ≡ capacity → count ≤ room
-    → HasRoom marks after capacity'
+    → HasRoomToMark marks after capacity'
 all_cleared marks visited after capacity capacity' count room r v e k l = rw e (record {
   room = let a = r.size in let b = r.same in omega arith;
   count = let a = left_none (length marks) in omega arith;

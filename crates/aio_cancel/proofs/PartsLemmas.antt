@@ -12,7 +12,7 @@ use Rattle.aio_ready.specs.declared.handle.Handle.{Handle}
 use Rattle.aio_ready.specs.Queue as queue
 use Rattle.aio_ready.specs.Queue.{Queue, next_name}
 use Rattle.aio_future.specs.Settled.{settled, settled_at, settled_until, called, called_at, called_until}
-use Rattle.aio_cancel.specs.Body.{View, handles_from, waiting, parts, Appended}
+use Rattle.aio_cancel.specs.Awaitables.{Awaitables, handles_from, waiting, parts, Appended}
 
 handles-push : (place : ℕ) (handles : List Handle) (handle : Handle)
     → handles_from place (handles ++ handle ∷ [])
@@ -23,7 +23,7 @@ handles-push place (h ∷ handles) handle =
     let e : suc place + length handles ≡ place + suc (length handles) = omega arith in
     ap (λ hs. record { stamp = place; tag = place; action = h.action; dead = h.dead } ∷ hs) (handles-push (suc place) handles handle ∙ rw e refl)
 
-pub soon-parts : (action : Action) (v : View) → soon action (parts v) ≡ parts (record v { queue = queue.soon action v.queue })
+pub soon-parts : (action : Action) (v : Awaitables) → soon action (parts v) ≡ parts (record v { queue = queue.soon action v.queue })
 soon-parts action v =
     let handle : Handle = record { name = next_name v.queue; action = action; dead = false } in
     let a : v.queue.below ++ (v.queue.after ++ handle ∷ []) ≡ waiting v.queue ++ handle ∷ [] =
@@ -32,12 +32,12 @@ soon-parts action v =
     let z : 0 + length (waiting v.queue) ≡ length (waiting v.queue) = omega arith in
     rw (a, handles-push 0 (waiting v.queue) handle, e, z) refl
 
-pub soon_all-parts : (actions : List Action) (v : View) → soon_all actions (parts v) ≡ parts (record v { queue = queue.soon_all actions v.queue })
+pub soon_all-parts : (actions : List Action) (v : Awaitables) → soon_all actions (parts v) ≡ parts (record v { queue = queue.soon_all actions v.queue })
 soon_all-parts [] v = refl
 soon_all-parts (action ∷ actions) v =
     ap (soon_all actions) (soon-parts action v) ∙ soon_all-parts actions (record v { queue = queue.soon action v.queue })
 
-pub settle-parts : (id : ℕ) (outcome : Outcome) (v : View)
+pub settle-parts : (id : ℕ) (outcome : Outcome) (v : Awaitables)
     → settle id outcome (parts v)
     ≡ parts (record { queue = queue.soon_all (called id v.futures) v.queue; futures = settled id outcome v.futures; tasks = v.tasks })
 settle-parts id outcome v = at (slice_get v.futures id)

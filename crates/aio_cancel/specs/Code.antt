@@ -6,7 +6,7 @@ use Rattle.model_loop.specs.Parts.{Future, Task}
 use Rattle.aio_ready.specs.Queue.{Queue}
 use Rattle.aio_ready.specs.contracts.ready.Ready as ready
 use Rattle.aio_future.specs.Code.{coded_future}
-use Rattle.aio_cancel.specs.Body.{View}
+use Rattle.aio_cancel.specs.Awaitables.{Awaitables}
 
 abbrev pub coded_task : Coded Task
 coded_task =
@@ -15,7 +15,7 @@ coded_task =
     (λ p. record { future = p.0; waiter = p.1.0; cancels = p.1.1.0; must_cancel = p.1.1.1 })
     (λ _. refl)
 
-abbrev pub coded_view : Coded View
+abbrev pub coded_view : Coded Awaitables
 coded_view =
     code_by (Queue × (List Future × List Task)) (coded× ready.the_row.coded (coded× (coded_list coded_future) (coded_list coded_task)))
     (λ v. (v.queue, (v.futures, v.tasks)))

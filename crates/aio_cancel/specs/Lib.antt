@@ -1,4 +1,4 @@
 pub mod Code
 pub mod Seen
-pub mod Body
+pub mod Awaitables
 pub mod Noted

@@ -2,14 +2,14 @@
 use Rattle.std.specs.Prelude.{◌≡◌, ℕ, ◌+◌, ◌≤◌, Bool, true, false, List, length, slice_index_or}
 use Rattle.model_loop.specs.Cancel.{has_seen}
 use Rattle.law_cancel.proofs.Seen.{left}
-use Rattle.law_parts.specs.declared.walk.Frame.{Frame}
+use Rattle.law_parts.specs.declared.walk.WalkFrame.{WalkFrame}
 
 -- for how many tasks there are marks, and those that were visited, in order
 pub record Marked : Type 0 where
   pub tasks : ℕ
   pub visited : List ℕ
 
-pub record HasRoom (marks : List Bool) (visited : List ℕ) (capacity : ℕ) : Type 0 where
+pub record HasRoomToMark (marks : List Bool) (visited : List ℕ) (capacity : ℕ) : Type 0 where
   pub room : length marks ≤ capacity
   -- each visit leaves one task fewer
   pub count : length visited + left (length marks) visited ≡ length marks
@@ -18,7 +18,7 @@ pub record HasRoom (marks : List Bool) (visited : List ℕ) (capacity : ℕ) : T
 -- for how many frames there is room, and those that wait, the next last
 pub record Stacked : Type 0 where
   pub room : ℕ
-  pub frames : List Frame
+  pub frames : List WalkFrame
 
 -- marks that are being cleared: those of tasks that are still to be cleared alone may be set
 pub record Clears (marks : List Bool) (visited : List ℕ) (capacity count room : ℕ) : Type 0 where

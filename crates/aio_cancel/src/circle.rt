@@ -3,25 +3,25 @@ ghost use Rattle.std.specs.Prelude.{◌≡◌, ◌<◌, ◌≤◌, ℕ, Bool, Li
 ghost use Rattle.model_loop.specs.Parts.{Parts};
 ghost use Rattle.model_loop.specs.Circles.{leads as leads_of};
 ghost use Rattle.model_loop.specs.Sound.{HasNoCircle};
-ghost use Rattle.law_parts.specs.declared.walk.Frame.{Frame as PlainFrame};
+ghost use Rattle.law_parts.specs.declared.walk.WalkFrame.{WalkFrame as PlainFrame};
 ghost use Rattle.law_parts.specs.declared.walk.Go.TheVariants as go;
-ghost use Rattle.law_parts.specs.declared.walk.Stands.TheVariants as stands;
+ghost use Rattle.law_parts.specs.declared.walk.FutureState.TheVariants as stands;
 ghost use Rattle.law_parts.specs.Shape.{stands_at};
 ghost use Rattle.law_parts.specs.Weight.{weight};
 ghost use Rattle.law_parts.specs.Open.{CanWalk, room_of};
 ghost use Rattle.law_parts.specs.Seek.{CanSeek};
-ghost use Rattle.aio_cancel.specs.Body.{parts};
+ghost use Rattle.aio_cancel.specs.Awaitables.{parts};
 ghost use Rattle.aio_cancel.specs.Noted.{noted, HasNoNotes};
 
-use crate::body::Body;
+use crate::awaitables::Awaitables;
 use crate::marks::Marks;
 use crate::notes::Notes;
-use crate::stack::Stack;
+use crate::stack::WalkStack;
 use aio_future::FutureId;
-use law_parts::{Frame, Go, Stands};
+use law_parts::{FutureState, Go, WalkFrame};
 
 // What is looked at after a future that is not the one that is looked for.
-fn expand(id: FutureId, body: &Body, seen: &mut Marks, notes: &mut Notes) -> Go
+fn expand(id: FutureId, body: &Awaitables, seen: &mut Marks, notes: &mut Notes) -> Go
     requires { length body.now.tasks ≤ seen.old.tasks }
     ensures seeks { (from to : ℕ) (frames : List PlainFrame)
         → CanSeek (parts body.now) from to seen.old.visited (noted notes.old) (go.Visit id) frames → (id ≡ to → ⊥)
@@ -33,14 +33,14 @@ fn expand(id: FutureId, body: &Body, seen: &mut Marks, notes: &mut Notes) -> Go
     ensures marks { seen.new.tasks ≡ seen.old.tasks }
 {
     match body.stands(id) {
-        Stands::Done => Go::Answer(false),
-        Stands::Plain => Go::Answer(false),
-        Stands::OfTask(task) => expand_task(id, task, body, seen),
-        Stands::Many => expand_many(id, notes),
+        FutureState::Done => Go::Answer(false),
+        FutureState::Plain => Go::Answer(false),
+        FutureState::OfTask(task) => expand_task(id, task, body, seen),
+        FutureState::Many => expand_many(id, notes),
     }
 }
 
-fn expand_task(id: FutureId, task: u32, body: &Body, seen: &mut Marks) -> Go
+fn expand_task(id: FutureId, task: u32, body: &Awaitables, seen: &mut Marks) -> Go
     requires marked { length body.now.tasks ≤ seen.old.tasks }
     requires task { stands.OfTask task ≡ stands_at (slice_get body.now.futures id) }
     ensures seeks { (from to : ℕ) (frames : List PlainFrame) (said : ℕ → Option Bool)
@@ -94,9 +94,9 @@ fn seek_next(
     id: FutureId,
     place: usize,
     any: bool,
-    body: &Body,
+    body: &Awaitables,
     seen: &Marks,
-    stack: &mut Stack,
+    stack: &mut WalkStack,
 ) -> Go
     requires { CanWalk stack.old.room seen.now.tasks (go.Next id place any) stack.old.frames [] (parts body.now) }
     ensures seeks { (from to : ℕ) (said : ℕ → Option Bool)
@@ -110,7 +110,7 @@ fn seek_next(
     match body.member(id, place) {
         Some(member) => {
             if member < id {
-                stack.push(Frame::Members {
+                stack.push(WalkFrame::Members {
                     id,
                     place: place + 1,
                     any,
@@ -129,7 +129,7 @@ fn seek_next(
 }
 
 // What is looked at after all that stood above a frame.
-fn after(frame: Frame) -> Go
+fn after(frame: WalkFrame) -> Go
     ensures seeks { (p : Parts) (from to : ℕ) (answer : Bool) (seen : List ℕ) (said : ℕ → Option Bool) (frames : List PlainFrame)
         → CanSeek p from to seen said (go.Answer answer) (frames ++ frame ∷ []) → CanSeek p from to seen said result frames }
     ensures walks { (p : Parts) (room marks : ℕ) (answer : Bool) (frames : List PlainFrame)
@@ -138,18 +138,18 @@ fn after(frame: Frame) -> Go
         → weight result frames seen p < weight (go.Answer answer) (frames ++ frame ∷ []) seen p }
 {
     match frame {
-        Frame::Waits { id: _, task: _ } => Go::Answer(false),
-        Frame::Members { id, place, any } => Go::Next { id, place, any },
+        WalkFrame::Waits { id: _, task: _ } => Go::Answer(false),
+        WalkFrame::Members { id, place, any } => Go::Next { id, place, any },
     }
 }
 
 fn search(
     from: FutureId,
     to: FutureId,
-    body: &Body,
+    body: &Awaitables,
     seen: &mut Marks,
     notes: &mut Notes,
-    stack: &mut Stack,
+    stack: &mut WalkStack,
 ) -> bool
     requires differ { from ≡ to → ⊥ }
     requires empty { stack.old.frames ≡ [] }
@@ -184,10 +184,10 @@ fn search(
 pub fn leads(
     from: FutureId,
     to: FutureId,
-    body: &Body,
+    body: &Awaitables,
     seen: &mut Marks,
     notes: &mut Notes,
-    stack: &mut Stack,
+    stack: &mut WalkStack,
 ) -> bool
     requires differ { from ≡ to → ⊥ }
     requires empty { stack.old.frames ≡ [] }

@@ -2,7 +2,7 @@
 //! asking for memory.
 #![tactic(auto)]
 
-mod body;
+mod awaitables;
 mod circle;
 mod marks;
 mod notes;
@@ -11,10 +11,10 @@ mod stack;
 mod task;
 mod walk;
 
-pub use body::Body;
+pub use awaitables::Awaitables;
 pub use circle::leads;
 pub use marks::Marks;
 pub use notes::{Note, Notes};
-pub use stack::Stack;
+pub use stack::WalkStack;
 pub use task::Task;
 pub use walk::cancel;

@@ -21,11 +21,11 @@ impl Model for Marks {
 
     ghost use Rattle.std.specs.Prelude.{length};
     ghost use Rattle.std.specs.Vec.{vec_capacity};
-    ghost use Rattle.aio_cancel.specs.Seen.{HasRoom};
+    ghost use Rattle.aio_cancel.specs.Seen.{HasRoomToMark};
 
     ghost view = { λ a. record { tasks = length a.marks.items; visited = a.visited.items } };
 
-    ghost invariant = { λ a. HasRoom a.marks.items a.visited.items (vec_capacity a.visited) };
+    ghost invariant = { λ a. HasRoomToMark a.marks.items a.visited.items (vec_capacity a.visited) };
 }
 
 impl Marks {

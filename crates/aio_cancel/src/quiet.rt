@@ -3,30 +3,30 @@ ghost use Rattle.std.specs.Prelude.{IfSome, slice_get};
 ghost use Rattle.model_loop.specs.Futures.{made_before};
 ghost use Rattle.law_parts.specs.Shape.{members_at};
 ghost use Rattle.law_parts.specs.Quiet.{Quiet, QuietAll, Sound};
-ghost use Rattle.aio_cancel.specs.Body.{parts};
+ghost use Rattle.aio_cancel.specs.Awaitables.{parts};
 ghost use Rattle.aio_cancel.specs.Noted.{noted};
 
-use crate::body::Body;
+use crate::awaitables::Awaitables;
 use crate::marks::Marks;
 use crate::notes::Notes;
 use aio_future::FutureId;
-use law_parts::Stands;
+use law_parts::FutureState;
 
 // What a future would answer again, where the request is known to be done with it.
-fn look(id: FutureId, body: &Body, seen: &Marks, notes: &Notes) -> Option<bool>
+fn look(id: FutureId, body: &Awaitables, seen: &Marks, notes: &Notes) -> Option<bool>
     requires { Sound seen.now.visited (parts body.now) (noted notes.now) }
     ensures { IfSome result (λ again. Quiet seen.now.visited (parts body.now) id again) }
 {
     match body.stands(id) {
-        Stands::Done => Some(false),
-        Stands::Plain => None,
-        Stands::OfTask(task) => { if seen.has(task) { Some(true) } else { None } }
-        Stands::Many => notes.of(id),
+        FutureState::Done => Some(false),
+        FutureState::Plain => None,
+        FutureState::OfTask(task) => { if seen.has(task) { Some(true) } else { None } }
+        FutureState::Many => notes.of(id),
     }
 }
 
 // What all its members would answer.
-fn look_all(id: FutureId, body: &Body, seen: &Marks, notes: &Notes) -> Option<bool>
+fn look_all(id: FutureId, body: &Awaitables, seen: &Marks, notes: &Notes) -> Option<bool>
     requires { Sound seen.now.visited (parts body.now) (noted notes.now) }
     ensures { IfSome result (λ again. QuietAll seen.now.visited (parts body.now)
         (made_before id (members_at (slice_get body.now.futures id))) again) }
@@ -45,7 +45,7 @@ fn look_all(id: FutureId, body: &Body, seen: &Marks, notes: &Notes) -> Option<bo
 }
 
 /// Notes of a future that stands for several what it would answer again.
-pub fn note(id: FutureId, body: &Body, seen: &Marks, notes: &mut Notes)
+pub fn note(id: FutureId, body: &Awaitables, seen: &Marks, notes: &mut Notes)
     requires { Sound seen.now.visited (parts body.now) (noted notes.old) }
     ensures { Sound seen.now.visited (parts body.now) (noted notes.new) }
 {

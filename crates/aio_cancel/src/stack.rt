@@ -2,18 +2,18 @@
 ghost use Rattle.std.specs.Prelude.{◌≡◌, ◌+◌, ◌<◌, [], ◌∷◌, ◌++◌, OnOk, OnErr, MatchOption, length};
 
 use aio_base::Memory;
-use law_parts::Frame;
+use law_parts::WalkFrame;
 use std::alloc::Global;
 use std::marker::Model;
 
 /// Frames, with room for so many. Contracts see the room and the frames, the next one last.
 #[derive(Drop)]
-pub struct Stack {
-    frames: Vec<Frame>,
+pub struct WalkStack {
+    frames: Vec<WalkFrame>,
     room: usize,
 }
 
-impl Model for Stack {
+impl Model for WalkStack {
     ghost use Rattle.std.specs.Prelude.{◌≤◌};
     ghost use Rattle.std.specs.Vec.{vec_capacity};
     ghost use Rattle.aio_cancel.specs.Seen.{Stacked};
@@ -25,12 +25,12 @@ impl Model for Stack {
     ghost invariant = { λ a. a.room ≤ vec_capacity a.frames };
 }
 
-impl Stack {
-    pub fn new(alloc: Global) -> Stack
+impl WalkStack {
+    pub fn new(alloc: Global) -> WalkStack
         ensures { result ≡ record { room = 0; frames = [] } }
     {
         let frames = Vec::new(alloc);
-        Stack { frames, room: 0 }
+        WalkStack { frames, room: 0 }
     }
 
     /// Room for one frame more.
@@ -47,7 +47,7 @@ impl Stack {
         Ok(())
     }
 
-    pub fn push(&mut self, frame: Frame)
+    pub fn push(&mut self, frame: WalkFrame)
         requires { length self.old.frames < self.old.room }
         ensures { self.new ≡ record self.old { frames = self.old.frames ++ frame ∷ [] } }
     {
@@ -55,7 +55,7 @@ impl Stack {
         prove!(pushed.is_ok());
     }
 
-    pub fn pop(&mut self) -> Option<Frame>
+    pub fn pop(&mut self) -> Option<WalkFrame>
         ensures room { self.new.room ≡ self.old.room }
         ensures frames { MatchOption result
             ((self.old.frames ≡ []) × (self.new.frames ≡ []))

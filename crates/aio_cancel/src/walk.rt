@@ -2,28 +2,34 @@
 ghost use Rattle.std.specs.Prelude.{◌≡◌, ◌<◌, ◌≤◌, ℕ, List, [], ◌∷◌, ◌++◌, length};
 ghost use Rattle.model_loop.specs.Cancel.{cancel as cancel_of};
 ghost use Rattle.model_loop.specs.Sound.{HasNoCircle};
-ghost use Rattle.law_parts.specs.declared.walk.Frame.{Frame as PlainFrame};
+ghost use Rattle.law_parts.specs.declared.walk.WalkFrame.{WalkFrame as PlainFrame};
 ghost use Rattle.law_parts.specs.declared.walk.Go.TheVariants as go;
 ghost use Rattle.law_parts.specs.Walk.{run, run_task};
 ghost use Rattle.law_parts.specs.Weight.{weight};
 ghost use Rattle.law_parts.specs.Open.{CanWalk, room_of};
 ghost use Rattle.law_parts.specs.Shape.{stands_at};
-ghost use Rattle.law_parts.specs.declared.walk.Stands.TheVariants as stands;
+ghost use Rattle.law_parts.specs.declared.walk.FutureState.TheVariants as stands;
 ghost use Rattle.std.specs.Prelude.{slice_get};
 ghost use Rattle.law_parts.specs.Quiet.{Sound, Later};
-ghost use Rattle.aio_cancel.specs.Body.{parts, Appended};
+ghost use Rattle.aio_cancel.specs.Awaitables.{parts, Appended};
 ghost use Rattle.aio_cancel.specs.Noted.{noted, HasNoNotes};
 
-use crate::body::Body;
+use crate::awaitables::Awaitables;
 use crate::marks::Marks;
 use crate::notes::Notes;
 use crate::quiet::note;
-use crate::stack::Stack;
+use crate::stack::WalkStack;
 use aio_base::Outcome;
 use aio_future::FutureId;
-use law_parts::{Frame, Go, Stands};
+use law_parts::{FutureState, Go, WalkFrame};
 
-fn visit(id: FutureId, body: &mut Body, seen: &mut Marks, notes: &Notes, stack: &mut Stack) -> Go
+fn visit(
+    id: FutureId,
+    body: &mut Awaitables,
+    seen: &mut Marks,
+    notes: &Notes,
+    stack: &mut WalkStack,
+) -> Go
     requires sound { Sound seen.old.visited (parts body.old) (noted notes.now) }
     requires can { CanWalk stack.old.room seen.old.tasks (go.Visit id) stack.old.frames seen.old.visited (parts body.old) }
     ensures sound { Sound seen.new.visited (parts body.new) (noted notes.now) }
@@ -37,13 +43,13 @@ fn visit(id: FutureId, body: &mut Body, seen: &mut Marks, notes: &Notes, stack: 
     ensures marks { seen.new.tasks ≡ seen.old.tasks }
 {
     match body.stands(id) {
-        Stands::Done => Go::Answer(false),
-        Stands::Plain => {
+        FutureState::Done => Go::Answer(false),
+        FutureState::Plain => {
             body.settle(id, Outcome::Cancelled);
             Go::Answer(true)
         }
-        Stands::OfTask(task) => visit_task(id, task, body, seen, stack),
-        Stands::Many => match notes.of(id) {
+        FutureState::OfTask(task) => visit_task(id, task, body, seen, stack),
+        FutureState::Many => match notes.of(id) {
             Some(again) => Go::Answer(again),
             None => Go::Next {
                 id,
@@ -54,7 +60,13 @@ fn visit(id: FutureId, body: &mut Body, seen: &mut Marks, notes: &Notes, stack: 
     }
 }
 
-fn visit_task(id: FutureId, task: u32, body: &mut Body, seen: &mut Marks, stack: &mut Stack) -> Go
+fn visit_task(
+    id: FutureId,
+    task: u32,
+    body: &mut Awaitables,
+    seen: &mut Marks,
+    stack: &mut WalkStack,
+) -> Go
     requires can { CanWalk stack.old.room seen.old.tasks (go.Visit id) stack.old.frames seen.old.visited (parts body.old) }
     requires task { stands.OfTask task ≡ stands_at (slice_get body.old.futures id) }
     ensures later { Later seen.old.visited (parts body.old) seen.new.visited (parts body.new) }
@@ -77,7 +89,7 @@ fn visit_task(id: FutureId, task: u32, body: &mut Body, seen: &mut Marks, stack:
     body.raise(task);
     match waiter {
         Some(waiter) => {
-            stack.push(Frame::Waits { id, task });
+            stack.push(WalkFrame::Waits { id, task });
             Go::Visit(waiter)
         }
         None => {
@@ -91,10 +103,10 @@ fn next(
     id: FutureId,
     place: usize,
     any: bool,
-    body: &mut Body,
+    body: &mut Awaitables,
     seen: &Marks,
     notes: &mut Notes,
-    stack: &mut Stack,
+    stack: &mut WalkStack,
 ) -> Go
     requires sound { Sound seen.now.visited (parts body.old) (noted notes.old) }
     requires can { CanWalk stack.old.room seen.now.tasks (go.Next id place any) stack.old.frames seen.now.visited (parts body.old) }
@@ -110,7 +122,7 @@ fn next(
     match body.member(id, place) {
         Some(member) => {
             if member < id {
-                stack.push(Frame::Members {
+                stack.push(WalkFrame::Members {
                     id,
                     place: place + 1,
                     any,
@@ -132,7 +144,7 @@ fn next(
     }
 }
 
-fn back(answer: bool, frame: Frame, body: &mut Body) -> Go
+fn back(answer: bool, frame: WalkFrame, body: &mut Awaitables) -> Go
     ensures later { (seen : List ℕ) → Later seen (parts body.old) seen (parts body.new) }
     ensures walks { (room marks : ℕ) (seen : List ℕ) (stack : List PlainFrame)
         → CanWalk room marks (go.Answer answer) (stack ++ frame ∷ []) seen (parts body.old)
@@ -144,13 +156,13 @@ fn back(answer: bool, frame: Frame, body: &mut Body) -> Go
     ensures queue { body.new.queue ≡ body.old.queue }
 {
     match frame {
-        Frame::Waits { id: _, task } => {
+        WalkFrame::Waits { id: _, task } => {
             if !answer {
                 body.mark(task);
             }
             Go::Answer(true)
         }
-        Frame::Members { id, place, any } => Go::Next {
+        WalkFrame::Members { id, place, any } => Go::Next {
             id,
             place,
             any: any | answer,
@@ -161,10 +173,10 @@ fn back(answer: bool, frame: Frame, body: &mut Body) -> Go
 /// A request to cancel a future. The answer is false exactly where it can't reach anything.
 pub fn cancel(
     target: FutureId,
-    body: &mut Body,
+    body: &mut Awaitables,
     seen: &mut Marks,
     notes: &mut Notes,
-    stack: &mut Stack,
+    stack: &mut WalkStack,
 ) -> bool
     requires empty { stack.old.frames ≡ [] }
     requires unseen { seen.old.visited ≡ [] }

@@ -54,7 +54,7 @@ use Rattle.aio_extra.specs.Called.{CallsAs, IsServed, MayServe}
 use Rattle.law_body.proofs.Adding.{served_of, stands_called}
 use Rattle.aio_body.specs.declared.body.Body.{Body}
 use Rattle.aio_body.specs.Stands.{Setting, Stands}
-use Rattle.aio_body.specs.Taken.{IsNext, IsTaken, IsAfter, MayRun, MayTake}
+use Rattle.aio_body.specs.Taken.{IsNext, IsTaken, IsAfterCallback, MayRun, MayTake}
 use Rattle.aio_step.specs.declared.steps.Stepped.{Stepped}
 use Rattle.aio_step.specs.declared.steps.Stepped.TheVariants as went
 use Rattle.aio_step.specs.Stepping.{Steps, IsCalled, MayBegin}
@@ -221,7 +221,7 @@ module _ {X : Type 0} {a : Added X} (it : Action) (c : Setting a) (body : Body X
   }
 
   -- after a call that steps no task
-  pub after_so : (new : Body X) (now : State a.Kept) → effect step_limit a.meaning it s ≡ Goes now → IsAfter c new now
+  pub after_so : (new : Body X) (now : State a.Kept) → effect step_limit a.meaning it s ≡ Goes now → IsAfterCallback c new now
       → Steps c new went.Goes (effect step_limit a.meaning it s)
   after_so new now is a =
       subst (Steps c new went.Goes) (sym is)
@@ -372,8 +372,8 @@ module _ {X : Type 0} {a : Added X} (task future : ℕ) (c : Setting a) (body : 
         futures = settled.settled future (Returned Nothing) body.parts.futures;
         queue = soon_all (called future body.parts.futures) body.parts.queue;
       }
-      → IsAfter c (record body { parts = v }) (unbooked_in (settle future (Returned Nothing)) s)
-  sleep_over v is = subst (λ w. IsAfter c (record body { parts = w }) (unbooked_in (settle future (Returned Nothing)) s)) (sym is) (record {
+      → IsAfterCallback c (record body { parts = v }) (unbooked_in (settle future (Returned Nothing)) s)
+  sleep_over v is = subst (λ w. IsAfterCallback c (record body { parts = w }) (unbooked_in (settle future (Returned Nothing)) s)) (sym is) (record {
     stands =
         stands_on None None c body s (record body.parts {
           futures = settled.settled future (Returned Nothing) body.parts.futures;
@@ -421,7 +421,7 @@ module _ {X : Type 0} {a : Added X} where
       ∥∥₁_map m (λ w. (w.1.1.0, (w.1.1.1.0, subst (λ k. IsTaken k w.1.1.0 body w.1.1.1.0) (is_firing timeout w.0 w.1.0) w.1.1.1.1)))
 
   pub group_acts : (group task : ℕ) (old new : Body X)
-      → ((c : Setting a) (s : State a.Kept) → IsTaken (action.GroupDone group task) c old s → IsAfter c new (in_loop (child_done group task) s))
+      → ((c : Setting a) (s : State a.Kept) → IsTaken (action.GroupDone group task) c old s → IsAfterCallback c new (in_loop (child_done group task) s))
       → Acts a (code.GroupDone group task) old new went.Goes
   unfolding effect
   group_acts group task old new does c s it what h =
@@ -431,7 +431,7 @@ module _ {X : Type 0} {a : Added X} where
       (after_so (action.GroupDone group task) c old s taken new (in_loop (child_done group task) s) refl (does c s taken))
 
   pub fire_acts : (timeout : ℕ) (old new : Body X)
-      → ((c : Setting a) (s : State a.Kept) → IsTaken (action.Fires timeout) c old s → IsAfter c new (in_loop (fire timeout) s))
+      → ((c : Setting a) (s : State a.Kept) → IsTaken (action.Fires timeout) c old s → IsAfterCallback c new (in_loop (fire timeout) s))
       → Acts a (code.Fires timeout) old new went.Goes
   unfolding effect
   fire_acts timeout old new does c s it what h =

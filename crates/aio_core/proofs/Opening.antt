@@ -21,7 +21,7 @@ use Rattle.aio_ready.specs.Queue.{Queue, no_handles}
 use Rattle.aio_future.specs.Settled.{registered, soon_if_done}
 use Rattle.aio_task.specs.View.{View, empty, parts}
 use Rattle.aio_task.specs.Keeps.{Ties, Keeps, Kept, ByHandle}
-use Rattle.aio_ready.specs.declared.handle.Name.TheVariants.{Nameless}
+use Rattle.aio_ready.specs.declared.handle.HandleName.TheVariants.{Nameless}
 use Rattle.aio_extra.specs.Added.{Added, KeepsNothing, named_in}
 use Rattle.aio_body.specs.declared.body.Body.{Body}
 use Rattle.aio_body.specs.declared.standing.Slot.{Slot}

@@ -25,12 +25,12 @@ use Rattle.law_inside.proofs.Nobody.{nobody, over_as}
 use Rattle.law_kept.proofs.Calls.{kept_request}
 use Rattle.law_kept.proofs.Requesting.{each_one}
 use Rattle.law_kept.proofs.Telling.{future_of_kept, outcome_kept, pending_kept}
-use Rattle.aio_cancel.specs.Body.{Appended}
+use Rattle.aio_cancel.specs.Awaitables.{Appended}
 use Rattle.aio_task.specs.View.{View, parts}
 use Rattle.aio_extra.specs.Added.{Added}
 use Rattle.aio_body.specs.declared.body.Body.{Body}
 use Rattle.aio_body.specs.Stands.{Setting, Stands, IsBetween}
-use Rattle.aio_body.specs.Taken.{IsAfter}
+use Rattle.aio_body.specs.Taken.{IsAfterCallback}
 use Rattle.law_body.proofs.Lasting.{spares_none, stands_on}
 use Rattle.law_body.proofs.Left.{leaves_request}
 use Rattle.law_body.proofs.May.{same_prop}
@@ -102,12 +102,12 @@ ended_to count s = in_loop (book (request_each ByEnd (tasks_to count))) s
 
 -- so far, from wherever it began
 abbrev pub HasCancelled : {X : Type 0} → (a : Added X) → (first body : Body X) → ℕ → Type 0
-HasCancelled a first body count = (c : Setting a) (s : State a.Kept) → IsBetween c first s → IsAfter c body (ended_to count s)
+HasCancelled a first body count = (c : Setting a) (s : State a.Kept) → IsBetween c first s → IsAfterCallback c body (ended_to count s)
 
 module _ {X : Type 0} {a : Added X} where
   pub cancelled_first : (body : Body X) → HasCancelled a body body 0
   cancelled_first body c s h =
-      subst (IsAfter c body) (ap (λ es. record s { loop = record s.loop { ledger = es } }) (sym (append-nil s.loop.ledger)))
+      subst (IsAfterCallback c body) (ap (λ es. record s { loop = record s.loop { ledger = es } }) (sym (append-nil s.loop.ledger)))
       (record { stands = h.stands; called = h.called; running = h.running })
 
 -- one task more
@@ -140,7 +140,8 @@ module _ {X : Type 0} {a : Added X} where
       → v ≡ record body.parts { queue = v.queue; futures = v.futures; tasks = v.tasks }
       → HasCancelled a first (record body { parts = v }) (suc count)
   cancelled_more first body count v had pends after appended beside c s h =
-      subst (IsAfter c (record body { parts = v })) (sym (ended_more count s ∙ ap (λ b. in_loop (book (request_where b ByEnd (future_of p count))) t) alive
+      subst (IsAfterCallback c (record body { parts = v }))
+      (sym (ended_more count s ∙ ap (λ b. in_loop (book (request_where b ByEnd (future_of p count))) t) alive
       ∙ ap (λ id. in_loop (book (request_where true ByEnd id)) t) (sym same)))
       (record {
         stands =
@@ -165,7 +166,7 @@ module _ {X : Type 0} {a : Added X} where
       own : ℕ
       own = own_of body count
 
-      so : IsAfter c body t
+      so : IsAfterCallback c body t
       so = had c s h
 
       same : own ≡ future_of p count
@@ -182,13 +183,13 @@ module _ {X : Type 0} {a : Added X} where
   pub cancelled_on : (first body : Body X) (count : ℕ) → HasCancelled a first body count
       → is_pending_at (slice_get body.parts.futures (own_of body count)) ≡ false → HasCancelled a first body (suc count)
   cancelled_on first body count had done c s h =
-      subst (IsAfter c body) (sym (ended_more count s ∙ ap (λ b. in_loop (book (request_where b ByEnd (future_of t.loop.parts count))) t) over
+      subst (IsAfterCallback c body) (sym (ended_more count s ∙ ap (λ b. in_loop (book (request_where b ByEnd (future_of t.loop.parts count))) t) over
       ∙ ap (λ es. record t { loop = record t.loop { ledger = es } }) (append-nil t.loop.ledger))) so
     where
       t : State a.Kept
       t = ended_to count s
 
-      so : IsAfter c body t
+      so : IsAfterCallback c body t
       so = had c s h
 
       over : lives t.loop.parts count ≡ false
@@ -230,7 +231,7 @@ module _ {X : Type 0} {a : Added X} where
   pub cancelled_all : (first body : Body X) (count : ℕ) → count ≡ length first.slots.items → HasCancelled a first body count
       → (c : Setting a) (s : State a.Kept) → IsBetween c first s → IsBetween c body (in_loop cancel_everything s)
   cancelled_all first body count all had c s h =
-      let so = subst (λ n. IsAfter c body (ended_to n s)) (all ∙ h.stands.made) (had c s h) in
+      let so = subst (λ n. IsAfterCallback c body (ended_to n s)) (all ∙ h.stands.made) (had c s h) in
       record { stands = so.stands; called = so.called; running = so.running; sound = cancelled_sound a.meaning s h.sound }
 
   pub some_lives : (body : Body X) (task : ℕ) → task < length body.slots.items

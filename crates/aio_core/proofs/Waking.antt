@@ -25,7 +25,7 @@ use Rattle.law_runs.proofs.Turning.{woken_in}
 use Rattle.aio_ready.specs.Queue as queue
 use Rattle.aio_timer.specs.Schedule as schedule
 use Rattle.aio_timer.specs.declared.live.TimerId.{TimerId}
-use Rattle.aio_cancel.specs.Body.{waiting}
+use Rattle.aio_cancel.specs.Awaitables.{waiting}
 use Rattle.aio_timeout.proofs.Keeping.{timeouts_stay}
 use Rattle.aio_group.specs.GoesOn.{GoesOn}
 use Rattle.aio_group.proofs.Standing.{groups_on}

@@ -112,7 +112,12 @@ fn ask<W: Wire, X: Extra>(
 }
 
 // What a turn does once it has its answer.
-fn after<X: Extra>(body: &mut Body<X>, alloc: Global, answer: &Answer, seen: &mut u32) -> Result<Went, Memory>
+fn after<X: Extra>(
+    body: &mut Body<X>,
+    alloc: Global,
+    answer: &Answer,
+    seen: &mut u32,
+) -> Result<Went, Memory>
     requires alive { IsAlive X.added body.old }
     requires time { IsTime answer.now }
     ensures { IfOk result (λ went. (c : Setting X.added) (s : State X.added.Kept) → IsBetween c body.old s

@@ -13,7 +13,7 @@ use Rattle.model_machine.specs.Outcomes.{end_of}
 use Rattle.model_machine.specs.Program.{output_of}
 use Rattle.model_machine.specs.Run.{Run, run, run_after, run_on, turns_over}
 use Rattle.model_machine.specs.State.{State, start}
-use Rattle.model_machine.specs.Theorem.{Output, WritesWhole}
+use Rattle.model_machine.specs.Theorem.{ProgramOutput, WritesWhole}
 use Rattle.model_machine.specs.Transcript.{status_of, transcript}
 use Rattle.model_machine.specs.Turn.{is_stalled, turn}
 use Rattle.model_machine.specs.Went.{Went, Goes, Stops, answers_in}
@@ -32,7 +32,7 @@ use Rattle.aio_drive.specs.Ending.{NextOf}
 use Rattle.aio_drive.specs.Outcome.{EndsEarly}
 use Rattle.aio_drive.specs.Writing.{StopsWriting}
 use Rattle.aio_drive.specs.declared.driver.Manner.{Manner}
-use Rattle.aio_drive.specs.declared.ending.Next.TheVariants as next
+use Rattle.aio_drive.specs.declared.ending.AfterTurn.TheVariants as next
 use Rattle.aio_drive.specs.declared.halt.Halt.{Halt}
 use Rattle.aio_drive.specs.declared.halt.Halt.TheVariants.{Memory, Sink}
 use Rattle.aio_drive.proofs.Fronts.{append-nil, failed_on, took-nil, took_on}
@@ -49,7 +49,7 @@ pub record At {g : _} (program : Program) (how : Manner) (made left : ℕ) (kern
 
 -- A run of a program, driven in this manner, in which some turns were made and others are left: the answers so far, the
 -- events that were taken out, what the wire told first and tells now, and what the sink took.
-pub record Running {g : _} (program : Program) (how : Manner) (made left : ℕ) (kernel : Kernel NoExtra g) (past : List Entry) (taken : List Event)
+pub record IsDriven {g : _} (program : Program) (how : Manner) (made left : ℕ) (kernel : Kernel NoExtra g) (past : List Entry) (taken : List Event)
     (first_told now_told : Option (List Entry)) (first now : SinkSeen) : Type 0 where
   pub at : (rest : List Entry) → At program how made left kernel past taken rest
   pub none : untaken kernel ≡ []
@@ -65,7 +65,7 @@ none-taken kernel s none is = sym is ∙ none
 -- a run that begins
 pub running_first : {g : _} (program : Program) (how : Manner) (kernel : Kernel NoExtra g) (told : Option (List Entry)) (sink : SinkSeen)
     → Begins nothing_added tt program kernel
-    → Running program how 0 how.turns kernel [] [] told told sink sink
+    → IsDriven program how 0 how.turns kernel [] [] told told sink sink
 running_first program how kernel told sink begins =
     record {
       at = λ rest. record { s = start tt program rest; stands = begins rest; on = refl; begun = λ none. refl };
@@ -107,7 +107,7 @@ pub record GoesOnHere (program : Program) (how : Manner) (first_told : Option (L
 
 module _ {g : _} {program : Program} {how : Manner} {made left : ℕ} {kernel : Kernel NoExtra g} {past : List Entry} {taken : List Event}
     {first_told now_told : Option (List Entry)} {first now : SinkSeen}
-    (running : Running program how made left kernel past taken first_told now_told first now) where
+    (running : IsDriven program how made left kernel past taken first_told now_told first now) where
   -- no event is in the kernel
   pub told_all : (rest : List Entry) → (running.at rest).s.events ≡ taken
   told_all rest =
@@ -146,7 +146,7 @@ module _ {g : _} {program : Program} {how : Manner} {made left : ℕ} {kernel : 
 -- a turn, by what was said of it
 module _ {g : _} {program : Program} {how : Manner} {made left : ℕ} {kernel : Kernel NoExtra g} {past : List Entry} {taken : List Event}
     {first_told now_told : Option (List Entry)} {first sink : SinkSeen} (new : Kernel NoExtra g) (new_told : Option (List Entry))
-    (running : Running program how made (suc left) kernel past taken first_told now_told first sink) where
+    (running : IsDriven program how made (suc left) kernel past taken first_told now_told first sink) where
   -- what happened so far
   abbrev so_far : List Event
   so_far = taken ++ untaken new
@@ -283,7 +283,7 @@ module _ {g : _} {program : Program} {how : Manner} {made left : ℕ} {kernel : 
         → ((past : List Event) (answers : List Entry) (s : State (Unit {0})) → StandsFor nothing_added past answers new s
         → StandsFor nothing_added (past ++ untaken new) answers after s)
         → untaken after ≡ [] → sink_after ≡ took sink (lines_of_events how.trace (untaken new))
-        → Running program how (made + 1) left after (past ++ map Answered had) so_far first_told new_told first sink_after
+        → IsDriven program how (made + 1) left after (past ++ map Answered had) so_far first_told new_told first sink_after
     turned_on after sink_after takes_out none wrote =
         record {
           at = λ rest.
@@ -313,9 +313,9 @@ module _ {g : _} {program : Program} {how : Manner} {made left : ℕ} {kernel : 
         }
 
 -- ---- what is written
-module _ (may : Output → Type 0) (none : Type 0) (first now : SinkSeen) (shown : List ℕ) (had_shown : now ≡ took first shown) where
+module _ (may : ProgramOutput → Type 0) (none : Type 0) (first now : SinkSeen) (shown : List ℕ) (had_shown : now ≡ took first shown) where
   -- a text after what was shown stops short
-  pub early_by : (output : Output) → may output → (text rest : List ℕ) → output.text ≡ shown ++ (text ++ rest) → (after : SinkSeen) (halt : Halt)
+  pub early_by : (output : ProgramOutput) → may output → (text rest : List ℕ) → output.text ≡ shown ++ (text ++ rest) → (after : SinkSeen) (halt : Halt)
       → StopsWriting text now after halt → EndsEarly may none first after halt
   early_by output allowed text rest is after Memory (front, (others, whole), wrote) = (
     shown ++ front,
@@ -335,7 +335,7 @@ module _ (may : Output → Type 0) (none : Type 0) (first now : SinkSeen) (shown
       regrouped a b c d = simp append_assoc
 
   -- nothing more was written, for want of memory
-  pub nothing_more : (output : Output) → may output → (rest : List ℕ) → output.text ≡ shown ++ rest → EndsEarly may none first now Memory
+  pub nothing_more : (output : ProgramOutput) → may output → (rest : List ℕ) → output.text ≡ shown ++ rest → EndsEarly may none first now Memory
   nothing_more output allowed rest is = early_by output allowed [] rest is now Memory ([], ([], refl), sym (took-nil now))
 
   pub nothing_at_all : shown ≡ [] → none → EndsEarly may none first now Memory
@@ -343,7 +343,7 @@ module _ (may : Output → Type 0) (none : Type 0) (first now : SinkSeen) (shown
 
 module _ (program : Program) (how : Manner) (fault : End) (before after : WireSeen) (undisturbed quiet : Type 0) (first now last : SinkSeen)
     (so_far more : List Event) (wrote : now ≡ took first (lines_of_events how.trace so_far)) where
-  abbrev May : Output → Type 0
+  abbrev May : ProgramOutput → Type 0
   May = MayDrive program how fault before after undisturbed
 
   abbrev shown : List ℕ

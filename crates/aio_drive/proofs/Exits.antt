@@ -11,7 +11,7 @@ use Rattle.model_wire.specs.Trace.{End, end_text, line, lines_of_events}
 use Rattle.model_machine.specs.Extra.{no_extra}
 use Rattle.model_machine.specs.Run.{turns_over}
 use Rattle.model_machine.specs.State.{State, start}
-use Rattle.model_machine.specs.Theorem.{Output}
+use Rattle.model_machine.specs.Theorem.{ProgramOutput}
 use Rattle.model_machine.specs.Turn.{is_stalled, turn}
 use Rattle.model_machine.specs.Went.{Stops}
 use Rattle.aio_wire.specs.declared.stop.Stop.TheVariants as stop
@@ -26,10 +26,10 @@ use Rattle.aio_drive.specs.Drive.{LastOf, MayDrive, Undisturbed}
 use Rattle.aio_drive.specs.Ending.{LastSays, NextOf}
 use Rattle.aio_drive.specs.Outcome.{EndsEarly}
 use Rattle.aio_drive.specs.declared.driver.Manner.{Manner}
-use Rattle.aio_drive.specs.declared.ending.Next.{Next}
-use Rattle.aio_drive.specs.declared.ending.Next.TheVariants as next
+use Rattle.aio_drive.specs.declared.ending.AfterTurn.{AfterTurn}
+use Rattle.aio_drive.specs.declared.ending.AfterTurn.TheVariants as next
 use Rattle.aio_drive.specs.declared.halt.Halt.TheVariants.{Memory}
-use Rattle.aio_drive.proofs.Driving.{GoesOnHere, Running, fails_silent, fails_so, goes_early, goes_on_here, nothing_at_all}
+use Rattle.aio_drive.proofs.Driving.{GoesOnHere, IsDriven, fails_silent, fails_so, goes_early, goes_on_here, nothing_at_all}
 use Rattle.aio_drive.proofs.Fronts.{append-nil, took-nil}
 
 -- a run that begins asks
@@ -38,7 +38,7 @@ unfolding turn
 start-asks program last e = cc e
 
 -- what comes next of what was said, unless memory was refused after it
-pub of_said : (result said : code.Went) (what : Next) → (result ≡ said) ⊎ (result ≡ went.Stopped stop.Memory) → NextOf result what
+pub of_said : (result said : code.Went) (what : AfterTurn) → (result ≡ said) ⊎ (result ≡ went.Stopped stop.Memory) → NextOf result what
     → (what ≡ next.Nothing → ⊥) → NextOf said what
 of_said result said what (inl same) is other = subst (λ (w : code.Went). NextOf w what) same is
 of_said result said what (inr none) is other = absurd (other (subst (λ (w : code.Went). NextOf w what) none is))
@@ -98,7 +98,7 @@ last_as {old = old} {result = result} {said = said} by turns end is = λ past an
 
 module _ {g : _} {program : Program} {how : Manner} {made left : ℕ} {kernel : Kernel NoExtra g} {past : List Entry} {taken : List Event}
     {first_told now_told : Option (List Entry)} {first sink : SinkSeen} (new : Kernel NoExtra g) (new_told : Option (List Entry)) (before after : ℕ)
-    (running : Running program how made (suc left) kernel past taken first_told now_told first sink) where
+    (running : IsDriven program how made (suc left) kernel past taken first_told now_told first sink) where
   -- no run ends in its first turn over a wire that fails at each call
   pub alive : (said : code.Went) → TurnsTo nothing_added now_told new_told before after kernel new said → (end : End) → NextOf said (next.Ends end)
       → OfFailing said → made ≡ 0 → ⊥
@@ -121,9 +121,9 @@ module _ {g : _} {program : Program} {how : Manner} {made left : ℕ} {kernel : 
 module _ {g : _} {program : Program} {how : Manner} {made left : ℕ} {kernel : Kernel NoExtra g} {past : List Entry} {taken : List Event}
     {now_told : Option (List Entry)} {first sink : SinkSeen} (new : Kernel NoExtra g) (new_told : Option (List Entry)) (before after : ℕ)
     (seen last : WireSeen) (fault : End) (fails quiet : Type 0)
-    (running : Running program how made (suc left) kernel past taken seen.left now_told first sink) (rose : Rose before after → Rose seen.faults last.faults)
+    (running : IsDriven program how made (suc left) kernel past taken seen.left now_told first sink) (rose : Rose before after → Rose seen.faults last.faults)
     (first_turn : fails → made ≡ 0) where
-  abbrev May : Output → Type 0
+  abbrev May : ProgramOutput → Type 0
   May = MayDrive program how fault seen last (Undisturbed fails quiet)
 
   by_turns : quiet → (n : ℕ) → made ≡ n → EndsEarly May quiet first sink Memory

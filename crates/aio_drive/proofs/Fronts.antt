@@ -4,7 +4,7 @@ use Rattle.std.proofs.lemmas.List.{take_rest, take-append-drop}
 use Rattle.model_wire.specs.Told.{SinkSeen, SinkFailed, grown, took}
 
 -- so much was written of a text, and so much is left
-pub record Wrote (done rest text : List ℕ) (old new : SinkSeen) : Type 0 where
+pub record WroteSoFar (done rest text : List ℕ) (old new : SinkSeen) : Type 0 where
   pub whole : done ++ rest ≡ text
   pub sink : new ≡ took old done
 
@@ -39,8 +39,8 @@ failed_on first now after done piece had failed =
     (taken ∙ grown-grown first.taken done piece, rose)
 
 -- a front of the rest is handed over
-pub wrote_more : (done rest text : List ℕ) (old mid new : SinkSeen) (count : ℕ) → Wrote done rest text old mid → new ≡ took mid (take count rest)
-    → Wrote (done ++ take count rest) (take (length rest - count) (drop count rest)) text old new
+pub wrote_more : (done rest text : List ℕ) (old mid new : SinkSeen) (count : ℕ) → WroteSoFar done rest text old mid → new ≡ took mid (take count rest)
+    → WroteSoFar (done ++ take count rest) (take (length rest - count) (drop count rest)) text old new
 wrote_more done rest text old mid new count wrote wrote_next =
     record {
       whole =
@@ -50,5 +50,5 @@ wrote_more done rest text old mid new count wrote wrote_next =
     }
 
 -- before anything is written
-pub wrote_none : (text : List ℕ) (sink : SinkSeen) → Wrote [] text text sink sink
+pub wrote_none : (text : List ℕ) (sink : SinkSeen) → WroteSoFar [] text text sink sink
 wrote_none text sink = record { whole = refl; sink = sym (took-nil sink) }

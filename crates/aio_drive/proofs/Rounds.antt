@@ -7,7 +7,7 @@ use Rattle.model_wire.specs.Journal.{Entry, Answered}
 use Rattle.model_wire.specs.Told.{Rose, SinkSeen, WireSeen, took}
 use Rattle.model_wire.specs.Trace.{End, end_text, line, lines_of_events}
 use Rattle.model_machine.specs.State.{State}
-use Rattle.model_machine.specs.Theorem.{Output, WritesWhole}
+use Rattle.model_machine.specs.Theorem.{ProgramOutput, WritesWhole}
 use Rattle.model_machine.specs.Transcript.{status_of}
 use Rattle.aio_wire.specs.declared.stop.Stop.TheVariants as stop
 use Rattle.aio_extra.specs.Nothing.{nothing_added}
@@ -22,31 +22,31 @@ use Rattle.aio_drive.specs.Ending.{NextOf}
 use Rattle.aio_drive.specs.Outcome.{EndsEarly}
 use Rattle.aio_drive.specs.Writing.{StopsWriting}
 use Rattle.aio_drive.specs.declared.driver.Manner.{Manner}
-use Rattle.aio_drive.specs.declared.ending.Next.TheVariants as next
+use Rattle.aio_drive.specs.declared.ending.AfterTurn.TheVariants as next
 use Rattle.aio_drive.specs.declared.halt.Halt.{Halt}
 use Rattle.aio_drive.specs.declared.halt.Halt.TheVariants.{Memory}
-use Rattle.aio_drive.proofs.Driving.{EndsHere, FailsHere, GoesOnHere, Running, ended, ends_early, ends_last, ends_whole, fails, fails_early, fails_whole, goes_early, goes_further, goes_on_here, rose_earlier, turned_on}
+use Rattle.aio_drive.proofs.Driving.{EndsHere, FailsHere, GoesOnHere, IsDriven, ended, ends_early, ends_last, ends_whole, fails, fails_early, fails_whole, goes_early, goes_further, goes_on_here, rose_earlier, turned_on}
 use Rattle.aio_drive.proofs.Exits.{alive, ended-quiet, going, of_said, refused}
 use Rattle.aio_drive.proofs.Fronts.{append-nil, took-nil}
 
 -- a turn is left
 pub with_turn : {g : _} {program : Program} {how : Manner} {made : ℕ} {kernel : Kernel NoExtra g} {past : List Entry} {taken : List Event}
     {told now_told : Option (List Entry)}
-    {first sink : SinkSeen} (left : ℕ) → Running program how made left kernel past taken told now_told first sink → made < how.turns
-    → (fewer : ℕ) × Running program how made (suc fewer) kernel past taken told now_told first sink
+    {first sink : SinkSeen} (left : ℕ) → IsDriven program how made left kernel past taken told now_told first sink → made < how.turns
+    → (fewer : ℕ) × IsDriven program how made (suc fewer) kernel past taken told now_told first sink
 with_turn zero running some = absurd (let turns = running.turns in omega arith)
 with_turn (suc fewer) running some = (fewer, running)
 
 -- none is
 pub none_left : {g : _} {program : Program} {how : Manner} {made left : ℕ} {kernel : Kernel NoExtra g} {past : List Entry} {taken : List Event}
     {told now_told : Option (List Entry)}
-    {first sink : SinkSeen} → Running program how made left kernel past taken told now_told first sink → how.turns ≤ made → left ≡ 0
+    {first sink : SinkSeen} → IsDriven program how made left kernel past taken told now_told first sink → how.turns ≤ made → left ≡ 0
 none_left running most = let turns = running.turns in omega arith
 
 -- `seen` is the wire as the run began, `now` as the turn did, and `last` after it.
 module _ {g : _} {program : Program} {how : Manner} {made left : ℕ} {kernel new : Kernel NoExtra g} {past : List Entry} {taken : List Event}
     {now last : WireSeen} {first sink : SinkSeen} {fails_first fails_now quiet_now quiet : Type 0} {result said : code.Went} (seen : WireSeen)
-    (running : Running program how made (suc left) kernel past taken seen.left now.left first sink)
+    (running : IsDriven program how made (suc left) kernel past taken seen.left now.left first sink)
     (fails_then : fails_first → (made ≡ 0) × fails_now) (later : seen.faults ≤ now.faults)
     (turned : TurnedBy nothing_added fails_now quiet_now now last kernel new result said) (quietly : quiet_now → quiet) where
   pub ends_at : how.turns ≤ 2 ^ 64 - 1 → (end : End) → NextOf result (next.Ends end)
@@ -105,7 +105,7 @@ module _ {g : _} {program : Program} {how : Manner} {made left : ℕ} {kernel ne
 
   -- ---- what is written, where the events that were taken out are these
   module _ (fault : End) (final : SinkSeen) (events : List Event) (out : events ≡ untaken new) where
-    abbrev Drives : Output → Type 0
+    abbrev Drives : ProgramOutput → Type 0
     Drives = MayDrive program how fault seen last (Undisturbed fails_first quiet)
 
     abbrev lines : List ℕ
@@ -152,21 +152,21 @@ module _ {g : _} {program : Program} {how : Manner} {made left : ℕ} {kernel ne
         → StandsFor nothing_added (past ++ untaken new) answers after s)
         → untaken after ≡ [] → final ≡ took sink lines
         → (left_then : ℕ) × (past_then : List Entry) × (taken_then : List Event)
-        × Running program how (made + 1) left_then after past_then taken_then seen.left last.left first final
+        × IsDriven program how (made + 1) left_then after past_then taken_then seen.left last.left first final
     goes_on is after takes_out none wrote =
         let (had, (takes, (goes, still))) = goes_at is in (
           left,
           past ++ map Answered had,
           taken ++ untaken new,
           turned_on new last.left running had takes goes after final takes_out none
-          (wrote ∙ ap (λ (es : List Event). took sink (lines_of_events how.trace es)) out),
+              (wrote ∙ ap (λ (es : List Event). took sink (lines_of_events how.trace es)) out),
         )
 
 -- where no turn is left
 module _ {g : _} {program : Program} {how : Manner} {made left : ℕ} {kernel : Kernel NoExtra g} {past : List Entry} {taken : List Event} {first sink : SinkSeen}
-    {fails_first quiet : Type 0} (seen now : WireSeen) (running : Running program how made left kernel past taken seen.left now.left first sink)
+    {fails_first quiet : Type 0} (seen now : WireSeen) (running : IsDriven program how made left kernel past taken seen.left now.left first sink)
     (most : how.turns ≤ made) (still : Undisturbed fails_first quiet) (fault : End) (final : SinkSeen) where
-  abbrev LastDrives : Output → Type 0
+  abbrev LastDrives : ProgramOutput → Type 0
   LastDrives = MayDrive program how fault seen now (Undisturbed fails_first quiet)
 
   last_here : (end : End) → LastOf kernel how.turns end → EndsHere program how seen.left (taken ++ []) end

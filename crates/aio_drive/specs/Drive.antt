@@ -9,7 +9,7 @@ use Rattle.model_machine.specs.Extra.{no_extra}
 use Rattle.model_machine.specs.Program.{IsOver, output_of}
 use Rattle.model_machine.specs.Run.{run, turns_over}
 use Rattle.model_machine.specs.State.{State}
-use Rattle.model_machine.specs.Theorem.{Output}
+use Rattle.model_machine.specs.Theorem.{ProgramOutput}
 use Rattle.model_machine.specs.Turn.{is_stalled}
 use Rattle.aio_extra.specs.Nothing.{nothing_added}
 use Rattle.aio_extra.specs.declared.nothing.NoExtra.{NoExtra}
@@ -24,7 +24,7 @@ Undisturbed fails quiet = (fails → ⊥) × quiet
 -- What may be written of a program's run. Where the wire didn't fail, the whole run over entries that agree with what it
 -- told. Where it failed, the run over the answers had so far, which was over at the call that failed: its lines, and then
 -- the fault's.
-abbrev pub MayDrive : Program → Manner → (fault : End) → (before after : WireSeen) → (undisturbed : Type 0) → Output → Type 0
+abbrev pub MayDrive : Program → Manner → (fault : End) → (before after : WireSeen) → (undisturbed : Type 0) → ProgramOutput → Type 0
 MayDrive program how fault before after undisturbed output =
     (undisturbed × (entries : List Entry) × Agrees before.left entries
     × (output ≡ output_of how.trace (run program entries how.turns)))

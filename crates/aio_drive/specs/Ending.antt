@@ -6,14 +6,14 @@ use Rattle.model_machine.specs.Outcomes.{end_of}
 use Rattle.aio_wire.specs.declared.stop.Stop.TheVariants as stop
 use Rattle.aio_core.specs.declared.went.Went.{Went}
 use Rattle.aio_core.specs.declared.went.Went.TheVariants as went
-use Rattle.aio_drive.specs.declared.ending.Next.{Next}
-use Rattle.aio_drive.specs.declared.ending.Next.TheVariants as next
+use Rattle.aio_drive.specs.declared.ending.AfterTurn.{AfterTurn}
+use Rattle.aio_drive.specs.declared.ending.AfterTurn.TheVariants as next
 
-abbrev pub EndsAs : End → Next → Type 0
+abbrev pub EndsAs : End → AfterTurn → Type 0
 EndsAs end (next.Ends said) = said ≡ end
 EndsAs end _ = ⊥
 
-abbrev pub NextOf : Went → Next → Type 0
+abbrev pub NextOf : Went → AfterTurn → Type 0
 NextOf went.Went what = what ≡ next.Turn
 NextOf (went.Finished outcome) what = EndsAs (end_of outcome) what
 NextOf went.Stalled what = EndsAs end.Stalled what

@@ -4,7 +4,7 @@ ghost use Rattle.model_machine.specs.Theorem.{WritesWhole};
 ghost use Rattle.aio_drive.specs.Drive.{LastOf, MayDrive, Undisturbed};
 ghost use Rattle.aio_drive.specs.Outcome.{EndsEarly};
 
-use crate::ending::{Next, last_says, next_of};
+use crate::ending::{AfterTurn, last_says, next_of};
 use crate::halt::Halt;
 use crate::lines::{write_end, write_events};
 use crate::silent::Silent;
@@ -47,10 +47,10 @@ pub fn drive<W: Wire, K: Sink>(
         let next = next_of(kernel.turn(alloc, wire));
         let events = kernel.events();
         match next {
-            Next::Turn => write_events(alloc, &events, manner.trace, out)?,
-            Next::Ends(end) => return write_end(alloc, &events, manner.trace, &end, out),
-            Next::Fails => return write_end(alloc, &events, manner.trace, fault, out),
-            Next::Nothing => return Err(Halt::Memory),
+            AfterTurn::Turn => write_events(alloc, &events, manner.trace, out)?,
+            AfterTurn::Ends(end) => return write_end(alloc, &events, manner.trace, &end, out),
+            AfterTurn::Fails => return write_end(alloc, &events, manner.trace, fault, out),
+            AfterTurn::Nothing => return Err(Halt::Memory),
         }
     }
     let end = last_of(alloc, &mut kernel, manner.turns)?;

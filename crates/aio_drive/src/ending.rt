@@ -11,7 +11,7 @@ use aio_wire::Stop;
 
 /// What comes after a turn.
 #[derive(Debug, Drop)]
-pub enum Next {
+pub enum AfterTurn {
     /// A further turn.
     Turn,
     /// The run has ended so.
@@ -23,30 +23,30 @@ pub enum Next {
 }
 
 /// What comes after a turn.
-pub fn next_of(went: Went) -> Next
+pub fn next_of(went: Went) -> AfterTurn
     ensures { NextOf went result }
 {
     match went {
-        Went::Went => Next::Turn,
-        Went::Finished(outcome) => Next::Ends(end_of(outcome)),
-        Went::Stalled => Next::Ends(End::Stalled),
-        Went::Runaway(task) => Next::Ends(End::Runaway(task)),
+        Went::Went => AfterTurn::Turn,
+        Went::Finished(outcome) => AfterTurn::Ends(end_of(outcome)),
+        Went::Stalled => AfterTurn::Ends(End::Stalled),
+        Went::Runaway(task) => AfterTurn::Ends(End::Runaway(task)),
         Went::Stopped(stop) => next_of_stop(stop),
     }
 }
 
-fn next_of_stop(stop: Stop) -> Next
+fn next_of_stop(stop: Stop) -> AfterTurn
     ensures { NextOf (Went.Stopped stop) result }
 {
     match stop {
-        Stop::Over(call) => Next::Ends(End::Over(call)),
-        Stop::Bad(fault) => Next::Ends(End::JournalRefused {
+        Stop::Over(call) => AfterTurn::Ends(End::Over(call)),
+        Stop::Bad(fault) => AfterTurn::Ends(End::JournalRefused {
             line: fault.line,
             cause: fault.cause,
         }),
-        Stop::Mismatch(count, call) => Next::Ends(End::Mismatch { count, call }),
-        Stop::Failed(_) => Next::Fails,
-        Stop::Memory => Next::Nothing,
+        Stop::Mismatch(count, call) => AfterTurn::Ends(End::Mismatch { count, call }),
+        Stop::Failed(_) => AfterTurn::Fails,
+        Stop::Memory => AfterTurn::Nothing,
     }
 }
 

@@ -2,16 +2,16 @@
 ghost use Rattle.std.specs.Prelude.{◌≡◌, Ok, IfOk, IfErr};
 ghost use Rattle.model_value.specs.Value.{Value, Truth};
 ghost use Rattle.model_tree.specs.Syntax.{exprs};
-ghost use Rattle.model_says.specs.Operations.{Answer, truth};
+ghost use Rattle.model_says.specs.Operations.{ValueOrFault, truth};
 ghost use Rattle.model_says.specs.Expressions.{value_of, values_of, constant_value, of_one, of_two};
 ghost use Rattle.aio_syntax.specs.Constant.{constant_of};
 ghost use Rattle.aio_expr.specs.Gives.{Gives, Fails, AllFail};
 
-use crate::cause::Cause;
 use crate::env::Env;
 use crate::flat_expr::{FlatExpr, FlatExprCase};
 use crate::functions::{applied, error_made};
 use crate::items::{indexed, list_of};
+use crate::operation_fault::OperationFault;
 use crate::operators::{calculated, compared, negation, negative};
 use aio_base::{Value, ValueCase};
 use aio_syntax::Constant;
@@ -19,7 +19,7 @@ use std::alloc::Global;
 
 /// The value of an expression.
 #[cycle(evaluate)]
-pub fn evaluate(alloc: Global, expr: &FlatExpr, env: &Env) -> Result<Value, Cause>
+pub fn evaluate(alloc: Global, expr: &FlatExpr, env: &Env) -> Result<Value, OperationFault>
     ensures { Gives (value_of expr.now env.now) result }
 {
     match expr.case() {
@@ -64,10 +64,10 @@ fn evaluate_two(
     left: &FlatExpr,
     right: &FlatExpr,
     env: &Env,
-) -> Result<(Value, Value), Cause>
+) -> Result<(Value, Value), OperationFault>
     ensures left { IfOk result (λ pair. value_of left.now env.now ≡ Ok pair.0) }
     ensures right { IfOk result (λ pair. value_of right.now env.now ≡ Ok pair.1) }
-    ensures fault { IfErr result (λ cause. (operation : Value → Value → Answer) → Fails (of_two operation (value_of left.now env.now) (value_of right.now env.now)) cause) }
+    ensures fault { IfErr result (λ cause. (operation : Value → Value → ValueOrFault) → Fails (of_two operation (value_of left.now env.now) (value_of right.now env.now)) cause) }
 {
     let left = evaluate(alloc, left, env)?;
     let right = evaluate(alloc, right, env)?;
@@ -76,7 +76,7 @@ fn evaluate_two(
 
 /// Whether an expression is True. One that is neither True nor False is a bad operand.
 #[cycle(evaluate)]
-fn is_true(alloc: Global, expr: &FlatExpr, env: &Env) -> Result<bool, Cause>
+fn is_true(alloc: Global, expr: &FlatExpr, env: &Env) -> Result<bool, OperationFault>
     ensures truth { IfOk result (λ t. value_of expr.now env.now ≡ Ok (Truth t)) }
     ensures fault { IfErr result (Fails (of_one truth (value_of expr.now env.now))) }
 {
@@ -85,7 +85,7 @@ fn is_true(alloc: Global, expr: &FlatExpr, env: &Env) -> Result<bool, Cause>
 
 /// The values of expressions in order.
 #[cycle(evaluate)]
-fn evaluate_all(alloc: Global, items: &[FlatExpr], env: &Env) -> Result<Vec<Value>, Cause>
+fn evaluate_all(alloc: Global, items: &[FlatExpr], env: &Env) -> Result<Vec<Value>, OperationFault>
     ensures values { IfOk result (λ found. values_of (exprs items.now) env.now ≡ Ok found.items) }
     ensures fault { IfErr result (AllFail (values_of (exprs items.now) env.now)) }
 {
@@ -96,18 +96,18 @@ fn evaluate_all(alloc: Global, items: &[FlatExpr], env: &Env) -> Result<Vec<Valu
     Ok(found)
 }
 
-fn truth_of(value: &Value) -> Result<bool, Cause>
+fn truth_of(value: &Value) -> Result<bool, OperationFault>
     ensures truth { IfOk result (λ t. value.now ≡ Truth t) }
     ensures fault { IfErr result (Fails (truth value.now)) }
 {
     match value.case() {
         ValueCase::Bool(truth) => Ok(truth),
-        _ => Err(Cause::BadOperand),
+        _ => Err(OperationFault::BadOperand),
     }
 }
 
 /// What a literal, `True`, `False` or `None` stands for.
-fn constant_value(constant: &Constant) -> Result<Value, Cause>
+fn constant_value(constant: &Constant) -> Result<Value, OperationFault>
     ensures { Gives (Ok (constant_value (constant_of constant.now))) result }
 {
     match constant {

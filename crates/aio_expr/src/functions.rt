@@ -6,8 +6,8 @@ ghost use Rattle.model_says.specs.Operations.{applied, bounded, decoded, error_m
 ghost use Rattle.aio_expr.specs.Gives.{Gives};
 
 use crate::bounds::bounded;
-use crate::cause::Cause;
 use crate::items::list_of;
+use crate::operation_fault::OperationFault;
 use aio_base::{Exc, Kind, Value, ValueCase, exception, name_of, show};
 use aio_syntax::Function;
 use std::alloc::Global;
@@ -15,7 +15,7 @@ use std::str;
 
 /// What a function gives for its argument.
 #[tactic(auto, using(law_value::proofs::Rows::rows))]
-pub fn applied(alloc: Global, function: Function, argument: &Value) -> Result<Value, Cause>
+pub fn applied(alloc: Global, function: Function, argument: &Value) -> Result<Value, OperationFault>
     ensures { Gives (applied function argument.now) result }
 {
     match (function, argument.case()) {
@@ -29,42 +29,42 @@ pub fn applied(alloc: Global, function: Function, argument: &Value) -> Result<Va
         (Function::Message, ValueCase::Exc(exc)) => text_value(alloc, exc.text()),
         (Function::Partial, ValueCase::Exc(exc)) => bytes_value(alloc, exc.bytes()),
         (Function::Members, ValueCase::Exc(exc)) => members_of(alloc, exc),
-        _ => Err(Cause::BadOperand),
+        _ => Err(OperationFault::BadOperand),
     }
 }
 
-fn number_of(len: usize) -> Result<Value, Cause>
+fn number_of(len: usize) -> Result<Value, OperationFault>
     ensures { Gives (number (pos len)) result }
 {
     match i64::try_from(len) {
         Ok(number) => Ok(Value::int(number)),
-        Err(_) => Err(Cause::OutOfRange),
+        Err(_) => Err(OperationFault::OutOfRange),
     }
 }
 
-fn text_value(alloc: Global, text: &str) -> Result<Value, Cause>
+fn text_value(alloc: Global, text: &str) -> Result<Value, OperationFault>
     ensures { Gives (bounded (Text text.now)) result }
 {
     bounded(Value::text_from(alloc, text)?)
 }
 
-fn bytes_value(alloc: Global, bytes: &[u8]) -> Result<Value, Cause>
+fn bytes_value(alloc: Global, bytes: &[u8]) -> Result<Value, OperationFault>
     ensures { Gives (bounded (Bytes bytes.now)) result }
 {
     bounded(Value::bytes_from(alloc, bytes)?)
 }
 
 /// The text that bytes are.
-fn decoded(alloc: Global, bytes: &[u8]) -> Result<Value, Cause>
+fn decoded(alloc: Global, bytes: &[u8]) -> Result<Value, OperationFault>
     ensures { Gives (decoded bytes.now) result }
 {
     match str::from_utf8(bytes) {
         Ok(text) => text_value(alloc, text),
-        Err(_) => Err(Cause::NotUtf8),
+        Err(_) => Err(OperationFault::NotUtf8),
     }
 }
 
-fn shown(alloc: Global, value: &Value) -> Result<Value, Cause>
+fn shown(alloc: Global, value: &Value) -> Result<Value, OperationFault>
     ensures { Gives (decoded (shown value.now)) result }
 {
     let mut text = Vec::new(alloc);
@@ -72,7 +72,7 @@ fn shown(alloc: Global, value: &Value) -> Result<Value, Cause>
     decoded(alloc, text.as_slice())
 }
 
-fn members_of(alloc: Global, exc: &Exc) -> Result<Value, Cause>
+fn members_of(alloc: Global, exc: &Exc) -> Result<Value, OperationFault>
     ensures { Gives (bounded (Items (values (map Exception (members_of exc.now))))) result }
 {
     let mut members = Vec::new(alloc);
@@ -83,11 +83,11 @@ fn members_of(alloc: Global, exc: &Exc) -> Result<Value, Cause>
 }
 
 /// `error(KIND, t)`.
-pub fn error_made(alloc: Global, kind: Kind, message: &Value) -> Result<Value, Cause>
+pub fn error_made(alloc: Global, kind: Kind, message: &Value) -> Result<Value, OperationFault>
     ensures { Gives (error_made kind message.now) result }
 {
     match message.case() {
         ValueCase::Text(text) => bounded(Value::exc(exception(alloc, kind, text.as_str())?)),
-        _ => Err(Cause::BadOperand),
+        _ => Err(OperationFault::BadOperand),
     }
 }

@@ -8,26 +8,26 @@ ghost use Rattle.aio_expr.specs.Places.{place_of};
 ghost use Rattle.aio_expr.specs.Gives.{Gives};
 
 use crate::bounds::{DEEPEST, HEAVIEST, bounded};
-use crate::cause::Cause;
+use crate::operation_fault::OperationFault;
 use aio_base::{Value, ValueCase, depth, weight};
 use std::alloc::{AllocError, Global};
 
 /// A list of these values.
-pub fn list_of(alloc: Global, items: Vec<Value>) -> Result<Value, Cause>
+pub fn list_of(alloc: Global, items: Vec<Value>) -> Result<Value, OperationFault>
     ensures { Gives (bounded (Items (values items.items))) result }
 {
     bounded(Value::list_from(alloc, items)?)
 }
 
 /// The items of both lists in order. They are weighed before the list is made.
-pub fn joined_lists(alloc: Global, front: &[Value], back: &[Value]) -> Result<Value, Cause>
+pub fn joined_lists(alloc: Global, front: &[Value], back: &[Value]) -> Result<Value, OperationFault>
     ensures { Gives (bounded (Items (values (front.now ++ back.now)))) result }
 {
     if weight_of_all(front).saturating_add(weight_of_all(back)) >= HEAVIEST {
-        return Err(Cause::OutOfRange);
+        return Err(OperationFault::OutOfRange);
     }
     if depth_of_all(front).max(depth_of_all(back)) >= DEEPEST {
-        return Err(Cause::OutOfRange);
+        return Err(OperationFault::OutOfRange);
     }
     let mut items = Vec::new(alloc);
     push_copies(&mut items, front)?;
@@ -68,31 +68,31 @@ fn depth_of_all(items: &[Value]) -> u64
 
 /// `x[i]`.
 #[tactic(auto, using(law_value::proofs::Rows::rows))]
-pub fn indexed(sequence: &Value, index: &Value) -> Result<Value, Cause>
+pub fn indexed(sequence: &Value, index: &Value) -> Result<Value, OperationFault>
     ensures { Gives (indexed sequence.now index.now) result }
 {
     match (sequence.case(), index.case()) {
         (ValueCase::List(list), ValueCase::Int(index)) => item_at(list.as_ref().items(), index),
         (ValueCase::Bytes(bytes), ValueCase::Int(index)) => byte_at(bytes.as_slice(), index),
-        _ => Err(Cause::BadOperand),
+        _ => Err(OperationFault::BadOperand),
     }
 }
 
-fn item_at(items: &[Value], index: i64) -> Result<Value, Cause>
+fn item_at(items: &[Value], index: i64) -> Result<Value, OperationFault>
     ensures { Gives (found (item_at items.now index)) result }
 {
     match place_of(items.len(), index) {
         Some(place) => bounded(items[place].clone()?),
-        None => Err(Cause::IndexOutOfRange),
+        None => Err(OperationFault::IndexOutOfRange),
     }
 }
 
-fn byte_at(bytes: &[u8], index: i64) -> Result<Value, Cause>
+fn byte_at(bytes: &[u8], index: i64) -> Result<Value, OperationFault>
     ensures { Gives (found (item_at (map byte_value bytes.now) index)) result }
 {
     match place_of(bytes.len(), index) {
         Some(place) => Ok(Value::int(i64::from(bytes[place]))),
-        None => Err(Cause::IndexOutOfRange),
+        None => Err(OperationFault::IndexOutOfRange),
     }
 }
 

@@ -2,31 +2,31 @@
 ghost use Rattle.std.specs.Prelude.{◌≡◌, ◌+◌, ◌*◌, ◌++◌, nat_le, IfOk, IfErr, true, false};
 ghost use Rattle.model_value.specs.Value.{Text, Bytes, Items, values};
 ghost use Rattle.model_says.specs.Operations.{bounded, repeated, times};
-ghost use Rattle.aio_expr.specs.declared.cause.Cause.TheVariants.{OutOfRange};
+ghost use Rattle.aio_expr.specs.declared.operation_fault.OperationFault.TheVariants.{OutOfRange};
 ghost use Rattle.aio_expr.specs.Gives.{Gives};
 
 use crate::bounds::HEAVIEST;
-use crate::cause::Cause;
+use crate::operation_fault::OperationFault;
 use aio_base::Value;
 use std::alloc::Global;
 use std::rc::{RcSlice, RcStr};
 
-pub fn joined_texts(alloc: Global, front: &str, back: &str) -> Result<Value, Cause>
+pub fn joined_texts(alloc: Global, front: &str, back: &str) -> Result<Value, OperationFault>
     ensures { Gives (bounded (Text (front.now ++ back.now))) result }
 {
     if !is_light(front.len(), back.len()) {
-        return Err(Cause::OutOfRange);
+        return Err(OperationFault::OutOfRange);
     }
     let mut text = String::from_str(alloc, front)?;
     text.push_str(back)?;
     Ok(Value::text(RcStr::from_string(text)?))
 }
 
-pub fn joined_bytes(alloc: Global, front: &[u8], back: &[u8]) -> Result<Value, Cause>
+pub fn joined_bytes(alloc: Global, front: &[u8], back: &[u8]) -> Result<Value, OperationFault>
     ensures { Gives (bounded (Bytes (front.now ++ back.now))) result }
 {
     if !is_light(front.len(), back.len()) {
-        return Err(Cause::OutOfRange);
+        return Err(OperationFault::OutOfRange);
     }
     let mut bytes = Vec::new(alloc);
     bytes.extend_from_slice(front)?;
@@ -42,7 +42,7 @@ fn is_light(front: usize, back: usize) -> bool
 }
 
 /// A text so many times, a negative count as 0.
-pub fn repeated_text(alloc: Global, text: &str, count: i64) -> Result<Value, Cause>
+pub fn repeated_text(alloc: Global, text: &str, count: i64) -> Result<Value, OperationFault>
     ensures { Gives (repeated Text text.now count) result }
 {
     let count = times(text.len(), count)?;
@@ -50,7 +50,7 @@ pub fn repeated_text(alloc: Global, text: &str, count: i64) -> Result<Value, Cau
 }
 
 /// Bytes so many times, a negative count as 0.
-pub fn repeated_bytes(alloc: Global, bytes: &[u8], count: i64) -> Result<Value, Cause>
+pub fn repeated_bytes(alloc: Global, bytes: &[u8], count: i64) -> Result<Value, OperationFault>
     ensures { Gives (repeated Bytes bytes.now count) result }
 {
     let count = times(bytes.len(), count)?;
@@ -58,7 +58,7 @@ pub fn repeated_bytes(alloc: Global, bytes: &[u8], count: i64) -> Result<Value, 
 }
 
 /// How often so many bytes are repeated, unless that is too heavy.
-fn times(len: usize, count: i64) -> Result<usize, Cause>
+fn times(len: usize, count: i64) -> Result<usize, OperationFault>
     ensures light { IfOk result (λ n. (n ≡ times count) × (nat_le (1 + n * len) HEAVIEST ≡ true)) }
     ensures heavy { IfErr result (λ cause. (cause ≡ OutOfRange) × (nat_le (1 + times count * len) HEAVIEST ≡ false)) }
 {
@@ -66,6 +66,6 @@ fn times(len: usize, count: i64) -> Result<usize, Cause>
     if count.saturating_mul(len) < HEAVIEST as usize {
         Ok(count)
     } else {
-        Err(Cause::OutOfRange)
+        Err(OperationFault::OutOfRange)
     }
 }

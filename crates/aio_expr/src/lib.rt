@@ -2,7 +2,6 @@
 #![tactic(auto)]
 
 mod bounds;
-mod cause;
 mod env;
 mod evaluate;
 mod flat_expr;
@@ -12,6 +11,7 @@ mod joins;
 pub mod laws;
 mod local;
 mod numbers;
+mod operation_fault;
 mod operators;
 mod order;
 mod value;

@@ -5,65 +5,65 @@ ghost use Rattle.model_says.specs.Operations.{number, divided, floor_quotient, f
 ghost use Rattle.aio_expr.specs.Gives.{Gives};
 ghost use Rattle.aio_expr.specs.Rounding.{rounds_up};
 
-use crate::cause::Cause;
+use crate::operation_fault::OperationFault;
 use aio_base::Value;
 
-pub fn sum(a: i64, b: i64) -> Result<Value, Cause>
+pub fn sum(a: i64, b: i64) -> Result<Value, OperationFault>
     ensures { Gives (number (a +ℤ b)) result }
 {
     match a.checked_add(b) {
         Some(sum) => Ok(Value::int(sum)),
-        None => Err(Cause::OutOfRange),
+        None => Err(OperationFault::OutOfRange),
     }
 }
 
-pub fn difference(a: i64, b: i64) -> Result<Value, Cause>
+pub fn difference(a: i64, b: i64) -> Result<Value, OperationFault>
     ensures { Gives (number (a -ℤ b)) result }
 {
     match a.checked_sub(b) {
         Some(difference) => Ok(Value::int(difference)),
-        None => Err(Cause::OutOfRange),
+        None => Err(OperationFault::OutOfRange),
     }
 }
 
-pub fn product(a: i64, b: i64) -> Result<Value, Cause>
+pub fn product(a: i64, b: i64) -> Result<Value, OperationFault>
     ensures { Gives (number (a *ℤ b)) result }
 {
     match a.checked_mul(b) {
         Some(product) => Ok(Value::int(product)),
-        None => Err(Cause::OutOfRange),
+        None => Err(OperationFault::OutOfRange),
     }
 }
 
-pub fn negative(a: i64) -> Result<Value, Cause>
+pub fn negative(a: i64) -> Result<Value, OperationFault>
     ensures { Gives (number (neg_ℤ a)) result }
 {
     match a.checked_neg() {
         Some(negative) => Ok(Value::int(negative)),
-        None => Err(Cause::OutOfRange),
+        None => Err(OperationFault::OutOfRange),
     }
 }
 
 /// The quotient, rounded down.
-pub fn quotient(a: i64, b: i64) -> Result<Value, Cause>
+pub fn quotient(a: i64, b: i64) -> Result<Value, OperationFault>
     ensures { Gives (divided floor_quotient a b) result }
 {
     if b == 0 {
-        return Err(Cause::DivisionByZero);
+        return Err(OperationFault::DivisionByZero);
     }
     match a.checked_div(b) {
         Some(toward_zero) if rounds_up(a, b) => Ok(Value::int(toward_zero - 1)),
         Some(toward_zero) => Ok(Value::int(toward_zero)),
-        None => Err(Cause::OutOfRange),
+        None => Err(OperationFault::OutOfRange),
     }
 }
 
 /// What the quotient, rounded down, times the divisor leaves.
-pub fn remainder(a: i64, b: i64) -> Result<Value, Cause>
+pub fn remainder(a: i64, b: i64) -> Result<Value, OperationFault>
     ensures { Gives (divided floor_remainder a b) result }
 {
     if b == 0 {
-        return Err(Cause::DivisionByZero);
+        return Err(OperationFault::DivisionByZero);
     }
     match a.checked_rem(b) {
         Some(left) if rounds_up(a, b) => Ok(Value::int(left + b)),

@@ -1,13 +1,13 @@
 //! What the operators give for values.
 ghost use Rattle.std.specs.Prelude.{◌≡◌, IfOk, IfErr};
 ghost use Rattle.model_says.specs.Operations.{sum, difference, product, quotient, remainder, calculated, negative, compared, negation, order};
-ghost use Rattle.aio_expr.specs.declared.cause.Cause.TheVariants.{BadOperand};
+ghost use Rattle.aio_expr.specs.declared.operation_fault.OperationFault.TheVariants.{BadOperand};
 ghost use Rattle.aio_expr.specs.Gives.{Gives};
 
-use crate::cause::Cause;
 use crate::items::joined_lists;
 use crate::joins::{joined_bytes, joined_texts, repeated_bytes, repeated_text};
 use crate::numbers;
+use crate::operation_fault::OperationFault;
 use crate::order::order;
 use aio_base::{Value, ValueCase, equal};
 use aio_syntax::{Comparison, Operator};
@@ -20,7 +20,7 @@ pub fn calculated(
     operator: Operator,
     left: &Value,
     right: &Value,
-) -> Result<Value, Cause>
+) -> Result<Value, OperationFault>
     ensures { Gives (calculated operator left.now right.now) result }
 {
     match operator {
@@ -33,7 +33,7 @@ pub fn calculated(
 }
 
 #[tactic(auto, using(law_value::proofs::Rows::rows))]
-fn sum(alloc: Global, left: &Value, right: &Value) -> Result<Value, Cause>
+fn sum(alloc: Global, left: &Value, right: &Value) -> Result<Value, OperationFault>
     ensures { Gives (sum left.now right.now) result }
 {
     match (left.case(), right.case()) {
@@ -49,20 +49,20 @@ fn sum(alloc: Global, left: &Value, right: &Value) -> Result<Value, Cause>
             a.as_ref().items(),
             b.as_ref().items(),
         ),
-        _ => Err(Cause::BadOperand),
+        _ => Err(OperationFault::BadOperand),
     }
 }
 
-fn difference(left: &Value, right: &Value) -> Result<Value, Cause>
+fn difference(left: &Value, right: &Value) -> Result<Value, OperationFault>
     ensures { Gives (difference left.now right.now) result }
 {
     match (left.case(), right.case()) {
         (ValueCase::Int(a), ValueCase::Int(b)) => numbers::difference(a, b),
-        _ => Err(Cause::BadOperand),
+        _ => Err(OperationFault::BadOperand),
     }
 }
 
-fn product(alloc: Global, left: &Value, right: &Value) -> Result<Value, Cause>
+fn product(alloc: Global, left: &Value, right: &Value) -> Result<Value, OperationFault>
     ensures { Gives (product left.now right.now) result }
 {
     match (left.case(), right.case()) {
@@ -77,50 +77,54 @@ fn product(alloc: Global, left: &Value, right: &Value) -> Result<Value, Cause>
             bytes.as_slice(),
             count,
         ),
-        _ => Err(Cause::BadOperand),
+        _ => Err(OperationFault::BadOperand),
     }
 }
 
-fn quotient(left: &Value, right: &Value) -> Result<Value, Cause>
+fn quotient(left: &Value, right: &Value) -> Result<Value, OperationFault>
     ensures { Gives (quotient left.now right.now) result }
 {
     match (left.case(), right.case()) {
         (ValueCase::Int(a), ValueCase::Int(b)) => numbers::quotient(a, b),
-        _ => Err(Cause::BadOperand),
+        _ => Err(OperationFault::BadOperand),
     }
 }
 
-fn remainder(left: &Value, right: &Value) -> Result<Value, Cause>
+fn remainder(left: &Value, right: &Value) -> Result<Value, OperationFault>
     ensures { Gives (remainder left.now right.now) result }
 {
     match (left.case(), right.case()) {
         (ValueCase::Int(a), ValueCase::Int(b)) => numbers::remainder(a, b),
-        _ => Err(Cause::BadOperand),
+        _ => Err(OperationFault::BadOperand),
     }
 }
 
 /// A unary `-`.
-pub fn negative(value: &Value) -> Result<Value, Cause>
+pub fn negative(value: &Value) -> Result<Value, OperationFault>
     ensures { Gives (negative value.now) result }
 {
     match value.case() {
         ValueCase::Int(number) => numbers::negative(number),
-        _ => Err(Cause::BadOperand),
+        _ => Err(OperationFault::BadOperand),
     }
 }
 
 /// `not`.
-pub fn negation(value: &Value) -> Result<Value, Cause>
+pub fn negation(value: &Value) -> Result<Value, OperationFault>
     ensures { Gives (negation value.now) result }
 {
     match value.case() {
         ValueCase::Bool(truth) => Ok(Value::bool(!truth)),
-        _ => Err(Cause::BadOperand),
+        _ => Err(OperationFault::BadOperand),
     }
 }
 
 /// A comparison.
-pub fn compared(comparison: Comparison, left: &Value, right: &Value) -> Result<Value, Cause>
+pub fn compared(
+    comparison: Comparison,
+    left: &Value,
+    right: &Value,
+) -> Result<Value, OperationFault>
     ensures { Gives (compared comparison left.now right.now) result }
 {
     match comparison {
@@ -133,12 +137,12 @@ pub fn compared(comparison: Comparison, left: &Value, right: &Value) -> Result<V
     }
 }
 
-fn ordering_of(left: &Value, right: &Value) -> Result<Ordering, Cause>
+fn ordering_of(left: &Value, right: &Value) -> Result<Ordering, OperationFault>
     ensures ordered { IfOk result (λ ordering. order left.now right.now ≡ Some ordering) }
     ensures none { IfErr result (λ cause. (cause ≡ BadOperand) × (order left.now right.now ≡ None)) }
 {
     match order(left, right) {
         Some(ordering) => Ok(ordering),
-        None => Err(Cause::BadOperand),
+        None => Err(OperationFault::BadOperand),
     }
 }

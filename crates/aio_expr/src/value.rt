@@ -5,10 +5,10 @@ ghost use Rattle.model_says.specs.Expressions.{value_of};
 ghost use Rattle.aio_expr.specs.Gives.{raised_for};
 ghost use Rattle.aio_expr.specs.Raises.{Raises, IsFaultOf};
 
-use crate::cause::Cause;
 use crate::env::Env;
 use crate::evaluate::evaluate;
 use crate::flat_expr::FlatExpr;
+use crate::operation_fault::OperationFault;
 use aio_base::{Exc, Kind, Memory, Value, exception};
 use std::alloc::Global;
 
@@ -31,16 +31,20 @@ pub fn value_of(alloc: Global, expr: &FlatExpr, env: &Env) -> Result<Value, Expr
     }
 }
 
-fn fault_of(alloc: Global, cause: Cause) -> ExprFault
+fn fault_of(alloc: Global, cause: OperationFault) -> ExprFault
     ensures { IsFaultOf (raised_for cause) result }
 {
     match cause {
-        Cause::BadOperand => raised(alloc, Kind::TypeError, "bad operand"),
-        Cause::OutOfRange => raised(alloc, Kind::OverflowError, "out of range"),
-        Cause::DivisionByZero => raised(alloc, Kind::ZeroDivisionError, "division by zero"),
-        Cause::IndexOutOfRange => raised(alloc, Kind::IndexError, "index out of range"),
-        Cause::NotUtf8 => raised(alloc, Kind::ValueError, "not UTF-8"),
-        Cause::Memory => ExprFault::Memory,
+        OperationFault::BadOperand => raised(alloc, Kind::TypeError, "bad operand"),
+        OperationFault::OutOfRange => raised(alloc, Kind::OverflowError, "out of range"),
+        OperationFault::DivisionByZero => raised(
+            alloc,
+            Kind::ZeroDivisionError,
+            "division by zero",
+        ),
+        OperationFault::IndexOutOfRange => raised(alloc, Kind::IndexError, "index out of range"),
+        OperationFault::NotUtf8 => raised(alloc, Kind::ValueError, "not UTF-8"),
+        OperationFault::Memory => ExprFault::Memory,
     }
 }
 

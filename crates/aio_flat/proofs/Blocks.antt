@@ -3,7 +3,7 @@ use Rattle.std.proofs.Common.{◌≡◌, ℕ, ◌+◌, ◌<◌, List, [], ◌∷
 use Rattle.std.proofs.lemmas.List.{length-set}
 use Rattle.model_tree.specs.Syntax.{Name, Expr, Target, Await, Call, Ask, SpawnTask, CreateTask, ListenAt, Manager, GroupBlock, TimeoutBlock, Statement, Assign, Yield, YieldFrom, Print, Raise, Return, Pass, If, While, Try, With, Statements, Branch, Handlers, Handler, statements, handlers, Program}
 use Rattle.law_flat.specs.declared.op.Op.TheVariants as op
-use Rattle.law_flat.specs.Ops.{Op, Clause, Range, Body, Has, Covers}
+use Rattle.law_flat.specs.Ops.{Op, Clause, Range, CoroutineCode, Has, Covers}
 use Rattle.law_flat.specs.Laid.{target_op, enter_op, exit_op, LaidOne, Laid, LaidAll, LaidBranch, LaidHandlers}
 use Rattle.law_locals.specs.Numbered.{numbered_manager, numbered_statement, numbered_statements, numbered_handlers}
 use Rattle.aio_flat.specs.Grows.{Grows, with_op, with_range, put_op, jump_of, GoesForward}
@@ -11,11 +11,11 @@ use Rattle.aio_flat.specs.Built.{single_op, LaidElse, LaidClause, numbered_handl
 use Rattle.aio_flat.proofs.Grows.{length-push, some-is, grows-op, grows-range, grows-so, grows-then, grows-put}
 
 -- what stands at the place of an operation that was pushed first
-pushed-length : (b c : Body) (operation : Op) → c ≡ with_op operation b → length c.ops ≡ length b.ops + 1
-pushed-length b c operation is = ap (λ (x : Body). length x.ops) is ∙ length-push b.ops operation
+pushed-length : (b c : CoroutineCode) (operation : Op) → c ≡ with_op operation b → length c.ops ≡ length b.ops + 1
+pushed-length b c operation is = ap (λ (x : CoroutineCode). length x.ops) is ∙ length-push b.ops operation
 
-put-length : (b c : Body) (at : ℕ) (operation : Op) → c ≡ put_op at operation b → length c.ops ≡ length b.ops
-put-length b c at operation is = ap (λ (x : Body). length x.ops) is ∙ length-set b.ops at operation
+put-length : (b c : CoroutineCode) (at : ℕ) (operation : Op) → c ≡ put_op at operation b → length c.ops ≡ length b.ops
+put-length b c at operation is = ap (λ (x : CoroutineCode). length x.ops) is ∙ length-set b.ops at operation
 
 no-jump : (at : ℕ) (operation : Op) → jump_of operation ≡ None → GoesForward at operation
 no-jump at operation none to is = let never : None ≡ Some to = sym none ∙ is in cc
@@ -29,7 +29,7 @@ target-none program into (SpawnTask coroutine arguments) = refl
 target-none program into (CreateTask group coroutine arguments) = refl
 target-none program into (ListenAt port handler) = refl
 
-pub single-lays : (program : Program) (b c : Body) (statement : Statement) (operation : Op) →
+pub single-lays : (program : Program) (b c : CoroutineCode) (statement : Statement) (operation : Op) →
     Some operation ≡ single_op program statement → c ≡ with_op operation b →
     Grows b c (λ code. Laid program code statement (length b.ops) (length c.ops))
 single-lays program b c statement operation single is =
@@ -37,11 +37,11 @@ single-lays program b c statement operation single is =
     (grows-so b (with_op operation b) _ _ (λ code has. by_statement statement code single (has, pushed-length b c operation is))
     (grows-op b operation (none statement single)))
   where
-    is_one : (found : Op) (code : Body) → Some operation ≡ Some found → LaidOne program code operation (length b.ops) (length c.ops) →
+    is_one : (found : Op) (code : CoroutineCode) → Some operation ≡ Some found → LaidOne program code operation (length b.ops) (length c.ops) →
         LaidOne program code found (length b.ops) (length c.ops)
     is_one found code same laid = subst (λ o. LaidOne program code o (length b.ops) (length c.ops)) (some-is operation found same) laid
 
-    by_statement : (s : Statement) (code : Body) → Some operation ≡ single_op program s →
+    by_statement : (s : Statement) (code : CoroutineCode) → Some operation ≡ single_op program s →
         LaidOne program code operation (length b.ops) (length c.ops) → Laid program code s (length b.ops) (length c.ops)
     by_statement (Assign name value) code single laid = is_one (op.Assign name value) code single laid
     by_statement Yield code single laid = is_one op.Pause code single laid
@@ -72,15 +72,15 @@ single-lays program b c statement operation single is =
     none (With manager name body) single = cc
 
 module _ (program : Program) where
-  abbrev AllFrom : Statements → Body → Body → Body → Type 0
+  abbrev AllFrom : Statements → CoroutineCode → CoroutineCode → CoroutineCode → Type 0
   AllFrom body b c code = LaidAll program code body (length b.ops) (length c.ops)
 
-  abbrev BranchFrom : Branch → Body → Body → Body → Type 0
+  abbrev BranchFrom : Branch → CoroutineCode → CoroutineCode → CoroutineCode → Type 0
   BranchFrom statements b c code = LaidBranch program code statements (length b.ops) (length c.ops)
 
   -- ---- `if`
   -- a place is held, a branch is laid, and a jump past it is put
-  pub else-lays : (b held last done : Body) (otherwise : Branch) → held ≡ with_op op.Pass b →
+  pub else-lays : (b held last done : CoroutineCode) (otherwise : Branch) → held ≡ with_op op.Pass b →
       Grows held last (BranchFrom otherwise held last) → done ≡ put_op (length b.ops) (op.Jump (length last.ops)) last →
       Grows b done (λ code. LaidElse program code otherwise (length b.ops) (length done.ops))
   else-lays b held last done otherwise holds laid puts =
@@ -98,7 +98,7 @@ module _ (program : Program) where
       (λ to is. subst (λ n. length b.ops < n) (some-is (length last.ops) to is) further)
       (subst (λ x. Grows x last (BranchFrom otherwise held last)) holds laid)))
 
-  pub if-lays : (b held middle last done : Body) (test : Expr) (body : Statements) (otherwise : Branch) →
+  pub if-lays : (b held middle last done : CoroutineCode) (test : Expr) (body : Statements) (otherwise : Branch) →
       held ≡ with_op op.Pass b → Grows held middle (AllFrom body held middle) →
       Grows middle last (λ code. LaidElse program code otherwise (length middle.ops) (length last.ops)) →
       done ≡ put_op (length b.ops) (op.Test test (length middle.ops + 1)) last →
@@ -122,7 +122,7 @@ module _ (program : Program) where
       (subst (λ x. Grows x middle (AllFrom body held middle)) holds laid) further)))
 
   -- ---- `while`
-  pub while-lays : (b held middle last done : Body) (test : Expr) (body : Statements) →
+  pub while-lays : (b held middle last done : CoroutineCode) (test : Expr) (body : Statements) →
       held ≡ with_op op.Pass b → Grows held middle (AllFrom body held middle) →
       last ≡ with_op (op.Repeat test (length b.ops + 1)) middle →
       done ≡ put_op (length b.ops) (op.Jump (length middle.ops)) last →
@@ -149,10 +149,10 @@ module _ (program : Program) where
       (subst (λ x. Grows middle x (λ code. Has code (length middle.ops) repeat)) (sym tests) (grows-op middle repeat refl)))))
 
   -- ---- `try`
-  module _ (b held middle left : Body) (body : Statements) (holds : held ≡ with_op op.Pass b)
+  module _ (b held middle left : CoroutineCode) (body : Statements) (holds : held ≡ with_op op.Pass b)
       (laid : Grows held middle (AllFrom body held middle)) (leaves : left ≡ with_op op.Leave middle) where
     -- the body of a block, and its end
-    abbrev Covered : Body → Type 0
+    abbrev Covered : CoroutineCode → Type 0
     Covered code = AllFrom body held middle code × Has code (length middle.ops) op.Leave
 
     covered-grows : Grows (with_op op.Pass b) left Covered
@@ -161,7 +161,7 @@ module _ (program : Program) where
         (subst (λ x. Grows x middle (AllFrom body held middle)) holds laid)
         (subst (λ x. Grows middle x (λ code. Has code (length middle.ops) op.Leave)) (sym leaves) (grows-op middle op.Leave refl))
 
-    pub try-lays : (handled finished resumed ranged done : Body) (list : List Clause) (clauses : Handlers) (finally : Branch) →
+    pub try-lays : (handled finished resumed ranged done : CoroutineCode) (list : List Clause) (clauses : Handlers) (finally : Branch) →
         Grows left handled (λ code. LaidHandlers program code list clauses) →
         Grows handled finished (BranchFrom finally handled finished) → resumed ≡ with_op op.Resume finished →
         ranged ≡ with_range (record { clauses = list; finally = length handled.ops }) resumed →
@@ -172,7 +172,7 @@ module _ (program : Program) where
         let operation : Op = op.Guard (length resumed.ranges) in
         let from = pushed-length b held op.Pass holds in
         let long = put-length ranged done (length b.ops) operation puts in
-        let same = ap (λ (x : Body). length x.ops) ranges in
+        let same = ap (λ (x : CoroutineCode). length x.ops) ranges in
         let end = pushed-length finished resumed op.Resume resumes in
         subst (λ x. Grows b x (λ code. Laid program code (Try body clauses finally) (length b.ops) (length done.ops))) (sym puts)
         (grows-so b (put_op (length b.ops) operation ranged) _ _
@@ -209,7 +209,7 @@ module _ (program : Program) where
     enter-none GroupBlock name number = refl
     enter-none (TimeoutBlock delay) name number = refl
 
-    pub with-lays : (exited resumed ranged done : Body) (list : List Clause) (manager : Manager) (name : Name) →
+    pub with-lays : (exited resumed ranged done : CoroutineCode) (list : List Clause) (manager : Manager) (name : Name) →
         exited ≡ with_op (exit_op manager) left → resumed ≡ with_op op.Resume exited →
         ranged ≡ with_range (record { clauses = list; finally = length left.ops }) resumed →
         done ≡ put_op (length b.ops) (enter_op manager name (length resumed.ranges)) ranged →
@@ -219,7 +219,7 @@ module _ (program : Program) where
         let operation : Op = enter_op manager name (length resumed.ranges) in
         let from = pushed-length b held op.Pass holds in
         let long = put-length ranged done (length b.ops) operation puts in
-        let same = ap (λ (x : Body). length x.ops) ranges in
+        let same = ap (λ (x : CoroutineCode). length x.ops) ranges in
         let next = pushed-length left exited (exit_op manager) exits in
         let end = pushed-length exited resumed op.Resume resumes in
         subst (λ x. Grows b x (λ code. Laid program code (With manager name body) (length b.ops) (length done.ops))) (sym puts)
@@ -251,12 +251,12 @@ module _ (program : Program) where
         (grows-range resumed range)))))
 
 -- ---- the same operation at the same place, said in other words
-pub put-same : (done last : Body) (at from : ℕ) (operation other : Op) → at ≡ from → operation ≡ other →
+pub put-same : (done last : CoroutineCode) (at from : ℕ) (operation other : Op) → at ≡ from → operation ≡ other →
     done ≡ put_op at operation last → done ≡ put_op from other last
 put-same done last at from operation other places operations is =
     is ∙ ap₂ (λ n o. put_op n o last) places operations
 
-pub push-same : (done last : Body) (operation other : Op) → operation ≡ other → done ≡ with_op operation last →
+pub push-same : (done last : CoroutineCode) (operation other : Op) → operation ≡ other → done ≡ with_op operation last →
     done ≡ with_op other last
 push-same done last operation other operations is = is ∙ ap (λ o. with_op o last) operations
 
@@ -273,7 +273,7 @@ pub repeat-same : (test other : Expr) (at from : ℕ) → test ≡ other → at 
     (let o : Op = op.Repeat test (at + 1) in o) ≡ op.Repeat other (from + 1)
 repeat-same test other at from tests places = λ i. op.Repeat (tests i) (places i + 1)
 
-pub range-same : (done last : Body) (list other : List Clause) (at from : ℕ) → list ≡ other → at ≡ from →
+pub range-same : (done last : CoroutineCode) (list other : List Clause) (at from : ℕ) → list ≡ other → at ≡ from →
     done ≡ with_range (record { clauses = list; finally = at }) last →
     done ≡ with_range (record { clauses = other; finally = from }) last
 range-same done last list other at from lists places is =
@@ -284,7 +284,7 @@ exit-same names GroupBlock = refl
 exit-same names (TimeoutBlock delay) = refl
 
 -- ---- one more of a list
-module _ (program : Program) (names : List Name) (code : Body) where
+module _ (program : Program) (names : List Name) (code : CoroutineCode) where
   abbrev RowLaid : List Statement → ℕ → ℕ → Type 0
   RowLaid items from to = LaidAll program code (numbered_statements names (statements items)) from to
 
@@ -321,7 +321,7 @@ module _ (program : Program) (names : List Name) (code : Body) where
     handlers-push all.2 clauses clause handler all.6 laid,
   )
 
-module _ (program : Program) (names : List Name) (b middle last : Body) where
+module _ (program : Program) (names : List Name) (b middle last : CoroutineCode) where
   pub all-grows : (items : List Statement) (item : Statement) →
       Grows b middle (λ code. RowLaid program names code items (length b.ops) (length middle.ops)) →
       Grows middle last (λ code. Laid program code (numbered_statement names item) (length middle.ops) (length last.ops)) →

@@ -4,7 +4,7 @@ use Rattle.std.proofs.lemmas.Bool.{cases_lt}
 use Rattle.std.proofs.lemmas.List.{length-set}
 use Rattle.std.proofs.lemmas.Option.{slice_get_within}
 use Rattle.law_flat.specs.declared.op.Op.TheVariants as op
-use Rattle.law_flat.specs.Ops.{Op, Range, Body, Has, Covers}
+use Rattle.law_flat.specs.Ops.{Op, Range, CoroutineCode, Has, Covers}
 use Rattle.law_flat.specs.Nearer.{JumpsForward}
 use Rattle.aio_flat.specs.Grows.{Grows, with_op, with_range, put_op, jump_of, GoesForward}
 
@@ -41,7 +41,7 @@ jump-is operation to is = ap jump_of is
 pub some-is : {A : Type 0} (a b : A) → Some a ≡ Some b → a ≡ b
 some-is a b is = cc
 
-forward-push : (body : Body) (operation : Op) → jump_of operation ≡ None → JumpsForward body →
+forward-push : (body : CoroutineCode) (operation : Op) → jump_of operation ≡ None → JumpsForward body →
     JumpsForward (with_op operation body)
 forward-push body operation none forward place to has = by_place (cases_lt place (length body.ops))
   where
@@ -59,7 +59,7 @@ forward-push body operation none forward place to has = by_place (cases_lt place
         let inside = slice_get_within (body.ops ++ operation ∷ []) place (op.Jump to) has in
         at_last (omega (arith, inside, length-push body.ops operation))
 
-forward-put : (body : Body) (at : ℕ) (operation : Op) → GoesForward at operation → JumpsForward body →
+forward-put : (body : CoroutineCode) (at : ℕ) (operation : Op) → GoesForward at operation → JumpsForward body →
     JumpsForward (put_op at operation body)
 forward-put body at operation goes forward place to has = by_place (cases_lt place at) (cases_lt at place)
   where
@@ -82,7 +82,7 @@ forward-put body at operation goes forward place to has = by_place (cases_lt pla
     by_place (inr past) (inr before) = here (omega (arith, past, before))
 
 -- ---- how bodies grow
-module _ (old : Body) where
+module _ (old : CoroutineCode) where
   pub grows-none : Grows old old (λ code. Unit {0})
   grows-none = record {
     more_ops = omega arith;
@@ -117,8 +117,8 @@ module _ (old : Body) where
         ∙ get-last old.ranges range;
   }
 
-  module _ (new : Body) where
-    pub grows-so : (Facts Others : Body → Type 0) → ((code : Body) → Facts code → Others code) → Grows old new Facts →
+  module _ (new : CoroutineCode) where
+    pub grows-so : (Facts Others : CoroutineCode → Type 0) → ((code : CoroutineCode) → Facts code → Others code) → Grows old new Facts →
         Grows old new Others
     grows-so Facts Others so grows = record {
       more_ops = grows.more_ops;
@@ -129,7 +129,7 @@ module _ (old : Body) where
       facts = λ code has. so code (grows.facts code has);
     }
 
-    pub grows-then : (last : Body) (Facts Others : Body → Type 0) → Grows old new Facts → Grows new last Others →
+    pub grows-then : (last : CoroutineCode) (Facts Others : CoroutineCode → Type 0) → Grows old new Facts → Grows new last Others →
         Grows old last (λ code. Facts code × Others code)
     grows-then last Facts Others grows more = record {
       more_ops = omega (arith, grows.more_ops, more.more_ops);
@@ -154,7 +154,7 @@ module _ (old : Body) where
     }
 
     -- an operation is put before what was laid, at a place that was held for it
-    pub grows-put : (operation : Op) (Facts : Body → Type 0) → GoesForward (length old.ops) operation →
+    pub grows-put : (operation : Op) (Facts : CoroutineCode → Type 0) → GoesForward (length old.ops) operation →
         Grows (with_op op.Pass old) new Facts →
         Grows old (put_op (length old.ops) operation new) (λ code. Has code (length old.ops) operation × Facts code)
     grows-put operation Facts goes grows =

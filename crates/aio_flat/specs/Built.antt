@@ -2,17 +2,17 @@
 use Rattle.std.specs.Prelude.{◌≡◌, ℕ, ◌+◌, List, [], length, Option, Some, None}
 use Rattle.model_tree.specs.Syntax.{Name, exprs_of, Statement, Assign, Yield, YieldFrom, Print, Raise, Return, Pass, Branch, Handler, Program}
 use Rattle.law_flat.specs.declared.op.Op.TheVariants as op
-use Rattle.law_flat.specs.Ops.{Op, Clause, Body, Has}
+use Rattle.law_flat.specs.Ops.{Op, Clause, CoroutineCode, Has}
 use Rattle.law_flat.specs.Laid.{target_op, LaidAll, LaidBranch}
 use Rattle.law_locals.specs.Numbered.{numbered_option, numbered_statements}
 use Rattle.aio_flat.specs.declared.builder.BodyBuilder.{BodyBuilder}
 use Rattle.aio_flat.specs.Grows.{Grows}
 
-abbrev pub built : BodyBuilder → Body
+abbrev pub built : BodyBuilder → CoroutineCode
 built builder = record { ops = builder.ops.items; ranges = builder.ranges.items; variables = [] }
 
 -- what was laid stands from where the builder was up to where it is
-abbrev pub Lays : BodyBuilder → BodyBuilder → (Body → ℕ → ℕ → Type 0) → Type 0
+abbrev pub Lays : BodyBuilder → BodyBuilder → (CoroutineCode → ℕ → ℕ → Type 0) → Type 0
 Lays old new Laid =
     Grows (built old) (built new) (λ code. Laid code (length old.ops.items) (length new.ops.items))
 
@@ -35,7 +35,7 @@ numbered_handler names handler = record {
   body = numbered_statements names handler.body;
 }
 
-module _ (program : Program) (code : Body) where
+module _ (program : Program) (code : CoroutineCode) where
   -- a jump past an `else`, and the `else`
   abbrev pub LaidElse : Branch → ℕ → ℕ → Type 0
   LaidElse otherwise from to = Has code from (op.Jump to) × LaidBranch program code otherwise (from + 1) to

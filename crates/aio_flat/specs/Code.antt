@@ -3,24 +3,24 @@ use Rattle.std.specs.Prelude.{◌≡◌, ℕ, List, [], ◌∷◌, Option, Some,
 use Rattle.model_tree.specs.Syntax.{Coroutine, Program}
 use Rattle.model_says.specs.Variables.{variables_of}
 use Rattle.law_locals.specs.Numbered.{locals, numbered_coroutine, numbered_program}
-use Rattle.law_flat.specs.Ops.{Body}
+use Rattle.law_flat.specs.Ops.{CoroutineCode}
 use Rattle.law_flat.specs.Laid.{LaidAll}
 use Rattle.law_flat.specs.Stands.{AllLaidOut}
 use Rattle.aio_flat.specs.declared.code.FlatBody.{FlatBody}
 use Rattle.aio_flat.specs.declared.code.Code.{Code}
 
-abbrev pub plain_body : FlatBody → Body
+abbrev pub plain_body : FlatBody → CoroutineCode
 plain_body body = record { ops = body.ops.items; ranges = body.ranges.items; variables = locals 0 body.variables }
 
 -- a coroutine that there is not has no operations and no variables
-abbrev pub code_at : Option FlatBody → Body
+abbrev pub code_at : Option FlatBody → CoroutineCode
 code_at None = record { ops = []; ranges = []; variables = [] }
 code_at (Some body) = plain_body body
 
-abbrev pub codes_in : List FlatBody → ℕ → Body
+abbrev pub codes_in : List FlatBody → ℕ → CoroutineCode
 codes_in bodies coroutine = code_at (slice_get bodies coroutine)
 
-abbrev pub codes_of : Code → ℕ → Body
+abbrev pub codes_of : Code → ℕ → CoroutineCode
 codes_of code = codes_in code.bodies.items
 
 -- the code of a coroutine, whose variables go by their numbers

@@ -7,7 +7,7 @@ use crate::code::{Code, FlatBody};
 use crate::laying::lay_all;
 use crate::name::Name;
 use crate::numbers::Numbers;
-use crate::places::Places;
+use crate::places::CoroutinePlaces;
 use crate::variables::variables_of;
 use aio_base::Memory;
 use aio_program::{Coroutine, Program};
@@ -20,14 +20,14 @@ use std::alloc::Global;
 pub fn flatten(alloc: Global, program: &Program) -> Result<Code, Memory>
     ensures { IfOk result (IsCodeOf program.now) }
 {
-    let places = Places::new(alloc, program)?;
+    let places = CoroutinePlaces::new(alloc, program)?;
     let bodies = bodies_of(alloc, &places, program.coroutines())?;
     Ok(Code { bodies })
 }
 
 fn bodies_of(
     alloc: Global,
-    places: &Places,
+    places: &CoroutinePlaces,
     coroutines: &[Coroutine],
 ) -> Result<Vec<FlatBody>, Memory>
     ensures { IfOk result (λ bodies. AreBodiesOf places.now coroutines.now bodies.items) }
@@ -39,7 +39,11 @@ fn bodies_of(
     Ok(bodies)
 }
 
-fn body_of(alloc: Global, places: &Places, coroutine: &Coroutine) -> Result<FlatBody, Memory>
+fn body_of(
+    alloc: Global,
+    places: &CoroutinePlaces,
+    coroutine: &Coroutine,
+) -> Result<FlatBody, Memory>
     ensures { IfOk result (IsBodyOf places.now coroutine.now) }
 {
     let names = variables_of(alloc, coroutine)?;

@@ -12,7 +12,7 @@ use crate::body::{Clause, ClauseList, Op, Range};
 use crate::builder::BodyBuilder;
 use crate::exprs::flat_expr;
 use crate::numbers::Numbers;
-use crate::places::Places;
+use crate::places::CoroutinePlaces;
 use crate::single::{enter_op, exit_op, single_op};
 use crate::target::local_in;
 use aio_base::Memory;
@@ -25,7 +25,7 @@ use std::rc::RcStr;
 #[cycle(lay)]
 pub fn lay_all(
     alloc: Global,
-    places: &Places,
+    places: &CoroutinePlaces,
     numbers: &Numbers,
     items: &[Statement],
     builder: &mut BodyBuilder,
@@ -42,7 +42,7 @@ pub fn lay_all(
 #[cycle(lay)]
 fn lay(
     alloc: Global,
-    places: &Places,
+    places: &CoroutinePlaces,
     numbers: &Numbers,
     statement: &Statement,
     builder: &mut BodyBuilder,
@@ -59,7 +59,7 @@ fn lay(
 #[cycle(lay)]
 fn lay_block(
     alloc: Global,
-    places: &Places,
+    places: &CoroutinePlaces,
     numbers: &Numbers,
     statement: &Statement,
     builder: &mut BodyBuilder,
@@ -92,7 +92,7 @@ fn lay_block(
 #[cycle(lay)]
 fn lay_if(
     alloc: Global,
-    places: &Places,
+    places: &CoroutinePlaces,
     numbers: &Numbers,
     test: &Expr,
     body: &StatementList,
@@ -123,7 +123,7 @@ fn lay_if(
 #[cycle(lay)]
 fn lay_else(
     alloc: Global,
-    places: &Places,
+    places: &CoroutinePlaces,
     numbers: &Numbers,
     otherwise: Option<&StatementList>,
     builder: &mut BodyBuilder,
@@ -142,7 +142,7 @@ fn lay_else(
 #[cycle(lay)]
 fn lay_while(
     alloc: Global,
-    places: &Places,
+    places: &CoroutinePlaces,
     numbers: &Numbers,
     test: &Expr,
     body: &StatementList,
@@ -167,7 +167,7 @@ fn lay_while(
 #[cycle(lay)]
 fn lay_try(
     alloc: Global,
-    places: &Places,
+    places: &CoroutinePlaces,
     numbers: &Numbers,
     body: &StatementList,
     clauses: &[Handler],
@@ -198,7 +198,7 @@ fn lay_try(
 #[cycle(lay)]
 fn lay_with(
     alloc: Global,
-    places: &Places,
+    places: &CoroutinePlaces,
     numbers: &Numbers,
     manager: &Manager,
     name: &RcStr,
@@ -229,7 +229,7 @@ fn lay_with(
 #[cycle(lay)]
 fn lay_branch(
     alloc: Global,
-    places: &Places,
+    places: &CoroutinePlaces,
     numbers: &Numbers,
     branch: Option<&StatementList>,
     builder: &mut BodyBuilder,
@@ -247,7 +247,7 @@ fn lay_branch(
 #[cycle(lay)]
 fn lay_handlers(
     alloc: Global,
-    places: &Places,
+    places: &CoroutinePlaces,
     numbers: &Numbers,
     clauses: &[Handler],
     builder: &mut BodyBuilder,
@@ -266,7 +266,7 @@ fn lay_handlers(
 #[cycle(lay)]
 fn lay_clause(
     alloc: Global,
-    places: &Places,
+    places: &CoroutinePlaces,
     numbers: &Numbers,
     handler: &Handler,
     builder: &mut BodyBuilder,

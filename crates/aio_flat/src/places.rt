@@ -12,14 +12,14 @@ use std::marker::Model;
 
 /// The places of a program's coroutines. Contracts see the program, whose variables go by their numbers.
 #[derive(Drop)]
-pub struct Places<'p> {
+pub struct CoroutinePlaces<'p> {
     program: &'p Program,
     count: u32,
     /// The place of the first coroutine of each name.
     places: BTreeMap<&'p str, u32>,
 }
 
-impl<'p> Model for Places<'p> {
+impl<'p> Model for CoroutinePlaces<'p> {
     ghost use Rattle.std.specs.Prelude.{◌≡◌, length};
     ghost use Rattle.model_tree.specs.Syntax as plain;
     ghost use Rattle.law_locals.specs.Numbered.{numbered_program};
@@ -36,15 +36,15 @@ impl<'p> Model for Places<'p> {
     ghost invariant = { λ a. HasPlaces a.places a.count 0 a.program.now.coroutines × (a.count ≡ length a.program.now.coroutines) };
 }
 
-impl<'p> Places<'p> {
+impl<'p> CoroutinePlaces<'p> {
     /// It answers `Memory` for a program with more than 4,294,967,295 coroutines, which no place could number.
-    pub fn new(alloc: Global, program: &'p Program) -> Result<Places<'p>, Memory>
+    pub fn new(alloc: Global, program: &'p Program) -> Result<CoroutinePlaces<'p>, Memory>
         ensures { IfOk result (λ places. places ≡ numbered_program program.now) }
     {
         let Ok(count) = u32::try_from(program.coroutines().len()) else {
             return Err(Memory);
         };
-        Ok(Places {
+        Ok(CoroutinePlaces {
             program,
             count,
             places: places_in(alloc, program.coroutines(), count)?,

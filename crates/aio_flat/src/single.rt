@@ -8,7 +8,7 @@ ghost use Rattle.aio_flat.specs.Built.{single_op};
 use crate::body::Op;
 use crate::exprs::{flat_expr, flat_exprs};
 use crate::numbers::Numbers;
-use crate::places::Places;
+use crate::places::CoroutinePlaces;
 use crate::target::{local_in, target_op};
 use aio_base::Memory;
 use aio_expr::Local;
@@ -19,7 +19,7 @@ use std::alloc::Global;
 #[tactic(auto, using(crate::proofs::Rows::numbered_list))]
 pub fn single_op(
     alloc: Global,
-    places: &Places,
+    places: &CoroutinePlaces,
     numbers: &Numbers,
     statement: &Statement,
 ) -> Result<Option<Op>, Memory>

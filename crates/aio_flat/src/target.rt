@@ -7,7 +7,7 @@ ghost use Rattle.aio_program.specs.Target.{plain_target, plain_name};
 use crate::body::Op;
 use crate::exprs::{flat_expr, flat_exprs};
 use crate::numbers::Numbers;
-use crate::places::Places;
+use crate::places::CoroutinePlaces;
 use aio_base::Memory;
 use aio_expr::Local;
 use aio_program::Target;
@@ -28,7 +28,7 @@ pub fn local_in(numbers: &Numbers, name: Option<&RcStr>) -> Option<Local>
 #[tactic(auto, using(crate::proofs::Rows::numbered_list))]
 pub fn target_op(
     alloc: Global,
-    places: &Places,
+    places: &CoroutinePlaces,
     numbers: &Numbers,
     into: Option<Local>,
     target: &Target,

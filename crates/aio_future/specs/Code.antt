@@ -8,17 +8,17 @@ use Rattle.model_value.specs.Value.{Outcome, Value, Exc}
 use Rattle.model_value.specs.declared.outcome.Outcome.TheVariants as outcome
 use Rattle.model_loop.specs.Parts.{FutureKind, Plain, OfTask, Many, Future}
 use Rattle.aio_base.specs.Code.{coded_value, coded_exc}
-use Rattle.aio_ready.specs.contracts.waiting.Waiting.{the_row}
+use Rattle.aio_ready.specs.contracts.callbacks.Callbacks.{the_row}
 
-abbrev pub Ending : Type 0
-Ending = Unit {0} ⊎ (Value ⊎ Exc)
+abbrev pub CodedOutcome : Type 0
+CodedOutcome = Unit {0} ⊎ (Value ⊎ Exc)
 
-abbrev pub ending_of : Outcome → Ending
+abbrev pub ending_of : Outcome → CodedOutcome
 ending_of outcome.Cancelled = inl tt
 ending_of (outcome.Value value) = inr (inl value)
 ending_of (outcome.Failed fault) = inr (inr fault)
 
-abbrev pub outcome_of : Ending → Outcome
+abbrev pub outcome_of : CodedOutcome → Outcome
 outcome_of (inl _) = outcome.Cancelled
 outcome_of (inr (inl value)) = outcome.Value value
 outcome_of (inr (inr fault)) = outcome.Failed fault
@@ -29,7 +29,7 @@ outcome-ending (outcome.Value value) = refl
 outcome-ending (outcome.Failed fault) = refl
 
 abbrev pub coded_outcome : Coded Outcome
-coded_outcome = code_by Ending (coded⊎ coded_unit (coded⊎ coded_value coded_exc)) ending_of outcome_of outcome-ending
+coded_outcome = code_by CodedOutcome (coded⊎ coded_unit (coded⊎ coded_value coded_exc)) ending_of outcome_of outcome-ending
 
 abbrev pub Members : Type 0
 Members = Unit {0} ⊎ (ℕ ⊎ (List ℕ × Bool))

@@ -1,10 +1,10 @@
 -- How a future's kind is seen.
 use Rattle.std.specs.Prelude.{Bool, false, Option, None, Some}
 use Rattle.model_loop.specs.Parts as plain
-use Rattle.aio_future.specs.declared.future.Kind.{Kind}
-use Rattle.aio_future.specs.declared.future.Kind.TheVariants as code
+use Rattle.aio_future.specs.declared.future.FutureKind.{FutureKind}
+use Rattle.aio_future.specs.declared.future.FutureKind.TheVariants as code
 
-abbrev pub kind_of : Kind → plain.FutureKind
+abbrev pub kind_of : FutureKind → plain.FutureKind
 kind_of code.Plain = plain.Plain
 kind_of (code.OfTask task) = plain.OfTask task
 kind_of (code.Many members asked) = plain.Many members.items asked

@@ -8,8 +8,8 @@ ghost use Rattle.aio_ready.specs.Queue.{soon_all};
 ghost use Rattle.aio_future.specs.Kinds.{kind_of, is_asked_kind};
 
 use aio_base::{Action, Outcome};
-use aio_ready::{Ready, Ticket, Waiting};
-use law_parts::Stands;
+use aio_ready::{Callbacks, Ready, Ticket};
+use law_parts::FutureState;
 use std::marker::Model;
 
 /// A future's number. It is given once.
@@ -17,7 +17,7 @@ pub type FutureId = u64;
 
 /// What a future stands for.
 #[derive(Drop)]
-pub enum Kind {
+pub enum FutureKind {
     Plain,
     /// A task's own future.
     OfTask(u32),
@@ -28,9 +28,9 @@ pub enum Kind {
 /// A future is pending while it has no outcome. Contracts see the plain future.
 #[derive(Drop)]
 pub struct Future {
-    kind: Kind,
+    kind: FutureKind,
     outcome: Option<Outcome>,
-    callbacks: Waiting,
+    callbacks: Callbacks,
 }
 
 impl Model for Future {
@@ -47,13 +47,13 @@ impl Model for Future {
 }
 
 impl Future {
-    pub fn new(kind: Kind) -> Future
+    pub fn new(kind: FutureKind) -> Future
         ensures { result ≡ record { kind = kind_of kind; outcome = None; callbacks = [] } }
     {
         Future {
             kind,
             outcome: None,
-            callbacks: Waiting::new(),
+            callbacks: Callbacks::new(),
         }
     }
 
@@ -62,9 +62,9 @@ impl Future {
         ensures { result ≡ released }
     {
         Future {
-            kind: Kind::Plain,
+            kind: FutureKind::Plain,
             outcome: Some(Outcome::Cancelled),
-            callbacks: Waiting::new(),
+            callbacks: Callbacks::new(),
         }
     }
 
@@ -98,7 +98,7 @@ impl Future {
     pub fn ask(&mut self)
         ensures { self.new ≡ record self.old { kind = asked_kind self.old.kind } }
     {
-        if let Kind::Many { members: _, asked } = &mut self.kind {
+        if let FutureKind::Many { members: _, asked } = &mut self.kind {
             *asked = true;
         }
     }
@@ -107,25 +107,25 @@ impl Future {
         ensures { result ≡ is_asked_kind self.now.kind }
     {
         match &self.kind {
-            Kind::Many { members: _, asked } => *asked,
-            Kind::Plain => false,
-            Kind::OfTask(_) => false,
+            FutureKind::Many { members: _, asked } => *asked,
+            FutureKind::Plain => false,
+            FutureKind::OfTask(_) => false,
         }
     }
 
-    pub fn stands(&self) -> Stands
+    pub fn stands(&self) -> FutureState
         ensures { result ≡ stands_of self.now.outcome self.now.kind }
     {
         if self.outcome.is_some() {
-            return Stands::Done;
+            return FutureState::Done;
         }
         match &self.kind {
-            Kind::Plain => Stands::Plain,
-            Kind::OfTask(task) => Stands::OfTask(*task),
-            Kind::Many {
+            FutureKind::Plain => FutureState::Plain,
+            FutureKind::OfTask(task) => FutureState::OfTask(*task),
+            FutureKind::Many {
                 members: _,
                 asked: _,
-            } => Stands::Many,
+            } => FutureState::Many,
         }
     }
 
@@ -135,9 +135,9 @@ impl Future {
         ensures room { IfSome result (λ _. place + 1 < 2 ^ 64) }
     {
         match &self.kind {
-            Kind::Many { members, asked: _ } => members.get(place).copied(),
-            Kind::Plain => None,
-            Kind::OfTask(_) => None,
+            FutureKind::Many { members, asked: _ } => members.get(place).copied(),
+            FutureKind::Plain => None,
+            FutureKind::OfTask(_) => None,
         }
     }
 }

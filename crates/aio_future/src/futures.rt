@@ -10,11 +10,11 @@ ghost use Rattle.aio_ready.specs.Queue as queue;
 ghost use Rattle.aio_future.specs.Kinds.{kind_of, is_asked};
 ghost use Rattle.aio_future.specs.Settled.{settled, called, registered, soon_if_done, asked};
 
-use crate::future::{Future, FutureId, Kind};
+use crate::future::{Future, FutureId, FutureKind};
 use aio_base::{Action, Memory, Outcome};
 use aio_ready::{Ready, Ticket};
 use indexmap::IndexMap;
-use law_parts::Stands;
+use law_parts::FutureState;
 use std::alloc::Global;
 use std::marker::Model;
 
@@ -67,7 +67,7 @@ impl Futures {
             self.old ++ record { kind = plain.Plain; outcome = None; callbacks = [] } ∷ []) }
         ensures err { OnErr result (self.new ≡ self.old) }
     {
-        self.make(alloc, Kind::Plain)
+        self.make(alloc, FutureKind::Plain)
     }
 
     /// A pending future that stands for several, its members, and its number.
@@ -78,11 +78,11 @@ impl Futures {
         ensures err { OnErr result (self.new ≡ self.old) }
     {
         let asked = false;
-        self.make(alloc, Kind::Many { members, asked })
+        self.make(alloc, FutureKind::Many { members, asked })
     }
 
     /// A pending future, and its number.
-    pub fn make(&mut self, _alloc: Global, kind: Kind) -> Result<FutureId, Memory>
+    pub fn make(&mut self, _alloc: Global, kind: FutureKind) -> Result<FutureId, Memory>
         ensures number { IfOk result (λ id. id ≡ length self.old) }
         ensures after { OnOk result (self.new ≡
             self.old ++ record { kind = kind_of kind; outcome = None; callbacks = [] } ∷ []) }
@@ -177,12 +177,12 @@ impl Futures {
     }
 
     /// How a future stands for whoever walks over futures.
-    pub fn stands(&self, id: FutureId) -> Stands
+    pub fn stands(&self, id: FutureId) -> FutureState
         ensures { result ≡ stands_at (slice_get self.now id) }
     {
         match self.at(id) {
             Some(future) => future.stands(),
-            None => Stands::Done,
+            None => FutureState::Done,
         }
     }
 

@@ -4,5 +4,5 @@
 mod future;
 mod futures;
 
-pub use future::{Future, FutureId, Kind};
+pub use future::{Future, FutureId, FutureKind};
 pub use futures::Futures;

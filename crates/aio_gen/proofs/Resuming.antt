@@ -9,7 +9,7 @@ use Rattle.model_says.specs.Endings as endings
 use Rattle.model_says.specs.Says.{says, step_limit}
 use Rattle.law_locals.specs.Numbered.{numbered_program}
 use Rattle.law_locals.proofs.Bodies.{says-same}
-use Rattle.law_flat.specs.Ops.{Body}
+use Rattle.law_flat.specs.Ops.{CoroutineCode}
 use Rattle.law_flat.specs.Rests.{Way}
 use Rattle.law_flat.specs.declared.answer_use.AnswerUse.TheVariants.{Ignored}
 use Rattle.law_flat.specs.Moves as plain
@@ -20,7 +20,7 @@ use Rattle.law_flat.proofs.Tapes.{input-moves, waits-says, unbegun-waits}
 use Rattle.aio_gen.specs.declared.frames.Frame.{Frame}
 use Rattle.aio_gen.specs.Plain.{plain_frame}
 
-module _ (program : Program) (codes : ℕ → Body) (coroutine : ℕ) (arguments : List Value) (tape : Tape) where
+module _ (program : Program) (codes : ℕ → CoroutineCode) (coroutine : ℕ) (arguments : List Value) (tape : Tape) where
   -- after an input, on this way, with these frames
   pub goes-on : (entry : Resumed) (request : Request) (waiting : Waiting) (way : Way) (frames : Frames) →
       WaitsFor step_limit program codes coroutine arguments tape request waiting → way ≡ way_of entry.input →
@@ -32,7 +32,7 @@ module _ (program : Program) (codes : ℕ → Body) (coroutine : ℕ) (arguments
       (input-moves step_limit program codes coroutine arguments tape request waiting entry waits))
 
 -- what the program says is what it says over numbers
-module _ (program : Program) (codes : ℕ → Body) (coroutine : ℕ) (arguments : List Value) (tape : Tape) where
+module _ (program : Program) (codes : ℕ → CoroutineCode) (coroutine : ℕ) (arguments : List Value) (tape : Tape) where
   abbrev numbered : Program
   numbered = numbered_program program
 
@@ -51,7 +51,7 @@ module _ (program : Program) (codes : ℕ → Body) (coroutine : ℕ) (arguments
       ∙ waits-says step_limit numbered codes coroutine arguments tape request waiting waits
 
 -- before any input
-pub starts : (program : Program) (codes : ℕ → Body) (coroutine : ℕ) (arguments : List Value) → AllLaidOut program codes →
+pub starts : (program : Program) (codes : ℕ → CoroutineCode) (coroutine : ℕ) (arguments : List Value) → AllLaidOut program codes →
     (frame : plain.Frame) (callers : List Frame) → frame ≡ plain.new_frame codes None coroutine arguments → callers ≡ [] →
     WaitsFor step_limit program codes coroutine arguments [] request.Pause
     (record {

@@ -13,7 +13,7 @@ use crate::calls::new_frame;
 use crate::frames::Frames;
 use crate::inputs::STEP_LIMIT;
 use crate::run::run;
-use crate::types::{AnswerUse, Stop};
+use crate::types::{AnswerUse, LastMove};
 use aio_base::{Exc, Input, Memory, Request, Value};
 use aio_flat::Code;
 use std::alloc::Global;
@@ -127,12 +127,12 @@ fn resumed(
     frames.renew(fresh);
     let way = frames.take_input(input, use_of)?;
     match run(alloc, code, way, &mut frames)? {
-        Stop::Asks(request, use_of) => {
+        LastMove::Asks(request, use_of) => {
             let next = Some(Waiting { frames, use_of });
             Ok((GenOut::Asks(request), next))
         }
-        Stop::Returns(value) => Ok((GenOut::Returns(value), None)),
-        Stop::Raises(fault) => Ok((GenOut::Raises(fault), None)),
-        Stop::Runaway => Ok((GenOut::Runaway, None)),
+        LastMove::Returns(value) => Ok((GenOut::Returns(value), None)),
+        LastMove::Raises(fault) => Ok((GenOut::Raises(fault), None)),
+        LastMove::Runaway => Ok((GenOut::Runaway, None)),
     }
 }

@@ -11,7 +11,7 @@ ghost use Rattle.aio_gen.specs.Plain.{plain_frames, plain_move, plain_stop};
 
 use crate::calls::body_at;
 use crate::frames::Frames;
-use crate::types::{Move, Stop, Way};
+use crate::types::{LastMove, Move, Way};
 use aio_base::Memory;
 use aio_flat::{Code, FlatBody, Name};
 use std::alloc::Global;
@@ -41,7 +41,7 @@ fn nothing(alloc: Global) -> Result<FlatBody, Memory>
 }
 
 /// Runs until something is asked or said: what the coroutine does after each tape that the frames stand for.
-pub fn run(alloc: Global, code: &Code, entry: Way, frames: &mut Frames) -> Result<Stop, Memory>
+pub fn run(alloc: Global, code: &Code, entry: Way, frames: &mut Frames) -> Result<LastMove, Memory>
     ensures { IfOk result (λ stop.
         (limit : ℕ) (program : Program) (coroutine : ℕ) (arguments : List PlainValue) (tape : Tape) →
         AllLaidOut program (codes_of code.now) →
@@ -52,10 +52,10 @@ pub fn run(alloc: Global, code: &Code, entry: Way, frames: &mut Frames) -> Resul
     loop {
         match step_in(alloc, code, way, frames)? {
             Move::Goes(next) => way = next,
-            Move::Asks(request, use_of) => return Ok(Stop::Asks(request, use_of)),
-            Move::Returns(value) => return Ok(Stop::Returns(value)),
-            Move::Raises(fault) => return Ok(Stop::Raises(fault)),
-            Move::Runaway => return Ok(Stop::Runaway),
+            Move::Asks(request, use_of) => return Ok(LastMove::Asks(request, use_of)),
+            Move::Returns(value) => return Ok(LastMove::Returns(value)),
+            Move::Raises(fault) => return Ok(LastMove::Raises(fault)),
+            Move::Runaway => return Ok(LastMove::Runaway),
         }
     }
 }

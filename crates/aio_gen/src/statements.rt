@@ -1,7 +1,7 @@
 //! Statements that were counted, and the exit of a `with`.
 ghost use Rattle.std.specs.Prelude.{◌≡◌, ◌+◌, ◌<◌, ◌^◌, ℕ, IfOk};
 ghost use Rattle.law_flat.specs.declared.op.Op.TheVariants as flat;
-ghost use Rattle.law_flat.specs.Ops.{Body};
+ghost use Rattle.law_flat.specs.Ops.{CoroutineCode};
 ghost use Rattle.law_flat.specs.Moves.{by_test, raise_value, ask_exit, after_statement};
 ghost use Rattle.law_flat.specs.Rests.{fault_of};
 ghost use Rattle.model_says.specs.Operations.{bad_operand};
@@ -17,7 +17,7 @@ use std::alloc::Global;
 impl Frames {
     pub fn assign(&mut self, alloc: Global, name: &Local, value: &FlatExpr) -> Result<Move, Memory>
         requires { self.old.frame.place + 1 < 2 ^ 64 }
-        ensures { IfOk result (λ moving. (codes : ℕ → Body) →
+        ensures { IfOk result (λ moving. (codes : ℕ → CoroutineCode) →
             plain_move moving self.new ≡ after_statement codes (flat.Assign name.now value.now) (plain_frames self.old)) }
     {
         match value_of(alloc, value, &self.frame.env)? {
@@ -32,7 +32,7 @@ impl Frames {
 
     pub fn print(&mut self, alloc: Global, items: &FlatExprList) -> Result<Move, Memory>
         requires { self.old.frame.place + 1 < 2 ^ 64 }
-        ensures { IfOk result (λ moving. (codes : ℕ → Body) →
+        ensures { IfOk result (λ moving. (codes : ℕ → CoroutineCode) →
             plain_move moving self.new ≡ after_statement codes (flat.Print items.now) (plain_frames self.old)) }
     {
         match values_of(alloc, items.items(), &self.frame.env)? {
@@ -45,7 +45,7 @@ impl Frames {
     }
 
     pub fn raise(&mut self, alloc: Global, fault: &FlatExpr) -> Result<Move, Memory>
-        ensures { IfOk result (λ moving. (codes : ℕ → Body) →
+        ensures { IfOk result (λ moving. (codes : ℕ → CoroutineCode) →
             plain_move moving self.new ≡ after_statement codes (flat.Raise fault.now) (plain_frames self.old)) }
     {
         match value_of(alloc, fault, &self.frame.env)? {
@@ -65,7 +65,7 @@ impl Frames {
     }
 
     pub fn return_value(&mut self, alloc: Global, value: &Option<FlatExpr>) -> Result<Move, Memory>
-        ensures { IfOk result (λ moving. (codes : ℕ → Body) →
+        ensures { IfOk result (λ moving. (codes : ℕ → CoroutineCode) →
             plain_move moving self.new ≡ after_statement codes (flat.Return value.now) (plain_frames self.old)) }
     {
         match value {
@@ -79,7 +79,7 @@ impl Frames {
 
     pub fn test(&mut self, alloc: Global, test: &FlatExpr, otherwise: usize) -> Result<Move, Memory>
         requires { self.old.frame.place + 1 < 2 ^ 64 }
-        ensures { IfOk result (λ moving. (codes : ℕ → Body) →
+        ensures { IfOk result (λ moving. (codes : ℕ → CoroutineCode) →
             plain_move moving self.new ≡ after_statement codes (flat.Test test.now otherwise) (plain_frames self.old)) }
     {
         match value_of(alloc, test, &self.frame.env)? {
@@ -90,7 +90,7 @@ impl Frames {
 
     pub fn repeat(&mut self, alloc: Global, test: &FlatExpr, body: usize) -> Result<Move, Memory>
         requires { self.old.frame.place + 1 < 2 ^ 64 }
-        ensures { IfOk result (λ moving. (codes : ℕ → Body) →
+        ensures { IfOk result (λ moving. (codes : ℕ → CoroutineCode) →
             plain_move moving self.new ≡ after_statement codes (flat.Repeat test.now body) (plain_frames self.old)) }
     {
         match value_of(alloc, test, &self.frame.env)? {
@@ -124,7 +124,7 @@ impl Frames {
 
     pub fn guard(&mut self, number: usize) -> Result<Move, Memory>
         requires { self.old.frame.place + 1 < 2 ^ 64 }
-        ensures { IfOk result (λ moving. (codes : ℕ → Body) →
+        ensures { IfOk result (λ moving. (codes : ℕ → CoroutineCode) →
             plain_move moving self.new ≡ after_statement codes (flat.Guard number) (plain_frames self.old)) }
     {
         self.frame.handlers.push(OpenHandler::InTry(number))?;
@@ -134,7 +134,7 @@ impl Frames {
 
     pub fn enter_group(&mut self, name: &Local, range: usize) -> Result<Move, Memory>
         requires { self.old.frame.place + 1 < 2 ^ 64 }
-        ensures { IfOk result (λ moving. (codes : ℕ → Body) →
+        ensures { IfOk result (λ moving. (codes : ℕ → CoroutineCode) →
             plain_move moving self.new ≡ after_statement codes (flat.EnterGroup name.now range) (plain_frames self.old)) }
     {
         let name = *name;
@@ -150,7 +150,7 @@ impl Frames {
         range: usize,
     ) -> Result<Move, Memory>
         requires { self.old.frame.place + 1 < 2 ^ 64 }
-        ensures { IfOk result (λ moving. (codes : ℕ → Body) → plain_move moving self.new
+        ensures { IfOk result (λ moving. (codes : ℕ → CoroutineCode) → plain_move moving self.new
             ≡ after_statement codes (flat.EnterTimeout delay.now name.now range) (plain_frames self.old)) }
     {
         match value_of(alloc, delay, &self.frame.env)? {

@@ -1,7 +1,7 @@
 //! `yield from`, but for calls.
 ghost use Rattle.std.specs.Prelude.{◌≡◌, ◌+◌, ◌<◌, ◌^◌, ℕ, IfOk};
 ghost use Rattle.law_flat.specs.declared.op.Op.TheVariants as flat;
-ghost use Rattle.law_flat.specs.Ops.{Body};
+ghost use Rattle.law_flat.specs.Ops.{CoroutineCode};
 ghost use Rattle.law_flat.specs.Moves.{ask_into, after_statement};
 ghost use Rattle.aio_gen.specs.Plain.{plain_frames, plain_move};
 
@@ -27,7 +27,7 @@ impl Frames {
 
     pub fn pause(&mut self) -> Move
         requires { self.old.frame.place + 1 < 2 ^ 64 }
-        ensures { (codes : ℕ → Body) → plain_move result self.new ≡ after_statement codes flat.Pause (plain_frames self.old) }
+        ensures { (codes : ℕ → CoroutineCode) → plain_move result self.new ≡ after_statement codes flat.Pause (plain_frames self.old) }
     {
         self.frame.place += 1;
         Move::Asks(Request::Pause, AnswerUse::Ignored)
@@ -36,7 +36,7 @@ impl Frames {
     /// What a variable holds is awaited.
     pub fn await_name(&mut self, into: &Option<Local>, name: &Local) -> Result<Move, Memory>
         requires { self.old.frame.place + 1 < 2 ^ 64 }
-        ensures { IfOk result (λ moving. (codes : ℕ → Body) →
+        ensures { IfOk result (λ moving. (codes : ℕ → CoroutineCode) →
             plain_move moving self.new ≡ after_statement codes (flat.Await into.now name.now) (plain_frames self.old)) }
     {
         let awaited = self.frame.env.held(*name)?;
@@ -51,7 +51,7 @@ impl Frames {
         arguments: &FlatExprList,
     ) -> Result<Move, Memory>
         requires { self.old.frame.place + 1 < 2 ^ 64 }
-        ensures { IfOk result (λ moving. (codes : ℕ → Body) → plain_move moving self.new
+        ensures { IfOk result (λ moving. (codes : ℕ → CoroutineCode) → plain_move moving self.new
             ≡ after_statement codes (flat.Ask into.now request arguments.now) (plain_frames self.old)) }
     {
         match values_of(alloc, arguments.items(), &self.frame.env)? {
@@ -71,7 +71,7 @@ impl Frames {
         arguments: &FlatExprList,
     ) -> Result<Move, Memory>
         requires { self.old.frame.place + 1 < 2 ^ 64 }
-        ensures { IfOk result (λ moving. (codes : ℕ → Body) → plain_move moving self.new
+        ensures { IfOk result (λ moving. (codes : ℕ → CoroutineCode) → plain_move moving self.new
             ≡ after_statement codes (flat.Spawn into.now coroutine arguments.now) (plain_frames self.old)) }
     {
         match values_of(alloc, arguments.items(), &self.frame.env)? {
@@ -95,7 +95,7 @@ impl Frames {
         arguments: &FlatExprList,
     ) -> Result<Move, Memory>
         requires { self.old.frame.place + 1 < 2 ^ 64 }
-        ensures { IfOk result (λ moving. (codes : ℕ → Body) → plain_move moving self.new
+        ensures { IfOk result (λ moving. (codes : ℕ → CoroutineCode) → plain_move moving self.new
             ≡ after_statement codes (flat.Create into.now group.now coroutine arguments.now) (plain_frames self.old)) }
     {
         match value_of(alloc, group, &self.frame.env)? {
@@ -122,7 +122,7 @@ impl Frames {
         coroutine: u32,
     ) -> Result<Move, Memory>
         requires { self.old.frame.place + 1 < 2 ^ 64 }
-        ensures { IfOk result (λ moving. (codes : ℕ → Body) → plain_move moving self.new
+        ensures { IfOk result (λ moving. (codes : ℕ → CoroutineCode) → plain_move moving self.new
             ≡ after_statement codes (flat.Listen into.now port.now coroutine) (plain_frames self.old)) }
     {
         match value_of(alloc, port, &self.frame.env)? {

@@ -23,7 +23,7 @@ pub enum Move {
 
 /// What moves come to in the end.
 #[derive(Drop)]
-pub enum Stop {
+pub enum LastMove {
     Asks(Request, AnswerUse),
     Returns(Value),
     Raises(Exc),

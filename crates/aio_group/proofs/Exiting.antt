@@ -13,8 +13,8 @@ use Rattle.model_loop.specs.Parts.{Plain, Future, Task, Parts}
 use Rattle.law_cancel.proofs.Lookups.{get-set_same, get-push_last}
 use Rattle.aio_task.specs.View.{View, parts}
 use Rattle.aio_task.specs.Keeps.{Ties, Keeps, Extends}
-use Rattle.aio_group.specs.declared.exit.Next.{Next}
-use Rattle.aio_group.specs.declared.exit.Next.TheVariants as next
+use Rattle.aio_group.specs.declared.exit.ExitStep.{ExitStep}
+use Rattle.aio_group.specs.declared.exit.ExitStep.TheVariants as next
 use Rattle.aio_group.specs.Answers.{answer_of, ended_with, exit_of, fault_of, gone_on, raised_or_passed}
 use Rattle.aio_group.specs.Exits.{WaitsMade, IsNext, Exits}
 use Rattle.aio_group.specs.GoesOn.{GoesOn, Moves}
@@ -153,7 +153,7 @@ waits_seen t v p k made task on e =
 
 -- ---- the whole
 -- what a step of the exit leaves of a group, but for its flags and what it keeps
-pub record Left (a b : Held) (failure : Option Exc) : Type 0 where
+pub record LeftByExit (a b : Held) (failure : Option Exc) : Type 0 where
   pub children : b.children ≡ a.children
   pub failed : b.failed ≡ a.failed
   pub body : b.body ≡ failure
@@ -162,7 +162,7 @@ pub record Left (a b : Held) (failure : Option Exc) : Type 0 where
   pub exit_future : b.exit_future ≡ None
 
 module _ (a b : Held) (body : Option Exc) (v w x : View) (step : ℕ → Loop → Loop) (whole : ℕ → Loop → Exited)
-    (is_whole : (id : ℕ) (l : Loop) → whole id l ≡ wait_or_end id (step id l)) (left : Left a b body) (going : a.ended ≡ false) where
+    (is_whole : (id : ℕ) (l : Loop) → whole id l ≡ wait_or_end id (step id l)) (left : LeftByExit a b body) (going : a.ended ≡ false) where
   waiting : (t : Ties) (p : Parts) (group : Group) (future number : ℕ) → future ≡ number → KeepsGroup t p b group
       → KeepsGroup t p (record b { exit_future = Some future }) (record group { exit_future = Some number })
   waiting t p group future number at is = record {
@@ -277,7 +277,7 @@ module _ (a b : Held) (body : Option Exc) (v w x : View) (step : ℕ → Loop �
     (passes : (id : ℕ) (l : Loop) → WaitsMade l.parts → Each (IsMade l.parts) (group_of l id).children
     → slice_get l.groups id ≡ Some (group_of l id) → Passes (step id) l)
     (steps : Steps a w b x step) where
-  exits_by : (n : Next) → IsNext a body v n w → Left a b body → a.ended ≡ false
+  exits_by : (n : ExitStep) → IsNext a body v n w → LeftByExit a b body → a.ended ≡ false
       → Exits a v (gone_on n b) x whole (answer_of n b)
   exits_by (next.Waits future) is left going =
       exit_goes_on_waiting a b body v w x step whole is_whole left going future is.0 is.1.0 is.1.1.0 is.1.1.1 passes steps
@@ -286,8 +286,8 @@ module _ (a b : Held) (body : Option Exc) (v w x : View) (step : ℕ → Loop �
       (subst (λ y. Steps a y b x step) is.1.1 steps)
 
   -- what is left of the group is told by how the machine's stands
-  pub exits_on : (n : Next) → IsNext a body v n w
-      → ((t : Ties) (p : Parts) (group : Group) → KeepsGroup t p a group → Left a b body × (a.ended ≡ false))
+  pub exits_on : (n : ExitStep) → IsNext a body v n w
+      → ((t : Ties) (p : Parts) (group : Group) → KeepsGroup t p a group → LeftByExit a b body × (a.ended ≡ false))
       → Exits a v (gone_on n b) x whole (answer_of n b)
   exits_on n is left t groups id l e s =
       let h = left t l.parts (group_of l id) (there t groups v l id a e s).is in
@@ -299,7 +299,7 @@ module _ (a b : Held) (body : Option Exc) (v w x : View) (is : Belongs v a) (mov
   still : Belongs x b
   still = belongs_as x a b children exit (belongs_on w x more a (belongs_on v w moves a is))
 
-  pub exit_belongs : (n : Next) → IsNext a body v n w → Belongs x (gone_on n b)
+  pub exit_belongs : (n : ExitStep) → IsNext a body v n w → Belongs x (gone_on n b)
   exit_belongs (next.Ends fault) next = record { children = still.children; exit = still.exit }
   exit_belongs (next.Waits future) next = record {
     children = still.children;

@@ -21,7 +21,7 @@ use Rattle.law_cancel.proofs.Trace.{goes-tasks}
 use Rattle.law_settling.proofs.Looks.{future_of-same, change_looks_same}
 use Rattle.law_settling.proofs.Settling.{IsSettled, settle_cases}
 use Rattle.law_settling.proofs.Spreading.{as_row, with_spread}
-use Rattle.law_told.proofs.Holding.{Names, settled_names, looks_names, cancels_names}
+use Rattle.law_told.proofs.Holding.{KeepsOwners, settled_names, looks_names, cancels_names}
 use Rattle.aio_task.specs.View.{View, parts}
 use Rattle.aio_group.specs.GoesOn.{GoesOn, Moves}
 
@@ -54,7 +54,7 @@ done_at None outcome e = refl
 done_at (Some future) outcome e = rw e refl
 
 -- where the same is made and what is done stays
-pub named_on : (p q : Parts) → Names p q → length q.tasks ≡ length p.tasks
+pub named_on : (p q : Parts) → KeepsOwners p q → length q.tasks ≡ length p.tasks
     → ((id : ℕ) → is_pending p id ≡ false → future_outcome q id ≡ future_outcome p id) → GoesOn p q
 named_on p q names tasks stay =
     let made = names.made in

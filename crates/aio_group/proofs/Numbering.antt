@@ -13,7 +13,7 @@ use Rattle.aio_task.specs.Keeps.{Ties, Keeps, Kept}
 use Rattle.aio_group.specs.declared.created.Created.TheVariants as created
 use Rattle.aio_group.specs.Answers.{created_of}
 use Rattle.aio_group.specs.Held.{Held, new_held, shown}
-use Rattle.aio_group.specs.Stands.{IsLive, KeepsGroup, KeepsAt, StandsFor, Stands, Came}
+use Rattle.aio_group.specs.Stands.{IsLive, KeepsGroup, KeepsAt, StandForGroups, Stands, Came}
 use Rattle.aio_group.proofs.Going.{with_child_on, register_on}
 use Rattle.aio_group.proofs.Laws.{tasks_made}
 use Rattle.aio_group.proofs.Listing.{set_past, all_push}
@@ -69,7 +69,7 @@ pub enter_none : (t : Ties) (groups : List Held) (v : View) (l : Loop) (id : ℕ
 enter_none t groups v l id e s =
     let same : slice_set l.groups id (record (group_of l id) { entered = true }) ≡ l.groups =
     set_past l.groups id (record (group_of l id) { entered = true }) (none_there t groups v l id e s) in
-    subst (λ gs. StandsFor t groups v l.parts gs) (sym same) s
+    subst (λ gs. StandForGroups t groups v l.parts gs) (sym same) s
 
 -- ---- a task more
 -- the causes are told by what is held

@@ -14,7 +14,7 @@ use Rattle.aio_task.specs.View.{View}
 use Rattle.aio_task.specs.Keeps.{Ties, Keeps, Kept, Extends}
 use Rattle.aio_group.specs.GoesOn.{GoesOn}
 use Rattle.aio_group.specs.Held.{Held}
-use Rattle.aio_group.specs.Stands.{IsLive, KeepsGroup, KeepsAt, StandsFor, Stands, Came, Steps}
+use Rattle.aio_group.specs.Stands.{IsLive, KeepsGroup, KeepsAt, StandForGroups, Stands, Came, Steps}
 use Rattle.aio_group.proofs.Going.{same_on, then_on}
 use Rattle.aio_group.proofs.Listing.{set-set, set-same, index_at, all_to}
 
@@ -180,8 +180,8 @@ pub came_as : (t : Ties) (groups : List Held) (w : View) (l m n : Loop) → m.pa
     → Came t l groups w m → Came t l groups w n
 came_as t groups w l m n p g c = record {
   ties = c.ties;
-  stands = subst (λ q. StandsFor c.ties groups w q n.groups) p
-      (subst (λ gs. StandsFor c.ties groups w m.parts gs) g c.stands);
+  stands = subst (λ q. StandForGroups c.ties groups w q n.groups) p
+      (subst (λ gs. StandForGroups c.ties groups w m.parts gs) g c.stands);
   extends = subst (λ q. Extends l.parts t q c.ties) p c.extends;
   goes_on = subst (λ q. GoesOn l.parts q) p c.goes_on;
 }

@@ -18,7 +18,7 @@ use Rattle.model_loop.specs.Tasks.{cancelling, future_of, is_cancelled, lives, u
 use Rattle.aio_ready.specs.Queue.{soon_all}
 use Rattle.aio_future.specs.Settled as settled
 use Rattle.aio_future.specs.Settled.{called}
-use Rattle.aio_cancel.specs.Body.{Appended}
+use Rattle.aio_cancel.specs.Awaitables.{Appended}
 use Rattle.aio_task.specs.View.{View, parts}
 use Rattle.aio_task.specs.Keeps.{Ties, Keeps, Kept, Becomes}
 use Rattle.aio_group.specs.Exits.{heard}

@@ -10,7 +10,7 @@ use Rattle.model_value.specs.declared.input.Input.TheVariants.{Send, Throw}
 use Rattle.model_value.specs.declared.outcome.Outcome.TheVariants.{Cancelled}
 use Rattle.model_value.specs.Input.{Input}
 use Rattle.model_value.specs.Value.{Outcome, Exc}
-use Rattle.model_loop.specs.Cancel.{Request, Canceller, answers, has_seen, cancel_each, asked_where, marked_unless, cancel_waiter, cancel_unseen, cancel_task, cancel_kind, cancel_until, cancel_at, cancel_by, cancel_below, cancel_within, cancel}
+use Rattle.model_loop.specs.Cancel.{CancelRequest, Canceller, answers, has_seen, cancel_each, asked_where, marked_unless, cancel_waiter, cancel_unseen, cancel_task, cancel_kind, cancel_until, cancel_at, cancel_by, cancel_below, cancel_within, cancel}
 use Rattle.model_loop.specs.Futures.{is_pending_at, is_pending, made_before, mark_asked, new_plain, next_future, settle, settled, settled_as, with_future}
 use Rattle.model_loop.specs.Groups.{group_of, set_group, only_cancelled, abort, abort_where, take_back, take_back_where, begin_exit, abort_if_raised, keep_and_abort_unless}
 use Rattle.model_loop.specs.Handles.{soon, soon_all}
@@ -120,7 +120,7 @@ waits_left p q l made task on e =
     omega (arith, m, n)
 
 -- ---- a request
-abbrev grown : Request → Request
+abbrev grown : CancelRequest → CancelRequest
 grown r = record r { parts = new_plain r.parts }
 
 abbrev Commutes : Canceller → Type 0
@@ -147,18 +147,18 @@ members_below id bound (x ∷ members) m = go (cases_lt x id) (members_below id 
 
 module _ (F V : Canceller) (frow : IsRow F) (fc : Commutes F) (vc : Commutes V) (id : ℕ) (s : List ℕ) (p : Parts) (made : WaitsMade p)
     (m : id < next_future p) where
-  asked : (b : Bool) (r : Request) → id < next_future r.parts → asked_where b id (grown r) ≡ grown (asked_where b id r)
+  asked : (b : Bool) (r : CancelRequest) → id < next_future r.parts → asked_where b id (grown r) ≡ grown (asked_where b id r)
   asked true r n = ap (λ q. record r { parts = q }) (ask-new id r.parts n)
   asked false r n = refl
 
-  marked : (b : Bool) (t : ℕ) (r : Request) → marked_unless b t (grown r) ≡ grown (marked_unless b t r)
+  marked : (b : Bool) (t : ℕ) (r : CancelRequest) → marked_unless b t (grown r) ≡ grown (marked_unless b t r)
   marked true t r = refl
   marked false t r = ap (λ q. record r { parts = q; answer = true }) (change-new t _ r.parts)
 
   waits : (t : ℕ) (w : Option ℕ) (u : List ℕ) (q : Parts) → WaitsMade q → ((on : ℕ) → w ≡ Some on → on < next_future q)
       → cancel_waiter V t w u (new_plain q) ≡ grown (cancel_waiter V t w u q)
   waits t None u q d b = ap (answers true u) (change-new t _ q)
-  waits t (Some w) u q d b = ap (λ (r : Request). marked_unless r.answer t r) (vc w u q d (b w refl)) ∙ marked (V w u q).answer t (V w u q)
+  waits t (Some w) u q d b = ap (λ (r : CancelRequest). marked_unless r.answer t r) (vc w u q d (b w refl)) ∙ marked (V w u q).answer t (V w u q)
 
   unseen : (t : ℕ) (o : Option Task) → slice_get p.tasks t ≡ o → cancel_unseen V t o s (new_plain p) ≡ grown (cancel_unseen V t o s p)
   unseen t None e = refl
@@ -183,7 +183,7 @@ module _ (F V : Canceller) (frow : IsRow F) (fc : Commutes F) (vc : Commutes V) 
       let r = cancel_each F ids s p in
       let l = goes_leaves (each_row F frow ids s p) in
       let n = l.made in
-      ap (λ (x : Request). asked_where x.answer id x) (each_commutes F frow fc ids s p made (members_below id (next_future p) members m))
+      ap (λ (x : CancelRequest). asked_where x.answer id x) (each_commutes F frow fc ids s p made (members_below id (next_future p) members m))
       ∙ asked r.answer r (omega (arith, m, n))
 
   until : (o : Option Outcome) (k : FutureKind) → cancel_until F V o k id s (new_plain p) ≡ grown (cancel_until F V o k id s p)
@@ -226,7 +226,7 @@ request_where-new : (b : Bool) (by : Origin) (id : ℕ) (p : Parts) → WaitsMad
     → request_where b by id (new_plain p) ≡ booked_new (request_where b by id p)
 request_where-new true by id p made m = ap booked (cancel-new id p made m)
   where
-    booked : Request → Booked
+    booked : CancelRequest → Booked
     booked asked = record {
       parts = asked.parts;
       entries = Asked by ∷ map (λ task. Raised task by) (raised_among p asked.seen);

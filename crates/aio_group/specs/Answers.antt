@@ -7,8 +7,8 @@ use Rattle.aio_group.specs.declared.created.Created.{Created}
 use Rattle.aio_group.specs.declared.created.Created.TheVariants as created
 use Rattle.aio_group.specs.declared.exit.GroupExit.{GroupExit}
 use Rattle.aio_group.specs.declared.exit.GroupExit.TheVariants as exit
-use Rattle.aio_group.specs.declared.exit.Next.{Next}
-use Rattle.aio_group.specs.declared.exit.Next.TheVariants as next
+use Rattle.aio_group.specs.declared.exit.ExitStep.{ExitStep}
+use Rattle.aio_group.specs.declared.exit.ExitStep.TheVariants as next
 use Rattle.aio_group.specs.Held.{Held}
 
 -- where nothing refuses it, this task is made
@@ -45,11 +45,11 @@ ended_with (Some cancelled) [] fault = exit.Raises cancelled
 ended_with kept failed fault = raised_or_passed fault
 
 -- the answer of an exit that goes on so
-abbrev pub answer_of : Next → Held → GroupExit
+abbrev pub answer_of : ExitStep → Held → GroupExit
 answer_of (next.Waits future) held = exit.Waits future
 answer_of (next.Ends fault) held = ended_with held.kept held.failed fault
 
 -- and the group then: an exit that has ended keeps no exceptions
-abbrev pub gone_on : Next → Held → Held
+abbrev pub gone_on : ExitStep → Held → Held
 gone_on (next.Waits future) held = record held { exit_future = Some future }
 gone_on (next.Ends fault) held = record held { ended = true; body = None; kept = None }

@@ -12,16 +12,16 @@ Flags = Bool × (Bool × (Bool × (Bool × Bool)))
 abbrev pub coded_flags : Coded Flags
 coded_flags = coded× coded_bool (coded× coded_bool (coded× coded_bool (coded× coded_bool coded_bool)))
 
-abbrev pub Rest : Type 0
-Rest = List ℕ × (List ℕ × (Option Exc × (Option Exc × Option ℕ)))
+abbrev pub CodedFields : Type 0
+CodedFields = List ℕ × (List ℕ × (Option Exc × (Option Exc × Option ℕ)))
 
-abbrev pub coded_rest : Coded Rest
+abbrev pub coded_rest : Coded CodedFields
 coded_rest =
     coded× (coded_list coded_ℕ) (coded× (coded_list coded_ℕ) (coded× (coded_option coded_exc) (coded× (coded_option coded_exc) (coded_option coded_ℕ))))
 
 abbrev pub coded_held : Coded Held
 coded_held =
-    code_by (ℕ × (Flags × Rest)) (coded× coded_ℕ (coded× coded_flags coded_rest))
+    code_by (ℕ × (Flags × CodedFields)) (coded× coded_ℕ (coded× coded_flags coded_rest))
     (λ h. (
       h.parent,
       (

@@ -11,8 +11,8 @@ use Rattle.model_loop.specs.Tasks.{waiter_of}
 use Rattle.aio_task.specs.View.{View, parts}
 use Rattle.aio_task.specs.Keeps.{Ties}
 use Rattle.aio_group.specs.declared.exit.GroupExit.{GroupExit}
-use Rattle.aio_group.specs.declared.exit.Next.{Next}
-use Rattle.aio_group.specs.declared.exit.Next.TheVariants as next
+use Rattle.aio_group.specs.declared.exit.ExitStep.{ExitStep}
+use Rattle.aio_group.specs.declared.exit.ExitStep.TheVariants as next
 use Rattle.aio_group.specs.Answers.{fault_of, exit_of}
 use Rattle.aio_group.specs.Held.{Held, listed}
 use Rattle.aio_group.specs.Stands.{Stands, Came}
@@ -31,7 +31,7 @@ WaitsMade p = (task on : ℕ) → waiter_of p task ≡ Some on → on < next_fut
 
 -- How the exit of a group goes on whose body ended with this failure, if with one. Where children are left a future was
 -- made.
-abbrev pub IsNext : Held → Option Exc → View → Next → View → Type 0
+abbrev pub IsNext : Held → Option Exc → View → ExitStep → View → Type 0
 IsNext held body v (next.Waits future) w =
     (is_empty held.children ≡ false)
     × ((future ≡ length v.futures)

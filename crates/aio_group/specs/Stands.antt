@@ -56,13 +56,13 @@ KeepsAt t p None None = Unit {0}
 KeepsAt t p (Some held) (Some group) = KeepsGroup t p held group
 KeepsAt t p _ _ = ⊥
 
-pub record StandsFor (t : Ties) (groups : List Held) (v : View) (p : Parts) (plain : List Group) : Type 0 where
+pub record StandForGroups (t : Ties) (groups : List Held) (v : View) (p : Parts) (plain : List Group) : Type 0 where
   pub keeps : Keeps t v p
   pub each : (id : ℕ) → KeepsAt t p (slice_get groups id) (slice_get plain id)
 
 -- The groups and the parts stand for this loop. Its timeouts and its ledger are not theirs.
 abbrev pub Stands : Ties → List Held → View → Loop → Type 0
-Stands t groups v l = StandsFor t groups v l.parts l.groups
+Stands t groups v l = StandForGroups t groups v l.parts l.groups
 
 -- From a loop for which some stood by these ties the machine came to one for which these stand.
 pub record Came (t : Ties) (l : Loop) (groups : List Held) (v : View) (m : Loop) : Type 0 where

@@ -15,7 +15,7 @@ pub enum GroupExit {
 /// How an exit goes on, with the memory that it takes: it waits for this future, or it ends, with this exception of all
 /// failures.
 #[derive(Drop)]
-pub enum Next {
+pub enum ExitStep {
     Waits(FutureId),
     Ends(Option<Exc>),
 }

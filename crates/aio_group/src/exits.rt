@@ -13,10 +13,10 @@ ghost use Rattle.aio_group.specs.Answers.{fault_of, exit_of};
 ghost use Rattle.aio_group.specs.GoesOn.{Moves};
 ghost use Rattle.aio_group.specs.Exits.{begun, heard, IsNext, Exits};
 ghost use Rattle.aio_group.specs.Stands.{Belongs, Steps};
-ghost use Rattle.aio_group.specs.declared.exit.Next.TheVariants as next;
+ghost use Rattle.aio_group.specs.declared.exit.ExitStep.TheVariants as next;
 
 use crate::abort::abort;
-use crate::exit::{GroupExit, Next};
+use crate::exit::{ExitStep, GroupExit};
 use crate::failures::{fault_of, is_cancelled};
 use crate::group::Group;
 use aio_base::{Exc, Input, Memory};
@@ -25,7 +25,12 @@ use std::alloc::Global;
 
 // How the exit goes on, with all the memory that it takes. What comes before it cancels tasks and makes none, so the
 // future that is made here has the number of one made last.
-fn next(alloc: Global, group: &Group, body: Option<&Exc>, parts: &mut Parts) -> Result<Next, Memory>
+fn next(
+    alloc: Global,
+    group: &Group,
+    body: Option<&Exc>,
+    parts: &mut Parts,
+) -> Result<ExitStep, Memory>
     requires idle { parts.old.called ≡ None }
     ensures moves { Moves parts.old parts.new }
     ensures next { IfOk result (λ next. IsNext group.now (option_copied body.entry) parts.old next parts.new) }
@@ -33,11 +38,11 @@ fn next(alloc: Global, group: &Group, body: Option<&Exc>, parts: &mut Parts) -> 
 {
     if group.is_empty() {
         let fault = fault_of(alloc, group.failed(), body, parts)?;
-        Ok(Next::Ends(fault))
+        Ok(ExitStep::Ends(fault))
     } else {
         parts.keeps();
         let future = parts.new_plain(alloc)?;
-        Ok(Next::Waits(future))
+        Ok(ExitStep::Waits(future))
     }
 }
 

@@ -9,7 +9,7 @@ ghost use Rattle.aio_group.specs.Answers.{answer_of, gone_on, created_of, ended_
 ghost use Rattle.aio_group.specs.declared.created.Created.TheVariants as created;
 
 use crate::created::Created;
-use crate::exit::{GroupExit, Next};
+use crate::exit::{ExitStep, GroupExit};
 use crate::failures::is_cancelled;
 use aio_base::{Exc, Memory};
 use aio_task::FutureId;
@@ -250,16 +250,16 @@ impl Group {
     }
 
     /// The exit waits, or ends.
-    pub fn go_on(&mut self, next: Next) -> GroupExit
+    pub fn go_on(&mut self, next: ExitStep) -> GroupExit
         ensures answer { result ≡ answer_of next self.old }
         ensures after { self.new ≡ gone_on next self.old }
     {
         match next {
-            Next::Waits(future) => {
+            ExitStep::Waits(future) => {
                 self.exit_future = Some(future);
                 GroupExit::Waits(future)
             }
-            Next::Ends(fault) => {
+            ExitStep::Ends(fault) => {
                 self.ended = true;
                 self.body = None;
                 let kept = self.kept.take();

@@ -4,18 +4,18 @@ use Rattle.std.proofs.lemmas.Bool.{and_parts}
 use Rattle.std.proofs.lemmas.List.{length-take}
 use Rattle.std.proofs.lemmas.Bool.Decides.{nat_tests}
 use Rattle.model_text.specs.Letters.{is_space, is_quote}
-use Rattle.model_wire.specs.JournalText.{Standing, Outside, Inside, Escaped, is_outside, standing_after, put, pieces_of, is_some, words_of}
+use Rattle.model_wire.specs.JournalText.{QuoteState, Outside, Inside, Escaped, is_outside, standing_after, put, pieces_of, is_some, words_of}
 use Rattle.aio_journal.specs.Words.{word_len}
 
 -- a text's pieces: the first, of this length, and others with the words of the rest
-abbrev FirstPiece : Standing → List ℕ → ℕ → Type 0
+abbrev FirstPiece : QuoteState → List ℕ → ℕ → Type 0
 FirstPiece standing text len =
     (others : List (List ℕ)) × (pieces_of standing text ≡ take len text ∷ others) × (filter is_some others ≡ words_of (drop len text))
 
 space-parts : (byte : ℕ) → is_space byte ≡ true → standing_after Outside byte ≡ Outside
 space-parts byte s = let q : is_quote byte ≡ false = grind (arith, nat_tests) in rw q refl
 
-by-space : (standing : Standing) (byte : ℕ) → is_outside standing ≡ true → is_space byte ≡ true → standing_after standing byte ≡ Outside
+by-space : (standing : QuoteState) (byte : ℕ) → is_outside standing ≡ true → is_space byte ≡ true → standing_after standing byte ≡ Outside
 by-space Outside byte o s = space-parts byte s
 by-space Inside byte o s = cc
 by-space Escaped byte o s = cc
@@ -32,7 +32,7 @@ take-next len byte bytes = rw add-one refl
 drop-next : (len byte : ℕ) (bytes : List ℕ) → drop (len + 1) (byte ∷ bytes) ≡ drop len bytes
 drop-next len byte bytes = rw add-one refl
 
-parted : (standing : Standing) (byte : ℕ) (bytes : List ℕ) → is_outside standing && is_space byte ≡ true → FirstPiece standing (byte ∷ bytes) 0
+parted : (standing : QuoteState) (byte : ℕ) (bytes : List ℕ) → is_outside standing && is_space byte ≡ true → FirstPiece standing (byte ∷ bytes) 0
 parted standing byte bytes e =
     let p = and_parts (is_outside standing) (is_space byte) e in (
       pieces_of Outside bytes,
@@ -40,7 +40,7 @@ parted standing byte bytes e =
       sym (after-space byte bytes p.1),
     )
 
-goes-on : (standing : Standing) (byte len : ℕ) (bytes : List ℕ) → is_outside standing && is_space byte ≡ false
+goes-on : (standing : QuoteState) (byte len : ℕ) (bytes : List ℕ) → is_outside standing && is_space byte ≡ false
     → FirstPiece (standing_after standing byte) bytes len → FirstPiece standing (byte ∷ bytes) (len + 1)
 goes-on standing byte len bytes e f = (
   f.0,
@@ -52,7 +52,7 @@ abbrev len-by : Bool → ℕ → ℕ
 len-by true len = 0
 len-by false len = len + 1
 
-first-by : (standing : Standing) (byte len : ℕ) (bytes : List ℕ) (parts : Bool) → is_outside standing && is_space byte ≡ parts
+first-by : (standing : QuoteState) (byte len : ℕ) (bytes : List ℕ) (parts : Bool) → is_outside standing && is_space byte ≡ parts
     → FirstPiece (standing_after standing byte) bytes len → FirstPiece standing (byte ∷ bytes) (len-by parts len)
 first-by standing byte len bytes true e f = parted standing byte bytes e
 first-by standing byte len bytes false e f = goes-on standing byte len bytes e f
@@ -61,7 +61,7 @@ len-is : (parts : Bool) (len : ℕ) → (if parts then 0 else len + 1) ≡ len-b
 len-is true len = refl
 len-is false len = refl
 
-first-piece : (standing : Standing) (text : List ℕ) → FirstPiece standing text (word_len standing text)
+first-piece : (standing : QuoteState) (text : List ℕ) → FirstPiece standing text (word_len standing text)
 first-piece standing [] = ([], refl, refl)
 first-piece standing (byte ∷ bytes) =
     let len = word_len (standing_after standing byte) bytes in

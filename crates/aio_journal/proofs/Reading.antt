@@ -5,10 +5,10 @@ use Rattle.model_wire.specs.declared.entry.IdLetter.TheVariants as letter
 use Rattle.model_wire.specs.declared.entry.EntryToken.TheVariants as token
 use Rattle.model_wire.specs.Call.{Item}
 use Rattle.model_wire.specs.JournalText.{EntryToken, then_item, items_of, answer_of}
-use Rattle.aio_journal.specs.Steps.{word_at, tokens_after, Step, item_step, answer_at}
+use Rattle.aio_journal.specs.Steps.{word_at, tokens_after, ItemStep, item_step, answer_at}
 
 -- the items after a step
-abbrev pub goes_on : Step → Option (List Item)
+abbrev pub goes_on : ItemStep → Option (List Item)
 goes_on None = None
 goes_on (Some (came, tokens)) = then_item came (items_of tokens)
 

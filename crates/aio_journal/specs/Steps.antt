@@ -2,7 +2,7 @@
 use Rattle.std.specs.Prelude.{◌≡◌, ℕ, ℤ, pos, List, [], ◌∷◌, Option, Some, None, option_map}
 use Rattle.model_value.specs.declared.action.ChildItem.TheVariants as news
 use Rattle.model_wire.specs.declared.item.Item.TheVariants as item
-use Rattle.model_wire.specs.declared.item.Ready.TheVariants as ready
+use Rattle.model_wire.specs.declared.item.Readiness.TheVariants as ready
 use Rattle.model_wire.specs.declared.answer.Answer.TheVariants as answer
 use Rattle.model_wire.specs.declared.entry.EntryWord.{EntryWord}
 use Rattle.model_wire.specs.declared.entry.EntryWord.TheVariants as word
@@ -61,50 +61,50 @@ child_item child word.ErrsEnd = Some (item.Child child news.ErrsEnd)
 child_item child _ = None
 
 -- an item and the tokens after it
-abbrev pub Step : Type 0
-Step = Option (Item × List EntryToken)
+abbrev pub ItemStep : Type 0
+ItemStep = Option (Item × List EntryToken)
 
-abbrev pub with_rest : Option Item → List EntryToken → Step
+abbrev pub with_rest : Option Item → List EntryToken → ItemStep
 with_rest None tokens = None
 with_rest (Some came) tokens = Some (came, tokens)
 
-abbrev pub with_bytes : (List ℕ → Item) → List EntryToken → Step
+abbrev pub with_bytes : (List ℕ → Item) → List EntryToken → ItemStep
 with_bytes made tokens = with_rest (option_map made (bytes_at tokens)) (tokens_after tokens)
 
-abbrev pub with_code : (ℤ → Item) → List EntryToken → Step
+abbrev pub with_code : (ℤ → Item) → List EntryToken → ItemStep
 with_code made tokens = with_rest (option_map made (code_at tokens)) (tokens_after tokens)
 
-abbrev pub child_step : ℕ → EntryWord → List EntryToken → Step
+abbrev pub child_step : ℕ → EntryWord → List EntryToken → ItemStep
 child_step child word.Out tokens = with_bytes (λ bytes. item.Child child (news.Out bytes)) tokens
 child_step child word.Errs tokens = with_bytes (λ bytes. item.Child child (news.Errs bytes)) tokens
 child_step child word.Exit tokens = with_code (λ code. item.Child child (news.Exit code)) tokens
 child_step child known tokens = with_rest (child_item child known) tokens
 
-abbrev pub about : IdLetter → ℕ → EntryWord → List EntryToken → Step
+abbrev pub about : IdLetter → ℕ → EntryWord → List EntryToken → ItemStep
 about letter.Server server known tokens = with_rest (server_item server known) tokens
 about letter.Conn conn known tokens = with_rest (conn_item conn known) tokens
 about letter.Child child known tokens = child_step child known tokens
 
-abbrev pub about_next : IdLetter → ℕ → Option EntryWord → List EntryToken → Step
+abbrev pub about_next : IdLetter → ℕ → Option EntryWord → List EntryToken → ItemStep
 about_next names number None tokens = None
 about_next names number (Some known) tokens = about names number known tokens
 
-abbrev pub news_step : Option ℤ → List EntryToken → Step
+abbrev pub news_step : Option ℤ → List EntryToken → ItemStep
 news_step None tokens = None
 news_step (Some code) tokens = with_bytes (λ bytes. item.Extra code bytes) tokens
 
-abbrev pub word_step : EntryWord → List EntryToken → Step
+abbrev pub word_step : EntryWord → List EntryToken → ItemStep
 word_step word.News tokens = news_step (code_at tokens) (tokens_after tokens)
 word_step _ tokens = None
 
 -- the item that begins with this token
-abbrev pub item_step : EntryToken → List EntryToken → Step
+abbrev pub item_step : EntryToken → List EntryToken → ItemStep
 item_step (token.Id names number) tokens = about_next names number (word_at tokens) (tokens_after tokens)
 item_step (token.Word known) tokens = word_step known tokens
 item_step _ tokens = None
 
 -- an item was read, and these tokens are left; or there is none
-abbrev pub StepIs : Step → List EntryToken → Option Item → Type 0
+abbrev pub StepIs : ItemStep → List EntryToken → Option Item → Type 0
 StepIs step new None = step ≡ None
 StepIs step new (Some came) = step ≡ Some (came, new)
 

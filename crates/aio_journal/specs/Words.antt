@@ -4,17 +4,17 @@ use Rattle.model_value.specs.Number.{most}
 use Rattle.model_text.specs.Letters.{is_space}
 use Rattle.model_wire.specs.declared.entry.EntryToken.TheVariants as token
 use Rattle.model_wire.specs.JournalText as plain
-use Rattle.model_wire.specs.JournalText.{EntryToken, Standing, is_outside, standing_after}
-use Rattle.aio_journal.specs.declared.words.Place.{Place}
-use Rattle.aio_journal.specs.declared.words.Place.TheVariants.{Outside, Inside, Escaped}
+use Rattle.model_wire.specs.JournalText.{EntryToken, is_outside, standing_after}
+use Rattle.aio_journal.specs.declared.words.QuoteState.{QuoteState}
+use Rattle.aio_journal.specs.declared.words.QuoteState.TheVariants.{Outside, Inside, Escaped}
 
-abbrev pub plain_place : Place → Standing
+abbrev pub plain_place : QuoteState → plain.QuoteState
 plain_place Outside = plain.Outside
 plain_place Inside = plain.Inside
 plain_place Escaped = plain.Escaped
 
 -- the bytes up to the first space that stands outside literals
-abbrev pub word_len : Standing → List ℕ → ℕ
+abbrev pub word_len : plain.QuoteState → List ℕ → ℕ
 word_len standing [] = 0
 word_len standing (byte ∷ bytes) = if is_outside standing && is_space byte then 0 else word_len (standing_after standing byte) bytes + 1
 

@@ -5,7 +5,7 @@ ghost use Rattle.model_wire.specs.JournalText.{answer_of, exits_fit, item_exit_f
 ghost use Rattle.aio_journal.specs.Steps.{Takes, number_at, bare_answer, answer_after, at_end};
 
 use crate::items::{next_bytes, next_word, read_items};
-use crate::tokens::Token;
+use crate::tokens::EntryToken;
 use crate::words::Words;
 use aio_base::Memory;
 use aio_wire::{Answer, ChildItem, Item, ItemList};
@@ -104,7 +104,7 @@ fn next_number(alloc: Global, words: &mut Words<'_>) -> Result<Option<u64>, Memo
     ensures { IfOk result (Takes number_at words.old words.new) }
 {
     match words.next(alloc)? {
-        Some(Token::Number(number)) => Ok(Some(number)),
+        Some(EntryToken::Number(number)) => Ok(Some(number)),
         _ => Ok(None),
     }
 }

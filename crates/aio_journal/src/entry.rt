@@ -7,7 +7,7 @@ ghost use Rattle.aio_journal.specs.Entries.{EntryIs};
 ghost use Rattle.aio_journal.specs.declared.entry.EntryFault.TheVariants.{Refused, Memory as OutOfMemory};
 
 use crate::answers::{exits_fit, read_answer};
-use crate::tokens::Token;
+use crate::tokens::EntryToken;
 use crate::words::Words;
 use aio_base::Memory;
 use aio_wire::{Answer, JournalFault};
@@ -87,10 +87,10 @@ fn has_wide(alloc: Global, line: &[u8]) -> Result<bool, Memory>
     Ok(false)
 }
 
-fn is_too_wide(token: Token) -> bool
+fn is_too_wide(token: EntryToken) -> bool
     ensures { result ≡ is_too_wide token }
 {
-    matches!(token, Token::TooWide)
+    matches!(token, EntryToken::TooWide)
 }
 
 /// Appends an answer as it is written: a line without its newline. Want of memory appends nothing.

@@ -3,10 +3,10 @@ ghost use Rattle.std.specs.Prelude.{◌≡◌, ◌≤◌, IfOk, OnOk, length, op
 ghost use Rattle.model_wire.specs.JournalText.{items_of, minus};
 ghost use Rattle.aio_journal.specs.Steps.{Takes, word_at, bytes_at, code_at, server_item, conn_item, child_item, child_step, about, word_step, item_step, StepIs};
 
-use crate::tokens::Token;
+use crate::tokens::EntryToken;
 use crate::words::Words;
 use aio_base::{Blob, Memory};
-use aio_wire::{ChildItem, Item, Ready};
+use aio_wire::{ChildItem, Item, Readiness};
 use model_wire::{EntryWord, IdLetter};
 use std::alloc::Global;
 
@@ -25,18 +25,22 @@ pub fn read_items(alloc: Global, words: &mut Words<'_>) -> Result<Option<Vec<Ite
 }
 
 /// The item that begins with this word.
-fn read_item(alloc: Global, subject: Token, words: &mut Words<'_>) -> Result<Option<Item>, Memory>
+fn read_item(
+    alloc: Global,
+    subject: EntryToken,
+    words: &mut Words<'_>,
+) -> Result<Option<Item>, Memory>
     ensures step { IfOk result (StepIs (item_step subject words.old) words.new) }
     ensures shorter { OnOk result (length words.new ≤ length words.old) }
 {
     match subject {
-        Token::Id { letter, number } => {
+        EntryToken::Id { letter, number } => {
             let Some(known) = next_word(alloc, words)? else {
                 return Ok(None);
             };
             read_about(alloc, letter, number, known, words)
         }
-        Token::Word(EntryWord::News) => read_extra(alloc, words),
+        EntryToken::Word(EntryWord::News) => read_extra(alloc, words),
         _ => Ok(None),
     }
 }
@@ -74,15 +78,15 @@ fn conn_item(conn: u32, word: EntryWord) -> Option<Item>
     match word {
         EntryWord::Read => Some(Item::Ready {
             conn,
-            ready: Ready::Read,
+            ready: Readiness::Read,
         }),
         EntryWord::Write => Some(Item::Ready {
             conn,
-            ready: Ready::Write,
+            ready: Readiness::Write,
         }),
         EntryWord::Both => Some(Item::Ready {
             conn,
-            ready: Ready::Both,
+            ready: Readiness::Both,
         }),
         EntryWord::Up => Some(Item::Up(conn)),
         EntryWord::Down => Some(Item::Down(conn)),
@@ -165,7 +169,7 @@ pub fn next_word(alloc: Global, words: &mut Words<'_>) -> Result<Option<EntryWor
     ensures shorter { OnOk result (length words.new ≤ length words.old) }
 {
     match words.next(alloc)? {
-        Some(Token::Word(word)) => Ok(Some(word)),
+        Some(EntryToken::Word(word)) => Ok(Some(word)),
         _ => Ok(None),
     }
 }
@@ -176,7 +180,7 @@ pub fn next_bytes(alloc: Global, words: &mut Words<'_>) -> Result<Option<Blob>, 
     ensures shorter { OnOk result (length words.new ≤ length words.old) }
 {
     match words.next(alloc)? {
-        Some(Token::Bytes(bytes)) => Ok(Some(bytes)),
+        Some(EntryToken::Bytes(bytes)) => Ok(Some(bytes)),
         _ => Ok(None),
     }
 }
@@ -187,8 +191,8 @@ fn next_code(alloc: Global, words: &mut Words<'_>) -> Result<Option<i64>, Memory
     ensures shorter { OnOk result (length words.new ≤ length words.old) }
 {
     match words.next(alloc)? {
-        Some(Token::Number(code)) => Ok(Some(code as i64)),
-        Some(Token::Minus(code)) => Ok(Some(minus(code))),
+        Some(EntryToken::Number(code)) => Ok(Some(code as i64)),
+        Some(EntryToken::Minus(code)) => Ok(Some(minus(code))),
         _ => Ok(None),
     }
 }

@@ -4,7 +4,7 @@ ghost use Rattle.std.specs.List.{list_all};
 ghost use Rattle.model_value.specs.Number.{digits_value, is_digit};
 ghost use Rattle.model_wire.specs.JournalText.{are_digits, number_token, minus_token, id_token};
 
-use crate::tokens::Token;
+use crate::tokens::EntryToken;
 use model_wire::IdLetter;
 
 /// The greatest number of 64 bits with a sign.
@@ -14,50 +14,50 @@ const MOST: u64 = 0x7FFF_FFFF_FFFF_FFFF;
 const OVER: u64 = MOST + 2;
 
 /// What a word of digits is.
-pub fn number_token(digits: &[u8]) -> Token
+pub fn number_token(digits: &[u8]) -> EntryToken
     ensures { result ≡ number_token digits.now }
 {
     if !are_digits(digits) {
-        return Token::Other;
+        return EntryToken::Other;
     }
     let value = value_of(digits);
     if value <= MOST {
-        Token::Number(value)
+        EntryToken::Number(value)
     } else {
-        Token::TooWide
+        EntryToken::TooWide
     }
 }
 
 /// What digits are after a minus sign.
-pub fn minus_token(digits: &[u8]) -> Token
+pub fn minus_token(digits: &[u8]) -> EntryToken
     ensures { result ≡ minus_token digits.now }
 {
     if !are_digits(digits) {
-        return Token::Other;
+        return EntryToken::Other;
     }
     let value = value_of(digits);
     if value <= MOST + 1 {
-        Token::Minus(value)
+        EntryToken::Minus(value)
     } else {
-        Token::TooWide
+        EntryToken::TooWide
     }
 }
 
 /// What digits are after an id's letter.
-pub fn id_token(letter: IdLetter, digits: &[u8]) -> Token
+pub fn id_token(letter: IdLetter, digits: &[u8]) -> EntryToken
     ensures { result ≡ id_token letter digits.now }
 {
     if !are_digits(digits) {
-        return Token::Other;
+        return EntryToken::Other;
     }
     let value = value_of(digits);
     if value <= 0xFFFF_FFFF {
-        Token::Id {
+        EntryToken::Id {
             letter,
             number: value as u32,
         }
     } else {
-        Token::Other
+        EntryToken::Other
     }
 }
 

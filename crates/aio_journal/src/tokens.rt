@@ -11,7 +11,7 @@ use model_wire::{EntryWord, IdLetter};
 use std::alloc::Global;
 
 /// What a word of an entry is.
-pub type Token = model_wire::EntryToken<Blob>;
+pub type EntryToken = model_wire::EntryToken<Blob>;
 
 /// The words of entries.
 static ENTRY_WORDS: [EntryWord; 22] = [
@@ -40,11 +40,11 @@ static ENTRY_WORDS: [EntryWord; 22] = [
 ];
 
 /// What a word is.
-pub fn token_of(alloc: Global, word: &[u8]) -> Result<Token, Memory>
+pub fn token_of(alloc: Global, word: &[u8]) -> Result<EntryToken, Memory>
     ensures { IfOk result (λ token. token ≡ token_of word.now) }
 {
     let [first, rest @ ..] = word else {
-        return Ok(Token::Other);
+        return Ok(EntryToken::Other);
     };
     match first {
         b'0'..=b'9' => Ok(number_token(word)),
@@ -65,12 +65,12 @@ fn opens(rest: &[u8]) -> bool
     !rest.is_empty() && rest[0] == b'"'
 }
 
-fn word_token(word: &[u8]) -> Token
+fn word_token(word: &[u8]) -> EntryToken
     ensures { result ≡ word_token word.now }
 {
     match entry_word(word) {
-        Some(known) => Token::Word(known),
-        None => Token::Other,
+        Some(known) => EntryToken::Word(known),
+        None => EntryToken::Other,
     }
 }
 

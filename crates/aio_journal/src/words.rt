@@ -1,16 +1,16 @@
 //! The words of a line.
 ghost use Rattle.std.specs.Prelude.{◌≡◌, ◌≤◌, ◌<◌, [], ◌∷◌, length, IfOk, OnOk, IsSome, MatchOption};
-ghost use Rattle.model_wire.specs.JournalText.{Outside, Standing, words_of, tokens_of, is_outside, standing_after};
+ghost use Rattle.model_wire.specs.JournalText.{Outside, QuoteState, words_of, tokens_of, is_outside, standing_after};
 ghost use Rattle.aio_journal.specs.Words.{plain_place, word_len, NextIs, IsBounded};
 
-use crate::tokens::{Token, token_of};
+use crate::tokens::{EntryToken, token_of};
 use aio_base::Memory;
 use std::alloc::Global;
 use std::marker::Model;
 
 /// Where a byte stands.
 #[derive(Clone, Copy, Debug, PartialEq, Eq)]
-pub enum Place {
+pub enum QuoteState {
     Outside,
     /// In a literal.
     Inside,
@@ -41,7 +41,7 @@ impl<'a> Words<'a> {
     }
 
     /// Takes the next word: what it is, or nothing where none is left.
-    pub fn next(&mut self, alloc: Global) -> Result<Option<Token>, Memory>
+    pub fn next(&mut self, alloc: Global) -> Result<Option<EntryToken>, Memory>
         ensures next { IfOk result (NextIs self.old self.new) }
         ensures bounded { IfOk result IsBounded }
         ensures shorter { OnOk result (length self.new ≤ length self.old) }
@@ -86,7 +86,7 @@ fn word_len(text: &[u8]) -> usize
     ensures value { result ≡ word_len Outside text.now }
     ensures within { result ≤ length text.now }
 {
-    let mut place = Place::Outside;
+    let mut place = QuoteState::Outside;
     for (at, byte) in text.iter().enumerate() {
         if is_outside(place) && *byte == b' ' {
             return at;
@@ -96,29 +96,29 @@ fn word_len(text: &[u8]) -> usize
     text.len()
 }
 
-fn is_outside(place: Place) -> bool
+fn is_outside(place: QuoteState) -> bool
     ensures { result ≡ is_outside (plain_place place) }
 {
-    matches!(place, Place::Outside)
+    matches!(place, QuoteState::Outside)
 }
 
 /// Where the byte after this one stands.
-fn place_after(place: Place, byte: u8) -> Place
+fn place_after(place: QuoteState, byte: u8) -> QuoteState
     ensures { plain_place result ≡ standing_after (plain_place place) byte }
 {
     match place {
-        Place::Outside => {
+        QuoteState::Outside => {
             if byte == b'"' {
-                Place::Inside
+                QuoteState::Inside
             } else {
-                Place::Outside
+                QuoteState::Outside
             }
         }
-        Place::Inside => match byte {
-            b'"' => Place::Outside,
-            b'\\' => Place::Escaped,
-            _ => Place::Inside,
+        QuoteState::Inside => match byte {
+            b'"' => QuoteState::Outside,
+            b'\\' => QuoteState::Escaped,
+            _ => QuoteState::Inside,
         },
-        Place::Escaped => Place::Inside,
+        QuoteState::Escaped => QuoteState::Inside,
     }
 }

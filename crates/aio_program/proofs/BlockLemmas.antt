@@ -4,7 +4,7 @@ use Rattle.model_tree.specs.Syntax.{Statement, Statements, no_statements, statem
 use Rattle.model_text.specs.Places.{Role, Opens, Begins, Closes, Stands, Block, role_of}
 use Rattle.model_text.specs.Places as places
 use Rattle.model_text.specs.SecondPass.{Line}
-use Rattle.model_text.specs.Bodies.{Cut, cut_from, simple, Body, bodies, block, then_statements, block_then, statements_in, body_in}
+use Rattle.model_text.specs.Bodies.{BlockLines, cut_from, simple, SectionBody, bodies, block, then_statements, block_then, statements_in, body_in}
 use Rattle.aio_program.specs.declared.block.UnendedBlock.{UnendedBlock}
 use Rattle.aio_program.specs.declared.sorted.Head.{Head}
 use Rattle.aio_program.specs.declared.sorted.Head.TheVariants as head
@@ -12,8 +12,8 @@ use Rattle.aio_program.specs.declared.sorted.Begin.{Begin}
 use Rattle.aio_program.specs.declared.sorted.Begin.TheVariants as begin
 use Rattle.aio_program.specs.Sorted.{plain_head, plain_begin}
 use Rattle.aio_program.specs.Block.{over, latest, with_block}
-use Rattle.aio_program.specs.Body.{in_front, Rest, rest_of, rest, around_block, around, around_all}
-use Rattle.aio_program.proofs.CutLemmas.{cut_stands, cut_opens, cut_begins, cut_closes, GoesOn, goes_on}
+use Rattle.aio_program.specs.Body.{in_front, SectionRest, rest_of, rest, around_block, around, around_all}
+use Rattle.aio_program.proofs.CutLemmas.{cut_stands, cut_opens, cut_begins, cut_closes, GoesOnAfter, goes_on}
 use Rattle.aio_program.proofs.ReadLemmas.{read_nothing, read_alone, read_block}
 
 -- ---- statements in front of others
@@ -46,30 +46,30 @@ rest-nothing so_far = in_front-read so_far
 pub rest-begins : (line : Line) (section : places.Section) → role_of line ≡ Begins section → (so_far : List Statement) (lines : List Line) → (rest so_far (line ∷ lines)).body ≡ statements so_far
 unfolding rest
 rest-begins line section e so_far lines =
-    ap (λ (cut : Cut). in_front so_far (statements_in cut.body)) (cut_begins line section e lines) ∙ in_front-read so_far
+    ap (λ (cut : BlockLines). in_front so_far (statements_in cut.body)) (cut_begins line section e lines) ∙ in_front-read so_far
 
 pub rest-closes : (line : Line) → role_of line ≡ Closes → (so_far : List Statement) (lines : List Line) → (rest so_far (line ∷ lines)).body ≡ statements so_far
 unfolding rest
 rest-closes line e so_far lines =
-    ap (λ (cut : Cut). in_front so_far (statements_in cut.body)) (cut_closes line e lines) ∙ in_front-read so_far
+    ap (λ (cut : BlockLines). in_front so_far (statements_in cut.body)) (cut_closes line e lines) ∙ in_front-read so_far
 
 -- ---- a block around the rest
-pub around-nothing : (outer : List Statement) (sections : List Body) (head : Line) (so_far : List Statement) → around_block outer sections head (rest so_far []) ≡ rest (with_block outer (sections ++ record { head = head; body = statements so_far } ∷ [])) []
+pub around-nothing : (outer : List Statement) (sections : List SectionBody) (head : Line) (so_far : List Statement) → around_block outer sections head (rest so_far []) ≡ rest (with_block outer (sections ++ record { head = head; body = statements so_far } ∷ [])) []
 unfolding around_block rest
 around-nothing outer sections head so_far =
     ap (λ (body : Statements). rest (with_block outer (sections ++ record { head = head; body = body } ∷ [])) []) (in_front-read so_far)
 
-pub around-closes : (line : Line) → role_of line ≡ Closes → (outer : List Statement) (sections : List Body) (head : Line) (so_far : List Statement) (lines : List Line) → around_block outer sections head (rest so_far (line ∷ lines)) ≡ rest (with_block outer (sections ++ record { head = head; body = statements so_far } ∷ [])) lines
+pub around-closes : (line : Line) → role_of line ≡ Closes → (outer : List Statement) (sections : List SectionBody) (head : Line) (so_far : List Statement) (lines : List Line) → around_block outer sections head (rest so_far (line ∷ lines)) ≡ rest (with_block outer (sections ++ record { head = head; body = statements so_far } ∷ [])) lines
 unfolding around_block rest
 around-closes line e outer sections head so_far lines =
-    ap (λ (cut : Cut). around_block outer sections head (rest_of so_far cut)) (cut_closes line e lines) ∙ ap (λ (body : Statements). rest (with_block outer (sections ++ record { head = head; body = body } ∷ [])) lines) (in_front-read so_far)
+    ap (λ (cut : BlockLines). around_block outer sections head (rest_of so_far cut)) (cut_closes line e lines) ∙ ap (λ (body : Statements). rest (with_block outer (sections ++ record { head = head; body = body } ∷ [])) lines) (in_front-read so_far)
 
-pub around-begins : (line : Line) (section : places.Section) → role_of line ≡ Begins section → (outer : List Statement) (sections : List Body) (head : Line) (so_far : List Statement) (lines : List Line) → around_block outer sections head (rest so_far (line ∷ lines)) ≡ around_block outer (sections ++ record { head = head; body = statements so_far } ∷ []) line (rest [] lines)
+pub around-begins : (line : Line) (section : places.Section) → role_of line ≡ Begins section → (outer : List Statement) (sections : List SectionBody) (head : Line) (so_far : List Statement) (lines : List Line) → around_block outer sections head (rest so_far (line ∷ lines)) ≡ around_block outer (sections ++ record { head = head; body = statements so_far } ∷ []) line (rest [] lines)
 unfolding around_block rest
 around-begins line section e outer sections head so_far lines =
     let cut = cut_from 0 lines in
-    let others : List Body = record { head = line; body = statements_in cut.body } ∷ bodies statements_in cut.sections in
-    ap (λ (cut : Cut). around_block outer sections head (rest_of so_far cut)) (cut_begins line section e lines) ∙ (ap (λ (body : Statements). rest (with_block outer (sections ++ record { head = head; body = body } ∷ others)) cut.behind) (in_front-read so_far) ∙ ap (λ (all : List Body). rest (with_block outer all) cut.behind) (sym (append_assoc sections (record { head = head; body = statements so_far } ∷ []) others)))
+    let others : List SectionBody = record { head = line; body = statements_in cut.body } ∷ bodies statements_in cut.sections in
+    ap (λ (cut : BlockLines). around_block outer sections head (rest_of so_far cut)) (cut_begins line section e lines) ∙ (ap (λ (body : Statements). rest (with_block outer (sections ++ record { head = head; body = body } ∷ others)) cut.behind) (in_front-read so_far) ∙ ap (λ (all : List SectionBody). rest (with_block outer all) cut.behind) (sym (append_assoc sections (record { head = head; body = statements so_far } ∷ []) others)))
 
 pub rest-opens : (line : Line) (b : Block) → role_of line ≡ Opens b → (so_far : List Statement) (lines : List Line) → rest so_far (line ∷ lines) ≡ around_block so_far [] line (rest [] lines)
 unfolding around_block rest
@@ -77,7 +77,7 @@ rest-opens line b e so_far lines =
     let cut = cut_from 0 lines in
     let outer = cut_from 1 lines in
     let next = cut_from 0 cut.behind in
-    let on : GoesOn outer cut (cut_from 0 outer.body) = goes_on lines 0 in
+    let on : GoesOnAfter outer cut (cut_from 0 outer.body) = goes_on lines 0 in
     let made : Option Statement = block line (statements_in cut.body) (bodies statements_in cut.sections) in
     let read : statements_in (line ∷ outer.body) ≡ then_statements made (statements_in next.body) =
     read_block line b outer.body e ∙ ap (block_then statements_in line) on.body in
@@ -86,7 +86,7 @@ rest-opens line b e so_far lines =
     ap (rest_of so_far) (cut_opens line b e 0 lines) ∙ (λ i. record { body = body i; sections = bodies statements_in (on.sections i); behind = on.behind i })
 
 -- ---- all blocks
-pub around_all-last : (blocks : List UnendedBlock) (last : UnendedBlock) (inner : Rest) → around_all (blocks ++ last ∷ []) inner ≡ around_all blocks (around last inner)
+pub around_all-last : (blocks : List UnendedBlock) (last : UnendedBlock) (inner : SectionRest) → around_all (blocks ++ last ∷ []) inner ≡ around_all blocks (around last inner)
 around_all-last [] last inner = refl
 around_all-last (first ∷ blocks) last inner = ap (around first) (around_all-last blocks last inner)
 
@@ -111,19 +111,19 @@ begins begin.Finally = (places.FinallySection, refl)
 
 -- ---- blocks that are pushed and popped
 -- a block at the end, and nothing in its section yet
-pub pushed : (blocks all : List UnendedBlock) (block : UnendedBlock) (outer so_far : List Statement) (sections : List Body) (head : Line) (lines : List Line) (inner : Rest) → all ≡ blocks ++ block ∷ [] → block.outer.items ≡ outer → over block ≡ sections → latest block ≡ head → so_far ≡ [] → around_block outer sections head (rest [] lines) ≡ inner → (around_all all (rest so_far lines)).body ≡ (around_all blocks inner).body
+pub pushed : (blocks all : List UnendedBlock) (block : UnendedBlock) (outer so_far : List Statement) (sections : List SectionBody) (head : Line) (lines : List Line) (inner : SectionRest) → all ≡ blocks ++ block ∷ [] → block.outer.items ≡ outer → over block ≡ sections → latest block ≡ head → so_far ≡ [] → around_block outer sections head (rest [] lines) ≡ inner → (around_all all (rest so_far lines)).body ≡ (around_all blocks inner).body
 pushed blocks all block outer so_far sections head lines inner is_all is_outer is_over is_latest is_empty e =
     let here : around block (rest so_far lines) ≡ inner =
     (λ i. around_block (is_outer i) (is_over i) (is_latest i) (rest (is_empty i) lines)) ∙ e in
-    ap (λ (bs : List UnendedBlock). (around_all bs (rest so_far lines)).body) is_all ∙ (ap (λ (r : Rest). r.body) (around_all-last blocks block (rest so_far lines)) ∙ ap (λ (r : Rest). (around_all blocks r).body) here)
+    ap (λ (bs : List UnendedBlock). (around_all bs (rest so_far lines)).body) is_all ∙ (ap (λ (r : SectionRest). r.body) (around_all-last blocks block (rest so_far lines)) ∙ ap (λ (r : SectionRest). (around_all blocks r).body) here)
 
 -- the last block, taken off
-pub popped : (blocks left : List UnendedBlock) (block : UnendedBlock) (inner : Rest) → blocks ≡ left ++ block ∷ [] → (around_all left (around block inner)).body ≡ (around_all blocks inner).body
+pub popped : (blocks left : List UnendedBlock) (block : UnendedBlock) (inner : SectionRest) → blocks ≡ left ++ block ∷ [] → (around_all left (around block inner)).body ≡ (around_all blocks inner).body
 popped blocks left block inner e =
-    sym (ap (λ (bs : List UnendedBlock). (around_all bs inner).body) e ∙ ap (λ (r : Rest). r.body) (around_all-last left block inner))
+    sym (ap (λ (bs : List UnendedBlock). (around_all bs inner).body) e ∙ ap (λ (r : SectionRest). r.body) (around_all-last left block inner))
 
 -- no block is open
-pub outermost : (blocks : List UnendedBlock) (inner : Rest) → blocks ≡ [] → (around_all blocks inner).body ≡ inner.body
+pub outermost : (blocks : List UnendedBlock) (inner : SectionRest) → blocks ≡ [] → (around_all blocks inner).body ≡ inner.body
 outermost blocks inner e = ap (λ (bs : List UnendedBlock). (around_all bs inner).body) e
 
 -- nothing was read yet

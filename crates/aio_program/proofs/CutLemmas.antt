@@ -3,7 +3,7 @@ use Rattle.std.proofs.Common.{◌≡◌, ℕ, zero, suc, ◌≤◌, List, [], �
 use Rattle.model_text.specs.Places.{Role, Opens, Begins, Closes, Stands, Block, role_of}
 use Rattle.model_text.specs.Places as places
 use Rattle.model_text.specs.SecondPass.{Line}
-use Rattle.model_text.specs.Bodies.{SectionLines, Cut, with_line, with_section, depth_behind, cut_at, cut_from}
+use Rattle.model_text.specs.Bodies.{SectionLines, BlockLines, with_line, with_section, depth_behind, cut_at, cut_from}
 
 -- ---- a cut by the role of its first line
 by_role : (line : Line) (role : Role) → role_of line ≡ role → (depth : ℕ) (lines : List Line) → cut_from depth (line ∷ lines) ≡ cut_at role depth line lines (cut_from (depth_behind depth role) lines)
@@ -23,7 +23,7 @@ cut_closes line e lines = by_role line Closes e 0 lines
 
 -- ---- a cut one block further out goes on where the block inside it ends
 -- `outer` is the cut one block further out, and `again` the cut of its body
-pub record GoesOn (outer cut again : Cut) : Type 0 where
+pub record GoesOnAfter (outer cut again : BlockLines) : Type 0 where
   pub sections : outer.sections ≡ (cut_from 0 cut.behind).sections
   pub behind : outer.behind ≡ (cut_from 0 cut.behind).behind
   pub body : again ≡ record cut { behind = (cut_from 0 cut.behind).body }
@@ -31,10 +31,10 @@ pub record GoesOn (outer cut again : Cut) : Type 0 where
 abbrev goes_on_at : (role : Role) (depth : ℕ) (line : Line) (lines : List Line) → Type 0
 goes_on_at role depth line lines =
     let outer = cut_at role (suc depth) line lines (cut_from (depth_behind (suc depth) role) lines) in
-    GoesOn outer (cut_at role depth line lines (cut_from (depth_behind depth role) lines)) (cut_from depth outer.body)
+    GoesOnAfter outer (cut_at role depth line lines (cut_from (depth_behind depth role) lines)) (cut_from depth outer.body)
 
 abbrev goes_on_from : (depth : ℕ) (lines : List Line) → Type 0
-goes_on_from depth lines = GoesOn (cut_from (suc depth) lines) (cut_from depth lines) (cut_from depth (cut_from (suc depth) lines).body)
+goes_on_from depth lines = GoesOnAfter (cut_from (suc depth) lines) (cut_from depth lines) (cut_from depth (cut_from (suc depth) lines).body)
 
 goes_on_by : (role : Role) (depth : ℕ) (line : Line) (lines : List Line) → role_of line ≡ role → ((d : ℕ) → goes_on_from d lines) → goes_on_at role depth line lines
 goes_on_by (Opens block) depth line lines e below =
@@ -84,12 +84,12 @@ abbrev pub AllWithin : ℕ → List SectionLines → Type 0
 AllWithin count [] = Unit {0}
 AllWithin count (section ∷ sections) = (length section.lines ≤ count) × AllWithin count sections
 
-pub record IsWithin (count : ℕ) (lines : List Line) (cut : Cut) : Type 0 where
+pub record IsWithin (count : ℕ) (lines : List Line) (cut : BlockLines) : Type 0 where
   pub body : length cut.body ≤ length lines
   pub sections : AllWithin count cut.sections
   pub behind : length cut.behind ≤ length lines
 
-within_at : (role : Role) (depth count : ℕ) (line : Line) (lines : List Line) (cut : Cut) → length (line ∷ lines) ≤ count → IsWithin count lines cut → IsWithin count (line ∷ lines) (cut_at role depth line lines cut)
+within_at : (role : Role) (depth count : ℕ) (line : Line) (lines : List Line) (cut : BlockLines) → length (line ∷ lines) ≤ count → IsWithin count lines cut → IsWithin count (line ∷ lines) (cut_at role depth line lines cut)
 within_at (Opens block) depth count line lines cut h w =
     let b = w.body in
     let r = w.behind in

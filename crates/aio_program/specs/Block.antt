@@ -2,7 +2,7 @@
 use Rattle.std.specs.Prelude.{List, [], ◌∷◌, ◌++◌, Option, Some, None, option_to_list, map}
 use Rattle.model_tree.specs.Syntax.{Statement, Try, statements, Branch, no_branch, branch, Handlers, handler_then, Handler}
 use Rattle.model_text.specs.SecondPass.{Line}
-use Rattle.model_text.specs.Bodies.{Body, block, handlers_in, finally_in}
+use Rattle.model_text.specs.Bodies.{SectionBody, block, handlers_in, finally_in}
 use Rattle.aio_program.specs.declared.block.UnendedBlock.{UnendedBlock}
 use Rattle.aio_program.specs.declared.block.Reached.{Reached}
 use Rattle.aio_program.specs.declared.block.Reached.TheVariants as place
@@ -12,11 +12,11 @@ use Rattle.aio_program.specs.declared.sorted.Head.{Head}
 use Rattle.aio_program.specs.Sorted.{plain_head, plain_begin}
 use Rattle.aio_program.specs.Target.{plain_branch}
 
-abbrev pub plain_section : FurtherSection → Body
+abbrev pub plain_section : FurtherSection → SectionBody
 plain_section section = record { head = plain_begin section.begin; body = statements section.body }
 
 -- the sections of a block that are over, and the line of the section that is read
-abbrev pub over_at : Head → Reached → List Body
+abbrev pub over_at : Head → Reached → List SectionBody
 over_at head place.First = []
 over_at head (place.Further body sections begin) =
     record { head = plain_head head; body = statements body } ∷ map plain_section sections.items
@@ -25,19 +25,19 @@ abbrev pub latest_at : Head → Reached → Line
 latest_at head place.First = plain_head head
 latest_at head (place.Further body sections begin) = plain_begin begin
 
-abbrev pub over : UnendedBlock → List Body
+abbrev pub over : UnendedBlock → List SectionBody
 over block = over_at block.head block.place
 
 abbrev pub latest : UnendedBlock → Line
 latest block = latest_at block.head block.place
 
 -- the block that sections are, of which the first has the block's head
-abbrev pub block_of : List Body → Option Statement
+abbrev pub block_of : List SectionBody → Option Statement
 block_of [] = None
 block_of (first ∷ others) = block first.head first.body others
 
 -- statements, and behind them a block
-abbrev pub with_block : List Statement → List Body → List Statement
+abbrev pub with_block : List Statement → List SectionBody → List Statement
 with_block outer sections = outer ++ option_to_list (block_of sections)
 
 -- ---- the sections of a `try`
@@ -56,11 +56,11 @@ first_list None second = Some second
 first_list (Some first) second = Some first
 
 -- a `try` with the sections behind those that were read
-abbrev pub try_with : OpenTry → List Body → Statement
+abbrev pub try_with : OpenTry → List SectionBody → Statement
 try_with begun others =
     Try (statements begun.body) (handlers_before begun.handlers.items (handlers_in others)) (first_branch (plain_branch begun.finally) (finally_in others))
 
 -- the same with a clause between
-abbrev pub try_with_handler : OpenTry → Handler → List Body → Statement
+abbrev pub try_with_handler : OpenTry → Handler → List SectionBody → Statement
 try_with_handler begun next others =
     Try (statements begun.body) (handlers_before begun.handlers.items (handler_then next.kind next.name next.body (handlers_in others))) (first_branch (plain_branch begun.finally) (finally_in others))

@@ -1,7 +1,7 @@
 //! Blocks that are read, and the statements that they make.
 ghost use Rattle.std.specs.Prelude.{◌≡◌, IfOk, List, [], ◌∷◌, ◌++◌, map};
 ghost use Rattle.model_tree.specs.Syntax.{Try, statements};
-ghost use Rattle.model_text.specs.Bodies.{Body, block, branch_in, handlers_in, finally_in};
+ghost use Rattle.model_text.specs.Bodies.{SectionBody, block, branch_in, handlers_in, finally_in};
 ghost use Rattle.aio_program.specs.Sorted.{plain_head, plain_begin};
 ghost use Rattle.aio_program.specs.Target.{plain_branch};
 ghost use Rattle.aio_program.specs.Block.{plain_section, over, over_at, latest, latest_at, with_block, first_list, try_with, try_with_handler};
@@ -185,7 +185,7 @@ fn try_of(
 impl OpenTry {
     /// The same with one section more. A second `finally` would be none.
     fn with_section(self, section: FurtherSection) -> Result<OpenTry, AllocError>
-        ensures { IfOk result (λ next. (others : List Body) → try_with next others ≡ try_with self (plain_section section ∷ others)) }
+        ensures { IfOk result (λ next. (others : List SectionBody) → try_with next others ≡ try_with self (plain_section section ∷ others)) }
     {
         let FurtherSection { begin, body } = section;
         match begin {
@@ -196,7 +196,7 @@ impl OpenTry {
     }
 
     fn with_handler(self, handler: Handler) -> Result<OpenTry, AllocError>
-        ensures { IfOk result (λ next. (others : List Body) → try_with next others ≡ try_with_handler self handler others) }
+        ensures { IfOk result (λ next. (others : List SectionBody) → try_with next others ≡ try_with_handler self handler others) }
     {
         let OpenTry {
             body,

@@ -26,7 +26,7 @@ struct OpenBody {
 
 /// What a line makes of a body.
 #[derive(Drop)]
-enum Step {
+enum BodyStep {
     More(OpenBody),
     /// The line ends the body.
     Over(Vec<Statement>),
@@ -42,8 +42,8 @@ pub fn body_of(alloc: Global, lines: Vec<Line>) -> Result<StatementList, AllocEr
     };
     for line in lines {
         match begun.with(alloc, line)? {
-            Step::More(next) => begun = next,
-            Step::Over(body) => return Ok(StatementList::of(body)),
+            BodyStep::More(next) => begun = next,
+            BodyStep::Over(body) => return Ok(StatementList::of(body)),
         }
     }
     begun.ended(alloc)
@@ -51,7 +51,7 @@ pub fn body_of(alloc: Global, lines: Vec<Line>) -> Result<StatementList, AllocEr
 
 impl OpenBody {
     /// What a line makes of it.
-    fn with(self, alloc: Global, line: Line) -> Result<Step, AllocError>
+    fn with(self, alloc: Global, line: Line) -> Result<BodyStep, AllocError>
         ensures { IfOk result (λ step. (lines : List plain.Line) → step_with step lines ≡ body_with self (plain_line line ∷ lines)) }
     {
         match sort_out(line) {
@@ -62,47 +62,47 @@ impl OpenBody {
         }
     }
 
-    fn with_head(self, alloc: Global, head: Head) -> Result<Step, AllocError>
+    fn with_head(self, alloc: Global, head: Head) -> Result<BodyStep, AllocError>
         ensures { IfOk result (λ step. (lines : List plain.Line) → step_with step lines ≡ body_with self (plain_head head ∷ lines)) }
     {
         let OpenBody { mut blocks, so_far } = self;
         blocks.push(UnendedBlock::new(so_far, head))?;
         let so_far = Vec::new(alloc);
-        Ok(Step::More(OpenBody { blocks, so_far }))
+        Ok(BodyStep::More(OpenBody { blocks, so_far }))
     }
 
-    fn with_section(self, alloc: Global, begin: Begin) -> Result<Step, AllocError>
+    fn with_section(self, alloc: Global, begin: Begin) -> Result<BodyStep, AllocError>
         ensures { IfOk result (λ step. (lines : List plain.Line) → step_with step lines ≡ body_with self (plain_begin begin ∷ lines)) }
     {
         let OpenBody { mut blocks, so_far } = self;
         let Some(block) = blocks.pop() else {
-            return Ok(Step::Over(so_far));
+            return Ok(BodyStep::Over(so_far));
         };
         blocks.push(block.with_section(alloc, begin, so_far)?)?;
         let so_far = Vec::new(alloc);
-        Ok(Step::More(OpenBody { blocks, so_far }))
+        Ok(BodyStep::More(OpenBody { blocks, so_far }))
     }
 
-    fn with_end(self, alloc: Global) -> Result<Step, AllocError>
+    fn with_end(self, alloc: Global) -> Result<BodyStep, AllocError>
         ensures { IfOk result (λ step. (lines : List plain.Line) → step_with step lines ≡ body_with self (End ∷ lines)) }
     {
         let OpenBody { mut blocks, so_far } = self;
         let Some(block) = blocks.pop() else {
-            return Ok(Step::Over(so_far));
+            return Ok(BodyStep::Over(so_far));
         };
         let so_far = block.ended(alloc, so_far)?;
-        Ok(Step::More(OpenBody { blocks, so_far }))
+        Ok(BodyStep::More(OpenBody { blocks, so_far }))
     }
 
     /// What a line makes of it that opens, begins and closes nothing.
-    fn with_statement(self, statement: Option<Statement>) -> Result<Step, AllocError>
+    fn with_statement(self, statement: Option<Statement>) -> Result<BodyStep, AllocError>
         ensures { IfOk result (λ step. (line : plain.Line) (lines : List plain.Line) → role_of line ≡ Stands → simple line ≡ statement → step_with step lines ≡ body_with self (line ∷ lines)) }
     {
         let OpenBody { blocks, mut so_far } = self;
         if let Some(statement) = statement {
             so_far.push(statement)?;
         }
-        Ok(Step::More(OpenBody { blocks, so_far }))
+        Ok(BodyStep::More(OpenBody { blocks, so_far }))
     }
 
     /// The body, where no line is left. Blocks without an `end` end there.

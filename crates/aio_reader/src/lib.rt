@@ -1,7 +1,7 @@
 //! The bytes that one reader holds, and the operations that take them.
 #![tactic(auto)]
 
-mod held;
+mod buffer;
 mod reader;
 mod search;
 

@@ -6,7 +6,7 @@ ghost use Rattle.model_value.specs.Value.{exception_of};
 ghost use Rattle.model_stream.specs.declared.read_op.Taken.TheVariants.{Raises};
 ghost use Rattle.model_stream.specs.Reading.{after_take};
 
-use crate::held::Held;
+use crate::buffer::Buffer;
 use aio_base::{Blob, Exc, Kind, Memory, exception};
 use std::alloc::Global;
 use std::marker::Model;
@@ -23,7 +23,7 @@ pub type Taken = model_stream::Taken<Blob, Exc>;
 /// Source: `streams.py`, StreamReader.
 #[derive(Drop)]
 pub struct Reader {
-    held: Held,
+    held: Buffer,
     ended: bool,
     failed: Option<Exc>,
     limit: usize,
@@ -48,7 +48,7 @@ impl Reader {
         ensures { result ≡ reading.new_reading limit }
     {
         Reader {
-            held: Held::new(alloc),
+            held: Buffer::new(alloc),
             ended: false,
             failed: None,
             limit,

@@ -3,15 +3,15 @@ use Rattle.std.proofs.Common.{◌≡◌, ℕ, Bool, true, false, ◌||◌, ◌&&
 use Rattle.std.proofs.lemmas.Bool.{and_parts, false≢true, true≢false}
 use Rattle.std.proofs.lemmas.List.Folds.{list_all-append}
 use mathlib.Core.List.{reverse_aux}
-use Rattle.aio_ready.specs.declared.handle.Name.{Name}
-use Rattle.aio_ready.specs.declared.handle.Name.TheVariants.{Nameless, Given, Timer}
+use Rattle.aio_ready.specs.declared.handle.HandleName.{HandleName}
+use Rattle.aio_ready.specs.declared.handle.HandleName.TheVariants.{Nameless, Given, Timer}
 use Rattle.aio_ready.specs.declared.handle.Handle.{Handle}
 use Rattle.aio_ready.specs.Names.{is_same, marked}
 use Rattle.aio_ready.specs.Queue.{is_empty}
 use Rattle.aio_ready.specs.Untimed.{is_timed, are_untimed}
 
 -- ---- a timer's number names none of them
-other : (number : ℕ) (name : Name) → not (is_timed name) ≡ true → is_same (Timer number) name ≡ false
+other : (number : ℕ) (name : HandleName) → not (is_timed name) ≡ true → is_same (Timer number) name ≡ false
 other number Nameless h = refl
 other number (Given own) h = refl
 other number (Timer own) h = absurd (false≢true h)
@@ -30,7 +30,7 @@ passed_by number (handle ∷ handles) h =
     rw (one_passed number handle parts.0, passed_by number handles parts.1) refl
 
 -- ---- marks leave names
-pub marks_leave : (name : Name) (handles : List Handle) → are_untimed (map (marked name) handles) ≡ are_untimed handles
+pub marks_leave : (name : HandleName) (handles : List Handle) → are_untimed (map (marked name) handles) ≡ are_untimed handles
 marks_leave name [] = refl
 marks_leave name (handle ∷ handles) = rw (marks_leave name handles) refl
 

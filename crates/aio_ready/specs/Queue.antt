@@ -1,8 +1,8 @@
 -- The handles that wait to run. Source: PEP 3156, "Callback Handles"; `base_events.py`, `call_soon`, `_run_once`.
 use Rattle.std.specs.Prelude.{ℕ, ◌+◌, ◌^◌, Bool, true, false, List, [], ◌∷◌, ◌++◌, Option, None, Some, drop, map, nat_lt, if◌then◌else◌}
 use Rattle.aio_ready.specs.Names.{marked}
-use Rattle.aio_ready.specs.declared.handle.Name.{Name}
-use Rattle.aio_ready.specs.declared.handle.Name.TheVariants.{Nameless, Given}
+use Rattle.aio_ready.specs.declared.handle.HandleName.{HandleName}
+use Rattle.aio_ready.specs.declared.handle.HandleName.TheVariants.{Nameless, Given}
 use Rattle.aio_ready.specs.declared.handle.Handle.{Handle}
 use Rattle.model_value.specs.Action.{Action}
 
@@ -28,14 +28,14 @@ abbrev pub most_given : ℕ
 most_given = 2 ^ 62
 
 -- the name that the next handle gets
-abbrev pub next_name : Queue → Name
+abbrev pub next_name : Queue → HandleName
 next_name q = if nat_lt q.given most_given then Given q.given else Nameless
 
 abbrev pub given_after : Queue → ℕ
 given_after q = if nat_lt q.given most_given then q.given + 1 else q.given
 
 -- a handle behind all others
-abbrev pub appended : Name → Action → Queue → Queue
+abbrev pub appended : HandleName → Action → Queue → Queue
 appended name action q = record q { after = q.after ++ record { name = name; action = action; dead = false } ∷ [] }
 
 -- `call_soon`
@@ -48,7 +48,7 @@ soon_all [] q = q
 soon_all (action ∷ actions) q = soon_all actions (soon action q)
 
 -- The handle with this name keeps its place, and does nothing.
-abbrev pub cancelled : Name → Queue → Queue
+abbrev pub cancelled : HandleName → Queue → Queue
 cancelled name q = record q { below = map (marked name) q.below; after = map (marked name) q.after }
 
 -- all that wait now stand before the bar

@@ -7,7 +7,7 @@ use aio_base::Action;
 
 /// What a handle can be cancelled by.
 #[derive(Clone, Copy, Debug)]
-pub enum Name {
+pub enum HandleName {
     /// Nothing: no number was left.
     Nameless,
     /// The number that `Ready::soon` gave.
@@ -19,25 +19,25 @@ pub enum Name {
 /// What `Ready::soon` answers.
 #[derive(Clone, Copy, Debug)]
 pub struct HandleId {
-    pub name: Name,
+    pub name: HandleName,
 }
 
 /// A handle that waits to run: what it runs, and whether it was cancelled.
 #[derive(Debug, Drop)]
 pub struct Handle {
-    pub name: Name,
+    pub name: HandleName,
     pub action: Action,
     pub dead: bool,
 }
 
-impl Name {
+impl HandleName {
     /// Whether both name one handle. `Nameless` names none.
-    pub fn is_same(self, other: Name) -> bool
+    pub fn is_same(self, other: HandleName) -> bool
         ensures { result ≡ is_same self other }
     {
         match (self, other) {
-            (Name::Given(own), Name::Given(others)) => own == others,
-            (Name::Timer(own), Name::Timer(others)) => own == others,
+            (HandleName::Given(own), HandleName::Given(others)) => own == others,
+            (HandleName::Timer(own), HandleName::Timer(others)) => own == others,
             _ => false,
         }
     }
@@ -46,13 +46,13 @@ impl Name {
     pub fn is_timed(self) -> bool
         ensures { result ≡ is_timed self }
     {
-        matches!(self, Name::Timer(_))
+        matches!(self, HandleName::Timer(_))
     }
 }
 
 impl Handle {
     /// The handle, dead where it has this name.
-    pub fn marked(self, name: Name) -> Handle
+    pub fn marked(self, name: HandleName) -> Handle
         ensures { result ≡ marked name self }
     {
         let dead = self.dead | name.is_same(self.name);

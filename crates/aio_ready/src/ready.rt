@@ -5,10 +5,10 @@ ghost use Rattle.aio_ready.specs.Names.{marked};
 ghost use Rattle.aio_ready.specs.Untimed.{are_untimed};
 ghost use Rattle.aio_ready.specs.Queue.{no_handles, soon, soon_all, next_name, appended, cancelled, barred, next_action, given_after, taken, is_empty};
 
-use crate::handle::{Handle, HandleId, Name};
+use crate::callbacks::Callbacks;
+use crate::handle::{Handle, HandleId, HandleName};
 use crate::stack::Stack;
 use crate::ticket::Ticket;
-use crate::waiting::Waiting;
 use aio_base::{Action, Memory};
 use std::alloc::Global;
 use std::marker::Model;
@@ -46,10 +46,10 @@ impl Model for Ready {
 // A timer's handle is dead, where some handle of a timer may be among them.
 fn mark_due(handles: &mut Stack, falls: bool, timer: u64)
     requires { falls ≡ false → are_untimed handles.old ≡ true }
-    ensures { handles.new ≡ map (marked (Name.Timer timer)) handles.old }
+    ensures { handles.new ≡ map (marked (HandleName.Timer timer)) handles.old }
 {
     if falls {
-        handles.mark(Name::Timer(timer));
+        handles.mark(HandleName::Timer(timer));
     }
 }
 
@@ -86,7 +86,7 @@ impl Ready {
     }
 
     /// `call_soon` of all that wait, in order.
-    pub fn soon_all(&mut self, waiting: &mut Waiting)
+    pub fn soon_all(&mut self, waiting: &mut Callbacks)
         ensures after { self.new ≡ soon_all waiting.old self.old }
         ensures waiting { waiting.new ≡ [] }
     {
@@ -112,14 +112,14 @@ impl Ready {
 
     /// A timer's handle, which keeps the timer's number.
     pub fn soon_due(&mut self, ticket: Ticket, action: Action, timer: u64)
-        ensures { self.new ≡ appended (Name.Timer timer) action self.old }
+        ensures { self.new ≡ appended (HandleName.Timer timer) action self.old }
     {
-        self.append(ticket, Name::Timer(timer), action);
+        self.append(ticket, HandleName::Timer(timer), action);
     }
 
     /// As `cancel`, of what `soon_due` appended under this number. It looks through no handles where none of a timer waits.
     pub fn cancel_due(&mut self, timer: u64)
-        ensures { self.new ≡ cancelled (Name.Timer timer) self.old }
+        ensures { self.new ≡ cancelled (HandleName.Timer timer) self.old }
     {
         mark_due(&mut self.below, self.falls_below, timer);
         mark_due(&mut self.late, self.falls_late, timer);
@@ -157,13 +157,13 @@ impl Ready {
         None
     }
 
-    fn next_name(&self) -> Name
+    fn next_name(&self) -> HandleName
         ensures { result ≡ next_name self.now }
     {
         if self.given < MOST_GIVEN {
-            Name::Given(self.given)
+            HandleName::Given(self.given)
         } else {
-            Name::Nameless
+            HandleName::Nameless
         }
     }
 
@@ -175,7 +175,7 @@ impl Ready {
         }
     }
 
-    fn append(&mut self, ticket: Ticket, name: Name, action: Action)
+    fn append(&mut self, ticket: Ticket, name: HandleName, action: Action)
         ensures { self.new ≡ appended name action self.old }
     {
         let dead = false;
@@ -183,7 +183,7 @@ impl Ready {
         self.late.push(ticket, Handle { name, action, dead });
     }
 
-    fn mark(&mut self, name: Name)
+    fn mark(&mut self, name: HandleName)
         ensures { self.new ≡ cancelled name self.old }
     {
         self.below.mark(name);

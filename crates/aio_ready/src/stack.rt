@@ -3,7 +3,7 @@ ghost use Rattle.std.specs.Prelude.{◌≡◌, [], ◌∷◌, ◌++◌, map, rev
 ghost use Rattle.aio_ready.specs.Names.{marked};
 ghost use Rattle.aio_ready.specs.Queue.{is_empty};
 
-use crate::handle::{Handle, Name};
+use crate::handle::{Handle, HandleName};
 use crate::ticket::Ticket;
 use std::marker::Model;
 
@@ -103,7 +103,7 @@ impl Stack {
     }
 
     /// Those with this name are dead.
-    pub fn mark(&mut self, name: Name)
+    pub fn mark(&mut self, name: HandleName)
         ensures { self.new ≡ map (marked name) self.old }
     {
         let mut turned = Stack::new();

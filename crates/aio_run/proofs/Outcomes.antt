@@ -17,7 +17,7 @@ use Rattle.model_wire.specs.Told.{Agrees, FileFailed, Rose, ShelfSeen, SinkSeen,
 use Rattle.model_wire.specs.Trace.{line}
 use Rattle.model_machine.specs.Program.{Manner, script_refused, script_failed, FileSays, JournalSays, JournalBegins, MayRun, MayRunIf, MayRunScript, MayReplay, MayCheck, checked, not_run}
 use Rattle.model_machine.specs.Served.{is_served}
-use Rattle.model_machine.specs.Theorem.{Output, MayBegin, WritesWhole}
+use Rattle.model_machine.specs.Theorem.{ProgramOutput, MayBegin, WritesWhole}
 use Rattle.aio_memwire.specs.declared.buffers.Buffers.{Buffers}
 use Rattle.aio_memwire.specs.JournalWire.{left_of, seen_of}
 use Rattle.aio_memwire.specs.Reading.{IsFront}
@@ -60,7 +60,7 @@ none_failed old new same = ap (λ (s : ShelfSeen). s.faults) same
 pub may_run : (program : Program) (how : code.Manner) (journal : List ℕ) (old new : ShelfSeen) (before after : WireSeen) (fails quiet : Type 0)
     → before.left ≡ left_of (old.file journal) None → (old.file journal ≡ Some None → fails) → (quiet → new ≡ old)
     → (Rose before.faults after.faults → FileFailed journal old new)
-    → (output : Output) → MayDrive program how end.ShelfFault before after (Undisturbed fails quiet) output
+    → (output : ProgramOutput) → MayDrive program how end.ShelfFault before after (Undisturbed fails quiet) output
     → MayRun old new program (manner_of journal how) output
 may_run program how journal old new before after fails quiet told missing same failed output (inl ((alive, still), entries, agrees, is)) =
     inl (
@@ -107,7 +107,8 @@ rose_here {F} seen first held now after name late journal same left named kept r
     subst (λ (n : ℕ). Rose ((seen first).faults journal) n) behind (subst (λ (n : ℕ). Rose n ((seen now).faults late)) before rose)
 
 -- what may be written by more than one rule
-module _ (may might : Output → Type 0) (none nothing : Type 0) (wider : (output : Output) → may output → might output) (as_well : none → nothing) where
+module _ (may might : ProgramOutput → Type 0) (none nothing : Type 0) (wider : (output : ProgramOutput) → may output → might output)
+    (as_well : none → nothing) where
   widened : (front : List ℕ) → MayBegin may none front → MayBegin might nothing front
   widened front (inl empty) = inl (empty.0, as_well empty.1)
   widened front (inr part) = inr (part.0, wider part.0 part.1, part.2)
@@ -129,13 +130,13 @@ module _ {F : Type 0} (seen : F → ShelfSeen) (first held now after : F) (name 
   abbrev Quiet : Type 0
   Quiet = seen now ≡ seen held
 
-  abbrev Drives : Output → Type 0
+  abbrev Drives : ProgramOutput → Type 0
   Drives = MayDrive program how end.ShelfFault (seen_of (seen held) name own) (seen_of (seen now) late own_last) (Undisturbed Fails Quiet)
 
-  abbrev Runs : Output → Type 0
+  abbrev Runs : ProgramOutput → Type 0
   Runs = MayRun (seen first) (seen after) program (manner_of journal how)
 
-  runs : (output : Output) → Drives output → Runs output
+  runs : (output : ProgramOutput) → Drives output → Runs output
   runs =
       may_run program how journal (seen first) (seen after) (seen_of (seen held) name own) (seen_of (seen now) late own_last) Fails Quiet
       (told_first seen held first name journal own.journal kept named unread)
@@ -154,17 +155,18 @@ module _ {F : Type 0} (seen : F → ShelfSeen) (first held now after : F) (name 
   run_early = early_wider Drives Runs Quiet (NoneFailed (seen first) (seen after)) runs none_then
 
 -- nothing was written, for want of memory
-pub nothing_yet : (may : Output → Type 0) (none : Type 0) (sink : SinkSeen) → none → EndsEarly may none sink sink Memory
+pub nothing_yet : (may : ProgramOutput → Type 0) (none : Type 0) (sink : SinkSeen) → none → EndsEarly may none sink sink Memory
 nothing_yet may none sink holds = ([], inl (refl, holds), sym (took-nil sink))
 
 -- a line that is all of an output
-pub line_early : (halt : Halt) (may : Output → Type 0) (none : Type 0) (output : Output) (text : List ℕ) (old new : SinkSeen) → may output
+pub line_early : (halt : Halt) (may : ProgramOutput → Type 0) (none : Type 0) (output : ProgramOutput) (text : List ℕ) (old new : SinkSeen) → may output
     → text ≡ output.text → StopsWriting text old new halt → EndsEarly may none old new halt
 line_early Memory may none output text old new allowed same stops = (stops.0, inr (output, allowed, (stops.1.0, stops.1.1 ∙ same)), stops.2)
 line_early Sink may none output text old new allowed same stops = (stops.0, inr (output, allowed, (stops.1.0, stops.1.1 ∙ same)), stops.2)
 
 -- none of it was written, for want of memory
-pub line_unwritten : (may : Output → Type 0) (none : Type 0) (output : Output) (sink : SinkSeen) → may output → EndsEarly may none sink sink Memory
+pub line_unwritten : (may : ProgramOutput → Type 0) (none : Type 0) (output : ProgramOutput) (sink : SinkSeen) → may output
+    → EndsEarly may none sink sink Memory
 line_unwritten may none output sink allowed = ([], inr (output, allowed, (output.text, refl)), sym (took-nil sink))
 
 -- the line of a script that doesn't run so far
@@ -187,18 +189,18 @@ front_says (Some held) front is =
 
 -- a script's replay, by the rules for its text; reading it changed nothing of the shelf
 pub replay_by_script : (script : Program) (old mid new : ShelfSeen) (name : List ℕ) (how : Manner) → SpellsScript (old.file name) script → mid ≡ old
-    → (output : Output) → MayRunIf mid new (is_served script) script how output → MayReplay old new name how output
+    → (output : ProgramOutput) → MayRunIf mid new (is_served script) script how output → MayReplay old new name how output
 replay_by_script script old mid new name how spells same output may =
     let here = subst (λ (s : ShelfSeen). MayRunIf s new (is_served script) script how output) same may in
     inr (spells.0, spells.1, subst (λ (p : Judged Program). MayRunScript old new p how output) (sym spells.2) here)
 
-refused_as : (number cause : ℕ) (why : Cause) (output : Output) → cause ≡ cause_number why → Tells (Refused number cause) output
+refused_as : (number cause : ℕ) (why : Cause) (output : ProgramOutput) → cause ≡ cause_number why → Tells (Refused number cause) output
     → output ≡ script_refused (record { line = number; cause = why })
 refused_as number cause why output same tells =
     tells ∙ ap (λ (n : ℕ). record { text = line (refusal_text number n); status = 3 }) same
 
 pub replay_without : (none : NoScript) (old new : ShelfSeen) (name : List ℕ) (how : Manner) → IsMissing name old new none
-    → (output : Output) → Tells none output → MayReplay old new name how output
+    → (output : ProgramOutput) → Tells none output → MayReplay old new name how output
 replay_without (Refused number cause) old new name how missing output tells =
     let (text, why, says, spells, is) = missing.0 in
     let refused : MayRunScript old new (fault_at number why) how output = (none_failed old new missing.1, refused_as number cause why output is tells) in
@@ -209,11 +211,11 @@ replay_without NoMemory old new name how missing output tells = absurd tells
 pub check_by_script : (script : Program) (old new : ShelfSeen) (name : List ℕ) → SpellsScript (old.file name) script → new ≡ old
     → MayCheck old new name (record { text = canonical script; status = 0 })
 check_by_script script old new name spells same =
-    let output : Output = record { text = canonical script; status = 0 } in
+    let output : ProgramOutput = record { text = canonical script; status = 0 } in
     inr (none_failed old new same, spells.0, spells.1, subst (λ (p : Judged Program). output ≡ checked p) (sym spells.2) refl)
 
 pub check_without : (none : NoScript) (old new : ShelfSeen) (name : List ℕ) → IsMissing name old new none
-    → (output : Output) → Tells none output → MayCheck old new name output
+    → (output : ProgramOutput) → Tells none output → MayCheck old new name output
 check_without (Refused number cause) old new name missing output tells =
     let (text, why, says, spells, is) = missing.0 in
     let refused = refused_as number cause why output is tells in

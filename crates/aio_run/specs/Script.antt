@@ -8,7 +8,7 @@ use Rattle.model_text.specs.FirstPass.{fault_at}
 use Rattle.model_text.specs.Scripts.{script_of}
 use Rattle.model_wire.specs.Told.{ShelfSeen, FileFailed}
 use Rattle.model_wire.specs.Trace.{line}
-use Rattle.model_machine.specs.Theorem.{Output}
+use Rattle.model_machine.specs.Theorem.{ProgramOutput}
 use Rattle.model_machine.specs.Program.{FileSays, script_failed}
 use Rattle.aio_run.specs.declared.script.NoScript.{NoScript}
 use Rattle.aio_run.specs.declared.script.NoScript.TheVariants.{Refused, Failed, Memory}
@@ -32,7 +32,7 @@ abbrev pub refusal_text : ℕ → ℕ → List ℕ
 refusal_text number cause = codes "! script " ++ decimal number ++ codes " " ++ decimal cause
 
 -- what is written where there is no script
-abbrev pub Tells : NoScript → Output → Type 0
+abbrev pub Tells : NoScript → ProgramOutput → Type 0
 Tells (Refused number cause) output = output ≡ record { text = line (refusal_text number cause); status = 3 }
 Tells Failed output = output ≡ script_failed
 Tells Memory output = ⊥

@@ -8,7 +8,7 @@ use Rattle.model_text.specs.declared.cause.Cause.TheVariants.{TooLong}
 use Rattle.model_text.specs.FirstPass.{Fault, fault_at, Numbered, first_pass}
 use Rattle.model_text.specs.Forms.{Spelled}
 use Rattle.model_text.specs.Scripts.{most_bytes, coroutine, judged_program, profile_in, script_of, script_of_lines, script_of_forms, script_of_parts}
-use Rattle.model_text.specs.SecondPass.{Parts, parts_of, second_pass}
+use Rattle.model_text.specs.SecondPass.{ScriptParts, parts_of, second_pass}
 use Rattle.model_text.specs.TextLines.{text_lines}
 use Rattle.aio_program.specs.Line.{plain_part}
 use Rattle.aio_program.specs.declared.line.NamedPart.{NamedPart}
@@ -38,7 +38,7 @@ again : (parts : List NamedPart) → map (λ part. coroutine (plain_part part)) 
 again [] = refl
 again (part ∷ parts) = ap (λ others. coroutine (plain_part part) ∷ others) (again parts)
 
-pub from_parts : (last profile : ℕ) (parts : Parts (Numbered Spelled)) (named : List NamedPart) (coroutines : List Coroutine) (script : Program) → second_pass last parts.coroutines ≡ Ok (map plain_part named) → profile ≡ profile_in parts.front → coroutines ≡ map (λ part. coroutine (plain_part part)) named → script ≡ record { profile = profile; coroutines = coroutines } → script_of_parts last parts ≡ Ok script
+pub from_parts : (last profile : ℕ) (parts : ScriptParts (Numbered Spelled)) (named : List NamedPart) (coroutines : List Coroutine) (script : Program) → second_pass last parts.coroutines ≡ Ok (map plain_part named) → profile ≡ profile_in parts.front → coroutines ≡ map (λ part. coroutine (plain_part part)) named → script ≡ record { profile = profile; coroutines = coroutines } → script_of_parts last parts ≡ Ok script
 from_parts last profile parts named coroutines script passed of_front all is =
     ap (judged_program (profile_in parts.front)) passed
     ∙ ap Ok (ap₂ (λ (p : ℕ) (cs : List Coroutine). record { profile = p; coroutines = cs }) (sym of_front) (sym (all ∙ again named)) ∙ sym is)

@@ -27,7 +27,7 @@ use Rattle.law_inside.proofs.Counts.{get_there, lives_within}
 use Rattle.law_kept.proofs.Telling.{next_kept, outcome_kept, pending_kept}
 use Rattle.law_machine.proofs.Waking.{woken_ends}
 use Rattle.law_turns.specs.Replied.{RunsSound}
-use Rattle.aio_cancel.specs.Body.{Appended}
+use Rattle.aio_cancel.specs.Awaitables.{Appended}
 use Rattle.aio_task.specs.Keeps.{Ties}
 use Rattle.aio_task.specs.View.{View, parts}
 use Rattle.aio_extra.specs.Added.{Added, named_in}
@@ -35,12 +35,12 @@ use Rattle.aio_extra.specs.Called as by_call
 use Rattle.aio_extra.specs.Called.{IsServed, MayServe, SaysAs}
 use Rattle.aio_extra.specs.declared.asked.Asked.{Asked}
 use Rattle.aio_extra.specs.declared.asked.Asked.TheVariants.{Answer, Raise, Wait}
-use Rattle.aio_body.specs.Asked.{HasRested, IsAsking, IsDeciding, IsGoing, IsInStep, MayAsk, MayDecide, Says}
+use Rattle.aio_body.specs.Asked.{HasRested, IsAskingFor, IsDeciding, IsGoing, IsInStep, MayAsk, MayDecide, Says}
 use Rattle.aio_body.specs.Slots.{standing_at}
 use Rattle.aio_body.specs.Stands.{IsOwnSleep, Setting}
 use Rattle.aio_body.specs.declared.body.Body.{Body}
-use Rattle.aio_body.specs.declared.reply.Reply.{Reply}
-use Rattle.aio_body.specs.declared.reply.Reply.TheVariants as reply
+use Rattle.aio_body.specs.declared.reply.RequestReply.{RequestReply}
+use Rattle.aio_body.specs.declared.reply.RequestReply.TheVariants as reply
 use Rattle.aio_body.specs.declared.standing.Standing.TheVariants.{Serving}
 use Rattle.law_body.proofs.Adding.{served_of, sound_called, stands_called, ties_called}
 use Rattle.law_body.proofs.Lasting.{Spares}
@@ -269,10 +269,10 @@ module _ {X : Type 0} (a : Added X) (task : ℕ) (body : Body X) (code arguments
       ∥∥₁_map m (λ w.
       (w.0, (called (a.meaning.ask task number items w.1.0).call w.1.0, ((a.meaning.ask task number items w.1.0).answer, asked_so w.0 w.1.0 w.1.1.going))))
 
-  pub asks_end : (new : Body X) (said : Reply)
+  pub asks_end : (new : Body X) (said : RequestReply)
       → ((c : Setting a) (s : State a.Kept) (it : ExtraAnswer) → IsAnswering task asked it c (record body { parts = v; extra = x }) s
       → Says task c new said (answered a.meaning task it s))
-      → (c : Setting a) (s : State a.Kept) → IsAsking task (request.Extra code arguments) c body s
+      → (c : Setting a) (s : State a.Kept) → IsAskingFor task (request.Extra code arguments) c body s
       → Says task c new said (plain.reply a.meaning task (request.Extra code arguments) s)
   asks_end new said does c s h =
       subst (Says task c new said) (sym (added_means a.meaning task s code arguments number items is_code are_items))
@@ -296,7 +296,7 @@ module _ {X : Type 0} {a : Added X} (task key : ℕ) (body : Body X) (input : In
       ∥∥₁_map m (λ w.
       (w.0, (called (a.meaning.wake key input w.1.0).call w.1.0, ((a.meaning.wake key input w.1.0).answer, woken_so w.0 w.1.0 w.1.1))))
 
-  pub wakes_end : (new : Body X) (said : Reply)
+  pub wakes_end : (new : Body X) (said : RequestReply)
       → ((c : Setting a) (s : State a.Kept) (it : ExtraAnswer) → IsAnswering task asked it c (record body { parts = v; extra = x }) s
       → Says task c new said (answered a.meaning task it s))
       → (c : Setting a) (s : State a.Kept) → IsDeciding task (standing.Serving key) c body s
@@ -328,7 +328,7 @@ module _ {X : Type 0} (a : Added X) (task : ℕ) (first : Asked) (old : Body X) 
       let came = one c again.now again.it again.answering in
       record { now = came.now; it = came.it; answering = came.answering; same = came.same ∙ again.same }
 
-  pub on_end : (asked : Asked) (body new : Body X) (said : Reply) → AreAnswered asked body
+  pub on_end : (asked : Asked) (body new : Body X) (said : RequestReply) → AreAnswered asked body
       → ((c : Setting a) (s : State a.Kept) (it : ExtraAnswer) → IsAnswering task asked it c body s
       → AnswersAs task c new (Replies said) (answered a.meaning task it s))
       → (c : Setting a) (s : State a.Kept) (it : ExtraAnswer) → IsAnswering task first it c old s → Says task c new said (answered a.meaning task it s)

@@ -33,8 +33,8 @@ use Rattle.aio_body.specs.Slots.{HoldsMore}
 use Rattle.aio_body.specs.Stands.{Setting, Stands, WaitsAs}
 use Rattle.aio_flat.specs.Code.{IsCodeOf}
 use Rattle.aio_body.specs.declared.body.Body.{Body}
-use Rattle.aio_body.specs.declared.reply.Reply.{Reply}
-use Rattle.aio_body.specs.declared.reply.Reply.TheVariants.{Answers, Raises}
+use Rattle.aio_body.specs.declared.reply.RequestReply.{RequestReply}
+use Rattle.aio_body.specs.declared.reply.RequestReply.TheVariants.{Answers, Raises}
 use Rattle.law_body.proofs.Leaving.{IsNew, Leaves}
 use Rattle.law_body.proofs.Left.{any}
 use Rattle.law_body.proofs.Slotting.{runs_no_other}
@@ -199,7 +199,7 @@ module _ {X : Type 0} {a : Added X} (task id coroutine : ℕ) (arguments : List 
       ≡ option_map refusal_fault (refusal (group_of s.loop id))
   fault_of = ap (option_map refusal_fault) (refused_is (refusal (group_of s.loop id)) (next_task s.loop.parts))
 
-  pub refuses_so : (answer : Created) (fault : Exc) (said : Reply) → answer ≡ created_of (refusal (group_of s.loop id)) (next_task s.loop.parts)
+  pub refuses_so : (answer : Created) (fault : Exc) (said : RequestReply) → answer ≡ created_of (refusal (group_of s.loop id)) (next_task s.loop.parts)
       → Some fault ≡ option_map refusal_fault (refusal_in answer) → said ≡ Raises fault → Says task c mid said (creates id coroutine arguments s)
   refuses_so answer fault said is e says =
       at (refusal (group_of s.loop id)) refl (e ∙ ap (λ a. option_map refusal_fault (refusal_in a)) is ∙ fault_of)
@@ -212,7 +212,7 @@ module _ {X : Type 0} {a : Added X} (task id coroutine : ℕ) (arguments : List 
           raises_so task c mid s said (creates id coroutine arguments s) (refusal_fault cause) (says ∙ ap Raises same)
           (ap (λ o. creates_unless o id coroutine arguments s) r) (refused_stands cause r)
 
-  pub creates_so : (answer : Created) (new : Body X) (said : Reply) → answer ≡ created_of (refusal (group_of s.loop id)) (next_task s.loop.parts)
+  pub creates_so : (answer : Created) (new : Body X) (said : RequestReply) → answer ≡ created_of (refusal (group_of s.loop id)) (next_task s.loop.parts)
       → None ≡ option_map refusal_fault (refusal_in answer) → said ≡ Answers (values.Task (next_task s.loop.parts))
       → HoldsMore coroutine arguments mid new → length old.slots.items + 1 < 2 ^ 32
       → Says task c new said (creates id coroutine arguments s)

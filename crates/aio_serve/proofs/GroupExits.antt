@@ -26,7 +26,7 @@ use Rattle.aio_group.specs.Stands.{Came}
 use Rattle.aio_group.proofs.Standing.{then_extends}
 use Rattle.aio_extra.specs.Added.{Added, named_in}
 use Rattle.aio_body.specs.declared.body.Body.{Body}
-use Rattle.aio_body.specs.declared.reply.Reply.{Reply}
+use Rattle.aio_body.specs.declared.reply.RequestReply.{RequestReply}
 use Rattle.aio_body.specs.declared.standing.Standing.TheVariants.{Leaving}
 use Rattle.aio_body.specs.Asked.{HasRested, IsInStep, Says}
 use Rattle.aio_body.specs.Slots.{standing_at}
@@ -154,7 +154,7 @@ module _ {X : Type 0} {a : Added X} (task group : ℕ) (c : Setting a) (old mid 
         running = ap (λ (v : View). v.running) is.parts;
       }
 
-  pub exits_so : (end : GroupExit) (said : Reply) → exit_of end ≡ exited.answer → GoneOn task group end mid new said
+  pub exits_so : (end : GroupExit) (said : RequestReply) → exit_of end ≡ exited.answer → GoneOn task group end mid new said
       → Says task c new said (exits_group exited task group s)
   exits_so end said answer is = subst (λ a. Says task c new said (exits_as a task group (with_loop exited.loop s))) answer (at end answer is)
     where

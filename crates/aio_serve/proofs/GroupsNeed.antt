@@ -29,7 +29,7 @@ use Rattle.aio_task.specs.Keeps.{Ties}
 use Rattle.aio_group.proofs.Listing.{all_to, index_at, index_past}
 use Rattle.aio_group.proofs.Standing.{there}
 use Rattle.aio_group.specs.Held.{Held, held_at, new_held, shown}
-use Rattle.aio_group.specs.Stands.{AllBelong, Belongs, IsLive, IsOwn, KeepsAt, StandsFor, bare}
+use Rattle.aio_group.specs.Stands.{AllBelong, Belongs, IsLive, IsOwn, KeepsAt, StandForGroups, bare}
 use Rattle.aio_extra.specs.Added.{Added}
 use Rattle.aio_body.specs.declared.body.Body.{Body}
 use Rattle.aio_body.specs.Stands.{Setting, Stands}
@@ -58,7 +58,7 @@ all_belong_prop v groups = hlevel (belongs_prop v)
 
 -- ---- a group in code is the machine's
 -- also one that isn't there
-pub shown_is : (t : Ties) (v : View) (p : Parts) (groups : List Held) (l : Loop) (id : ℕ) → StandsFor t groups v p l.groups
+pub shown_is : (t : Ties) (v : View) (p : Parts) (groups : List Held) (l : Loop) (id : ℕ) → StandForGroups t groups v p l.groups
     → shown (held_at groups id) ≡ bare (group_of l id)
 shown_is t v p groups l id s = at (slice_get groups id) (slice_get l.groups id) refl refl (s.each id)
   where

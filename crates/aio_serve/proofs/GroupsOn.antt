@@ -23,7 +23,7 @@ use Rattle.aio_task.specs.Keeps.{Ties, Kept}
 use Rattle.aio_timeout.proofs.Keeping.{timeouts_stay}
 use Rattle.aio_timeout.specs.Kept.{AreTimeouts}
 use Rattle.aio_group.specs.Held.{Held}
-use Rattle.aio_group.specs.Stands.{Came, StandsFor}
+use Rattle.aio_group.specs.Stands.{Came, StandForGroups}
 use Rattle.aio_extra.specs.Added.{Added, named_in}
 use Rattle.aio_body.specs.declared.body.Body.{Body}
 use Rattle.aio_body.specs.Stands.{AreBlocks, Setting, Stands}
@@ -273,7 +273,7 @@ module _ {X : Type 0} {a : Added X} where
 
   -- groups and parts of a body stand for its loop
   pub groups_stand : (out : Option ℕ) (c : Setting a) (body : Body X) (s : State a.Kept) → (h : Stands out c body s)
-      → StandsFor h.ties body.groups body.parts s.loop.parts s.loop.groups
+      → StandForGroups h.ties body.groups body.parts s.loop.parts s.loop.groups
   groups_stand out c body s h = record { keeps = h.keeps; each = h.blocks.groups }
 
 -- the timeouts stay where tags are known as before

@@ -21,8 +21,8 @@ use Rattle.law_replies.proofs.Replying.{fits_in}
 use Rattle.law_timeouts.specs.Tags.{HaveTags}
 use Rattle.law_timeouts.proofs.Firing.{within}
 use Rattle.aio_ready.specs.Queue.{Queue}
-use Rattle.aio_timeout.specs.declared.handler.Handler.{Handler}
-use Rattle.aio_timeout.specs.declared.handler.Handler.TheVariants.{Soon, At}
+use Rattle.aio_timeout.specs.declared.handler.TimeoutHandler.{TimeoutHandler}
+use Rattle.aio_timeout.specs.declared.handler.TimeoutHandler.TheVariants.{Soon, At}
 use Rattle.aio_timeout.specs.declared.state.TimeoutExit.{TimeoutExit}
 use Rattle.aio_timeout.specs.declared.state.TimeoutExit.TheVariants.{Passes, TimedOut}
 use Rattle.aio_timeout.specs.Kept.{StepsNone, handler_at}
@@ -31,9 +31,9 @@ use Rattle.aio_timeout.proofs.Keeping.{timeouts_count}
 use Rattle.aio_timeout.proofs.Naming.{handlers_step_none}
 use Rattle.aio_extra.specs.Added.{Added}
 use Rattle.aio_body.specs.declared.body.Body.{Body}
-use Rattle.aio_body.specs.declared.reply.Reply.{Reply}
-use Rattle.aio_body.specs.declared.reply.Reply.TheVariants.{Answers, Raises}
-use Rattle.aio_body.specs.Asked.{IsAsking, IsGoing, IsInStep, MayAsk, Says, SomeGoes}
+use Rattle.aio_body.specs.declared.reply.RequestReply.{RequestReply}
+use Rattle.aio_body.specs.declared.reply.RequestReply.TheVariants.{Answers, Raises}
+use Rattle.aio_body.specs.Asked.{IsAskingFor, IsGoing, IsInStep, MayAsk, Says, SomeGoes}
 use Rattle.aio_body.specs.Stands.{Setting, Stands}
 use Rattle.aio_body.specs.Taken.{IsTaken, MayTake}
 use Rattle.aio_serve.specs.Left.{left_as}
@@ -116,7 +116,7 @@ pub unmade_is : (l : Loop) (id : ℕ) → length l.timeouts ≤ id → (timeout_
 unmade_is l id past = ap (λ t. t.state) (get_or_past l.timeouts id no_timeout past)
 
 -- ---- what calls require
-pub steps_prop : (q : Queue) (handler : Option Handler) → IsProp (StepsNone q handler)
+pub steps_prop : (q : Queue) (handler : Option TimeoutHandler) → IsProp (StepsNone q handler)
 steps_prop q None = hlevel props
 steps_prop q (Some (At id)) = hlevel props
 steps_prop q (Some (Soon id)) = hlevel props
@@ -136,7 +136,7 @@ module _ {X : Type 0} {a : Added X} where
       → MayAsk a task (request.TimeoutExit timeout raised) body → id < length body.timeouts
   exit_there task timeout raised id body e m = ∥∥₁_elim m le_prop (λ w. there w.0 w.1.0 w.1.1)
     where
-      there : (c : Setting a) (s : State a.Kept) → IsAsking task (request.TimeoutExit timeout raised) c body s → id < length body.timeouts
+      there : (c : Setting a) (s : State a.Kept) → IsAskingFor task (request.TimeoutExit timeout raised) c body s → id < length body.timeouts
       there c s h =
           let fit = fits_in a.meaning task s h.going.sound (request.TimeoutExit timeout raised) h.says refl id e in
           let inside = fit.0 in
@@ -183,7 +183,7 @@ module _ {X : Type 0} {a : Added X} where
   pub rescheduled_so : (task : ℕ) (c : Setting a) (body : Body X) (s : State a.Kept) (timeout when : Value) (id : ℕ) (it : Option ℤ)
       → as_timeout timeout ≡ Some id → as_delay when ≡ Some it → None ≡ refusal (timeout_of s.loop id).state
       → IsInStep task c body (in_loop (reschedule id it) s)
-      → (said : Reply) → said ≡ Answers Nothing → Says task c body said (reply a.meaning task (request.Reschedule timeout when) s)
+      → (said : RequestReply) → said ≡ Answers Nothing → Says task c body said (reply a.meaning task (request.Reschedule timeout when) s)
   rescheduled_so task c body s timeout when id it named delay set h said e =
       answers_so task c body (in_loop (reschedule id it) s) said (reply a.meaning task (request.Reschedule timeout when) s) Nothing e
       (reschedule_goes a.meaning task s timeout when id it named delay
@@ -193,7 +193,7 @@ module _ {X : Type 0} {a : Added X} where
   pub inactive_so : (task : ℕ) (c : Setting a) (body : Body X) (s : State a.Kept) (timeout when : Value) (id : ℕ) (it : Option ℤ)
       (state : TimeoutState) → as_timeout timeout ≡ Some id → as_delay when ≡ Some it → is_active (timeout_of s.loop id).state ≡ false
       → state ≡ (timeout_of s.loop id).state → IsInStep task c body s
-      → (said : Reply) → said ≡ Raises (reschedule_fault state) → Says task c body said (reply a.meaning task (request.Reschedule timeout when) s)
+      → (said : RequestReply) → said ≡ Raises (reschedule_fault state) → Says task c body said (reply a.meaning task (request.Reschedule timeout when) s)
   inactive_so task c body s timeout when id it state named delay inactive same h said e =
       raises_so task c body s said (reply a.meaning task (request.Reschedule timeout when) s) (reschedule_fault (timeout_of s.loop id).state)
       (e ∙ ap (λ (x : TimeoutState). Raises (reschedule_fault x)) same)
@@ -202,7 +202,7 @@ module _ {X : Type 0} {a : Added X} where
   pub refused_so : (task : ℕ) (c : Setting a) (body : Body X) (s : State a.Kept) (timeout when : Value) (id : ℕ) (it : Option ℤ)
       (state : TimeoutState) → as_timeout timeout ≡ Some id → as_delay when ≡ Some it → Some state ≡ refusal (timeout_of s.loop id).state
       → IsInStep task c body (in_loop (reschedule id it) s)
-      → (said : Reply) → said ≡ Raises (reschedule_fault state) → Says task c body said (reply a.meaning task (request.Reschedule timeout when) s)
+      → (said : RequestReply) → said ≡ Raises (reschedule_fault state) → Says task c body said (reply a.meaning task (request.Reschedule timeout when) s)
   refused_so task c body s timeout when id it state named delay told h said e =
       let is = refused_is state (timeout_of s.loop id).state told in
       inactive_so task c body s timeout when id it state named delay is.0 is.1
@@ -210,7 +210,7 @@ module _ {X : Type 0} {a : Added X} where
 
   pub finished_so : (task : ℕ) (c : Setting a) (body : Body X) (s : State a.Kept) (timeout when : Value) (id : ℕ) (it : Option ℤ)
       → as_timeout timeout ≡ Some id → as_delay when ≡ Some it → length body.timeouts ≤ id → IsInStep task c body s
-      → (said : Reply) → said ≡ Raises (reschedule_fault Finished) → Says task c body said (reply a.meaning task (request.Reschedule timeout when) s)
+      → (said : RequestReply) → said ≡ Raises (reschedule_fault Finished) → Says task c body said (reply a.meaning task (request.Reschedule timeout when) s)
   finished_so task c body s timeout when id it named delay past h said e =
       let count = count_is (Some task) c body s h.stands in
       let over : length s.loop.timeouts ≤ id = omega (arith, count, past) in

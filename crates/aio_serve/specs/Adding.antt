@@ -16,7 +16,7 @@ use Rattle.aio_serve.specs.declared.added.Answered.{Answered}
 use Rattle.aio_serve.specs.declared.added.Answered.TheVariants.{Replies, Again}
 
 -- what the machine makes of an answer
-abbrev pub answered : {S : Type 0} → Extra S → ℕ → ExtraAnswer → State S → plain.Reply S
+abbrev pub answered : {S : Type 0} → Extra S → ℕ → ExtraAnswer → State S → plain.RequestReply S
 answered added task it s = serves_as it (woken added task) task s
 
 -- A call of what is added has given this answer, and the machine's call that one; both are in the state after it.
@@ -33,12 +33,12 @@ MayAnswer a task asked body =
 
 -- another answer, from which the machine's reply is the same
 pub record AnswersAgain {X : Type 0} {a : Added X} (task : ℕ) (asked : Asked) (c : Setting a) (body : Body X)
-    (machine : plain.Reply a.Kept) : Type 0 where
+    (machine : plain.RequestReply a.Kept) : Type 0 where
   pub now : State a.Kept
   pub it : ExtraAnswer
   pub answering : IsAnswering task asked it c body now
   pub same : answered a.meaning task it now ≡ machine
 
-abbrev pub AnswersAs : {X : Type 0} {a : Added X} → ℕ → Setting a → Body X → Answered → plain.Reply a.Kept → Type 0
+abbrev pub AnswersAs : {X : Type 0} {a : Added X} → ℕ → Setting a → Body X → Answered → plain.RequestReply a.Kept → Type 0
 AnswersAs task c body (Replies said) machine = Says task c body said machine
 AnswersAs task c body (Again asked) machine = AnswersAgain task asked c body machine

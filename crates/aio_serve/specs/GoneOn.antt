@@ -2,13 +2,13 @@
 use Rattle.std.specs.Prelude.{◌≡◌, ℕ, None}
 use Rattle.model_value.specs.Value.{Nothing}
 use Rattle.model_loop.specs.Suspend.{suspend}
-use Rattle.aio_cancel.specs.Body.{Appended}
+use Rattle.aio_cancel.specs.Awaitables.{Appended}
 use Rattle.aio_group.specs.declared.exit.GroupExit.{GroupExit}
 use Rattle.aio_group.specs.declared.exit.GroupExit.TheVariants as exit
 use Rattle.aio_task.specs.View.{parts}
 use Rattle.aio_body.specs.declared.body.Body.{Body}
-use Rattle.aio_body.specs.declared.reply.Reply.{Reply}
-use Rattle.aio_body.specs.declared.reply.Reply.TheVariants.{Answers, Raises, Rests}
+use Rattle.aio_body.specs.declared.reply.RequestReply.{RequestReply}
+use Rattle.aio_body.specs.declared.reply.RequestReply.TheVariants.{Answers, Raises, Rests}
 use Rattle.aio_body.specs.declared.standing.Standing.TheVariants.{Leaving}
 use Rattle.aio_body.specs.Slots.{standing_at}
 
@@ -25,7 +25,7 @@ pub record WaitsAtExit {X : Type 0} (task group future : ℕ) (old new : Body X)
   pub beside : new ≡ record old { parts = new.parts; slots = new.slots }
   pub slots : new.slots.items ≡ standing_at task (Leaving group) old.slots.items
 
-abbrev pub GoneOn : {X : Type 0} → (task group : ℕ) → GroupExit → (old new : Body X) → Reply → Type 0
+abbrev pub GoneOn : {X : Type 0} → (task group : ℕ) → GroupExit → (old new : Body X) → RequestReply → Type 0
 GoneOn task group (exit.Waits future) old new said = WaitsAtExit task group future old new × (said ≡ Rests)
 GoneOn task group exit.Passes old new said = (new ≡ old) × (said ≡ Answers Nothing)
 GoneOn task group (exit.Raises fault) old new said = (new ≡ old) × (said ≡ Raises fault)

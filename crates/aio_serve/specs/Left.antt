@@ -3,9 +3,9 @@ use Rattle.model_value.specs.Value.{Nothing}
 use Rattle.model_loop.specs.Timeouts.{timeout_fault}
 use Rattle.aio_timeout.specs.declared.state.TimeoutExit.{TimeoutExit}
 use Rattle.aio_timeout.specs.declared.state.TimeoutExit.TheVariants.{Passes, TimedOut}
-use Rattle.aio_body.specs.declared.reply.Reply.{Reply}
-use Rattle.aio_body.specs.declared.reply.Reply.TheVariants.{Answers, Raises}
+use Rattle.aio_body.specs.declared.reply.RequestReply.{RequestReply}
+use Rattle.aio_body.specs.declared.reply.RequestReply.TheVariants.{Answers, Raises}
 
-abbrev pub left_as : TimeoutExit → Reply
+abbrev pub left_as : TimeoutExit → RequestReply
 left_as Passes = Answers Nothing
 left_as TimedOut = Raises timeout_fault

@@ -10,7 +10,7 @@ ghost use Rattle.aio_body.specs.Stands.{Setting};
 ghost use Rattle.aio_serve.specs.Adding.{AnswersAs, IsAnswering, MayAnswer, answered};
 
 use aio_base::{Input, Memory, Value};
-use aio_body::{Body, Reply, Standing, as_int, bad_argument, input_of, is_list};
+use aio_body::{Body, RequestReply, Standing, as_int, bad_argument, input_of, is_list};
 use aio_extra::{Asked, Extra};
 use aio_task::FutureId;
 use std::alloc::Global;
@@ -18,7 +18,7 @@ use std::alloc::Global;
 /// What comes of an answer of what is added: a reply to the task, or another answer, of a request that was woken at once.
 #[derive(Drop)]
 pub enum Answered {
-    Replies(Reply),
+    Replies(RequestReply),
     Again(Asked),
 }
 
@@ -29,7 +29,7 @@ pub fn extra<X: Extra>(
     task: u32,
     code: &Value,
     arguments: &Value,
-) -> Result<Reply, Memory>
+) -> Result<RequestReply, Memory>
     requires { MayAsk X.added task (request.Extra code.now arguments.now) body.old }
     ensures { Serves X.added task (request.Extra code.now arguments.now) body.old body.new result }
 {
@@ -52,7 +52,7 @@ pub fn wake<X: Extra>(
     task: u32,
     key: u64,
     input: Input,
-) -> Result<Reply, Memory>
+) -> Result<RequestReply, Memory>
     requires { MayDecide X.added task (Serving key) body.old }
     ensures { IfOk result (λ said. (c : Setting X.added) (s : State X.added.Kept)
         → IsDeciding task (Serving key) c body.old s
@@ -68,7 +68,7 @@ fn answer<X: Extra>(
     alloc: Global,
     task: u32,
     asked: Asked,
-) -> Result<Reply, Memory>
+) -> Result<RequestReply, Memory>
     requires { MayAnswer X.added task asked body.old }
     ensures { IfOk result (λ said. (c : Setting X.added) (s : State X.added.Kept) (it : ExtraAnswer)
         → IsAnswering task asked it c body.old s
@@ -96,8 +96,8 @@ fn answer_one<X: Extra>(
         → AnswersAs task c body.new told (answered X.added.meaning task it s)) }
 {
     match asked {
-        Asked::Answer(value) => Ok(Answered::Replies(Reply::Answers(value))),
-        Asked::Raise(fault) => Ok(Answered::Replies(Reply::Raises(fault))),
+        Asked::Answer(value) => Ok(Answered::Replies(RequestReply::Answers(value))),
+        Asked::Raise(fault) => Ok(Answered::Replies(RequestReply::Raises(fault))),
         Asked::Wait { on, key } => wait(body, alloc, task, on, key),
     }
 }
@@ -117,7 +117,7 @@ fn wait<X: Extra>(
     let Some(outcome) = body.parts.outcome(on) else {
         let _suspension = body.parts.suspend(task, on);
         body.stand(task, Standing::Serving(key));
-        return Ok(Answered::Replies(Reply::Rests));
+        return Ok(Answered::Replies(RequestReply::Rests));
     };
     let input = input_of(outcome)?;
     let asked = body.extra.wake(alloc, key, input, &mut body.parts)?;

@@ -8,12 +8,14 @@ ghost use Rattle.std.specs.Option.{option_copied};
 ghost use Rattle.aio_body.specs.Asked.{SomeGoes, Replies, Serves};
 
 use aio_base::{Exc, Kind, Memory, Outcome, Value};
-use aio_body::{Body, MOST_IDS, Reply, as_failure, bad_argument, out_of_range, raises, replied};
+use aio_body::{
+    Body, MOST_IDS, RequestReply, as_failure, bad_argument, out_of_range, raises, replied,
+};
 use aio_extra::Extra;
 use std::alloc::Global;
 
 /// `future()`.
-pub fn make_future<X: Extra>(body: &mut Body<X>, alloc: Global) -> Result<Reply, Memory>
+pub fn make_future<X: Extra>(body: &mut Body<X>, alloc: Global) -> Result<RequestReply, Memory>
     requires { SomeGoes X.added body.old }
     ensures { (task : ℕ) → Serves X.added task request.MakeFuture body.old body.new result }
 {
@@ -23,7 +25,7 @@ pub fn make_future<X: Extra>(body: &mut Body<X>, alloc: Global) -> Result<Reply,
     }
     let id = body.parts.new_plain(alloc)?;
     body.futures.push(id)?;
-    Ok(Reply::Answers(Value::fut(made as u32)))
+    Ok(RequestReply::Answers(Value::fut(made as u32)))
 }
 
 pub fn set<X: Extra>(
@@ -31,7 +33,7 @@ pub fn set<X: Extra>(
     alloc: Global,
     future: &Value,
     value: Value,
-) -> Result<Reply, Memory>
+) -> Result<RequestReply, Memory>
     requires { SomeGoes X.added body.old }
     ensures { (task : ℕ) → Serves X.added task (request.Set future.now value) body.old body.new result }
 {
@@ -43,7 +45,7 @@ pub fn fail<X: Extra>(
     alloc: Global,
     future: &Value,
     fault: &Value,
-) -> Result<Reply, Memory>
+) -> Result<RequestReply, Memory>
     requires { SomeGoes X.added body.old }
     ensures { (task : ℕ) → Serves X.added task (request.Fail future.now fault.now) body.old body.new result }
 {
@@ -63,7 +65,7 @@ fn settle<X: Extra>(
     alloc: Global,
     future: &Value,
     outcome: Option<Outcome>,
-) -> Result<Reply, Memory>
+) -> Result<RequestReply, Memory>
     requires { SomeGoes X.added body.old }
     ensures { (task : ℕ) → Replies X.added task
         (λ s. given (as_future s future.now) (λ on. given outcome (settles on)) s) body.old body.new result }
@@ -78,28 +80,32 @@ fn settle<X: Extra>(
         return raises(alloc, Kind::InvalidStateError, "invalid state");
     }
     let _was_pending = body.parts.resolve(on, outcome);
-    Ok(Reply::Answers(Value::nothing()))
+    Ok(RequestReply::Answers(Value::nothing()))
 }
 
-pub fn is_done<X: Extra>(body: &Body<X>, alloc: Global, x: &Value) -> Result<Reply, Memory>
+pub fn is_done<X: Extra>(body: &Body<X>, alloc: Global, x: &Value) -> Result<RequestReply, Memory>
     ensures { (task : ℕ) → Serves X.added task (request.IsDone x.now) body.now body.now result }
 {
     match body.as_awaited(x) {
-        Some(on) => Ok(Reply::Answers(Value::bool(body.parts.outcome(on).is_some()))),
+        Some(on) => Ok(RequestReply::Answers(Value::bool(body.parts.outcome(on).is_some()))),
         None => bad_argument(alloc),
     }
 }
 
-pub fn is_cancelled<X: Extra>(body: &Body<X>, alloc: Global, x: &Value) -> Result<Reply, Memory>
+pub fn is_cancelled<X: Extra>(
+    body: &Body<X>,
+    alloc: Global,
+    x: &Value,
+) -> Result<RequestReply, Memory>
     ensures { (task : ℕ) → Serves X.added task (request.IsCancelled x.now) body.now body.now result }
 {
     match body.as_awaited(x) {
-        Some(on) => Ok(Reply::Answers(Value::bool(ended_cancelled(body.parts.outcome(on))))),
+        Some(on) => Ok(RequestReply::Answers(Value::bool(ended_cancelled(body.parts.outcome(on))))),
         None => bad_argument(alloc),
     }
 }
 
-pub fn result_of<X: Extra>(body: &Body<X>, alloc: Global, x: &Value) -> Result<Reply, Memory>
+pub fn result_of<X: Extra>(body: &Body<X>, alloc: Global, x: &Value) -> Result<RequestReply, Memory>
     ensures { (task : ℕ) → Serves X.added task (request.ResultOf x.now) body.now body.now result }
 {
     let Some(on) = body.as_awaited(x) else {

@@ -9,17 +9,21 @@ ghost use Rattle.model_machine.specs.State.{State, Leaving, in_loop};
 ghost use Rattle.aio_group.specs.declared.exit.GroupExit.TheVariants.{Waits};
 ghost use Rattle.aio_body.specs.Asked.{MayAsk, MayDecide, MayGo, SomeGoes, Serves, IsDeciding, Says};
 ghost use Rattle.aio_body.specs.Stands.{Setting};
-ghost use Rattle.aio_body.specs.Taken.{IsTaken, IsAfter, MayTake};
+ghost use Rattle.aio_body.specs.Taken.{IsTaken, IsAfterCallback, MayTake};
 ghost use Rattle.aio_serve.specs.GoneOn.{GoneOn};
 
 use aio_base::{Exc, Input, Memory, Value, ValueList};
-use aio_body::{Body, MOST_IDS, Reply, Standing, as_group, bad_argument, out_of_range};
+use aio_body::{Body, MOST_IDS, RequestReply, Standing, as_group, bad_argument, out_of_range};
 use aio_extra::Extra;
 use aio_group::GroupExit;
 use std::alloc::Global;
 
 /// The group is made and entered at once.
-pub fn enter_group<X: Extra>(body: &mut Body<X>, alloc: Global, task: u32) -> Result<Reply, Memory>
+pub fn enter_group<X: Extra>(
+    body: &mut Body<X>,
+    alloc: Global,
+    task: u32,
+) -> Result<RequestReply, Memory>
     requires { MayGo X.added task body.old }
     ensures { Serves X.added task request.GroupEnter body.old body.new result }
 {
@@ -28,7 +32,7 @@ pub fn enter_group<X: Extra>(body: &mut Body<X>, alloc: Global, task: u32) -> Re
     }
     let id = body.groups.make(alloc, task)?;
     body.groups.enter(id);
-    Ok(Reply::Answers(Value::group(id)))
+    Ok(RequestReply::Answers(Value::group(id)))
 }
 
 pub fn exit_group<X: Extra>(
@@ -37,7 +41,7 @@ pub fn exit_group<X: Extra>(
     task: u32,
     group: &Value,
     fault: Option<Exc>,
-) -> Result<Reply, Memory>
+) -> Result<RequestReply, Memory>
     requires { MayAsk X.added task (request.GroupExit group.now fault) body.old }
     ensures { Serves X.added task (request.GroupExit group.now fault) body.old body.new result }
 {
@@ -49,7 +53,7 @@ pub fn exit_group<X: Extra>(
 }
 
 // An exit that waits suspends its task.
-fn go_on<X: Extra>(body: &mut Body<X>, task: u32, group: u32, exit: GroupExit) -> Reply
+fn go_on<X: Extra>(body: &mut Body<X>, task: u32, group: u32, exit: GroupExit) -> RequestReply
     requires idle { body.old.parts.called ≡ None }
     requires running { body.old.parts.running ≡ Some task }
     requires within { task < length body.old.slots.items }
@@ -61,10 +65,10 @@ fn go_on<X: Extra>(body: &mut Body<X>, task: u32, group: u32, exit: GroupExit) -
         GroupExit::Waits(future) => {
             let _suspension = body.parts.suspend(task, future);
             body.stand(task, Standing::Leaving(group));
-            Reply::Rests
+            RequestReply::Rests
         }
-        GroupExit::Passes => Reply::Answers(Value::nothing()),
-        GroupExit::Raises(fault) => Reply::Raises(fault),
+        GroupExit::Passes => RequestReply::Answers(Value::nothing()),
+        GroupExit::Raises(fault) => RequestReply::Raises(fault),
     }
 }
 
@@ -74,7 +78,7 @@ pub fn create<X: Extra>(
     group: &Value,
     coroutine: u32,
     arguments: &ValueList,
-) -> Result<Reply, Memory>
+) -> Result<RequestReply, Memory>
     requires { SomeGoes X.added body.old }
     ensures { (task : ℕ) → Serves X.added task (request.Create group.now coroutine arguments.now) body.old body.new result }
 {
@@ -87,10 +91,10 @@ pub fn create<X: Extra>(
     }
     let created = body.groups.create(alloc, id, &mut body.parts)?;
     if let Some(fault) = created.fault(alloc)? {
-        return Ok(Reply::Raises(fault));
+        return Ok(RequestReply::Raises(fault));
     }
     body.hold(alloc, coroutine, arguments)?;
-    Ok(Reply::Answers(Value::task(made as u32)))
+    Ok(RequestReply::Answers(Value::task(made as u32)))
 }
 
 /// The exit of a group goes on after its wait.
@@ -100,7 +104,7 @@ pub fn leave_group<X: Extra>(
     task: u32,
     group: u32,
     input: Input,
-) -> Result<Reply, Memory>
+) -> Result<RequestReply, Memory>
     requires { MayDecide X.added task (Leaving group) body.old }
     ensures { IfOk result (λ said. (c : Setting X.added) (s : State X.added.Kept) → IsDeciding task (Leaving group) c body.old s
         → Says task c body.new said (decides X.added.meaning (Leaving group) task input s)) }
@@ -115,7 +119,7 @@ pub fn leave_group<X: Extra>(
 pub fn child_done<X: Extra>(body: &mut Body<X>, group: u32, task: u32)
     requires { MayTake X.added (GroupDone group task) body.old }
     ensures { (c : Setting X.added) (s : State X.added.Kept) → IsTaken (GroupDone group task) c body.old s
-        → IsAfter c body.new (in_loop (child_done group task) s) }
+        → IsAfterCallback c body.new (in_loop (child_done group task) s) }
 {
     body.groups.child_done(group, task, &mut body.parts);
 }

@@ -3,7 +3,7 @@ ghost use Rattle.aio_body.specs.Asked.{MayAsk, Serves};
 
 use crate::{added, futures, groups, tasks, time, timeouts, waiting};
 use aio_base::{Memory, Request, Value};
-use aio_body::{Body, Reply, undefined};
+use aio_body::{Body, RequestReply, undefined};
 use aio_extra::Extra;
 use std::alloc::Global;
 
@@ -13,7 +13,7 @@ pub fn reply<X: Extra>(
     alloc: Global,
     task: u32,
     request: Request,
-) -> Result<Reply, Memory>
+) -> Result<RequestReply, Memory>
     requires { MayAsk X.added task request body.old }
     ensures { Serves X.added task request body.old body.new result }
 {
@@ -30,7 +30,7 @@ pub fn reply<X: Extra>(
         Request::Cancel(x) => tasks::cancel(body, alloc, &x),
         Request::Cancelling(x) => tasks::cancelling(body, alloc, &x),
         Request::Uncancel(x) => tasks::uncancel(body, alloc, &x),
-        Request::Current => Ok(Reply::Answers(Value::task(task))),
+        Request::Current => Ok(RequestReply::Answers(Value::task(task))),
         Request::Time => Ok(time::time_now(body)),
         Request::Spawn {
             coroutine,

@@ -3,25 +3,33 @@ ghost use Rattle.std.specs.Prelude.{◌≡◌, ℕ, pos, ◌≤◌};
 ghost use Rattle.model_value.specs.Number.{most};
 ghost use Rattle.model_value.specs.Value.{Int};
 ghost use Rattle.model_value.specs.declared.request.Request.TheVariants as request;
-ghost use Rattle.aio_body.specs.declared.reply.Reply.TheVariants.{Answers};
+ghost use Rattle.aio_body.specs.declared.reply.RequestReply.TheVariants.{Answers};
 ghost use Rattle.aio_body.specs.Asked.{SomeGoes, Serves};
 
 use aio_base::{Memory, Value, ValueList};
-use aio_body::{Body, MOST_IDS, Reply, as_task, bad_argument, out_of_range};
+use aio_body::{Body, MOST_IDS, RequestReply, as_task, bad_argument, out_of_range};
 use aio_extra::Extra;
 use std::alloc::Global;
 
-pub fn cancel<X: Extra>(body: &mut Body<X>, alloc: Global, x: &Value) -> Result<Reply, Memory>
+pub fn cancel<X: Extra>(
+    body: &mut Body<X>,
+    alloc: Global,
+    x: &Value,
+) -> Result<RequestReply, Memory>
     requires { SomeGoes X.added body.old }
     ensures { (task : ℕ) → Serves X.added task (request.Cancel x.now) body.old body.new result }
 {
     match body.as_awaited(x) {
-        Some(on) => Ok(Reply::Answers(Value::bool(body.parts.cancel(on)))),
+        Some(on) => Ok(RequestReply::Answers(Value::bool(body.parts.cancel(on)))),
         None => bad_argument(alloc),
     }
 }
 
-pub fn cancelling<X: Extra>(body: &Body<X>, alloc: Global, x: &Value) -> Result<Reply, Memory>
+pub fn cancelling<X: Extra>(
+    body: &Body<X>,
+    alloc: Global,
+    x: &Value,
+) -> Result<RequestReply, Memory>
     requires { SomeGoes X.added body.now }
     ensures { (task : ℕ) → Serves X.added task (request.Cancelling x.now) body.now body.now result }
 {
@@ -31,7 +39,11 @@ pub fn cancelling<X: Extra>(body: &Body<X>, alloc: Global, x: &Value) -> Result<
     }
 }
 
-pub fn uncancel<X: Extra>(body: &mut Body<X>, alloc: Global, x: &Value) -> Result<Reply, Memory>
+pub fn uncancel<X: Extra>(
+    body: &mut Body<X>,
+    alloc: Global,
+    x: &Value,
+) -> Result<RequestReply, Memory>
     requires { SomeGoes X.added body.old }
     ensures { (task : ℕ) → Serves X.added task (request.Uncancel x.now) body.old body.new result }
 {
@@ -46,7 +58,7 @@ pub fn spawn<X: Extra>(
     alloc: Global,
     coroutine: u32,
     arguments: &ValueList,
-) -> Result<Reply, Memory>
+) -> Result<RequestReply, Memory>
     requires { SomeGoes X.added body.old }
     ensures { (task : ℕ) → Serves X.added task (request.Spawn coroutine arguments.now) body.old body.new result }
 {
@@ -55,13 +67,13 @@ pub fn spawn<X: Extra>(
     }
     body.hold(alloc, coroutine, arguments)?;
     let task = body.parts.spawn(alloc)?;
-    Ok(Reply::Answers(Value::task(task)))
+    Ok(RequestReply::Answers(Value::task(task)))
 }
 
 /// A number that a script can have.
-pub fn number(count: u64) -> Reply
+pub fn number(count: u64) -> RequestReply
     requires { count ≤ most }
     ensures { result ≡ Answers (Int (pos count)) }
 {
-    Reply::Answers(Value::int(count as i64))
+    RequestReply::Answers(Value::int(count as i64))
 }

@@ -6,12 +6,12 @@ ghost use Rattle.aio_body.specs.Asked.{SomeGoes, Serves};
 
 use crate::tasks::number;
 use aio_base::{Blob, Memory, Value, ValueList, show};
-use aio_body::{Body, Reply};
+use aio_body::{Body, RequestReply};
 use aio_extra::Extra;
 use aio_wire::Event;
 use std::alloc::Global;
 
-pub fn time_now<X: Extra>(body: &Body<X>) -> Reply
+pub fn time_now<X: Extra>(body: &Body<X>) -> RequestReply
     requires { SomeGoes X.added body.now }
     ensures { (task : ℕ) → Serves X.added task request.Time body.now body.now (Ok result) }
 {
@@ -23,12 +23,12 @@ pub fn print<X: Extra>(
     alloc: Global,
     task: u32,
     values: &ValueList,
-) -> Result<Reply, Memory>
+) -> Result<RequestReply, Memory>
     ensures { Serves X.added task (request.Print values.now) body.old body.new result }
 {
     let text = Blob::of(shown_all(alloc, values.items())?);
     body.events.push(Event::Said { task, text })?;
-    Ok(Reply::Answers(Value::nothing()))
+    Ok(RequestReply::Answers(Value::nothing()))
 }
 
 // Values with one space between two.

@@ -8,14 +8,14 @@ ghost use Rattle.model_machine.specs.State.{State, in_loop};
 ghost use Rattle.aio_task.specs.Keeps.{Ties};
 ghost use Rattle.aio_timeout.specs.Kept.{AreTimeouts};
 ghost use Rattle.aio_timeout.specs.States.{state_of};
-ghost use Rattle.aio_body.specs.declared.reply.Reply.TheVariants.{Raises};
+ghost use Rattle.aio_body.specs.declared.reply.RequestReply.TheVariants.{Raises};
 ghost use Rattle.aio_body.specs.Asked.{MayAsk, MayGo, SomeGoes, Serves};
 ghost use Rattle.aio_body.specs.Stands.{Setting};
-ghost use Rattle.aio_body.specs.Taken.{IsTaken, IsAfter, MayTake};
+ghost use Rattle.aio_body.specs.Taken.{IsTaken, IsAfterCallback, MayTake};
 ghost use Rattle.aio_serve.specs.Left.{left_as};
 
 use aio_base::{Exc, Memory, Value};
-use aio_body::{Body, MOST_IDS, Reply, as_delay, as_timeout, bad_argument, out_of_range};
+use aio_body::{Body, MOST_IDS, RequestReply, as_delay, as_timeout, bad_argument, out_of_range};
 use aio_extra::Extra;
 use aio_timeout::{Rescheduled, TimeoutExit, TimeoutState, timeout_fault};
 use std::alloc::Global;
@@ -25,7 +25,7 @@ pub fn enter_timeout<X: Extra>(
     alloc: Global,
     task: u32,
     delay: &Value,
-) -> Result<Reply, Memory>
+) -> Result<RequestReply, Memory>
     requires { MayGo X.added task body.old }
     ensures { Serves X.added task (request.TimeoutEnter delay.now) body.old body.new result }
 {
@@ -36,7 +36,7 @@ pub fn enter_timeout<X: Extra>(
         return out_of_range(alloc);
     }
     let id = body.timeouts.enter(alloc, task, delay, &mut body.parts)?;
-    Ok(Reply::Answers(Value::timeout(id)))
+    Ok(RequestReply::Answers(Value::timeout(id)))
 }
 
 pub fn exit_timeout<X: Extra>(
@@ -45,7 +45,7 @@ pub fn exit_timeout<X: Extra>(
     task: u32,
     timeout: &Value,
     fault: Option<Exc>,
-) -> Result<Reply, Memory>
+) -> Result<RequestReply, Memory>
     requires { MayAsk X.added task (request.TimeoutExit timeout.now fault) body.old }
     ensures { Serves X.added task (request.TimeoutExit timeout.now fault) body.old body.new result }
 {
@@ -57,12 +57,12 @@ pub fn exit_timeout<X: Extra>(
 }
 
 // How the coroutine goes on after a block that was left.
-fn left(exit: TimeoutExit) -> Reply
+fn left(exit: TimeoutExit) -> RequestReply
     ensures { result ≡ left_as exit }
 {
     match exit {
-        TimeoutExit::Passes => Reply::Answers(Value::nothing()),
-        TimeoutExit::TimedOut => Reply::Raises(timeout_fault()),
+        TimeoutExit::Passes => RequestReply::Answers(Value::nothing()),
+        TimeoutExit::TimedOut => RequestReply::Raises(timeout_fault()),
     }
 }
 
@@ -72,7 +72,7 @@ pub fn reschedule<X: Extra>(
     alloc: Global,
     timeout: &Value,
     when: &Value,
-) -> Result<Reply, Memory>
+) -> Result<RequestReply, Memory>
     requires { SomeGoes X.added body.old }
     ensures { (task : ℕ) → Serves X.added task (request.Reschedule timeout.now when.now) body.old body.new result }
 {
@@ -86,22 +86,26 @@ pub fn reschedule<X: Extra>(
         return refused(alloc, TimeoutState::Finished);
     }
     match body.timeouts.reschedule(alloc, id, when, &mut body.parts)? {
-        Rescheduled::Set => Ok(Reply::Answers(Value::nothing())),
+        Rescheduled::Set => Ok(RequestReply::Answers(Value::nothing())),
         Rescheduled::BadState(state) => refused(alloc, state),
     }
 }
 
-fn refused(alloc: Global, state: TimeoutState) -> Result<Reply, Memory>
+fn refused(alloc: Global, state: TimeoutState) -> Result<RequestReply, Memory>
     ensures { IfOk result (λ said. said ≡ Raises (reschedule_fault (state_of state))) }
 {
-    Ok(Reply::Raises(state.fault(alloc)?))
+    Ok(RequestReply::Raises(state.fault(alloc)?))
 }
 
-pub fn expired<X: Extra>(body: &Body<X>, alloc: Global, timeout: &Value) -> Result<Reply, Memory>
+pub fn expired<X: Extra>(
+    body: &Body<X>,
+    alloc: Global,
+    timeout: &Value,
+) -> Result<RequestReply, Memory>
     ensures { (task : ℕ) → Serves X.added task (request.Expired timeout.now) body.now body.now result }
 {
     match as_timeout(timeout) {
-        Some(id) => Ok(Reply::Answers(Value::bool(has_expired(body, id)))),
+        Some(id) => Ok(RequestReply::Answers(Value::bool(has_expired(body, id)))),
         None => bad_argument(alloc),
     }
 }
@@ -120,7 +124,7 @@ fn has_expired<X: Extra>(body: &Body<X>, id: u32) -> bool
 pub fn fire<X: Extra>(body: &mut Body<X>, timeout: u32)
     requires { MayTake X.added (Fires timeout) body.old }
     ensures { (c : Setting X.added) (s : State X.added.Kept) → IsTaken (Fires timeout) c body.old s
-        → IsAfter c body.new (in_loop (fire timeout) s) }
+        → IsAfterCallback c body.new (in_loop (fire timeout) s) }
 {
     body.timeouts.fire(timeout, &mut body.parts);
 }

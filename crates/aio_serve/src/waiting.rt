@@ -7,7 +7,7 @@ ghost use Rattle.aio_serve.specs.Alarm.{IsAlarmed};
 ghost use Rattle.aio_body.specs.Slots.{standing_at};
 
 use aio_base::{Action, Memory, Value};
-use aio_body::{Body, Reply, Standing, as_int, bad_argument, replied};
+use aio_body::{Body, RequestReply, Standing, as_int, bad_argument, replied};
 use aio_extra::Extra;
 use aio_task::{FutureId, TimerId};
 use std::alloc::Global;
@@ -16,12 +16,12 @@ use std::alloc::Global;
 const MOST: u64 = 0x7FFF_FFFF_FFFF_FFFF;
 
 /// A bare `yield`.
-pub fn pause<X: Extra>(body: &mut Body<X>, task: u32) -> Reply
+pub fn pause<X: Extra>(body: &mut Body<X>, task: u32) -> RequestReply
     requires { MayGo X.added task body.old }
     ensures { Replies X.added task (pauses task) body.old body.new (Ok result) }
 {
     body.parts.pause(task);
-    Reply::Rests
+    RequestReply::Rests
 }
 
 /// What is done is awaited at once.
@@ -30,7 +30,7 @@ pub fn await_value<X: Extra>(
     alloc: Global,
     task: u32,
     x: &Value,
-) -> Result<Reply, Memory>
+) -> Result<RequestReply, Memory>
     requires { MayAsk X.added task (request.Await x.now) body.old }
     ensures { Serves X.added task (request.Await x.now) body.old body.new result }
 {
@@ -41,7 +41,7 @@ pub fn await_value<X: Extra>(
         return replied(outcome);
     }
     let _suspension = body.parts.suspend(task, on);
-    Ok(Reply::Rests)
+    Ok(RequestReply::Rests)
 }
 
 /// A sleep of 0 or less is a bare `yield`.
@@ -50,7 +50,7 @@ pub fn sleep<X: Extra>(
     alloc: Global,
     task: u32,
     delay: &Value,
-) -> Result<Reply, Memory>
+) -> Result<RequestReply, Memory>
     requires { MayGo X.added task body.old }
     ensures { Serves X.added task (request.Sleep delay.now) body.old body.new result }
 {
@@ -66,14 +66,14 @@ fn sleep_for<X: Extra>(
     alloc: Global,
     task: u32,
     delay: u64,
-) -> Result<Reply, Memory>
+) -> Result<RequestReply, Memory>
     requires { MayGo X.added task body.old }
     ensures { Replies X.added task (sleeps_for task (pos delay)) body.old body.new result }
 {
     let (timer, future) = alarm(body, alloc, task, delay)?;
     let _suspension = body.parts.suspend(task, future);
     body.stand(task, Standing::Sleeping { timer, future });
-    Ok(Reply::Rests)
+    Ok(RequestReply::Rests)
 }
 
 // A future of a sleep, which a timer's handle will resolve.

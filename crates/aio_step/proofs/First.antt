@@ -20,8 +20,8 @@ use Rattle.aio_timer.specs.declared.live.TimerId.{TimerId}
 use Rattle.aio_gen.specs.declared.generator.Gen.{Gen}
 use Rattle.aio_extra.specs.Added.{Added}
 use Rattle.aio_body.specs.declared.body.Body.{Body}
-use Rattle.aio_body.specs.declared.reply.Reply.{Reply}
-use Rattle.aio_body.specs.declared.reply.Reply.TheVariants as said
+use Rattle.aio_body.specs.declared.reply.RequestReply.{RequestReply}
+use Rattle.aio_body.specs.declared.reply.RequestReply.TheVariants as said
 use Rattle.aio_body.specs.declared.standing.Standing.TheVariants.{Asked, Sleeping, Leaving, Serving}
 use Rattle.aio_body.specs.Asked.{IsInStep, HasRested, IsDeciding, Says}
 use Rattle.aio_body.specs.Outcomes.{reply_of}
@@ -58,7 +58,8 @@ leaving_is group (plain.Leaving id) d = ap plain.Leaving d
 leaving_is group (plain.Serving key) d = absurd d
 
 module _ {X : Type 0} {a : Added X} where
-  pub leaving_decides : (group : ℕ) (task : ℕ) (c : Setting a) (old new : Body X) (s : State a.Kept) (input : Input) (it : Reply) (stood : plain.Standing)
+  pub leaving_decides : (group : ℕ) (task : ℕ) (c : Setting a) (old new : Body X) (s : State a.Kept) (input : Input) (it : RequestReply)
+      (stood : plain.Standing)
       → DecidesAs (Leaving group) stood → IsDeciding task stood c old s
       → (IsDeciding task (plain.Leaving group) c old s → Says task c new it (decides a.meaning (plain.Leaving group) task input s))
       → Says task c new it (decides a.meaning stood task input s)
@@ -73,7 +74,7 @@ serving_is key (plain.Leaving id) d = absurd d
 serving_is key (plain.Serving kept) d = ap plain.Serving d
 
 module _ {X : Type 0} {a : Added X} where
-  pub serving_decides : (key : ℕ) (task : ℕ) (c : Setting a) (old new : Body X) (s : State a.Kept) (input : Input) (it : Reply) (stood : plain.Standing)
+  pub serving_decides : (key : ℕ) (task : ℕ) (c : Setting a) (old new : Body X) (s : State a.Kept) (input : Input) (it : RequestReply) (stood : plain.Standing)
       → DecidesAs (Serving key) stood → IsDeciding task stood c old s
       → (IsDeciding task (plain.Serving key) c old s → Says task c new it (decides a.meaning (plain.Serving key) task input s))
       → Says task c new it (decides a.meaning stood task input s)
@@ -84,13 +85,13 @@ module _ {X : Type 0} {a : Added X} where
 -- ---- how the step goes on
 module _ {X : Type 0} {a : Added X} where
   -- the coroutine is resumed
-  pub record Resumes (task : ℕ) (next : Input) (c : Setting a) (body : Body X) (coroutine : Gen) (it : machine.Reply a.Kept) : Type 0 where
+  pub record Resumes (task : ℕ) (next : Input) (c : Setting a) (body : Body X) (coroutine : Gen) (it : machine.RequestReply a.Kept) : Type 0 where
     pub now : State a.Kept
     pub serving : IsServing task true next c body coroutine now
     pub goes : (go_on : State a.Kept → Went a.Kept) → taken_as it true task go_on ≡ go_on (resumed true task next now)
 
   -- or waits on
-  pub record WaitsOn (task : ℕ) (c : Setting a) (body : Body X) (it : machine.Reply a.Kept) : Type 0 where
+  pub record WaitsOn (task : ℕ) (c : Setting a) (body : Body X) (it : machine.RequestReply a.Kept) : Type 0 where
     pub now : State a.Kept
     pub rested : HasRested task c body now
     pub sound : IsStateSound a.meaning now
@@ -98,7 +99,7 @@ module _ {X : Type 0} {a : Added X} where
     pub goes : (go_on : State a.Kept → Went a.Kept) → taken_as it true task go_on ≡ Goes now
 
 module _ {X : Type 0} {a : Added X} (task : ℕ) (c : Setting a) (body : Body X) (coroutine : Gen) where
-  pub answers_so : (value : Value) (it : machine.Reply a.Kept) → Says task (holding coroutine c) body (said.Answers value) it
+  pub answers_so : (value : Value) (it : machine.RequestReply a.Kept) → Says task (holding coroutine c) body (said.Answers value) it
       → RepliesInStep a.meaning true task it → Resumes task (Send value) c body coroutine it
   answers_so value (machine.Answers v now) h sound =
       subst (λ x. Resumes task (Send x) c body coroutine (machine.Answers v now)) (sym h.0) (record {
@@ -110,7 +111,7 @@ module _ {X : Type 0} {a : Added X} (task : ℕ) (c : Setting a) (body : Body X)
   answers_so value (machine.Rests now) h sound = absurd h
   answers_so value (machine.Halts end last) h sound = absurd h
 
-  pub raises_so : (fault : Exc) (it : machine.Reply a.Kept) → Says task (holding coroutine c) body (said.Raises fault) it
+  pub raises_so : (fault : Exc) (it : machine.RequestReply a.Kept) → Says task (holding coroutine c) body (said.Raises fault) it
       → RepliesInStep a.meaning true task it → Resumes task (Throw fault) c body coroutine it
   raises_so fault (machine.Raises f now) h sound =
       subst (λ x. Resumes task (Throw x) c body coroutine (machine.Raises f now)) (sym h.0) (record {
@@ -122,7 +123,7 @@ module _ {X : Type 0} {a : Added X} (task : ℕ) (c : Setting a) (body : Body X)
   raises_so fault (machine.Rests now) h sound = absurd h
   raises_so fault (machine.Halts end last) h sound = absurd h
 
-  pub rests_so : (it : machine.Reply a.Kept) → Says task (holding coroutine c) body said.Rests it → RepliesInStep a.meaning true task it
+  pub rests_so : (it : machine.RequestReply a.Kept) → Says task (holding coroutine c) body said.Rests it → RepliesInStep a.meaning true task it
       → WaitsOn task (holding coroutine c) body it
   rests_so (machine.Rests now) h sound = record { now = now; rested = h; sound = sound; kept = refl; goes = λ go_on. refl }
   rests_so (machine.Answers value now) h sound = absurd h
@@ -131,18 +132,18 @@ module _ {X : Type 0} {a : Added X} (task : ℕ) (c : Setting a) (body : Body X)
 
 -- ---- from a step that has begun
 -- what the machine decides
-abbrev pub decided : {S : Type 0} (added : Extra S) → ℕ → Input → State S → machine.Reply S
+abbrev pub decided : {S : Type 0} (added : Extra S) → ℕ → Input → State S → machine.RequestReply S
 decided added task input s = decides added (generator_of task s).standing task (begun_by task input s).input (begun_in task input s)
 
 -- what the code decides
-abbrev pub Decides : {X : Type 0} → (a : Added X) → (task : ℕ) → Started → (begun new : Body X) → Reply → Type 0
+abbrev pub Decides : {X : Type 0} → (a : Added X) → (task : ℕ) → Started → (begun new : Body X) → RequestReply → Type 0
 Decides a task started begun new it =
     (c : Setting a) (s : State a.Kept) (stood : plain.Standing) → IsDeciding task stood c begun s → DecidesAs started.standing stood
     → Says task c new it (decides a.meaning stood task started.input s)
 
 module _ {X : Type 0} {a : Added X} (task : ℕ) (input : Input) (c : Setting a) (old : Body X) (s : State a.Kept) (h : IsCalled task c old s)
     (made : HearsMade input old) (started : Started) (begun : Body X) (b : HasBegun task input c s started begun) (body : Body X) where
-  says_decided : (it : Reply) → Decides a task started begun body it → Says task (holding started.coroutine c) body it (decided a.meaning task input s)
+  says_decided : (it : RequestReply) → Decides a task started begun body it → Says task (holding started.coroutine c) body it (decided a.meaning task input s)
   says_decided it d =
       subst (λ x. Says task (holding started.coroutine c) body it (decides a.meaning (generator_of task s).standing task x (begun_in task input s))) b.heard
       (d (holding started.coroutine c) (begun_in task input s) (generator_of task s).standing b.deciding b.decides)

@@ -21,7 +21,7 @@ use Rattle.aio_step.specs.declared.steps.Served.TheVariants as code
 use Rattle.aio_step.specs.declared.steps.Stepped.TheVariants as went
 use Rattle.aio_step.specs.Stepping.{EndsAt, GoesOnWith, IsServing, MayServe, RestsAt, RunsAway, ServesOne, Steps}
 use Rattle.aio_step.proofs.Resuming.{its_inside}
-use Rattle.aio_step.proofs.Serving.{Leads, leads_end, leads_on, leads_same}
+use Rattle.aio_step.proofs.Serving.{LeadsTo, leads_end, leads_on, leads_same}
 
 module _ {X : Type 0} {a : Added X} where
   -- the task's step has ended, and its coroutine is put back
@@ -39,7 +39,7 @@ module _ {X : Type 0} {a : Added X} where
   pub record IsOn (task : ℕ) (first : Input) (s : State a.Kept) (fresh : Bool) (input : Input) (c : Setting a) (body : Body X) (coroutine : Gen) : Type 0 where
     pub now : State a.Kept
     pub serving : IsServing task fresh input c body coroutine now
-    pub leads : Leads a.meaning task (resumed true task first s) (resumed fresh task input now)
+    pub leads : LeadsTo a.meaning task (resumed true task first s) (resumed fresh task input now)
 
 -- the same, with whatever state it began
 abbrev pub AreOn : {X : Type 0} → (a : Added X) → (task : ℕ) (first : Input) (old : Body X) (start : Gen) (fresh : Bool) (input : Input) (body : Body X)

@@ -12,13 +12,13 @@ use Rattle.model_loop.specs.Parts.{Future, Task, Parts}
 use Rattle.model_loop.specs.Tasks.{begin_step, set_waiter, unmark, waiter_of}
 use Rattle.model_machine.specs.Step.{given_up}
 use Rattle.aio_timer.specs.Schedule as schedule
-use Rattle.aio_ready.specs.declared.handle.Name.TheVariants as name
+use Rattle.aio_ready.specs.declared.handle.HandleName.TheVariants as name
 use Rattle.model_machine.specs.State as plain
 use Rattle.model_machine.specs.State.{State, generator_of, stands, unbooked_in}
 use Rattle.aio_ready.specs.Queue as queue
 use Rattle.aio_ready.specs.Queue.{Queue}
 use Rattle.aio_ready.specs.Names.{marked}
-use Rattle.aio_ready.specs.declared.handle.Name.{Name}
+use Rattle.aio_ready.specs.declared.handle.HandleName.{HandleName}
 use Rattle.aio_task.specs.View.{View}
 use Rattle.aio_extra.specs.Added.{Added, named_in}
 use Rattle.aio_body.specs.declared.body.Body.{Body}
@@ -50,7 +50,7 @@ begin_revoke task input tag p =
     unmarked q = unmark task q
 
 -- ---- the view
-pub below_cancelled : (b : Bool) (name : Name) (q : Queue) → length (if b then q else queue.cancelled name q).below ≡ length q.below
+pub below_cancelled : (b : Bool) (name : HandleName) (q : Queue) → length (if b then q else queue.cancelled name q).below ≡ length q.below
 below_cancelled true name q = refl
 below_cancelled false name q = length-map q.below (marked name)
 

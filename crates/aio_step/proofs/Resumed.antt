@@ -13,7 +13,7 @@ use Rattle.model_loop.specs.Tasks.{finish}
 use Rattle.model_machine.specs.Replies.{reply}
 use Rattle.model_machine.specs.State.{State, resumed}
 use Rattle.model_machine.specs.Step.{says_of, served}
-use Rattle.aio_cancel.specs.Body.{Appended}
+use Rattle.aio_cancel.specs.Awaitables.{Appended}
 use Rattle.aio_flat.specs.Code.{IsCodeOf}
 use Rattle.aio_gen.specs.Gens.{StandsFor, saying_of_out}
 use Rattle.aio_gen.specs.declared.generator.Gen.{Gen}
@@ -22,8 +22,8 @@ use Rattle.aio_gen.specs.declared.generator.GenOut.TheVariants.{Asks, Returns, R
 use Rattle.aio_task.specs.View.{View, parts}
 use Rattle.aio_extra.specs.Added.{Added}
 use Rattle.aio_body.specs.declared.body.Body.{Body}
-use Rattle.aio_body.specs.declared.reply.Reply.{Reply}
-use Rattle.aio_body.specs.Asked.{IsAsking, MayAsk, Says}
+use Rattle.aio_body.specs.declared.reply.RequestReply.{RequestReply}
+use Rattle.aio_body.specs.Asked.{IsAskingFor, MayAsk, Says}
 use Rattle.aio_body.specs.Stands.{Setting, holding}
 use Rattle.law_body.proofs.May.{same_prop}
 use Rattle.law_body.proofs.Slotting.{set_length}
@@ -55,7 +55,7 @@ module _ {X : Type 0} {a : Added X} (task : ℕ) (fresh : Bool) (input : Input) 
       says_asks : (request : Request) → out ≡ Asks request → says_of step_limit a.meaning task (resumed fresh task input s) ≡ endings.Asks request
       says_asks request e = says_so ∙ ap saying_of_out e
 
-      pub asking : (request : Request) → out ≡ Asks request → IsAsking task request (holding now c) body (resumed fresh task input s)
+      pub asking : (request : Request) → out ≡ Asks request → IsAskingFor task request (holding now c) body (resumed fresh task input s)
       asking request e =
           asks_out task fresh input c body before s h now request (says_asks request e)
           (λ program coroutine arguments tape code it. stands program coroutine arguments tape code it request e)
@@ -63,7 +63,7 @@ module _ {X : Type 0} {a : Added X} (task : ℕ) (fresh : Bool) (input : Input) 
       made : task < length (resumed fresh task input s).generators
       made = subst (λ n. task < n) (sym (set_length task _ s)) (its_inside task fresh input c body before s h)
 
-      pub asks_so : (request : Request) → out ≡ Asks request → (new : Body X) (it : Reply)
+      pub asks_so : (request : Request) → out ≡ Asks request → (new : Body X) (it : RequestReply)
           → Says task (holding now c) new it (reply a.meaning task request (resumed fresh task input s))
           → ServesOne task c new now (served_by it) (resumed fresh task input s)
       asks_so request e new it told =

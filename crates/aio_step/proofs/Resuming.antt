@@ -15,13 +15,13 @@ use Rattle.model_machine.specs.Step.{says_of, served}
 use Rattle.model_machine.specs.Went.{Went, Goes}
 use Rattle.law_steps.proofs.Waiting.{task_there}
 use Rattle.law_cancel.proofs.Lookups.{get_within}
-use Rattle.aio_cancel.specs.Body.{Appended}
+use Rattle.aio_cancel.specs.Awaitables.{Appended}
 use Rattle.aio_flat.specs.Code.{IsCodeOf}
 use Rattle.aio_task.specs.View.{View, parts}
 use Rattle.aio_extra.specs.Added.{Added, named_in}
 use Rattle.aio_body.specs.declared.body.Body.{Body}
 use Rattle.aio_gen.specs.declared.generator.Gen.{Gen}
-use Rattle.aio_body.specs.Asked.{IsAsking}
+use Rattle.aio_body.specs.Asked.{IsAskingFor}
 use Rattle.aio_gen.specs.Gens.{StandsFor}
 use Rattle.aio_body.specs.Stands.{Setting, holding}
 use Rattle.aio_step.specs.Stepping.{IsServing, EndsAt, RunsAway}
@@ -64,7 +64,7 @@ module _ {X : Type 0} {a : Added X} (task : ℕ) (fresh : Bool) (input : Input) 
       → ((program : Program) (coroutine : ℕ) (arguments : List Value) (tape : Tape) → IsCodeOf program body.code
       → StandsFor program body.code coroutine arguments tape before
       → StandsFor program body.code coroutine arguments (tape ++ record { input = input; fresh = fresh } ∷ []) now)
-      → IsAsking task request (holding now c) body (resumed fresh task input s)
+      → IsAskingFor task request (holding now c) body (resumed fresh task input s)
   asks_out now request asks goes = record {
     going = record {
       in_step = record {

@@ -13,21 +13,21 @@ use Rattle.model_machine.specs.Went.{Went}
 use Rattle.aio_extra.specs.Added.{Added}
 use Rattle.aio_body.specs.declared.body.Body.{Body}
 use Rattle.aio_gen.specs.declared.generator.Gen.{Gen}
-use Rattle.aio_body.specs.declared.reply.Reply.{Reply}
-use Rattle.aio_body.specs.declared.reply.Reply.TheVariants as said
+use Rattle.aio_body.specs.declared.reply.RequestReply.{RequestReply}
+use Rattle.aio_body.specs.declared.reply.RequestReply.TheVariants as said
 use Rattle.aio_body.specs.Asked.{Says}
 use Rattle.aio_body.specs.Stands.{Setting, holding}
 use Rattle.aio_step.specs.Stepping.{ServedAs, ServesOne, GoesOnWith, served_by}
-use Rattle.law_machine.proofs.Kept.{IsKept, reply_state, reply-keeps}
+use Rattle.law_machine.proofs.Kept.{IsKeptInAnswer, reply_state, reply-keeps}
 use Rattle.law_inside.specs.InStep.{RepliesInStep}
 use Rattle.law_body.proofs.Sound.{ends_by_itself}
 
 -- after so many answers the step goes on here
-pub record Leads {S : Type 0} (added : Extra S) (task : ℕ) (first now : State S) : Type 0 where
+pub record LeadsTo {S : Type 0} (added : Extra S) (task : ℕ) (first now : State S) : Type 0 where
   pub count : ℕ
   pub same : (m : ℕ) → serve step_limit added m task now ≡ serve step_limit added (m + count) task first
 
-pub leads_same : {S : Type 0} (added : Extra S) (task : ℕ) (first : State S) → Leads added task first first
+pub leads_same : {S : Type 0} (added : Extra S) (task : ℕ) (first : State S) → LeadsTo added task first first
 leads_same added task first = record { count = 0; same = λ m. ap (λ k. serve step_limit added k task first) (plus_none m) }
   where
     plus_none : (m : ℕ) → m ≡ m + 0
@@ -36,8 +36,8 @@ leads_same added task first = record { count = 0; same = λ m. ap (λ k. serve s
 move : (m k : ℕ) → suc m + k ≡ m + suc k
 move m k = omega arith
 
-pub leads_on : {S : Type 0} (added : Extra S) (task : ℕ) (first now next : State S) → Leads added task first now
-    → ServedAs added task now (λ go_on. go_on next) → Leads added task first next
+pub leads_on : {S : Type 0} (added : Extra S) (task : ℕ) (first now next : State S) → LeadsTo added task first now
+    → ServedAs added task now (λ go_on. go_on next) → LeadsTo added task first next
 unfolding serve
 leads_on added task first now next l goes = record {
   count = suc l.count;
@@ -46,7 +46,7 @@ leads_on added task first now next l goes = record {
       ∙ ap (λ k. serve step_limit added k task first) (move m l.count);
 }
 
-pub leads_end : {S : Type 0} (added : Extra S) (task : ℕ) (first now : State S) (went : Went S) → Leads added task first now
+pub leads_end : {S : Type 0} (added : Extra S) (task : ℕ) (first now : State S) (went : Went S) → LeadsTo added task first now
     → ServedAs added task now (λ go_on. went)
     → task < length first.generators → serve_all step_limit added task first ≡ went
 unfolding serve
@@ -58,7 +58,7 @@ leads_end added task first now went l goes within =
 
 module _ {X : Type 0} {a : Added X} where
   -- What a reply makes of the step: `s` is the state in which it was asked.
-  pub answered : (task : ℕ) (c : Setting a) (body : Body X) (coroutine : Gen) (it : Reply) (s : State a.Kept) (request : Request)
+  pub answered : (task : ℕ) (c : Setting a) (body : Body X) (coroutine : Gen) (it : RequestReply) (s : State a.Kept) (request : Request)
       → task < length s.generators → says_of step_limit a.meaning task s ≡ Asks request
       → Says task (holding coroutine c) body it (reply a.meaning task request s)
       → RepliesInStep a.meaning false task (reply a.meaning task request s)
@@ -67,7 +67,7 @@ module _ {X : Type 0} {a : Added X} where
       at it (reply a.meaning task request s) (reply-keeps a.meaning task request s)
       (λ go_on. ap (λ saying. served step_limit a.meaning saying task go_on s) asks) says sound
     where
-      at : (it : Reply) (machine : plain.Reply a.Kept) → IsKept task s (reply_state machine)
+      at : (it : RequestReply) (machine : plain.RequestReply a.Kept) → IsKeptInAnswer task s (reply_state machine)
           → ((go_on : State a.Kept → Went a.Kept)
           → served step_limit a.meaning (says_of step_limit a.meaning task s) task go_on s ≡ taken_as machine false task go_on)
           → Says task (holding coroutine c) body it machine → RepliesInStep a.meaning false task machine

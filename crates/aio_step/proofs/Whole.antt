@@ -8,7 +8,7 @@ use Rattle.model_machine.specs.State.{State, resumed}
 use Rattle.model_machine.specs.Step.{step, serve_all}
 use Rattle.aio_extra.specs.Added.{Added}
 use Rattle.aio_body.specs.declared.body.Body.{Body}
-use Rattle.aio_body.specs.declared.reply.Reply.TheVariants as said
+use Rattle.aio_body.specs.declared.reply.RequestReply.TheVariants as said
 use Rattle.aio_body.specs.Slots.{put_back}
 use Rattle.aio_body.specs.Stands.{Setting, holding}
 use Rattle.aio_step.specs.declared.steps.Started.{Started}

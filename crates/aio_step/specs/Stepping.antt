@@ -17,8 +17,8 @@ use Rattle.model_machine.specs.Went.{Went, Goes, Stops}
 use Rattle.aio_gen.specs.declared.generator.Gen.{Gen}
 use Rattle.aio_extra.specs.Added.{Added}
 use Rattle.aio_body.specs.declared.body.Body.{Body}
-use Rattle.aio_body.specs.declared.reply.Reply.{Reply}
-use Rattle.aio_body.specs.declared.reply.Reply.TheVariants as reply
+use Rattle.aio_body.specs.declared.reply.RequestReply.{RequestReply}
+use Rattle.aio_body.specs.declared.reply.RequestReply.TheVariants as reply
 use Rattle.aio_body.specs.declared.standing.Standing.{Standing}
 use Rattle.aio_body.specs.declared.standing.Standing.TheVariants as standing
 use Rattle.aio_step.specs.declared.steps.Served.{Served}
@@ -130,7 +130,7 @@ ServesOne task c body coroutine code.Ends s = EndsAt task c body s
 ServesOne task c body coroutine code.Runaway s = RunsAway task c body s
 
 -- what a reply makes of the step
-abbrev pub served_by : Reply → Served
+abbrev pub served_by : RequestReply → Served
 served_by (reply.Answers value) = code.GoesOn (Send value)
 served_by (reply.Raises fault) = code.GoesOn (Throw fault)
 served_by reply.Rests = code.Rests

@@ -10,7 +10,7 @@ ghost use Rattle.aio_body.specs.Stands.{Setting};
 ghost use Rattle.aio_step.specs.Stepping.{Steps, served_by, IsCalled, MayBegin, HearsMade, DecidesAs, MayDecideAs, HasBegun, IsServing, MayServe, ServesOne};
 
 use aio_base::{Input, Memory};
-use aio_body::{Body, Reply, Slot, Standing, reply_of};
+use aio_body::{Body, RequestReply, Slot, Standing, reply_of};
 use aio_extra::Extra;
 use aio_gen::{Gen, GenOut};
 use aio_serve::{leave_group, reply, wake};
@@ -63,9 +63,9 @@ pub fn step<X: Extra>(
         input,
     } = begin(body, task, ticket, input);
     match decide(body, alloc, task, standing, input)? {
-        Reply::Answers(value) => serve(body, alloc, task, coroutine, Input::Send(value)),
-        Reply::Raises(fault) => serve(body, alloc, task, coroutine, Input::Throw(fault)),
-        Reply::Rests => {
+        RequestReply::Answers(value) => serve(body, alloc, task, coroutine, Input::Send(value)),
+        RequestReply::Raises(fault) => serve(body, alloc, task, coroutine, Input::Throw(fault)),
+        RequestReply::Rests => {
             body.put_back(task, coroutine);
             Ok(Stepped::Goes)
         }
@@ -101,7 +101,7 @@ fn decide<X: Extra>(
     task: u32,
     standing: Standing,
     input: Input,
-) -> Result<Reply, Memory>
+) -> Result<RequestReply, Memory>
     requires { MayDecideAs X.added task standing body.old }
     ensures { IfOk result (λ said. (c : Setting X.added) (s : State X.added.Kept) (stood : plain.Standing)
         → IsDeciding task stood c body.old s → DecidesAs standing stood
@@ -177,12 +177,12 @@ fn serve_one<X: Extra>(
     }
 }
 
-fn next_of(reply: Reply) -> Served
+fn next_of(reply: RequestReply) -> Served
     ensures { result ≡ served_by reply }
 {
     match reply {
-        Reply::Answers(value) => Served::GoesOn(Input::Send(value)),
-        Reply::Raises(fault) => Served::GoesOn(Input::Throw(fault)),
-        Reply::Rests => Served::Rests,
+        RequestReply::Answers(value) => Served::GoesOn(Input::Send(value)),
+        RequestReply::Raises(fault) => Served::GoesOn(Input::Throw(fault)),
+        RequestReply::Rests => Served::Rests,
     }
 }

@@ -16,8 +16,8 @@ use Rattle.law_settling.proofs.CancelSound.{same_sound}
 use Rattle.law_settling.proofs.Looks.{handles_look_same}
 use Rattle.law_settling.specs.Frames.{Follows}
 use Rattle.aio_ready.specs.declared.handle.Handle.{Handle}
-use Rattle.aio_ready.specs.declared.handle.Name.{Name}
-use Rattle.aio_ready.specs.declared.handle.Name.TheVariants as name
+use Rattle.aio_ready.specs.declared.handle.HandleName.{HandleName}
+use Rattle.aio_ready.specs.declared.handle.HandleName.TheVariants as name
 use Rattle.aio_ready.specs.Names.{is_same}
 use Rattle.aio_ready.specs.Queue as queue
 use Rattle.aio_ready.specs.Queue.{Queue}
@@ -26,7 +26,7 @@ use Rattle.aio_timer.specs.Schedule.{Schedule, timer, placed_after, without, is_
 use Rattle.law_parts.specs.Open.{room_of}
 use Rattle.aio_cancel.specs.Noted.{Noted}
 use Rattle.aio_cancel.specs.Seen.{Marked, Stacked}
-use Rattle.aio_cancel.specs.Body.{waiting}
+use Rattle.aio_cancel.specs.Awaitables.{waiting}
 use Rattle.aio_task.specs.Bare.{bare_future, bare}
 use Rattle.aio_task.specs.View.{View, parts, is_step, steps_as, NamesNoStep}
 use Rattle.aio_task.specs.Kept.{AreSound, IsKept, HasRoom, is_timer, steps_as_timer, steps_later}
@@ -94,7 +94,7 @@ made_kept v kind idle free is =
     }
 
 -- ---- handles and timers are cancelled
-pub cancel_handle_kept : (v : View) (name : Name) → v.called ≡ None → NamesNoStep name v.queue → IsKept v
+pub cancel_handle_kept : (v : View) (name : HandleName) → v.called ≡ None → NamesNoStep name v.queue → IsKept v
     → IsKept (record v { queue = queue.cancelled name v.queue })
 cancel_handle_kept v name idle none is =
     queue_kept v (queue.cancelled name v.queue) idle
@@ -114,7 +114,7 @@ timer_named number (h ∷ handles) none =
     neither true c e = e
     neither false c e = refl
 
-    one : (n : Name) → (is_timer n && is_step h.action) ≡ false
+    one : (n : HandleName) → (is_timer n && is_step h.action) ≡ false
         → (is_same (name.Timer number) n && (not h.dead && is_step h.action)) ≡ false
     one name.Nameless e = refl
     one (name.Given other) e = refl

@@ -30,8 +30,8 @@ use Rattle.aio_base.specs.declared.memory.Memory.{Memory}
 use Rattle.aio_ready.specs.Queue as queue
 use Rattle.aio_ready.specs.Queue.{Queue}
 use Rattle.aio_future.specs.Settled.{called, registered as registered_in, soon_if_done, settled as settled_in, asked, asked_at}
-use Rattle.aio_cancel.specs.Body as cancel
-use Rattle.aio_cancel.specs.Body.{Appended, waiting}
+use Rattle.aio_cancel.specs.Awaitables as cancel
+use Rattle.aio_cancel.specs.Awaitables.{Appended, waiting}
 use Rattle.aio_cancel.specs.Noted.{Noted, noted}
 use Rattle.aio_cancel.specs.Seen.{Marked, Stacked}
 use Rattle.aio_cancel.proofs.PartsLemmas.{settle-parts}
@@ -50,7 +50,7 @@ pub fallen_kept : (q r : Queue) → Appended q r → list_any steps_as_timer (wa
 fallen_kept q r a none = ap (λ (x : Queue). list_any steps_as_timer (waiting x)) a.1 ∙ any-soon_all a.0 q none
 
 -- A call that changes the queue, the futures and the tasks as a step of the parts does.
-pub moved_kept : (v : View) (b : cancel.View) (q : Parts) → v.called ≡ None → cancel.parts b ≡ q → Appended v.queue b.queue
+pub moved_kept : (v : View) (b : cancel.Awaitables) (q : Parts) → v.called ≡ None → cancel.parts b ≡ q → Appended v.queue b.queue
     → HasNoCircle q → ArePartsSound v.running v.running (bare q) → IsKept v
     → IsKept (record v { queue = b.queue; futures = b.futures; tasks = b.tasks })
 moved_kept v b q idle same appended none sound is = record {

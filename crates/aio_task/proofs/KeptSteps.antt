@@ -33,8 +33,8 @@ use Rattle.aio_cancel.specs.Seen.{Marked, Stacked}
 use Rattle.aio_ready.specs.declared.handle.Handle as code
 use Rattle.aio_ready.specs.Queue as queue
 use Rattle.aio_ready.specs.Queue.{Queue, from_live}
-use Rattle.aio_cancel.specs.Body as cancel
-use Rattle.aio_cancel.specs.Body.{Appended, waiting, handles_from}
+use Rattle.aio_cancel.specs.Awaitables as cancel
+use Rattle.aio_cancel.specs.Awaitables.{Appended, waiting, handles_from}
 use Rattle.aio_cancel.proofs.PartsLemmas.{soon-parts}
 use Rattle.aio_task.specs.Bare.{bare_action, bare_handle, bare_future, bare}
 use Rattle.aio_task.specs.View.{View, parts, body, is_step, stepped, stepped_at}
@@ -45,7 +45,7 @@ use Rattle.aio_task.proofs.Keeping.{at_rest, rests, bare_no_circle, no_bare_circ
 use Rattle.aio_task.proofs.KeptFutures.{fallen_kept, moved_kept}
 use Rattle.aio_task.proofs.Queues.{live, live-pending, live-none, live-taken, live-other, any-taken, first_lives}
 
-pub spawn_kept : (v : View) (b : cancel.View) → v.called ≡ None → cancel.parts b ≡ spawn (parts v)
+pub spawn_kept : (v : View) (b : cancel.Awaitables) → v.called ≡ None → cancel.parts b ≡ spawn (parts v)
     → b.queue ≡ queue.soon (Step (length v.tasks)) v.queue → IsKept v
     → IsKept (record v { queue = b.queue; futures = b.futures; tasks = b.tasks })
 spawn_kept v b idle same appended is =
@@ -57,7 +57,7 @@ spawn_kept v b idle same appended is =
     is
 
 -- a task is made, or memory was refused, with room for one frame and one mark more
-pub spawned_or_not : (v : View) (b : cancel.View) (stack larger : Stacked) (seen more : Marked) (notes : Noted) (result : Result ℕ Memory)
+pub spawned_or_not : (v : View) (b : cancel.Awaitables) (stack larger : Stacked) (seen more : Marked) (notes : Noted) (result : Result ℕ Memory)
     → v.called ≡ None → OnOk result (cancel.parts b ≡ spawn (parts v))
     → OnOk result (b.queue ≡ queue.soon (Step (length v.tasks)) v.queue) → OnErr result (b ≡ body v)
     → larger ≡ record stack { room = stack.room + 1 } → more ≡ record seen { tasks = seen.tasks + 1 }
@@ -87,8 +87,8 @@ spawned_or_not v b stack larger seen more notes (Err fault) idle made queued err
     let tasks : more.tasks ≡ seen.tasks + 1 = ap (λ (s : Marked). s.tasks) marks in
     let fits = has.fits in
     let marked = has.marked in (
-      subst (λ (x : cancel.View). IsKept (record v { queue = x.queue; futures = x.futures; tasks = x.tasks })) (sym err) is,
-      subst (λ (x : cancel.View). HasRoom (record v { queue = x.queue; futures = x.futures; tasks = x.tasks }) larger more notes) (sym err) (record {
+      subst (λ (x : cancel.Awaitables). IsKept (record v { queue = x.queue; futures = x.futures; tasks = x.tasks })) (sym err) is,
+      subst (λ (x : cancel.Awaitables). HasRoom (record v { queue = x.queue; futures = x.futures; tasks = x.tasks }) larger more notes) (sym err) (record {
         empty = ap (λ (s : Stacked). s.frames) grown ∙ has.empty;
         unseen = ap (λ (s : Marked). s.visited) marks ∙ has.unseen;
         unnoted = has.unnoted;
@@ -97,7 +97,7 @@ spawned_or_not v b stack larger seen more notes (Err fault) idle made queued err
       }),
     )
 
-pub cancel_kept : (v : View) (b : cancel.View) (target : ℕ) → v.called ≡ None → cancel.parts b ≡ (cancel target (parts v)).parts
+pub cancel_kept : (v : View) (b : cancel.Awaitables) (target : ℕ) → v.called ≡ None → cancel.parts b ≡ (cancel target (parts v)).parts
     → Appended v.queue b.queue → IsKept v → IsKept (record v { queue = b.queue; futures = b.futures; tasks = b.tasks })
 cancel_kept v b target idle same appended is =
     moved_kept v b (cancel target (parts v)).parts idle same appended
@@ -106,7 +106,7 @@ cancel_kept v b target idle same appended is =
     (cancel_sound v.running v.running (λ t h. h) target (bare (parts v)) (at_rest v.running v.called (parts v) idle is.sound)))
     is
 
-pub uncancel_kept : (v : View) (b : cancel.View) (task : ℕ) → v.called ≡ None → cancel.parts b ≡ uncancel task (parts v)
+pub uncancel_kept : (v : View) (b : cancel.Awaitables) (task : ℕ) → v.called ≡ None → cancel.parts b ≡ uncancel task (parts v)
     → Appended v.queue b.queue → IsKept v → IsKept (record v { queue = b.queue; futures = b.futures; tasks = b.tasks })
 uncancel_kept v b task idle same appended is =
     let sound = at_rest v.running v.called (parts v) idle is.sound in
@@ -135,7 +135,7 @@ begun_sound running called task input p c r is =
     subst (ArePartsSound (Some task) (Some task)) (begin-bare task input p)
     (begin_sound task handle (map bare_handle p.pending) (bare (with_first s.0 p)) refl refl (steps_it s.0 task s.1) s.2 input)
 
-pub begin_kept : (v : View) (b : cancel.View) (task : ℕ) (input : Input) → v.called ≡ Some task → v.running ≡ None
+pub begin_kept : (v : View) (b : cancel.Awaitables) (task : ℕ) (input : Input) → v.called ≡ Some task → v.running ≡ None
     → cancel.parts b ≡ (begin_step task input (parts v)).parts → b.queue ≡ v.queue → IsKept v
     → IsKept (record v { queue = b.queue; futures = b.futures; tasks = b.tasks; running = Some task; called = None })
 begin_kept v b task input called running same queue is = record {
@@ -147,7 +147,7 @@ begin_kept v b task input called running same queue is = record {
 }
 
 -- ---- a step ends
-ended_kept : (v : View) (b : cancel.View) (q : Parts) → v.called ≡ None → cancel.parts b ≡ q → Appended v.queue b.queue
+ended_kept : (v : View) (b : cancel.Awaitables) (q : Parts) → v.called ≡ None → cancel.parts b ≡ q → Appended v.queue b.queue
     → HasNoCircle q → ArePartsSound None None (bare q) → IsKept v
     → IsKept (record v { queue = b.queue; futures = b.futures; tasks = b.tasks; running = None })
 ended_kept v b q idle same appended none sound is = record {
@@ -178,7 +178,7 @@ pause_kept v task idle running is =
     (pause_sound task (bare (parts v)) (in_step v.running v.called task (parts v) idle running is.sound)))
     is
 
-pub suspend_kept : (v : View) (b : cancel.View) (task on : ℕ) → v.called ≡ None → v.running ≡ Some task
+pub suspend_kept : (v : View) (b : cancel.Awaitables) (task on : ℕ) → v.called ≡ None → v.running ≡ Some task
     → is_pending_at (slice_get v.futures on) ≡ true → cancel.parts b ≡ (suspend task on (parts v)).parts → Appended v.queue b.queue → IsKept v
     → IsKept (record v { queue = b.queue; futures = b.futures; tasks = b.tasks; running = None })
 suspend_kept v b task on idle running pending same appended is =
@@ -190,7 +190,7 @@ suspend_kept v b task on idle running pending same appended is =
     (suspend_sound task on (bare (parts v)) (bare_pends (parts v) on ∙ pending) sound))
     is
 
-pub finish_kept : (v : View) (b : cancel.View) (task : ℕ) (end : Result Value Exc) → v.called ≡ None → v.running ≡ Some task
+pub finish_kept : (v : View) (b : cancel.Awaitables) (task : ℕ) (end : Result Value Exc) → v.called ≡ None → v.running ≡ Some task
     → cancel.parts b ≡ finish task end (parts v) → Appended v.queue b.queue → IsKept v
     → IsKept (record v { queue = b.queue; futures = b.futures; tasks = b.tasks; running = None })
 finish_kept v b task end idle running same appended is =

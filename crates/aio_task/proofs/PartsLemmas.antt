@@ -8,10 +8,10 @@ use Rattle.model_loop.specs.Futures as plain
 use Rattle.model_loop.specs.Tasks.{spawn}
 use Rattle.aio_ready.specs.Queue as queue
 use Rattle.aio_future.specs.Settled.{registered, registered_at, registered_until, soon_if_done, soon_at, soon_until}
-use Rattle.aio_cancel.specs.Body.{View, parts, Appended}
+use Rattle.aio_cancel.specs.Awaitables.{Awaitables, parts, Appended}
 use Rattle.aio_cancel.proofs.PartsLemmas.{soon-parts}
 
-pub register-parts : (id : ℕ) (action : Action) (v : View)
+pub register-parts : (id : ℕ) (action : Action) (v : Awaitables)
     → plain.register id action (parts v)
     ≡ parts (record { queue = soon_if_done id action v.futures v.queue; futures = registered id action v.futures; tasks = v.tasks })
 register-parts id action v = at (slice_get v.futures id)
@@ -32,7 +32,7 @@ register-parts id action v = at (slice_get v.futures id)
     at None = refl
     at (Some future) = until future future.outcome
 
-pub spawn-parts : (v : View)
+pub spawn-parts : (v : Awaitables)
     → spawn (parts v)
     ≡ parts (record {
       queue = queue.soon (Step (length v.tasks)) v.queue;
@@ -59,7 +59,7 @@ callback_appends id action futures q = at (slice_get futures id)
     at None = ([], refl)
     at (Some future) = until future.outcome
 
-pub task_made : (v w : View) (task future : ℕ) → task ≡ length v.tasks → future ≡ length v.futures
+pub task_made : (v w : Awaitables) (task future : ℕ) → task ≡ length v.tasks → future ≡ length v.futures
     → w.queue ≡ queue.soon (Step task) v.queue
     → w.futures ≡ v.futures ++ record { kind = OfTask task; outcome = None; callbacks = [] } ∷ []
     → w.tasks ≡ v.tasks ++ record { future = future; waiter = None; cancels = 0; must_cancel = false } ∷ []

@@ -11,12 +11,12 @@ use Rattle.model_loop.specs.Parts.{Timer}
 use Rattle.model_loop.specs.Totals.{pending_where}
 use Rattle.law_settling.specs.Frames.{Follows}
 use Rattle.aio_ready.specs.declared.handle.Handle.{Handle}
-use Rattle.aio_ready.specs.declared.handle.Name.{Name}
-use Rattle.aio_ready.specs.declared.handle.Name.TheVariants as name
+use Rattle.aio_ready.specs.declared.handle.HandleName.{HandleName}
+use Rattle.aio_ready.specs.declared.handle.HandleName.TheVariants as name
 use Rattle.aio_ready.specs.Names.{is_same, marked}
 use Rattle.aio_ready.specs.Queue.{Queue, appended, soon, soon_all, cancelled, barred, from_live, taken, next_name, most_given}
 use Rattle.aio_timer.specs.Schedule.{fallen}
-use Rattle.aio_cancel.specs.Body.{handles_from, waiting}
+use Rattle.aio_cancel.specs.Awaitables.{handles_from, waiting}
 use Rattle.aio_task.specs.Bare.{bare_action, bare_handle}
 use Rattle.aio_task.specs.View.{is_step, steps_as}
 use Rattle.aio_task.specs.Kept.{is_timer, steps_as_timer, steps_later}
@@ -68,7 +68,7 @@ none_counts true passes h = refl
 none_counts false passes h = rw h refl
 
 -- ---- appended
-pub live-appended : (test : Action → Bool) → Follows test → (name : Name) (action : Action) (q : Queue) → is_step action ≡ false
+pub live-appended : (test : Action → Bool) → Follows test → (name : HandleName) (action : Action) (q : Queue) → is_step action ≡ false
     → live test (waiting (appended name action q)) ≡ live test (waiting q)
 live-appended test follows name action q h =
     let handle : Handle = record { name = name; action = action; dead = false } in
@@ -78,7 +78,7 @@ live-appended test follows name action q h =
     let b = live-append test (waiting q) (handle ∷ []) in
     omega (arith, a, b, z)
 
-pub any-appended : (p : Handle → Bool) (name : Name) (action : Action) (q : Queue)
+pub any-appended : (p : Handle → Bool) (name : HandleName) (action : Action) (q : Queue)
     → p (record { name = name; action = action; dead = false }) ≡ false
     → list_any p (waiting q) ≡ false → list_any p (waiting (appended name action q)) ≡ false
 any-appended p name action q h none =
@@ -94,7 +94,7 @@ marked_counts test follows true same action h = refl
 marked_counts test follows false false action h = refl
 marked_counts test follows false true action h = rw (passes_not test follows action h) refl
 
-pub live-marked : (test : Action → Bool) → Follows test → (name : Name) (handles : List Handle)
+pub live-marked : (test : Action → Bool) → Follows test → (name : HandleName) (handles : List Handle)
     → list_any (steps_as name) handles ≡ false → live test (map (marked name) handles) ≡ live test handles
 live-marked test follows name [] none = refl
 live-marked test follows name (h ∷ handles) none =
@@ -103,7 +103,7 @@ live-marked test follows name (h ∷ handles) none =
     let b = live-marked test follows name handles both.1 in
     omega (arith, a, b)
 
-pub live-cancelled : (test : Action → Bool) → Follows test → (name : Name) (q : Queue)
+pub live-cancelled : (test : Action → Bool) → Follows test → (name : HandleName) (q : Queue)
     → list_any (steps_as name) (waiting q) ≡ false → live test (waiting (cancelled name q)) ≡ live test (waiting q)
 live-cancelled test follows name q none =
     let both = or_none (list_any (steps_as name) q.below) (list_any (steps_as name) q.after)
@@ -114,12 +114,12 @@ live-cancelled test follows name q none =
     let y = live-append test q.below q.after in
     omega (arith, a, b, x, y)
 
-pub any-marked : (p : Handle → Bool) → ((name : Name) (h : Handle) → p (marked name h) ≡ p h) → (name : Name) (handles : List Handle)
+pub any-marked : (p : Handle → Bool) → ((name : HandleName) (h : Handle) → p (marked name h) ≡ p h) → (name : HandleName) (handles : List Handle)
     → list_any p (map (marked name) handles) ≡ list_any p handles
 any-marked p same name [] = refl
 any-marked p same name (h ∷ handles) = rw (same name h, any-marked p same name handles) refl
 
-pub any-cancelled : (p : Handle → Bool) → ((name : Name) (h : Handle) → p (marked name h) ≡ p h) → (name : Name) (q : Queue)
+pub any-cancelled : (p : Handle → Bool) → ((name : HandleName) (h : Handle) → p (marked name h) ≡ p h) → (name : HandleName) (q : Queue)
     → list_any p (waiting (cancelled name q)) ≡ list_any p (waiting q)
 any-cancelled p same name q =
     list_any-append p (map (marked name) q.below) (map (marked name) q.after)

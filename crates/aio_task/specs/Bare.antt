@@ -3,7 +3,7 @@ use Rattle.std.specs.Prelude.{List, map}
 use Rattle.model_value.specs.Action.{Action}
 use Rattle.model_value.specs.declared.action.Action.TheVariants.{Step, StepInCircle, Wakeup, MainDone}
 use Rattle.model_loop.specs.Parts.{Handle, Future, Parts}
-use Rattle.model_loop.specs.Cancel.{Request}
+use Rattle.model_loop.specs.Cancel.{CancelRequest}
 
 abbrev pub bare_action : Action → Action
 bare_action (Step task) = Step task
@@ -20,5 +20,5 @@ bare_future future = record future { callbacks = map bare_action future.callback
 abbrev pub bare : Parts → Parts
 bare p = record p { pending = map bare_handle p.pending; futures = map bare_future p.futures }
 
-abbrev pub bare_of : Request → Request
+abbrev pub bare_of : CancelRequest → CancelRequest
 bare_of r = record r { parts = bare r.parts }

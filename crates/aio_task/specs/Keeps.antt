@@ -11,12 +11,12 @@ use Rattle.model_loop.specs.Numbered.{IsNumbered}
 use Rattle.law_parts.specs.Forgotten.{forget_from, AreDone}
 use Rattle.aio_ready.specs.declared.handle.Handle.{Handle}
 use Rattle.aio_ready.specs.declared.handle.HandleId.{HandleId}
-use Rattle.aio_ready.specs.declared.handle.Name.{Name}
-use Rattle.aio_ready.specs.declared.handle.Name.TheVariants as name
+use Rattle.aio_ready.specs.declared.handle.HandleName.{HandleName}
+use Rattle.aio_ready.specs.declared.handle.HandleName.TheVariants as name
 use Rattle.aio_ready.specs.Names.{is_same}
 use Rattle.aio_ready.specs.Queue.{Queue}
 use Rattle.aio_timer.specs.declared.live.TimerId.{TimerId}
-use Rattle.aio_cancel.specs.Body.{Appended}
+use Rattle.aio_cancel.specs.Awaitables.{Appended}
 use Rattle.aio_task.specs.View.{View, parts}
 
 -- by what the code knows that to which the machine gave a tag
@@ -24,7 +24,7 @@ pub data Known : Type 0 where
   ByHandle : (id : HandleId) → Known
   ByTimer : (id : TimerId) → Known
 
-abbrev pub name_of : Known → Name
+abbrev pub name_of : Known → HandleName
 name_of (ByHandle id) = id.name
 name_of (ByTimer id) = name.Timer id.number
 
@@ -67,7 +67,7 @@ IsTimer (ByTimer id) timer = id.when ≡ timer.when
 
 -- ---- names
 -- of so many numbers of handles and of timers this one was given
-abbrev pub WasGiven : (handles timers : ℕ) → Name → Type 0
+abbrev pub WasGiven : (handles timers : ℕ) → HandleName → Type 0
 WasGiven handles timers name.Nameless = Unit {0}
 WasGiven handles timers (name.Given number) = number < handles
 WasGiven handles timers (name.Timer number) = number < timers

@@ -8,11 +8,11 @@ use Rattle.model_loop.specs.Parts.{Timer, Parts}
 use Rattle.model_loop.specs.Sound.{HasNoCircle, ArePartsSound}
 use Rattle.law_parts.specs.Open.{room_of}
 use Rattle.aio_ready.specs.declared.handle.Handle.{Handle}
-use Rattle.aio_ready.specs.declared.handle.Name.{Name}
-use Rattle.aio_ready.specs.declared.handle.Name.TheVariants as name
+use Rattle.aio_ready.specs.declared.handle.HandleName.{HandleName}
+use Rattle.aio_ready.specs.declared.handle.HandleName.TheVariants as name
 use Rattle.aio_timer.specs.Schedule.{Schedule}
-use Rattle.aio_cancel.specs.Body as cancel
-use Rattle.aio_cancel.specs.Body.{waiting}
+use Rattle.aio_cancel.specs.Awaitables as cancel
+use Rattle.aio_cancel.specs.Awaitables.{waiting}
 use Rattle.aio_cancel.specs.Noted.{Noted, HasNoNotes}
 use Rattle.aio_cancel.specs.Seen.{Marked, Stacked}
 use Rattle.aio_task.specs.declared.running.Running.{Running}
@@ -30,7 +30,7 @@ AreSound running None p = ArePartsSound running running (bare p)
 AreSound running (Some task) p =
     (action : Action) × (stepped action ≡ Some task) × ArePartsSound running running (bare (with_first action p))
 
-abbrev pub is_timer : Name → Bool
+abbrev pub is_timer : HandleName → Bool
 is_timer name.Nameless = false
 is_timer (name.Given number) = false
 is_timer (name.Timer number) = true
@@ -58,7 +58,7 @@ pub record HasRoom (v : View) (stack : Stacked) (seen : Marked) (notes : Noted) 
   pub marked : length v.tasks ≤ seen.tasks
 
 -- what is seen of the fields
-abbrev pub view_of : (time profile : ℕ) → cancel.View → Schedule → Option Running → Option ℕ → View
+abbrev pub view_of : (time profile : ℕ) → cancel.Awaitables → Schedule → Option Running → Option ℕ → View
 view_of time profile body timers running called = record {
   time = time;
   profile = profile;

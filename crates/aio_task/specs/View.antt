@@ -6,12 +6,12 @@ use Rattle.model_value.specs.Action.{Action, Circle}
 use Rattle.model_value.specs.declared.action.Action.TheVariants.{Step, StepInCircle, Wakeup}
 use Rattle.model_loop.specs.Parts.{Future, Task, Parts}
 use Rattle.aio_ready.specs.declared.handle.Handle.{Handle}
-use Rattle.aio_ready.specs.declared.handle.Name.{Name}
+use Rattle.aio_ready.specs.declared.handle.HandleName.{HandleName}
 use Rattle.aio_ready.specs.Names.{is_same}
 use Rattle.aio_ready.specs.Queue.{Queue, no_handles}
 use Rattle.aio_timer.specs.Schedule.{Schedule, no_timers}
-use Rattle.aio_cancel.specs.Body as cancel
-use Rattle.aio_cancel.specs.Body.{waiting}
+use Rattle.aio_cancel.specs.Awaitables as cancel
+use Rattle.aio_cancel.specs.Awaitables.{waiting}
 use Rattle.aio_task.specs.declared.suspension.Suspension.{Suspension}
 use Rattle.aio_task.specs.declared.suspension.Suspension.TheVariants.{Suspended, Cycle}
 
@@ -28,7 +28,7 @@ pub record View : Type 0 where
   pub called : Option ℕ
 
 -- what a request changes
-abbrev pub body : View → cancel.View
+abbrev pub body : View → cancel.Awaitables
 body v = record { queue = v.queue; futures = v.futures; tasks = v.tasks }
 
 -- The parts as the definitions have them, without time and timers. Handles are stamped and named by their places.
@@ -54,11 +54,11 @@ is_step (Wakeup task) = true
 is_step _ = false
 
 -- whether a handle has a name, and is a step or a wakeup that isn't dead
-abbrev pub steps_as : Name → Handle → Bool
+abbrev pub steps_as : HandleName → Handle → Bool
 steps_as name handle = is_same name handle.name && (not handle.dead && is_step handle.action)
 
 -- no handle of this name is a step or a wakeup, but for dead ones
-abbrev pub NamesNoStep : Name → Queue → Type 0
+abbrev pub NamesNoStep : HandleName → Queue → Type 0
 NamesNoStep name q = list_any (steps_as name) (waiting q) ≡ false
 
 -- what became of an await

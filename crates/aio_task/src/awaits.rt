@@ -8,14 +8,14 @@ ghost use Rattle.model_loop.specs.Suspend.{suspend as suspend_of};
 ghost use Rattle.model_loop.specs.Tasks.{is_marked as is_marked_in};
 ghost use Rattle.model_loop.specs.Suspend.{cancel_wait};
 ghost use Rattle.law_parts.specs.Open.{room_of};
-ghost use Rattle.aio_cancel.specs.Body.{parts, Appended};
+ghost use Rattle.aio_cancel.specs.Awaitables.{parts, Appended};
 ghost use Rattle.aio_cancel.specs.Noted.{HasNoNotes};
 ghost use Rattle.aio_task.specs.View.{suspension_of};
 
 use crate::suspension::Suspension;
 use crate::tasks::{call_soon, future_of, is_marked, unmark, wait};
 use aio_base::{Action, Circle};
-use aio_cancel::{Body, Marks, Notes, Stack, cancel, leads};
+use aio_cancel::{Awaitables, Marks, Notes, WalkStack, cancel, leads};
 use aio_future::FutureId;
 use aio_ready::Ticket;
 
@@ -23,10 +23,10 @@ use aio_ready::Ticket;
 fn find_circle(
     task: u32,
     on: FutureId,
-    body: &Body,
+    body: &Awaitables,
     seen: &mut Marks,
     notes: &mut Notes,
-    stack: &mut Stack,
+    stack: &mut WalkStack,
 ) -> Option<Circle>
     requires empty { stack.old.frames ≡ [] }
     requires unseen { seen.old.visited ≡ [] }
@@ -54,10 +54,10 @@ fn find_circle(
 fn cancel_waiting(
     task: u32,
     on: FutureId,
-    body: &mut Body,
+    body: &mut Awaitables,
     seen: &mut Marks,
     notes: &mut Notes,
-    stack: &mut Stack,
+    stack: &mut WalkStack,
 )
     requires empty { stack.old.frames ≡ [] }
     requires unseen { seen.old.visited ≡ [] }
@@ -84,10 +84,10 @@ pub fn suspend(
     task: u32,
     on: FutureId,
     ticket: Ticket,
-    body: &mut Body,
+    body: &mut Awaitables,
     seen: &mut Marks,
     notes: &mut Notes,
-    stack: &mut Stack,
+    stack: &mut WalkStack,
 ) -> Suspension
     requires empty { stack.old.frames ≡ [] }
     requires unseen { seen.old.visited ≡ [] }

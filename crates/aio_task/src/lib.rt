@@ -8,7 +8,7 @@ mod suspension;
 mod tasks;
 
 pub use aio_future::FutureId;
-pub use aio_ready::{HandleId, Name, Ticket};
+pub use aio_ready::{HandleId, HandleName, Ticket};
 pub use aio_timer::{TimerId, Unplaced};
 pub use parts::Parts;
 pub use suspension::Suspension;

@@ -18,11 +18,11 @@ ghost use Rattle.model_loop.specs.Spent.{is_spent};
 ghost use Rattle.model_loop.specs.Suspend.{suspend as suspend_of};
 ghost use Rattle.law_parts.specs.Forgotten.{released};
 ghost use Rattle.aio_ready.specs.Queue as queue;
-ghost use Rattle.aio_ready.specs.declared.handle.Name.TheVariants as name;
+ghost use Rattle.aio_ready.specs.declared.handle.HandleName.TheVariants as name;
 ghost use Rattle.aio_timer.specs.Schedule as schedule;
 ghost use Rattle.aio_future.specs.Kinds.{is_asked};
 ghost use Rattle.aio_future.specs.Settled.{settled, called, registered, soon_if_done, asked};
-ghost use Rattle.aio_cancel.specs.Body.{Appended};
+ghost use Rattle.aio_cancel.specs.Awaitables.{Appended};
 ghost use Rattle.aio_task.specs.View.{parts, stepped_at, is_step, NamesNoStep, suspension_of, empty};
 
 use crate::awaits::suspend;
@@ -32,7 +32,7 @@ use crate::tasks::{
     add, begin, call_soon, cancels_of, finish, future_of, input_of, uncancel, waiter_of,
 };
 use aio_base::{Action, Exc, Input, Memory, Outcome, Value};
-use aio_cancel::{Body, Marks, Notes, Stack, cancel};
+use aio_cancel::{Awaitables, Marks, Notes, WalkStack, cancel};
 use aio_future::FutureId;
 use aio_ready::{HandleId, Ticket};
 use aio_timer::{TimerId, Timers, Unplaced};
@@ -43,10 +43,10 @@ use std::marker::Model;
 /// and its `parts` as the definitions have them. A call that answers `Memory` leaves them as they were.
 #[derive(Drop)]
 pub struct Parts {
-    body: Body,
+    body: Awaitables,
     timers: Timers,
     // what a request needs; its room is made as tasks and futures are
-    stack: Stack,
+    stack: WalkStack,
     seen: Marks,
     notes: Notes,
     time: u64,
@@ -77,12 +77,12 @@ impl Parts {
     pub fn new(alloc: Global, profile: u8) -> Result<Parts, Memory>
         ensures { IfOk result (λ made. made ≡ empty profile) }
     {
-        let body = Body::new(alloc)?;
+        let body = Awaitables::new(alloc)?;
         let timers = Timers::new(alloc)?;
         Ok(Parts {
             body,
             timers,
-            stack: Stack::new(alloc),
+            stack: WalkStack::new(alloc),
             seen: Marks::new(alloc),
             notes: Notes::new(alloc),
             time: 0,

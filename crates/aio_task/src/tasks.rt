@@ -9,16 +9,16 @@ ghost use Rattle.model_loop.specs.Suspend.{wait_on};
 ghost use Rattle.model_value.specs.declared.action.Action.TheVariants as action;
 ghost use Rattle.model_value.specs.declared.outcome.Outcome.TheVariants as outcome;
 ghost use Rattle.aio_ready.specs.Queue.{soon};
-ghost use Rattle.aio_cancel.specs.Body.{parts, Appended};
+ghost use Rattle.aio_cancel.specs.Awaitables.{parts, Appended};
 
 use aio_base::{Action, Exc, Input, Kind as ExcKind, Memory, Outcome, Value};
-use aio_cancel::{Body, Task};
-use aio_future::{FutureId, Kind};
+use aio_cancel::{Awaitables, Task};
+use aio_future::{FutureId, FutureKind};
 use aio_ready::Ticket;
 use std::alloc::Global;
 
 /// A task's own future.
-pub fn future_of(body: &Body, task: u32) -> FutureId
+pub fn future_of(body: &Awaitables, task: u32) -> FutureId
     ensures { result ≡ tasks.future_of (parts body.now) task }
 {
     match body.tasks.get(task as usize) {
@@ -28,7 +28,7 @@ pub fn future_of(body: &Body, task: u32) -> FutureId
 }
 
 /// How many requests to cancel a task count.
-pub fn cancels_of(body: &Body, task: u32) -> u64
+pub fn cancels_of(body: &Awaitables, task: u32) -> u64
     ensures { result ≡ tasks.cancelling (parts body.now) task }
 {
     match body.tasks.get(task as usize) {
@@ -38,7 +38,7 @@ pub fn cancels_of(body: &Body, task: u32) -> u64
 }
 
 /// What a task waits for.
-pub fn waiter_of(body: &Body, task: u32) -> Option<FutureId>
+pub fn waiter_of(body: &Awaitables, task: u32) -> Option<FutureId>
     ensures { result ≡ tasks.waiter_of (parts body.now) task }
 {
     match body.tasks.get(task as usize) {
@@ -48,7 +48,7 @@ pub fn waiter_of(body: &Body, task: u32) -> Option<FutureId>
 }
 
 /// Whether a cancel waits for a task's next step.
-pub fn is_marked(body: &Body, task: u32) -> bool
+pub fn is_marked(body: &Awaitables, task: u32) -> bool
     ensures { result ≡ tasks.is_marked (parts body.now) task }
 {
     match body.tasks.get(task as usize) {
@@ -58,7 +58,7 @@ pub fn is_marked(body: &Body, task: u32) -> bool
 }
 
 /// No cancel waits for a task's next step.
-pub fn unmark(body: &mut Body, task: u32)
+pub fn unmark(body: &mut Awaitables, task: u32)
     ensures after { parts body.new ≡ tasks.unmark task (parts body.old) }
     ensures queue { body.new.queue ≡ body.old.queue }
     ensures futures { body.new.futures ≡ body.old.futures }
@@ -69,7 +69,7 @@ pub fn unmark(body: &mut Body, task: u32)
 }
 
 /// What a task waits for.
-pub fn set_waiter(body: &mut Body, task: u32, waiter: Option<FutureId>)
+pub fn set_waiter(body: &mut Awaitables, task: u32, waiter: Option<FutureId>)
     ensures after { parts body.new ≡ tasks.set_waiter task waiter (parts body.old) }
     ensures queue { body.new.queue ≡ body.old.queue }
     ensures futures { body.new.futures ≡ body.old.futures }
@@ -80,7 +80,7 @@ pub fn set_waiter(body: &mut Body, task: u32, waiter: Option<FutureId>)
 }
 
 /// A positive count of requests to cancel a task falls by one.
-pub fn uncancel(body: &mut Body, task: u32)
+pub fn uncancel(body: &mut Awaitables, task: u32)
     ensures after { parts body.new ≡ tasks.uncancel task (parts body.old) }
     ensures queue { body.new.queue ≡ body.old.queue }
     ensures futures { body.new.futures ≡ body.old.futures }
@@ -91,7 +91,7 @@ pub fn uncancel(body: &mut Body, task: u32)
 }
 
 /// `call_soon`, in the memory of a ticket.
-pub fn call_soon(body: &mut Body, ticket: Ticket, action: Action)
+pub fn call_soon(body: &mut Awaitables, ticket: Ticket, action: Action)
     ensures whole { body.new ≡ record body.old { queue = soon action body.old.queue } }
     ensures after { parts body.new ≡ handles.soon action (parts body.old) }
 {
@@ -99,7 +99,7 @@ pub fn call_soon(body: &mut Body, ticket: Ticket, action: Action)
 }
 
 /// A new task with its future, whose first step is called soon.
-pub fn add(body: &mut Body, alloc: Global) -> Result<u32, Memory>
+pub fn add(body: &mut Awaitables, alloc: Global) -> Result<u32, Memory>
     ensures number { IfOk result (λ task. task ≡ length body.old.tasks) }
     ensures after { OnOk result (parts body.new ≡ tasks.spawn (parts body.old)) }
     ensures queue { OnOk result (body.new.queue ≡ soon (action.Step (length body.old.tasks)) body.old.queue) }
@@ -110,7 +110,7 @@ pub fn add(body: &mut Body, alloc: Global) -> Result<u32, Memory>
     };
     let ticket = body.ready.ticket(alloc)?;
     body.tasks.reserve(1)?;
-    let future = body.futures.make(alloc, Kind::OfTask(task))?;
+    let future = body.futures.make(alloc, FutureKind::OfTask(task))?;
     let pushed = body.tasks.push(Task::new(future));
     prove!(pushed.is_ok());
     let _id = body.ready.soon(ticket, Action::Step(task));
@@ -118,7 +118,7 @@ pub fn add(body: &mut Body, alloc: Global) -> Result<u32, Memory>
 }
 
 /// A step begins: the task waits no more, and no cancel waits for its step. The answer is whether one did.
-pub fn begin(body: &mut Body, task: u32) -> bool
+pub fn begin(body: &mut Awaitables, task: u32) -> bool
     ensures marked { result ≡ tasks.is_marked (parts body.old) task }
     ensures after { parts body.new ≡ tasks.unmark task (tasks.set_waiter task None (parts body.old)) }
     ensures queue { body.new.queue ≡ body.old.queue }
@@ -162,7 +162,7 @@ fn is_cancelled(fault: &Exc) -> bool
 }
 
 /// The task is woken when a future is done.
-pub fn wait(body: &mut Body, task: u32, on: FutureId, ticket: Ticket)
+pub fn wait(body: &mut Awaitables, task: u32, on: FutureId, ticket: Ticket)
     ensures after { parts body.new ≡ wait_on task on (parts body.old) }
     ensures queue { Appended body.old.queue body.new.queue }
 {
@@ -172,7 +172,7 @@ pub fn wait(body: &mut Body, task: u32, on: FutureId, ticket: Ticket)
 }
 
 /// A task is done.
-pub fn finish(body: &mut Body, task: u32, end: Result<Value, Exc>)
+pub fn finish(body: &mut Awaitables, task: u32, end: Result<Value, Exc>)
     ensures after { parts body.new ≡ tasks.finish task end (parts body.old) }
     ensures queue { Appended body.old.queue body.new.queue }
 {

@@ -3,15 +3,15 @@ use Rattle.std.proofs.Common.{◌≡◌, Bool, true, false, List, [], ◌∷◌,
 use Rattle.std.proofs.lemmas.List.{length-map}
 use Rattle.model_value.specs.Action.{Action}
 use Rattle.aio_ready.specs.Names.{marked}
-use Rattle.aio_ready.specs.declared.handle.Name.{Name}
+use Rattle.aio_ready.specs.declared.handle.HandleName.{HandleName}
 use Rattle.aio_ready.specs.Queue as queue
 use Rattle.aio_ready.specs.Queue.{Queue, soon_all}
-use Rattle.aio_cancel.specs.Body.{Appended}
+use Rattle.aio_cancel.specs.Awaitables.{Appended}
 
-pub below_cancelled : (name : Name) (q : Queue) → length (queue.cancelled name q).below ≡ length q.below
+pub below_cancelled : (name : HandleName) (q : Queue) → length (queue.cancelled name q).below ≡ length q.below
 below_cancelled name q = length-map q.below (marked name)
 
-pub below_unless : (lives : Bool) (name : Name) (q : Queue) → length (if lives then q else queue.cancelled name q).below ≡ length q.below
+pub below_unless : (lives : Bool) (name : HandleName) (q : Queue) → length (if lives then q else queue.cancelled name q).below ≡ length q.below
 below_unless true name q = refl
 below_unless false name q = below_cancelled name q
 

@@ -11,18 +11,18 @@ use Rattle.model_loop.specs.Tasks.{uncancel}
 use Rattle.model_loop.specs.Timeouts.{give_up}
 use Rattle.aio_ready.specs.declared.handle.Handle.{Handle}
 use Rattle.aio_ready.specs.declared.handle.HandleId.{HandleId}
-use Rattle.aio_ready.specs.declared.handle.Name.{Name}
-use Rattle.aio_ready.specs.declared.handle.Name.TheVariants as name
+use Rattle.aio_ready.specs.declared.handle.HandleName.{HandleName}
+use Rattle.aio_ready.specs.declared.handle.HandleName.TheVariants as name
 use Rattle.aio_ready.specs.Names.{is_same}
 use Rattle.aio_ready.specs.Queue as queue
 use Rattle.aio_ready.specs.Queue.{Queue, next_name, most_given}
 use Rattle.aio_timer.specs.declared.live.TimerId.{TimerId}
 use Rattle.aio_timer.specs.Schedule.{timer, placed_after, without, lives}
-use Rattle.aio_cancel.specs.Body.{waiting}
+use Rattle.aio_cancel.specs.Awaitables.{waiting}
 use Rattle.aio_task.specs.View.{View, steps_as}
 use Rattle.aio_task.specs.Keeps.{Known, Ties, Keeps, Extends, Knows, ByHandle}
-use Rattle.aio_timeout.specs.declared.handler.Handler.{Handler}
-use Rattle.aio_timeout.specs.declared.handler.Handler.TheVariants.{Soon, At}
+use Rattle.aio_timeout.specs.declared.handler.TimeoutHandler.{TimeoutHandler}
+use Rattle.aio_timeout.specs.declared.handler.TimeoutHandler.TheVariants.{Soon, At}
 use Rattle.aio_timeout.specs.Kept.{known_of, IsHandler, StepsNone}
 use Rattle.aio_timeout.specs.Scheduled.{Made, fires_if, tag_if}
 use Rattle.law_handles.proofs.Appending.{extends_same, extends_still, kept_same, kept_soon}
@@ -54,14 +54,14 @@ known_on t u p q tag it stays tags k = record {
   known = stays tag k.given ∙ k.known;
 }
 
-pub handler_on : (t u : Ties) (p q : Parts) (handler : Option Handler) (tag : Option ℕ)
+pub handler_on : (t u : Ties) (p q : Parts) (handler : Option TimeoutHandler) (tag : Option ℕ)
     → StaysKnown t p u → p.next_tag ≤ q.next_tag → IsHandler t p handler tag → IsHandler u q handler tag
 handler_on t u p q None None stays tags h = tt
 handler_on t u p q None (Some tag) stays tags h = h
 handler_on t u p q (Some handler) None stays tags h = h
 handler_on t u p q (Some handler) (Some tag) stays tags h = (known_on t u p q tag (known_of handler) stays tags h.0, h.1)
 
-pub handler_given : (t : Ties) (p : Parts) (handler : Option Handler) (old : Option ℕ) → IsHandler t p handler old
+pub handler_given : (t : Ties) (p : Parts) (handler : Option TimeoutHandler) (old : Option ℕ) → IsHandler t p handler old
     → (tag : ℕ) → old ≡ Some tag → tag < p.next_tag
 handler_given t p None None h tag e = absurd cc
 handler_given t p None (Some other) h tag e = absurd h
@@ -76,12 +76,12 @@ pub soon_made : (t : Ties) (v : View) (p : Parts) (id : ℕ) (handle : HandleId)
 soon_made t v p id handle keeps room name_is =
     let made = kept_soon t v p keeps (Fires id) in
     let next : HandleId = record { name = next_name v.queue } in
-    let same : next ≡ handle = ap (λ (n : Name). record { name = n }) (sym name_is) in
+    let same : next ≡ handle = ap (λ (n : HandleName). record { name = n }) (sym name_is) in
     record {
       kept = made.0;
       handler = (
         subst (λ (it : HandleId). Knows made.0.ties (soon (Fires id) p) p.next_tag (ByHandle it)) same made.1,
-        subst (λ (n : Name). is_same n n ≡ true) (sym name_is) (next_named v.queue room),
+        subst (λ (n : HandleName). is_same n n ≡ true) (sym name_is) (next_named v.queue room),
       );
     }
 
@@ -105,13 +105,13 @@ none_made t v p id keeps = record {
 }
 
 -- the time decides between the two
-pub made_in_time : (t : Ties) (v w : View) (p : Parts) (handler : Option Handler) (id when : ℕ) → Keeps t v p → when ≤ v.time
+pub made_in_time : (t : Ties) (v w : View) (p : Parts) (handler : Option TimeoutHandler) (id when : ℕ) → Keeps t v p → when ≤ v.time
     → Made t p handler w (soon (Fires id) p) (Some p.next_tag) → Made t p handler w (fires_if id (Some when) p) (tag_if (Some when) p)
 made_in_time t v w p handler id when keeps over made =
     let h : when ≤ p.time = subst (λ (n : ℕ). when ≤ n) keeps.time over in
     rw (le-leb when p.time h) made
 
-pub made_later : (t : Ties) (v w : View) (p : Parts) (handler : Option Handler) (id when : ℕ) → Keeps t v p → v.time < when
+pub made_later : (t : Ties) (v w : View) (p : Parts) (handler : Option TimeoutHandler) (id when : ℕ) → Keeps t v p → v.time < when
     → Made t p handler w (later when (Fires id) p) (Some p.next_tag)
     → Made t p handler w (fires_if id (Some when) p) (tag_if (Some when) p)
 made_later t v w p handler id when keeps waits made =
@@ -143,7 +143,7 @@ none_given_up t v p None keeps h = keeps
 none_given_up t v p (Some tag) keeps h = absurd h
 
 -- ---- a new handle of a timeout is no step
-pub still_no_step : (q : Queue) (id : ℕ) (other : Option Handler) → StepsNone q other → StepsNone (queue.soon (Fires id) q) other
+pub still_no_step : (q : Queue) (id : ℕ) (other : Option TimeoutHandler) → StepsNone q other → StepsNone (queue.soon (Fires id) q) other
 still_no_step q id None h = tt
 still_no_step q id (Some (At timer)) h = tt
 still_no_step q id (Some (Soon handle)) h =

@@ -13,7 +13,7 @@ use Rattle.model_loop.specs.Tasks.{cancelling, uncancel, future_of, is_cancelled
 use Rattle.model_loop.specs.Timeouts.{no_timeout, timeout_of, give_up, enter_timeout, reschedule_where, reschedule, is_active, moment, schedule, fire, exit_timeout, has_expired}
 use Rattle.aio_task.specs.View.{View, parts}
 use Rattle.aio_task.specs.Keeps.{Ties, Keeps, Kept, Extends, Becomes}
-use Rattle.aio_timeout.specs.declared.handler.Handler.{Handler}
+use Rattle.aio_timeout.specs.declared.handler.TimeoutHandler.{TimeoutHandler}
 use Rattle.aio_timeout.specs.declared.timeout.Timeout.{Timeout}
 use Rattle.aio_timeout.specs.declared.state.TimeoutState.TheVariants as code
 use Rattle.aio_timeout.specs.States.{state_of, is_expiring, refusal}
@@ -89,7 +89,7 @@ pub nothing_changed : (t : Ties) (l : Loop) (timeouts : List Timeout) (v : View)
 nothing_changed t l timeouts v keeps = record { ties = t; keeps = keeps; extends = extends_same t l.parts }
 
 -- ---- a block is entered
-pub entered : (t : Ties) (l : Loop) (timeouts : List Timeout) (v w : View) (task stored : ℕ) (delay : Option ℤ) (handler : Option Handler)
+pub entered : (t : Ties) (l : Loop) (timeouts : List Timeout) (v w : View) (task stored : ℕ) (delay : Option ℤ) (handler : Option TimeoutHandler)
     → KeepsTimeouts t timeouts v l → stored ≡ cancelling (parts v) task
     → ((u : Ties) (p : Parts) → Keeps u v p
     → Made u p handler w (fires_if (length timeouts) (option_map (deadline v.time) delay) p)
@@ -137,7 +137,7 @@ module _ (t : Ties) (l : Loop) (timeouts : List Timeout) (v : View) (id : ℕ) (
   pub refusal_same : refusal (state_of timeout.state) ≡ refusal (timeout_of l id).state
   refusal_same = ap refusal is.state
 
-  pub rescheduled : (w x : View) (handler : Option Handler) (when : Option ℤ) → is_active (state_of timeout.state) ≡ true
+  pub rescheduled : (w x : View) (handler : Option TimeoutHandler) (when : Option ℤ) → is_active (state_of timeout.state) ≡ true
       → ((u : Ties) (p : Parts) → Keeps u v p → Made u p handler w (fires_if id (option_map moment when) p) (tag_if (option_map moment when) p))
       → ((u : Ties) (p : Parts) (tag : Option ℕ) → Keeps u w p → IsHandler u p timeout.handler tag → Keeps u x (give_up tag p))
       → KeptTimeouts t l (slice_set timeouts id (record timeout { handler = handler })) x (reschedule id when l)
@@ -249,7 +249,7 @@ pub untagged : (t : Ties) (p : Parts) (timeouts : List Timeout) (them : List loo
     → (slice_index_or them id no_timeout).tag ≡ None → handler_at id timeouts ≡ None
 untagged t p timeouts them id are none = at (slice_get timeouts id) refl
   where
-    handler : (h : Option Handler) (tag : Option ℕ) → IsHandler t p h tag → tag ≡ None → h ≡ None
+    handler : (h : Option TimeoutHandler) (tag : Option ℕ) → IsHandler t p h tag → tag ≡ None → h ≡ None
     handler None tag is e = refl
     handler (Some h) None is e = absurd is
     handler (Some h) (Some tag) is e = cc

@@ -13,12 +13,12 @@ use Rattle.model_loop.specs.Timeouts.{timeout_of}
 use Rattle.model_loop.specs.Deadlines.{fires, others_as, HasTag}
 use Rattle.model_loop.specs.Entries.{handles_where, entries}
 use Rattle.aio_ready.specs.declared.handle.HandleId.{HandleId}
-use Rattle.aio_ready.specs.declared.handle.Name.{Name}
+use Rattle.aio_ready.specs.declared.handle.HandleName.{HandleName}
 use Rattle.aio_ready.specs.Names.{is_same}
 use Rattle.aio_task.specs.View.{View, is_step, steps_as, NamesNoStep}
 use Rattle.aio_task.specs.Keeps.{Ties, Keeps, Knows, ByHandle, handle_as, name_of}
-use Rattle.aio_timeout.specs.declared.handler.Handler.{Handler}
-use Rattle.aio_timeout.specs.declared.handler.Handler.TheVariants.{Soon, At}
+use Rattle.aio_timeout.specs.declared.handler.TimeoutHandler.{TimeoutHandler}
+use Rattle.aio_timeout.specs.declared.handler.TimeoutHandler.TheVariants.{Soon, At}
 use Rattle.aio_timeout.specs.declared.timeout.Timeout.{Timeout}
 use Rattle.aio_timeout.specs.Kept.{IsHandler, KeepsTimeouts, StepsNone, handler_at}
 use Rattle.law_handles.proofs.Appending.{waiting_kept}
@@ -36,7 +36,7 @@ module _ (t : Ties) (v : View) (p : Parts) (id tag : ℕ) (handle : HandleId) (k
   tag_named : (other : plain.Handle) → other.tag < p.next_tag → is_same handle.name (name_of (t.known other.tag)) ≡ true → tag ≡ other.tag
   tag_named other given h =
       keeps.names.own tag other.tag knows.given given
-      (ap (λ (n : Name). is_same n (name_of (t.known other.tag))) (ap name_of knows.known) ∙ h)
+      (ap (λ (n : HandleName). is_same n (name_of (t.known other.tag))) (ap name_of knows.known) ∙ h)
 
   one : (other : plain.Handle) → other.tag < p.next_tag
       → (not other.dead && others_as id tag other.tag other.action) ≡ false
@@ -82,7 +82,7 @@ pub handlers_step_none : (t : Ties) (v : View) (l : Loop) (timeouts : List Timeo
     → (id : ℕ) → StepsNone v.queue (handler_at id timeouts)
 handlers_step_none t v l timeouts keeps tags id = at (slice_get timeouts id) refl
   where
-    handler : (timeout : Timeout) (h : Option Handler) (tag : Option ℕ) → IsHandler t l.parts h tag → (timeout_of l id).tag ≡ tag
+    handler : (timeout : Timeout) (h : Option TimeoutHandler) (tag : Option ℕ) → IsHandler t l.parts h tag → (timeout_of l id).tag ≡ tag
         → StepsNone v.queue h
     handler timeout None tag is e = tt
     handler timeout (Some (At timer)) tag is e = tt

@@ -10,22 +10,22 @@ use Rattle.aio_ready.specs.Names.{is_same}
 use Rattle.aio_ready.specs.Queue.{Queue}
 use Rattle.aio_task.specs.View.{View, NamesNoStep}
 use Rattle.aio_task.specs.Keeps.{Known, ByHandle, ByTimer, Ties, Keeps, Knows, Extends}
-use Rattle.aio_timeout.specs.declared.handler.Handler.{Handler}
-use Rattle.aio_timeout.specs.declared.handler.Handler.TheVariants.{Soon, At}
+use Rattle.aio_timeout.specs.declared.handler.TimeoutHandler.{TimeoutHandler}
+use Rattle.aio_timeout.specs.declared.handler.TimeoutHandler.TheVariants.{Soon, At}
 use Rattle.aio_timeout.specs.declared.timeout.Timeout.{Timeout}
 use Rattle.aio_timeout.specs.States.{state_of}
 
-abbrev pub known_of : Handler → Known
+abbrev pub known_of : TimeoutHandler → Known
 known_of (Soon id) = ByHandle id
 known_of (At id) = ByTimer id
 
 -- it has a name by which it can be cancelled
-abbrev pub IsNamed : Handler → Type 0
+abbrev pub IsNamed : TimeoutHandler → Type 0
 IsNamed (Soon id) = is_same id.name id.name ≡ true
 IsNamed (At id) = Unit {0}
 
 -- what has this tag is this handle, and there is none where there is no tag
-abbrev pub IsHandler : Ties → Parts → Option Handler → Option ℕ → Type 0
+abbrev pub IsHandler : Ties → Parts → Option TimeoutHandler → Option ℕ → Type 0
 IsHandler t p None None = Unit {0}
 IsHandler t p None (Some tag) = ⊥
 IsHandler t p (Some handler) None = ⊥
@@ -54,11 +54,11 @@ pub record KeptTimeouts (t : Ties) (l : Loop) (timeouts : List Timeout) (v : Vie
 
 -- ---- what calls need and leave
 -- the handle that the timeout of a number keeps
-abbrev pub handler_at : ℕ → List Timeout → Option Handler
+abbrev pub handler_at : ℕ → List Timeout → Option TimeoutHandler
 handler_at id timeouts = option_map_or (λ (timeout : Timeout). timeout.handler) (slice_get timeouts id) None
 
 -- a pending handle that is kept is no step of a task
-abbrev pub StepsNone : Queue → Option Handler → Type 0
+abbrev pub StepsNone : Queue → Option TimeoutHandler → Type 0
 StepsNone q None = Unit {0}
 StepsNone q (Some (Soon id)) = NamesNoStep id.name q
 StepsNone q (Some (At id)) = Unit {0}

@@ -4,7 +4,7 @@ use Rattle.model_loop.specs.Parts.{Parts}
 use Rattle.model_loop.specs.Timeouts.{fires_at}
 use Rattle.aio_task.specs.View.{View}
 use Rattle.aio_task.specs.Keeps.{Ties, Kept}
-use Rattle.aio_timeout.specs.declared.handler.Handler.{Handler}
+use Rattle.aio_timeout.specs.declared.handler.TimeoutHandler.{TimeoutHandler}
 use Rattle.aio_timeout.specs.Kept.{IsHandler}
 
 -- parts with a handle for a deadline, if there is one, and its tag
@@ -18,6 +18,6 @@ tag_if (Some when) p = Some p.next_tag
 
 -- From parts p, for which a view stood by these ties, the machine came to q, for which this one stands; and what has this
 -- tag there is the handle that is kept.
-pub record Made (t : Ties) (p : Parts) (it : Option Handler) (v : View) (q : Parts) (tag : Option ℕ) : Type 0 where
+pub record Made (t : Ties) (p : Parts) (it : Option TimeoutHandler) (v : View) (q : Parts) (tag : Option ℕ) : Type 0 where
   pub kept : Kept t p v q
   pub handler : IsHandler kept.ties q it tag

@@ -17,7 +17,7 @@ const MOST_GIVEN: u64 = 1 << 62;
 
 /// What waits for a deadline, and asks for the cancel of the timeout's task.
 #[derive(Clone, Copy, Debug)]
-pub enum Handler {
+pub enum TimeoutHandler {
     /// A pending handle, of a deadline that wasn't later than the time.
     Soon(HandleId),
     /// A timer.
@@ -30,11 +30,11 @@ pub fn schedule(
     id: u32,
     when: Option<u64>,
     parts: &mut Parts,
-) -> Result<Option<Handler>, Memory>
+) -> Result<Option<TimeoutHandler>, Memory>
     requires idle { parts.old.called ≡ None }
     ensures after { IfOk result (λ handler. (t : Ties) (p : plain.Parts) → Keeps t parts.old p
         → Made t p handler parts.new (fires_if id when p) (tag_if when p)) }
-    ensures steps { OnOk result ((other : Option Handler) → StepsNone parts.old.queue other
+    ensures steps { OnOk result ((other : Option TimeoutHandler) → StepsNone parts.old.queue other
         → StepsNone parts.new.queue other) }
     ensures below { length parts.new.queue.below ≡ length parts.old.queue.below }
     ensures step { IsSameStep parts.old parts.new }
@@ -53,11 +53,11 @@ pub fn schedule(
 }
 
 // A pending handle, which can be cancelled: it has a number.
-fn call_soon(id: u32, ticket: Ticket, parts: &mut Parts) -> Result<Option<Handler>, Memory>
+fn call_soon(id: u32, ticket: Ticket, parts: &mut Parts) -> Result<Option<TimeoutHandler>, Memory>
     requires idle { parts.old.called ≡ None }
     ensures after { IfOk result (λ handler. (t : Ties) (p : plain.Parts) → Keeps t parts.old p
         → Made t p handler parts.new (soon (action.Fires id) p) (Some p.next_tag)) }
-    ensures steps { OnOk result ((other : Option Handler) → StepsNone parts.old.queue other
+    ensures steps { OnOk result ((other : Option TimeoutHandler) → StepsNone parts.old.queue other
         → StepsNone parts.new.queue other) }
     ensures below { length parts.new.queue.below ≡ length parts.old.queue.below }
     ensures step { IsSameStep parts.old parts.new }
@@ -68,7 +68,7 @@ fn call_soon(id: u32, ticket: Ticket, parts: &mut Parts) -> Result<Option<Handle
         return Err(Memory);
     }
     let handle = parts.soon(ticket, Action::Fires(id));
-    Ok(Some(Handler::Soon(handle)))
+    Ok(Some(TimeoutHandler::Soon(handle)))
 }
 
 fn call_at(
@@ -77,7 +77,7 @@ fn call_at(
     when: u64,
     ticket: Ticket,
     parts: &mut Parts,
-) -> Result<Option<Handler>, Memory>
+) -> Result<Option<TimeoutHandler>, Memory>
     requires idle { parts.old.called ≡ None }
     ensures after { IfOk result (λ handler. (t : Ties) (p : plain.Parts) → Keeps t parts.old p
         → Made t p handler parts.new (later when (action.Fires id) p) (Some p.next_tag)) }
@@ -86,13 +86,13 @@ fn call_at(
     ensures err { OnErr result (parts.new ≡ parts.old) }
 {
     match parts.at(alloc, when, ticket, Action::Fires(id)) {
-        Ok(timer) => Ok(Some(Handler::At(timer))),
+        Ok(timer) => Ok(Some(TimeoutHandler::At(timer))),
         Err(unplaced) => Err(unplaced.cause),
     }
 }
 
 /// A handle is given up, if there is one.
-pub fn give_up(handler: Option<Handler>, parts: &mut Parts)
+pub fn give_up(handler: Option<TimeoutHandler>, parts: &mut Parts)
     requires idle { parts.old.called ≡ None }
     requires steps_none { StepsNone parts.old.queue handler }
     ensures after { (t : Ties) (p : plain.Parts) (tag : Option ℕ) → Keeps t parts.old p
@@ -101,8 +101,8 @@ pub fn give_up(handler: Option<Handler>, parts: &mut Parts)
     ensures step { IsSameStep parts.old parts.new }
 {
     match handler {
-        Some(Handler::Soon(handle)) => parts.cancel_handle(handle),
-        Some(Handler::At(timer)) => parts.cancel_timer(timer),
+        Some(TimeoutHandler::Soon(handle)) => parts.cancel_handle(handle),
+        Some(TimeoutHandler::At(timer)) => parts.cancel_timer(timer),
         None => {}
     }
 }

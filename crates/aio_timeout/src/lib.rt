@@ -9,7 +9,7 @@ mod timeout;
 mod timeouts;
 
 pub use delay::deadline;
-pub use handler::Handler;
+pub use handler::TimeoutHandler;
 pub use state::{Rescheduled, TimeoutExit, TimeoutState, timeout_fault};
 pub use timeout::Timeout;
 pub use timeouts::Timeouts;

@@ -1,5 +1,5 @@
 //! One timeout.
-use crate::handler::Handler;
+use crate::handler::TimeoutHandler;
 use crate::state::TimeoutState;
 
 /// A timeout: its state, the task whose block it is, that task's count of cancels when the block was entered, and the
@@ -9,5 +9,5 @@ pub struct Timeout {
     pub state: TimeoutState,
     pub task: u32,
     pub stored: u64,
-    pub handler: Option<Handler>,
+    pub handler: Option<TimeoutHandler>,
 }

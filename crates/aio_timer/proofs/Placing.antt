@@ -7,16 +7,16 @@ use Rattle.std.specs.BTreeMap.{insert_entry, is_at}
 use Rattle.std.specs.BTreeMap.Range.{IsLeBy}
 use Rattle.std.proofs.lemmas.Bool.{cases_eq, cases_lt, lt-ltb, le-ltb, le-leb, lt-leb}
 use Rattle.model_loop.specs.Parts.{Timer}
-use Rattle.aio_timer.specs.declared.live.Entry.{Entry}
+use Rattle.aio_timer.specs.declared.live.TimerHandle.{TimerHandle}
 use Rattle.aio_timer.specs.declared.live.TimerId.{TimerId}
 use Rattle.aio_timer.specs.Entries.{timer_of, timers_of}
 use Rattle.aio_timer.specs.Schedule.{timer, placed_after, is_of, lives, without, first_when, due_at, later_than, AreBelow}
 use Rattle.aio_timer.proofs.Comparing.{Key, key_cmp, equal, greater, no_later, same_key}
 
 abbrev Entries : Type 0
-Entries = List (Key × Entry)
+Entries = List (Key × TimerHandle)
 
-pub placed : (id : TimerId) (entry : Entry) (es : Entries) → AreBelow id.number (timers_of es)
+pub placed : (id : TimerId) (entry : TimerHandle) (es : Entries) → AreBelow id.number (timers_of es)
     → timers_of (insert_entry key_cmp es (id.when, id.number) entry) ≡ placed_after (timer id entry.action) (timers_of es)
 placed id entry [] b = refl
 placed id entry (e ∷ es) b = go (cases_lt id.when e.0.0) (cases_eq id.when e.0.0) (placed id entry es b.1)
@@ -66,9 +66,9 @@ none_due now k (e ∷ es) all l =
     let rest = none_due now k es (λ j q m. all (suc j) q (omega arith)) l in
     (rw (lt-leb e.0.0 now (omega arith)) rest.0, rw (lt-ltb now e.0.0 (omega arith)) (ap (λ ts. timer_of e ∷ ts) rest.1))
 
-pub first_is : (es : Entries) (k : Key) (entry : Entry) → slice_get es 0 ≡ Some (k, entry) → first_when (timers_of es) ≡ Some k.0
+pub first_is : (es : Entries) (k : Key) (entry : TimerHandle) → slice_get es 0 ≡ Some (k, entry) → first_when (timers_of es) ≡ Some k.0
 first_is [] k entry h = absurd (cc)
-first_is (e ∷ es) k entry h = let same : e ≡ (k, entry) = cc in ap (λ (x : Key × Entry). Some x.0.0) same
+first_is (e ∷ es) k entry h = let same : e ≡ (k, entry) = cc in ap (λ (x : Key × TimerHandle). Some x.0.0) same
 
 -- ---- numbers below the next one
 pub below_more : (n : ℕ) (ts : List Timer) → AreBelow n ts → AreBelow (n + 1) ts

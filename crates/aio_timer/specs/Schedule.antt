@@ -3,7 +3,7 @@ use Rattle.std.specs.Prelude.{ℕ, ◌<◌, ◌==◌, ◌&&◌, Bool, true, fals
 use Rattle.model_value.specs.Action.{Action}
 use Rattle.model_loop.specs.Parts.{Timer}
 use Rattle.aio_ready.specs.Queue.{Queue, appended}
-use Rattle.aio_ready.specs.declared.handle.Name.TheVariants as name
+use Rattle.aio_ready.specs.declared.handle.HandleName.TheVariants as name
 use Rattle.aio_timer.specs.declared.live.TimerId.{TimerId}
 
 -- by deadline, and equal deadlines in order of scheduling; and the number of the timer that is made next

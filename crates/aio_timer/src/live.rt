@@ -19,7 +19,7 @@ pub struct TimerId {
 
 /// What a timer runs, and the memory of its handle.
 #[derive(Drop)]
-pub struct Entry {
+pub struct TimerHandle {
     pub action: Action,
     pub ticket: Ticket,
 }
@@ -27,7 +27,7 @@ pub struct Entry {
 /// Contracts see the timers by deadline, and equal deadlines by number.
 #[derive(Drop)]
 pub struct Live {
-    entries: BTreeMap<(u64, u64), Entry>,
+    entries: BTreeMap<(u64, u64), TimerHandle>,
 }
 
 impl Model for Live {
@@ -42,7 +42,7 @@ impl Model for Live {
 }
 
 // What the map held at a new key, which is nothing.
-fn let_go(_entry: Option<Entry>) {}
+fn let_go(_entry: Option<TimerHandle>) {}
 
 impl Live {
     pub fn new(alloc: Global) -> Live
@@ -54,7 +54,7 @@ impl Live {
     }
 
     /// A timer whose number is greater than all others.
-    pub fn put(&mut self, id: TimerId, entry: Entry) -> Result<(), Entry>
+    pub fn put(&mut self, id: TimerId, entry: TimerHandle) -> Result<(), TimerHandle>
         requires { AreBelow id.number self.old }
         ensures after { OnOk result (self.new ≡ placed_after (timer id entry.action) self.old) }
         ensures err { OnErr result (self.new ≡ self.old) }
@@ -102,7 +102,7 @@ impl Live {
     }
 
     /// The first timer whose time has come.
-    pub fn pop_due(&mut self, now: u64) -> Option<(TimerId, Entry)>
+    pub fn pop_due(&mut self, now: u64) -> Option<(TimerId, TimerHandle)>
         ensures first { IfSome result (λ due. self.old ≡ timer due.0 due.1.action ∷ self.new) }
         ensures come { IfSome result (λ due. due.0.when ≤ now) }
         ensures none { IfNone result ((due_at now self.old ≡ []) × (later_than now self.old ≡ self.old) × (self.new ≡ self.old)) }

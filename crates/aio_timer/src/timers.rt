@@ -3,10 +3,10 @@ ghost use Rattle.std.specs.Prelude.{◌≡◌, ◌+◌, ◌≤◌, IfOk, OnOk, O
 ghost use Rattle.std.specs.List.{All};
 ghost use Rattle.model_loop.specs.Parts as plain;
 ghost use Rattle.aio_ready.specs.Queue.{cancelled};
-ghost use Rattle.aio_ready.specs.declared.handle.Name.TheVariants as name;
+ghost use Rattle.aio_ready.specs.declared.handle.HandleName.TheVariants as name;
 ghost use Rattle.aio_timer.specs.Schedule.{no_timers, timer, placed_after, lives, without, first_when, due_at, later_than, fallen};
 
-use crate::live::{Entry, Live, TimerId};
+use crate::live::{Live, TimerHandle, TimerId};
 use aio_base::{Action, Memory};
 use aio_ready::{Ready, Ticket};
 use std::alloc::Global;
@@ -72,7 +72,7 @@ impl Timers {
             return Err(Unplaced::of(ticket));
         };
         let id = TimerId { number, when };
-        match self.live.put(id, Entry { action, ticket }) {
+        match self.live.put(id, TimerHandle { action, ticket }) {
             Ok(()) => {
                 self.next = next;
                 Ok(id)

@@ -6,7 +6,7 @@ ghost use Rattle.model_wire.specs.Fits.{fits, turn_fits, are_few, are_awaited, i
 use crate::call::{Answer, Call};
 use crate::lists::{Item, Watch};
 use aio_base::ChildItem;
-use model_wire::{Interest, Ready};
+use model_wire::{Interest, Readiness};
 
 /// The greatest number of bytes that one recv, one turn or one answer to an extra has.
 const MOST_BYTES: u64 = 262_144;
@@ -136,13 +136,13 @@ fn is_watched_by(item: &Item, entry: &Watch) -> bool
     }
 }
 
-fn is_ready_for(ready: Ready, reads: bool, writes: bool) -> bool
+fn is_ready_for(ready: Readiness, reads: bool, writes: bool) -> bool
     ensures { result ≡ is_ready_for ready reads writes }
 {
     match ready {
-        Ready::Read => reads,
-        Ready::Write => writes,
-        Ready::Both => reads && writes,
+        Readiness::Read => reads,
+        Readiness::Write => writes,
+        Readiness::Both => reads && writes,
     }
 }
 

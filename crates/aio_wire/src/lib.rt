@@ -29,7 +29,7 @@ pub use lists::{Item, ItemList, Watch, WatchList, WordList};
 pub use mem_shelf::MemShelf;
 pub use mem_sink::MemSink;
 pub use mem_source::MemSource;
-pub use model_wire::Ready;
+pub use model_wire::Readiness;
 pub use port::Port;
 pub use shelf::Shelf;
 pub use sink::{Sink, SinkTook};

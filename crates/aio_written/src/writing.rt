@@ -10,7 +10,7 @@ ghost use Rattle.aio_written.specs.Watched.{watched_after};
 ghost use Rattle.model_wire.specs.Call.{written_call, written, wait_text, watch_text, letter_if, ready_text, news_text, spaced_item};
 
 use aio_base::{Memory, Value, ValueList, push_bytes_literal, show};
-use aio_wire::{Answer, Call, ChildItem, Item, Ready, Watch, WordList};
+use aio_wire::{Answer, Call, ChildItem, Item, Readiness, Watch, WordList};
 use std::alloc::Global;
 use std::rc::Rc;
 
@@ -246,13 +246,13 @@ fn push_about(
     push_text(said, out)
 }
 
-fn ready_text(ready: Ready) -> &'static [u8]
+fn ready_text(ready: Readiness) -> &'static [u8]
     ensures { result.now ≡ ready_text ready }
 {
     match ready {
-        Ready::Read => b"r",
-        Ready::Write => b"w",
-        Ready::Both => b"rw",
+        Readiness::Read => b"r",
+        Readiness::Write => b"w",
+        Readiness::Both => b"rw",
     }
 }
 

@@ -13,12 +13,12 @@ use Rattle.model_says.specs.Tape.{Tape}
 use Rattle.model_says.specs.Endings.{Progress, Ending, Passes, Returned, Raised, Next, then_next, given, valued, all_valued, decided, assign, assign_to, ask}
 use Rattle.model_says.specs.Says.{too_many_frames, raised, handled, finished, back_in, came_back, Calls, managed, exited, to_come, turns, looped, delegated, run, run_all, run_branch, run_handlers, call_within, frame_limit, unbegun, course}
 use Rattle.law_blocks.specs.Given.{AllOf, IsClosed, InTape}
-use Rattle.law_blocks.specs.Opened.{Block, opened_after}
+use Rattle.law_blocks.specs.Opened.{EnteredBlock, opened_after}
 use Rattle.law_blocks.proofs.Values.{InEnv, in_held, in_assigned, in_bound}
 use Rattle.law_blocks.proofs.Nesting.{Clean, Well, IsWell, well_passes, well_returned, well_raised, well_valued, well_all_valued, well_decided, well_if, well_ask, well_exited, well_managed, well_begun, well_routed}
 
 module _ (P : Value → Type 0) (closed : IsClosed P) where
-  well_then : (next : Next) → IsWell P closed next → (blocks : List Block) (ending : Ending) → Well P closed blocks ending
+  well_then : (next : Next) → IsWell P closed next → (blocks : List EnteredBlock) (ending : Ending) → Well P closed blocks ending
       → Well P closed blocks (then_next next ending)
   well_then next well =
       well_routed P closed next Returned Raised well (λ value good. well_returned P closed value good) (λ fault. well_raised P closed fault)
@@ -87,20 +87,20 @@ module _ (P : Value → Type 0) (closed : IsClosed P) where
     well_requested _ _ all = well_raised P closed bad_argument
 
   -- ---- `try`, `yield from`
-  well_finished : (finally : Next) → IsWell P closed finally → (blocks : List Block) (ending : Ending) → Well P closed blocks ending
+  well_finished : (finally : Next) → IsWell P closed finally → (blocks : List EnteredBlock) (ending : Ending) → Well P closed blocks ending
       → Well P closed blocks (finished finally ending)
   well_finished finally well =
       well_routed P closed finally (λ value now. then_next (Returned value) (finally now)) (λ fault now. then_next (Raised fault) (finally now)) well
       (λ value good now clean. well_then (Returned value) (well_returned P closed value good) (opened_after now.exchanges) (finally now) (well now clean))
       (λ fault now clean. well_then (Raised fault) (well_raised P closed fault) (opened_after now.exchanges) (finally now) (well now clean))
 
-  well_handled : (handlers : Exc → Next) → ((fault : Exc) → IsWell P closed (handlers fault)) → (blocks : List Block) (ending : Ending)
+  well_handled : (handlers : Exc → Next) → ((fault : Exc) → IsWell P closed (handlers fault)) → (blocks : List EnteredBlock) (ending : Ending)
       → Well P closed blocks ending → Well P closed blocks (handled handlers ending)
   well_handled handlers well =
       well_routed P closed Passes Returned handlers (well_passes P closed) (λ value good. well_returned P closed value good) well
 
   well_came_back : (env : Env) → InEnv P closed env → (next : Value → Next) → ((value : Value) → P value → IsWell P closed (next value))
-      → (blocks : List Block) (ending : Ending) → Well P closed blocks ending → Well P closed blocks (came_back env next ending)
+      → (blocks : List EnteredBlock) (ending : Ending) → Well P closed blocks ending → Well P closed blocks (came_back env next ending)
   well_came_back env inside next each =
       well_routed P closed (λ now. next Nothing (back_in env now)) (λ value now. next value (back_in env now)) (λ fault now. Raised fault (back_in env now))
       (λ now clean. each Nothing closed.nothing (back_in env now) (inside, clean.1))

@@ -15,7 +15,7 @@ use Rattle.model_says.specs.Tape.{Resumed, Tape}
 use Rattle.law_says.proofs.Bodies.{course_here, course_extends}
 use Rattle.law_says.proofs.Ends.{extends_asks, all_answered, nothing_left}
 use Rattle.law_blocks.specs.Given.{AllOf, IsClosed, InInput, InTape, InSaying}
-use Rattle.law_blocks.specs.Opened.{Block, entered_as, opened_with, opened_after, answered, opened, Leaves}
+use Rattle.law_blocks.specs.Opened.{EnteredBlock, entered_as, opened_with, opened_after, answered, opened, Leaves}
 use Rattle.law_blocks.proofs.Nesting.{opened_more, Well, WellAsked}
 use Rattle.law_blocks.proofs.Bodies.{course_well}
 
@@ -126,7 +126,7 @@ any_closed = record {
   held = λ items h. any_list (list_of items);
 }
 
-leaves_all : (it : Request) (blocks inner : List Block) → blocks ≡ inner ++ [] → Leaves it inner → Leaves it blocks
+leaves_all : (it : Request) (blocks inner : List EnteredBlock) → blocks ≡ inner ++ [] → Leaves it inner → Leaves it blocks
 leaves_all it blocks inner e h = subst (Leaves it) (sym (e ∙ append-nil inner)) h
 
 innermost : (ending : Ending) (it : Request) → Well Any any_closed [] ending → saying_of ending ≡ Asks it
@@ -182,7 +182,7 @@ module _ (limit : ℕ) (program : Program) (place : ℕ) (arguments : List Value
       said_given P closed (course limit program place arguments tape) (course_well P closed limit program place arguments tape all given_)
 
 -- ---- the same as values alone
-same_step : (blocks : List Block) (it : Request) (input : Input)
+same_step : (blocks : List EnteredBlock) (it : Request) (input : Input)
     → map entered_as (opened_with blocks it input) ≡ open_with (map entered_as blocks) it input
 same_step blocks (request.TimeoutEnter delay) (Send value) = refl
 same_step blocks (request.TimeoutEnter delay) (Throw fault) = refl
@@ -194,8 +194,8 @@ same_step [] (request.GroupExit group fault) input = refl
 same_step (block ∷ blocks) (request.GroupExit group fault) input = refl
 same_step blocks _ input = refl
 
-same_from : (blocks : List Block) (exchanges : List Exchange)
-    → map entered_as (fold (λ (bs : List Block) (x : Exchange). opened_with bs x.request x.answer) blocks exchanges)
+same_from : (blocks : List EnteredBlock) (exchanges : List Exchange)
+    → map entered_as (fold (λ (bs : List EnteredBlock) (x : Exchange). opened_with bs x.request x.answer) blocks exchanges)
     ≡ fold (λ (bs : List Value) (x : Exchange). open_with bs x.request x.answer) (map entered_as blocks) exchanges
 same_from blocks [] = refl
 same_from blocks (x ∷ exchanges) =

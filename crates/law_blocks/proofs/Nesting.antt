@@ -8,20 +8,20 @@ use Rattle.model_value.specs.Request.{Request}
 use Rattle.model_value.specs.Value.{Value, Truth, Exc}
 use Rattle.model_tree.specs.Syntax.{Expr, Exprs, Manager, GroupBlock, TimeoutBlock}
 use Rattle.model_says.specs.Expressions.{value_of, values_of}
-use Rattle.model_says.specs.Operations.{Answer, bad_operand}
+use Rattle.model_says.specs.Operations.{ValueOrFault, bad_operand}
 use Rattle.model_says.specs.Tape.{Resumed, Tape}
 use Rattle.model_says.specs.Endings.{Saying, Asks, Runaway, Exchange, Progress, Ending, Passes, Returned, Raised, Stopped, Next, routed, given, valued, all_valued, chosen, decided, begun, begun_with, resumed_by, taken, asked_of, ask}
 use Rattle.model_says.specs.Says.{exit_of, managed, exited}
 use Rattle.law_blocks.specs.Given.{AllOf, IsClosed, InInput, InTape, InRequest}
-use Rattle.law_blocks.specs.Opened.{Block, OfTimeout, OfGroup, opened_with, opened_after, Leaves}
+use Rattle.law_blocks.specs.Opened.{EnteredBlock, OfTimeout, OfGroup, opened_with, opened_after, Leaves}
 use Rattle.law_blocks.proofs.Values.{InEnv, InAnswer, InRow, in_value, in_values}
 
 pub opened_more : (exchanges : List Exchange) (asked : Request) (answer : Input)
     → opened_after (exchanges ++ record { request = asked; answer = answer } ∷ []) ≡ opened_with (opened_after exchanges) asked answer
 opened_more exchanges asked answer =
-    fold-append (λ (blocks : List Block) (exchange : Exchange). opened_with blocks exchange.request exchange.answer) [] exchanges _
+    fold-append (λ (blocks : List EnteredBlock) (exchange : Exchange). opened_with blocks exchange.request exchange.answer) [] exchanges _
 
-leaves_more : (asked : Request) (inner outer : List Block) → Leaves asked inner → Leaves asked (inner ++ outer)
+leaves_more : (asked : Request) (inner outer : List EnteredBlock) → Leaves asked inner → Leaves asked (inner ++ outer)
 leaves_more (request.TimeoutExit timeout fault) inner outer h = (h.0 ++ outer, ap (λ b. b ++ outer) h.1)
 leaves_more (request.GroupExit group fault) inner outer h = (h.0 ++ outer, ap (λ b. b ++ outer) h.1)
 leaves_more _ inner outer h = tt
@@ -31,14 +31,14 @@ module _ (P : Value → Type 0) (closed : IsClosed P) where
   abbrev pub Clean : Progress → Type 0
   Clean now = InEnv P closed now.env × InTape P now.tape
 
-  abbrev pub WellAsked : List Block → List Block → Saying → Type 0
+  abbrev pub WellAsked : List EnteredBlock → List EnteredBlock → Saying → Type 0
   WellAsked outer blocks (Asks asked) =
-      (inner : List Block) × (blocks ≡ inner ++ outer) × Leaves asked inner × InRequest P asked
+      (inner : List EnteredBlock) × (blocks ≡ inner ++ outer) × Leaves asked inner × InRequest P asked
   WellAsked outer blocks Runaway = Unit {0}
   WellAsked outer blocks _ = ⊥
 
   -- what a piece is that began with these blocks open
-  abbrev pub Well : List Block → Ending → Type 0
+  abbrev pub Well : List EnteredBlock → Ending → Type 0
   Well blocks (Passes at) = (opened_after at.exchanges ≡ blocks) × Clean at
   Well blocks (Returned value at) = (opened_after at.exchanges ≡ blocks) × Clean at × P value
   Well blocks (Raised fault at) = (opened_after at.exchanges ≡ blocks) × Clean at
@@ -59,7 +59,7 @@ module _ (P : Value → Type 0) (closed : IsClosed P) where
 
   -- ---- expressions
   module _ (next : Value → Next) (each : (value : Value) → P value → IsWell (next value)) where
-    pub well_given : (answer : Answer) → InAnswer P closed answer → IsWell (given next answer)
+    pub well_given : (answer : ValueOrFault) → InAnswer P closed answer → IsWell (given next answer)
     well_given (Ok value) good = each value good
     well_given (Err fault) good = well_raised fault
 
@@ -95,7 +95,7 @@ module _ (P : Value → Type 0) (closed : IsClosed P) where
     well_resumed (Throw fault) next good each = well_raised fault
 
     -- one that enters no block and leaves none
-    pub well_ask : (asked : Request) (next : Value → Next) → ((blocks : List Block) (input : Input) → opened_with blocks asked input ≡ blocks)
+    pub well_ask : (asked : Request) (next : Value → Next) → ((blocks : List EnteredBlock) (input : Input) → opened_with blocks asked input ≡ blocks)
         → Leaves asked [] → InRequest P asked → ((value : Value) → P value → IsWell (next value)) → IsWell (ask limit asked next)
     well_ask asked next plain none good each now clean = at now.tape refl
       where
@@ -108,11 +108,11 @@ module _ (P : Value → Type 0) (closed : IsClosed P) where
             (well_resumed entry.input next rest.0 each (taken limit asked entry tape now) (clean.0, rest.1))
 
     -- one that enters a block, which the body leaves
-    pub well_enter : (asked : Request) (block : Value → Block) (body : Value → Next)
-        → ((blocks : List Block) (value : Value) → opened_with blocks asked (Send value) ≡ block value ∷ blocks)
-        → ((blocks : List Block) (fault : Exc) → opened_with blocks asked (Throw fault) ≡ blocks)
+    pub well_enter : (asked : Request) (block : Value → EnteredBlock) (body : Value → Next)
+        → ((blocks : List EnteredBlock) (value : Value) → opened_with blocks asked (Send value) ≡ block value ∷ blocks)
+        → ((blocks : List EnteredBlock) (fault : Exc) → opened_with blocks asked (Throw fault) ≡ blocks)
         → Leaves asked [] → InRequest P asked
-        → ((value : Value) → P value → (now : Progress) → Clean now → (blocks : List Block) → opened_after now.exchanges ≡ block value ∷ blocks
+        → ((value : Value) → P value → (now : Progress) → Clean now → (blocks : List EnteredBlock) → opened_after now.exchanges ≡ block value ∷ blocks
         → Well blocks (body value now)) → IsWell (ask limit asked body)
     well_enter asked block body enters stays none good each now clean = at now.tape refl
       where
@@ -134,7 +134,7 @@ module _ (P : Value → Type 0) (closed : IsClosed P) where
             let rest : InTape P (entry ∷ tape) = subst (InTape P) e clean.1 in entered entry tape entry.input refl rest.0 rest.1
 
     -- ---- exits
-    abbrev pub block_of : Manager → Value → Block
+    abbrev pub block_of : Manager → Value → EnteredBlock
     block_of GroupBlock value = OfGroup value
     block_of (TimeoutBlock delay) value = OfTimeout value
 
@@ -146,12 +146,12 @@ module _ (P : Value → Type 0) (closed : IsClosed P) where
     exit_given GroupBlock value fault = tt
     exit_given (TimeoutBlock delay) value fault = tt
 
-    exit_drops : (manager : Manager) (value : Value) (fault : Option Exc) (block : Block) (blocks : List Block) (input : Input)
+    exit_drops : (manager : Manager) (value : Value) (fault : Option Exc) (block : EnteredBlock) (blocks : List EnteredBlock) (input : Input)
         → opened_with (block ∷ blocks) (exit_of manager value fault) input ≡ blocks
     exit_drops GroupBlock value fault block blocks input = refl
     exit_drops (TimeoutBlock delay) value fault block blocks input = refl
 
-    well_exit : (manager : Manager) (value : Value) (fault : Option Exc) (way : Next) → IsWell way → (blocks : List Block) (now : Progress)
+    well_exit : (manager : Manager) (value : Value) (fault : Option Exc) (way : Next) → IsWell way → (blocks : List EnteredBlock) (now : Progress)
         → Clean now → opened_after now.exchanges ≡ block_of manager value ∷ blocks
         → Well blocks (ask limit (exit_of manager value fault) (λ answer. way) now)
     well_exit manager value fault way well blocks now clean opened = at now.tape refl
@@ -165,7 +165,7 @@ module _ (P : Value → Type 0) (closed : IsClosed P) where
             ∙ exit_drops manager value fault (block_of manager value) blocks entry.input)
             (well_resumed entry.input (λ answer. way) rest.0 (λ v h. well) (taken limit (exit_of manager value fault) entry tape now) (clean.0, rest.1))
 
-    pub well_exited : (manager : Manager) (value : Value) (blocks : List Block) (ending : Ending)
+    pub well_exited : (manager : Manager) (value : Value) (blocks : List EnteredBlock) (ending : Ending)
         → Well (block_of manager value ∷ blocks) ending → Well blocks (exited limit manager value ending)
     well_exited manager value blocks (Passes now) h = well_exit manager value None Passes well_passes blocks now h.1 h.0
     well_exited manager value blocks (Returned result now) h =
@@ -186,7 +186,7 @@ module _ (P : Value → Type 0) (closed : IsClosed P) where
         stopped _ it = absurd it
 
     pub well_managed : (manager : Manager) (body : Value → Next)
-        → ((value : Value) → P value → (now : Progress) → Clean now → (blocks : List Block)
+        → ((value : Value) → P value → (now : Progress) → Clean now → (blocks : List EnteredBlock)
         → opened_after now.exchanges ≡ block_of manager value ∷ blocks → Well blocks (body value now)) → IsWell (managed limit manager body)
     well_managed GroupBlock body each = well_enter request.GroupEnter OfGroup body (λ b v. refl) (λ b f. refl) tt tt each
     well_managed (TimeoutBlock delay) body each =
@@ -202,7 +202,7 @@ module _ (P : Value → Type 0) (closed : IsClosed P) where
       at (suc left) = well (record now { left = left }) clean
 
   pub well_routed : (pass : Next) (return : Value → Next) (raise : Exc → Next) → IsWell pass → ((value : Value) → P value → IsWell (return value))
-      → ((fault : Exc) → IsWell (raise fault)) → (blocks : List Block) (ending : Ending) → Well blocks ending
+      → ((fault : Exc) → IsWell (raise fault)) → (blocks : List EnteredBlock) (ending : Ending) → Well blocks ending
       → Well blocks (routed pass return raise ending)
   well_routed pass return raise passes returns raises blocks (Passes at) h = subst (λ b. Well b (pass at)) h.0 (passes at h.1)
   well_routed pass return raise passes returns raises blocks (Returned value at) h =

@@ -12,33 +12,33 @@ use Rattle.model_says.specs.Says.{course}
 use Rattle.model_says.specs.Tape.{Tape}
 
 -- a block by what its entry was answered
-pub data Block : Type 0 where
-  OfTimeout : (entered : Value) → Block
-  OfGroup : (entered : Value) → Block
+pub data EnteredBlock : Type 0 where
+  OfTimeout : (entered : Value) → EnteredBlock
+  OfGroup : (entered : Value) → EnteredBlock
 
-abbrev pub entered_as : Block → Value
+abbrev pub entered_as : EnteredBlock → Value
 entered_as (OfTimeout entered) = entered
 entered_as (OfGroup entered) = entered
 
-abbrev pub opened_with : List Block → Request → Input → List Block
+abbrev pub opened_with : List EnteredBlock → Request → Input → List EnteredBlock
 opened_with blocks (TimeoutEnter delay) (Send value) = OfTimeout value ∷ blocks
 opened_with blocks GroupEnter (Send value) = OfGroup value ∷ blocks
 opened_with blocks (TimeoutExit timeout fault) answer = drop 1 blocks
 opened_with blocks (GroupExit group fault) answer = drop 1 blocks
 opened_with blocks _ _ = blocks
 
-abbrev pub opened_after : List Exchange → List Block
+abbrev pub opened_after : List Exchange → List EnteredBlock
 opened_after = fold (λ blocks exchange. opened_with blocks exchange.request exchange.answer) []
 
 -- the requests that were answered along a tape, with their answers
 abbrev pub answered : (limit : ℕ) → Program → (place : ℕ) → List Value → Tape → List Exchange
 answered limit program place arguments tape = (progress_of (course limit program place arguments tape)).exchanges
 
-abbrev pub opened : (limit : ℕ) → Program → (place : ℕ) → List Value → Tape → List Block
+abbrev pub opened : (limit : ℕ) → Program → (place : ℕ) → List Value → Tape → List EnteredBlock
 opened limit program place arguments tape = opened_after (answered limit program place arguments tape)
 
 -- An exit is that of the block that is innermost among these, with what its entry was answered. Any other request leaves none.
-abbrev pub Leaves : Request → List Block → Type 0
-Leaves (TimeoutExit timeout fault) blocks = (outer : List Block) × (blocks ≡ OfTimeout timeout ∷ outer)
-Leaves (GroupExit group fault) blocks = (outer : List Block) × (blocks ≡ OfGroup group ∷ outer)
+abbrev pub Leaves : Request → List EnteredBlock → Type 0
+Leaves (TimeoutExit timeout fault) blocks = (outer : List EnteredBlock) × (blocks ≡ OfTimeout timeout ∷ outer)
+Leaves (GroupExit group fault) blocks = (outer : List EnteredBlock) × (blocks ≡ OfGroup group ∷ outer)
 Leaves request blocks = Unit {0}

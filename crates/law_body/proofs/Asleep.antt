@@ -18,7 +18,7 @@ use Rattle.law_handles.proofs.Scheduling as scheduling
 use Rattle.law_inside.proofs.Counts.{of_plain, own_there}
 use Rattle.law_kept.proofs.Calls.{kept_suspend}
 use Rattle.law_settling.proofs.CancelSound.{plain_within}
-use Rattle.aio_cancel.specs.Body.{Appended}
+use Rattle.aio_cancel.specs.Awaitables.{Appended}
 use Rattle.aio_timer.specs.declared.live.TimerId.{TimerId}
 use Rattle.aio_timer.specs.Schedule.{placed_after, timer}
 use Rattle.aio_task.specs.Keeps.{ByTimer, Keeps, Kept, Knows, Ties}

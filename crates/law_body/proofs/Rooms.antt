@@ -11,7 +11,7 @@ use Rattle.model_machine.specs.Replies.{waits}
 use Rattle.model_machine.specs.State.{State, in_loop, unbooked_in}
 use Rattle.aio_ready.specs.Queue as queue
 use Rattle.aio_ready.specs.Queue.{Queue, soon_all}
-use Rattle.aio_cancel.specs.Body.{Appended}
+use Rattle.aio_cancel.specs.Awaitables.{Appended}
 use Rattle.aio_task.specs.View.{View, parts}
 use Rattle.aio_extra.specs.Added.{Added, named_in}
 use Rattle.aio_body.specs.declared.body.Body.{Body}

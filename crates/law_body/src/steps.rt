@@ -13,7 +13,7 @@ ghost use Rattle.model_machine.specs.State.{State, in_loop, unbooked_in};
 ghost use Rattle.aio_ready.specs.Queue as queue;
 ghost use Rattle.aio_ready.specs.Queue.{soon_all};
 ghost use Rattle.aio_future.specs.Settled.{called, settled};
-ghost use Rattle.aio_cancel.specs.Body.{Appended};
+ghost use Rattle.aio_cancel.specs.Awaitables.{Appended};
 ghost use Rattle.aio_task.specs.View.{View, parts};
 ghost use Rattle.aio_body.specs.Asked.{HasRested, IsInStep};
 ghost use Rattle.aio_body.specs.Stands.{Setting};

@@ -7,7 +7,7 @@ use Rattle.model_loop.specs.Parts.{FutureKind, Plain, OfTask, Many, Future, Task
 use Rattle.model_loop.specs.Futures.{made_before}
 use Rattle.model_loop.specs.Tasks.{raise_count}
 use Rattle.model_loop.specs.Spent.{spent_kind, spent_until, spent_by, spent_below, is_spent}
-use Rattle.model_loop.specs.Cancel.{Request, Canceller, answers, has_seen, cancel_each, asked_where, marked_unless, cancel_waiter, cancel_unseen, cancel_task, cancel_kind, cancel_until, cancel_at, cancel_below, cancel_within, cancel_with}
+use Rattle.model_loop.specs.Cancel.{CancelRequest, Canceller, answers, has_seen, cancel_each, asked_where, marked_unless, cancel_waiter, cancel_unseen, cancel_task, cancel_kind, cancel_until, cancel_at, cancel_below, cancel_within, cancel_with}
 use Rattle.law_cancel.proofs.Total.{further}
 
 -- ---- spent futures: a greater bound changes nothing
@@ -45,7 +45,7 @@ spent_by_itself p id =
     spent_by_same (spent_below id p) (is_spent p) id (λ m below. spent_bounds id (suc m) p m below (omega arith)) (slice_get p.futures id)
 
 -- ---- a request to a task answers true
-marked_answers : (answer : Bool) (task : ℕ) (r : Request) → r.answer ≡ answer → (marked_unless answer task r).answer ≡ true
+marked_answers : (answer : Bool) (task : ℕ) (r : CancelRequest) → r.answer ≡ answer → (marked_unless answer task r).answer ≡ true
 marked_answers true task r e = e
 marked_answers false task r e = refl
 
@@ -61,7 +61,7 @@ task_answers : (cancel : Canceller) (seen : Bool) (id : ℕ) (s : List ℕ) (p :
 task_answers cancel true id s p = refl
 task_answers cancel false id s p = unseen_answers cancel id (slice_get p.tasks id) s p
 
-asked_answers : (answer : Bool) (id : ℕ) (r : Request) → (asked_where answer id r).answer ≡ r.answer
+asked_answers : (answer : Bool) (id : ℕ) (r : CancelRequest) → (asked_where answer id r).answer ≡ r.answer
 asked_answers true id r = refl
 asked_answers false id r = refl
 
@@ -74,10 +74,10 @@ each_still cancel still [] s p h = refl
 each_still cancel still (id ∷ ids) s p h =
     let first = cancel id s p in
     let e : first ≡ answers false s p = still id s p (or_parts first.answer (cancel_each cancel ids first.seen first.parts).answer h).0 in
-    let on : further first cancel ids ≡ cancel_each cancel ids s p = ap (λ (r : Request). further r cancel ids) e in
-    on ∙ each_still cancel still ids s p (sym (ap (λ (r : Request). r.answer) on) ∙ h)
+    let on : further first cancel ids ≡ cancel_each cancel ids s p = ap (λ (r : CancelRequest). further r cancel ids) e in
+    on ∙ each_still cancel still ids s p (sym (ap (λ (r : CancelRequest). r.answer) on) ∙ h)
 
-asked_still : (answer : Bool) (id : ℕ) (s : List ℕ) (p : Parts) (r : Request) → r.answer ≡ answer → (r.answer ≡ false → r ≡ answers false s p) → (asked_where answer id r).answer ≡ false → asked_where answer id r ≡ answers false s p
+asked_still : (answer : Bool) (id : ℕ) (s : List ℕ) (p : Parts) (r : CancelRequest) → r.answer ≡ answer → (r.answer ≡ false → r ≡ answers false s p) → (asked_where answer id r).answer ≡ false → asked_where answer id r ≡ answers false s p
 asked_still true id s p r e still h = absurd (cc)
 asked_still false id s p r e still h = still h
 
@@ -114,12 +114,12 @@ each_answer spent p cancel still by [] s = refl
 each_answer spent p cancel still by (id ∷ ids) s =
     go (spent id) (by id s) (each_answer spent p cancel still by ids s)
   where
-    first : Request
+    first : CancelRequest
     first = cancel id s p
 
     go : (b : Bool) → (cancel id s p).answer ≡ not b → (cancel_each cancel ids s p).answer ≡ not (list_all spent ids) → (further (cancel id s p) cancel ids).answer ≡ not (b && list_all spent ids)
     go false e ih = rw e refl
-    go true e ih = ap (λ (r : Request). (further r cancel ids).answer) (still id s p e) ∙ ih
+    go true e ih = ap (λ (r : CancelRequest). (further r cancel ids).answer) (still id s p e) ∙ ih
 
 at_answer : (spent : ℕ → Bool) (p : Parts) (member waiter : Canceller) → Still member → AnswersBy spent p member → (o : Option Future) (id : ℕ) (s : List ℕ) → (cancel_at member waiter o id s p).answer ≡ not (spent_by spent o id)
 at_answer spent p member waiter still by None id s = refl

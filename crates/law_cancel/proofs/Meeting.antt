@@ -5,7 +5,7 @@ use Rattle.model_value.specs.Value.{Outcome}
 use Rattle.model_loop.specs.Parts.{FutureKind, Plain, OfTask, Many, Future, Task, Parts}
 use Rattle.model_loop.specs.Futures.{is_pending_at, is_pending, made_before}
 use Rattle.model_loop.specs.Tasks.{raise_count}
-use Rattle.model_loop.specs.Cancel.{Request, Canceller, answers, has_seen, cancel_each, asked_where, marked_unless, cancel_waiter, cancel_unseen, cancel_task, cancel_kind, cancel_until, cancel_at, cancel_by, cancel_below, cancel_within, cancel_with}
+use Rattle.model_loop.specs.Cancel.{CancelRequest, Canceller, answers, has_seen, cancel_each, asked_where, marked_unless, cancel_waiter, cancel_unseen, cancel_task, cancel_kind, cancel_until, cancel_at, cancel_by, cancel_below, cancel_within, cancel_with}
 use Rattle.model_loop.specs.Cancelling.{IsPendingAs, Cancels, done, plain, many, visited, task, no_task, CancelsEach, none, each, CancelsWaiter, waits_not, waits}
 use Rattle.law_cancel.proofs.Seen.{left, left_le}
 use Rattle.law_cancel.proofs.Trace.{IsRow, below_row, within_row}
@@ -104,17 +104,17 @@ by_kind F V id s p k is =
     ∙ ap (λ o. cancel_until F V o is.future.kind id s p) is.pending
     ∙ ap (λ kind. cancel_kind F V kind id s p) is.kind_is
 
-abbrev then_each : Request → Request → Request
+abbrev then_each : CancelRequest → CancelRequest → CancelRequest
 then_each first others = record others { answer = first.answer || others.answer }
 
 mutual
-  pub only_cancel : {id : ℕ} {s : List ℕ} {p : Parts} {r : Request} → Cancels id s p r → cancel_with id s p ≡ r
+  pub only_cancel : {id : ℕ} {s : List ℕ} {p : Parts} {r : CancelRequest} → Cancels id s p r → cancel_with id s p ≡ r
   only_cancel {id = id} {s = s} {p = p} (done d) =
       cancel_with_itself id s p ∙ not_pending cancel_with cancel_with id s p (slice_get p.futures id) d
   only_cancel {id = id} {s = s} {p = p} (plain is) = cancel_with_itself id s p ∙ by_kind cancel_with cancel_with id s p Plain is
   only_cancel {id = id} {s = s} {p = p} (many {members = members} {asked = asked} is e) =
       cancel_with_itself id s p ∙ by_kind cancel_with cancel_with id s p (Many members asked) is
-      ∙ ap (λ (r : Request). asked_where r.answer id r) (only_each e)
+      ∙ ap (λ (r : CancelRequest). asked_where r.answer id r) (only_each e)
   only_cancel {id = id} {s = s} {p = p} (visited {task = t} is n) =
       cancel_with_itself id s p ∙ by_kind cancel_with cancel_with id s p (OfTask t) is
       ∙ ap (λ b. cancel_task cancel_with b t s p) n
@@ -128,13 +128,13 @@ mutual
       ∙ ap (λ b. cancel_task cancel_with b t s p) n
       ∙ ap (λ o. cancel_unseen cancel_with t o s p) e
 
-  only_each : {ids s : List ℕ} {p : Parts} {r : Request} → CancelsEach ids s p r → cancel_each cancel_with ids s p ≡ r
+  only_each : {ids s : List ℕ} {p : Parts} {r : CancelRequest} → CancelsEach ids s p r → cancel_each cancel_with ids s p ≡ r
   only_each none = refl
   only_each {s = s} {p = p} (each {id = id} {ids = ids} {first = first} {others = others} c e) =
-      ap (λ (f : Request). then_each f (cancel_each cancel_with ids f.seen f.parts)) (only_cancel c)
+      ap (λ (f : CancelRequest). then_each f (cancel_each cancel_with ids f.seen f.parts)) (only_cancel c)
       ∙ ap (then_each first) (only_each e)
 
-  only_waiter : (t : ℕ) {o : Option ℕ} {s : List ℕ} {p : Parts} {r : Request} → CancelsWaiter o s p r
+  only_waiter : (t : ℕ) {o : Option ℕ} {s : List ℕ} {p : Parts} {r : CancelRequest} → CancelsWaiter o s p r
       → cancel_waiter cancel_with t o s p ≡ marked_unless r.answer t r
   only_waiter t waits_not = refl
-  only_waiter t (waits c) = ap (λ (r : Request). marked_unless r.answer t r) (only_cancel c)
+  only_waiter t (waits c) = ap (λ (r : CancelRequest). marked_unless r.answer t r) (only_cancel c)

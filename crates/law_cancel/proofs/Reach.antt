@@ -60,32 +60,32 @@ abbrev Differ : List ℕ → Type 0
 Differ [] = Unit {0}
 Differ (x ∷ xs) = (has_seen xs x ≡ false) × Differ xs
 
-record Way (p : Parts) (from to : ℕ) : Type 0 where
+record SimpleWay (p : Parts) (from to : ℕ) : Type 0 where
   between : List ℕ
   is : IsWay p from between to
   differ : Differ (from ∷ between)
 
 -- a way that comes to a future can be begun there
-cut : (p : Parts) (x : ℕ) (xs : List ℕ) (to from : ℕ) → IsWay p x xs to → Differ (x ∷ xs) → has_seen (x ∷ xs) from ≡ true → Way p from to
+cut : (p : Parts) (x : ℕ) (xs : List ℕ) (to from : ℕ) → IsWay p x xs to → Differ (x ∷ xs) → has_seen (x ∷ xs) from ≡ true → SimpleWay p from to
 cut p x [] to from w d h = go (or_cases (nat_eq from x) false h)
   where
-    go : (nat_eq from x ≡ true) ⊎ (false ≡ true) → Way p from to
+    go : (nat_eq from x ≡ true) ⊎ (false ≡ true) → SimpleWay p from to
     go (inl e) = let same = eqb-true from x e in rw same (record { between = []; is = w; differ = d })
     go (inr e) = absurd (cc)
 cut p x (y ∷ ys) to from w d h =
     go (or_cases (nat_eq from x) (has_seen (y ∷ ys) from) h) (λ k. cut p y ys to from w.1 d.1 k)
   where
-    go : (nat_eq from x ≡ true) ⊎ (has_seen (y ∷ ys) from ≡ true) → (has_seen (y ∷ ys) from ≡ true → Way p from to) → Way p from to
+    go : (nat_eq from x ≡ true) ⊎ (has_seen (y ∷ ys) from ≡ true) → (has_seen (y ∷ ys) from ≡ true → SimpleWay p from to) → SimpleWay p from to
     go (inl e) ih = let same = eqb-true from x e in rw same (record { between = y ∷ ys; is = w; differ = d })
     go (inr k) ih = ih k
 
-way : (p : Parts) {from to : ℕ} → Leads p from to → Way p from to
+way : (p : Parts) {from to : ℕ} → Leads p from to → SimpleWay p from to
 way p (at_once e) = record { between = []; is = e; differ = (refl, tt) }
 way p (through {from = from} {to = to} next e l) =
     let w = way p l in
     go w (cases_Bool (has_seen (next ∷ w.between) from))
   where
-    go : (w : Way p next to) → (has_seen (next ∷ w.between) from ≡ true) ⊎ (has_seen (next ∷ w.between) from ≡ false) → Way p from to
+    go : (w : SimpleWay p next to) → (has_seen (next ∷ w.between) from ≡ true) ⊎ (has_seen (next ∷ w.between) from ≡ false) → SimpleWay p from to
     go w (inl h) = cut p next w.between to from w.is w.differ h
     go w (inr h) = record { between = next ∷ w.between; is = (e, w.is); differ = (h, w.differ) }
 

@@ -6,16 +6,16 @@ use Rattle.model_value.specs.Value.{Outcome}
 use Rattle.model_loop.specs.Parts.{FutureKind, Plain, OfTask, Many, Future, Task, Parts}
 use Rattle.model_loop.specs.Futures.{made_before}
 use Rattle.model_loop.specs.Tasks.{raise_count}
-use Rattle.model_loop.specs.Cancel.{Request, Canceller, has_seen, cancel_each, asked_where, marked_unless, cancel_waiter, cancel_unseen, cancel_task, cancel_kind, cancel_until, cancel_at, cancel_by, cancel_below, cancel_within, cancel_with}
+use Rattle.model_loop.specs.Cancel.{CancelRequest, Canceller, has_seen, cancel_each, asked_where, marked_unless, cancel_waiter, cancel_unseen, cancel_task, cancel_kind, cancel_until, cancel_at, cancel_by, cancel_below, cancel_within, cancel_with}
 use Rattle.law_cancel.proofs.Effects.{length-change_task}
 use Rattle.law_cancel.proofs.Seen.{left, left_le, left-push}
 use Rattle.law_cancel.proofs.Trace.{Goes, IsRow, goes-tasks, goes-left, below_row, within_row}
 
 -- ---- a request through each of some futures, by two cancellers that agree where it comes to
-abbrev pub with_answer : Bool → Request → Request
+abbrev pub with_answer : Bool → CancelRequest → CancelRequest
 with_answer answer r = record r { answer = answer || r.answer }
 
-abbrev pub further : Request → Canceller → List ℕ → Request
+abbrev pub further : CancelRequest → Canceller → List ℕ → CancelRequest
 further first cancel ids = with_answer first.answer (cancel_each cancel ids first.seen first.parts)
 
 each_same : (K : List ℕ → Parts → Type 0) (F G : Canceller) (id : ℕ)
@@ -33,7 +33,7 @@ each_same K F G id stays same (m ∷ members) s p k =
     go true e ih =
         let first = F m s p in
         ap (with_answer first.answer) (ih first.seen first.parts (stays m s p k))
-        ∙ ap (λ (r : Request). further r G (made_before id members)) (same m s p (ltb-true m id e) k)
+        ∙ ap (λ (r : CancelRequest). further r G (made_before id members)) (same m s p (ltb-true m id e) k)
 
 -- ---- one future, by cancellers that agree on its members and on what its task waits for
 module _ (F G V W : Canceller) (id : ℕ) (s : List ℕ) (p : Parts)
@@ -45,7 +45,7 @@ module _ (F G V W : Canceller) (id : ℕ) (s : List ℕ) (p : Parts)
     where
       go : (waiter : Option ℕ) → cancel_waiter V t waiter (s ++ t ∷ []) (raise_count t p) ≡ cancel_waiter W t waiter (s ++ t ∷ []) (raise_count t p)
       go None = refl
-      go (Some w) = ap (λ (r : Request). marked_unless r.answer t r) (waiter_same t task w n e)
+      go (Some w) = ap (λ (r : CancelRequest). marked_unless r.answer t r) (waiter_same t task w n e)
 
   task_same : (seen : Bool) (t : ℕ) → has_seen s t ≡ seen → cancel_task V seen t s p ≡ cancel_task W seen t s p
   task_same true t n = refl
@@ -54,7 +54,7 @@ module _ (F G V W : Canceller) (id : ℕ) (s : List ℕ) (p : Parts)
   kind_same : (k : FutureKind) → cancel_kind F V k id s p ≡ cancel_kind G W k id s p
   kind_same Plain = refl
   kind_same (OfTask task) = task_same (has_seen s task) task refl
-  kind_same (Many members asked) = ap (λ (r : Request). asked_where r.answer id r) (members_same members)
+  kind_same (Many members asked) = ap (λ (r : CancelRequest). asked_where r.answer id r) (members_same members)
 
   until_same : (o : Option Outcome) (k : FutureKind) → cancel_until F V o k id s p ≡ cancel_until G W o k id s p
   until_same (Some outcome) k = refl

@@ -5,7 +5,7 @@ use Rattle.model_value.specs.Value.{Outcome}
 use Rattle.model_loop.specs.Parts.{FutureKind, Plain, OfTask, Many, Future, Task, Parts}
 use Rattle.model_loop.specs.Futures.{made_before, settle, mark_asked}
 use Rattle.model_loop.specs.Tasks.{mark, raise_count}
-use Rattle.model_loop.specs.Cancel.{Request, Canceller, has_seen, cancel_each, asked_where, marked_unless, cancel_waiter, cancel_unseen, cancel_task, cancel_kind, cancel_until, cancel_at, cancel_by, cancel_below, cancel_within, cancel_with}
+use Rattle.model_loop.specs.Cancel.{CancelRequest, Canceller, has_seen, cancel_each, asked_where, marked_unless, cancel_waiter, cancel_unseen, cancel_task, cancel_kind, cancel_until, cancel_at, cancel_by, cancel_below, cancel_within, cancel_with}
 use Rattle.law_cancel.proofs.Lookups.{get-set_kept}
 use Rattle.law_cancel.proofs.Effects.{settle-futures, settle-tasks, done_as, mark_asked-futures, mark_asked-tasks, asked_as, length-change_task, change_task-futures}
 use Rattle.law_cancel.proofs.Seen.{left, left_falls}
@@ -78,7 +78,7 @@ goes-many (marks {q = q} g id) j =
 abbrev pub IsRow : Canceller → Type 0
 IsRow cancel = (id : ℕ) (s : List ℕ) (p : Parts) → Goes s p (cancel id s p).seen (cancel id s p).parts
 
-abbrev Row : List ℕ → Parts → Request → Type 0
+abbrev Row : List ℕ → Parts → CancelRequest → Type 0
 Row s p r = Goes s p r.seen r.parts
 
 pub each_row : (cancel : Canceller) → IsRow cancel → (ids s : List ℕ) (p : Parts) → Row s p (cancel_each cancel ids s p)
@@ -107,13 +107,13 @@ many_there (Some future) h = go future.outcome future.kind refl refl h
     go None (Many members asked) eo ek h =
         record { future = future; members = members; asked = asked; there = refl; pending = eo; many = ek }
 
-asked_row : (s : List ℕ) (p : Parts) (answer : Bool) (id : ℕ) (r : Request) → Row s p r → is_pending_many (slice_get r.parts.futures id) ≡ true → Row s p (asked_where answer id r)
+asked_row : (s : List ℕ) (p : Parts) (answer : Bool) (id : ℕ) (r : CancelRequest) → Row s p r → is_pending_many (slice_get r.parts.futures id) ≡ true → Row s p (asked_where answer id r)
 asked_row s p false id r g h = g
 asked_row s p true id r g h =
     let m = many_there (slice_get r.parts.futures id) h in
     asks g id m.future m.members m.asked m.there m.pending m.many
 
-marked_row : (s : List ℕ) (p : Parts) (answer : Bool) (task : ℕ) (r : Request) → Row s p r → Row s p (marked_unless answer task r)
+marked_row : (s : List ℕ) (p : Parts) (answer : Bool) (task : ℕ) (r : CancelRequest) → Row s p r → Row s p (marked_unless answer task r)
 marked_row s p true task r g = g
 marked_row s p false task r g = marks g task
 

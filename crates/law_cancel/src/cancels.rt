@@ -5,7 +5,7 @@ ghost use Rattle.model_loop.specs.Parts.{Parts};
 ghost use Rattle.model_loop.specs.Futures.{future_outcome, is_pending};
 ghost use Rattle.model_loop.specs.Tasks.{cancelling, one_more};
 ghost use Rattle.model_loop.specs.Spent.{spent_by, is_spent};
-ghost use Rattle.model_loop.specs.Cancel.{Request, answers, has_seen, cancel_by, cancel_with, cancel};
+ghost use Rattle.model_loop.specs.Cancel.{CancelRequest, answers, has_seen, cancel_by, cancel_with, cancel};
 ghost use Rattle.model_loop.specs.Cancelling.{Cancels};
 ghost use Rattle.model_loop.specs.Numbered.{occurrences};
 
@@ -19,7 +19,7 @@ pub fn is_total()
 /// It meets the rows that say what a request does, and it alone does.
 pub fn is_the_relation()
     ensures meets { (id : ℕ) (seen : List ℕ) (p : Parts) → Cancels id seen p (cancel_with id seen p) }
-    ensures alone { (id : ℕ) (seen : List ℕ) (p : Parts) (request : Request)
+    ensures alone { (id : ℕ) (seen : List ℕ) (p : Parts) (request : CancelRequest)
         → Cancels id seen p request → cancel_with id seen p ≡ request }
 {}
 

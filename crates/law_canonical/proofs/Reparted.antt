@@ -4,7 +4,7 @@ use Rattle.std.specs.List.{AllByRecursion, AllZip}
 use Rattle.model_text.specs.Forms.{Profile, Def, Spelled}
 use Rattle.model_text.specs.Places.{OpenBlock, role_of}
 use Rattle.model_text.specs.FirstPass.{Numbered}
-use Rattle.model_text.specs.SecondPass.{Line, Part, Parts, before_parts, parts_of}
+use Rattle.model_text.specs.SecondPass.{Line, Part, ScriptParts, before_parts, parts_of}
 use Rattle.law_lines.specs.LineTexts.{spelled}
 use Rattle.law_nesting.proofs.Stack.{after}
 use Rattle.law_nesting.proofs.Nested.{is_inner, Nested}
@@ -32,17 +32,17 @@ pub record PartSpelled (part : Part (Numbered Spelled)) (meant : Part Line) : Ty
   pub parameters : part.parameters ≡ meant.parameters
   pub lines : Spelling part.lines meant.lines
 
-pub record PartsSpelled (parts : Parts (Numbered Spelled)) (lines : List Line) (meant : List (Part Line)) : Type 0 where
+pub record PartsSpelled (parts : ScriptParts (Numbered Spelled)) (lines : List Line) (meant : List (Part Line)) : Type 0 where
   pub front : Spelling parts.front lines
   pub coroutines : AllZip PartSpelled parts.coroutines meant
 
 -- ---- one line more
-before-inner : (form : Numbered Spelled) (line : Line) (lines : List Line) (parts : Parts (Numbered Spelled)) (meant : List (Part Line)) → is_inner line ≡ true → form.form ≡ spelled line → PartsSpelled parts lines meant → PartsSpelled (before_parts (spelled line) form parts) (line ∷ lines) meant
+before-inner : (form : Numbered Spelled) (line : Line) (lines : List Line) (parts : ScriptParts (Numbered Spelled)) (meant : List (Part Line)) → is_inner line ≡ true → form.form ≡ spelled line → PartsSpelled parts lines meant → PartsSpelled (before_parts (spelled line) form parts) (line ∷ lines) meant
 before-inner form (Profile number) lines parts meant e f p = cc
 before-inner form (Def name parameters) lines parts meant e f p = cc
 before-inner form line lines parts meant e f p = record { front = (f, p.front); coroutines = p.coroutines }
 
-before-head : (form : Numbered Spelled) (meaning : Part Line) (parts : Parts (Numbered Spelled)) (meant : List (Part Line)) → PartsSpelled parts meaning.lines meant → PartsSpelled (before_parts (Def meaning.name meaning.parameters) form parts) [] (meaning ∷ meant)
+before-head : (form : Numbered Spelled) (meaning : Part Line) (parts : ScriptParts (Numbered Spelled)) (meant : List (Part Line)) → PartsSpelled parts meaning.lines meant → PartsSpelled (before_parts (Def meaning.name meaning.parameters) form parts) [] (meaning ∷ meant)
 before-head form meaning parts meant p =
     record { front = tt; coroutines = (record { name = refl; parameters = refl; lines = p.front }, p.coroutines) }
 

@@ -25,7 +25,7 @@ use Rattle.model_machine.specs.Arguments.{as_future, as_awaited, as_task, as_tim
 use Rattle.model_machine.specs.Extra as extra
 use Rattle.model_machine.specs.Extra.{Extra, ExtraAnswer, ExtraSaid, called}
 use Rattle.model_machine.specs.Outcomes.{input_of}
-use Rattle.model_machine.specs.Replies.{Reply, Answers, Raises, Rests, Halts, given, most_ids, numbered_if, numbered, replied, ended, result_of, shown_all, waits, awaits_as, awaits, alarmed, sleeps, makes_future, settles_if, settles, requests, counted, spawns, enters_timeout, timed_out_if, exits_timeout, reschedules_if, reschedules, enters_group, exits_as, exits_group, creates_unless, creates, Wake, serves_until, serves_as, serves, woken_within, woken, reply, decides}
+use Rattle.model_machine.specs.Replies.{RequestReply, Answers, Raises, Rests, Halts, given, most_ids, numbered_if, numbered, replied, ended, result_of, shown_all, waits, awaits_as, awaits, alarmed, sleeps, makes_future, settles_if, settles, requests, counted, spawns, enters_timeout, timed_out_if, exits_timeout, reschedules_if, reschedules, enters_group, exits_as, exits_group, creates_unless, creates, Wake, serves_until, serves_as, serves, woken_within, woken, reply, decides}
 use Rattle.model_machine.specs.State.{Standing, Asked, Sleeping, Leaving, Serving, State, generator_of, in_loop, noted, resumed, stands, unbooked_in, with_loop}
 use Rattle.model_machine.specs.Step.{given_up, says_of, taken_as, served, serve, serve_all, step}
 use Rattle.model_machine.specs.Turn.{effect}
@@ -56,15 +56,15 @@ within_then r s t u a b = record {
 }
 
 -- ---- replies
-abbrev Keeps : {S : Type 0} → Option ℕ → State S → Reply S → Type 0
+abbrev Keeps : {S : Type 0} → Option ℕ → State S → RequestReply S → Type 0
 Keeps r s it = IsWithin r s (reply_state it)
 
-given_in : {S A : Type 0} (r : Option ℕ) (o : Option A) (next : A → State S → Reply S) (s : State S)
+given_in : {S A : Type 0} (r : Option ℕ) (o : Option A) (next : A → State S → RequestReply S) (s : State S)
     → ((a : A) → Keeps r s (next a s)) → Keeps r s (given o next s)
 given_in r None next s keeps = same r s
 given_in r (Some a) next s keeps = keeps a
 
-numbered_in : {S : Type 0} (r : Option ℕ) (made : ℕ) (next : State S → Reply S) (s : State S) → Keeps r s (next s) → Keeps r s (numbered made next s)
+numbered_in : {S : Type 0} (r : Option ℕ) (made : ℕ) (next : State S → RequestReply S) (s : State S) → Keeps r s (next s) → Keeps r s (numbered made next s)
 numbered_in r made next s keeps = at (nat_lt made most_ids)
   where
     at : (b : Bool) → Keeps r s (numbered_if b next s)
@@ -230,7 +230,7 @@ module _ {S : Type 0} (added : Extra S) where
   decides_in r (Serving key) task input s = woken_in r task key input s
 
 -- ---- steps
-taken_in : {S : Type 0} (r : Option ℕ) (s : State S) (it : Reply S) (fresh : Bool) (task : ℕ) (go_on : State S → Went S)
+taken_in : {S : Type 0} (r : Option ℕ) (s : State S) (it : RequestReply S) (fresh : Bool) (task : ℕ) (go_on : State S → Went S)
     → Keeps r s it → ((t : State S) → IsWithin r t (state_of (go_on t))) → IsWithin r s (state_of (taken_as it fresh task go_on))
 taken_in r s (Answers value now) fresh task go_on a goes =
     let next = resumed fresh task (Send value) now in

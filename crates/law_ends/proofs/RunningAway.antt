@@ -20,7 +20,7 @@ use Rattle.model_machine.specs.Arguments.{as_future, as_awaited, as_task, as_tim
 use Rattle.model_machine.specs.Extra as extra
 use Rattle.model_machine.specs.Extra.{Extra, ExtraAnswer, called}
 use Rattle.model_machine.specs.Outcomes.{input_of}
-use Rattle.model_machine.specs.Replies.{Reply, Answers, Raises, Rests, Halts, given, most_ids, numbered_if, numbered, replied, ended, result_of, awaits_as, awaits, sleeps, makes_future, settles_if, settles, requests, counted, spawns, enters_timeout, timed_out_if, exits_timeout, reschedules_if, reschedules, enters_group, exits_as, exits_group, creates_unless, creates, Wake, serves_until, serves_as, serves, woken_within, woken, reply, decides}
+use Rattle.model_machine.specs.Replies.{RequestReply, Answers, Raises, Rests, Halts, given, most_ids, numbered_if, numbered, replied, ended, result_of, awaits_as, awaits, sleeps, makes_future, settles_if, settles, requests, counted, spawns, enters_timeout, timed_out_if, exits_timeout, reschedules_if, reschedules, enters_group, exits_as, exits_group, creates_unless, creates, Wake, serves_until, serves_as, serves, woken_within, woken, reply, decides}
 use Rattle.model_machine.specs.State.{Standing, Asked, Sleeping, Leaving, Serving, State, generator_of, in_loop, noted, resumed, stands, unbooked_in, with_loop}
 use Rattle.model_machine.specs.Step.{given_up, says_of, serve, serve_all, served, step, taken_as}
 use Rattle.model_machine.specs.Turn.{effect, next_below, ran, run_below, run_first, run_if, run_pending}
@@ -28,18 +28,18 @@ use Rattle.model_machine.specs.Went.{Went, Goes, Stops, went_on}
 use Rattle.law_ends.specs.Ends.{IsRunaway, OnlyRunsAway}
 
 -- a request ends the run so, if it does
-abbrev pub HaltsAway : {S : Type 0} → Reply S → Type 0
+abbrev pub HaltsAway : {S : Type 0} → RequestReply S → Type 0
 HaltsAway (Halts how last) = IsRunaway how
 HaltsAway _ = Unit {0}
 
 module _ {S : Type 0} where
   -- ---- requests
-  given_away : {A : Type 0} (o : Option A) (next : A → State S → Reply S) (s : State S) → ((a : A) → HaltsAway (next a s))
+  given_away : {A : Type 0} (o : Option A) (next : A → State S → RequestReply S) (s : State S) → ((a : A) → HaltsAway (next a s))
       → HaltsAway (given o next s)
   given_away None next s each = tt
   given_away (Some a) next s each = each a
 
-  numbered_away : (made : ℕ) (next : State S → Reply S) (s : State S) → HaltsAway (next s) → HaltsAway (numbered made next s)
+  numbered_away : (made : ℕ) (next : State S → RequestReply S) (s : State S) → HaltsAway (next s) → HaltsAway (numbered made next s)
   numbered_away made next s it = at (nat_lt made most_ids)
     where
       at : (b : Bool) → HaltsAway (numbered_if b next s)
@@ -158,7 +158,7 @@ module _ {S : Type 0} (added : Extra S) where
   decides_away (Serving key) task input s = woken_away task key input s
 
   -- ---- steps
-  taken_away : (it : Reply S) (fresh : Bool) (task : ℕ) (go_on : State S → Went S) → HaltsAway it → ((s : State S) → OnlyRunsAway (go_on s))
+  taken_away : (it : RequestReply S) (fresh : Bool) (task : ℕ) (go_on : State S → Went S) → HaltsAway it → ((s : State S) → OnlyRunsAway (go_on s))
       → OnlyRunsAway (taken_as it fresh task go_on)
   taken_away (Answers value now) fresh task go_on it each = each (resumed fresh task (Send value) now)
   taken_away (Raises fault now) fresh task go_on it each = each (resumed fresh task (Throw fault) now)

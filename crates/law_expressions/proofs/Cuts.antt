@@ -8,7 +8,7 @@ use Rattle.model_text.specs.Cutting.{Pieces, Cutter, pieces, pieces_from, with_f
 use Rattle.model_text.specs.declared.reserved_word.ReservedWord.TheVariants as word
 use Rattle.model_text.specs.Terms.{Term}
 use Rattle.model_text.specs.Terms as term
-use Rattle.model_text.specs.Levels.{Reading, level, joined, at_word, at_comparison, at_sum, at_product, at_index, indexed, negated, product, sum_of, comparison_level, compared, denied, is_not, conjunction, disjunction}
+use Rattle.model_text.specs.Levels.{Parser, level, joined, at_word, at_comparison, at_sum, at_product, at_index, indexed, negated, product, sum_of, comparison_level, compared, denied, is_not, conjunction, disjunction}
 use Rattle.law_expressions.specs.Lexemes.{within_parentheses}
 
 module _ {A : Type 0} where
@@ -63,14 +63,14 @@ cut-once {A} cutter left right x cut b p e q =
     p (x ∷ right) ∙ (ap (λ found. in_front left (with_front found x (pieces_from cutter (depth_behind 0 x) (ends_operand x) right))) e ∙ (ap (λ rest. in_front left (with_front (Some cut) x rest)) (whole-from cutter (depth_behind 0 x) (ends_operand x) b right q) ∙ ap (λ (l : List Lexeme). let p : Pieces A = record { first = l; others = (cut, right) ∷ [] } in p) (append-nil left)))
 
 -- ---- a level whose operators don't stand in the lexemes, and one whose operator stands once
-abbrev read_pieces : {A : Type 0} → (A → Term → Term → Term) → Reading Term → Pieces A → Option Term
+abbrev read_pieces : {A : Type 0} → (A → Term → Term → Term) → Parser Term → Pieces A → Option Term
 read_pieces build operand cut = option_and_then (λ left. joined build operand left cut.others) (operand cut.first)
 
-pub level-uncut : {A : Type 0} (cutter : Cutter A) (build : A → Term → Term → Term) (operand : Reading Term) (b : Bool) (lexemes : List Lexeme) (t : Term) → Passes cutter 0 false 0 b lexemes → operand lexemes ≡ Some t → level cutter build operand lexemes ≡ Some t
+pub level-uncut : {A : Type 0} (cutter : Cutter A) (build : A → Term → Term → Term) (operand : Parser Term) (b : Bool) (lexemes : List Lexeme) (t : Term) → Passes cutter 0 false 0 b lexemes → operand lexemes ≡ Some t → level cutter build operand lexemes ≡ Some t
 level-uncut cutter build operand b lexemes t p e =
     ap (read_pieces build operand) (whole-from cutter 0 false b lexemes p) ∙ ap (λ found. option_and_then (λ left. joined build operand left []) found) e
 
-pub level-cut : {A : Type 0} (cutter : Cutter A) (build : A → Term → Term → Term) (operand : Reading Term) (left right : List Lexeme) (x : Lexeme) (cut : A) (b : Bool) (l r : Term) → Passes cutter 0 false 0 true left → cutter true x ≡ Some cut → Passes cutter (depth_behind 0 x) (ends_operand x) 0 b right → operand left ≡ Some l → operand right ≡ Some r → level cutter build operand (left ++ x ∷ right) ≡ Some (build cut l r)
+pub level-cut : {A : Type 0} (cutter : Cutter A) (build : A → Term → Term → Term) (operand : Parser Term) (left right : List Lexeme) (x : Lexeme) (cut : A) (b : Bool) (l r : Term) → Passes cutter 0 false 0 true left → cutter true x ≡ Some cut → Passes cutter (depth_behind 0 x) (ends_operand x) 0 b right → operand left ≡ Some l → operand right ≡ Some r → level cutter build operand (left ++ x ∷ right) ≡ Some (build cut l r)
 level-cut cutter build operand left right x cut b l r p e q el er =
     ap (read_pieces build operand) (cut-once cutter left right x cut b p e q) ∙ (ap (λ found. option_and_then (λ first. joined build operand first ((cut, right) ∷ [])) found) el ∙ ap (λ found. option_and_then (λ second. joined build operand (build cut l second) []) found) er)
 
@@ -114,7 +114,7 @@ abbrev pub item_behind : Pieces Symbol → Pieces Symbol → Pieces Symbol
 item_behind cut behind = record cut { others = cut.others ++ (symbol.LeftBracket, behind.first) ∷ behind.others }
 
 -- lexemes that stand as an operand without any operator outside brackets
-pub record Operand (inside : Reading Term) (lexemes : List Lexeme) (t : Term) : Type 1 where
+pub record StandsAsOperand (inside : Parser Term) (lexemes : List Lexeme) (t : Term) : Type 1 where
   pub reads : indexed inside lexemes ≡ Some t
   -- an item that is taken of it
   pub index : (rest : List Lexeme) → pieces_from at_index 0 false (lexemes ++ Sign symbol.LeftBracket ∷ rest) ≡ item_behind (pieces_from at_index 0 false lexemes) (pieces_from at_index 1 false rest)
@@ -126,7 +126,7 @@ pub record Operand (inside : Reading Term) (lexemes : List Lexeme) (t : Term) : 
   pub no_minus : is_sign symbol.Minus first ≡ false
   pub no_not : is_not inside first ≡ false
 
-module _ (inside : Reading Term) (lexemes : List Lexeme) (t : Term) (o : Operand inside lexemes t) where
+module _ (inside : Parser Term) (lexemes : List Lexeme) (t : Term) (o : StandsAsOperand inside lexemes t) where
   pub as_negated : negated inside lexemes ≡ Some t
   as_negated =
       ap (negated inside) o.split ∙ (ap (λ test. if test then option_map term.Negate (negated inside o.others) else indexed inside (o.first ∷ o.others)) o.no_minus ∙ (ap (indexed inside) (sym o.split) ∙ o.reads))

@@ -17,7 +17,7 @@ use Rattle.model_text.specs.Words.{Lexeme, Reserved, Named, Number, Texts, Octet
 use Rattle.model_text.specs.Cutting.{Pieces, Cutter, pieces_from, with_front, parts}
 use Rattle.model_text.specs.Terms.{Term, terms, terms_of, Terms, no_terms, term_then}
 use Rattle.model_text.specs.Terms as term
-use Rattle.model_text.specs.Levels.{Reading, is_not, Arguments, all_of, arguments_of, kind_place, called, items, primary, at_word, at_comparison, at_sum, at_product, at_index, negated, term_within, term_of}
+use Rattle.model_text.specs.Levels.{Parser, is_not, Arguments, all_of, arguments_of, kind_place, called, items, primary, at_word, at_comparison, at_sum, at_product, at_index, negated, term_within, term_of}
 use Rattle.law_expressions.specs.Lexemes.{operator_symbol, comparison_symbol, constant_lexeme, within_parentheses, within_brackets, operand_lexemes, expr_lexemes, exprs_lexemes, more_lexemes, term_from, terms_from}
 use Rattle.law_expressions.proofs.Cuts.{nothing-passes, Passes, passes-append, inside-next, outside-next, Inside, inside-parentheses, outside-parentheses, in_front, whole-from, level-uncut, Tame, tame_or, tame_and, tame_comparison, tame_sum, tame_product, as_negated, as_denied}
 use Rattle.law_expressions.proofs.Shapes.{base-operand, inner-read, room, index-operand, before-last, primary-bracketed}
@@ -57,7 +57,7 @@ module _ (w o : List Lexeme) (t : Term) (f : Facts w o t) where
       }) (λ n h. up-denied (term_within n) (Reserved word.Not ∷ o) (term.Not t) (not-passes (at_word word.And) tame_and refl) (not-passes (at_word word.Or) tame_or refl) (ap (option_map term.Not) (as_denied (term_within n) o t (f.operands n (behind-first (Reserved word.Not) n h)))))
 
 -- ---- one lexeme
-atom-facts : (x : Lexeme) (t : Term) → ((inside : Reading Term) → primary inside (x ∷ []) ≡ Some t) → Inside (x ∷ []) → ((A : Type 0) (cutter : Cutter A) → Tame cutter → (b : Bool) → Passes cutter 0 b 0 true (x ∷ [])) → Passes at_index 0 false 0 true (x ∷ []) → is_sign symbol.Minus x ≡ false → ((inside : Reading Term) → is_not inside x ≡ false) → Facts (x ∷ []) (x ∷ []) t
+atom-facts : (x : Lexeme) (t : Term) → ((inside : Parser Term) → primary inside (x ∷ []) ≡ Some t) → Inside (x ∷ []) → ((A : Type 0) (cutter : Cutter A) → Tame cutter → (b : Bool) → Passes cutter 0 b 0 true (x ∷ [])) → Passes at_index 0 false 0 true (x ∷ []) → is_sign symbol.Minus x ≡ false → ((inside : Parser Term) → is_not inside x ≡ false) → Facts (x ∷ []) (x ∷ []) t
 atom-facts x t e inner outer p minus no_not =
     bare-facts (x ∷ []) t (λ n h. base-operand (term_within n) x [] t (e (term_within n)) inner outer p minus (no_not (term_within n)))
 
@@ -134,7 +134,7 @@ pub record More (others : Exprs) : Type 1 where
   pub cuts : pieces_from at_comma 0 true (more_lexemes others) ≡ (let c : Pieces Lexeme = record { first = []; others = groups others } in c)
   pub reads : (n : ℕ) → suc (length (more_lexemes others)) ≤ n → all_of (term_within n) (map (λ other. other.1) (groups others)) ≡ Some (row_terms others)
 
-record Row (row : Exprs) : Type 1 where
+record ReadsRow (row : Exprs) : Type 1 where
   pub behind : Bool
   pub inner : (A : Type 0) (cutter : Cutter A) (d : ℕ) → Passes cutter (suc d) false (suc d) behind (exprs_lexemes row)
   pub reads : (n : ℕ) → suc (length (exprs_lexemes row)) ≤ n → all_of (term_within n) (parts (exprs_lexemes row)) ≡ Some (row_terms row)
@@ -187,7 +187,7 @@ calculate-facts operator.Remainder lw lo l fl rw ro r fr =
     binary-facts lw lo l fl rw ro r fr (Sign symbol.Percent) (λ d. refl) refl (term.Calculate operator.Remainder l r) refl (λ n h. product-reads lw lo l fl rw ro r fr (Sign symbol.Percent) (λ d. refl) refl n operator.Remainder refl refl refl refl refl h)
 
 -- ---- lists
-module _ (row : Exprs) (r : Row row) where
+module _ (row : Exprs) (r : ReadsRow row) where
   row-closed : (A : Type 0) (cutter : Cutter A) (d : ℕ) → Passes cutter (suc d) false d true (exprs_lexemes row ++ Sign symbol.RightBracket ∷ [])
   row-closed A cutter d =
       passes-append cutter (suc d) false (suc d) r.behind d true (exprs_lexemes row) (Sign symbol.RightBracket ∷ []) (r.inner A cutter d) (inside-next cutter d r.behind (Sign symbol.RightBracket) d true [] (nothing-passes cutter d true))
@@ -200,10 +200,10 @@ module _ (row : Exprs) (r : Row row) where
   list-facts =
       bare-facts (within_brackets (exprs_lexemes row)) (term.ListOf (terms_from row)) (λ n h. base-operand (term_within n) (Sign symbol.LeftBracket) (exprs_lexemes row ++ Sign symbol.RightBracket ∷ []) (term.ListOf (terms_from row)) (row-primary n (room (Sign symbol.LeftBracket) (Sign symbol.RightBracket) (exprs_lexemes row) n h)) (λ A cutter d a. inside-next cutter d a (Sign symbol.LeftBracket) (suc d) true (exprs_lexemes row ++ Sign symbol.RightBracket ∷ []) (row-closed A cutter (suc d))) (λ A cutter tame b. outside-next cutter b (Sign symbol.LeftBracket) 0 true (exprs_lexemes row ++ Sign symbol.RightBracket ∷ []) (tame.bracket b) (row-closed A cutter 0)) (outside-next at_index false (Sign symbol.LeftBracket) 0 true (exprs_lexemes row ++ Sign symbol.RightBracket ∷ []) refl (row-closed _ at_index 0)) refl refl)
 
-no-row : Row no_exprs
+no-row : ReadsRow no_exprs
 no-row = record { behind = false; inner = λ A cutter d rest. refl; reads = λ n h. refl }
 
-row-then : (first : Expr) (others : Exprs) → Facts (expr_lexemes first) (operand_lexemes first (expr_lexemes first)) (term_from first) → More others → Row (expr_then first others)
+row-then : (first : Expr) (others : Exprs) → Facts (expr_lexemes first) (operand_lexemes first (expr_lexemes first)) (term_from first) → More others → ReadsRow (expr_then first others)
 row-then first others f m = record {
   behind = true;
   inner = λ A cutter d. passes-append cutter (suc d) false (suc d) true (suc d) true (expr_lexemes first) (more_lexemes others) (f.shape.inner A cutter d false) (m.inner A cutter d);
@@ -240,7 +240,7 @@ mutual
   facts (Apply f argument) = apply-facts f _ _ _ (facts argument)
   facts (MakeError kind message) = error-facts (kind_name kind) _ _ _ (facts message)
 
-  rows : (row : Exprs) → Row row
+  rows : (row : Exprs) → ReadsRow row
   rows no_exprs = no-row
   rows (expr_then first others) = row-then first others (facts first) (mores others)
 

@@ -10,9 +10,9 @@ use Rattle.model_text.specs.Words.{Lexeme, is_sign}
 use Rattle.model_text.specs.Cutting.{Pieces, Cutter, ends_operand, depth_behind}
 use Rattle.model_text.specs.Terms.{Term}
 use Rattle.model_text.specs.Terms as term
-use Rattle.model_text.specs.Levels.{Reading, at_word, at_comparison, at_sum, at_product, negated, product, sum_of, comparison_level, compared, denied, is_not, conjunction, disjunction, term_within}
+use Rattle.model_text.specs.Levels.{Parser, at_word, at_comparison, at_sum, at_product, negated, product, sum_of, comparison_level, compared, denied, is_not, conjunction, disjunction, term_within}
 use Rattle.law_expressions.specs.Lexemes.{within_parentheses}
-use Rattle.law_expressions.proofs.Cuts.{Passes, passes-append, inside-next, outside-next, Inside, whole-from, cut-once, level-uncut, level-cut, Tame, Operand, tame_or, tame_and, tame_comparison, tame_sum, tame_product, as_negated, as_product, as_sum, as_denied, as_conjunction, as_disjunction}
+use Rattle.law_expressions.proofs.Cuts.{Passes, passes-append, inside-next, outside-next, Inside, whole-from, cut-once, level-uncut, level-cut, Tame, StandsAsOperand, tame_or, tame_and, tame_comparison, tame_sum, tame_product, as_negated, as_product, as_sum, as_denied, as_conjunction, as_disjunction}
 use Rattle.law_expressions.proofs.Shapes.{parentheses-operand}
 
 abbrev pub at_comma : Cutter Lexeme
@@ -32,7 +32,7 @@ pub record Shape (lexemes : List Lexeme) : Type 1 where
 pub record Facts (whole operand : List Lexeme) (t : Term) : Type 1 where
   pub shape : Shape whole
   pub reads : (n : ℕ) → length whole ≤ n → disjunction (term_within n) whole ≡ Some t
-  pub operands : (n : ℕ) → length operand ≤ n → Operand (term_within n) operand t
+  pub operands : (n : ℕ) → length operand ≤ n → StandsAsOperand (term_within n) operand t
 
 pub operation-facts : (whole : List Lexeme) (t : Term) → Shape whole → ((n : ℕ) → length whole ≤ n → disjunction (term_within n) whole ≡ Some t) → Facts whole (within_parentheses whole) t
 operation-facts whole t shape reads = record {
@@ -41,9 +41,9 @@ operation-facts whole t shape reads = record {
   operands = λ n h. parentheses-operand n whole t reads shape.inner h;
 }
 
-pub bare-facts : (whole : List Lexeme) (t : Term) → ((n : ℕ) → length whole ≤ n → Operand (term_within n) whole t) → Facts whole whole t
+pub bare-facts : (whole : List Lexeme) (t : Term) → ((n : ℕ) → length whole ≤ n → StandsAsOperand (term_within n) whole t) → Facts whole whole t
 bare-facts whole t operands =
-    let o : Operand (term_within (length whole)) whole t = operands (length whole) (omega arith) in
+    let o : StandsAsOperand (term_within (length whole)) whole t = operands (length whole) (omega arith) in
     record {
       shape = record { inner = o.inner; commas = o.outer _ at_comma tame_comma false; first = o.first; others = o.others; split = o.split };
       reads = λ n h. as_disjunction (term_within n) whole t (operands n h);
@@ -51,7 +51,7 @@ bare-facts whole t operands =
     }
 
 -- ---- from a level to the loosest
-module _ (inside : Reading Term) (lexemes : List Lexeme) (t : Term) where
+module _ (inside : Parser Term) (lexemes : List Lexeme) (t : Term) where
   pub up-denied : Passes (at_word word.And) 0 false 0 true lexemes → Passes (at_word word.Or) 0 false 0 true lexemes → denied inside lexemes ≡ Some t → disjunction inside lexemes ≡ Some t
   up-denied a o e =
       level-uncut (at_word word.Or) (λ reserved. term.Or) (conjunction inside) true lexemes t o (level-uncut (at_word word.And) (λ reserved. term.And) (denied inside) true lexemes t a e)
@@ -69,10 +69,10 @@ module _ (inside : Reading Term) (lexemes : List Lexeme) (t : Term) where
 
 -- ---- two operands, and between them a lexeme that changes no depth
 module _ (lw lo : List Lexeme) (l : Term) (fl : Facts lw lo l) (rw ro : List Lexeme) (r : Term) (fr : Facts rw ro r) (x : Lexeme) (dx : (d : ℕ) → depth_behind d x ≡ d) (ex : ends_operand x ≡ false) where
-  left : (n : ℕ) → length (lo ++ x ∷ ro) ≤ n → Operand (term_within n) lo l
+  left : (n : ℕ) → length (lo ++ x ∷ ro) ≤ n → StandsAsOperand (term_within n) lo l
   left n h = fl.operands n (omega (arith, length-append lo (x ∷ ro)))
 
-  right : (n : ℕ) → length (lo ++ x ∷ ro) ≤ n → Operand (term_within n) ro r
+  right : (n : ℕ) → length (lo ++ x ∷ ro) ≤ n → StandsAsOperand (term_within n) ro r
   right n h = fr.operands n (omega (arith, length-append lo (x ∷ ro)))
 
   moved : {A : Type 0} (cutter : Cutter A) (d : ℕ) → Passes cutter d false d true ro → Passes cutter (depth_behind d x) (ends_operand x) d true ro
@@ -85,7 +85,7 @@ module _ (lw lo : List Lexeme) (l : Term) (fl : Facts lw lo l) (rw ro : List Lex
 
   shape : at_comma true x ≡ None → Shape (lo ++ x ∷ ro)
   shape e =
-      let o : Operand (term_within (length lo)) lo l = fl.operands (length lo) (omega arith) in
+      let o : StandsAsOperand (term_within (length lo)) lo l = fl.operands (length lo) (omega arith) in
       record {
         inner = λ A cutter d a. passes-append cutter (suc d) a (suc d) true (suc d) true lo (x ∷ ro) (o.inner A cutter d a) (inside-next cutter d true x (suc d) true ro (moved cutter (suc d) ((fr.operands (length ro) (omega arith)).inner A cutter d false)));
         commas = outer at_comma tame_comma e;
@@ -97,7 +97,7 @@ module _ (lw lo : List Lexeme) (l : Term) (fl : Facts lw lo l) (rw ro : List Lex
   -- a comparison or less, up to the loosest level
   up : (n : ℕ) (t : Term) → length (lo ++ x ∷ ro) ≤ n → at_word word.And true x ≡ None → at_word word.Or true x ≡ None → comparison_level (term_within n) (lo ++ x ∷ ro) ≡ Some t → disjunction (term_within n) (lo ++ x ∷ ro) ≡ Some t
   up n t h a o e =
-      let s : Operand (term_within n) lo l = left n h in
+      let s : StandsAsOperand (term_within n) lo l = left n h in
       up-denied (term_within n) (lo ++ x ∷ ro) t (outer (at_word word.And) tame_and a) (outer (at_word word.Or) tame_or o) (up-comparison (term_within n) (lo ++ x ∷ ro) t s.first (s.others ++ x ∷ ro) (ap (λ l. l ++ x ∷ ro) s.split) s.no_not e)
 
   pub or-reads : (n : ℕ) → at_word word.Or true x ≡ Some word.Or → length (lo ++ x ∷ ro) ≤ n → disjunction (term_within n) (lo ++ x ∷ ro) ≡ Some (term.Or l r)

@@ -8,9 +8,9 @@ use Rattle.model_text.specs.Words.{Lexeme, Sign, is_sign}
 use Rattle.model_text.specs.Cutting.{Pieces, Cutter, pieces_from, before_last}
 use Rattle.model_text.specs.Terms.{Term}
 use Rattle.model_text.specs.Terms as term
-use Rattle.model_text.specs.Levels.{Reading, is_not, at_index, item_index, joined, primary, bracketed, indexed, disjunction, term_within}
+use Rattle.model_text.specs.Levels.{Parser, is_not, at_index, item_index, joined, primary, bracketed, indexed, disjunction, term_within}
 use Rattle.law_expressions.specs.Lexemes.{within_parentheses, within_brackets}
-use Rattle.law_expressions.proofs.Cuts.{Passes, passes-append, inside-next, outside-next, Inside, inside-parentheses, outside-parentheses, whole-from, Tame, Operand, item_behind, nothing-passes}
+use Rattle.law_expressions.proofs.Cuts.{Passes, passes-append, inside-next, outside-next, Inside, inside-parentheses, outside-parentheses, whole-from, Tame, StandsAsOperand, item_behind, nothing-passes}
 
 -- ---- brackets
 pub before-last : (s : Symbol) (x : Lexeme) (lexemes : List Lexeme) → is_sign s x ≡ true → before_last s (lexemes ++ x ∷ []) ≡ Some lexemes
@@ -18,7 +18,7 @@ before-last s x [] e = ap (λ test. if test then (let l : Option (List Lexeme) =
 before-last s x (y ∷ []) e = ap (option_map (λ inner. y ∷ inner)) (before-last s x [] e)
 before-last s x (y ∷ z ∷ lexemes) e = ap (option_map (λ inner. y ∷ inner)) (before-last s x (z ∷ lexemes) e)
 
-pub primary-bracketed : (inside : Reading Term) (s : Symbol) (lexemes : List Lexeme) (x : Lexeme) → primary inside (Sign s ∷ (lexemes ++ x ∷ [])) ≡ bracketed inside s (lexemes ++ x ∷ [])
+pub primary-bracketed : (inside : Parser Term) (s : Symbol) (lexemes : List Lexeme) (x : Lexeme) → primary inside (Sign s ∷ (lexemes ++ x ∷ [])) ≡ bracketed inside s (lexemes ++ x ∷ [])
 primary-bracketed inside s [] x = refl
 primary-bracketed inside s (y ∷ lexemes) x = refl
 
@@ -27,11 +27,11 @@ pub inner-read : (n : ℕ) (lexemes : List Lexeme) (t : Term) → ((m : ℕ) →
 inner-read zero lexemes t f h = absurd (omega arith)
 inner-read (suc n) lexemes t f h = f n (omega arith)
 
-parentheses-read : (inside : Reading Term) (lexemes : List Lexeme) (t : Term) → inside lexemes ≡ Some t → primary inside (within_parentheses lexemes) ≡ Some t
+parentheses-read : (inside : Parser Term) (lexemes : List Lexeme) (t : Term) → inside lexemes ≡ Some t → primary inside (within_parentheses lexemes) ≡ Some t
 parentheses-read inside lexemes t e =
     primary-bracketed inside symbol.LeftParenthesis lexemes (Sign symbol.RightParenthesis) ∙ (ap (option_and_then inside) (before-last symbol.RightParenthesis (Sign symbol.RightParenthesis) lexemes refl) ∙ e)
 
-pub indexed-whole : (inside : Reading Term) (lexemes : List Lexeme) (t : Term) → Passes at_index 0 false 0 true lexemes → primary inside lexemes ≡ Some t → indexed inside lexemes ≡ Some t
+pub indexed-whole : (inside : Parser Term) (lexemes : List Lexeme) (t : Term) → Passes at_index 0 false 0 true lexemes → primary inside lexemes ≡ Some t → indexed inside lexemes ≡ Some t
 indexed-whole inside lexemes t p e =
     ap (λ (c : Pieces Symbol). option_and_then (λ sequence. joined {A = Symbol} (λ bracket. term.Index) (item_index inside) sequence c.others) (primary inside c.first)) (whole-from at_index 0 false true lexemes p) ∙ ap (option_and_then (λ sequence. joined {A = Symbol} (λ bracket. term.Index) (item_index inside) sequence [])) e
 
@@ -44,7 +44,7 @@ index-whole lexemes p rest =
     let q : Pieces Symbol = pieces_from at_index 1 false rest in
     p (Sign symbol.LeftBracket ∷ rest) ∙ (ap (λ (l : List Lexeme). let c : Pieces Symbol = record { first = l; others = (symbol.LeftBracket, q.first) ∷ q.others } in c) (append-nil lexemes) ∙ sym (ap (λ c. item_behind c q) (whole-from at_index 0 false true lexemes p)))
 
-pub base-operand : (inside : Reading Term) (first : Lexeme) (others : List Lexeme) (t : Term) → primary inside (first ∷ others) ≡ Some t → Inside (first ∷ others) → ((A : Type 0) (cutter : Cutter A) → Tame cutter → (b : Bool) → Passes cutter 0 b 0 true (first ∷ others)) → Passes at_index 0 false 0 true (first ∷ others) → is_sign symbol.Minus first ≡ false → is_not inside first ≡ false → Operand inside (first ∷ others) t
+pub base-operand : (inside : Parser Term) (first : Lexeme) (others : List Lexeme) (t : Term) → primary inside (first ∷ others) ≡ Some t → Inside (first ∷ others) → ((A : Type 0) (cutter : Cutter A) → Tame cutter → (b : Bool) → Passes cutter 0 b 0 true (first ∷ others)) → Passes at_index 0 false 0 true (first ∷ others) → is_sign symbol.Minus first ≡ false → is_not inside first ≡ false → StandsAsOperand inside (first ∷ others) t
 base-operand inside first others t e inner outer p minus no_not = record {
   reads = indexed-whole inside (first ∷ others) t p e;
   index = index-whole (first ∷ others) p;
@@ -57,7 +57,7 @@ base-operand inside first others t e inner outer p minus no_not = record {
   no_not = no_not;
 }
 
-pub parentheses-operand : (n : ℕ) (lexemes : List Lexeme) (t : Term) → ((m : ℕ) → length lexemes ≤ m → disjunction (term_within m) lexemes ≡ Some t) → Inside lexemes → length (within_parentheses lexemes) ≤ n → Operand (term_within n) (within_parentheses lexemes) t
+pub parentheses-operand : (n : ℕ) (lexemes : List Lexeme) (t : Term) → ((m : ℕ) → length lexemes ≤ m → disjunction (term_within m) lexemes ≡ Some t) → Inside lexemes → length (within_parentheses lexemes) ≤ n → StandsAsOperand (term_within n) (within_parentheses lexemes) t
 parentheses-operand n lexemes t f inner h =
     base-operand (term_within n) (Sign symbol.LeftParenthesis) (lexemes ++ Sign symbol.RightParenthesis ∷ []) t (parentheses-read (term_within n) lexemes t (inner-read n lexemes t f (room (Sign symbol.LeftParenthesis) (Sign symbol.RightParenthesis) lexemes n h))) (inside-parentheses lexemes inner) (λ A cutter tame b. outside-parentheses cutter b (tame.parenthesis b) lexemes inner) (outside-parentheses at_index false refl lexemes inner) refl refl
 
@@ -66,7 +66,7 @@ snoc-step : (f g : Term → Option Term) (result s : Term) → ((right : Term) �
 snoc-step f g result s step None e = cc
 snoc-step f g result s step (Some right) e = step right e
 
-joined-snoc : {A : Type 0} (build : A → Term → Term → Term) (operand : Reading Term) (cut : A) (lexemes : List Lexeme) (r : Term) → operand lexemes ≡ Some r → (others : List (A × List Lexeme)) (left s : Term) → joined build operand left others ≡ Some s → joined build operand left (others ++ (cut, lexemes) ∷ []) ≡ Some (build cut s r)
+joined-snoc : {A : Type 0} (build : A → Term → Term → Term) (operand : Parser Term) (cut : A) (lexemes : List Lexeme) (r : Term) → operand lexemes ≡ Some r → (others : List (A × List Lexeme)) (left s : Term) → joined build operand left others ≡ Some s → joined build operand left (others ++ (cut, lexemes) ∷ []) ≡ Some (build cut s r)
 joined-snoc build operand cut lexemes r e [] left s h =
     ap (option_and_then (λ right. joined build operand (build cut left right) [])) e ∙ ap (option_map (λ l. build cut l r)) h
 joined-snoc {A} build operand cut lexemes r e (other ∷ others) left s h =
@@ -79,11 +79,11 @@ pub closed-passes : {A : Type 0} (cutter : Cutter A) (d : ℕ) (lexemes : List L
 closed-passes cutter d lexemes p =
     passes-append cutter (suc d) false (suc d) true d true lexemes (Sign symbol.RightBracket ∷ []) (p _ cutter d false) (inside-next cutter d true (Sign symbol.RightBracket) d true [] (nothing-passes cutter d true))
 
-abbrev read_index : Reading Term → Pieces Symbol → Option Term
+abbrev read_index : Parser Term → Pieces Symbol → Option Term
 read_index inside c =
     option_and_then (λ sequence. joined {A = Symbol} (λ bracket. term.Index) (item_index inside) sequence c.others) (primary inside c.first)
 
-module _ (inside : Reading Term) (sequence index : List Lexeme) (s i : Term) (o : Operand inside sequence s) (e : inside index ≡ Some i) (p : Inside index) where
+module _ (inside : Parser Term) (sequence index : List Lexeme) (s i : Term) (o : StandsAsOperand inside sequence s) (e : inside index ≡ Some i) (p : Inside index) where
   once : pieces_from at_index 0 false (sequence ++ within_brackets index) ≡ item_behind (pieces_from at_index 0 false sequence) (let c : Pieces Symbol = record { first = closed index; others = [] } in c)
   once =
       o.index (closed index) ∙ ap (item_behind (pieces_from at_index 0 false sequence)) (whole-from at_index 1 false true (closed index) (closed-passes at_index 0 index p))
@@ -102,7 +102,7 @@ module _ (inside : Reading Term) (sequence index : List Lexeme) (s i : Term) (o 
       let r : Pieces Symbol = pieces_from at_index 1 false rest in
       ap (pieces_from at_index 0 false) (append_assoc sequence (within_brackets index) (Sign symbol.LeftBracket ∷ rest)) ∙ (o.index (closed index ++ Sign symbol.LeftBracket ∷ rest) ∙ (ap (item_behind q) (closed-passes at_index 0 index p (Sign symbol.LeftBracket ∷ rest)) ∙ (ap (λ (l : List Lexeme). let c : Pieces Symbol = record { first = q.first; others = q.others ++ (symbol.LeftBracket, l) ∷ (symbol.LeftBracket, r.first) ∷ r.others } in c) (append-nil (closed index)) ∙ (ap (λ (l : List (Symbol × List Lexeme)). let c : Pieces Symbol = record { first = q.first; others = l } in c) (sym (append_assoc q.others ((symbol.LeftBracket, closed index) ∷ []) ((symbol.LeftBracket, r.first) ∷ r.others))) ∙ sym (ap (λ c. item_behind c r) once)))))
 
-  pub index-operand : Operand inside (sequence ++ within_brackets index) (term.Index s i)
+  pub index-operand : StandsAsOperand inside (sequence ++ within_brackets index) (term.Index s i)
   index-operand = record {
     reads = index-reads;
     index = index-index;

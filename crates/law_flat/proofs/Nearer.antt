@@ -11,7 +11,7 @@ use Rattle.model_says.specs.Expressions.{value_of, values_of}
 use Rattle.law_flat.specs.declared.way.Way.TheVariants.{Passing, Returning, Raising}
 use Rattle.law_flat.specs.declared.op.Op.TheVariants as op
 use Rattle.law_flat.specs.declared.open_handler.OpenHandler.TheVariants.{InTry, InClause, InFinally, InWith, AtExit}
-use Rattle.law_flat.specs.Ops.{Op, Clause, Range, Body}
+use Rattle.law_flat.specs.Ops.{Op, Clause, Range, CoroutineCode}
 use Rattle.law_flat.specs.Rests.{Way}
 use Rattle.law_flat.specs.Moves.{OpenHandler, Frame, Frames, Move, Goes, Asks, Says, at_place, with_handlers, with_variable, in_caller, return_to, raise_in, out_of_frame, clause_for, clauses_in, into_finally, into_clause, to_exit, way_out, counted, with_given, by_test, raise_value, after_finally, ask_exit, call, after_statement, after_op, move_of}
 use Rattle.law_flat.specs.Nearer.{JumpsForward, handlers_weight, callers_weight, frames_weight, distance}
@@ -76,7 +76,7 @@ into_clause-lighter fault number outer (Some clause) frames h =
       variable-weight clause.name (Exception fault) (at_place clause.at (with_handlers (InClause number ∷ outer) frames)),
     )
 
-way_out-lighter : (code : Body) (way : Way) (frames : Frames) (handlers : List OpenHandler) → frames.frame.handlers ≡ handlers →
+way_out-lighter : (code : CoroutineCode) (way : Way) (frames : Frames) (handlers : List OpenHandler) → frames.frame.handlers ≡ handlers →
     Lighter frames (way_out code way handlers frames)
 way_out-lighter code way frames [] h = out_of_frame-lighter way frames
 way_out-lighter code (Raising fault) frames (InTry number ∷ outer) h =
@@ -121,7 +121,7 @@ ask_exit-lighter : (exit : _) (handlers : List OpenHandler) (before frames : Fra
 ask_exit-lighter exit (AtExit entered way ∷ outer) before frames = tt
 ask_exit-lighter exit _ before frames = tt
 
-module _ (codes : ℕ → Body) (before : Frames) (left : ℕ) (fewer : before.left ≡ suc left) where
+module _ (codes : ℕ → CoroutineCode) (before : Frames) (left : ℕ) (fewer : before.left ≡ suc left) where
   abbrev begun : Frames
   begun = record before { left = left }
 
@@ -173,7 +173,7 @@ module _ (codes : ℕ → Body) (before : Frames) (left : ℕ) (fewer : before.l
       given-lighter (value_of delay before.frame.env) _ before begun counted-less (λ d. tt)
   statement-lighter _ = tt
 
-module _ (codes : ℕ → Body) (code : Body) (forward : JumpsForward code) (size : ℕ) (within : length code.ops ≤ size) where
+module _ (codes : ℕ → CoroutineCode) (code : CoroutineCode) (forward : JumpsForward code) (size : ℕ) (within : length code.ops ≤ size) where
   counted-lighter : (operation : Op) (frames : Frames) (left : ℕ) → frames.left ≡ left →
       Lighter frames (counted left (after_statement codes operation) frames)
   counted-lighter operation frames zero h = tt

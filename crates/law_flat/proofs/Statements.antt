@@ -11,7 +11,7 @@ use Rattle.model_says.specs.Endings.{Runaway, Passes, Next, saying_of, given, al
 use Rattle.model_says.specs.Says.{raised, came_back, run_all, run_branch, call_within}
 use Rattle.law_flat.specs.declared.way.Way.TheVariants.{Passing}
 use Rattle.law_flat.specs.declared.op.Op.TheVariants as op
-use Rattle.law_flat.specs.Ops.{Op, Body, Has}
+use Rattle.law_flat.specs.Ops.{Op, CoroutineCode, Has}
 use Rattle.law_flat.specs.Laid.{target_op, Laid}
 use Rattle.law_flat.specs.Rests.{body_of, Rest, at_end, then_all, then_loop, then_jump, in_try, ignored, assigned_to, entering}
 use Rattle.law_flat.specs.Moves.{Frames, Move, Goes, counted, with_given, with_values, ask_into, by_test, raise_value, call, at_next, after_op, move_of}
@@ -23,8 +23,8 @@ exprs-again : (items : Exprs) → exprs (exprs_of items) ≡ items
 exprs-again no_exprs = refl
 exprs-again (expr_then first others) = ap (expr_then first) (exprs-again others)
 
-module _ (limit : ℕ) (program : Program) (codes : ℕ → Body) where
-  abbrev Code : Frames → Body
+module _ (limit : ℕ) (program : Program) (codes : ℕ → CoroutineCode) where
+  abbrev Code : Frames → CoroutineCode
   Code frames = code_of limit program codes frames
 
   -- the statements that are next, and what is left after them, stand at a place

@@ -12,7 +12,7 @@ use Rattle.model_says.specs.Tape.{Resumed, Tape}
 use Rattle.model_says.specs.Endings.{Exchange, Asks as Asked, Passes, saying_of, ask}
 use Rattle.model_says.specs.Says.{course}
 use Rattle.law_flat.specs.declared.answer_use.AnswerUse.TheVariants.{Ignored}
-use Rattle.law_flat.specs.Ops.{Body}
+use Rattle.law_flat.specs.Ops.{CoroutineCode}
 use Rattle.law_flat.specs.Rests.{Way, ending_by, then_all, at_end, ignored}
 use Rattle.law_flat.specs.Moves.{Frames, Move, Goes, Asks, Says, move_of}
 use Rattle.law_flat.specs.Stands.{AllLaidOut, Keeps, meaning, progress_at, callers_of}
@@ -20,7 +20,7 @@ use Rattle.law_flat.specs.Tapes.{Waiting, unbegun_waiting, way_of, after_input, 
 use Rattle.law_flat.proofs.Endings.{ending_of_all-stop}
 use Rattle.law_flat.proofs.Moves.{move-keeps, answer-keeps, waits-somewhere}
 
-module _ (limit : ℕ) (program : Program) (codes : ℕ → Body) (coroutine : ℕ) (arguments : List Value) where
+module _ (limit : ℕ) (program : Program) (codes : ℕ → CoroutineCode) (coroutine : ℕ) (arguments : List Value) where
   -- what waits for the answer of a request is what is said
   pub waits-says : (tape : Tape) (request : Request) (waiting : Waiting) →
       WaitsFor limit program codes coroutine arguments tape request waiting →

@@ -10,15 +10,15 @@ use Rattle.model_says.specs.Says.{Calls, run_all, run_handlers, call_within}
 use Rattle.law_flat.specs.declared.way.Way.TheVariants.{Passing, Returning, Raising}
 use Rattle.law_flat.specs.declared.op.Op.TheVariants as op
 use Rattle.law_flat.specs.declared.open_handler.OpenHandler.TheVariants.{InClause}
-use Rattle.law_flat.specs.Ops.{Clause, Range, Body, Has, Covers}
+use Rattle.law_flat.specs.Ops.{Clause, Range, CoroutineCode, Has, Covers}
 use Rattle.law_flat.specs.Laid.{LaidAll, LaidBranch, LaidHandlers, LaidFinally, LaidExit}
 use Rattle.law_flat.specs.Rests.{Way, ending_by, body_of, Rest, at_end, then_all, then_loop, then_jump, in_try, in_clause, in_finally, in_with, at_exit, ending_of_callers, ending_of_all}
 use Rattle.law_flat.specs.Moves.{OpenHandler, Frame, Frames, Move, Goes, at_place, with_handlers, with_variable, in_caller, return_to, raise_in, out_of_frame, clause_for, clauses_in, into_finally, into_clause, to_exit, way_out}
 use Rattle.law_flat.specs.Stands.{Stands, StandAll, callers_of, progress_at, meaning, Keeps}
 use Rattle.law_flat.proofs.Endings.{finished-by, exited-by}
 
-module _ (limit : ℕ) (program : Program) (codes : ℕ → Body) where
-  abbrev pub code_of : Frames → Body
+module _ (limit : ℕ) (program : Program) (codes : ℕ → CoroutineCode) where
+  abbrev pub code_of : Frames → CoroutineCode
   code_of frames = codes frames.frame.coroutine
 
   abbrev pub calls_of : Frames → Calls
@@ -45,7 +45,7 @@ module _ (limit : ℕ) (program : Program) (codes : ℕ → Body) where
   meant_next next frames rest rests tape exchanges =
       meaning limit program frames rest rests (next (progress_at frames tape exchanges))
 
-  pub branch-laid : (code : Body) (finally : Branch) (from to : ℕ) →
+  pub branch-laid : (code : CoroutineCode) (finally : Branch) (from to : ℕ) →
       LaidBranch program code finally from to → LaidAll program code (body_of finally) from to
   branch-laid code no_branch from to h = h
   branch-laid code (branch body) from to h = h

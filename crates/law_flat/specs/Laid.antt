@@ -4,7 +4,7 @@ use Rattle.std.specs.Prelude.{◌≡◌, ℕ, ◌+◌, List, [], ◌∷◌, Opti
 use Rattle.model_tree.specs.Syntax.{Name, exprs_of, Target, Await, Call, Ask, SpawnTask, CreateTask, ListenAt, Manager, GroupBlock, TimeoutBlock, Statement, Assign, Yield, YieldFrom, Print, Raise, Return, Pass, If, While, Try, With, Statements, no_statements, statement_then, Branch, no_branch, branch, Handlers, no_handlers, handler_then, Program}
 use Rattle.model_says.specs.Requests.{place_of}
 use Rattle.law_flat.specs.declared.op.Op.TheVariants as op
-use Rattle.law_flat.specs.Ops.{Op, Clause, Range, Body, Has, Covers}
+use Rattle.law_flat.specs.Ops.{Op, Clause, Range, CoroutineCode, Has, Covers}
 
 -- the operation of a `yield from`
 abbrev pub target_op : Program → Option Name → Target → Op
@@ -24,7 +24,7 @@ abbrev pub exit_op : Manager → Op
 exit_op GroupBlock = op.ExitGroup
 exit_op (TimeoutBlock delay) = op.ExitTimeout
 
-module _ (program : Program) (code : Body) where
+module _ (program : Program) (code : CoroutineCode) where
   -- one operation alone
   abbrev pub LaidOne : Op → ℕ → ℕ → Type 0
   LaidOne operation from to = Has code from operation × (to ≡ from + 1)

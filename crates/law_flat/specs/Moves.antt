@@ -19,7 +19,7 @@ use Rattle.law_flat.specs.declared.open_handler.OpenHandler.TheVariants.{InTry, 
 use Rattle.law_flat.specs.declared.answer_use.AnswerUse as answer_use
 use Rattle.law_flat.specs.declared.answer_use.AnswerUse.TheVariants.{Ignored, AssignedTo, Entered}
 use Rattle.law_flat.specs.Rests.{Way, fault_of}
-use Rattle.law_flat.specs.Ops.{Op, Clause, Range, Body}
+use Rattle.law_flat.specs.Ops.{Op, Clause, Range, CoroutineCode}
 
 abbrev pub OpenHandler : Type 0
 OpenHandler = open_handler.OpenHandler Value Exc
@@ -112,7 +112,7 @@ to_exit way entered outer (Some range) frames =
     Goes Passing (at_place range.finally (with_handlers (AtExit entered way ∷ outer) frames))
 
 -- out through the innermost of these handlers, or out of the frame
-abbrev pub way_out : Body → Way → List OpenHandler → Frames → Move
+abbrev pub way_out : CoroutineCode → Way → List OpenHandler → Frames → Move
 way_out code way [] frames = out_of_frame way frames
 way_out code (Raising fault) (InTry number ∷ outer) frames =
     into_clause fault number outer (clause_for fault (clauses_in (slice_get code.ranges number))) frames
@@ -171,7 +171,7 @@ after_answer (Entered name number) value frames =
     with_variable (Some name) value (with_handlers (InWith number value ∷ frames.frame.handlers) frames)
 
 -- the code of the program's coroutines, by their places
-module _ (codes : ℕ → Body) where
+module _ (codes : ℕ → CoroutineCode) where
   -- the frame of a call of a coroutine, for these arguments
   abbrev pub new_frame : Option Name → ℕ → List Value → Frame
   new_frame into coroutine arguments = record {
@@ -224,7 +224,7 @@ module _ (codes : ℕ → Body) where
       with_value delay (λ d f. Asks (request.TimeoutEnter d) (Entered name number) (at_next f)) frames
   after_statement _ frames = Says Runaway
 
-  module _ (code : Body) where
+  module _ (code : CoroutineCode) where
     -- past the last operation the body passes
     abbrev pub after_op : Option Op → Frames → Move
     after_op None frames = way_out code Passing frames.frame.handlers frames

@@ -2,10 +2,10 @@
 use Rattle.std.specs.Prelude.{ℕ, ◌+◌, ◌*◌, ◌-◌, ◌<◌, List, [], ◌∷◌}
 use Rattle.law_flat.specs.declared.op.Op.TheVariants as op
 use Rattle.law_flat.specs.declared.open_handler.OpenHandler.TheVariants.{InTry, InClause, InFinally, InWith, AtExit}
-use Rattle.law_flat.specs.Ops.{Body, Has}
+use Rattle.law_flat.specs.Ops.{CoroutineCode, Has}
 use Rattle.law_flat.specs.Moves.{OpenHandler, Frame, Frames}
 
-abbrev pub JumpsForward : Body → Type 0
+abbrev pub JumpsForward : CoroutineCode → Type 0
 JumpsForward code = (place to : ℕ) → Has code place (op.Jump to) → place < to
 
 -- how often a handler may yet be met

@@ -16,15 +16,15 @@ abbrev pub Range : Type 0
 Range = range.Range (List Clause)
 
 -- the code of a coroutine: that of its body, and its variables, the parameters first
-pub record Body : Type 0 where
+pub record CoroutineCode : Type 0 where
   pub ops : List Op
   pub ranges : List Range
   pub variables : List Name
 
 -- this operation stands at a place
-abbrev pub Has : Body → ℕ → Op → Type 0
+abbrev pub Has : CoroutineCode → ℕ → Op → Type 0
 Has code place op = slice_get code.ops place ≡ Some op
 
 -- this range has a number
-abbrev pub Covers : Body → ℕ → Range → Type 0
+abbrev pub Covers : CoroutineCode → ℕ → Range → Type 0
 Covers code number range = slice_get code.ranges number ≡ Some range

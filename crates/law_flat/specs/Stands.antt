@@ -11,12 +11,12 @@ use Rattle.law_flat.specs.declared.way.Way.TheVariants.{Passing}
 use Rattle.law_flat.specs.declared.op.Op.TheVariants as op
 use Rattle.law_flat.specs.declared.open_handler.OpenHandler.TheVariants.{InTry, InClause, InFinally, InWith, AtExit}
 use Rattle.law_flat.specs.declared.answer_use.AnswerUse.TheVariants.{Ignored, AssignedTo, Entered}
-use Rattle.law_flat.specs.Ops.{Range, Body, Has, Covers}
+use Rattle.law_flat.specs.Ops.{Range, CoroutineCode, Has, Covers}
 use Rattle.law_flat.specs.Laid.{exit_op, LaidAll, LaidTry, LaidFinally, LaidExit}
 use Rattle.law_flat.specs.Rests.{Way, ending_by, Rest, at_end, then_all, then_loop, then_jump, in_try, in_clause, in_finally, in_with, at_exit, Wait, ignored, assigned_to, entering, after_answer, Caller, ending_of_all}
 use Rattle.law_flat.specs.Moves.{OpenHandler, AnswerUse, Frame, Frames, Move, Goes, Asks, Says}
 
-module _ (program : Program) (code : Body) where
+module _ (program : Program) (code : CoroutineCode) where
   abbrev pub Stands : ℕ → List OpenHandler → Rest → Type 0
   Stands place handlers at_end = (slice_get code.ops place ≡ None) × (handlers ≡ [])
   Stands place handlers (then_all others rest) = (to : ℕ) × LaidAll program code others place to × Stands to handlers rest
@@ -62,7 +62,7 @@ progress_at frames tape exchanges =
     record { env = frames.frame.env; tape = tape; left = frames.left; exchanges = exchanges }
 
 -- the code of the program's coroutines, by their places
-module _ (program : Program) (codes : ℕ → Body) where
+module _ (program : Program) (codes : ℕ → CoroutineCode) where
   abbrev pub StandAll : List Frame → List Rest → Type 0
   StandAll [] [] = Unit {0}
   StandAll (frame ∷ frames) (rest ∷ rests) =
@@ -102,7 +102,7 @@ module _ (limit : ℕ) (program : Program) where
       (progress_at frames tape exchanges))
 
   -- A move means what was meant before it.
-  abbrev pub Keeps : (ℕ → Body) → (Tape → List Exchange → Ending) → Move → Type 0
+  abbrev pub Keeps : (ℕ → CoroutineCode) → (Tape → List Exchange → Ending) → Move → Type 0
   Keeps codes before (Goes way frames) =
       (rest : Rest) × (rests : List Rest) × Stand program codes way frames rest rests
       × ((tape : Tape) (exchanges : List Exchange) →

@@ -11,7 +11,7 @@ use Rattle.model_says.specs.Endings.{Saying, Exchange, saying_of}
 use Rattle.model_says.specs.Says.{course}
 use Rattle.law_flat.specs.declared.way.Way.TheVariants.{Passing, Raising}
 use Rattle.law_flat.specs.declared.answer_use.AnswerUse.TheVariants.{Ignored}
-use Rattle.law_flat.specs.Ops.{Body}
+use Rattle.law_flat.specs.Ops.{CoroutineCode}
 use Rattle.law_flat.specs.Rests.{Way, ending_by, Rest, Wait}
 use Rattle.law_flat.specs.Moves.{AnswerUse, Frames, new_frame, after_answer, Move, Goes, Asks, Says}
 use Rattle.law_flat.specs.Stands.{Stand, StandAt, meaning, meaning_of_request, progress_at}
@@ -22,11 +22,11 @@ pub record Waiting : Type 0 where
   pub use_of : AnswerUse
 
 -- Before its first input a coroutine waits as after a bare `yield`. It may open 63 frames more.
-abbrev pub unbegun_frames : (limit : ℕ) → (ℕ → Body) → ℕ → List Value → Frames
+abbrev pub unbegun_frames : (limit : ℕ) → (ℕ → CoroutineCode) → ℕ → List Value → Frames
 unbegun_frames limit codes coroutine arguments =
     record { frame = new_frame codes None coroutine arguments; callers = []; room = 63; left = limit }
 
-abbrev pub unbegun_waiting : (limit : ℕ) → (ℕ → Body) → ℕ → List Value → Waiting
+abbrev pub unbegun_waiting : (limit : ℕ) → (ℕ → CoroutineCode) → ℕ → List Value → Waiting
 unbegun_waiting limit codes coroutine arguments =
     record { frames = unbegun_frames limit codes coroutine arguments; use_of = Ignored }
 
@@ -43,7 +43,7 @@ after_input (Throw fault) use_of frames = frames
 abbrev pub renewed_by : (limit : ℕ) → Resumed → Frames → Frames
 renewed_by limit entry frames = record frames { left = if entry.fresh then limit else frames.left }
 
-module _ (limit : ℕ) (program : Program) (codes : ℕ → Body) (coroutine : ℕ) (arguments : List Value) where
+module _ (limit : ℕ) (program : Program) (codes : ℕ → CoroutineCode) (coroutine : ℕ) (arguments : List Value) where
   -- what the coroutine says along a tape
   abbrev pub said : Tape → Saying
   said tape = saying_of (course limit program coroutine arguments tape)

@@ -14,7 +14,7 @@ use Rattle.model_loop.specs.Futures.{outcome_at, future_outcome, is_pending}
 use Rattle.model_loop.specs.Tasks.{lives, future_of}
 use Rattle.model_loop.specs.Ledger.{ByAbort}
 use Rattle.model_loop.specs.Groups.{new_group, group_of, set_group, failure_in, failure_of, without_child, wake_if_last, wake_exit, abort, request_parent, abort_and_request_unless, blame, child_done}
-use Rattle.model_loop.specs.Children.{failures, tells, IsTold, IsKept, HasErrors, body_at_end, told_more}
+use Rattle.model_loop.specs.Children.{failures, tells, IsTold, IsKeptGroup, HasErrors, body_at_end, told_more}
 use Rattle.model_loop.specs.Numbered.{occurrences}
 use Rattle.model_loop.specs.Totals.{pending_where, registered_at}
 use Rattle.model_loop.specs.Owning.{own_future}
@@ -192,7 +192,7 @@ module _ (id task : ℕ) (handle : Handle) (rest : List Handle) (told : ℕ → 
           let a : occurrences t (told id ++ task ∷ []) ≡ occurrences t (told id) + 0 = occurrences-more task t (told id) ∙ rw (ne_eqb t task n) refl in
           (is.tellings id).told_done t (omega (arith, a, h))
 
-  this_kept : IsKept (told id ++ task ∷ []) without
+  this_kept : IsKeptGroup (told id ++ task ∷ []) without
   this_kept = record {
     made_once = (is.kept id).made_once;
     child_or_told = λ t. balance t (cases_eq t task);

@@ -12,7 +12,7 @@ use Rattle.law_parts.specs.Forgotten.{forget_from}
 use Rattle.law_parts.specs.Quiet.{stage}
 use Rattle.aio_ready.specs.Queue as queue
 use Rattle.aio_ready.specs.Queue.{Queue, next_name, given_after}
-use Rattle.aio_cancel.specs.Body.{waiting}
+use Rattle.aio_cancel.specs.Awaitables.{waiting}
 use Rattle.aio_task.specs.View.{View}
 use Rattle.aio_task.specs.Keeps.{Known, ByHandle, name_of, handle_as, IsTimer, Ties, KeepsHandles, Keeps, Extends, Kept, Knows}
 use Rattle.law_handles.proofs.Lists.{all-append, all_left, all_right, all_both}

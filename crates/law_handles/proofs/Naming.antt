@@ -7,8 +7,8 @@ use Rattle.model_loop.specs.Parts.{Handle, Timer, Parts}
 use Rattle.model_loop.specs.Handles.{placed, by_deadline}
 use Rattle.model_loop.specs.Numbered.{IsNumbered}
 use Rattle.law_numbers.proofs.Numbering.{tagged, tag_of, timer_tag}
-use Rattle.aio_ready.specs.declared.handle.Name.{Name}
-use Rattle.aio_ready.specs.declared.handle.Name.TheVariants.{Nameless, Given, Timer as OfTimer}
+use Rattle.aio_ready.specs.declared.handle.HandleName.{HandleName}
+use Rattle.aio_ready.specs.declared.handle.HandleName.TheVariants.{Nameless, Given, Timer as OfTimer}
 use Rattle.aio_ready.specs.Names.{is_same}
 use Rattle.aio_ready.specs.Queue.{Queue, next_name, given_after, most_given}
 use Rattle.aio_task.specs.Keeps.{Known, name_of, number_of, handle_as, timer_as, WasGiven, AreNames}
@@ -63,7 +63,7 @@ known_new next new known = rw (eq-eqb next next refl) refl
 pub known_same : (next : ℕ) (new : Known) (known : ℕ → Known) (tag : ℕ) → tag < next → known_as next new known tag ≡ known tag
 known_same next new known tag h = rw (ne_eqb tag next (omega arith)) refl
 
-pub given_more : (name : Name) (handles timers handles' timers' : ℕ) → handles ≤ handles' → timers ≤ timers'
+pub given_more : (name : HandleName) (handles timers handles' timers' : ℕ) → handles ≤ handles' → timers ≤ timers'
     → WasGiven handles timers name → WasGiven handles' timers' name
 given_more Nameless handles timers handles' timers' h t given = tt
 given_more (Given number) handles timers handles' timers' h t given = omega arith
@@ -72,7 +72,7 @@ given_more (OfTimer number) handles timers handles' timers' h t given = omega ar
 eqb_sym : (a b : ℕ) → (a == b) ≡ true → (b == a) ≡ true
 eqb_sym a b h = let e : a ≡ b = eqb-true a b h in eq-eqb b a (sym e)
 
-pub same_sym : (a b : Name) → is_same a b ≡ true → is_same b a ≡ true
+pub same_sym : (a b : HandleName) → is_same a b ≡ true → is_same b a ≡ true
 same_sym (Given a) (Given b) h = eqb_sym a b h
 same_sym (OfTimer a) (OfTimer b) h = eqb_sym a b h
 same_sym Nameless Nameless h = absurd (cc)
@@ -84,8 +84,8 @@ same_sym (OfTimer a) Nameless h = absurd (cc)
 same_sym (OfTimer a) (Given b) h = absurd (cc)
 
 -- a name that was given is none that comes next
-abbrev pub IsFresh : Name → (handles timers : ℕ) → Type 0
-IsFresh name handles timers = (other : Name) → WasGiven handles timers other → is_same name other ≡ true → ⊥
+abbrev pub IsFresh : HandleName → (handles timers : ℕ) → Type 0
+IsFresh name handles timers = (other : HandleName) → WasGiven handles timers other → is_same name other ≡ true → ⊥
 
 pub names_more : (known : ℕ → Known) (next handles timers handles' timers' : ℕ) (new : Known) → AreNames known next handles timers
     → handles ≤ handles' → timers ≤ timers' → WasGiven handles' timers' (name_of new) → IsFresh (name_of new) handles timers
@@ -134,12 +134,12 @@ given_rises q = go (nat_lt q.given most_given)
 pub next_fresh : (q : Queue) (timers : ℕ) → IsFresh (next_name q) q.given timers
 next_fresh q timers = go (nat_lt q.given most_given)
   where
-    given : (other : Name) → WasGiven q.given timers other → is_same (Given q.given) other ≡ true → ⊥
+    given : (other : HandleName) → WasGiven q.given timers other → is_same (Given q.given) other ≡ true → ⊥
     given Nameless w h = absurd (cc)
     given (Given number) w h = let e : q.given ≡ number = eqb-true q.given number h in omega arith
     given (OfTimer number) w h = absurd (cc)
 
-    none : (other : Name) → WasGiven q.given timers other → is_same Nameless other ≡ true → ⊥
+    none : (other : HandleName) → WasGiven q.given timers other → is_same Nameless other ≡ true → ⊥
     none Nameless w h = absurd (cc)
     none (Given number) w h = absurd (cc)
     none (OfTimer number) w h = absurd (cc)

@@ -15,7 +15,7 @@ use Rattle.aio_ready.specs.declared.handle.HandleId.{HandleId}
 use Rattle.aio_ready.specs.Names.{is_same, marked}
 use Rattle.aio_ready.specs.Queue as queue
 use Rattle.aio_ready.specs.Queue.{Queue, cancelled}
-use Rattle.aio_cancel.specs.Body.{waiting}
+use Rattle.aio_cancel.specs.Awaitables.{waiting}
 use Rattle.aio_task.specs.View.{View}
 use Rattle.aio_task.specs.Keeps.{Known, ByHandle, name_of, handle_as, timer_as, IsTimer, Ties, KeepsHandles, Keeps, Knows}
 use Rattle.law_handles.specs.Runs.{skipped}

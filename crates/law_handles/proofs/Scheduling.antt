@@ -13,7 +13,7 @@ use Rattle.model_loop.specs.Numbered.{occurrences, IsNumbered}
 use Rattle.law_numbers.proofs.Falling.{due_numbers, fall_due-next}
 use Rattle.law_numbers.proofs.Numbering.{later_numbers, revoke_numbers, tagged, tag_of, timer_tag}
 use Rattle.aio_ready.specs.declared.handle.Handle.{Handle}
-use Rattle.aio_ready.specs.declared.handle.Name.TheVariants as name
+use Rattle.aio_ready.specs.declared.handle.HandleName.TheVariants as name
 use Rattle.aio_ready.specs.Queue.{Queue, cancelled, appended, is_empty}
 use Rattle.aio_timer.specs.declared.live.TimerId.{TimerId}
 use Rattle.aio_timer.specs.Schedule.{timer, placed_after, is_of, lives, without, first_when, due_at, later_than, fallen}
@@ -21,7 +21,7 @@ use Rattle.aio_task.specs.View.{View}
 use Rattle.aio_task.specs.Keeps.{Known, ByHandle, ByTimer, name_of, number_of, handle_as, timer_as, IsTimer, Ties, KeepsHandles, Keeps, Extends, Kept, Knows}
 use Rattle.model_machine.specs.Turn.{least, wait_for, wait_with, wait_of, nothing_comes}
 use Rattle.law_handles.specs.Waiting.{wait_by, stalls_by}
-use Rattle.aio_cancel.specs.Body.{waiting}
+use Rattle.aio_cancel.specs.Awaitables.{waiting}
 use Rattle.law_handles.proofs.Appending.{extends_still, waiting_kept}
 use Rattle.law_handles.proofs.Lists.{all_left, all_right, all_both, all-append, all-filter, occurrences-cons}
 use Rattle.law_handles.proofs.Naming.{tags_pending, tags_timers, all-by_deadline, handles_same, timers_same, known_as, known_new, known_same, names_more, timer_fresh}

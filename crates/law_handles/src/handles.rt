@@ -8,7 +8,7 @@ ghost use Rattle.aio_ready.specs.declared.handle.HandleId.{HandleId};
 ghost use Rattle.aio_ready.specs.Names.{is_same};
 ghost use Rattle.aio_ready.specs.Queue as queue;
 ghost use Rattle.aio_ready.specs.Queue.{Queue};
-ghost use Rattle.aio_cancel.specs.Body.{waiting};
+ghost use Rattle.aio_cancel.specs.Awaitables.{waiting};
 ghost use Rattle.aio_task.specs.View.{View};
 ghost use Rattle.aio_task.specs.Keeps.{Ties, Keeps, Kept, Knows, ByHandle, handle_as};
 ghost use Rattle.law_handles.specs.Runs.{skipped, IsPastBar, Skips};

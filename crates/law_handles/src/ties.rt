@@ -3,7 +3,7 @@ ghost use Rattle.std.specs.Prelude.{◌≡◌, ℕ, false, List};
 ghost use Rattle.model_loop.specs.Parts.{Handle, Parts};
 ghost use Rattle.model_loop.specs.Handles.{revoke, due};
 ghost use Rattle.model_loop.specs.Start.{no_parts};
-ghost use Rattle.aio_ready.specs.declared.handle.Name.TheVariants as name;
+ghost use Rattle.aio_ready.specs.declared.handle.HandleName.TheVariants as name;
 ghost use Rattle.aio_task.specs.View.{View, empty};
 ghost use Rattle.aio_task.specs.Keeps.{Known, ByHandle, Ties, Keeps, Extends, Kept, Knows};
 

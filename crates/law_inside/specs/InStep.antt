@@ -11,7 +11,7 @@ use Rattle.model_loop.specs.Tasks.{lives, next_task}
 use Rattle.model_loop.specs.Ways.{is_running}
 use Rattle.model_machine.specs.Extra.{Extra}
 use Rattle.model_machine.specs.Mids.{mids}
-use Rattle.model_machine.specs.Replies.{Reply, Answers, Raises, Rests, Halts}
+use Rattle.model_machine.specs.Replies.{RequestReply, Answers, Raises, Rests, Halts}
 use Rattle.model_machine.specs.Sound.{AreBlocksOpen, AreScriptsFutures, AreTasksMade, IsAsking, IsMainTold, IsStateSound, IsUnbegun, StandsRightly}
 use Rattle.model_machine.specs.State.{Standing, Asked, Leaving, State, generator_of, resumed}
 use Rattle.model_machine.specs.Step.{says_of}
@@ -54,7 +54,7 @@ pub record IsAsked {S : Type 0} (added : Extra S) (task : ℕ) (stood : Standing
   pub exits : (id : ℕ) → IsLeft s id → task ≡ (group_of s.loop id).parent → stood ≡ Leaving id
 
 -- What a request comes to leaves a sound state: inside the step once the coroutine was answered, and whole where the step ends.
-abbrev pub RepliesInStep : {S : Type 0} → Extra S → (fresh : Bool) → (task : ℕ) → Reply S → Type 0
+abbrev pub RepliesInStep : {S : Type 0} → Extra S → (fresh : Bool) → (task : ℕ) → RequestReply S → Type 0
 RepliesInStep added fresh task (Answers value now) = IsStepSound added task (resumed fresh task (Send value) now)
 RepliesInStep added fresh task (Raises fault now) = IsStepSound added task (resumed fresh task (Throw fault) now)
 RepliesInStep added fresh task (Rests now) = IsStateSound added now

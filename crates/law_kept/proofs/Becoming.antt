@@ -11,7 +11,7 @@ use Rattle.law_parts.specs.Placed.{placed_from, placed}
 use Rattle.aio_ready.specs.declared.handle.Handle.{Handle}
 use Rattle.aio_ready.specs.Queue as queue
 use Rattle.aio_ready.specs.Queue.{Queue, actions_of, next_name}
-use Rattle.aio_cancel.specs.Body.{handles_from, waiting}
+use Rattle.aio_cancel.specs.Awaitables.{handles_from, waiting}
 use Rattle.aio_task.specs.View.{View, parts}
 use Rattle.aio_task.specs.Keeps.{Known, handle_as, Ties, Keeps, Kept, Becomes}
 use Rattle.law_handles.proofs.Appending.{waiting_kept, kept_soon_all, moved}

@@ -25,7 +25,7 @@ use Rattle.law_parts.proofs.ForgottenLemmas.{cancel-forget, settle-forget, ask-f
 use Rattle.law_parts.proofs.ForgottenSteps.{register-forget, make-forget, spawn-forget, suspend-forget, finish-forget}
 use Rattle.aio_ready.specs.Queue as queue
 use Rattle.aio_future.specs.Settled.{settled, called, registered, registered_at, registered_until, soon_if_done, soon_at, soon_until, asked, asked_at}
-use Rattle.aio_cancel.specs.Body.{Appended}
+use Rattle.aio_cancel.specs.Awaitables.{Appended}
 use Rattle.aio_cancel.proofs.PartsLemmas.{soon-parts, settle-parts}
 use Rattle.aio_task.specs.View.{View, body, parts}
 use Rattle.aio_task.specs.Keeps.{Ties, Keeps, Kept, Becomes}

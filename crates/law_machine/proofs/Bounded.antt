@@ -6,12 +6,12 @@ use Rattle.model_value.specs.Input.{Input}
 use Rattle.model_says.specs.Endings.{Saying, Asks, Returns, Raises as Raised, Runaway}
 use Rattle.model_says.specs.Tape.{Resumed, Tape}
 use Rattle.model_machine.specs.Extra.{Extra}
-use Rattle.model_machine.specs.Replies.{Reply, Answers, Raises, Rests, Halts, reply}
+use Rattle.model_machine.specs.Replies.{RequestReply, Answers, Raises, Rests, Halts, reply}
 use Rattle.model_machine.specs.State.{Generator, State, generator_of, resumed}
 use Rattle.model_machine.specs.Step.{most_answers, says_of, taken_as, served, serve}
 use Rattle.law_says.specs.Steps.{steps_in}
 use Rattle.law_says.proofs.Counting.{asked_at_most}
-use Rattle.law_machine.proofs.Kept.{tape_in, tape_of, length-slice_set, IsKept, reply_state, reply-keeps}
+use Rattle.law_machine.proofs.Kept.{tape_in, tape_of, length-slice_set, IsKeptInAnswer, reply_state, reply-keeps}
 
 -- ---- an answer on the tape
 abbrev entry_of : Input → Resumed
@@ -47,7 +47,7 @@ module _ {S : Type 0} (limit : ℕ) (added : Extra S) (task : ℕ) where
       → (more : ℕ) → serve limit added (count + more) task s ≡ serve limit added count task s
 
   module _ (count : ℕ) (settles : Settles count) (more : ℕ) (s : State S) where
-    resumed_settles : (now : State S) → IsKept task s now → 0 < count → task < length s.generators → IsEnough limit (suc count) (tape_of task s)
+    resumed_settles : (now : State S) → IsKeptInAnswer task s now → 0 < count → task < length s.generators → IsEnough limit (suc count) (tape_of task s)
         → (input : Input)
         → serve limit added (count + more) task (resumed false task input now) ≡ serve limit added count task (resumed false task input now)
     resumed_settles now kept some there enough input =
@@ -58,7 +58,8 @@ module _ {S : Type 0} (limit : ℕ) (added : Extra S) (task : ℕ) where
         let same = resumed-length input now in
         settles next some (omega (arith, grown, same)) (subst (IsEnough limit count) (sym tape) (still count (tape_of task s) input enough)) more
 
-    taken_settles : (it : Reply S) → IsKept task s (reply_state it) → 0 < count → task < length s.generators → IsEnough limit (suc count) (tape_of task s)
+    taken_settles : (it : RequestReply S) → IsKeptInAnswer task s (reply_state it) → 0 < count → task < length s.generators
+        → IsEnough limit (suc count) (tape_of task s)
         → taken_as it false task (serve limit added (count + more) task) ≡ taken_as it false task (serve limit added count task)
     taken_settles (Answers value now) kept some there enough = resumed_settles now kept some there enough (Send value)
     taken_settles (Raises fault now) kept some there enough = resumed_settles now kept some there enough (Throw fault)

@@ -19,7 +19,7 @@ use Rattle.model_machine.specs.Arguments.{as_future, as_awaited, as_task, as_tim
 use Rattle.model_machine.specs.Extra as extra
 use Rattle.model_machine.specs.Extra.{Extra, ExtraAnswer, ExtraSaid, called}
 use Rattle.model_machine.specs.Outcomes.{input_of}
-use Rattle.model_machine.specs.Replies.{Reply, Answers, Raises, Rests, Halts, given, most_ids, numbered_if, numbered, replied, ended, result_of, shown_all, waits, awaits_as, awaits, alarmed, sleeps, makes_future, settles_if, settles, requests, counted, spawns, enters_timeout, timed_out_if, exits_timeout, reschedules_if, reschedules, enters_group, exits_as, exits_group, creates_unless, creates, Wake, serves_until, serves_as, serves, woken_within, woken, reply, decides}
+use Rattle.model_machine.specs.Replies.{RequestReply, Answers, Raises, Rests, Halts, given, most_ids, numbered_if, numbered, replied, ended, result_of, shown_all, waits, awaits_as, awaits, alarmed, sleeps, makes_future, settles_if, settles, requests, counted, spawns, enters_timeout, timed_out_if, exits_timeout, reschedules_if, reschedules, enters_group, exits_as, exits_group, creates_unless, creates, Wake, serves_until, serves_as, serves, woken_within, woken, reply, decides}
 use Rattle.model_machine.specs.State.{Standing, Asked, Sleeping, Leaving, Serving, Generator, State, generator, in_loop, noted, stands, unbooked_in, with_coroutine, with_loop}
 use Rattle.model_machine.specs.Went.{answers_in}
 use Rattle.law_machine.specs.Growth.{GoesOn, turns_in}
@@ -55,7 +55,7 @@ abbrev pub tape_of : {S : Type 0} → ℕ → State S → Tape
 tape_of task s = tape_in s.generators task
 
 -- what is kept while a request is answered
-pub record IsKept {S : Type 0} (task : ℕ) (s t : State S) : Type 0 where
+pub record IsKeptInAnswer {S : Type 0} (task : ℕ) (s t : State S) : Type 0 where
   pub events : GoesOn s.events t.events
   pub turns : turns_in t.events ≡ turns_in s.events
   pub got : answers_in t.events ≡ answers_in s.events
@@ -64,7 +64,7 @@ pub record IsKept {S : Type 0} (task : ℕ) (s t : State S) : Type 0 where
   pub generators : length s.generators ≤ length t.generators
 
 -- the same events, answers and generators
-pub kept_as : {S : Type 0} (task : ℕ) (s t : State S) → t.events ≡ s.events → t.answers ≡ s.answers → t.generators ≡ s.generators → IsKept task s t
+pub kept_as : {S : Type 0} (task : ℕ) (s t : State S) → t.events ≡ s.events → t.answers ≡ s.answers → t.generators ≡ s.generators → IsKeptInAnswer task s t
 kept_as task s t e a g = record {
   events = rw e (goes_on_same s.events);
   turns = ap turns_in e;
@@ -74,7 +74,7 @@ kept_as task s t e a g = record {
   generators = rw g (omega arith);
 }
 
-pub kept_then : {S : Type 0} (task : ℕ) (s t u : State S) → IsKept task s t → IsKept task t u → IsKept task s u
+pub kept_then : {S : Type 0} (task : ℕ) (s t u : State S) → IsKeptInAnswer task s t → IsKeptInAnswer task t u → IsKeptInAnswer task s u
 kept_then task s t u first second = record {
   events = goes_on_then s.events t.events u.events first.events second.events;
   turns = second.turns ∙ first.turns;
@@ -103,7 +103,7 @@ length-slice_set [] at g = refl
 length-slice_set (h ∷ gs) zero g = refl
 length-slice_set (h ∷ gs) (suc at) g = ap suc (length-slice_set gs at g)
 
-pub stands-kept : {S : Type 0} (standing : Standing) (at task : ℕ) (s : State S) → IsKept task s (stands standing at s)
+pub stands-kept : {S : Type 0} (standing : Standing) (at task : ℕ) (s : State S) → IsKeptInAnswer task s (stands standing at s)
 stands-kept standing at task s = record {
   events = goes_on_same s.events;
   turns = refl;
@@ -113,7 +113,8 @@ stands-kept standing at task s = record {
   generators = rw (length-slice_set s.generators at _) (omega arith);
 }
 
-with_coroutine-kept : {S : Type 0} (coroutine : ℕ) (arguments : List Value) (task : ℕ) (s : State S) → IsKept task s (with_coroutine coroutine arguments s)
+with_coroutine-kept : {S : Type 0} (coroutine : ℕ) (arguments : List Value) (task : ℕ) (s : State S)
+    → IsKeptInAnswer task s (with_coroutine coroutine arguments s)
 with_coroutine-kept coroutine arguments task s = record {
   events = goes_on_same s.events;
   turns = refl;
@@ -124,21 +125,21 @@ with_coroutine-kept coroutine arguments task s = record {
 }
 
 -- ---- replies
-abbrev pub reply_state : {S : Type 0} → Reply S → State S
+abbrev pub reply_state : {S : Type 0} → RequestReply S → State S
 reply_state (Answers value now) = now
 reply_state (Raises fault now) = now
 reply_state (Rests now) = now
 reply_state (Halts end last) = last
 
-abbrev pub Keeps : {S : Type 0} → ℕ → State S → Reply S → Type 0
-Keeps task s it = IsKept task s (reply_state it)
+abbrev pub Keeps : {S : Type 0} → ℕ → State S → RequestReply S → Type 0
+Keeps task s it = IsKeptInAnswer task s (reply_state it)
 
-given-keeps : {S A : Type 0} (task : ℕ) (o : Option A) (next : A → State S → Reply S) (s : State S)
+given-keeps : {S A : Type 0} (task : ℕ) (o : Option A) (next : A → State S → RequestReply S) (s : State S)
     → ((a : A) → Keeps task s (next a s)) → Keeps task s (given o next s)
 given-keeps task None next s keeps = kept_as task s s refl refl refl
 given-keeps task (Some a) next s keeps = keeps a
 
-numbered-keeps : {S : Type 0} (task made : ℕ) (next : State S → Reply S) (s : State S)
+numbered-keeps : {S : Type 0} (task made : ℕ) (next : State S → RequestReply S) (s : State S)
     → Keeps task s (next s) → Keeps task s (numbered made next s)
 numbered-keeps task made next s keeps = at (nat_lt made most_ids)
   where
@@ -229,7 +230,7 @@ module _ {S : Type 0} (added : Extra S) where
   woken-keeps : (task : ℕ) → WakeKeeps task (woken added task)
   woken-keeps task key input s = woken_within-keeps (suc (added.wakes_left key s.extra)) task key input s
 
-  said-kept : (task : ℕ) (text : List ℕ) (s : State S) → IsKept task s (noted (event.Said task text) s)
+  said-kept : (task : ℕ) (text : List ℕ) (s : State S) → IsKeptInAnswer task s (noted (event.Said task text) s)
   said-kept task text s = record {
     events = goes_on_one s.events _;
     turns = turns-said s.events task text;

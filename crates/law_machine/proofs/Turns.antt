@@ -17,14 +17,14 @@ use Rattle.model_loop.specs.Parts.{Handle}
 use Rattle.model_loop.specs.Tasks.{begin_step}
 use Rattle.model_machine.specs.Extra.{Extra}
 use Rattle.model_machine.specs.Outcomes.{finished_as}
-use Rattle.model_machine.specs.Replies.{Reply, Answers, Raises, Rests, Halts, reply, decides}
+use Rattle.model_machine.specs.Replies.{RequestReply, Answers, Raises, Rests, Halts, reply, decides}
 use Rattle.model_machine.specs.Run.{run_after, run_on}
 use Rattle.model_machine.specs.State.{Asked, State, generator_of, noted, resumed, stands, unbooked_in}
 use Rattle.model_machine.specs.Step.{given_up, says_of, taken_as, served, serve, serve_all, step}
 use Rattle.model_machine.specs.Turn.{call_of, is_stalled, woken_by, effect, ran, run_first, run_if, next_below, run_below, run_pending, cancelled_if, finished_if, turn_over, turned_by, turn_unless, turn}
 use Rattle.model_machine.specs.Went.{Went, Goes, Stops, answers_in, state_of, went_on, ask, answered_by, fitted}
 use Rattle.law_machine.specs.Growth.{GoesOn, turns_in}
-use Rattle.law_machine.proofs.Kept.{goes_on_same, goes_on_one, goes_on_then, IsKept, reply_state, reply-keeps, decides-keeps}
+use Rattle.law_machine.proofs.Kept.{goes_on_same, goes_on_one, goes_on_then, IsKeptInAnswer, reply_state, reply-keeps, decides-keeps}
 
 -- events are added, no turn began, and the outside was not asked
 pub record IsOn {S : Type 0} (s t : State S) : Type 0 where
@@ -45,7 +45,7 @@ on_then s t u first second = record {
   answers = second.answers ∙ first.answers;
 }
 
-kept_on : {S : Type 0} (task : ℕ) (s t : State S) → IsKept task s t → IsOn s t
+kept_on : {S : Type 0} (task : ℕ) (s t : State S) → IsKeptInAnswer task s t → IsOn s t
 kept_on task s t is = record { events = is.events; turns = is.turns; got = is.got; answers = is.answers }
 
 turns-ran : (es : List Event) (it : Action) → turns_in (es ++ event.Ran it ∷ []) ≡ turns_in es
@@ -91,7 +91,7 @@ answers-called (event.Ran it ∷ es) call = answers-called es call
 answers-called (event.Said task text ∷ es) call = answers-called es call
 
 -- ---- steps
-taken-on : {S : Type 0} (s : State S) (it : Reply S) (fresh : Bool) (task : ℕ) (go_on : State S → Went S)
+taken-on : {S : Type 0} (s : State S) (it : RequestReply S) (fresh : Bool) (task : ℕ) (go_on : State S → Went S)
     → IsOn s (reply_state it) → ((t : State S) → IsOn t (state_of (go_on t))) → IsOn s (state_of (taken_as it fresh task go_on))
 taken-on s (Answers value now) fresh task go_on on goes =
     let next = resumed fresh task (Send value) now in

@@ -29,7 +29,7 @@ use Rattle.model_machine.specs.Extra as extra
 use Rattle.model_machine.specs.Extra.{Extra, ExtraAnswer, ExtraSaid, ExtraStep, MakesPlain, MakesMany, Settles, Releases, Registers, CallsSoon, CallsLater, Revokes, Cancels, Uncancels, called, made_by, made_by_all}
 use Rattle.model_machine.specs.Outcomes.{finished_as, input_of}
 use Rattle.model_machine.specs.Outside.{news_of, time_of}
-use Rattle.model_machine.specs.Replies.{Reply, Answers, Raises, Rests, Halts, given, most_ids, numbered_if, numbered, replied, ended, result_of, awaits_as, awaits, alarmed, sleeps, makes_future, settles_if, settles, requests, counted, spawns, enters_timeout, timed_out_if, exits_timeout, reschedules_if, reschedules, enters_group, exits_as, exits_group, creates_unless, creates, Wake, serves_until, serves_as, serves, woken_within, woken, reply, decides}
+use Rattle.model_machine.specs.Replies.{RequestReply, Answers, Raises, Rests, Halts, given, most_ids, numbered_if, numbered, replied, ended, result_of, awaits_as, awaits, alarmed, sleeps, makes_future, settles_if, settles, requests, counted, spawns, enters_timeout, timed_out_if, exits_timeout, reschedules_if, reschedules, enters_group, exits_as, exits_group, creates_unless, creates, Wake, serves_until, serves_as, serves, woken_within, woken, reply, decides}
 use Rattle.model_machine.specs.State.{Standing, Asked, Sleeping, Leaving, Serving, State, generator_of, in_loop, noted, resumed, stands, unbooked_in, with_loop}
 use Rattle.model_machine.specs.Step.{given_up, says_of, serve, serve_all, served, step, taken_as}
 use Rattle.model_machine.specs.Turn.{at_time, cancelled_if, effect, finished_if, ran, run_first, turn_over, woken_by}
@@ -106,19 +106,19 @@ module _ (me : ℕ) where
   all_marked (it ∷ steps) l m = all_marked steps (made_by it l) (made_marked it l m)
 
   module _ {S : Type 0} where
-    abbrev LeavesMarked : Reply S → Type 0
+    abbrev LeavesMarked : RequestReply S → Type 0
     LeavesMarked (Answers value now) = IsMarkedIn me now
     LeavesMarked (Raises fault now) = IsMarkedIn me now
     LeavesMarked (Rests now) = IsMarkedIn me now
     LeavesMarked (Halts how last) = IsMarkedIn me last
 
     -- ---- replies that change no task
-    given_marked : {A : Type 0} (o : Option A) (next : A → State S → Reply S) (s : State S) → IsMarkedIn me s
+    given_marked : {A : Type 0} (o : Option A) (next : A → State S → RequestReply S) (s : State S) → IsMarkedIn me s
         → ((a : A) → LeavesMarked (next a s)) → LeavesMarked (given o next s)
     given_marked None next s m each = m
     given_marked (Some a) next s m each = each a
 
-    numbered_marked : (made : ℕ) (next : State S → Reply S) (s : State S) → IsMarkedIn me s → LeavesMarked (next s) → LeavesMarked (numbered made next s)
+    numbered_marked : (made : ℕ) (next : State S → RequestReply S) (s : State S) → IsMarkedIn me s → LeavesMarked (next s) → LeavesMarked (numbered made next s)
     numbered_marked made next s m it = at (nat_lt made most_ids)
       where
         at : (b : Bool) → LeavesMarked (numbered_if b next s)
@@ -254,7 +254,7 @@ module _ (me : ℕ) where
     abbrev GoesMarked : (State S → Went S) → Type 0
     GoesMarked go_on = (s : State S) → IsMarkedIn me s → IsMarkedIn me (state_of (go_on s))
 
-    taken_marked : (it : Reply S) (fresh : Bool) (go_on : State S → Went S) → LeavesMarked it → GoesMarked go_on
+    taken_marked : (it : RequestReply S) (fresh : Bool) (go_on : State S → Went S) → LeavesMarked it → GoesMarked go_on
         → IsMarkedIn me (state_of (taken_as it fresh task go_on))
     taken_marked (Answers value now) fresh go_on m each = each (resumed fresh task (Send value) now) m
     taken_marked (Raises fault now) fresh go_on m each = each (resumed fresh task (Throw fault) now) m

@@ -5,7 +5,7 @@ use Rattle.std.specs.Prelude.{not, ◌&&◌}
 use Rattle.model_text.specs.Forms.{Profile, Def, Return, Else, Except, Finally, End, Spelled}
 use Rattle.model_text.specs.Places.{DefBlock, Section, OpenBlock, role_of, fits, is_outside, Begins, Closes}
 use Rattle.model_text.specs.FirstPass.{Numbered}
-use Rattle.model_text.specs.SecondPass.{Part, Parts, before_parts, parts_of}
+use Rattle.model_text.specs.SecondPass.{Part, ScriptParts, before_parts, parts_of}
 use Rattle.law_nesting.proofs.Stack.{after}
 use Rattle.law_nesting.proofs.Nested.{is_inner, Nested}
 use Rattle.law_nesting.proofs.Passed.{Fits, Read, Accepted}
@@ -21,7 +21,7 @@ pub record PartFits (part : Part (Numbered Spelled)) : Type 0 where
   pub nested : Nested in_coroutine (forms_in part.lines)
   pub reads : AllByRecursion (λ line. Read line.form) part.lines
 
-record PartsFit (blocks : List OpenBlock) (parts : Parts (Numbered Spelled)) : Type 0 where
+record PartsFit (blocks : List OpenBlock) (parts : ScriptParts (Numbered Spelled)) : Type 0 where
   front : Nested blocks (forms_in parts.front)
   front_reads : AllByRecursion (λ line. Read line.form) parts.front
   coroutines : AllByRecursion PartFits parts.coroutines
@@ -58,7 +58,7 @@ inside End blocks e f = closed-inside blocks f.nests
 inside form blocks e f = not-outside (is_outside blocks) f.stands
 
 -- ---- one line more
-fits-before : (line : ℕ) (form : Spelled) (blocks : List OpenBlock) (parts : Parts (Numbered Spelled)) → Fits blocks form → Read form → PartsFit (after (role_of form) blocks) parts → PartsFit blocks (before_parts form (record { line = line; form = form }) parts)
+fits-before : (line : ℕ) (form : Spelled) (blocks : List OpenBlock) (parts : ScriptParts (Numbered Spelled)) → Fits blocks form → Read form → PartsFit (after (role_of form) blocks) parts → PartsFit blocks (before_parts form (record { line = line; form = form }) parts)
 fits-before line (Profile number) blocks parts f r p = absurd (let e : false ≡ true = f.stands in cc)
 fits-before line (Def name parameters) blocks parts f r p =
     let none : blocks ≡ [] = nothing-outside blocks f.stands in
@@ -89,10 +89,10 @@ parts-fit (line ∷ lines) blocks a =
 abbrev pub part_forms : Part (Numbered Spelled) → List Spelled
 part_forms part = Def part.name part.parameters ∷ forms_in part.lines
 
-abbrev joined : Parts (Numbered Spelled) → List Spelled
+abbrev joined : ScriptParts (Numbered Spelled) → List Spelled
 joined parts = forms_in parts.front ++ flat_map part_forms parts.coroutines
 
-joined-before : (line : ℕ) (form : Spelled) (parts : Parts (Numbered Spelled)) → joined (before_parts form (record { line = line; form = form }) parts) ≡ form ∷ joined parts
+joined-before : (line : ℕ) (form : Spelled) (parts : ScriptParts (Numbered Spelled)) → joined (before_parts form (record { line = line; form = form }) parts) ≡ form ∷ joined parts
 joined-before line (Def name parameters) parts = refl
 joined-before line form parts = refl
 

@@ -8,7 +8,7 @@ use Rattle.model_loop.specs.Parts.{FutureKind, Plain, OfTask, Many, Future, Task
 use Rattle.model_loop.specs.Handles.{soon, soon_all}
 use Rattle.model_loop.specs.Futures.{made_before, with_future, settle, settled, settled_as, mark_asked}
 use Rattle.model_loop.specs.Tasks.{raise_count, change_task}
-use Rattle.model_loop.specs.Cancel.{Request, Canceller, answers, has_seen, cancel_each, asked_where, marked_unless, cancel_waiter, cancel_unseen, cancel_task, cancel_kind, cancel_until, cancel_at, cancel_by, cancel_below, cancel_within, cancel}
+use Rattle.model_loop.specs.Cancel.{CancelRequest, Canceller, answers, has_seen, cancel_each, asked_where, marked_unless, cancel_waiter, cancel_unseen, cancel_task, cancel_kind, cancel_until, cancel_at, cancel_by, cancel_below, cancel_within, cancel}
 use Rattle.law_cancel.proofs.Effects.{done_as, asked_as}
 use Rattle.law_cancel.proofs.Trace.{Goes, begins, settles, asks, raises, marks, IsRow, below_row, within_row}
 use Rattle.law_parts.specs.Forgotten.{released}
@@ -127,18 +127,18 @@ module _ (gone : ℕ → Bool) where
       rw (c id s p done, each_commutes F row c ids (F id s p).seen (F id s p).parts (done_goes (row id s p) done)) refl
 
   module _ (F V : Canceller) (frow : IsRow F) (fc : Commutes F) (vc : Commutes V) (id : ℕ) (s : List ℕ) (p : Parts) (done : AreDone gone p) where
-    asked : (b : Bool) (r : Request) → asked_where b id (forgotten_of gone r) ≡ forgotten_of gone (asked_where b id r)
+    asked : (b : Bool) (r : CancelRequest) → asked_where b id (forgotten_of gone r) ≡ forgotten_of gone (asked_where b id r)
     asked true r = ap (λ q. record r { parts = q }) (ask-forget id r.parts)
     asked false r = refl
 
-    marked : (b : Bool) (t : ℕ) (r : Request) → marked_unless b t (forgotten_of gone r) ≡ forgotten_of gone (marked_unless b t r)
+    marked : (b : Bool) (t : ℕ) (r : CancelRequest) → marked_unless b t (forgotten_of gone r) ≡ forgotten_of gone (marked_unless b t r)
     marked true t r = refl
     marked false t r = ap (λ q. record r { parts = q; answer = true }) (change-forget t _ r.parts)
 
     waits : (t : ℕ) (w : Option ℕ) (u : List ℕ) (q : Parts) → AreDone gone q
         → cancel_waiter V t w u (forgotten gone q) ≡ forgotten_of gone (cancel_waiter V t w u q)
     waits t None u q d = ap (answers true u) (change-forget t _ q)
-    waits t (Some w) u q d = ap (λ (r : Request). marked_unless r.answer t r) (vc w u q d) ∙ marked (V w u q).answer t (V w u q)
+    waits t (Some w) u q d = ap (λ (r : CancelRequest). marked_unless r.answer t r) (vc w u q d) ∙ marked (V w u q).answer t (V w u q)
 
     unseen : (t : ℕ) (o : Option Task) → cancel_unseen V t o s (forgotten gone p) ≡ forgotten_of gone (cancel_unseen V t o s p)
     unseen t None = refl
@@ -155,7 +155,7 @@ module _ (gone : ℕ → Bool) where
     kind (OfTask t) = task (has_seen s t) t
     kind (Many members asked_before) =
         let r = cancel_each F (made_before id members) s p in
-        ap (λ (x : Request). asked_where x.answer id x) (each_commutes F frow fc (made_before id members) s p done) ∙ asked r.answer r
+        ap (λ (x : CancelRequest). asked_where x.answer id x) (each_commutes F frow fc (made_before id members) s p done) ∙ asked r.answer r
 
     until : (o : Option Outcome) (k : FutureKind) → cancel_until F V o k id s (forgotten gone p) ≡ forgotten_of gone (cancel_until F V o k id s p)
     until (Some outcome) k = refl

@@ -17,10 +17,10 @@ use Rattle.law_cancel.proofs.Lookups.{get-set_kept, get_within}
 use Rattle.law_cancel.proofs.Effects.{settle-futures, settle-tasks, done_as, mark_asked-futures, mark_asked-tasks, asked_as, change_task-futures}
 use Rattle.law_cancel.proofs.Trace.{Goes, begins, settles, asks, raises, marks}
 use Rattle.law_parts.specs.Shape.{stands_of, stands_at, members_at}
-use Rattle.law_parts.specs.declared.walk.Frame.{Frame}
-use Rattle.law_parts.specs.declared.walk.Frame.TheVariants.{Waits, Members}
-use Rattle.law_parts.specs.declared.walk.Stands.{Stands}
-use Rattle.law_parts.specs.declared.walk.Stands.TheVariants as stands
+use Rattle.law_parts.specs.declared.walk.WalkFrame.{WalkFrame}
+use Rattle.law_parts.specs.declared.walk.WalkFrame.TheVariants.{Waits, Members}
+use Rattle.law_parts.specs.declared.walk.FutureState.{FutureState}
+use Rattle.law_parts.specs.declared.walk.FutureState.TheVariants as stands
 use Rattle.law_parts.specs.Open.{is_inner_kind, is_inner_at, is_inner, others, room_of, passing, passing_at, AllLead, id_of, frame_stands, OpenDown}
 use Rattle.law_parts.proofs.Leading.{leads_on}
 use Rattle.law_parts.proofs.WalkLemmas.{goes-members}
@@ -50,7 +50,7 @@ others-cons inner (suc n) ids id h u f = go (cases_eq n id) (λ below. others-co
         rw (ne_eqb n id ne) (omega arith)
 
 -- a future that passes to others is a task's own or stands for several
-inner_of : (p : Parts) (id : ℕ) (st : Stands) → passing_at p id ≡ passing st → (st ≡ stands.Done → ⊥) → passing st ≡ st
+inner_of : (p : Parts) (id : ℕ) (st : FutureState) → passing_at p id ≡ passing st → (st ≡ stands.Done → ⊥) → passing st ≡ st
     → (is_inner p id ≡ true) × (id < length p.futures)
 inner_of p id st e n s = at (slice_get p.futures id) refl (e ∙ s)
   where
@@ -70,15 +70,15 @@ inner_of p id st e n s = at (slice_get p.futures id) refl (e ∙ s)
     at (Some future) f h =
         (ap is_inner_at f ∙ until future f future.outcome future.kind h, get_within p.futures id future f)
 
-not_done : (frame : Frame) → frame_stands frame ≡ stands.Done → ⊥
+not_done : (frame : WalkFrame) → frame_stands frame ≡ stands.Done → ⊥
 not_done (Waits id task) e = absurd (cc)
 not_done (Members id place any) e = absurd (cc)
 
-same_passing : (frame : Frame) → passing (frame_stands frame) ≡ frame_stands frame
+same_passing : (frame : WalkFrame) → passing (frame_stands frame) ≡ frame_stands frame
 same_passing (Waits id task) = refl
 same_passing (Members id place any) = refl
 
-pub down_count : (p : Parts) (frames : List Frame) → HasNoCircle p → OpenDown p frames
+pub down_count : (p : Parts) (frames : List WalkFrame) → HasNoCircle p → OpenDown p frames
     → length frames + others (is_inner p) (length p.futures) (map id_of frames) ≡ room_of p
 down_count p [] none o = omega arith
 down_count p (frame ∷ frames) none o =
@@ -92,7 +92,7 @@ down_count p (frame ∷ frames) none o =
     go false e = e
     go true e = absurd (none (id_of frame) (o.1 (id_of frame) e))
 
-push-reverse : (frames : List Frame) (frame : Frame) → reverse (frames ++ frame ∷ []) ≡ frame ∷ reverse frames
+push-reverse : (frames : List WalkFrame) (frame : WalkFrame) → reverse (frames ++ frame ∷ []) ≡ frame ∷ reverse frames
 push-reverse frames frame = reverse-append frames (frame ∷ [])
 
 -- those that are open lead on

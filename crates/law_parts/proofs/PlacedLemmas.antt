@@ -9,7 +9,7 @@ use Rattle.model_loop.specs.Parts.{FutureKind, Plain, OfTask, Many, Future, Task
 use Rattle.model_loop.specs.Handles.{soon, soon_all}
 use Rattle.model_loop.specs.Futures.{made_before, with_future, settle, settled, settled_as, register, registered, registered_on, mark_asked, make_future}
 use Rattle.model_loop.specs.Tasks.{raise_count, change_task, spawn, next_task}
-use Rattle.model_loop.specs.Cancel.{Request, Canceller, answers, has_seen, cancel_each, asked_where, marked_unless, cancel_waiter, cancel_unseen, cancel_task, cancel_kind, cancel_until, cancel_at, cancel_by, cancel_below, cancel_within, cancel}
+use Rattle.model_loop.specs.Cancel.{CancelRequest, Canceller, answers, has_seen, cancel_each, asked_where, marked_unless, cancel_waiter, cancel_unseen, cancel_task, cancel_kind, cancel_until, cancel_at, cancel_by, cancel_below, cancel_within, cancel}
 use Rattle.law_cancel.proofs.Effects.{done_as, asked_as}
 use Rattle.law_parts.specs.Placed.{placed_from, placed, placed_of}
 
@@ -85,17 +85,17 @@ each_commutes F c [] s p = refl
 each_commutes F c (id ∷ ids) s p = rw (c id s p, each_commutes F c ids (F id s p).seen (F id s p).parts) refl
 
 module _ (F V : Canceller) (fc : Commutes F) (vc : Commutes V) (id : ℕ) (s : List ℕ) (p : Parts) where
-  asked : (b : Bool) (r : Request) → asked_where b id (placed_of r) ≡ placed_of (asked_where b id r)
+  asked : (b : Bool) (r : CancelRequest) → asked_where b id (placed_of r) ≡ placed_of (asked_where b id r)
   asked true r = ap (λ q. record r { parts = q }) (ask-placed id r.parts)
   asked false r = refl
 
-  marked : (b : Bool) (t : ℕ) (r : Request) → marked_unless b t (placed_of r) ≡ placed_of (marked_unless b t r)
+  marked : (b : Bool) (t : ℕ) (r : CancelRequest) → marked_unless b t (placed_of r) ≡ placed_of (marked_unless b t r)
   marked true t r = refl
   marked false t r = ap (λ q. record r { parts = q; answer = true }) (change-placed t _ r.parts)
 
   waits : (t : ℕ) (w : Option ℕ) (u : List ℕ) (q : Parts) → cancel_waiter V t w u (placed q) ≡ placed_of (cancel_waiter V t w u q)
   waits t None u q = ap (answers true u) (change-placed t _ q)
-  waits t (Some w) u q = ap (λ (r : Request). marked_unless r.answer t r) (vc w u q) ∙ marked (V w u q).answer t (V w u q)
+  waits t (Some w) u q = ap (λ (r : CancelRequest). marked_unless r.answer t r) (vc w u q) ∙ marked (V w u q).answer t (V w u q)
 
   unseen : (t : ℕ) (o : Option Task) → cancel_unseen V t o s (placed p) ≡ placed_of (cancel_unseen V t o s p)
   unseen t None = refl
@@ -111,7 +111,7 @@ module _ (F V : Canceller) (fc : Commutes F) (vc : Commutes V) (id : ℕ) (s : L
   kind (OfTask t) = task (has_seen s t) t
   kind (Many members asked_before) =
       let r = cancel_each F (made_before id members) s p in
-      ap (λ (x : Request). asked_where x.answer id x) (each_commutes F fc (made_before id members) s p) ∙ asked r.answer r
+      ap (λ (x : CancelRequest). asked_where x.answer id x) (each_commutes F fc (made_before id members) s p) ∙ asked r.answer r
 
   until : (o : Option Outcome) (k : FutureKind) → cancel_until F V o k id s (placed p) ≡ placed_of (cancel_until F V o k id s p)
   until (Some outcome) k = refl

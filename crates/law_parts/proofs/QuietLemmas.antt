@@ -12,7 +12,7 @@ use Rattle.law_cancel.proofs.Lookups.{get-set_same, get-set_other}
 use Rattle.law_cancel.proofs.Seen.{has_seen-append}
 use Rattle.law_cancel.proofs.Effects.{settle-futures, done_as, asked_as, change_task-futures}
 use Rattle.law_parts.specs.Shape.{stands_of, stands_at, members_of, members_at}
-use Rattle.law_parts.specs.declared.walk.Stands.TheVariants as stands
+use Rattle.law_parts.specs.declared.walk.FutureState.TheVariants as stands
 use Rattle.law_parts.specs.Quiet.{stage_of, stage, stage_at, Quiet, over, visited, finished, QuietAll, none, more, Sound, OnlyAdds, Grows, Later, asked_of}
 use Rattle.law_parts.specs.Walk.{joined, ask_joined}
 use Rattle.law_parts.proofs.WalkLemmas as walk

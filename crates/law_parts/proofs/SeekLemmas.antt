@@ -15,11 +15,11 @@ use Rattle.law_cancel.proofs.Reach.{leads_decides}
 use Rattle.law_parts.specs.Shape.{stands_of, stands_at, members_at}
 use Rattle.law_parts.specs.Quiet.{OnlyAdds}
 use Rattle.law_parts.specs.Open.{passing, passing_at, CanWalk}
-use Rattle.law_parts.specs.declared.walk.Frame.{Frame}
-use Rattle.law_parts.specs.declared.walk.Frame.TheVariants.{Waits, Members}
+use Rattle.law_parts.specs.declared.walk.WalkFrame.{WalkFrame}
+use Rattle.law_parts.specs.declared.walk.WalkFrame.TheVariants.{Waits, Members}
 use Rattle.law_parts.specs.declared.walk.Go.{Go}
 use Rattle.law_parts.specs.declared.walk.Go.TheVariants.{Visit, Next, Answer}
-use Rattle.law_parts.specs.declared.walk.Stands.TheVariants as stands
+use Rattle.law_parts.specs.declared.walk.FutureState.TheVariants as stands
 use Rattle.law_parts.specs.Seek.{in_rest, in_go, in_frame, in_frames, Pending, Seeks, CanSeek}
 use Rattle.law_parts.proofs.Leading.{leads_on, seen_split}
 use Rattle.law_parts.proofs.OpenLemmas.{pass_waiter, passes-task, passes-many}
@@ -55,7 +55,7 @@ seen_grows : (s : List ℕ) (a x : ℕ) → has_seen s x ≡ true → has_seen (
 seen_grows s a x h = has_seen-append s (a ∷ []) x ∙ or_left (has_seen s x) (has_seen (a ∷ []) x) h
 
 -- ---- one future is looked at
-module _ (p : Parts) (from to id : ℕ) (seen after_seen : List ℕ) (noted after_noted : ℕ → Option Bool) (go : Go) (frames : List Frame)
+module _ (p : Parts) (from to id : ℕ) (seen after_seen : List ℕ) (noted after_noted : ℕ → Option Bool) (go : Go) (frames : List WalkFrame)
     (visited : List ℕ) (c : Seeks p from to visited seen noted (Visit id) frames) (ne : id ≢ to) where
   -- what was reached before was reached, or is still to be looked at
   reached : (next : ℕ) → (has_seen visited next ≡ true) ⊎ Pending p (Visit id) frames next
@@ -119,7 +119,7 @@ nowhere : {X : Type 0} (p : Parts) (id next : ℕ) → passes p id ≡ [] → Pa
 nowhere p id next e pass = let h : false ≡ true = rw e at pass in absurd (cc)
 
 -- it passes nowhere
-pub seek_leaf : (p : Parts) (from to id : ℕ) (seen : List ℕ) (noted : ℕ → Option Bool) (answer : Bool) (frames : List Frame)
+pub seek_leaf : (p : Parts) (from to id : ℕ) (seen : List ℕ) (noted : ℕ → Option Bool) (answer : Bool) (frames : List WalkFrame)
     → CanSeek p from to seen noted (Visit id) frames → id ≢ to → passes p id ≡ []
     → CanSeek p from to seen noted (Answer answer) frames
 seek_leaf p from to id seen noted answer frames c ne e =
@@ -129,7 +129,7 @@ seek_leaf p from to id seen noted answer frames c ne e =
     (old_notes p from to id seen seen noted noted (Answer answer) frames c.0 c.1 ne)
 
 -- what it passes to was reached from another one
-again : (p : Parts) (from to id x : ℕ) (seen : List ℕ) (noted : ℕ → Option Bool) (answer : Bool) (frames : List Frame)
+again : (p : Parts) (from to id x : ℕ) (seen : List ℕ) (noted : ℕ → Option Bool) (answer : Bool) (frames : List WalkFrame)
     → (c : CanSeek p from to seen noted (Visit id) frames) → id ≢ to → has_seen c.0 x ≡ true → passes p id ≡ passes p x
     → CanSeek p from to seen noted (Answer answer) frames
 again p from to id x seen noted answer frames c ne h e =
@@ -156,7 +156,7 @@ waiter_is p task waiter h = at (slice_get p.tasks task) h
     at None h = absurd (cc)
     at (Some it) h = cc
 
-module _ (p : Parts) (from to id task : ℕ) (seen : List ℕ) (noted : ℕ → Option Bool) (frames : List Frame)
+module _ (p : Parts) (from to id task : ℕ) (seen : List ℕ) (noted : ℕ → Option Bool) (frames : List WalkFrame)
     (c : CanSeek p from to seen noted (Visit id) frames) (ne : id ≢ to) (st : stands.OfTask task ≡ stands_at (slice_get p.futures id)) where
   passes_on : passes p id ≡ option_to_list (waiter_of p task)
   passes_on = passes-task p id task (sym (ap passing st))
@@ -207,13 +207,13 @@ module _ (p : Parts) (from to id task : ℕ) (seen : List ℕ) (noted : ℕ → 
       tasks t (inr q) = (id, has_seen_last c.0 id, sym (ap passing st) ∙ ap (λ (u : ℕ). stands.OfTask u) q)
 
 -- ---- one that stands for several
-pub seek_noted : (p : Parts) (from to id : ℕ) (seen : List ℕ) (noted : ℕ → Option Bool) (answer before : Bool) (frames : List Frame)
+pub seek_noted : (p : Parts) (from to id : ℕ) (seen : List ℕ) (noted : ℕ → Option Bool) (answer before : Bool) (frames : List WalkFrame)
     → CanSeek p from to seen noted (Visit id) frames → id ≢ to → noted id ≡ Some before
     → CanSeek p from to seen noted (Answer answer) frames
 seek_noted p from to id seen noted answer before frames c ne h =
     again p from to id id seen noted answer frames c ne (c.1.notes id before h) refl
 
-pub seek_opens : (p : Parts) (from to id : ℕ) (seen : List ℕ) (noted after : ℕ → Option Bool) (any put : Bool) (frames : List Frame)
+pub seek_opens : (p : Parts) (from to id : ℕ) (seen : List ℕ) (noted after : ℕ → Option Bool) (any put : Bool) (frames : List WalkFrame)
     → CanSeek p from to seen noted (Visit id) frames → id ≢ to → stands.Many ≡ stands_at (slice_get p.futures id)
     → OnlyAdds noted id put after → CanSeek p from to seen after (Next id 0 any) frames
 seek_opens p from to id seen noted after any put frames c ne st adds =
@@ -230,7 +230,7 @@ seek_opens p from to id seen noted after any put frames c ne st adds =
     notes i found (inr old) = old_notes p from to id seen seen noted after (Next id 0 any) frames c.0 c.1 ne i found old
 
 -- ---- the same futures are left, otherwise grouped
-regroup : (p : Parts) (from to : ℕ) (seen : List ℕ) (noted : ℕ → Option Bool) (go after : Go) (frames frames' : List Frame)
+regroup : (p : Parts) (from to : ℕ) (seen : List ℕ) (noted : ℕ → Option Bool) (go after : Go) (frames frames' : List WalkFrame)
     → ((x : ℕ) → Pending p after frames' x → Pending p go frames x) → ((x : ℕ) → Pending p go frames x → Pending p after frames' x)
     → CanSeek p from to seen noted go frames → CanSeek p from to seen noted after frames'
 regroup p from to seen noted go after frames frames' back on c = (
@@ -260,9 +260,9 @@ drop_none [] (suc place) e = refl
 drop_none (y ∷ ys) zero e = absurd (cc)
 drop_none (y ∷ ys) (suc place) e = drop_none ys place e
 
-module _ (p : Parts) (from to id place : ℕ) (any : Bool) (seen : List ℕ) (noted : ℕ → Option Bool) (frames : List Frame)
+module _ (p : Parts) (from to id place : ℕ) (any : Bool) (seen : List ℕ) (noted : ℕ → Option Bool) (frames : List WalkFrame)
     (c : CanSeek p from to seen noted (Next id place any) frames) where
-  pub seek_member : (member : ℕ) (after : List Frame) → Some member ≡ slice_get (members_at (slice_get p.futures id)) place → member < id
+  pub seek_member : (member : ℕ) (after : List WalkFrame) → Some member ≡ slice_get (members_at (slice_get p.futures id)) place → member < id
       → after ≡ frames ++ Members id (place + 1) any ∷ [] → CanSeek p from to seen noted (Visit member) after
   seek_member member after e l a =
       rw a
@@ -328,7 +328,7 @@ module _ (p : Parts) (from to id place : ℕ) (any : Bool) (seen : List ℕ) (no
       on x (inl g) = absurd (clash (in_rest p id place x) g (none x))
       on x (inr f) = inr f
 
-pub seek_back : (p : Parts) (from to id place : ℕ) (any more answer : Bool) (seen : List ℕ) (noted : ℕ → Option Bool) (frames : List Frame)
+pub seek_back : (p : Parts) (from to id place : ℕ) (any more answer : Bool) (seen : List ℕ) (noted : ℕ → Option Bool) (frames : List WalkFrame)
     → CanSeek p from to seen noted (Answer answer) (frames ++ Members id place any ∷ [])
     → CanSeek p from to seen noted (Next id place more) frames
 seek_back p from to id place any more answer seen noted frames c =
@@ -349,7 +349,7 @@ seek_back p from to id place any more answer seen noted frames c =
     on x (inl g) = absurd (clash false g refl)
     on x (inr f) = on_frames x (or_split (in_frames p x frames) (in_rest p id place x) (sym (pushed x) ∙ f))
 
-pub seek_back_past : (p : Parts) (from to id task : ℕ) (answer again : Bool) (seen : List ℕ) (noted : ℕ → Option Bool) (frames : List Frame)
+pub seek_back_past : (p : Parts) (from to id task : ℕ) (answer again : Bool) (seen : List ℕ) (noted : ℕ → Option Bool) (frames : List WalkFrame)
     → CanSeek p from to seen noted (Answer answer) (frames ++ Waits id task ∷ [])
     → CanSeek p from to seen noted (Answer again) frames
 seek_back_past p from to id task answer again seen noted frames c =
@@ -392,7 +392,7 @@ seek_begins p from to noted none = (
     led x (inl g) = inl (sym (eqb-true from x g))
     led x (inr f) = absurd (clash false f refl)
 
-pub seek_found : (p : Parts) (from to : ℕ) (seen : List ℕ) (noted : ℕ → Option Bool) (frames : List Frame)
+pub seek_found : (p : Parts) (from to : ℕ) (seen : List ℕ) (noted : ℕ → Option Bool) (frames : List WalkFrame)
     → CanSeek p from to seen noted (Visit to) frames → from ≢ to → leads p from to ≡ true
 seek_found p from to seen noted frames c ne = go (c.1.led to (inl (eq-eqb to to refl)))
   where
@@ -428,7 +428,7 @@ seek_over p from to seen noted answer c = go (leads p from to) refl
     go true e = absurd (never from (begun c.1.covers) ((leads_decides p from to).0 e))
 
 -- ---- the room that a search needs
-pub walk_on : (room marks id task w : ℕ) (frames : List Frame) (p : Parts) (waiter : Option ℕ)
+pub walk_on : (room marks id task w : ℕ) (frames : List WalkFrame) (p : Parts) (waiter : Option ℕ)
     → CanWalk room marks (Visit id) frames [] p → stands.OfTask task ≡ stands_at (slice_get p.futures id)
     → Some waiter ≡ option_map (λ (it : Task). it.waiter) (slice_get p.tasks task) → waiter ≡ Some w
     → CanWalk room marks (Visit w) frames [] p

@@ -7,25 +7,25 @@ use Rattle.model_value.specs.Value.{Outcome}
 use Rattle.model_loop.specs.Parts.{FutureKind, Plain, OfTask, Many, Future, Task, Parts}
 use Rattle.model_loop.specs.Futures.{made_before, settle, mark_asked, asked_kind}
 use Rattle.model_loop.specs.Tasks.{raise_count}
-use Rattle.model_loop.specs.Cancel.{Request, answers, has_seen, cancel_each, asked_where, marked_unless, cancel_task, cancel_until, cancel_at, cancel_with, cancel_unseen}
+use Rattle.model_loop.specs.Cancel.{CancelRequest, answers, has_seen, cancel_each, asked_where, marked_unless, cancel_task, cancel_until, cancel_at, cancel_with, cancel_unseen}
 use Rattle.law_cancel.proofs.Lookups.{get-set_kept}
 use Rattle.law_cancel.proofs.Effects.{settle-futures, done_as, mark_asked-futures, asked_as, change_task-futures}
 use Rattle.law_cancel.proofs.Trace.{Goes, begins, settles, asks, raises, marks, with_row}
 use Rattle.law_cancel.proofs.Total.{cancel_with_itself}
 use Rattle.law_parts.specs.Shape.{stands_of, stands_at, members_of, members_at}
-use Rattle.law_parts.specs.declared.walk.Stands.{Stands}
-use Rattle.law_parts.specs.declared.walk.Stands.TheVariants as stands
-use Rattle.law_parts.specs.declared.walk.Frame.{Frame}
-use Rattle.law_parts.specs.declared.walk.Frame.TheVariants.{Waits, Members}
+use Rattle.law_parts.specs.declared.walk.FutureState.{FutureState}
+use Rattle.law_parts.specs.declared.walk.FutureState.TheVariants as stands
+use Rattle.law_parts.specs.declared.walk.WalkFrame.{WalkFrame}
+use Rattle.law_parts.specs.declared.walk.WalkFrame.TheVariants.{Waits, Members}
 use Rattle.law_parts.specs.declared.walk.Go.TheVariants.{Visit, Next, Answer}
 use Rattle.law_parts.specs.Walk.{joined, ask_joined, next_of, finish, resume, run, run_task}
 
-pub resume-push : (frames : List Frame) (frame : Frame) (r : Request) → resume (frames ++ frame ∷ []) r ≡ resume frames (finish frame r)
+pub resume-push : (frames : List WalkFrame) (frame : WalkFrame) (r : CancelRequest) → resume (frames ++ frame ∷ []) r ≡ resume frames (finish frame r)
 resume-push [] frame r = refl
 resume-push (f ∷ frames) frame r = ap (finish f) (resume-push frames frame r)
 
 -- ---- one future
-abbrev pub by_stands : Stands → List ℕ → ℕ → List ℕ → Parts → Request
+abbrev pub by_stands : FutureState → List ℕ → ℕ → List ℕ → Parts → CancelRequest
 by_stands stands.Done members id s p = answers false s p
 by_stands stands.Plain members id s p = answers true s (settle id Cancelled p)
 by_stands (stands.OfTask task) members id s p = cancel_task cancel_with (has_seen s task) task s p
@@ -45,7 +45,7 @@ module _ (id : ℕ) (s : List ℕ) (p : Parts) where
   pub visited : cancel_with id s p ≡ by_stands (stands_at (slice_get p.futures id)) (members_at (slice_get p.futures id)) id s p
   visited = cancel_with_itself id s p ∙ at_stands (slice_get p.futures id)
 
-  pub visited_as : (st : Stands) → st ≡ stands_at (slice_get p.futures id) → cancel_with id s p ≡ by_stands st (members_at (slice_get p.futures id)) id s p
+  pub visited_as : (st : FutureState) → st ≡ stands_at (slice_get p.futures id) → cancel_with id s p ≡ by_stands st (members_at (slice_get p.futures id)) id s p
   visited_as st e = visited ∙ ap (λ x. by_stands x (members_at (slice_get p.futures id)) id s p) (sym e)
 
 -- ---- members stay
@@ -108,7 +108,7 @@ module _ (id place : ℕ) (any : Bool) (s : List ℕ) (p : Parts) where
       (assoc (cancel_with member s p).answer (cancel_each cancel_with (made_before id (drop (suc place) (members_at (slice_get p.futures id))))
       (cancel_with member s p).seen (cancel_with member s p).parts))
     where
-      assoc : (b : Bool) (r : Request) → ask_joined id (joined any (record r { answer = b || r.answer })) ≡ ask_joined id (joined (any || b) r)
+      assoc : (b : Bool) (r : CancelRequest) → ask_joined id (joined any (record r { answer = b || r.answer })) ≡ ask_joined id (joined (any || b) r)
       assoc b r = ap (λ c. ask_joined id (record r { answer = c })) (or_assoc any b r.answer)
 
 -- ---- the steps of the code
@@ -116,7 +116,7 @@ pub if_ok : {A E : Type 0} (r : Result A E) (P Q : A → Type 0) → IfOk r P �
 if_ok (Ok x) P Q p f = f x p
 if_ok (Err cause) P Q p f = tt
 
-pub visit_waits : (frames after : List Frame) (i t w : ℕ) (s s' : List ℕ) (p p' : Parts) (waiter : Option ℕ)
+pub visit_waits : (frames after : List WalkFrame) (i t w : ℕ) (s s' : List ℕ) (p p' : Parts) (waiter : Option ℕ)
     → after ≡ frames ++ Waits i t ∷ [] → s' ≡ s ++ t ∷ [] → p' ≡ raise_count t p → has_seen s t ≡ false
     → Some waiter ≡ option_map (λ (task : Task). task.waiter) (slice_get p.tasks t) → waiter ≡ Some w
     → run (Visit w) after s' p' ≡ run_task t frames s p
@@ -132,7 +132,7 @@ visit_waits frames after i t w s s' p p' waiter a e f n h is =
     at None h = absurd (cc)
     at (Some task) h = let there : task.waiter ≡ Some w = cc in until task there
 
-pub next_ends : (frames : List Frame) (id place : ℕ) (any : Bool) (s : List ℕ) (p q : Parts) → None ≡ slice_get (members_at (slice_get p.futures id)) place
+pub next_ends : (frames : List WalkFrame) (id place : ℕ) (any : Bool) (s : List ℕ) (p q : Parts) → None ≡ slice_get (members_at (slice_get p.futures id)) place
     → q ≡ (asked_where any id (answers any s p)).parts → run (Answer any) frames s q ≡ run (Next id place any) frames s p
 next_ends frames id place any s p q e a = ap (resume frames) (at any refl)
   where
@@ -140,7 +140,7 @@ next_ends frames id place any s p q e a = ap (resume frames) (at any refl)
     at true t = rw (next_none id place any s p (sym e), a, t) refl
     at false t = rw (next_none id place any s p (sym e), a, t) refl
 
-pub back_waits : (i task : ℕ) (answer : Bool) (frames : List Frame) (s : List ℕ) (p q : Parts) → q ≡ (marked_unless answer task (answers answer s p)).parts
+pub back_waits : (i task : ℕ) (answer : Bool) (frames : List WalkFrame) (s : List ℕ) (p q : Parts) → q ≡ (marked_unless answer task (answers answer s p)).parts
     → run (Answer true) frames s q ≡ run (Answer answer) (frames ++ Waits i task ∷ []) s p
 back_waits i task answer frames s p q e = ap (resume frames) (at answer e) ∙ sym (resume-push frames (Waits i task) (answers answer s p))
   where
@@ -148,7 +148,7 @@ back_waits i task answer frames s p q e = ap (resume frames) (at answer e) ∙ s
     at true e = rw e refl
     at false e = rw e refl
 
-pub next_ends_where : (frames : List Frame) (id place : ℕ) (any : Bool) (s : List ℕ) (p q : Parts)
+pub next_ends_where : (frames : List WalkFrame) (id place : ℕ) (any : Bool) (s : List ℕ) (p q : Parts)
     → None ≡ slice_get (members_at (slice_get p.futures id)) place
     → q ≡ (if any then mark_asked id p else p) → run (Answer any) frames s q ≡ run (Next id place any) frames s p
 next_ends_where frames id place true s p q e a = next_ends frames id place true s p q e a

@@ -10,8 +10,8 @@ use Rattle.model_loop.specs.Cancel.{has_seen}
 use Rattle.law_cancel.proofs.Seen.{left, left-push, left_falls}
 use Rattle.law_cancel.proofs.Effects.{soon_all-futures, settle-tasks, mark_asked-tasks, change_task-futures, length-change_task, done_as, asked_as}
 use Rattle.law_parts.specs.Shape.{members_of, members_at}
-use Rattle.law_parts.specs.declared.walk.Frame.{Frame}
-use Rattle.law_parts.specs.declared.walk.Frame.TheVariants.{Waits, Members}
+use Rattle.law_parts.specs.declared.walk.WalkFrame.{WalkFrame}
+use Rattle.law_parts.specs.declared.walk.WalkFrame.TheVariants.{Waits, Members}
 use Rattle.law_parts.specs.declared.walk.Go.{Go}
 use Rattle.law_parts.specs.declared.walk.Go.TheVariants.{Visit, Next, Answer}
 use Rattle.law_parts.specs.Weight.{shape, width, unit, places_left, next_weight, frame_weight, frames_weight, weight}
@@ -86,15 +86,15 @@ module _ (sh : List (List ℕ)) where
       (places_left sh id place) (omega arith) in
       omega arith
 
-  frame_mono : (k l : ℕ) (frame : Frame) → k ≤ l → frame_weight sh k frame ≤ frame_weight sh l frame
+  frame_mono : (k l : ℕ) (frame : WalkFrame) → k ≤ l → frame_weight sh k frame ≤ frame_weight sh l frame
   frame_mono k l (Waits id task) a = omega arith
   frame_mono k l (Members id place any) a = let h = next_mono k l id place a in omega arith
 
-  pub frames_mono : (k l : ℕ) (frames : List Frame) → k ≤ l → frames_weight sh k frames ≤ frames_weight sh l frames
+  pub frames_mono : (k l : ℕ) (frames : List WalkFrame) → k ≤ l → frames_weight sh k frames ≤ frames_weight sh l frames
   frames_mono k l [] a = omega arith
   frames_mono k l (frame ∷ frames) a = let h = frame_mono k l frame a in let i = frames_mono k l frames a in omega arith
 
-  pub frames-push : (l : ℕ) (frames : List Frame) (frame : Frame)
+  pub frames-push : (l : ℕ) (frames : List WalkFrame) (frame : WalkFrame)
       → frames_weight sh l (frames ++ frame ∷ []) ≡ frames_weight sh l frames + frame_weight sh l frame
   frames-push l [] frame = omega arith
   frames-push l (f ∷ frames) frame = let h = frames-push l frames frame in omega arith
@@ -139,23 +139,24 @@ module _ (sh : List (List ℕ)) (l : ℕ) where
       rw e (omega arith)
 
 -- ---- the steps of the code
-stays : (go : Go) (frames : List Frame) (s : List ℕ) (p q : Parts) → shape q.futures ≡ shape p.futures → length q.tasks ≡ length p.tasks
+stays : (go : Go) (frames : List WalkFrame) (s : List ℕ) (p q : Parts) → shape q.futures ≡ shape p.futures → length q.tasks ≡ length p.tasks
     → weight go frames s q ≡ weight go frames s p
 unfolding weight
 stays go frames s p q e f = rw (e, f) refl
 
-pub weigh_answer : (id : ℕ) (answer : Bool) (frames : List Frame) (s : List ℕ) (p : Parts) → weight (Answer answer) frames s p < weight (Visit id) frames s p
+pub weigh_answer : (id : ℕ) (answer : Bool) (frames : List WalkFrame) (s : List ℕ) (p : Parts)
+    → weight (Answer answer) frames s p < weight (Visit id) frames s p
 unfolding weight
 weigh_answer id answer frames s p = (let h = visit_more (shape p.futures) (left (length p.tasks) s) id in omega arith)
 
-pub weigh_settle : (id : ℕ) (answer : Bool) (frames : List Frame) (s : List ℕ) (p q : Parts) (outcome : Outcome) → q ≡ settle id outcome p
+pub weigh_settle : (id : ℕ) (answer : Bool) (frames : List WalkFrame) (s : List ℕ) (p q : Parts) (outcome : Outcome) → q ≡ settle id outcome p
     → weight (Answer answer) frames s q < weight (Visit id) frames s p
 weigh_settle id answer frames s p q outcome e =
     rw (stays (Answer answer) frames s p q (ap (λ (r : Parts). shape r.futures) e
     ∙ settle-shape id outcome p) (ap (λ (r : Parts). length r.tasks) e ∙ ap length (settle-tasks id outcome p)))
     (weigh_answer id answer frames s p)
 
-pub weigh_many : (id : ℕ) (any : Bool) (frames : List Frame) (s : List ℕ) (p : Parts) → weight (Next id 0 any) frames s p < weight (Visit id) frames s p
+pub weigh_many : (id : ℕ) (any : Bool) (frames : List WalkFrame) (s : List ℕ) (p : Parts) → weight (Next id 0 any) frames s p < weight (Visit id) frames s p
 unfolding weight
 weigh_many id any frames s p = (let h = visit_many (shape p.futures) (left (length p.tasks) s) id in omega arith)
 
@@ -165,7 +166,7 @@ raised-shape t p = ap shape (change_task-futures t _ p)
 raised-tasks : (t : ℕ) (p : Parts) → length (raise_count t p).tasks ≡ length p.tasks
 raised-tasks t p = length-change_task t _ p
 
-pub weigh_marked : (t id : ℕ) (answer : Bool) (frames : List Frame) (s s' : List ℕ) (p q r : Parts) → s' ≡ s ++ t ∷ [] → q ≡ raise_count t p
+pub weigh_marked : (t id : ℕ) (answer : Bool) (frames : List WalkFrame) (s s' : List ℕ) (p q r : Parts) → s' ≡ s ++ t ∷ [] → q ≡ raise_count t p
     → r ≡ mark t q → weight (Answer answer) frames s' r < weight (Visit id) frames s p
 unfolding weight
 weigh_marked t id answer frames s s' p q r e f g =
@@ -185,7 +186,7 @@ within [] k x e = absurd (cc)
 within (y ∷ ys) zero x e = omega arith
 within (y ∷ ys) (suc k) x e = let h = within ys k x e in omega arith
 
-pub weigh_waits : (i t w id : ℕ) (frames after : List Frame) (s s' : List ℕ) (p q : Parts) (waiter : Option ℕ)
+pub weigh_waits : (i t w id : ℕ) (frames after : List WalkFrame) (s s' : List ℕ) (p q : Parts) (waiter : Option ℕ)
     → after ≡ frames ++ Waits i t ∷ [] → s' ≡ s ++ t ∷ [] → q ≡ raise_count t p → has_seen s t ≡ false
     → Some waiter ≡ option_map (λ (task : Task). task.waiter) (slice_get p.tasks t) → weight (Visit w) after s' q < weight (Visit id) frames s p
 unfolding weight
@@ -209,7 +210,7 @@ weigh_waits i t w id frames after s s' p q waiter a e f n h =
     there (Some task) g h = within p.tasks t task g
 
 -- a search goes on to what a task waits for, and keeps no frame
-pub weigh_on : (t w id : ℕ) (frames : List Frame) (s s' : List ℕ) (p : Parts) (waiter : Option ℕ) → s' ≡ s ++ t ∷ [] → has_seen s t ≡ false
+pub weigh_on : (t w id : ℕ) (frames : List WalkFrame) (s s' : List ℕ) (p : Parts) (waiter : Option ℕ) → s' ≡ s ++ t ∷ [] → has_seen s t ≡ false
     → Some waiter ≡ option_map (λ (task : Task). task.waiter) (slice_get p.tasks t) → weight (Visit w) frames s' p < weight (Visit id) frames s p
 unfolding weight
 weigh_on t w id frames s s' p waiter e n h =
@@ -231,7 +232,7 @@ row [] id place m e = absurd (cc)
 row (f ∷ fs) zero place m e = (omega arith, within (members_of f.kind) place m (sym e))
 row (f ∷ fs) (suc id) place m e = let h = row fs id place m e in (let a = h.0 in omega arith, h.1)
 
-pub weigh_push : (id place m : ℕ) (any : Bool) (frames after : List Frame) (s : List ℕ) (p : Parts)
+pub weigh_push : (id place m : ℕ) (any : Bool) (frames after : List WalkFrame) (s : List ℕ) (p : Parts)
     → Some m ≡ slice_get (members_at (slice_get p.futures id)) place → m < id
     → after ≡ frames ++ Members id (place + 1) any ∷ [] → weight (Visit m) after s p < weight (Next id place any) frames s p
 unfolding weight
@@ -242,7 +243,8 @@ weigh_push id place m any frames after s p e b a =
     let u = frames-push (shape p.futures) (left (length p.tasks) s) frames (Members id (place + 1) any) in
     omega arith))
 
-pub weigh_skip : (id place m : ℕ) (any : Bool) (frames : List Frame) (s : List ℕ) (p : Parts) → Some m ≡ slice_get (members_at (slice_get p.futures id)) place
+pub weigh_skip : (id place m : ℕ) (any : Bool) (frames : List WalkFrame) (s : List ℕ) (p : Parts)
+    → Some m ≡ slice_get (members_at (slice_get p.futures id)) place
     → weight (Next id (place + 1) any) frames s p < weight (Next id place any) frames s p
 unfolding weight
 weigh_skip id place m any frames s p e =
@@ -250,38 +252,38 @@ weigh_skip id place m any frames s p e =
     let h = next_skip (shape p.futures) (left (length p.tasks) s) id place r.1 in
     omega arith)
 
-pub weigh_end : (id place : ℕ) (any answer : Bool) (frames : List Frame) (s : List ℕ) (p : Parts)
+pub weigh_end : (id place : ℕ) (any answer : Bool) (frames : List WalkFrame) (s : List ℕ) (p : Parts)
     → weight (Answer answer) frames s p < weight (Next id place any) frames s p
 unfolding weight
 weigh_end id place any answer frames s p = omega arith
 
-pub weigh_ask : (id place : ℕ) (any answer : Bool) (frames : List Frame) (s : List ℕ) (p q : Parts) → q ≡ mark_asked id p
+pub weigh_ask : (id place : ℕ) (any answer : Bool) (frames : List WalkFrame) (s : List ℕ) (p q : Parts) → q ≡ mark_asked id p
     → weight (Answer answer) frames s q < weight (Next id place any) frames s p
 weigh_ask id place any answer frames s p q e =
     rw (stays (Answer answer) frames s p q (ap (λ (r : Parts). shape r.futures) e ∙ ask-shape id p) (ap (λ (r : Parts). length r.tasks) e
     ∙ ap length (mark_asked-tasks id p)))
     (weigh_end id place any answer frames s p)
 
-pub weigh_back : (i t : ℕ) (answer last : Bool) (frames : List Frame) (s : List ℕ) (p : Parts)
+pub weigh_back : (i t : ℕ) (answer last : Bool) (frames : List WalkFrame) (s : List ℕ) (p : Parts)
     → weight (Answer answer) frames s p < weight (Answer last) (frames ++ Waits i t ∷ []) s p
 unfolding weight
 weigh_back i t answer last frames s p =
     (let u = frames-push (shape p.futures) (left (length p.tasks) s) frames (Waits i t) in omega arith)
 
-pub weigh_back_marked : (i t : ℕ) (answer last : Bool) (frames : List Frame) (s : List ℕ) (p q : Parts) → q ≡ mark t p
+pub weigh_back_marked : (i t : ℕ) (answer last : Bool) (frames : List WalkFrame) (s : List ℕ) (p q : Parts) → q ≡ mark t p
     → weight (Answer answer) frames s q < weight (Answer last) (frames ++ Waits i t ∷ []) s p
 weigh_back_marked i t answer last frames s p q e =
     rw (stays (Answer answer) frames s p q (ap (λ (r : Parts). shape r.futures) e
     ∙ ap shape (change_task-futures t _ p)) (ap (λ (r : Parts). length r.tasks) e ∙ length-change_task t _ p))
     (weigh_back i t answer last frames s p)
 
-pub weigh_members : (id place : ℕ) (any more last : Bool) (frames : List Frame) (s : List ℕ) (p : Parts)
+pub weigh_members : (id place : ℕ) (any more last : Bool) (frames : List WalkFrame) (s : List ℕ) (p : Parts)
     → weight (Next id place more) frames s p < weight (Answer last) (frames ++ Members id place any ∷ []) s p
 unfolding weight
 weigh_members id place any more last frames s p =
     (let u = frames-push (shape p.futures) (left (length p.tasks) s) frames (Members id place any) in omega arith)
 
-pub weigh_ask_where : (id place : ℕ) (any answer : Bool) (frames : List Frame) (s : List ℕ) (p q : Parts)
+pub weigh_ask_where : (id place : ℕ) (any answer : Bool) (frames : List WalkFrame) (s : List ℕ) (p q : Parts)
     → q ≡ (if any then mark_asked id p else p) → weight (Answer answer) frames s q < weight (Next id place any) frames s p
 weigh_ask_where id place true answer frames s p q e = weigh_ask id place true answer frames s p q e
 weigh_ask_where id place false answer frames s p q e = rw e (weigh_end id place false answer frames s p)

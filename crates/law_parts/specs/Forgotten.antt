@@ -2,7 +2,7 @@
 use Rattle.std.specs.Prelude.{◌≡◌, ℕ, suc, Bool, true, cond, List, [], ◌∷◌, Some, None}
 use Rattle.model_value.specs.declared.outcome.Outcome.TheVariants.{Cancelled}
 use Rattle.model_loop.specs.Parts.{Plain, Future, Parts}
-use Rattle.model_loop.specs.Cancel.{Request}
+use Rattle.model_loop.specs.Cancel.{CancelRequest}
 use Rattle.law_parts.specs.Quiet.{stage_at}
 
 -- what stands for a future that was released
@@ -16,7 +16,7 @@ forget_from gone number (future ∷ futures) = cond (gone number) released futur
 abbrev pub forgotten : (ℕ → Bool) → Parts → Parts
 forgotten gone p = record p { futures = forget_from gone 0 p.futures }
 
-abbrev pub forgotten_of : (ℕ → Bool) → Request → Request
+abbrev pub forgotten_of : (ℕ → Bool) → CancelRequest → CancelRequest
 forgotten_of gone r = record r { parts = forgotten gone r.parts }
 
 -- those that were released are done

@@ -6,12 +6,12 @@ use Rattle.model_loop.specs.Circles.{Leads}
 use Rattle.model_loop.specs.Sound.{HasNoCircle}
 use Rattle.law_cancel.proofs.Trace.{Goes}
 use Rattle.law_parts.specs.Shape.{stands_at}
-use Rattle.law_parts.specs.declared.walk.Frame.{Frame}
-use Rattle.law_parts.specs.declared.walk.Frame.TheVariants.{Waits, Members}
+use Rattle.law_parts.specs.declared.walk.WalkFrame.{WalkFrame}
+use Rattle.law_parts.specs.declared.walk.WalkFrame.TheVariants.{Waits, Members}
 use Rattle.law_parts.specs.declared.walk.Go.{Go}
 use Rattle.law_parts.specs.declared.walk.Go.TheVariants.{Visit, Next, Answer}
-use Rattle.law_parts.specs.declared.walk.Stands.{Stands}
-use Rattle.law_parts.specs.declared.walk.Stands.TheVariants as stands
+use Rattle.law_parts.specs.declared.walk.FutureState.{FutureState}
+use Rattle.law_parts.specs.declared.walk.FutureState.TheVariants as stands
 
 abbrev pub is_inner_kind : FutureKind → Bool
 is_inner_kind Plain = false
@@ -36,44 +36,44 @@ abbrev pub room_of : Parts → ℕ
 room_of p = others (is_inner p) (length p.futures) []
 
 -- how a future stands that may pass to others; one that passes nowhere as a done one
-abbrev pub passing : Stands → Stands
+abbrev pub passing : FutureState → FutureState
 passing stands.Done = stands.Done
 passing stands.Plain = stands.Done
 passing (stands.OfTask task) = stands.OfTask task
 passing stands.Many = stands.Many
 
-abbrev pub passing_at : Parts → ℕ → Stands
+abbrev pub passing_at : Parts → ℕ → FutureState
 passing_at p id = passing (stands_at (slice_get p.futures id))
 
 -- each of these leads to a future
 abbrev pub AllLead : Parts → List ℕ → ℕ → Type 0
 AllLead p ids to = (id : ℕ) → has_seen ids id ≡ true → Leads p id to
 
-abbrev pub id_of : Frame → ℕ
+abbrev pub id_of : WalkFrame → ℕ
 id_of (Waits id task) = id
 id_of (Members id place any) = id
 
-abbrev pub frame_stands : Frame → Stands
+abbrev pub frame_stands : WalkFrame → FutureState
 frame_stands (Waits id task) = stands.OfTask task
 frame_stands (Members id place any) = stands.Many
 
 -- the frames from the top down: the future of each is pending, and those below lead to it
-abbrev pub OpenDown : Parts → List Frame → Type 0
+abbrev pub OpenDown : Parts → List WalkFrame → Type 0
 OpenDown p [] = Unit {0}
 OpenDown p (frame ∷ frames) =
     OpenDown p frames × AllLead p (map id_of frames) (id_of frame) × (passing_at p (id_of frame) ≡ frame_stands frame)
 
-abbrev pub Open : Parts → List Frame → Type 0
+abbrev pub Open : Parts → List WalkFrame → Type 0
 Open p frames = OpenDown p (reverse frames)
 
 -- what is open leads to what comes next
-abbrev pub LeadTo : Parts → List Frame → Go → Type 0
+abbrev pub LeadTo : Parts → List WalkFrame → Go → Type 0
 LeadTo p frames (Visit id) = AllLead p (map id_of (reverse frames)) id
 LeadTo p frames (Next id place any) = AllLead p (map id_of (reverse frames)) id × (passing_at p id ≡ stands.Many)
 LeadTo p frames (Answer answer) = Unit {0}
 
 -- a request that began at these parts, with a stack of so much room and marks for so many tasks
-pub record Walks (before : Parts) (room marks : ℕ) (go : Go) (frames : List Frame) (seen : List ℕ) (p : Parts) : Type 0 where
+pub record Walks (before : Parts) (room marks : ℕ) (go : Go) (frames : List WalkFrame) (seen : List ℕ) (p : Parts) : Type 0 where
   pub no_circle : HasNoCircle before
   pub row : Goes [] before seen p
   pub chain : Open before frames
@@ -81,5 +81,5 @@ pub record Walks (before : Parts) (room marks : ℕ) (go : Go) (frames : List Fr
   pub fits : room_of before ≤ room
   pub marked : length before.tasks ≤ marks
 
-abbrev pub CanWalk : (room marks : ℕ) → Go → List Frame → List ℕ → Parts → Type 0
+abbrev pub CanWalk : (room marks : ℕ) → Go → List WalkFrame → List ℕ → Parts → Type 0
 CanWalk room marks go frames seen p = (before : Parts) × Walks before room marks go frames seen p

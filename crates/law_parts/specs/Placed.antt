@@ -2,7 +2,7 @@
 -- and the time are left out.
 use Rattle.std.specs.Prelude.{ℕ, suc, List, [], ◌∷◌, length}
 use Rattle.model_loop.specs.Parts.{Handle, Parts}
-use Rattle.model_loop.specs.Cancel.{Request}
+use Rattle.model_loop.specs.Cancel.{CancelRequest}
 
 abbrev pub placed_from : ℕ → List Handle → List Handle
 placed_from place [] = []
@@ -19,5 +19,5 @@ placed p = record {
   tasks = p.tasks;
 }
 
-abbrev pub placed_of : Request → Request
+abbrev pub placed_of : CancelRequest → CancelRequest
 placed_of r = record r { parts = placed r.parts }

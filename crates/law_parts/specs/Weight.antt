@@ -3,8 +3,8 @@ use Rattle.std.specs.Prelude.{ℕ, ◌+◌, ◌-◌, ◌*◌, ◌^◌, List, [],
 use Rattle.model_loop.specs.Parts.{Future, Parts}
 use Rattle.law_cancel.proofs.Seen.{left}
 use Rattle.law_parts.specs.Shape.{members_of}
-use Rattle.law_parts.specs.declared.walk.Frame.{Frame}
-use Rattle.law_parts.specs.declared.walk.Frame.TheVariants.{Waits, Members}
+use Rattle.law_parts.specs.declared.walk.WalkFrame.{WalkFrame}
+use Rattle.law_parts.specs.declared.walk.WalkFrame.TheVariants.{Waits, Members}
 use Rattle.law_parts.specs.declared.walk.Go.{Go}
 use Rattle.law_parts.specs.declared.walk.Go.TheVariants.{Visit, Next, Answer}
 
@@ -31,14 +31,14 @@ go_weight sh tasks (Visit id) = (width sh + 2) * unit sh tasks id
 go_weight sh tasks (Next id place any) = next_weight sh tasks id place
 go_weight sh tasks (Answer answer) = 0
 
-abbrev pub frame_weight : List (List ℕ) → ℕ → Frame → ℕ
+abbrev pub frame_weight : List (List ℕ) → ℕ → WalkFrame → ℕ
 frame_weight sh tasks (Waits id task) = 1
 frame_weight sh tasks (Members id place any) = next_weight sh tasks id place + 1
 
-abbrev pub frames_weight : List (List ℕ) → ℕ → List Frame → ℕ
+abbrev pub frames_weight : List (List ℕ) → ℕ → List WalkFrame → ℕ
 frames_weight sh tasks [] = 0
 frames_weight sh tasks (frame ∷ frames) = frame_weight sh tasks frame + frames_weight sh tasks frames
 
-unfoldable pub weight : Go → List Frame → List ℕ → Parts → ℕ
+unfoldable pub weight : Go → List WalkFrame → List ℕ → Parts → ℕ
 weight go frames seen p =
     go_weight (shape p.futures) (left (length p.tasks) seen) go + frames_weight (shape p.futures) (left (length p.tasks) seen) frames

@@ -8,4 +8,4 @@ pub mod rooms;
 pub mod stacks;
 mod walk;
 
-pub use walk::{Frame, Go, Stands};
+pub use walk::{FutureState, Go, WalkFrame};

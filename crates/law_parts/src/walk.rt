@@ -2,7 +2,7 @@
 
 /// How a future stands.
 #[derive(Clone, Copy, Debug)]
-pub enum Stands {
+pub enum FutureState {
     Done,
     Plain,
     /// A task's own.
@@ -13,7 +13,7 @@ pub enum Stands {
 
 /// What waits for an answer.
 #[derive(Clone, Copy, Debug)]
-pub enum Frame {
+pub enum WalkFrame {
     /// A task, which is marked where the answer is false, and its own future.
     Waits { id: u64, task: u32 },
     /// A future that stands for several, whose members from a place on are left.

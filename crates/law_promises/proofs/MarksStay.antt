@@ -8,7 +8,7 @@ use Rattle.model_value.specs.declared.input.Input.TheVariants.{Send, Throw}
 use Rattle.model_value.specs.declared.outcome.Outcome.TheVariants.{Value as Returned, Cancelled}
 use Rattle.model_value.specs.Input.{Input}
 use Rattle.model_value.specs.Value.{Exc, Nothing}
-use Rattle.model_loop.specs.Cancel.{Request, asked_where, cancel, marked_unless}
+use Rattle.model_loop.specs.Cancel.{CancelRequest, asked_where, cancel, marked_unless}
 use Rattle.model_loop.specs.Cancelling.{Cancels, CancelsEach, CancelsWaiter, done as done_row, plain as plain_row, many as many_row, visited as visited_row, task as task_row, no_task as no_task_row, none as none_row, each as each_row, waits_not as waits_not_row, waits as waits_row}
 use Rattle.model_loop.specs.Ending.{cancel_everything}
 use Rattle.model_loop.specs.Futures.{mark_asked, next_future, settle}
@@ -49,16 +49,16 @@ pub spawn_keeps : (p : Parts) → KeepsMarks p (spawn p)
 spawn_keeps p task m = pushed p.tasks (record { future = next_future p; waiter = None; cancels = 0; must_cancel = false }) task m
 
 -- ---- requests
-asked_keeps : (answer : Bool) (id : ℕ) (r : Request) → KeepsMarks r.parts (asked_where answer id r).parts
+asked_keeps : (answer : Bool) (id : ℕ) (r : CancelRequest) → KeepsMarks r.parts (asked_where answer id r).parts
 asked_keeps false id r task m = m
 asked_keeps true id r task m = as_tasks r.parts (mark_asked id r.parts) (mark_asked-tasks id r.parts) task m
 
-marked_keeps : (answer : Bool) (id : ℕ) (r : Request) → KeepsMarks r.parts (marked_unless answer id r).parts
+marked_keeps : (answer : Bool) (id : ℕ) (r : CancelRequest) → KeepsMarks r.parts (marked_unless answer id r).parts
 marked_keeps true id r task m = m
 marked_keeps false id r task m = mark_more id r.parts task m
 
 mutual
-  row_keeps : {id : ℕ} {s : List ℕ} {p : Parts} {r : Request} → Cancels id s p r → KeepsMarks p r.parts
+  row_keeps : {id : ℕ} {s : List ℕ} {p : Parts} {r : CancelRequest} → Cancels id s p r → KeepsMarks p r.parts
   row_keeps (done_row d) task m = m
   row_keeps {id = id} {p = p} (plain_row is) task m = as_tasks p (settle id Cancelled p) (settle-tasks id Cancelled p) task m
   row_keeps {id = id} (many_row {request = r} is e) task m = asked_keeps r.answer id r task (each_keeps e task m)
@@ -67,11 +67,11 @@ mutual
       marked_keeps r.answer t r task (waiter_keeps w task (counted_keeps t _ p (λ x. refl) task m))
   row_keeps (no_task_row is n e) task m = m
 
-  each_keeps : {ids s : List ℕ} {p : Parts} {r : Request} → CancelsEach ids s p r → KeepsMarks p r.parts
+  each_keeps : {ids s : List ℕ} {p : Parts} {r : CancelRequest} → CancelsEach ids s p r → KeepsMarks p r.parts
   each_keeps none_row task m = m
   each_keeps (each_row c e) task m = each_keeps e task (row_keeps c task m)
 
-  waiter_keeps : {o : Option ℕ} {s : List ℕ} {p : Parts} {r : Request} → CancelsWaiter o s p r → KeepsMarks p r.parts
+  waiter_keeps : {o : Option ℕ} {s : List ℕ} {p : Parts} {r : CancelRequest} → CancelsWaiter o s p r → KeepsMarks p r.parts
   waiter_keeps waits_not_row task m = m
   waiter_keeps (waits_row c) task m = row_keeps c task m
 

@@ -4,7 +4,7 @@ use Rattle.model_loop.specs.Parts.{Future, FutureKind, Many, OfTask, Parts, Plai
 use Rattle.model_loop.specs.Tasks.{change_task, is_marked, mark, raise_count, waiter_of}
 use Rattle.law_cancel.proofs.Effects.{asked_as, change_task-futures, change_task-there, done_as, settle-futures, settle-tasks}
 use Rattle.law_promises.specs.Reached.{GoesOn, WasReached, asked_at, asked_in, was_asked}
-use Rattle.model_loop.specs.Cancel.{Request, answers, asked_where, cancel, has_seen, marked_unless}
+use Rattle.model_loop.specs.Cancel.{CancelRequest, answers, asked_where, cancel, has_seen, marked_unless}
 use Rattle.model_loop.specs.Futures.{asked_kind, future_outcome, mark_asked, outcome_at, settle, with_future}
 use Rattle.model_loop.specs.Owning.{OwnsFutures, own_future, owner_at, owner_in, owner_of}
 use Rattle.std.proofs.lemmas.Bool.{cases_eq, false≢true, or_left}
@@ -204,18 +204,18 @@ owns_stays s t p q k owns id task =
     (λ h. k.owned task ∙ (owns id task).0 (sym (k.owners id) ∙ h), λ h. k.owners id ∙ (owns id task).1 (sym (k.owned task) ∙ h))
 
 -- ---- a request
-record Told (s : List ℕ) (p : Parts) (r : Request) : Type 0 where
+record Told (s : List ℕ) (p : Parts) (r : CancelRequest) : Type 0 where
   persists : Persists s p r.seen r.parts
   visits : (task : ℕ) → has_seen r.seen task ≡ true → (has_seen s task ≡ true) ⊎ GoesOn r.parts r.seen task
 
-record Reaches (id : ℕ) (s : List ℕ) (p : Parts) (r : Request) : Type 0 where
+record Reaches (id : ℕ) (s : List ℕ) (p : Parts) (r : CancelRequest) : Type 0 where
   told : Told s p r
   answered : r.answer ≡ true → WasReached r.parts r.seen id
 
 owner_found : (p : Parts) (id task : ℕ) → IsPendingAs p id (OfTask task) → owner_of p id ≡ Some task
 owner_found p id task is = ap owner_at is.found ∙ ap owner_in is.kind_is
 
-asked_told : (s : List ℕ) (p : Parts) (id : ℕ) (answer : Bool) (r : Request) → Told s p r → Told s p (asked_where answer id r)
+asked_told : (s : List ℕ) (p : Parts) (id : ℕ) (answer : Bool) (r : CancelRequest) → Told s p r → Told s p (asked_where answer id r)
 asked_told s p id false r t = t
 asked_told s p id true r t =
     let k = ask_stays r.seen id r.parts in
@@ -229,7 +229,7 @@ asked_told s p id true r t =
     go task (inr x) = inr (goes_stays r.seen r.seen r.parts (mark_asked id r.parts) (ask_stays r.seen id r.parts) task x)
 
 -- the task that is visited is marked unless what it waits for answers true
-module _ (s : List ℕ) (p : Parts) (id task : ℕ) (it : Task) (is : IsPendingAs p id (OfTask task)) (there : slice_get p.tasks task ≡ Some it) (r : Request)
+module _ (s : List ℕ) (p : Parts) (id task : ℕ) (it : Task) (is : IsPendingAs p id (OfTask task)) (there : slice_get p.tasks task ≡ Some it) (r : CancelRequest)
     (t : Told (s ++ task ∷ []) (raise_count task p) r) where
   raised : Persists s p (s ++ task ∷ []) (raise_count task p)
   raised =
@@ -302,7 +302,7 @@ module _ (s : List ℕ) (p : Parts) (id task : ℕ) (it : Task) (is : IsPendingA
 nothing_told : (s : List ℕ) (p : Parts) → (b : Bool) → Told s p (answers b s p)
 nothing_told s p b = record { persists = stays s p; visits = λ task h. inl h }
 
-each_told : (s : List ℕ) (p : Parts) (first others : Request) → Told s p first → Told first.seen first.parts others
+each_told : (s : List ℕ) (p : Parts) (first others : CancelRequest) → Told s p first → Told first.seen first.parts others
     → Told s p (record others { answer = first.answer || others.answer })
 each_told s p first others a b = record {
   persists = persists_on s first.seen others.seen p first.parts others.parts b.persists a.persists;
@@ -320,7 +320,7 @@ each_told s p first others a b = record {
     go task (inl x) = back task (a.visits task x)
 
 many_reaches : (id : ℕ) (s : List ℕ) (p : Parts) (members : List ℕ) (asked : Bool) → IsPendingAs p id (Many members asked)
-    → (r : Request) → Told s p r → Reaches id s p (asked_where r.answer id r)
+    → (r : CancelRequest) → Told s p r → Reaches id s p (asked_where r.answer id r)
 many_reaches id s p members asked is r t = at r.answer refl
   where
     kept : kind_many_at (slice_get r.parts.futures id) ≡ true
@@ -331,7 +331,7 @@ many_reaches id s p members asked is r t = at r.answer refl
     at false e = record { told = t; answered = λ h. absurd (false≢true (sym e ∙ h)) }
 
 -- what the task waits for was reached
-goes_to : (task : ℕ) (it : Task) (s : List ℕ) (p : Parts) (r : Request) → slice_get p.tasks task ≡ Some it
+goes_to : (task : ℕ) (it : Task) (s : List ℕ) (p : Parts) (r : CancelRequest) → slice_get p.tasks task ≡ Some it
     → Told (s ++ task ∷ []) (raise_count task p) r → ((on : ℕ) × (it.waiter ≡ Some on) × WasReached r.parts r.seen on)
     → GoesOn r.parts r.seen task
 goes_to task it s p r e t w =
@@ -343,7 +343,7 @@ goes_to task it s p r e t w =
     )
 
 mutual
-  reaches : {id : ℕ} {s : List ℕ} {p : Parts} {r : Request} → OwnsFutures p → Cancels id s p r → Reaches id s p r
+  reaches : {id : ℕ} {s : List ℕ} {p : Parts} {r : CancelRequest} → OwnsFutures p → Cancels id s p r → Reaches id s p r
   reaches {s = s} {p = p} owns (done_row d) = record { told = nothing_told s p false; answered = λ e. absurd (false≢true e) }
   reaches {id = id} {s = s} {p = p} owns (plain_row is) = record {
     told = record { persists = settle_stays s id p is.future is.found is.pending; visits = λ task h. inl h };
@@ -362,13 +362,13 @@ mutual
   reaches {id = id} {s = s} {p = p} owns (no_task_row {task = t} is n e) =
       absurd (none-some id (sym (ap (option_map (λ (x : Task). x.future)) e) ∙ (owns id t).0 (owner_found p id t is)))
 
-  reaches_each : {ids s : List ℕ} {p : Parts} {r : Request} → OwnsFutures p → CancelsEach ids s p r → Told s p r
+  reaches_each : {ids s : List ℕ} {p : Parts} {r : CancelRequest} → OwnsFutures p → CancelsEach ids s p r → Told s p r
   reaches_each {s = s} {p = p} owns none_row = nothing_told s p false
   reaches_each {s = s} {p = p} owns (each_row {id = id} {ids = ids} {first = first} {others = others} c e) =
       let a = (reaches owns c).told in
       each_told s p first others a (reaches_each (owns_stays s first.seen p first.parts a.persists owns) e)
 
-  reaches_waiter : {o : Option ℕ} {s : List ℕ} {p : Parts} {r : Request} → OwnsFutures p → CancelsWaiter o s p r
+  reaches_waiter : {o : Option ℕ} {s : List ℕ} {p : Parts} {r : CancelRequest} → OwnsFutures p → CancelsWaiter o s p r
       → Told s p r × (r.answer ≡ true → (on : ℕ) × (o ≡ Some on) × WasReached r.parts r.seen on)
   reaches_waiter {s = s} {p = p} owns waits_not_row = (nothing_told s p false, λ e. absurd (false≢true e))
   reaches_waiter owns (waits_row {on = on} c) = let k = reaches owns c in (k.told, λ e. (on, refl, k.answered e))

@@ -8,7 +8,7 @@ use Rattle.model_text.specs.declared.reserved_word.ReservedWord.TheVariants as w
 use Rattle.model_text.specs.Words.{Lexeme, Reserved, Named, Sign, is_sign}
 use Rattle.model_text.specs.Cutting.{depth_behind, ends_operand, before_last}
 use Rattle.model_text.specs.Terms.{Term, Not, Negate, Variable}
-use Rattle.model_text.specs.Levels.{Reading, at_index, primary, indexed, negated, comparison_level, is_not, denied, called}
+use Rattle.model_text.specs.Levels.{Parser, at_index, primary, indexed, negated, comparison_level, is_not, denied, called}
 use Rattle.law_reading.specs.Operands.{Operand, Fits, capped, of_one}
 use Rattle.law_reading.specs.Pending.{Loose, Tight, no_loose, no_tight, with_minuses, with_nots}
 use Rattle.law_reading.specs.Reader.{Start, AtNot, AtOperand, BehindName, BehindOperand}
@@ -17,7 +17,7 @@ use Rattle.law_reading.proofs.Capping.{not-capped, negate-capped}
 use Rattle.law_reading.proofs.Levels.{keeping, index_level, product_level, sum_level, compared_level, and_level, or_level, tight_level, loose_level, primary_level}
 use Rattle.law_reading.proofs.Fresh.{fresh-index, fresh-tight, fresh-loose}
 use Rattle.law_reading.proofs.Moves.{Agree, loose-agree, operand-agree, primary-agree}
-use Rattle.law_reading.proofs.Passes.{Moves, Uncut, loose-moves, operand-moves, primary-moves}
+use Rattle.law_reading.proofs.Passes.{MovesPast, Uncut, loose-moves, operand-moves, primary-moves}
 use Rattle.law_reading.proofs.Meaning.{ends, expression}
 
 not-kept : (found : Option Term) → option_map capped (option_map Not found) ≡ option_map (of_one Not) (option_map capped found)
@@ -29,15 +29,15 @@ negate-kept None = refl
 negate-kept (Some t) = ap Some (negate-capped t)
 
 -- what agrees with a reading that goes on, goes on so
-pub agree-moves : (x : Lexeme) (f g h : Reading Operand) → Agree x f g → Moves x g h → Moves x f h
+pub agree-moves : (x : Lexeme) (f g h : Parser Operand) → Agree x f g → MovesPast x g h → MovesPast x f h
 agree-moves x f g h a m = record { at = λ rest. a.something rest ∙ m.at rest }
 
-module _ (inside : Reading Term) (loose : Loose) where
-  pub at-start : (x : Lexeme) (g : Reading Operand) → Moves x (expression inside (AtNot no_loose)) g → Moves x (expression inside Start) g
-  at-start x g m = subst (λ f. Moves x f g) (sym (fresh-loose inside)) m
+module _ (inside : Parser Term) (loose : Loose) where
+  pub at-start : (x : Lexeme) (g : Parser Operand) → MovesPast x (expression inside (AtNot no_loose)) g → MovesPast x (expression inside Start) g
+  at-start x g m = subst (λ f. MovesPast x f g) (sym (fresh-loose inside)) m
 
   -- ---- `not`
-  pub at-not : Moves (Reserved word.Not) (expression inside (AtNot loose)) (expression inside (AtNot (record loose { nots = suc loose.nots })))
+  pub at-not : MovesPast (Reserved word.Not) (expression inside (AtNot loose)) (expression inside (AtNot (record loose { nots = suc loose.nots })))
   at-not = record {
     at = λ rest. (loose-moves 0 false (Reserved word.Not) inside loose (keeping (denied inside)) (λ q. option_map (of_one Not) (keeping (denied inside) q)) refl refl (record { at = λ q. not-kept (denied inside q) })).at rest ∙ ap (λ h. or_level inside loose.or_left 0 false (and_level inside loose.and_left 0 false h) rest) (fun_ext λ q. map-map (of_one Not) (with_nots loose.nots) (keeping (denied inside) q));
   }
@@ -49,13 +49,13 @@ module _ (inside : Reading Term) (loose : Loose) where
     something = λ rest. ap (λ test. option_map capped (if test then option_map Not (denied inside rest) else comparison_level inside (x ∷ rest))) e ∙ ap (λ f. f (x ∷ rest)) (fresh-tight inside);
   }
 
-  pub at-not-other : (x : Lexeme) (g : Reading Operand) → is_not inside x ≡ false → Moves x (expression inside (AtOperand loose no_tight)) g → Moves x (expression inside (AtNot loose)) g
+  pub at-not-other : (x : Lexeme) (g : Parser Operand) → is_not inside x ≡ false → MovesPast x (expression inside (AtOperand loose no_tight)) g → MovesPast x (expression inside (AtNot loose)) g
   at-not-other x g e m =
       agree-moves x _ _ g (loose-agree x inside false loose _ _ (comparison-begins x e)) m
 
-module _ (inside : Reading Term) (loose : Loose) (tight : Tight) where
+module _ (inside : Parser Term) (loose : Loose) (tight : Tight) where
   -- ---- unary `-`
-  pub at-minus : Moves (Sign symbol.Minus) (expression inside (AtOperand loose tight)) (expression inside (AtOperand loose (record tight { minuses = suc tight.minuses })))
+  pub at-minus : MovesPast (Sign symbol.Minus) (expression inside (AtOperand loose tight)) (expression inside (AtOperand loose (record tight { minuses = suc tight.minuses })))
   at-minus = record {
     at = λ rest. (operand-moves 0 false (Sign symbol.Minus) inside (record { at_or = refl; at_and = refl; compares = refl; adds = refl; multiplies = refl }) loose tight (keeping (negated inside)) (λ q. option_map (of_one Negate) (keeping (negated inside) q)) (record { at = λ q. negate-kept (negated inside q) })).at rest ∙ ap (λ h. loose_level inside loose 0 false (compared_level inside tight.compare_left 0 false (sum_level inside tight.sum_left 0 false (product_level inside tight.product_left 0 false h))) rest) (fun_ext λ q. map-map (of_one Negate) (with_minuses tight.minuses) (keeping (negated inside) q));
   }
@@ -70,12 +70,12 @@ module _ (inside : Reading Term) (loose : Loose) (tight : Tight) where
   begins : (x : Lexeme) → is_sign symbol.Minus x ≡ false → Agree x (expression inside (AtOperand loose tight)) (primary_level inside loose tight 0 false (keeping (primary inside)))
   begins x e = operand-agree x inside false loose tight _ _ (primary-begins x e)
 
-  pub at-primary : (x : Lexeme) (g : Reading Operand) → is_sign symbol.Minus x ≡ false → Uncut 0 false x → at_index false x ≡ None → Moves x (keeping (primary inside)) g → Moves x (expression inside (AtOperand loose tight)) (primary_level inside loose tight (depth_behind 0 x) (ends_operand x) g)
+  pub at-primary : (x : Lexeme) (g : Parser Operand) → is_sign symbol.Minus x ≡ false → Uncut 0 false x → at_index false x ≡ None → MovesPast x (keeping (primary inside)) g → MovesPast x (expression inside (AtOperand loose tight)) (primary_level inside loose tight (depth_behind 0 x) (ends_operand x) g)
   at-primary x g e uncut e' m =
       agree-moves x _ _ _ (begins x e) (primary-moves 0 false x inside uncut loose tight (keeping (primary inside)) g e' m)
 
   -- what begins no primary
-  pub at-none : (x : Lexeme) → is_sign symbol.Minus x ≡ false → Moves x (keeping (primary inside)) (λ rest. None) → Moves x (expression inside (AtOperand loose tight)) (λ rest. None)
+  pub at-none : (x : Lexeme) → is_sign symbol.Minus x ≡ false → MovesPast x (keeping (primary inside)) (λ rest. None) → MovesPast x (expression inside (AtOperand loose tight)) (λ rest. None)
   at-none x e m = record {
     at = λ rest. (begins x e).something rest ∙ (primary-agree x inside false loose tight (keeping (primary inside)) (λ q. None) (record { nothing = refl; something = m.at })).something rest;
   }
@@ -87,6 +87,6 @@ module _ (inside : Reading Term) (loose : Loose) (tight : Tight) where
     something = λ rest. ap (λ test. option_map capped (if test then option_and_then (called inside name) (before_last symbol.RightParenthesis rest) else None)) e;
   }
 
-  pub behind-name : (name : Name) (x : Lexeme) (g : Reading Operand) → is_sign symbol.LeftParenthesis x ≡ false → Moves x (expression inside (BehindOperand loose tight (Fits (Variable name)))) g → Moves x (expression inside (BehindName loose tight name)) g
+  pub behind-name : (name : Name) (x : Lexeme) (g : Parser Operand) → is_sign symbol.LeftParenthesis x ≡ false → MovesPast x (expression inside (BehindOperand loose tight (Fits (Variable name)))) g → MovesPast x (expression inside (BehindName loose tight name)) g
   behind-name name x g e m =
       agree-moves x _ _ g (primary-agree x inside true loose tight _ _ (name-ends name x e)) m

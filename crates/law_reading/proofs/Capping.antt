@@ -55,26 +55,26 @@ pub compare-capped : (c : Comparison) (l r : Term) → capped (Compare c l r) �
 compare-capped c l r = two-capped (Compare c) l r (omega arith) (omega arith)
 
 -- ---- rows
-pub record Row (all : List Term) (found : Option (List Term)) : Type 0 where
+pub record CappedRow (all : List Term) (found : Option (List Term)) : Type 0 where
   pub is : ((height_of_all (terms all) ≤ most_height) × (found ≡ Some all)) ⊎ ((most_height < height_of_all (terms all)) × (found ≡ None))
 
 abbrev then_fits : Operand → Option (List Term) → Option (List Term)
 then_fits operand found = option_and_then (λ y. option_map (λ ys. y ∷ ys) found) (that_fits operand)
 
-row-low : (t : Term) (ts : List Term) (found : Option (List Term)) → height t ≤ most_height → Row ts found → Row (t ∷ ts) (then_fits (Fits t) found)
+row-low : (t : Term) (ts : List Term) (found : Option (List Term)) → height t ≤ most_height → CappedRow ts found → CappedRow (t ∷ ts) (then_fits (Fits t) found)
 row-low t ts found h row =
     elim row.is [ inl low ↦ record { is = inl (omega (arith, low.0), ap (then_fits (Fits t)) low.1) } | inr high ↦ record { is = inr (omega (arith, high.0), ap (then_fits (Fits t)) high.1) } ]
 
-row-at : (t : Term) (ts : List Term) (found : Option (List Term)) → (most_height < height t) ⊎ (height t ≤ most_height) → Row ts found → Row (t ∷ ts) (then_fits (capped t) found)
+row-at : (t : Term) (ts : List Term) (found : Option (List Term)) → (most_height < height t) ⊎ (height t ≤ most_height) → CappedRow ts found → CappedRow (t ∷ ts) (then_fits (capped t) found)
 row-at t ts found (inl high) row =
     record { is = inr (omega arith, ap (λ operand. then_fits operand found) (capped-high t high)) }
 row-at t ts found (inr low) row = rw (capped-low t low) (row-low t ts found low row)
 
-pub row : (all : List Term) → Row all (all_of that_fits (map capped all))
+pub row : (all : List Term) → CappedRow all (all_of that_fits (map capped all))
 row [] = record { is = inl (omega arith, refl) }
 row (t ∷ ts) = row-at t ts (all_of that_fits (map capped ts)) (cases_lt most_height (height t)) (row ts)
 
-all-at : (build : List Term → Term) (all : List Term) (found : Option (List Term)) → height_of_all (terms all) ≤ height (build all) → Row all found → capped (build all) ≡ of_fitting build found
+all-at : (build : List Term → Term) (all : List Term) (found : Option (List Term)) → height_of_all (terms all) ≤ height (build all) → CappedRow all found → capped (build all) ≡ of_fitting build found
 all-at build all found h row =
     elim row.is [ inl low ↦ sym (ap (of_fitting build) low.1) | inr high ↦ capped-high (build all) (omega (arith, high.0)) ∙ sym (ap (of_fitting build) high.1) ]
 

@@ -6,7 +6,7 @@ use Rattle.model_tree.specs.declared.operator.Comparison.{Comparison}
 use Rattle.model_text.specs.Words.{Lexeme}
 use Rattle.model_text.specs.Cutting.{Pieces, pieces}
 use Rattle.model_text.specs.Terms.{Term, Or, And, Compare, Calculate, Index}
-use Rattle.model_text.specs.Levels.{Reading, joined, compared, at_word, at_comparison, at_sum, at_product, at_index, item_index, primary, indexed, negated, product, sum_of, comparison_level, denied, conjunction, disjunction}
+use Rattle.model_text.specs.Levels.{Parser, joined, compared, at_word, at_comparison, at_sum, at_product, at_index, item_index, primary, indexed, negated, product, sum_of, comparison_level, denied, conjunction, disjunction}
 use Rattle.model_text.specs.declared.reserved_word.ReservedWord.TheVariants as word
 use Rattle.law_reading.specs.Operands.{Operand, capped, of_two}
 use Rattle.law_reading.specs.Pending.{no_loose, no_tight}
@@ -15,7 +15,7 @@ use Rattle.law_reading.proofs.Capping.{or-capped, and-capped, index-capped, calc
 use Rattle.law_reading.proofs.Levels.{keeping, joined_operands, joined_pieces, compared_others, index_level, product_level, sum_level, compared_level, and_level, or_level, tight_level, loose_level}
 
 -- ---- levels whose operators group from the left
-module _ {A : Type 0} (build : A → Term → Term → Term) (kept : A → Operand → Operand → Operand) (same : (a : A) (l r : Term) → capped (build a l r) ≡ kept a (capped l) (capped r)) (operand : Reading Term) where
+module _ {A : Type 0} (build : A → Term → Term → Term) (kept : A → Operand → Operand → Operand) (same : (a : A) (l r : Term) → capped (build a l r) ≡ kept a (capped l) (capped r)) (operand : Parser Term) where
   joined-kept : (left : Term) (others : List (A × List Lexeme)) → option_map capped (joined build operand left others) ≡ joined_operands kept (keeping operand) (capped left) others
   joined-kept left [] = refl
   joined-kept left (other ∷ others) = next (operand other.1) (λ right. joined-kept (build other.0 left right) others)
@@ -29,7 +29,7 @@ module _ {A : Type 0} (build : A → Term → Term → Term) (kept : A → Opera
   pieces-at None others = refl
   pieces-at (Some left) others = joined-kept left others
 
-  pieces-kept : (first : Reading Term) (cut : Pieces A) → option_map capped (option_and_then (λ left. joined build operand left cut.others) (first cut.first)) ≡ joined_pieces kept (keeping operand) (λ left. left) (keeping first) cut
+  pieces-kept : (first : Parser Term) (cut : Pieces A) → option_map capped (option_and_then (λ left. joined build operand left cut.others) (first cut.first)) ≡ joined_pieces kept (keeping operand) (λ left. left) (keeping first) cut
   pieces-kept first cut = pieces-at (first cut.first) cut.others
 
 -- ---- comparisons
@@ -37,7 +37,7 @@ other-kept : (comparison : Comparison) (left : Term) (found : Option Term) → o
 other-kept comparison left None = refl
 other-kept comparison left (Some right) = ap Some (compare-capped comparison left right)
 
-module _ (inside : Reading Term) where
+module _ (inside : Parser Term) where
   compared-kept : (others : List (Comparison × List Lexeme)) (left : Term) → option_map capped (compared inside others left) ≡ compared_others (keeping (sum_of inside)) None others (capped left)
   compared-kept [] left = refl
   compared-kept (other ∷ []) left = other-kept other.0 left (sum_of inside other.1)
@@ -65,7 +65,7 @@ module _ (inside : Reading Term) where
   pub fresh-or : keeping (disjunction inside) ≡ or_level inside None 0 false (keeping (conjunction inside))
   fresh-or = fun_ext λ lexemes. pieces-kept (λ reserved. Or) (λ reserved. of_two Or) (λ reserved. or-capped) (conjunction inside) (conjunction inside) (pieces (at_word word.Or) lexemes)
 
-  pub unchanged : (first : Reading Operand) → first ≡ (λ lexemes. option_map (λ operand. operand) (first lexemes))
+  pub unchanged : (first : Parser Operand) → first ≡ (λ lexemes. option_map (λ operand. operand) (first lexemes))
   unchanged first = fun_ext λ lexemes. sym (map-same (first lexemes))
 
   pub fresh-minus : keeping (product inside) ≡ product_level inside None 0 false (λ rest. option_map (λ operand. operand) (keeping (negated inside) rest))

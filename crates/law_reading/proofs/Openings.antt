@@ -9,7 +9,7 @@ use Rattle.model_text.specs.declared.symbol.Symbol.TheVariants as symbol
 use Rattle.model_text.specs.Words.{Lexeme, Named, Sign}
 use Rattle.model_text.specs.Cutting.{Pieces, pieces_from, parts, before_last}
 use Rattle.model_text.specs.Terms.{Term, Index, ListOf, terms}
-use Rattle.model_text.specs.Levels.{Reading, all_of, arguments_of, at_index, item_index, primary, called, disjunction}
+use Rattle.model_text.specs.Levels.{Parser, all_of, arguments_of, at_index, item_index, primary, called, disjunction}
 use Rattle.law_reading.specs.Operands.{Operand, capped, of_two, list_of, call, call_of}
 use Rattle.law_reading.specs.Pending.{Loose, Tight}
 use Rattle.law_reading.specs.Reader.{Group, Item, Items, Arguments, Start, AtOperand, BehindName, BehindOperand, AtKind}
@@ -17,17 +17,17 @@ use Rattle.law_reading.specs.Feeding.{first_argument}
 use Rattle.law_reading.proofs.Options.{map-map, map-and_then, and_then-map, and_then-ap}
 use Rattle.law_reading.proofs.Capping.{list-capped, call-capped}
 use Rattle.law_reading.proofs.Levels.{keeping, joined_operands, index_level}
-use Rattle.law_reading.proofs.Passes.{Moves, operand-moves, primary-moves}
+use Rattle.law_reading.proofs.Passes.{MovesPast, operand-moves, primary-moves}
 use Rattle.law_reading.proofs.Meaning.{ends, expression, contents_at, slots_term, closed, around}
 use Rattle.law_reading.proofs.Beginnings.{at-primary}
 use Rattle.law_reading.proofs.Rows.{parts-kept}
 
 -- a reading of what stands in a bracket that is closed by the last lexeme
-closed-kept : (s : AnySymbol) (reading : Reading Term) (content : Reading Operand) (lexemes : List Lexeme) → ((inner : List Lexeme) → keeping reading inner ≡ content inner) → option_map capped (option_and_then reading (before_last s lexemes)) ≡ option_and_then content (before_last s lexemes)
+closed-kept : (s : AnySymbol) (reading : Parser Term) (content : Parser Operand) (lexemes : List Lexeme) → ((inner : List Lexeme) → keeping reading inner ≡ content inner) → option_map capped (option_and_then reading (before_last s lexemes)) ≡ option_and_then content (before_last s lexemes)
 closed-kept s reading content lexemes e =
     map-and_then capped reading (before_last s lexemes) ∙ and_then-ap (keeping reading) content (before_last s lexemes) e
 
-module _ (within : Reading Term) where
+module _ (within : Parser Term) where
   -- ---- `(`
   group-content : (inner : List Lexeme) → keeping (disjunction within) inner ≡ contents_at within Group Start inner
   group-content [] = refl
@@ -66,7 +66,7 @@ module _ (within : Reading Term) where
   item-closed t lexemes =
       ap (option_map (of_two Index t)) (map-and_then capped (disjunction within) (before_last symbol.RightBracket lexemes)) ∙ (map-and_then (of_two Index t) (keeping (disjunction within)) (before_last symbol.RightBracket lexemes) ∙ and_then-ap _ (contents_at within (Item t) Start) (before_last symbol.RightBracket lexemes) (item-content t))
 
-  item-opens : (t : Operand) → Moves (Sign symbol.LeftBracket) (index_level (disjunction within) 0 true (ends (Some t))) (index_level (disjunction within) 1 false (closed (Item t) (contents_at within (Item t) Start)))
+  item-opens : (t : Operand) → MovesPast (Sign symbol.LeftBracket) (index_level (disjunction within) 0 true (ends (Some t))) (index_level (disjunction within) 1 false (closed (Item t) (contents_at within (Item t) Start)))
   item-opens t = record {
     at = λ rest.
         let cut : Pieces AnySymbol = pieces_from at_index 1 false rest in
@@ -75,19 +75,19 @@ module _ (within : Reading Term) where
   }
 
 -- ---- in an expression
-module _ (within : Reading Term) (loose : Loose) (tight : Tight) where
-  pub opens-group : Moves (Sign symbol.LeftParenthesis) (expression (disjunction within) (AtOperand loose tight)) (around (disjunction within) (record { bracket = Group; loose = loose; tight = tight }) 1 false (contents_at within Group Start))
+module _ (within : Parser Term) (loose : Loose) (tight : Tight) where
+  pub opens-group : MovesPast (Sign symbol.LeftParenthesis) (expression (disjunction within) (AtOperand loose tight)) (around (disjunction within) (record { bracket = Group; loose = loose; tight = tight }) 1 false (contents_at within Group Start))
   opens-group =
       at-primary (disjunction within) loose tight (Sign symbol.LeftParenthesis) (closed Group (contents_at within Group Start)) refl (record { at_or = refl; at_and = refl; compares = refl; adds = refl; multiplies = refl }) refl (record { at = group-opens within })
 
-  pub opens-list : Moves (Sign symbol.LeftBracket) (expression (disjunction within) (AtOperand loose tight)) (around (disjunction within) (record { bracket = Items []; loose = loose; tight = tight }) 1 false (contents_at within (Items []) Start))
+  pub opens-list : MovesPast (Sign symbol.LeftBracket) (expression (disjunction within) (AtOperand loose tight)) (around (disjunction within) (record { bracket = Items []; loose = loose; tight = tight }) 1 false (contents_at within (Items []) Start))
   opens-list =
       at-primary (disjunction within) loose tight (Sign symbol.LeftBracket) (closed (Items []) (contents_at within (Items []) Start)) refl (record { at_or = refl; at_and = refl; compares = refl; adds = refl; multiplies = refl }) refl (record { at = list-opens within })
 
-  pub opens-call : (name : Name) → Moves (Sign symbol.LeftParenthesis) (expression (disjunction within) (BehindName loose tight name)) (around (disjunction within) (record { bracket = Arguments name None []; loose = loose; tight = tight }) 1 false (contents_at within (Arguments name None []) (first_argument name)))
+  pub opens-call : (name : Name) → MovesPast (Sign symbol.LeftParenthesis) (expression (disjunction within) (BehindName loose tight name)) (around (disjunction within) (record { bracket = Arguments name None []; loose = loose; tight = tight }) 1 false (contents_at within (Arguments name None []) (first_argument name)))
   opens-call name =
       primary-moves 0 true (Sign symbol.LeftParenthesis) (disjunction within) (record { at_or = refl; at_and = refl; compares = refl; adds = refl; multiplies = refl }) loose tight (λ rest. keeping (primary (disjunction within)) (Named name ∷ rest)) (closed (Arguments name None []) (contents_at within (Arguments name None []) (first_argument name))) refl (record { at = call-opens within name })
 
-  pub opens-item : (t : Operand) → Moves (Sign symbol.LeftBracket) (expression (disjunction within) (BehindOperand loose tight t)) (around (disjunction within) (record { bracket = Item t; loose = loose; tight = tight }) 1 false (contents_at within (Item t) Start))
+  pub opens-item : (t : Operand) → MovesPast (Sign symbol.LeftBracket) (expression (disjunction within) (BehindOperand loose tight t)) (around (disjunction within) (record { bracket = Item t; loose = loose; tight = tight }) 1 false (contents_at within (Item t) Start))
   opens-item t =
       operand-moves 0 true (Sign symbol.LeftBracket) (disjunction within) (record { at_or = refl; at_and = refl; compares = refl; adds = refl; multiplies = refl }) loose tight _ _ (item-opens within t)

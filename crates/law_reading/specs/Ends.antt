@@ -8,23 +8,23 @@ use Rattle.model_text.specs.Words.{Lexeme, is_sign}
 use Rattle.model_text.specs.Terms.{Variable, Index}
 use Rattle.law_reading.specs.Operands.{Operand, Fits, of_two, list_of, call_of}
 use Rattle.law_reading.specs.Pending.{no_loose, disjunction_of}
-use Rattle.law_reading.specs.Reader.{Bracket, Group, Item, Items, Arguments, Open, Progress, Start, AtNot, BehindName, BehindOperand, AtKind, BehindKind, State, reading}
+use Rattle.law_reading.specs.Reader.{Bracket, Group, Item, Items, Arguments, Open, TermProgress, Start, AtNot, BehindName, BehindOperand, AtKind, BehindKind, ReaderState, reading}
 
 -- the expression that ends here
-abbrev pub ended : Progress → Option Operand
+abbrev pub ended : TermProgress → Option Operand
 ended (BehindName loose tight name) = Some (disjunction_of loose tight (Fits (Variable name)))
 ended (BehindOperand loose tight operand) = Some (disjunction_of loose tight operand)
 ended _ = None
 
 -- behind a comma: what was read in the bracket
-abbrev pub parted : Bracket → Progress → Option Bracket
+abbrev pub parted : Bracket → TermProgress → Option Bracket
 parted (Arguments name bare arguments) (BehindKind kind) = Some (Arguments name (Some kind) [])
 parted (Arguments name bare arguments) progress =
     option_map (λ argument. Arguments name bare (arguments ++ argument ∷ [])) (ended progress)
 parted (Items items) progress = option_map (λ item. Items (items ++ item ∷ [])) (ended progress)
 parted _ progress = None
 
-abbrev pub at_comma : Progress → List Open → State
+abbrev pub at_comma : TermProgress → List Open → ReaderState
 at_comma progress [] = None
 at_comma progress (open_bracket ∷ opened) =
     option_and_then (λ bracket. reading (AtNot no_loose) (record open_bracket { bracket = bracket } ∷ opened)) (parted open_bracket.bracket progress)
@@ -48,7 +48,7 @@ with_kind kind (Arguments name bare arguments) = Some (call_of name kind [])
 with_kind kind _ = None
 
 -- the operand that a bracket makes if it closes here
-abbrev pub whole : Bracket → Progress → Option Operand
+abbrev pub whole : Bracket → TermProgress → Option Operand
 whole bracket Start = empty bracket
 whole bracket AtKind = with_kind None bracket
 whole bracket (BehindKind kind) = with_kind (Some kind) bracket
@@ -61,7 +61,7 @@ closing (Items items) = symbol.RightBracket
 closing (Arguments name bare arguments) = symbol.RightParenthesis
 
 -- behind a closing bracket
-abbrev pub at_closing : Lexeme → Progress → List Open → State
+abbrev pub at_closing : Lexeme → TermProgress → List Open → ReaderState
 at_closing lexeme progress [] = None
 at_closing lexeme progress (open_bracket ∷ opened) =
     if is_sign (closing open_bracket.bracket) lexeme

@@ -23,32 +23,32 @@ pub record Open : Type 0 where
   pub tight : Tight
 
 -- how far the expression has come that is read in the innermost bracket
-pub data Progress : Type 0 where
+pub data TermProgress : Type 0 where
   -- nothing stands behind the bracket
-  Start : Progress
+  Start : TermProgress
   -- behind a comma, `or`, `and` or `not`: an operand or `not` may stand
-  AtNot : (loose : Loose) → Progress
+  AtNot : (loose : Loose) → TermProgress
   -- behind another operator: an operand may stand
-  AtOperand : (loose : Loose) (tight : Tight) → Progress
+  AtOperand : (loose : Loose) (tight : Tight) → TermProgress
   -- behind a name: it may be called
-  BehindName : (loose : Loose) (tight : Tight) (name : Name) → Progress
+  BehindName : (loose : Loose) (tight : Tight) (name : Name) → TermProgress
   -- behind any other operand
-  BehindOperand : (loose : Loose) (tight : Tight) (operand : Operand) → Progress
+  BehindOperand : (loose : Loose) (tight : Tight) (operand : Operand) → TermProgress
   -- behind `error(`: a bare name may stand
-  AtKind : Progress
-  BehindKind : (kind : Name) → Progress
+  AtKind : TermProgress
+  BehindKind : (kind : Name) → TermProgress
 
-pub record Reader : Type 0 where
-  pub progress : Progress
+pub record TermReader : Type 0 where
+  pub progress : TermProgress
   -- the open brackets, the innermost first
   pub opened : List Open
 
 -- None: whatever follows, it is no expression.
-abbrev pub State : Type 0
-State = Option Reader
+abbrev pub ReaderState : Type 0
+ReaderState = Option TermReader
 
-abbrev pub reading : Progress → List Open → State
+abbrev pub reading : TermProgress → List Open → ReaderState
 reading progress opened = Some (record { progress = progress; opened = opened })
 
-abbrev pub start : State
+abbrev pub start : ReaderState
 start = reading Start []

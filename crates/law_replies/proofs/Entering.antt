@@ -21,7 +21,7 @@ use Rattle.model_loop.specs.Timeouts.{enter_timeout, make_timeout, next_timeout}
 use Rattle.model_loop.specs.Totals.{pending_where}
 use Rattle.model_loop.specs.Ways.{is_running}
 use Rattle.model_machine.specs.Extra.{Extra}
-use Rattle.model_machine.specs.Replies.{Reply, creates, creates_unless, enters_group, enters_timeout, spawns}
+use Rattle.model_machine.specs.Replies.{RequestReply, creates, creates_unless, enters_group, enters_timeout, spawns}
 use Rattle.model_machine.specs.Sound.{AreScriptsFutures, IsUnbegun, StandsRightly, blocks_of, names_block, names_made, sends_made}
 use Rattle.model_machine.specs.State.{Standing, Asked, Leaving, Generator, State, generator, generator_of, in_loop, resumed, unbooked_in, with_coroutine}
 use Rattle.model_machine.specs.Step.{says_of}

@@ -18,7 +18,7 @@ use Rattle.model_loop.specs.Tasks.{lives, next_task}
 use Rattle.model_loop.specs.Timeouts.{exit_timeout, timeout_fault, timeout_of}
 use Rattle.model_loop.specs.Ways.{is_running}
 use Rattle.model_machine.specs.Extra.{Extra}
-use Rattle.model_machine.specs.Replies.{Reply, exits_as, exits_timeout, timed_out_if, waits}
+use Rattle.model_machine.specs.Replies.{RequestReply, exits_as, exits_timeout, timed_out_if, waits}
 use Rattle.model_machine.specs.Sound.{AreBlocksOf, IsBlockOf, IsStateSound, StandsRightly, blocks_of, is_open, names_made, names_block, sends_made}
 use Rattle.model_machine.specs.State.{Standing, Asked, Sleeping, Leaving, State, generator_of, resumed, stands, with_loop}
 use Rattle.model_machine.specs.Step.{says_of}

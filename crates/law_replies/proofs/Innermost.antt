@@ -13,18 +13,18 @@ use Rattle.model_machine.specs.Extra.{Extra}
 use Rattle.model_machine.specs.Sound.{blocks_of, exchanges_of, names_block}
 use Rattle.model_machine.specs.State.{State, generator_of}
 use Rattle.model_machine.specs.Step.{says_of}
-use Rattle.law_blocks.specs.Opened.{Block, OfTimeout, OfGroup, entered_as, opened, opened_with, opened_after}
+use Rattle.law_blocks.specs.Opened.{EnteredBlock, OfTimeout, OfGroup, entered_as, opened, opened_with, opened_after}
 use Rattle.law_blocks.proofs.Growing.{leaves_innermost, same_blocks}
 use Rattle.law_inside.proofs.Counts.{and_first, and_second, and_both}
 
 -- a block that was entered as a timeout is one, and so of groups
-abbrev named_rightly : Block → Bool
+abbrev named_rightly : EnteredBlock → Bool
 named_rightly (OfTimeout (Timeout id)) = true
 named_rightly (OfTimeout value) = false
 named_rightly (OfGroup (Group id)) = true
 named_rightly (OfGroup value) = false
 
-right_drop : (blocks : List Block) → list_all named_rightly blocks ≡ true → list_all named_rightly (drop 1 blocks) ≡ true
+right_drop : (blocks : List EnteredBlock) → list_all named_rightly blocks ≡ true → list_all named_rightly (drop 1 blocks) ≡ true
 right_drop [] h = refl
 right_drop (block ∷ blocks) h = and_second (named_rightly block) (list_all named_rightly blocks) h
 
@@ -36,7 +36,7 @@ entered_group : (value : Value) → names_block request.GroupEnter (Send value) 
 entered_group (Group id) h = refl
 entered_group _ h = absurd (false≢true h)
 
-right_step : (blocks : List Block) (asked : Request) (input : Input) → list_all named_rightly blocks ≡ true → names_block asked input ≡ true
+right_step : (blocks : List EnteredBlock) (asked : Request) (input : Input) → list_all named_rightly blocks ≡ true → names_block asked input ≡ true
     → list_all named_rightly (opened_with blocks asked input) ≡ true
 right_step blocks (request.TimeoutEnter delay) (Send value) h k = and_both (named_rightly (OfTimeout value)) _ (entered_timeout value delay k) h
 right_step blocks (request.TimeoutEnter delay) (Throw fault) h k = h
@@ -46,9 +46,9 @@ right_step blocks (request.TimeoutExit timeout fault) input h k = right_drop blo
 right_step blocks (request.GroupExit group fault) input h k = right_drop blocks h
 right_step blocks _ input h k = h
 
-right_from : (blocks : List Block) (exchanges : List Exchange) → list_all named_rightly blocks ≡ true
+right_from : (blocks : List EnteredBlock) (exchanges : List Exchange) → list_all named_rightly blocks ≡ true
     → list_all (λ (x : Exchange). names_block x.request x.answer) exchanges ≡ true
-    → list_all named_rightly (fold (λ (bs : List Block) (x : Exchange). opened_with bs x.request x.answer) blocks exchanges) ≡ true
+    → list_all named_rightly (fold (λ (bs : List EnteredBlock) (x : Exchange). opened_with bs x.request x.answer) blocks exchanges) ≡ true
 right_from blocks [] h k = h
 right_from blocks (x ∷ exchanges) h k =
     right_from (opened_with blocks x.request x.answer) exchanges
@@ -65,7 +65,7 @@ is_group _ h = absurd (false≢true h)
 
 module _ {S : Type 0} (added : Extra S) (task : ℕ) (s : State S)
     (entered : list_all (λ exchange. names_block exchange.request exchange.answer) (exchanges_of s task) ≡ true) where
-  abbrev blocks : List Block
+  abbrev blocks : List EnteredBlock
   blocks =
       opened step_limit s.program (generator_of task s).coroutine (generator_of task s).arguments (generator_of task s).tape
 

@@ -23,7 +23,7 @@ use Rattle.model_loop.specs.Tasks.{cancelling, finish, future_of, is_cancelled, 
 use Rattle.model_loop.specs.Timeouts.{has_expired, is_active, next_timeout, reschedule, reschedule_fault, timeout_of}
 use Rattle.model_machine.specs.Arguments.{as_awaited, as_delay, as_failure, as_future, as_group, as_int, as_list, as_task, as_timeout}
 use Rattle.model_machine.specs.Extra.{Extra}
-use Rattle.model_machine.specs.Replies.{Reply, awaits, counted, creates, ended, enters_group, enters_timeout, exits_as, exits_group, exits_timeout, given, is_cancelled_as, makes_future, numbered, requests, reschedules, reschedules_if, result_of, settles, shown_all, sleeps, spawns, undefined, reply}
+use Rattle.model_machine.specs.Replies.{RequestReply, awaits, counted, creates, ended, enters_group, enters_timeout, exits_as, exits_group, exits_timeout, given, is_cancelled_as, makes_future, numbered, requests, reschedules, reschedules_if, result_of, settles, shown_all, sleeps, spawns, undefined, reply}
 use Rattle.model_machine.specs.Sound.{IsStateSound, blocks_of, is_open, names_block, names_made}
 use Rattle.model_machine.specs.State.{Asked, Leaving, State, generator_of, in_loop, noted, resumed, unbooked_in, with_loop}
 use Rattle.model_machine.specs.Step.{says_of}

@@ -24,7 +24,7 @@ use Rattle.model_loop.specs.Suspend.{suspend}
 use Rattle.model_loop.specs.Tasks.{cancelling, next_task, pause, uncancel}
 use Rattle.model_machine.specs.Extra.{Extra}
 use Rattle.model_machine.specs.Outcomes.{input_of}
-use Rattle.model_machine.specs.Replies.{Reply, alarmed, awaits, awaits_as, counted, ended, given, makes_future, most_ids, not_set, numbered, numbered_if, pauses, replied, requests, result_of, settles, settles_if, sleeps, waits, invalid_state}
+use Rattle.model_machine.specs.Replies.{RequestReply, alarmed, awaits, awaits_as, counted, ended, given, makes_future, most_ids, not_set, numbered, numbered_if, pauses, replied, requests, result_of, settles, settles_if, sleeps, waits, invalid_state}
 use Rattle.model_machine.specs.Sound.{AreScriptsFutures, IsStateSound, NamesItsSleep, StandsRightly, names_block, names_made, sends_made, stands_at}
 use Rattle.model_machine.specs.State.{Standing, Asked, Sleeping, Leaving, State, generator_of, in_loop, resumed, stands, unbooked_in}
 use Rattle.law_cancel.proofs.Lookups.{get-push_last, get-push_other, get_within}
@@ -175,13 +175,13 @@ module _ {S : Type 0} (added : Extra S) (task : ℕ) (s : State S) (asked : Requ
         step_to added task Asked asked s is s (same_tapes s s.loop) is.others.futures refl refl self is.others.loop asked_leaves false (Throw fault)
         (λ b. throws b fault) (named fault) refl
 
-    pub given_in : {A : Type 0} (o : Option A) (next : A → State S → Reply S) → RepliesSound task (given o next s)
+    pub given_in : {A : Type 0} (o : Option A) (next : A → State S → RequestReply S) → RepliesSound task (given o next s)
         → ((a : A) → o ≡ Some a → RepliesSound task (next a s) → RepliesInStep added false task (next a s))
         → RepliesInStep added false task (given o next s)
     given_in None next h each = thrown bad_argument
     given_in (Some a) next h each = each a refl h
 
-    pub numbered_in : (made : ℕ) (next : State S → Reply S) → RepliesSound task (numbered made next s)
+    pub numbered_in : (made : ℕ) (next : State S → RequestReply S) → RepliesSound task (numbered made next s)
         → (RepliesSound task (next s) → RepliesInStep added false task (next s)) → RepliesInStep added false task (numbered made next s)
     numbered_in made next h each = at (nat_lt made most_ids) h
       where

@@ -26,7 +26,7 @@ use Rattle.model_loop.specs.Totals.{pending_where}
 use Rattle.model_loop.specs.Ways.{is_running, one_if, steps, wanted}
 use Rattle.model_machine.specs.Extra.{Extra}
 use Rattle.model_machine.specs.Outcomes.{input_of, woken_with}
-use Rattle.model_machine.specs.Replies.{Reply, decides, exits_as, replied}
+use Rattle.model_machine.specs.Replies.{RequestReply, decides, exits_as, replied}
 use Rattle.model_machine.specs.Sound.{IsStateSound, NamesItsSleep, ends_sleep_of, blocks_of, names_block, names_made, sends_made, stands_at}
 use Rattle.model_machine.specs.State.{Standing, Asked, Sleeping, Leaving, Serving, Generator, State, generator_of, noted, resumed, stands, unbooked_in, with_loop}
 use Rattle.model_machine.specs.Step.{given_up, says_of}

@@ -24,7 +24,7 @@ use Rattle.model_loop.specs.Totals.{pending_where}
 use Rattle.model_loop.specs.Ways.{is_running, steps}
 use Rattle.model_machine.specs.Extra.{Extra, called}
 use Rattle.model_machine.specs.Outcomes.{input_of, woken_with}
-use Rattle.model_machine.specs.Replies.{Reply, Answers, Raises, Rests, Halts, reply}
+use Rattle.model_machine.specs.Replies.{RequestReply, Answers, Raises, Rests, Halts, reply}
 use Rattle.model_machine.specs.Sound.{IsStateSound, blocks_of, is_main_done, is_open, names_made, sends_made}
 use Rattle.model_machine.specs.State.{State, generator_of, in_loop, noted, resumed, unbooked_in}
 use Rattle.model_machine.specs.Step.{most_answers, says_of, serve, serve_all, served, step, taken_as}
@@ -57,7 +57,7 @@ use Rattle.law_replies.proofs.Replying.{reply_in}
 -- ---- a task's step
 module _ {S : Type 0} (added : Extra S) (keeps : KeepsSound added) (task : ℕ) where
   after_in : (go_on : State S → Went S) → ((t : State S) → IsStepSound added task t → LeavesStateSound added (go_on t)) → (fresh : Bool)
-      (r : Reply S) → RepliesInStep added fresh task r → LeavesStateSound added (taken_as r fresh task go_on)
+      (r : RequestReply S) → RepliesInStep added fresh task r → LeavesStateSound added (taken_as r fresh task go_on)
   after_in go_on each fresh (Answers value now) h = each _ h
   after_in go_on each fresh (Raises fault now) h = each _ h
   after_in go_on each fresh (Rests now) h = h

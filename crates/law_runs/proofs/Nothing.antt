@@ -8,7 +8,7 @@ use Rattle.model_says.specs.Requests.{bad_argument}
 use Rattle.model_loop.specs.Tasks.{next_task}
 use Rattle.model_machine.specs.Arguments.{as_int, as_list}
 use Rattle.model_machine.specs.Extra.{Extra, no_extra, unknown_code}
-use Rattle.model_machine.specs.Replies.{Reply, given, reply, serves, woken}
+use Rattle.model_machine.specs.Replies.{RequestReply, given, reply, serves, woken}
 use Rattle.model_machine.specs.Sound.{IsStateSound, names_made}
 use Rattle.model_machine.specs.State.{Standing, Asked, Leaving, Serving, State, resumed}
 use Rattle.law_after.proofs.Loops.{refl_loop}

@@ -10,8 +10,8 @@ use Rattle.model_value.specs.Input.{Input}
 use Rattle.model_says.specs.Says.{step_limit}
 use Rattle.model_wire.specs.declared.event.Event.TheVariants as event
 use Rattle.model_wire.specs.declared.item.Item.TheVariants as item
-use Rattle.model_wire.specs.declared.item.Ready.{Ready}
-use Rattle.model_wire.specs.declared.item.Ready.TheVariants as ready
+use Rattle.model_wire.specs.declared.item.Readiness.{Readiness}
+use Rattle.model_wire.specs.declared.item.Readiness.TheVariants as ready
 use Rattle.model_wire.specs.Call.{Answer, Call, Item}
 use Rattle.model_wire.specs.Event.{Event}
 use Rattle.model_wire.specs.Fits.{fits}
@@ -68,7 +68,7 @@ module _ (n : ℕ) where
   one_more : (it : Action) (p : Parts) → is_main_done it ≡ false → IsAfter (names_made n) false None p (soon it p)
   one_more it p other = soon_after (names_made n) false None it p other
 
-  ready_after : (conn : ℕ) (letters : Ready) (p : Parts) → IsAfter (names_made n) false None p (soon_all (ready_actions conn letters) p)
+  ready_after : (conn : ℕ) (letters : Readiness) (p : Parts) → IsAfter (names_made n) false None p (soon_all (ready_actions conn letters) p)
   ready_after conn ready.Read p = one_more (action.Readable conn) p refl
   ready_after conn ready.Write p = one_more (action.Writable conn) p refl
   ready_after conn ready.Both p =

@@ -8,7 +8,7 @@ use Rattle.model_loop.specs.Parts.{FutureKind, Plain, OfTask, Many, Future, Task
 use Rattle.model_loop.specs.Futures.{made_before, settle, mark_asked}
 use Rattle.model_loop.specs.Tasks.{mark, raise_count, waiter_of}
 use Rattle.model_loop.specs.Spent.{is_spent}
-use Rattle.model_loop.specs.Cancel.{Request, Canceller, answers, has_seen, cancel_each, asked_where, marked_unless, cancel_waiter, cancel_unseen, cancel_task, cancel_kind, cancel_until, cancel_at, cancel_below, cancel_within, cancel_with}
+use Rattle.model_loop.specs.Cancel.{CancelRequest, Canceller, answers, has_seen, cancel_each, asked_where, marked_unless, cancel_waiter, cancel_unseen, cancel_task, cancel_kind, cancel_until, cancel_at, cancel_below, cancel_within, cancel_with}
 use Rattle.law_cancel.proofs.Counting.{change_task-kept}
 use Rattle.law_cancel.proofs.Answering.{below_still, below_answer}
 use Rattle.law_cancel.proofs.Seen.{left, left_le}
@@ -52,7 +52,7 @@ abbrev Tells : ℕ → Canceller → Type 0
 Tells n cancel = (id : ℕ) (s : List ℕ) (p : Parts) → left (length p.tasks) s < n → (cancel id s p).answer ≡ false
     → (cancel id s p ≡ answers false s p) × (is_spent p id ≡ true)
 
-abbrev Row : List ℕ → Parts → Request → Type 0
+abbrev Row : List ℕ → Parts → CancelRequest → Type 0
 Row s p r = Spreads s p r.seen r.parts
 
 each_row : (n : ℕ) (cancel : Canceller) → IsRow n cancel → (ids s : List ℕ) (p : Parts) → left (length p.tasks) s < n → Row s p (cancel_each cancel ids s p)
@@ -63,14 +63,14 @@ each_row n cancel is (id ∷ ids) s p l =
     let f = no_more (as_row g) in
     spreads_on g (each_row n cancel is ids first.seen first.parts (omega arith))
 
-asked_row : (s : List ℕ) (p : Parts) (answer : Bool) (id : ℕ) (r : Request) → Row s p r → row.is_pending_many (slice_get r.parts.futures id) ≡ true
+asked_row : (s : List ℕ) (p : Parts) (answer : Bool) (id : ℕ) (r : CancelRequest) → Row s p r → row.is_pending_many (slice_get r.parts.futures id) ≡ true
     → Row s p (asked_where answer id r)
 asked_row s p false id r g h = g
 asked_row s p true id r g h =
     let m = row.many_there (slice_get r.parts.futures id) h in
     asks g id m.future m.members m.asked m.there m.pending m.many
 
-marked_row : (s : List ℕ) (p : Parts) (answer : Bool) (task : ℕ) (r : Request) → Row s p r → (answer ≡ false → CanBeMarked r.parts task)
+marked_row : (s : List ℕ) (p : Parts) (answer : Bool) (task : ℕ) (r : CancelRequest) → Row s p r → (answer ≡ false → CanBeMarked r.parts task)
     → Row s p (marked_unless answer task r)
 marked_row s p true task r g m = g
 marked_row s p false task r g m = marks g task (m refl)
@@ -88,7 +88,7 @@ module _ (n : ℕ) (waiter : Canceller) (is : IsRow n waiter) (tells : Tells n w
       let r = waiter w s p in
       marked_row s p r.answer task r (is w s p l) (λ f.
       let t = tells w s p l f in
-      inr (w, ap (λ (q : Request). waiter_of q.parts task) t.0 ∙ e, ap (λ (q : Request). is_spent q.parts w) t.0 ∙ t.1))
+      inr (w, ap (λ (q : CancelRequest). waiter_of q.parts task) t.0 ∙ e, ap (λ (q : CancelRequest). is_spent q.parts w) t.0 ∙ t.1))
 
   unseen_row : (id : ℕ) (o : Option Task) (s : List ℕ) (p : Parts) → left (length p.tasks) s < suc n → slice_get p.tasks id ≡ o → has_seen s id ≡ false
       → Row s p (cancel_unseen waiter id o s p)

@@ -73,13 +73,13 @@ pub tells_of : (running : Option ℕ) (told : ℕ → List ℕ) (l : Loop) → I
 tells_of running told l s = record { timeouts = s.balance.timeouts; groups = s.balance.groups }
 
 -- what the parts of a state after a step have to say
-pub record Rest (q : Loop) : Type 0 where
+pub record SoundParts (q : Loop) : Type 0 where
   pub numbered : IsNumbered q.parts
   pub no_circle : HasNoCircle q.parts
   pub timed : AreTimed q.parts
   pub tags : (id : ℕ) → HasTag q.parts id (timeout_of q id)
 
-pub build : (running : Option ℕ) (told : ℕ → List ℕ) (q : Loop) → Rest q → Holds running running told told (group_of q) q.parts
+pub build : (running : Option ℕ) (told : ℕ → List ℕ) (q : Loop) → SoundParts q → Holds running running told told (group_of q) q.parts
     → ((id : ℕ) → IsOrderly (group_of q id)) → TasksBalance q → Tells q → IsSound running told q
 build running told q r h orderly tasks tells = record {
   numbered = r.numbered;
@@ -97,7 +97,7 @@ build running told q r h orderly tasks tells = record {
   balance = record { tasks = tasks; timeouts = tells.timeouts; groups = tells.groups };
 }
 
-pub rest_of : (running : Option ℕ) (told : ℕ → List ℕ) (l q : Loop) → IsSound running told l → LoopCarries l q → Rest q
+pub rest_of : (running : Option ℕ) (told : ℕ → List ℕ) (l q : Loop) → IsSound running told l → LoopCarries l q → SoundParts q
 rest_of running told l q s c = record {
   numbered = c.parts.numbered s.numbered;
   no_circle = c.parts.circle s.no_circle;

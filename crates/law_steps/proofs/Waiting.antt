@@ -12,7 +12,7 @@ use Rattle.model_loop.specs.Parts.{Future, Task, Parts}
 use Rattle.model_loop.specs.Futures.{is_pending, is_pending_at, with_future, register, registered, registered_on, future_outcome, outcome_at}
 use Rattle.model_loop.specs.Tasks.{lives, waiter_of, future_of, is_marked, unmark}
 use Rattle.model_loop.specs.Spent.{spent_by, is_spent}
-use Rattle.model_loop.specs.Cancel.{Request, cancel}
+use Rattle.model_loop.specs.Cancel.{CancelRequest, cancel}
 use Rattle.model_loop.specs.Circles.{circle}
 use Rattle.model_loop.specs.Suspend.{wait_on, cancel_wait, suspend_unless, suspend}
 use Rattle.model_loop.specs.Ways.{steps, steps_among, wakeups_on, is_running, wakeups_at, ways, wanted, resumes, wakes}
@@ -299,7 +299,7 @@ suspend_sound task on p here is = at (circle p task on)
         let still = with_still on [] (wait_on task on p) e in
         let spent : is_spent (wait_on task on p) on ≡ true =
         not-false (is_spent (wait_on task on p) on) (sym (with_answer_spent on [] (wait_on task on p)) ∙ e) in
-        subst (λ (r : Request). ArePartsSound None None r.parts) (sym still)
+        subst (λ (r : CancelRequest). ArePartsSound None None r.parts) (sym still)
         (unexcused None task (wait_on task on p) (λ m. inr (inr (on, w.waits, w.pends on ∙ here, spent))) waits)
 
     marked : (b : Bool) → is_marked p task ≡ b → ArePartsSound None None (cancel_wait b task on (wait_on task on p)).parts

@@ -7,30 +7,30 @@ use Rattle.model_stream.specs.Sending.{Writer, put_as, put_answer, took, resume_
 use Rattle.law_stream.specs.WriterSteps.{WriterStep, Writes, Takes, SetsMarks, WritesEnd, IsLost, after, written_as, written_in, handed_in, dropped_in, after_all, written, handed, dropped}
 
 -- ---- what is unsent after each step, and that it ended
-record Left (w after : Writer) (unsent : List ℕ) : Type 0 where
+record LeftUnsent (w after : Writer) (unsent : List ℕ) : Type 0 where
   unsent_is : after.unsent ≡ unsent
   ended_is : after.ended ≡ w.ended
 
-put_left : (answer : Put) (piece : List ℕ) (w : Writer) → Left w (put_as answer piece w) (w.unsent ++ written_as answer piece)
+put_left : (answer : Put) (piece : List ℕ) (w : Writer) → LeftUnsent w (put_as answer piece w) (w.unsent ++ written_as answer piece)
 put_left Offer piece w = record { unsent_is = refl; ended_is = refl }
 put_left Kept piece w = record { unsent_is = refl; ended_is = refl }
 put_left Empty piece w = record { unsent_is = sym (append-nil w.unsent); ended_is = refl }
 put_left AfterEof piece w = record { unsent_is = sym (append-nil w.unsent); ended_is = refl }
 put_left Dropped piece w = record { unsent_is = sym (append-nil w.unsent); ended_is = refl }
 
-resumed_by : (resumes : Bool) (w : Writer) → Left w (cond resumes (record w { paused = false }) w) w.unsent
+resumed_by : (resumes : Bool) (w : Writer) → LeftUnsent w (cond resumes (record w { paused = false }) w) w.unsent
 resumed_by true w = record { unsent_is = refl; ended_is = refl }
 resumed_by false w = record { unsent_is = refl; ended_is = refl }
 
-resumed_left : (w : Writer) → Left w (resumed_under w) w.unsent
+resumed_left : (w : Writer) → LeftUnsent w (resumed_under w) w.unsent
 resumed_left w = resumed_by (leb (length w.unsent) (resume_mark w)) w
 
-took_left : (count : ℕ) (w : Writer) → Left w (took count w) (drop count w.unsent)
+took_left : (count : ℕ) (w : Writer) → LeftUnsent w (took count w) (drop count w.unsent)
 took_left count w =
     let left = resumed_left (paused_over (record w { unsent = drop count w.unsent })) in
     record { unsent_is = left.unsent_is; ended_is = left.ended_is }
 
-marks_left : (marks : Option (ℕ × ℕ)) (w : Writer) → Left w (with_marks marks w) w.unsent
+marks_left : (marks : Option (ℕ × ℕ)) (w : Writer) → LeftUnsent w (with_marks marks w) w.unsent
 marks_left None w = record { unsent_is = refl; ended_is = refl }
 marks_left (Some marks) w = record { unsent_is = refl; ended_is = refl }
 
@@ -52,7 +52,7 @@ record IsOver (w : Writer) : Type 0 where
   ended : w.ended ≡ true
   nothing : w.unsent ≡ []
 
-over_from : (w after : Writer) (unsent : List ℕ) → IsOver w → Left w after unsent → unsent ≡ [] → IsOver after
+over_from : (w after : Writer) (unsent : List ℕ) → IsOver w → LeftUnsent w after unsent → unsent ≡ [] → IsOver after
 over_from w after unsent over left none =
     record { ended = left.ended_is ∙ over.ended; nothing = left.unsent_is ∙ none }
 

@@ -26,7 +26,7 @@ use Rattle.model_machine.specs.Arguments.{as_future, as_awaited, as_task, as_tim
 use Rattle.model_machine.specs.Extra as extra
 use Rattle.model_machine.specs.Extra.{Extra, ExtraAnswer, ExtraSaid, called}
 use Rattle.model_machine.specs.Outcomes.{input_of}
-use Rattle.model_machine.specs.Replies.{Reply, given, most_ids, numbered_if, numbered, replied, ended, result_of, waits, awaits_as, awaits, alarmed, sleeps, makes_future, settles_if, settles, requests, counted, spawns, enters_timeout, timed_out_if, exits_timeout, reschedules_if, reschedules, enters_group, exits_as, exits_group, creates_unless, creates, Wake, serves_until, serves_as, serves, woken_within, woken, reply, decides}
+use Rattle.model_machine.specs.Replies.{RequestReply, given, most_ids, numbered_if, numbered, replied, ended, result_of, waits, awaits_as, awaits, alarmed, sleeps, makes_future, settles_if, settles, requests, counted, spawns, enters_timeout, timed_out_if, exits_timeout, reschedules_if, reschedules, enters_group, exits_as, exits_group, creates_unless, creates, Wake, serves_until, serves_as, serves, woken_within, woken, reply, decides}
 use Rattle.model_machine.specs.Sound.{AreBlocksOf, AreBlocksOpen, blocks_of, has_open, is_open}
 use Rattle.model_machine.specs.State.{Standing, Asked, Sleeping, Leaving, Serving, Generator, State, generator, in_loop, with_loop}
 use Rattle.model_machine.specs.Step.{says_of}
@@ -134,18 +134,18 @@ right_of s running told loop blocks generators = record {
 }
 
 -- ---- replies
-abbrev pub Covers : {S : Type 0} → Reply S → Type 0
+abbrev pub Covers : {S : Type 0} → RequestReply S → Type 0
 Covers it = IsCovered (reply_state it).loop
 
 some_is : (a b : ℕ) → Some a ≡ Some b → a ≡ b
 some_is a b e = ap (λ o. option_map_or (λ (x : ℕ). x) o a) e
 
-given_in : {S A : Type 0} (o : Option A) (next : A → State S → Reply S) (s : State S) → IsCovered s.loop
+given_in : {S A : Type 0} (o : Option A) (next : A → State S → RequestReply S) (s : State S) → IsCovered s.loop
     → ((a : A) → o ≡ Some a → Covers (next a s)) → Covers (given o next s)
 given_in None next s c each = c
 given_in (Some a) next s c each = each a refl
 
-numbered_in : {S : Type 0} (made : ℕ) (next : State S → Reply S) (s : State S) → IsCovered s.loop
+numbered_in : {S : Type 0} (made : ℕ) (next : State S → RequestReply S) (s : State S) → IsCovered s.loop
     → (made < most_ids → Covers (next s)) → Covers (numbered made next s)
 numbered_in made next s c each = at (nat_lt made most_ids) refl
   where

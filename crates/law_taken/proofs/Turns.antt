@@ -25,7 +25,7 @@ use Rattle.model_loop.specs.Ways.{steps}
 use Rattle.model_machine.specs.Extra.{Extra}
 use Rattle.model_machine.specs.Outcomes.{finished_as, woken_with}
 use Rattle.model_machine.specs.Outside.{news_of, time_of}
-use Rattle.model_machine.specs.Replies.{Reply, Answers, Raises, Rests, Halts, reply}
+use Rattle.model_machine.specs.Replies.{RequestReply, Answers, Raises, Rests, Halts, reply}
 use Rattle.model_machine.specs.Sound.{IsStateSound, sends_made}
 use Rattle.model_machine.specs.State.{Standing, Asked, Sleeping, Leaving, Serving, State, generator_of, noted, stands, start, unbooked_in}
 use Rattle.model_machine.specs.Step.{given_up, most_answers, says_of, serve, serve_all, served, step, taken_as}
@@ -64,7 +64,7 @@ given_tasks (Serving key) p = refl
 -- ---- a task's step
 module _ {S : Type 0} (added : Extra S) (keeps : KeepsSound added) (task : ℕ) where
   after_in : (go_on : State S → Went S) → ((t : State S) → IsStepSound added task t → IsCovered t.loop → IsCovered (state_of (go_on t)).loop)
-      → (fresh : Bool) (r : Reply S) → RepliesInStep added fresh task r → Covers r → IsCovered (state_of (taken_as r fresh task go_on)).loop
+      → (fresh : Bool) (r : RequestReply S) → RepliesInStep added fresh task r → Covers r → IsCovered (state_of (taken_as r fresh task go_on)).loop
   after_in go_on each fresh (Answers value now) h c = each _ h c
   after_in go_on each fresh (Raises fault now) h c = each _ h c
   after_in go_on each fresh (Rests now) h c = c

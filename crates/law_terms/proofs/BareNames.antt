@@ -4,37 +4,37 @@ use Rattle.model_tree.specs.Syntax.{Name}
 use Rattle.model_text.specs.Words.{Lexeme, Named}
 use Rattle.model_text.specs.Cutting.{depth_behind, ends_operand}
 use Rattle.model_text.specs.Terms.{Term}
-use Rattle.model_text.specs.Levels.{Reading, bare_name, term_within}
-use Rattle.law_reading.specs.Reader.{Bracket, Group, Item, Items, Arguments, Open, Progress, AtKind, BehindKind, reading}
+use Rattle.model_text.specs.Levels.{Parser, bare_name, term_within}
+use Rattle.law_reading.specs.Reader.{Bracket, Group, Item, Items, Arguments, Open, TermProgress, AtKind, BehindKind, reading}
 use Rattle.law_reading.specs.Feeding.{at_kind}
-use Rattle.law_reading.proofs.Passes.{Moves}
+use Rattle.law_reading.proofs.Passes.{MovesPast}
 use Rattle.law_reading.proofs.Meaning.{contents_at, unwound, meaning_within}
 use Rattle.law_reading.proofs.Rows.{at-kind, at-kind-other, behind-other}
 use Rattle.law_terms.proofs.Lift.{around-none, unwound-none}
 use Rattle.law_terms.proofs.Within.{Step, Inner, content-step}
 
 -- ---- nothing can be read any more in the bracket
-none-within : (x : Lexeme) → Inner x → (p : Progress) (k : ℕ) (o : Open) (os : List Open) → Moves x (contents_at (term_within (suc k)) o.bracket p) (λ rest. None) → Step k x p (o ∷ os) None
+none-within : (x : Lexeme) → Inner x → (p : TermProgress) (k : ℕ) (o : Open) (os : List Open) → MovesPast x (contents_at (term_within (suc k)) o.bracket p) (λ rest. None) → Step k x p (o ∷ os) None
 none-within x i p k o os m = record {
   fuel = k;
   enough = omega arith;
-  moves = subst (Moves x (meaning_within (suc k) p (o ∷ os))) (ap (unwound (suc (suc k)) (depth_behind 1 x) (ends_operand x) os) (around-none (term_within (suc (suc k))) o (depth_behind 1 x) (ends_operand x)) ∙ unwound-none os (suc (suc k)) (depth_behind 1 x) (ends_operand x)) (content-step x i p (suc k) o os (λ rest. None) m);
+  moves = subst (MovesPast x (meaning_within (suc k) p (o ∷ os))) (ap (unwound (suc (suc k)) (depth_behind 1 x) (ends_operand x) os) (around-none (term_within (suc (suc k))) o (depth_behind 1 x) (ends_operand x)) ∙ unwound-none os (suc (suc k)) (depth_behind 1 x) (ends_operand x)) (content-step x i p (suc k) o os (λ rest. None) m);
 }
 
-module _ (inside : Reading Term) where
-  kind-at : (bracket : Bracket) (kind : Name) → Moves (Named kind) (contents_at inside bracket AtKind) (contents_at inside bracket (BehindKind kind))
+module _ (inside : Parser Term) where
+  kind-at : (bracket : Bracket) (kind : Name) → MovesPast (Named kind) (contents_at inside bracket AtKind) (contents_at inside bracket (BehindKind kind))
   kind-at Group kind = record { at = λ rest. refl }
   kind-at (Item sequence) kind = record { at = λ rest. refl }
   kind-at (Items items) kind = record { at = λ rest. refl }
   kind-at (Arguments name bare arguments) kind = at-kind inside name bare arguments kind
 
-  no-kind : (bracket : Bracket) (x : Lexeme) → ((q : List Lexeme) → bare_name (x ∷ q) ≡ None) → Moves x (contents_at inside bracket AtKind) (λ rest. None)
+  no-kind : (bracket : Bracket) (x : Lexeme) → ((q : List Lexeme) → bare_name (x ∷ q) ≡ None) → MovesPast x (contents_at inside bracket AtKind) (λ rest. None)
   no-kind Group x e = record { at = λ rest. refl }
   no-kind (Item sequence) x e = record { at = λ rest. refl }
   no-kind (Items items) x e = record { at = λ rest. refl }
   no-kind (Arguments name bare arguments) x e = at-kind-other inside name bare arguments x e
 
-  no-more : (bracket : Bracket) (kind : Name) (x : Lexeme) → Inner x → Moves x (contents_at inside bracket (BehindKind kind)) (λ rest. None)
+  no-more : (bracket : Bracket) (kind : Name) (x : Lexeme) → Inner x → MovesPast x (contents_at inside bracket (BehindKind kind)) (λ rest. None)
   no-more Group kind x i = record { at = λ rest. refl }
   no-more (Item sequence) kind x i = record { at = λ rest. refl }
   no-more (Items items) kind x i = record { at = λ rest. refl }

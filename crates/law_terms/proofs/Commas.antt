@@ -5,15 +5,15 @@ use Rattle.model_tree.specs.Syntax.{Name}
 use Rattle.model_text.specs.declared.symbol.Symbol.TheVariants as symbol
 use Rattle.model_text.specs.Words.{Lexeme, Sign, is_sign}
 use Rattle.model_text.specs.Terms.{Term, Index}
-use Rattle.model_text.specs.Levels.{Reading, disjunction, term_within}
+use Rattle.model_text.specs.Levels.{Parser, disjunction, term_within}
 use Rattle.model_text.specs.Cutting.{before_last}
 use Rattle.law_reading.specs.Operands.{Operand, of_two, list_of, call_of}
 use Rattle.law_reading.specs.Pending.{no_loose}
-use Rattle.law_reading.specs.Reader.{Bracket, Group, Item, Items, Arguments, Open, Progress, Start, AtNot, AtOperand, BehindName, BehindOperand, AtKind, BehindKind, reading}
+use Rattle.law_reading.specs.Reader.{Bracket, Group, Item, Items, Arguments, Open, TermProgress, Start, AtNot, AtOperand, BehindName, BehindOperand, AtKind, BehindKind, reading}
 use Rattle.law_reading.specs.Ends.{ended, parted, closing, at_comma}
 use Rattle.law_reading.proofs.Levels.{keeping, row_from, primary_level}
 use Rattle.law_reading.proofs.Fresh.{fresh-loose}
-use Rattle.law_reading.proofs.Passes.{Moves}
+use Rattle.law_reading.proofs.Passes.{MovesPast}
 use Rattle.law_reading.proofs.Meaning.{is_behind, expression, contents, contents_at, around, unwound, meaning_within, meaning}
 use Rattle.law_reading.proofs.Rows.{comma-ends, comma-goes_on, at-kind-other, behind-comma}
 use Rattle.law_terms.proofs.Lift.{closed-other, around-moves, around-none, lift, unwound-none}
@@ -24,12 +24,12 @@ abbrev at : Lexeme
 at = Sign symbol.Comma
 
 -- what stands in the bracket behind the comma
-abbrev behind : Reading Term → Option Bracket → Reading Operand
+abbrev behind : Parser Term → Option Bracket → Parser Operand
 behind inside None = λ rest. None
 behind inside (Some bracket) = contents inside bracket 0 false (expression inside (AtNot no_loose))
 
 -- what stands in a row behind it
-abbrev row_behind : Reading Term → (List Operand → Operand) → List Operand → Option Operand → Reading Operand
+abbrev row_behind : Parser Term → (List Operand → Operand) → List Operand → Option Operand → Parser Operand
 row_behind inside kept items None = λ rest. None
 row_behind inside kept items (Some item) =
     row_from kept (items ++ item ∷ []) (keeping (disjunction inside)) 0 false (expression inside (AtNot no_loose))
@@ -42,12 +42,12 @@ commaed (Items items) found = option_map (λ item. Items (items ++ item ∷ []))
 commaed (Arguments name bare arguments) found =
     option_map (λ argument. Arguments name bare (arguments ++ argument ∷ [])) found
 
-module _ (inside : Reading Term) where
-  row-at : (kept : List Operand → Operand) (items : List Operand) (p : Progress) (b : Bool) (found : Option Operand) → ended p ≡ found → Moves at (row_from kept items (keeping (disjunction inside)) 0 b (expression inside p)) (row_behind inside kept items found)
+module _ (inside : Parser Term) where
+  row-at : (kept : List Operand → Operand) (items : List Operand) (p : TermProgress) (b : Bool) (found : Option Operand) → ended p ≡ found → MovesPast at (row_from kept items (keeping (disjunction inside)) 0 b (expression inside p)) (row_behind inside kept items found)
   row-at kept items p b None e =
       comma-ends kept items (keeping (disjunction inside)) (expression inside p) b (expression-ended inside p ∙ e)
   row-at kept items p b (Some item) e =
-      subst (λ f. Moves at (row_from kept items (keeping (disjunction inside)) 0 b (expression inside p)) (row_from kept (items ++ item ∷ []) (keeping (disjunction inside)) 0 false f)) (fresh-loose inside) (comma-goes_on kept items (keeping (disjunction inside)) (expression inside p) b item (expression-ended inside p ∙ e))
+      subst (λ f. MovesPast at (row_from kept items (keeping (disjunction inside)) 0 b (expression inside p)) (row_from kept (items ++ item ∷ []) (keeping (disjunction inside)) 0 false f)) (fresh-loose inside) (comma-goes_on kept items (keeping (disjunction inside)) (expression inside p) b item (expression-ended inside p ∙ e))
 
   items-behind : (items : List Operand) (found : Option Operand) → row_behind inside list_of items found ≡ behind inside (commaed (Items items) found)
   items-behind items None = refl
@@ -57,15 +57,15 @@ module _ (inside : Reading Term) where
   arguments-behind name bare arguments None = refl
   arguments-behind name bare arguments (Some argument) = refl
 
-  regular-at : (bracket : Bracket) (p : Progress) (b : Bool) → Moves at (contents inside bracket 0 b (expression inside p)) (behind inside (commaed bracket (ended p)))
+  regular-at : (bracket : Bracket) (p : TermProgress) (b : Bool) → MovesPast at (contents inside bracket 0 b (expression inside p)) (behind inside (commaed bracket (ended p)))
   regular-at Group p b = dead-at inside at (dead-comma inside) p
   regular-at (Item sequence) p b = record { at = λ rest. ap (option_map (of_two Index sequence)) ((dead-at inside at (dead-comma inside) p).at rest) }
   regular-at (Items items) p b =
-      subst (Moves at (contents inside (Items items) 0 b (expression inside p))) (items-behind items (ended p)) (row-at list_of items p b (ended p) refl)
+      subst (MovesPast at (contents inside (Items items) 0 b (expression inside p))) (items-behind items (ended p)) (row-at list_of items p b (ended p) refl)
   regular-at (Arguments name bare arguments) p b =
-      subst (Moves at (contents inside (Arguments name bare arguments) 0 b (expression inside p))) (arguments-behind name bare arguments (ended p)) (row-at (call_of name bare) arguments p b (ended p) refl)
+      subst (MovesPast at (contents inside (Arguments name bare arguments) 0 b (expression inside p))) (arguments-behind name bare arguments (ended p)) (row-at (call_of name bare) arguments p b (ended p) refl)
 
-  parts-at : (bracket : Bracket) (p : Progress) → Moves at (contents_at inside bracket p) (behind inside (parted bracket p))
+  parts-at : (bracket : Bracket) (p : TermProgress) → MovesPast at (contents_at inside bracket p) (behind inside (parted bracket p))
   parts-at Group Start = record { at = (regular-at Group Start false).at }
   parts-at Group (AtNot loose) = regular-at Group (AtNot loose) false
   parts-at Group (AtOperand loose tight) = regular-at Group (AtOperand loose tight) false
@@ -108,7 +108,7 @@ closes-arguments : (name : Name) (bare : Option Name) (arguments : List Operand)
 closes-arguments name bare arguments None = tt
 closes-arguments name bare arguments (Some argument) = refl
 
-closes-parted : (bracket : Bracket) (p : Progress) → Closes bracket (parted bracket p)
+closes-parted : (bracket : Bracket) (p : TermProgress) → Closes bracket (parted bracket p)
 closes-parted Group p = tt
 closes-parted (Item sequence) p = tt
 closes-parted (Items items) p = closes-items items (ended p)
@@ -126,19 +126,19 @@ no_closing (Item sequence) = refl
 no_closing (Items items) = refl
 no_closing (Arguments name bare arguments) = refl
 
-module _ (k : ℕ) (p : Progress) (o : Open) (os : List Open) where
-  outer : (g : Reading Operand) → Moves at (contents_at (term_within (suc k)) o.bracket p) g → Moves at (meaning_within (suc k) p (o ∷ os)) (unwound (suc (suc k)) 1 false os (around (term_within (suc (suc k))) o 1 false g))
+module _ (k : ℕ) (p : TermProgress) (o : Open) (os : List Open) where
+  outer : (g : Parser Operand) → MovesPast at (contents_at (term_within (suc k)) o.bracket p) g → MovesPast at (meaning_within (suc k) p (o ∷ os)) (unwound (suc (suc k)) 1 false os (around (term_within (suc (suc k))) o 1 false g))
   outer g m =
       let b : Bool = is_behind p in
-      let content : Reading Operand = contents_at (term_within (suc k)) o.bracket p in
+      let content : Parser Operand = contents_at (term_within (suc k)) o.bracket p in
       lift at os (suc (suc k)) 0 b (around (term_within (suc (suc k))) o 1 b content) (around (term_within (suc (suc k))) o 1 false g) refl (around-moves (term_within (suc (suc k))) o 0 b at content g (closed-other at content g o.bracket (no_closing o.bracket) m))
 
-  next : (found : Option Bracket) → Closes o.bracket found → Moves at (contents_at (term_within (suc k)) o.bracket p) (behind (term_within (suc k)) found) → Moves at (meaning_within (suc k) p (o ∷ os)) (meaning (suc k) (option_and_then (λ bracket. reading (AtNot no_loose) (record o { bracket = bracket } ∷ os)) found))
+  next : (found : Option Bracket) → Closes o.bracket found → MovesPast at (contents_at (term_within (suc k)) o.bracket p) (behind (term_within (suc k)) found) → MovesPast at (meaning_within (suc k) p (o ∷ os)) (meaning (suc k) (option_and_then (λ bracket. reading (AtNot no_loose) (record o { bracket = bracket } ∷ os)) found))
   next None c m =
-      subst (Moves at (meaning_within (suc k) p (o ∷ os))) (ap (unwound (suc (suc k)) 1 false os) (around-none (term_within (suc (suc k))) o 1 false) ∙ unwound-none os (suc (suc k)) 1 false) (outer (λ rest. None) m)
+      subst (MovesPast at (meaning_within (suc k) p (o ∷ os))) (ap (unwound (suc (suc k)) 1 false os) (around-none (term_within (suc (suc k))) o 1 false) ∙ unwound-none os (suc (suc k)) 1 false) (outer (λ rest. None) m)
   next (Some bracket) c m =
-      let g : Reading Operand = behind (term_within (suc k)) (Some bracket) in
-      subst (λ s. Moves at (meaning_within (suc k) p (o ∷ os)) (unwound (suc (suc k)) 1 false os (primary_level (term_within (suc (suc k))) o.loose o.tight 1 false (λ rest. option_and_then g (before_last s rest))))) (sym c) (outer g m)
+      let g : Parser Operand = behind (term_within (suc k)) (Some bracket) in
+      subst (λ s. MovesPast at (meaning_within (suc k) p (o ∷ os)) (unwound (suc (suc k)) 1 false os (primary_level (term_within (suc (suc k))) o.loose o.tight 1 false (λ rest. option_and_then g (before_last s rest))))) (sym c) (outer g m)
 
   around-step : Step k at p (o ∷ os) (at_comma p (o ∷ os))
   around-step = record {
@@ -147,6 +147,6 @@ module _ (k : ℕ) (p : Progress) (o : Open) (os : List Open) where
     moves = next (parted o.bracket p) (closes-parted o.bracket p) (parts-at (term_within (suc k)) o.bracket p);
   }
 
-pub comma-step : (k : ℕ) (p : Progress) (opened : List Open) → Step k (Sign symbol.Comma) p opened (at_comma p opened)
+pub comma-step : (k : ℕ) (p : TermProgress) (opened : List Open) → Step k (Sign symbol.Comma) p opened (at_comma p opened)
 comma-step k p [] = record { fuel = k; enough = omega arith; moves = record { at = (dead-at (term_within (suc k)) at (dead-comma (term_within (suc k))) p).at } }
 comma-step k p (o ∷ os) = around-step k p o os

@@ -4,27 +4,28 @@ use Rattle.std.specs.Prelude.{option_and_then, option_map}
 use Rattle.model_text.specs.declared.symbol.Symbol.TheVariants as symbol
 use Rattle.model_text.specs.Words.{Lexeme, Sign, is_sign}
 use Rattle.model_text.specs.Terms.{Term, Index, Variable}
-use Rattle.model_text.specs.Levels.{Reading, primary, at_index, is_not}
+use Rattle.model_text.specs.Levels.{Parser, primary, at_index, is_not}
 use Rattle.law_reading.specs.Operands.{Operand, Fits, of_two}
 use Rattle.law_reading.specs.Pending.{no_loose, no_tight}
-use Rattle.law_reading.specs.Reader.{Bracket, Group, Item, Items, Arguments, Progress, Start, AtNot, AtOperand, BehindName, BehindOperand, AtKind, BehindKind}
+use Rattle.law_reading.specs.Reader.{Bracket, Group, Item, Items, Arguments, TermProgress, Start, AtNot, AtOperand, BehindName, BehindOperand, AtKind}
+use Rattle.law_reading.specs.Reader.{BehindKind}
 use Rattle.law_reading.specs.Ends.{ended, filled, whole}
 use Rattle.law_reading.proofs.Levels.{keeping}
-use Rattle.law_reading.proofs.Passes.{Moves, Uncut}
+use Rattle.law_reading.proofs.Passes.{MovesPast, Uncut}
 use Rattle.law_reading.proofs.Meaning.{expression, contents, contents_at}
 use Rattle.law_reading.proofs.Beginnings.{at-start, at-not-other, at-none, behind-name}
 use Rattle.law_reading.proofs.Operators.{at-other}
 
 -- a lexeme that neither begins nor goes on with anything
-pub record Dead (inside : Reading Term) (x : Lexeme) : Type 0 where
+pub record Dead (inside : Parser Term) (x : Lexeme) : Type 0 where
   pub no_not : is_not inside x ≡ false
   pub no_minus : is_sign symbol.Minus x ≡ false
   pub no_call : is_sign symbol.LeftParenthesis x ≡ false
-  pub begins_none : Moves x (keeping (primary inside)) (λ rest. None)
+  pub begins_none : MovesPast x (keeping (primary inside)) (λ rest. None)
   pub uncut : Uncut 0 true x
   pub no_item : at_index true x ≡ None
 
-module _ (inside : Reading Term) where
+module _ (inside : Parser Term) where
   comma-begins : (rest : List Lexeme) → keeping (primary inside) (Sign symbol.Comma ∷ rest) ≡ None
   comma-begins [] = refl
   comma-begins (y ∷ ys) = refl
@@ -47,7 +48,7 @@ module _ (inside : Reading Term) where
   dead-bracket = record { no_not = refl; no_minus = refl; no_call = refl; begins_none = record { at = bracket-begins }; uncut = record { at_or = refl; at_and = refl; compares = refl; adds = refl; multiplies = refl }; no_item = refl }
 
   module _ (x : Lexeme) (dead : Dead inside x) where
-    pub dead-at : (p : Progress) → Moves x (expression inside p) (λ rest. None)
+    pub dead-at : (p : TermProgress) → MovesPast x (expression inside p) (λ rest. None)
     dead-at Start =
         at-start inside no_loose x (λ rest. None) (at-not-other inside no_loose x (λ rest. None) dead.no_not (at-none inside no_loose no_tight x dead.no_minus dead.begins_none))
     dead-at (AtNot loose) =
@@ -60,7 +61,7 @@ module _ (inside : Reading Term) where
     dead-at (BehindKind kind) = record { at = λ rest. refl }
 
   -- ---- where an expression ends
-  pub expression-ended : (p : Progress) → expression inside p [] ≡ ended p
+  pub expression-ended : (p : TermProgress) → expression inside p [] ≡ ended p
   expression-ended Start = refl
   expression-ended (AtNot loose) = refl
   expression-ended (AtOperand loose tight) = refl
@@ -69,7 +70,7 @@ module _ (inside : Reading Term) where
   expression-ended AtKind = refl
   expression-ended (BehindKind kind) = refl
 
-  filled-at : (bracket : Bracket) (b : Bool) (f : Reading Operand) (found : Option Operand) → f [] ≡ found → contents inside bracket 0 b f [] ≡ option_map (filled bracket) found
+  filled-at : (bracket : Bracket) (b : Bool) (f : Parser Operand) (found : Option Operand) → f [] ≡ found → contents inside bracket 0 b f [] ≡ option_map (filled bracket) found
   filled-at Group b f None e = e
   filled-at Group b f (Some operand) e = e
   filled-at (Item sequence) b f found e = ap (option_map (of_two Index sequence)) e
@@ -78,7 +79,7 @@ module _ (inside : Reading Term) where
   filled-at (Arguments name bare arguments) b f None e = ap (option_and_then _) e
   filled-at (Arguments name bare arguments) b f (Some operand) e = ap (option_and_then _) e
 
-  pub contents-whole : (bracket : Bracket) (p : Progress) → contents_at inside bracket p [] ≡ whole bracket p
+  pub contents-whole : (bracket : Bracket) (p : TermProgress) → contents_at inside bracket p [] ≡ whole bracket p
   contents-whole bracket Start = refl
   contents-whole bracket (AtNot loose) = filled-at bracket false (expression inside (AtNot loose)) None refl
   contents-whole bracket (AtOperand loose tight) =

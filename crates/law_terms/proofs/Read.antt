@@ -2,9 +2,9 @@
 use Rattle.std.proofs.Common.{◌≡◌, ℕ, zero, suc, ◌≤◌, Bool, List, [], ◌∷◌, length, Some, None, refl, ◌∙◌, sym, arith, fold}
 use Rattle.std.specs.Prelude.{option_map}
 use Rattle.model_text.specs.Words.{Lexeme}
-use Rattle.model_text.specs.Levels.{Reading, term_within, term_of}
+use Rattle.model_text.specs.Levels.{Parser, term_within, term_of}
 use Rattle.law_reading.specs.Operands.{Operand, capped}
-use Rattle.law_reading.specs.Reader.{Open, Progress, State, start}
+use Rattle.law_reading.specs.Reader.{Open, TermProgress, ReaderState, start}
 use Rattle.law_reading.specs.Feeding.{fed, feed, finished, finish, read}
 use Rattle.law_reading.proofs.Meaning.{contents, around, unwound, meaning_within, meaning}
 use Rattle.law_terms.proofs.Dead.{expression-ended}
@@ -12,16 +12,16 @@ use Rattle.law_terms.proofs.Within.{Step}
 use Rattle.law_terms.proofs.Steps.{fed-step}
 
 -- with a bracket open, nothing has ended
-unwound-nothing : (opened : List Open) (k d : ℕ) (b : Bool) (f : Reading Operand) → f [] ≡ None → unwound k d b opened f [] ≡ None
+unwound-nothing : (opened : List Open) (k d : ℕ) (b : Bool) (f : Parser Operand) → f [] ≡ None → unwound k d b opened f [] ≡ None
 unwound-nothing [] k d b f e = e
 unwound-nothing (o ∷ os) k d b f e =
     unwound-nothing os (suc k) (suc d) b (around (term_within (suc k)) o (suc d) b (contents (term_within k) o.bracket d b f)) refl
 
-finished-within : (k : ℕ) (p : Progress) (opened : List Open) → meaning_within k p opened [] ≡ finished p opened
+finished-within : (k : ℕ) (p : TermProgress) (opened : List Open) → meaning_within k p opened [] ≡ finished p opened
 finished-within k p [] = expression-ended (term_within k) p
 finished-within k p (o ∷ os) = unwound-nothing os (suc k) 1 _ (around (term_within (suc k)) o 1 _ _) refl
 
-meaning-read : (lexemes : List Lexeme) (k : ℕ) → length lexemes ≤ k → (state : State) → meaning k state lexemes ≡ finish (fold feed state lexemes)
+meaning-read : (lexemes : List Lexeme) (k : ℕ) → length lexemes ≤ k → (state : ReaderState) → meaning k state lexemes ≡ finish (fold feed state lexemes)
 meaning-read [] k h None = refl
 meaning-read [] k h (Some reader) = finished-within k reader.progress reader.opened
 meaning-read (x ∷ lexemes) k h None = meaning-read lexemes k (omega arith) None

@@ -6,20 +6,20 @@ use Rattle.std.specs.Prelude.{option_and_then, option_map, if◌then◌else◌}
 use Rattle.model_tree.specs.Syntax.{Name}
 use Rattle.model_text.specs.Words.{Lexeme}
 use Rattle.model_text.specs.Terms.{Term, height, height_of_all, terms}
-use Rattle.model_text.specs.Levels.{Reading, Arguments, all_of, bare_name, with_bare, from_bare, arguments_of, term_of}
+use Rattle.model_text.specs.Levels.{Parser, Arguments, all_of, bare_name, with_bare, from_bare, arguments_of, term_of}
 use Rattle.model_text.specs.Places.{heights, most_height}
 use Rattle.law_reading.specs.Operands.{Operand, capped, that_fits}
 use Rattle.law_reading.specs.Feeding.{read}
 use Rattle.law_reading.specs.Rows.{capped_arguments, only_values, around_bare, read_items, read_from_bare, read_arguments}
 use Rattle.law_reading.proofs.Levels.{keeping}
-use Rattle.law_reading.proofs.Capping.{capped-low, capped-high, all_of-capped, Row, row}
+use Rattle.law_reading.proofs.Capping.{capped-low, capped-high, all_of-capped, CappedRow, row}
 use Rattle.law_terms.proofs.Read.{read-is}
 
 read-same : read ≡ keeping term_of
 read-same = fun_ext read-is
 
 pub items-read : (slots : List (List Lexeme)) → read_items slots ≡ option_map (map capped) (all_of term_of slots)
-items-read slots = ap (λ (reading : Reading Operand). all_of reading slots) read-same ∙ sym (all_of-capped term_of slots)
+items-read slots = ap (λ (reading : Parser Operand). all_of reading slots) read-same ∙ sym (all_of-capped term_of slots)
 
 -- ---- arguments
 after-bare : (before : List Term) (name : Name) (found : Option (List Term)) → option_map (around_bare (map capped before) name) (option_map (map capped) found) ≡ option_map capped_arguments (option_map (with_bare before name) found)
@@ -64,7 +64,7 @@ heights-from n (t ∷ ts) = heights-from (max n (height t)) ts ∙ omega arith
 heights-are : (all : List Term) → heights all ≡ height_of_all (terms all)
 heights-are all = heights-from 0 all ∙ omega arith
 
-all-fit-at : (all : List Term) (found : Option (List Term)) → Row all found → found ≡ (if nat_le (heights all) most_height then Some all else None)
+all-fit-at : (all : List Term) (found : Option (List Term)) → CappedRow all found → found ≡ (if nat_le (heights all) most_height then Some all else None)
 all-fit-at all found row =
     elim row.is [ inl low ↦ low.1 ∙ sym (ap (λ test. if test then Some all else None) (le-leb (heights all) most_height (omega (arith, low.0, heights-are all)))) | inr high ↦ high.1 ∙ sym (ap (λ test. if test then Some all else None) (lt-leb (heights all) most_height (omega (arith, high.0, heights-are all)))) ]
 

@@ -13,13 +13,13 @@ use Rattle.model_text.specs.declared.reserved_word.ReservedWord.TheVariants as w
 use Rattle.model_text.specs.Words.{Lexeme, Reserved, Named, Number, Texts, Octets, Sign, is_sign}
 use Rattle.model_text.specs.Cutting.{depth_behind, ends_operand}
 use Rattle.model_text.specs.Terms.{Term, Constantly, Variable}
-use Rattle.model_text.specs.Levels.{Reading, at_index, constant_of_word, bracketed, primary, term_within}
+use Rattle.model_text.specs.Levels.{Parser, at_index, constant_of_word, bracketed, primary, term_within}
 use Rattle.law_reading.specs.Operands.{Operand, Fits, capped}
 use Rattle.law_reading.specs.Pending.{Loose, Tight, no_loose, no_tight, behind_and, behind_or}
-use Rattle.law_reading.specs.Reader.{Group, Item, Items, Arguments, Open, Progress, Start, AtNot, AtOperand, BehindName, BehindOperand, AtKind, BehindKind, Reader, reading}
+use Rattle.law_reading.specs.Reader.{Group, Item, Items, Arguments, Open, TermProgress, Start, AtNot, AtOperand, BehindName, BehindOperand, AtKind, BehindKind, TermReader, reading}
 use Rattle.law_reading.specs.Feeding.{at_operand, at_not as fed_at_not, Compares, Adds, Multiplies, behind_infix, at_symbol, behind_operand, first_argument, behind_name as fed_behind_name, fed_within, fed}
 use Rattle.law_reading.proofs.Levels.{keeping}
-use Rattle.law_reading.proofs.Passes.{Moves, Uncut}
+use Rattle.law_reading.proofs.Passes.{MovesPast, Uncut}
 use Rattle.law_reading.proofs.Meaning.{is_behind, ends, expression}
 use Rattle.law_reading.proofs.Operators.{after, at-or, at-and, at-compares, at-adds, at-multiplies, at-other}
 use Rattle.law_reading.proofs.Beginnings.{at-start, at-not, at-not-other, at-minus, at-primary, at-none, behind-name}
@@ -31,7 +31,7 @@ use Rattle.law_terms.proofs.Commas.{comma-step}
 use Rattle.law_terms.proofs.Dead.{dead-parenthesis, dead-bracket}
 
 -- what begins with one lexeme that is no operand, and with one that is
-module _ (inside : Reading Term) where
+module _ (inside : Parser Term) where
   word-begins : (w : ReservedWord) → constant_of_word w ≡ None → (rest : List Lexeme) → keeping (primary inside) (Reserved w ∷ rest) ≡ None
   word-begins w e [] = ap (option_map capped) e
   word-begins w e (y ∷ ys) = refl
@@ -57,11 +57,11 @@ module _ (inside : Reading Term) where
   bytes-begins bytes (y ∷ ys) = refl
 
 -- what goes on from a progress goes on from another
-abbrev Via : ℕ → Lexeme → Progress → Progress → Type 0
-Via k x p q = (g : Reading Operand) → Moves x (expression (term_within (suc k)) q) g → Moves x (expression (term_within (suc k)) p) g
+abbrev Via : ℕ → Lexeme → TermProgress → TermProgress → Type 0
+Via k x p q = (g : Parser Operand) → MovesPast x (expression (term_within (suc k)) q) g → MovesPast x (expression (term_within (suc k)) p) g
 
 -- ---- where an operand may stand
-module _ (k : ℕ) (p : Progress) (r : Regular p) (loose : Loose) (tight : Tight) (opened : List Open) where
+module _ (k : ℕ) (p : TermProgress) (r : Regular p) (loose : Loose) (tight : Tight) (opened : List Open) where
   word-step : (w : ReservedWord) → Inner (Reserved w) → Via k (Reserved w) p (AtOperand loose tight) → Step k (Reserved w) p opened (at_operand loose tight opened (Reserved w))
   word-step word.TrueValue i via = same-step (Reserved word.TrueValue) i p r k opened (BehindOperand loose tight (Fits (Constantly (TruthConstant true)))) (goes_on-behind loose tight (Fits (Constantly (TruthConstant true)))) refl refl (via (expression (term_within (suc k)) (BehindOperand loose tight (Fits (Constantly (TruthConstant true))))) (at-primary (term_within (suc k)) loose tight (Reserved word.TrueValue) (ends (Some (Fits (Constantly (TruthConstant true))))) refl (record { at_or = refl; at_and = refl; compares = refl; adds = refl; multiplies = refl }) refl (record { at = constant-begins (term_within (suc k)) word.TrueValue (Constantly (TruthConstant true)) refl refl })))
   word-step word.FalseValue i via = same-step (Reserved word.FalseValue) i p r k opened (BehindOperand loose tight (Fits (Constantly (TruthConstant false)))) (goes_on-behind loose tight (Fits (Constantly (TruthConstant false)))) refl refl (via (expression (term_within (suc k)) (BehindOperand loose tight (Fits (Constantly (TruthConstant false))))) (at-primary (term_within (suc k)) loose tight (Reserved word.FalseValue) (ends (Some (Fits (Constantly (TruthConstant false))))) refl (record { at_or = refl; at_and = refl; compares = refl; adds = refl; multiplies = refl }) refl (record { at = constant-begins (term_within (suc k)) word.FalseValue (Constantly (TruthConstant false)) refl refl })))
@@ -89,7 +89,7 @@ module _ (k : ℕ) (p : Progress) (r : Regular p) (loose : Loose) (tight : Tight
   at-operand-step (Octets bytes) i via = same-step (Octets bytes) i p r k opened (BehindOperand loose tight (Fits (Constantly (BytesConstant bytes)))) (goes_on-behind loose tight (Fits (Constantly (BytesConstant bytes)))) refl refl (via (expression (term_within (suc k)) (BehindOperand loose tight (Fits (Constantly (BytesConstant bytes))))) (at-primary (term_within (suc k)) loose tight (Octets bytes) (ends (Some (Fits (Constantly (BytesConstant bytes))))) refl (record { at_or = refl; at_and = refl; compares = refl; adds = refl; multiplies = refl }) refl (record { at = bytes-begins (term_within (suc k)) bytes })))
 
 -- ---- where `not` may stand too
-module _ (k : ℕ) (p : Progress) (r : Regular p) (loose : Loose) (opened : List Open) where
+module _ (k : ℕ) (p : TermProgress) (r : Regular p) (loose : Loose) (opened : List Open) where
   not-word-step : (w : ReservedWord) → Inner (Reserved w) → Via k (Reserved w) p (AtNot loose) → Step k (Reserved w) p opened (fed_at_not loose opened (Reserved w))
   not-word-step word.Not i via =
       same-step (Reserved word.Not) i p r k opened (AtNot (record loose { nots = suc loose.nots })) (goes_on-not (record loose { nots = suc loose.nots })) refl refl (via _ (at-not (term_within (suc k)) loose))
@@ -102,8 +102,8 @@ module _ (k : ℕ) (p : Progress) (r : Regular p) (loose : Loose) (opened : List
       at-operand-step k p r loose no_tight opened x i (λ g m. via g (at-not-other (term_within (suc k)) loose x g refl m))
 
 -- ---- behind an operand
-module _ (k : ℕ) (p : Progress) (r : Regular p) (loose : Loose) (tight : Tight) (operand : Operand) (opened : List Open) where
-  infix-step : (x : Lexeme) → Inner x → depth_behind 0 x ≡ 0 → ends_operand x ≡ false → (found : Option Tight) → Moves x (expression (term_within (suc k)) p) (after (term_within (suc k)) loose tight operand found) → Step k x p opened (option_and_then (λ pending. reading (AtOperand loose pending) opened) found)
+module _ (k : ℕ) (p : TermProgress) (r : Regular p) (loose : Loose) (tight : Tight) (operand : Operand) (opened : List Open) where
+  infix-step : (x : Lexeme) → Inner x → depth_behind 0 x ≡ 0 → ends_operand x ≡ false → (found : Option Tight) → MovesPast x (expression (term_within (suc k)) p) (after (term_within (suc k)) loose tight operand found) → Step k x p opened (option_and_then (λ pending. reading (AtOperand loose pending) opened) found)
   infix-step x i d b None m = none-step x i p r k opened m
   infix-step x i d b (Some pending) m =
       same-step x i p r k opened (AtOperand loose pending) (goes_on-operand loose pending) d b m
@@ -161,7 +161,7 @@ module _ (k : ℕ) (loose : Loose) (tight : Tight) (name : Name) (opened : List 
   behind-name-step x i = uncalled-step x i refl
 
 -- ---- everywhere
-within-step : (k : ℕ) (p : Progress) (opened : List Open) (x : Lexeme) → Inner x → Step k x p opened (fed_within p opened x)
+within-step : (k : ℕ) (p : TermProgress) (opened : List Open) (x : Lexeme) → Inner x → Step k x p opened (fed_within p opened x)
 within-step k Start opened x i =
     at-not-step k Start regular-start no_loose opened x i (λ g m. at-start (term_within (suc k)) no_loose x g m)
 within-step k (AtNot loose) opened x i =
@@ -180,7 +180,7 @@ parenthesis-closes = record { dead = λ inside. dead-parenthesis inside; no_name
 bracket-closes : Closer (Sign symbol.RightBracket)
 bracket-closes = record { dead = λ inside. dead-bracket inside; no_name = λ rest. refl; no_comma = refl; depth = refl; behind = refl }
 
-symbol-fed : (k : ℕ) (reader : Reader) (s : AnySymbol) → Step k (Sign s) reader.progress reader.opened (fed reader (Sign s))
+symbol-fed : (k : ℕ) (reader : TermReader) (s : AnySymbol) → Step k (Sign s) reader.progress reader.opened (fed reader (Sign s))
 symbol-fed k reader symbol.Comma = comma-step k reader.progress reader.opened
 symbol-fed k reader symbol.RightParenthesis =
     closing-step (Sign symbol.RightParenthesis) parenthesis-closes k reader.progress reader.opened
@@ -189,7 +189,7 @@ symbol-fed k reader symbol.RightBracket =
 symbol-fed k reader s =
     within-step k reader.progress reader.opened (Sign s) (record { no_comma = refl; no_parenthesis = refl; no_bracket = refl; deeper = refl })
 
-pub fed-step : (k : ℕ) (reader : Reader) (x : Lexeme) → Step k x reader.progress reader.opened (fed reader x)
+pub fed-step : (k : ℕ) (reader : TermReader) (x : Lexeme) → Step k x reader.progress reader.opened (fed reader x)
 fed-step k reader (Sign s) = symbol-fed k reader s
 fed-step k reader x =
     within-step k reader.progress reader.opened x (record { no_comma = refl; no_parenthesis = refl; no_bracket = refl; deeper = refl })

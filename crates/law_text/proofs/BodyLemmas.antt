@@ -7,16 +7,17 @@ use Rattle.model_tree.specs.Syntax.{Name, Expr, Statement, Statements, no_statem
 use Rattle.model_text.specs.Forms.{Profile, Def, Assign, Yield, YieldFrom, Print, Raise, Return, Pass, If, Else, While, Try, Except, Finally, WithGroup, WithTimeout, End}
 use Rattle.model_text.specs.Places.{Begins, Stands, role_of, Section}
 use Rattle.model_text.specs.SecondPass.{Line}
-use Rattle.model_text.specs.Bodies.{Cut, with_line, with_section, depth_behind, cut_at, cut_from, bodies, block_then, first_then, statements_within, statements_in, body_in, simple, handlers_in, finally_in, then_statements}
+use Rattle.model_text.specs.Bodies.{BlockLines, with_line, with_section, depth_behind, cut_at, cut_from, bodies, block_then, first_then, statements_within, statements_in, body_in, simple, handlers_in, finally_in, then_statements}
 use Rattle.model_text.specs.Spells.{Spells, spells_nothing, spells_next, SpellsOne, spells_line, spells_if, spells_while, spells_try, spells_group, spells_timeout, SpellsSection, no_section, section_with, SpellsHandlers, no_clauses, clause_then}
 
 -- ---- lines that a cut passes
-abbrev behind_lines : List Line → Cut → Cut
+abbrev behind_lines : List Line → BlockLines → BlockLines
 behind_lines lines cut = record cut { body = lines ++ cut.body }
 
-joined_lines : (first others : List Line) (cut : Cut) → behind_lines (first ++ others) cut ≡ behind_lines first (behind_lines others cut)
+joined_lines : (first others : List Line) (cut : BlockLines) → behind_lines (first ++ others) cut ≡ behind_lines first (behind_lines others cut)
 joined_lines first others cut =
-    ap (λ (body : List Line). let c : Cut = record { body = body; sections = cut.sections; behind = cut.behind } in c) (append_assoc first others cut.body)
+    ap (λ (body : List Line). let c : BlockLines = record { body = body; sections = cut.sections; behind = cut.behind } in c)
+    (append_assoc first others cut.body)
 
 -- From one depth to another the lines are lines of the body.
 abbrev Leads : ℕ → ℕ → List Line → Type 0
@@ -89,7 +90,7 @@ mutual
       leads-section (Except kind name) _ refl depth (lines ++ others) (leads-append (suc depth) (suc depth) (suc depth) lines others (leads inner (suc depth)) (leads_clauses more depth)) rest
 
 -- ---- the cut behind a head
-abbrev over : List Line → List Line → Cut
+abbrev over : List Line → List Line → BlockLines
 over lines behind = record { body = lines; sections = []; behind = behind }
 
 -- lines and the `end` behind them
@@ -134,14 +135,14 @@ no-room : (line : Line) (lines : List Line) → length (line ∷ lines) ≤ 0 �
 no-room line lines h = omega arith
 
 -- ---- what `except` clauses and what stands behind them read as
-pub record ClausesRead (count : ℕ) (cut behind : Cut) (handlers : Handlers) : Type 0 where
+pub record ClausesRead (count : ℕ) (cut behind : BlockLines) (handlers : Handlers) : Type 0 where
   pub body : cut.body ≡ []
   pub rest : cut.behind ≡ behind.behind
   pub clauses : handlers_in (bodies (statements_within count) cut.sections) ≡ handlers
   pub last : finally_in (bodies (statements_within count) cut.sections) ≡ finally_in (bodies (statements_within count) behind.sections)
 
 -- a clause in front of a cut
-clause_read : (count : ℕ) (kind : Kind) (name : Option Name) (lines : List Line) (body : Statements) (cut behind : Cut) (handlers : Handlers) → statements_within count lines ≡ body → ClausesRead count cut behind handlers → ClausesRead count (with_section (Except kind name) (behind_lines lines cut)) behind (handler_then kind name body handlers)
+clause_read : (count : ℕ) (kind : Kind) (name : Option Name) (lines : List Line) (body : Statements) (cut behind : BlockLines) (handlers : Handlers) → statements_within count lines ≡ body → ClausesRead count cut behind handlers → ClausesRead count (with_section (Except kind name) (behind_lines lines cut)) behind (handler_then kind name body handlers)
 clause_read count kind name lines body cut behind further e r = record {
   body = refl;
   rest = r.rest;
@@ -151,7 +152,7 @@ clause_read count kind name lines body cut behind further e r = record {
 }
 
 -- a `try` in front of its clauses
-try_read : (count : ℕ) (lines : List Line) (body : Statements) (cut behind : Cut) (handlers : Handlers) (finally : Branch) (others : List Line) → statements_within count lines ≡ body → ClausesRead count cut behind handlers → finally_in (bodies (statements_within count) behind.sections) ≡ finally → behind.behind ≡ others → block_then (statements_within count) Try (behind_lines lines cut) ≡ statement_then (plain.Try body handlers finally) (statements_within count others)
+try_read : (count : ℕ) (lines : List Line) (body : Statements) (cut behind : BlockLines) (handlers : Handlers) (finally : Branch) (others : List Line) → statements_within count lines ≡ body → ClausesRead count cut behind handlers → finally_in (bodies (statements_within count) behind.sections) ≡ finally → behind.behind ≡ others → block_then (statements_within count) Try (behind_lines lines cut) ≡ statement_then (plain.Try body handlers finally) (statements_within count others)
 try_read count lines body cut behind handlers finally others e r f o =
     let read : List Line → Statements = statements_within count in
     let hs : Handlers = handlers_in (bodies read cut.sections) in
@@ -178,7 +179,7 @@ mutual
       let within : length (lines ++ (Else ∷ (lines' ++ End ∷ []))) ≤ count = tail-le (If test) (lines ++ (Else ∷ (lines' ++ End ∷ []))) count h in
       let within' : length (lines' ++ End ∷ []) ≤ count =
       tail-le_more Else (lines' ++ End ∷ []) count (right-le lines (Else ∷ (lines' ++ End ∷ [])) count within) in
-      ap (λ l. block_then (statements_within count) (If test) (cut_from 0 l)) (four lines (Else ∷ lines') (End ∷ []) others) ∙ (ap (block_then (statements_within count) (If test)) (leads inner 0 (Else ∷ (lines' ++ (End ∷ others))) ∙ ap (λ (c : Cut). behind_lines lines (with_section Else c)) (cut_ended lines' others (leads inner' 0))) ∙ (ap (λ (l : List Line). statement_then (plain.If test (statements_within count l) (branch (statements_within count lines'))) (statements_within count others)) (append-nil lines) ∙ (ap (λ (s : Statements). statement_then (plain.If test s (branch (statements_within count lines'))) (statements_within count others)) (reads inner count (left-le lines _ count within)) ∙ ap (λ (s : Statements). statement_then (plain.If test body (branch s)) (statements_within count others)) (reads inner' count (left-le lines' (End ∷ []) count within')))))
+      ap (λ l. block_then (statements_within count) (If test) (cut_from 0 l)) (four lines (Else ∷ lines') (End ∷ []) others) ∙ (ap (block_then (statements_within count) (If test)) (leads inner 0 (Else ∷ (lines' ++ (End ∷ others))) ∙ ap (λ (c : BlockLines). behind_lines lines (with_section Else c)) (cut_ended lines' others (leads inner' 0))) ∙ (ap (λ (l : List Line). statement_then (plain.If test (statements_within count l) (branch (statements_within count lines'))) (statements_within count others)) (append-nil lines) ∙ (ap (λ (s : Statements). statement_then (plain.If test s (branch (statements_within count lines'))) (statements_within count others)) (reads inner count (left-le lines _ count within)) ∙ ap (λ (s : Statements). statement_then (plain.If test body (branch s)) (statements_within count others)) (reads inner' count (left-le lines' (End ∷ []) count within')))))
   reads_one (spells_while {test = test} {lines = lines} inner) count others h =
       ap (λ l. block_then (statements_within count) (While test) (cut_from 0 l)) (append_assoc lines (End ∷ []) others) ∙ (ap (block_then (statements_within count) (While test)) (cut_ended lines others (leads inner 0)) ∙ ap (λ (s : Statements). statement_then (plain.While test s) (statements_within count others)) (reads inner count (left-le lines (End ∷ []) count (tail-le (While test) (lines ++ End ∷ []) count h))))
   reads_one (spells_group {name = name} {lines = lines} inner) count others h =
@@ -194,17 +195,17 @@ mutual
       let within : length (lines ++ (clauses ++ last)) ≤ count = tail-le Try (lines ++ (clauses ++ last)) count h in
       let behind : length (clauses ++ last) ≤ count = right-le lines (clauses ++ last) count within in
       let room : length (lines' ++ End ∷ []) ≤ count = tail-le_more Finally (lines' ++ End ∷ []) count (right-le clauses last count behind) in
-      let cut : Cut = with_section Finally (over lines' others) in
+      let cut : BlockLines = with_section Finally (over lines' others) in
       ap (λ l. block_then (statements_within count) Try (cut_from 0 l)) (five lines clauses (Finally ∷ lines') (End ∷ []) others) ∙ (ap (block_then (statements_within count) Try) (leads inner 0 (clauses ++ (Finally ∷ (lines' ++ (End ∷ others))))) ∙ try_read count lines body (cut_from 0 (clauses ++ (Finally ∷ (lines' ++ (End ∷ others))))) cut handlers (branch body') others (reads inner count (left-le lines (clauses ++ last) count within)) (reads_clauses each count (left-le clauses last count behind) (Finally ∷ (lines' ++ (End ∷ others))) cut (ap (with_section Finally) (cut_ended lines' others (leads inner' 0))) refl refl) (ap branch (reads inner' count (left-le lines' (End ∷ []) count room))) refl)
 
-  reads_clauses : {lines : List Line} {handlers : Handlers} → SpellsHandlers lines handlers → (count : ℕ) → length lines ≤ count → (rest : List Line) (behind : Cut) → cut_from 0 rest ≡ behind → behind.body ≡ [] → handlers_in (bodies (statements_within count) behind.sections) ≡ no_handlers → ClausesRead count (cut_from 0 (lines ++ rest)) behind handlers
+  reads_clauses : {lines : List Line} {handlers : Handlers} → SpellsHandlers lines handlers → (count : ℕ) → length lines ≤ count → (rest : List Line) (behind : BlockLines) → cut_from 0 rest ≡ behind → behind.body ≡ [] → handlers_in (bodies (statements_within count) behind.sections) ≡ no_handlers → ClausesRead count (cut_from 0 (lines ++ rest)) behind handlers
   reads_clauses no_clauses count h rest behind e empty none =
-      subst (λ (c : Cut). ClausesRead count c behind no_handlers) (sym e) (record { body = empty; rest = refl; clauses = none; last = refl })
+      subst (λ (c : BlockLines). ClausesRead count c behind no_handlers) (sym e) (record { body = empty; rest = refl; clauses = none; last = refl })
   reads_clauses (clause_then {kind = kind} {name = name} {lines = lines} {others = others} {body = body} {handlers = handlers} inner more) count h rest behind e empty none =
       let within : length (lines ++ others) ≤ count = tail-le_more (Except kind name) (lines ++ others) count h in
       let here : cut_from 0 ((lines ++ others) ++ rest) ≡ behind_lines lines (cut_from 0 (others ++ rest)) =
       ap (cut_from 0) (append_assoc lines others rest) ∙ leads inner 0 (others ++ rest) in
-      subst (λ (c : Cut). ClausesRead count (with_section (Except kind name) c) behind (handler_then kind name body handlers)) (sym here) (clause_read count kind name lines body (cut_from 0 (others ++ rest)) behind handlers (reads inner count (left-le lines others count within)) (reads_clauses more count (right-le lines others count within) rest behind e empty none))
+      subst (λ (c : BlockLines). ClausesRead count (with_section (Except kind name) c) behind (handler_then kind name body handlers)) (sym here) (clause_read count kind name lines body (cut_from 0 (others ++ rest)) behind handlers (reads inner count (left-le lines others count within)) (reads_clauses more count (right-le lines others count within) rest behind e empty none))
 
 -- lines that spell statements by cases are read as these
 pub spelled-read : (lines : List Line) (statements : Statements) → Spells lines statements → statements_in lines ≡ statements
@@ -214,4 +215,4 @@ spelled-read lines body spelled = reads spelled (length lines) (omega arith)
 -- the lines of a coroutine, with its `end`
 pub spelled-body : (lines : List Line) (statements : Statements) → Spells lines statements → body_in (lines ++ End ∷ []) ≡ statements
 spelled-body lines body spelled =
-    ap (λ (cut : Cut). statements_in cut.body) (cut_ended lines [] (leads spelled 0)) ∙ spelled-read lines body spelled
+    ap (λ (cut : BlockLines). statements_in cut.body) (cut_ended lines [] (leads spelled 0)) ∙ spelled-read lines body spelled

@@ -151,12 +151,12 @@ front_found (Stray byte) rest f =
     ap (λ p. Some p) (piece_at-other byte rest f.0 f.1 f.2 f.3 ∙ ap (punctuation_at byte) (symbol_at-none (byte ∷ rest) f.4))
 
 -- The bytes are this piece, which fits, and a rest.
-pub record Stands (bytes : List ℕ) (piece : Piece) : Type 0 where
+pub record StandsInFront (bytes : List ℕ) (piece : Piece) : Type 0 where
   pub rest : List ℕ
   pub whole : bytes ≡ piece_text piece ++ rest
   pub fits : Fits piece rest
 
-stands-literal : (literal : Literal) (others : List ℕ) (o : Option (List ℕ)) → inside_of false others ≡ o → Stands (opening literal ++ others) (literal_at literal others o)
+stands-literal : (literal : Literal) (others : List ℕ) (o : Option (List ℕ)) → inside_of false others ≡ o → StandsInFront (opening literal ++ others) (literal_at literal others o)
 stands-literal literal others None e = record {
   rest = [];
   whole = sym (append-nil (opening literal ++ others));
@@ -171,24 +171,24 @@ stands-literal literal others (Some inside) e =
       fits = c.closes;
     }
 
-stands-space : (byte : ℕ) (bytes : List ℕ) → is_space byte ≡ true → Stands (byte ∷ bytes) (piece_at byte bytes)
+stands-space : (byte : ℕ) (bytes : List ℕ) → is_space byte ≡ true → StandsInFront (byte ∷ bytes) (piece_at byte bytes)
 stands-space byte bytes h =
     rw (piece_at-space byte bytes h) (record { rest = bytes; whole = ap (λ first. first ∷ bytes) (eqb-true byte 32 h); fits = tt })
 
-stands-hash : (byte : ℕ) (bytes : List ℕ) → is_hash byte ≡ true → Stands (byte ∷ bytes) (piece_at byte bytes)
+stands-hash : (byte : ℕ) (bytes : List ℕ) → is_hash byte ≡ true → StandsInFront (byte ∷ bytes) (piece_at byte bytes)
 stands-hash byte bytes h =
     rw (piece_at-hash byte bytes h) (record { rest = []; whole = sym (append-nil (byte ∷ bytes)); fits = (h, refl) })
 
-stands-quote : (byte : ℕ) (bytes : List ℕ) → is_quote byte ≡ true → Stands (byte ∷ bytes) (piece_at byte bytes)
+stands-quote : (byte : ℕ) (bytes : List ℕ) → is_quote byte ≡ true → StandsInFront (byte ∷ bytes) (piece_at byte bytes)
 stands-quote byte bytes h =
     rw (piece_at-quote byte bytes h, eqb-true byte 34 h) (stands-literal OfText bytes (inside_of false bytes) refl)
 
-stands-b : (byte : ℕ) (bytes : List ℕ) → eqb byte 98 ≡ true → is_quote (slice_index bytes 0) ≡ true → Stands (byte ∷ bytes) (piece_at byte bytes)
+stands-b : (byte : ℕ) (bytes : List ℕ) → eqb byte 98 ≡ true → is_quote (slice_index bytes 0) ≡ true → StandsInFront (byte ∷ bytes) (piece_at byte bytes)
 stands-b byte [] b q = cc
 stands-b byte (quote ∷ bytes) b q =
     rw (piece_at-b byte (quote ∷ bytes) b q, eqb-true byte 98 b, eqb-true quote 34 q) (stands-literal OfBytes bytes (inside_of false bytes) refl)
 
-stands-digit : (byte : ℕ) (bytes : List ℕ) → is_ascii_digit byte ≡ true → Stands (byte ∷ bytes) (piece_at byte bytes)
+stands-digit : (byte : ℕ) (bytes : List ℕ) → is_ascii_digit byte ≡ true → StandsInFront (byte ∷ bytes) (piece_at byte bytes)
 stands-digit byte bytes d =
     let w = digit-word byte d in
     let run = one_more is_word byte bytes (take_while is_word bytes) w (run_of is_word bytes) in
@@ -205,27 +205,27 @@ no_quote_behind_b byte bytes run rest n whole e =
     let same : bytes ≡ rest = whole ∙ ap (λ run. run ++ rest) none in
     first_no_quote rest (rw (b, same) at n)
 
-stands-word : (byte : ℕ) (bytes : List ℕ) → is_word byte ≡ true → is_ascii_digit byte ≡ false → (eqb byte 98 && is_quote (slice_index bytes 0)) ≡ false → Stands (byte ∷ bytes) (piece_at byte bytes)
+stands-word : (byte : ℕ) (bytes : List ℕ) → is_word byte ≡ true → is_ascii_digit byte ≡ false → (eqb byte 98 && is_quote (slice_index bytes 0)) ≡ false → StandsInFront (byte ∷ bytes) (piece_at byte bytes)
 stands-word byte bytes w d n =
     let run = one_more is_word byte bytes (take_while is_word bytes) w (run_of is_word bytes) in
     let behind : bytes ≡ take_while is_word bytes ++ run.rest = let whole = run.whole in cc in
     rw (piece_at-word byte bytes w d n, take_while-cons_passes is_word byte bytes w) (record { rest = run.rest; whole = run.whole; fits = ((d, run.passes), run.stops, no_quote_behind_b byte bytes (take_while is_word bytes) run.rest n behind) })
 
-stands-punctuation : (byte : ℕ) (bytes : List ℕ) (o : Option Symbol) → is_space byte ≡ false → is_hash byte ≡ false → is_quote byte ≡ false → is_word byte ≡ false → SymbolIs (byte ∷ bytes) o → Stands (byte ∷ bytes) (punctuation_at byte o)
+stands-punctuation : (byte : ℕ) (bytes : List ℕ) (o : Option Symbol) → is_space byte ≡ false → is_hash byte ≡ false → is_quote byte ≡ false → is_word byte ≡ false → SymbolIs (byte ∷ bytes) o → StandsInFront (byte ∷ bytes) (punctuation_at byte o)
 stands-punctuation byte bytes None s h q w found = record { rest = bytes; whole = refl; fits = (s, h, q, w, found) }
 stands-punctuation byte bytes (Some symbol) s h q w found =
     record { rest = found.0; whole = found.1; fits = found.2 }
 
-stands-other : (byte : ℕ) (bytes : List ℕ) → is_space byte ≡ false → is_hash byte ≡ false → is_quote byte ≡ false → is_word byte ≡ false → Stands (byte ∷ bytes) (piece_at byte bytes)
+stands-other : (byte : ℕ) (bytes : List ℕ) → is_space byte ≡ false → is_hash byte ≡ false → is_quote byte ≡ false → is_word byte ≡ false → StandsInFront (byte ∷ bytes) (piece_at byte bytes)
 stands-other byte bytes s h q w =
     rw (piece_at-other byte bytes s h q w) (stands-punctuation byte bytes (symbol_at (byte ∷ bytes)) s h q w (symbol_is (byte ∷ bytes)))
 
 -- The piece at the front fits.
-pub stands : (byte : ℕ) (bytes : List ℕ) → Stands (byte ∷ bytes) (piece_at byte bytes)
+pub stands : (byte : ℕ) (bytes : List ℕ) → StandsInFront (byte ∷ bytes) (piece_at byte bytes)
 stands byte bytes =
     by_tests (is_space byte) (is_hash byte) (is_quote byte) (is_word byte) (is_ascii_digit byte) (eqb byte 98 && is_quote (slice_index bytes 0)) refl refl refl refl refl refl
   where
-    by_tests : (s h q w d b : Bool) → is_space byte ≡ s → is_hash byte ≡ h → is_quote byte ≡ q → is_word byte ≡ w → is_ascii_digit byte ≡ d → (eqb byte 98 && is_quote (slice_index bytes 0)) ≡ b → Stands (byte ∷ bytes) (piece_at byte bytes)
+    by_tests : (s h q w d b : Bool) → is_space byte ≡ s → is_hash byte ≡ h → is_quote byte ≡ q → is_word byte ≡ w → is_ascii_digit byte ≡ d → (eqb byte 98 && is_quote (slice_index bytes 0)) ≡ b → StandsInFront (byte ∷ bytes) (piece_at byte bytes)
     by_tests true h q w d b es eh eq ew ed eb = stands-space byte bytes es
     by_tests false true q w d b es eh eq ew ed eb = stands-hash byte bytes eh
     by_tests false false true w d b es eh eq ew ed eb = stands-quote byte bytes eq

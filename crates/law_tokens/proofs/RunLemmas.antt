@@ -20,13 +20,13 @@ take_while-run p (x ∷ run) xs all stop =
     take_while-cons p x (run ++ xs) ∙ rw parts.0 (ap (λ others. x ∷ others) (take_while-run p run xs parts.1 stop))
 
 -- a list is its longest front that passes, and a rest that doesn't go on
-pub record Run (p : ℕ → Bool) (xs run : List ℕ) : Type 0 where
+pub record LongestRun (p : ℕ → Bool) (xs run : List ℕ) : Type 0 where
   pub rest : List ℕ
   pub whole : xs ≡ run ++ rest
   pub passes : list_all p run ≡ true
   pub stops : FirstIs p false rest
 
-pub one_more : (p : ℕ → Bool) (x : ℕ) (xs run : List ℕ) → p x ≡ true → Run p xs run → Run p (x ∷ xs) (x ∷ run)
+pub one_more : (p : ℕ → Bool) (x : ℕ) (xs run : List ℕ) → p x ≡ true → LongestRun p xs run → LongestRun p (x ∷ xs) (x ∷ run)
 one_more p x xs run passes r = record {
   rest = r.rest;
   whole = ap (λ others. x ∷ others) r.whole;
@@ -34,10 +34,11 @@ one_more p x xs run passes r = record {
   stops = r.stops;
 }
 
-by_test : (p : ℕ → Bool) (x : ℕ) (xs : List ℕ) (b : Bool) → p x ≡ b → Run p xs (take_while p xs) → Run p (x ∷ xs) (cond b (x ∷ take_while p xs) [])
+by_test : (p : ℕ → Bool) (x : ℕ) (xs : List ℕ) (b : Bool) → p x ≡ b → LongestRun p xs (take_while p xs)
+    → LongestRun p (x ∷ xs) (cond b (x ∷ take_while p xs) [])
 by_test p x xs true e r = one_more p x xs (take_while p xs) e r
 by_test p x xs false e r = record { rest = x ∷ xs; whole = refl; passes = refl; stops = e }
 
-pub run_of : (p : ℕ → Bool) (xs : List ℕ) → Run p xs (take_while p xs)
+pub run_of : (p : ℕ → Bool) (xs : List ℕ) → LongestRun p xs (take_while p xs)
 run_of p [] = record { rest = []; whole = refl; passes = refl; stops = tt }
 run_of p (x ∷ xs) = rw (take_while-cons p x xs) (by_test p x xs (p x) refl (run_of p xs))

@@ -16,7 +16,7 @@ use Rattle.law_cancel.proofs.Counting.{goes-done}
 use Rattle.law_settling.specs.Frames.{IsNoTask, Covers}
 use Rattle.model_loop.specs.Owning.{owner_at, owner_of, own_future, is_plain, is_plain_at}
 use Rattle.model_loop.specs.Sound.{ArePartsSound}
-use Rattle.model_loop.specs.Children.{IsTold, IsKept, HasErrors, body_at_end, HasPlainExit}
+use Rattle.model_loop.specs.Children.{IsTold, IsKeptGroup, HasErrors, body_at_end, HasPlainExit}
 use Rattle.law_told.specs.Holds.{Holds}
 use Rattle.law_settling.proofs.Settling.{IsSettled, settle_cases, settle_effect}
 use Rattle.law_settling.proofs.Looks.{LooksSame, future_of-same, change_looks_same, asked_looks_same}
@@ -25,13 +25,13 @@ use Rattle.law_settling.proofs.Spreading.{Spreads, begins, settles, asks, raises
 use Rattle.law_told.proofs.Told.{same_told, settled_told, settled-owned, cancel_told, failures_kept}
 
 -- the same futures and tasks are there, and none changes its owner
-pub record Names (p q : Parts) : Type 0 where
+pub record KeepsOwners (p q : Parts) : Type 0 where
   pub owned : (task : ℕ) → own_future q task ≡ own_future p task
   pub owners : (id : ℕ) → owner_of q id ≡ owner_of p id
   pub plains : (id : ℕ) → is_plain q id ≡ is_plain p id
   pub made : length q.futures ≡ length p.futures
 
-pub settled_names : (id : ℕ) (p q : Parts) → IsSettled id p q → Names p q
+pub settled_names : (id : ℕ) (p q : Parts) → IsSettled id p q → KeepsOwners p q
 settled_names id p q s = record { owned = settled-owned s; owners = λ j. at j (cases_eq id j); plains = λ j. plain j (cases_eq id j); made = s.made }
   where
     at : (j : ℕ) → (id ≡ j) ⊎ (id ≡ j → ⊥) → owner_of q j ≡ owner_of p j
@@ -42,10 +42,10 @@ settled_names id p q s = record { owned = settled-owned s; owners = λ j. at j (
     plain j (inl same) = subst (λ i. is_plain q i ≡ is_plain p i) same s.plain
     plain j (inr n) = ap is_plain_at (s.others j n)
 
-pub looks_names : (p q : Parts) → LooksSame p q → Names p q
+pub looks_names : (p q : Parts) → LooksSame p q → KeepsOwners p q
 looks_names p q s = record { owned = s.owned; owners = s.owners; plains = s.plains; made = s.made }
 
-pub names_on : (p q r : Parts) → Names q r → Names p q → Names p r
+pub names_on : (p q r : Parts) → KeepsOwners q r → KeepsOwners p q → KeepsOwners p r
 names_on p q r b a = record {
   owned = λ t. b.owned t ∙ a.owned t;
   owners = λ i. b.owners i ∙ a.owners i;
@@ -54,7 +54,7 @@ names_on p q r b a = record {
       ∙ a.made;
 }
 
-pub cancels_names : {s : List ℕ} {p : Parts} {t : List ℕ} {q : Parts} → Spreads s p t q → Names p q
+pub cancels_names : {s : List ℕ} {p : Parts} {t : List ℕ} {q : Parts} → Spreads s p t q → KeepsOwners p q
 cancels_names begins = record { owned = λ t. refl; owners = λ i. refl; plains = λ i. refl; made = refl }
 cancels_names {p = p} (settles {q = q} g id future e o k) = names_on p q _ (settled_names id q _ (settle_effect id Cancelled q future e o)) (cancels_names g)
 cancels_names {p = p} (asks {q = q} g id future members asked e o k) = names_on p q _ (looks_names q _ (asked_looks_same id q future e)) (cancels_names g)
@@ -62,7 +62,7 @@ cancels_names {p = p} (raises {q = q} g id task n e) = names_on p q _ (looks_nam
 cancels_names {p = p} (marks {q = q} g id can) = names_on p q _ (looks_names q _ (change_looks_same id _ q (λ t. refl) (λ t. refl))) (cancels_names g)
 
 -- what holds goes on where names stay and done futures do
-pub holds_to : (r e running excused : Option ℕ) (told heard : ℕ → List ℕ) (groups : ℕ → Group) (p q : Parts) → Names p q
+pub holds_to : (r e running excused : Option ℕ) (told heard : ℕ → List ℕ) (groups : ℕ → Group) (p q : Parts) → KeepsOwners p q
     → ((id : ℕ) → is_pending p id ≡ false → future_outcome q id ≡ future_outcome p id) → ArePartsSound running excused q
     → ((id : ℕ) → IsTold q id (told id) (groups id)) → Holds r e told heard groups p → Holds running excused told heard groups q
 holds_to r e running excused told heard groups p q names stay sound tellings h = record {
@@ -79,7 +79,7 @@ holds_to r e running excused told heard groups p q names stay sound tellings h =
         let d : lives p task ≡ false = (h.tellings id).told_done task (h.heards id task o).0 in
         ap (λ i. failure_in (future_outcome q i)) (future_of-same p q names.made task (names.owned task)) ∙ ap failure_in (stay (future_of p task) d))))
 
-pub holds_on : (running excused : Option ℕ) (told heard : ℕ → List ℕ) (groups : ℕ → Group) (p q : Parts) → Names p q
+pub holds_on : (running excused : Option ℕ) (told heard : ℕ → List ℕ) (groups : ℕ → Group) (p q : Parts) → KeepsOwners p q
     → ((id : ℕ) → is_pending p id ≡ false → future_outcome q id ≡ future_outcome p id) → ArePartsSound running excused q
     → ((id : ℕ) → IsTold q id (told id) (groups id)) → Holds running excused told heard groups p
     → Holds running excused told heard groups q
@@ -137,7 +137,7 @@ pub record Fits (p : Parts) (id : ℕ) (told heard : List ℕ) (it : Group) : Ty
   pub tellings : IsTold p id told it
   pub heards : (task : ℕ) → 1 ≤ occurrences task heard → (1 ≤ occurrences task told) × (1 ≤ occurrences task it.made)
   pub errors : HasErrors p heard it
-  pub kept : IsKept told it
+  pub kept : IsKeptGroup told it
   pub exits : HasPlainExit p it
 
 pub fits_at : (running excused : Option ℕ) (told heard : ℕ → List ℕ) (groups : ℕ → Group) (p : Parts) → Holds running excused told heard groups p → (id : ℕ)

@@ -5,7 +5,7 @@ use Rattle.model_loop.specs.Suspend.{cancel_wait, suspend, suspend_unless, wait_
 use Rattle.model_value.specs.Value.{Exc, Outcome, Value}
 use Rattle.model_loop.specs.Futures.{future_outcome, is_pending, outcome_at, settle}
 use Rattle.law_steps.proofs.Waiting.{IsWaiting, suspend_sound, task_there, wait_effect}
-use Rattle.law_told.proofs.Holding.{Names, cancels_names, holds_to, looks_holds, names_on, settled_names}
+use Rattle.law_told.proofs.Holding.{KeepsOwners, cancels_names, holds_to, looks_holds, names_on, settled_names}
 use Rattle.model_loop.specs.Ways.{resumes, steps}
 use Rattle.model_loop.specs.Cancel.{cancel}
 use Rattle.std.proofs.lemmas.Bool.{cases_eq, eq-eqb, false≢true}
@@ -31,7 +31,7 @@ use Rattle.model_loop.specs.Owning.{is_plain_at, owner_at}
 
 -- a change of a task that keeps its future
 change_names : (id : ℕ) (change : Task → Task) (p : Parts) → ((t : Task) → (change t).future ≡ t.future)
-    → Names p (change_task id change p)
+    → KeepsOwners p (change_task id change p)
 change_names id change p future = record {
   owned = λ task. change_task-kept (option_map (λ (t : Task). t.future)) id change p (λ t. ap Some (future t)) task;
   owners = λ j. ap (λ (l : List Future). owner_at (slice_get l j)) fs;
@@ -46,7 +46,7 @@ change_outcomes : (id : ℕ) (change : Task → Task) (p : Parts) (j : ℕ)
     → future_outcome (change_task id change p) j ≡ future_outcome p j
 change_outcomes id change p j = ap (λ (l : List Future). outcome_at (slice_get l j)) (change_task-futures id change p)
 
-same_names : (p q : Parts) → q.futures ≡ p.futures → q.tasks ≡ p.tasks → Names p q
+same_names : (p q : Parts) → q.futures ≡ p.futures → q.tasks ≡ p.tasks → KeepsOwners p q
 same_names p q fs ts = record {
   owned = λ task. ap (λ (l : List Task). option_map (λ (t : Task). t.future) (slice_get l task)) ts;
   owners = λ j. ap (λ (l : List Future). owner_at (slice_get l j)) fs;
@@ -91,27 +91,27 @@ module _ (told heard : ℕ → List ℕ) (groups : ℕ → Group) where
         let g = pending_there p on here in
         wait_effect task on p u.0 g.future u.1 g.there g.pending
 
-    waits : Names p (wait_on task on p)
+    waits : KeepsOwners p (wait_on task on p)
     waits = record { owned = w.owned; owners = w.owners; plains = w.plains; made = w.made }
 
-    asked : Names p (cancel on (wait_on task on p)).parts
+    asked : KeepsOwners p (cancel on (wait_on task on p)).parts
     asked = names_on p (wait_on task on p) _ (cancels_names (with_spread on [] (wait_on task on p))) waits
 
-    answered : (b : Bool) → Names p (cond b (unmark task (cancel on (wait_on task on p)).parts) (cancel on (wait_on task on p)).parts)
+    answered : (b : Bool) → KeepsOwners p (cond b (unmark task (cancel on (wait_on task on p)).parts) (cancel on (wait_on task on p)).parts)
     answered true =
         names_on p (cancel on (wait_on task on p)).parts _
         (change_names task (λ t. record t { must_cancel = false }) (cancel on (wait_on task on p)).parts (λ t. refl)) asked
     answered false = asked
 
-    marked : (b : Bool) → Names p (cancel_wait b task on (wait_on task on p)).parts
+    marked : (b : Bool) → KeepsOwners p (cancel_wait b task on (wait_on task on p)).parts
     marked false = waits
     marked true = answered (cancel on (wait_on task on p)).answer
 
-    named : (o : Option Circle) → Names p (suspend_unless o task on p).parts
+    named : (o : Option Circle) → KeepsOwners p (suspend_unless o task on p).parts
     named (Some why) = same_names p (soon (StepInCircle task why) p) refl refl
     named None = marked (is_marked p task)
 
-    pub suspend_names : Names p (suspend task on p).parts
+    pub suspend_names : KeepsOwners p (suspend task on p).parts
     suspend_names = named (circle p task on)
 
     stay : (j : ℕ) → is_pending p j ≡ false → (o : Option Circle)

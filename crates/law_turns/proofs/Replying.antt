@@ -22,7 +22,7 @@ use Rattle.model_loop.specs.Timeouts.{exit_timeout, is_active, next_timeout, tim
 use Rattle.model_machine.specs.Arguments.{as_future, as_awaited, as_task, as_timeout, as_group, as_int, as_delay, as_failure}
 use Rattle.model_machine.specs.Extra.{Extra}
 use Rattle.model_machine.specs.Outcomes.{input_of}
-use Rattle.model_machine.specs.Replies.{Reply, given, most_ids, numbered_if, numbered, replied, ended, result_of, shown_all, awaits_as, awaits, alarmed, sleeps, makes_future, settles_if, settles, requests, counted, spawns, enters_timeout, timed_out_if, exits_timeout, reschedules_if, reschedules, enters_group, exits_as, exits_group, creates_unless, creates, reply}
+use Rattle.model_machine.specs.Replies.{RequestReply, given, most_ids, numbered_if, numbered, replied, ended, result_of, shown_all, awaits_as, awaits, alarmed, sleeps, makes_future, settles_if, settles, requests, counted, spawns, enters_timeout, timed_out_if, exits_timeout, reschedules_if, reschedules, enters_group, exits_as, exits_group, creates_unless, creates, reply}
 use Rattle.model_machine.specs.State.{State, with_loop}
 use Rattle.model_machine.specs.Told.{told_by, told_in}
 use Rattle.law_cancel.proofs.Lookups.{get-push_last}
@@ -48,12 +48,12 @@ by_script task = record { timeout = λ id. refl; group = λ id. refl }
 
 module _ {S : Type 0} (task : ℕ) where
   -- ---- refusals
-  given_sound : {A : Type 0} (o : Option A) (next : A → State S → Reply S) (s : State S) → RunsSound task s
+  given_sound : {A : Type 0} (o : Option A) (next : A → State S → RequestReply S) (s : State S) → RunsSound task s
       → ((a : A) → o ≡ Some a → RepliesSound task (next a s)) → RepliesSound task (given o next s)
   given_sound None next s sound each = sound
   given_sound (Some a) next s sound each = each a refl
 
-  numbered_sound : (made : ℕ) (next : State S → Reply S) (s : State S) → RunsSound task s → RepliesSound task (next s)
+  numbered_sound : (made : ℕ) (next : State S → RequestReply S) (s : State S) → RunsSound task s → RepliesSound task (next s)
       → RepliesSound task (numbered made next s)
   numbered_sound made next s sound h = at (nat_lt made most_ids)
     where

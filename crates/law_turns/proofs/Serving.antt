@@ -6,7 +6,7 @@ use Rattle.model_wire.specs.declared.event.Event.TheVariants as event
 use Rattle.model_loop.specs.Parts.{Handle}
 use Rattle.model_loop.specs.Ways.{steps}
 use Rattle.model_machine.specs.Extra.{Extra}
-use Rattle.model_machine.specs.Replies.{Reply, Answers, Raises, Rests, Halts, reply}
+use Rattle.model_machine.specs.Replies.{RequestReply, Answers, Raises, Rests, Halts, reply}
 use Rattle.model_machine.specs.State.{State, generator_of, noted, unbooked_in}
 use Rattle.model_machine.specs.Step.{taken_as, says_of, served, serve, serve_all, most_answers, step}
 use Rattle.model_machine.specs.Told.{told_in}
@@ -21,7 +21,7 @@ use Rattle.law_turns.proofs.Stepping.{step_begins}
 module _ {S : Type 0} (limit : ℕ) (added : Extra S) (task : ℕ) where
   -- what comes after an answer
   after_sound : (Fits : State S → Type 0) (go_on : State S → Went S)
-      → ((t : State S) → RunsSound task t → Fits t → LeavesSoundLoop (go_on t)) → (fresh : Bool) (r : Reply S)
+      → ((t : State S) → RunsSound task t → Fits t → LeavesSoundLoop (go_on t)) → (fresh : Bool) (r : RequestReply S)
       → RepliesSound task r → FitsAfter Fits fresh task r → LeavesSoundLoop (taken_as r fresh task go_on)
   after_sound Fits go_on each fresh (Answers value now) h fit = each _ h fit
   after_sound Fits go_on each fresh (Raises fault now) h fit = each _ h fit

@@ -23,8 +23,8 @@ use Rattle.std.proofs.Common.{arith}
 use Rattle.std.specs.List.{flat_map}
 use Rattle.model_value.specs.declared.action.Action.TheVariants as action
 use Rattle.model_wire.specs.declared.item.Item.TheVariants as item
-use Rattle.model_wire.specs.declared.item.Ready.{Ready}
-use Rattle.model_wire.specs.declared.item.Ready.TheVariants as ready
+use Rattle.model_wire.specs.declared.item.Readiness.{Readiness}
+use Rattle.model_wire.specs.declared.item.Readiness.TheVariants as ready
 use Rattle.model_loop.specs.Handles.{soon, soon_all}
 use Rattle.model_loop.specs.Totals.{pending_where}
 use Rattle.law_settling.proofs.Settling.{soon-where}
@@ -122,7 +122,7 @@ pub soon_all-append : (xs ys : List Action) (p : Parts) → soon_all (xs ++ ys) 
 soon_all-append [] ys p = refl
 soon_all-append (x ∷ xs) ys p = soon_all-append xs ys (soon x p)
 
-ready_sound : (told : ℕ → List ℕ) (conn : ℕ) (letters : Ready) (l : Loop) → IsSound None told l
+ready_sound : (told : ℕ → List ℕ) (conn : ℕ) (letters : Readiness) (l : Loop) → IsSound None told l
     → IsSound None told (in_parts (soon_all (ready_actions conn letters)) l)
 ready_sound told conn ready.Read l s = news_sound told (action.Readable conn) l refl refl s
 ready_sound told conn ready.Write l s = news_sound told (action.Writable conn) l refl refl s

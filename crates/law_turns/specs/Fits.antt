@@ -7,7 +7,7 @@ use Rattle.model_says.specs.Endings.{Saying, Asks, Returns, Raises as Raised, Ru
 use Rattle.model_loop.specs.Groups.{group_of}
 use Rattle.model_loop.specs.Tasks.{begin_step}
 use Rattle.model_machine.specs.Extra.{Extra}
-use Rattle.model_machine.specs.Replies.{Reply, Answers, Raises, Rests, Halts, decides, reply}
+use Rattle.model_machine.specs.Replies.{RequestReply, Answers, Raises, Rests, Halts, decides, reply}
 use Rattle.model_machine.specs.State.{Asked, State, generator_of, resumed, stands, unbooked_in}
 use Rattle.model_machine.specs.Step.{given_up, most_answers, says_of}
 use Rattle.law_turns.specs.Replied.{HasPlainFutures, IsFit}
@@ -19,7 +19,7 @@ HasNoOpenGroup task s =
     → task ≡ (group_of s.loop id).parent → ⊥
 
 -- what comes after an answer
-abbrev pub FitsAfter : {S : Type 0} → (State S → Type 0) → (fresh : Bool) → ℕ → Reply S → Type 0
+abbrev pub FitsAfter : {S : Type 0} → (State S → Type 0) → (fresh : Bool) → ℕ → RequestReply S → Type 0
 FitsAfter then_ fresh task (Answers value now) = then_ (resumed fresh task (Send value) now)
 FitsAfter then_ fresh task (Raises fault now) = then_ (resumed fresh task (Throw fault) now)
 FitsAfter then_ fresh task (Rests now) = Unit {0}

@@ -9,7 +9,7 @@ use Rattle.model_loop.specs.Owning.{is_plain}
 use Rattle.model_loop.specs.Sound.{IsSound}
 use Rattle.model_loop.specs.Timeouts.{timeout_of}
 use Rattle.model_machine.specs.Arguments.{as_awaited, as_timeout, as_group}
-use Rattle.model_machine.specs.Replies.{Reply, Answers, Raises, Rests, Halts}
+use Rattle.model_machine.specs.Replies.{RequestReply, Answers, Raises, Rests, Halts}
 use Rattle.model_machine.specs.State.{Standing, Asked, Sleeping, Leaving, Serving, State}
 use Rattle.model_machine.specs.Told.{told_in}
 use Rattle.law_ledger.specs.Telling.{is_open}
@@ -24,7 +24,7 @@ abbrev pub HasPlainFutures : {S : Type 0} → State S → Type 0
 HasPlainFutures s = (id on : ℕ) → slice_get s.futures id ≡ Some on → is_plain s.loop.parts on ≡ true
 
 -- a request that was answered leaves the step sound, and one that ends the step the whole
-abbrev pub RepliesSound : {S : Type 0} → ℕ → Reply S → Type 0
+abbrev pub RepliesSound : {S : Type 0} → ℕ → RequestReply S → Type 0
 RepliesSound task (Answers value now) = RunsSound task now
 RepliesSound task (Raises fault now) = RunsSound task now
 RepliesSound task (Rests now) = HasSoundLoop now

@@ -8,8 +8,8 @@ use Rattle.model_value.specs.declared.action.ChildItem.{ChildItem}
 use Rattle.model_value.specs.declared.action.ChildItem.TheVariants as news
 use Rattle.model_value.specs.Escapes.{bytes_literal}
 use Rattle.model_wire.specs.declared.item.Item.TheVariants as item
-use Rattle.model_wire.specs.declared.item.Ready.{Ready}
-use Rattle.model_wire.specs.declared.item.Ready.TheVariants as ready
+use Rattle.model_wire.specs.declared.item.Readiness.{Readiness}
+use Rattle.model_wire.specs.declared.item.Readiness.TheVariants as ready
 use Rattle.model_wire.specs.declared.entry.EntryWord.{EntryWord}
 use Rattle.model_wire.specs.declared.entry.EntryWord.TheVariants as word
 use Rattle.model_wire.specs.declared.entry.IdLetter.TheVariants as letter
@@ -60,7 +60,7 @@ abbrev pub code_token : ℤ → EntryToken
 code_token (pos code) = token.Number code
 code_token (negsuc code) = token.Minus (suc code)
 
-abbrev ready_word : Ready → EntryWord
+abbrev ready_word : Readiness → EntryWord
 ready_word ready.Read = word.Read
 ready_word ready.Write = word.Write
 ready_word ready.Both = word.Both
@@ -94,7 +94,7 @@ pub exit-signed : (code : ℤ) → is_exit_code code ≡ true → IsSigned code
 exit-signed (pos code) h = grind (arith, nat_tests)
 exit-signed (negsuc code) h = grind (arith, nat_tests)
 
-ready-word : (letters : Ready) → IsWord (ready_text letters) (key (ready_word letters))
+ready-word : (letters : Readiness) → IsWord (ready_text letters) (key (ready_word letters))
 ready-word ready.Read = key-word word.Read
 ready-word ready.Write = key-word word.Write
 ready-word ready.Both = key-word word.Both
@@ -134,7 +134,7 @@ items-follow [] a = nothing-follows
 items-follow (came ∷ items) a = item-follows came a.0 (flat_map spaced_item items) (items_tokens items) (items-follow items a.1)
 
 -- ---- and read
-read-ready : (conn : ℕ) (letters : Ready) (tokens : List EntryToken)
+read-ready : (conn : ℕ) (letters : Readiness) (tokens : List EntryToken)
     → items_of (item_tokens (item.Ready conn letters) tokens) ≡ then_item (item.Ready conn letters) (items_of tokens)
 read-ready conn ready.Read tokens = refl
 read-ready conn ready.Write tokens = refl

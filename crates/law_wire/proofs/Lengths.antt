@@ -12,8 +12,8 @@ use Rattle.model_value.specs.declared.action.ChildItem.TheVariants as news
 use Rattle.model_value.specs.declared.place.Place.TheVariants.{InBytes}
 use Rattle.model_value.specs.Escapes.{escaped_byte, escaped, bytes_literal}
 use Rattle.model_wire.specs.declared.item.Item.TheVariants as item
-use Rattle.model_wire.specs.declared.item.Ready.{Ready}
-use Rattle.model_wire.specs.declared.item.Ready.TheVariants as ready
+use Rattle.model_wire.specs.declared.item.Readiness.{Readiness}
+use Rattle.model_wire.specs.declared.item.Readiness.TheVariants as ready
 use Rattle.model_wire.specs.Call.{Item, ready_text, news_text, spaced_item}
 use Rattle.model_wire.specs.Fits.{bytes_in, news_bytes}
 use Rattle.law_wire.specs.InRange.{IsSigned, NewsInRange, ItemInRange}
@@ -36,7 +36,7 @@ escaped-short (b ∷ bytes) = omega (arith, length-append (escaped_byte InBytes 
 pub literal-short : (bytes : List ℕ) → length (bytes_literal bytes) ≤ 4 * length bytes + 3
 literal-short bytes = omega (arith, length-append (escaped InBytes bytes) (34 ∷ []), escaped-short bytes)
 
-ready-short : (letters : Ready) → length (ready_text letters) ≤ 2
+ready-short : (letters : Readiness) → length (ready_text letters) ≤ 2
 ready-short ready.Read = omega arith
 ready-short ready.Write = omega arith
 ready-short ready.Both = omega arith

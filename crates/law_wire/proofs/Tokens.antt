@@ -17,7 +17,7 @@ use Rattle.model_wire.specs.declared.entry.EntryWord.TheVariants as word
 use Rattle.model_wire.specs.declared.entry.IdLetter.{IdLetter}
 use Rattle.model_wire.specs.declared.entry.IdLetter.TheVariants as letter
 use Rattle.model_wire.specs.declared.entry.EntryToken.TheVariants as token
-use Rattle.model_wire.specs.JournalText.{EntryToken, Standing, Outside, Inside, Escaped, standing_after, is_outside, is_some, are_digits, most_id, entry_word_text, token_of, number_token, minus_token, id_token, literal_token}
+use Rattle.model_wire.specs.JournalText.{EntryToken, QuoteState, Outside, Inside, Escaped, standing_after, is_outside, is_some, are_digits, most_id, entry_word_text, token_of, number_token, minus_token, id_token, literal_token}
 use Rattle.law_tokens.proofs.PartLemmas.{literal_bytes-Says, inside_of-Says}
 use Rattle.law_lines.proofs.Spelling.{bytes-literal}
 use Rattle.law_wire.proofs.Numbers.{decimal-of}
@@ -140,12 +140,12 @@ below (suc n) test b e h =
     let p = and_parts (test n) (all_below n test) e in
     by_order n test b p.0 (nat_eq b n) refl (λ smaller. below n test b p.1 smaller) h
 
-abbrev is_inside : Standing → Bool
+abbrev is_inside : QuoteState → Bool
 is_inside Outside = false
 is_inside Inside = true
 is_inside Escaped = false
 
-inside-is : (standing : Standing) → is_inside standing ≡ true → standing ≡ Inside
+inside-is : (standing : QuoteState) → is_inside standing ≡ true → standing ≡ Inside
 inside-is Outside h = cc
 inside-is Inside h = refl
 inside-is Escaped h = cc
@@ -158,14 +158,14 @@ stays_computed : all_below 256 stays_inside ≡ true
 stays_computed = refl
 
 -- what stands after bytes that part nothing
-parts-append : (standing : Standing) (bytes rest : List ℕ) → parts_nothing standing bytes ≡ true
+parts-append : (standing : QuoteState) (bytes rest : List ℕ) → parts_nothing standing bytes ≡ true
     → parts_nothing standing (bytes ++ rest) ≡ parts_nothing (standing_over standing bytes) rest
 parts-append standing [] rest h = refl
 parts-append standing (byte ∷ bytes) rest h =
     let p = and_parts (not (is_outside standing && is_space byte)) (parts_nothing (standing_after standing byte) bytes) h in
     ap (λ b. b && parts_nothing (standing_after standing byte) (bytes ++ rest)) p.0 ∙ parts-append (standing_after standing byte) bytes rest p.1
 
-over-append : (standing : Standing) (bytes rest : List ℕ) → standing_over standing (bytes ++ rest) ≡ standing_over (standing_over standing bytes) rest
+over-append : (standing : QuoteState) (bytes rest : List ℕ) → standing_over standing (bytes ++ rest) ≡ standing_over (standing_over standing bytes) rest
 over-append standing [] rest = refl
 over-append standing (byte ∷ bytes) rest = over-append (standing_after standing byte) bytes rest
 

@@ -2,20 +2,20 @@
 use Rattle.std.proofs.Common.{◌≡◌, ℕ, Bool, true, false, not, ◌&&◌, List, [], ◌∷◌, ◌++◌, map, filter, refl, sym, ap, subst, ◌∙◌, append-nil}
 use Rattle.std.proofs.lemmas.Bool.{and_parts}
 use Rattle.model_text.specs.Letters.{is_space}
-use Rattle.model_wire.specs.JournalText.{EntryToken, Standing, Outside, is_outside, standing_after, put, pieces_of, is_some, token_of, tokens_of}
+use Rattle.model_wire.specs.JournalText.{EntryToken, QuoteState, Outside, is_outside, standing_after, put, pieces_of, is_some, token_of, tokens_of}
 
 -- no byte of these parts words
-abbrev pub parts_nothing : Standing → List ℕ → Bool
+abbrev pub parts_nothing : QuoteState → List ℕ → Bool
 parts_nothing standing [] = true
 parts_nothing standing (byte ∷ bytes) = not (is_outside standing && is_space byte) && parts_nothing (standing_after standing byte) bytes
 
 -- where the byte after these stands
-abbrev pub standing_over : Standing → List ℕ → Standing
+abbrev pub standing_over : QuoteState → List ℕ → QuoteState
 standing_over standing [] = standing
 standing_over standing (byte ∷ bytes) = standing_over (standing_after standing byte) bytes
 
 -- these bytes stand at the front of the first piece of what follows
-abbrev pub Leads : Standing → List ℕ → Standing → Type 0
+abbrev pub Leads : QuoteState → List ℕ → QuoteState → Type 0
 Leads before bytes after =
     (first : List ℕ) (pieces : List (List ℕ)) (rest : List ℕ) → pieces_of after rest ≡ first ∷ pieces
     → pieces_of before (bytes ++ rest) ≡ (bytes ++ first) ∷ pieces
@@ -25,7 +25,7 @@ put_before : (parts : Bool) (byte : ℕ) (first : List ℕ) (pieces : List (List
 put_before true byte first pieces h = cc
 put_before false byte first pieces h = refl
 
-pub leads : (before : Standing) (bytes : List ℕ) → parts_nothing before bytes ≡ true → Leads before bytes (standing_over before bytes)
+pub leads : (before : QuoteState) (bytes : List ℕ) → parts_nothing before bytes ≡ true → Leads before bytes (standing_over before bytes)
 leads before [] h first pieces rest e = e
 leads before (byte ∷ bytes) h first pieces rest e =
     let p = and_parts (not (is_outside before && is_space byte)) (parts_nothing (standing_after before byte) bytes) h in

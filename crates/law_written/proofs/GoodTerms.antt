@@ -12,11 +12,11 @@ use Rattle.model_text.specs.declared.reserved_word.ReservedWord.TheVariants as w
 use Rattle.model_text.specs.Words.{Lexeme, Reserved, Named, Number, Texts, Octets, Sign, is_sign}
 use Rattle.model_text.specs.Cutting.{Pieces, Cutter, with_front, cut_outside, depth_behind, ends_operand, pieces_from, pieces, parts, before_last}
 use Rattle.model_text.specs.Terms.{Term, Or, And, Not, Compare, Calculate, Negate, Index, Constantly, Variable, ListOf, Called, terms}
-use Rattle.model_text.specs.Levels.{Reading, all_of, at_word, at_comparison, at_sum, at_product, at_index, joined, level, bare_name, Arguments, with_bare, from_bare, arguments_of, kind_place, atom, items, called, bracketed, primary, item_index, indexed, negated, product, sum_of, compared, comparison_level, is_not, denied, conjunction, disjunction, term_within, term_of}
+use Rattle.model_text.specs.Levels.{Parser, all_of, at_word, at_comparison, at_sum, at_product, at_index, joined, level, bare_name, Arguments, with_bare, from_bare, arguments_of, kind_place, atom, items, called, bracketed, primary, item_index, indexed, negated, product, sum_of, compared, comparison_level, is_not, denied, conjunction, disjunction, term_within, term_of}
 use Rattle.law_lines.specs.WellWritten.{WellNamed, PerhapsNamed}
 use Rattle.law_written.proofs.Goods.{GoodLexeme, AllGood, CalledAs, GoodTerm, AllGoodTerms, good-row, then-some, map-some, all-some}
 
-abbrev pub ReadsGood : Reading Term → Type 0
+abbrev pub ReadsGood : Parser Term → Type 0
 ReadsGood reading = (lexemes : List Lexeme) (t : Term) → AllGood lexemes → reading lexemes ≡ Some t → GoodTerm t
 
 -- ---- pieces of good tokens
@@ -55,13 +55,13 @@ before-last-good s (x ∷ y ∷ lexemes) inner g e =
     subst AllGood m.2 (g.0, before-last-good s (y ∷ lexemes) m.0 g.1 m.1)
 
 -- ---- levels
-joined-good : {A : Type 0} (build : A → Term → Term → Term) (operand : Reading Term) → ReadsGood operand → ((a : A) (l r : Term) → GoodTerm l → GoodTerm r → GoodTerm (build a l r)) → (others : List (A × List Lexeme)) (left t : Term) → GoodTerm left → AllByRecursion (λ other. AllGood other.1) others → joined build operand left others ≡ Some t → GoodTerm t
+joined-good : {A : Type 0} (build : A → Term → Term → Term) (operand : Parser Term) → ReadsGood operand → ((a : A) (l r : Term) → GoodTerm l → GoodTerm r → GoodTerm (build a l r)) → (others : List (A × List Lexeme)) (left t : Term) → GoodTerm left → AllByRecursion (λ other. AllGood other.1) others → joined build operand left others ≡ Some t → GoodTerm t
 joined-good build operand reads builds [] left t l g e = let same : left ≡ t = cc in subst GoodTerm same l
 joined-good build operand reads builds (other ∷ others) left t l g e =
     let r = then-some (λ right. joined build operand (build other.0 left right) others) (operand other.1) t e in
     joined-good build operand reads builds others (build other.0 left r.0) t (builds other.0 left r.0 l (reads other.1 r.0 g.0 r.1)) g.1 r.2
 
-level-good : {A : Type 0} (cutter : Cutter A) (build : A → Term → Term → Term) (operand : Reading Term) → ReadsGood operand → ((a : A) (l r : Term) → GoodTerm l → GoodTerm r → GoodTerm (build a l r)) → ReadsGood (level cutter build operand)
+level-good : {A : Type 0} (cutter : Cutter A) (build : A → Term → Term → Term) (operand : Parser Term) → ReadsGood operand → ((a : A) (l r : Term) → GoodTerm l → GoodTerm r → GoodTerm (build a l r)) → ReadsGood (level cutter build operand)
 level-good cutter build operand reads builds lexemes t g e =
     let p = pieces-good cutter 0 false lexemes g in
     let cut = pieces cutter lexemes in
@@ -117,7 +117,7 @@ atom-good (Texts text) t g e = let same : Constantly (TextConstant text) ≡ t =
 atom-good (Octets bytes) t g e = let same : Constantly (BytesConstant bytes) ≡ t = cc in subst GoodTerm same g
 atom-good (Sign symbol) t g e = cc
 
-module _ (inside : Reading Term) (reads : ReadsGood inside) where
+module _ (inside : Parser Term) (reads : ReadsGood inside) where
   pub slots-good : (slots : List (List Lexeme)) (ts : List Term) → AllByRecursion AllGood slots → all_of inside slots ≡ Some ts → AllGoodTerms ts
   slots-good slots ts g e = all-some AllGood GoodTerm inside reads slots ts g e
 

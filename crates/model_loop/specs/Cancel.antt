@@ -8,23 +8,23 @@ use Rattle.model_loop.specs.Futures.{made_before, settle, mark_asked}
 use Rattle.model_loop.specs.Tasks.{mark, raise_count}
 
 -- a request as it goes: the parts, the tasks that it visited, in order, and the last answer
-pub record Request : Type 0 where
+pub record CancelRequest : Type 0 where
   pub parts : Parts
   pub seen : List ℕ
   pub answer : Bool
 
 -- what cancels the future of a number for a request that has visited these tasks
 abbrev pub Canceller : Type 0
-Canceller = ℕ → List ℕ → Parts → Request
+Canceller = ℕ → List ℕ → Parts → CancelRequest
 
-abbrev pub answers : Bool → List ℕ → Parts → Request
+abbrev pub answers : Bool → List ℕ → Parts → CancelRequest
 answers answer seen p = record { parts = p; seen = seen; answer = answer }
 
 abbrev pub has_seen : List ℕ → ℕ → Bool
 has_seen seen task = list_any (nat_eq task) seen
 
 -- Futures in order, the next with the tasks that were visited so far; true where one of them answered true.
-abbrev pub cancel_each : Canceller → List ℕ → List ℕ → Parts → Request
+abbrev pub cancel_each : Canceller → List ℕ → List ℕ → Parts → CancelRequest
 cancel_each cancel [] seen p = answers false seen p
 cancel_each cancel (id ∷ ids) seen p =
     let first = cancel id seen p in
@@ -32,26 +32,26 @@ cancel_each cancel (id ∷ ids) seen p =
     record others { answer = first.answer || others.answer }
 
 -- where a member answered true, the future that stands for it keeps that it was asked
-abbrev pub asked_where : Bool → ℕ → Request → Request
+abbrev pub asked_where : Bool → ℕ → CancelRequest → CancelRequest
 asked_where false id request = request
 asked_where true id request = record request { parts = mark_asked id request.parts }
 
 -- where what the task waits for can't be cancelled, the cancel waits for the task's next step
-abbrev pub marked_unless : Bool → ℕ → Request → Request
+abbrev pub marked_unless : Bool → ℕ → CancelRequest → CancelRequest
 marked_unless true task request = request
 marked_unless false task request = record request { parts = mark task request.parts; answer = true }
 
-abbrev pub cancel_waiter : Canceller → ℕ → Option ℕ → List ℕ → Parts → Request
+abbrev pub cancel_waiter : Canceller → ℕ → Option ℕ → List ℕ → Parts → CancelRequest
 cancel_waiter cancel task None seen p = answers true seen (mark task p)
 cancel_waiter cancel task (Some waiter) seen p =
     let request = cancel waiter seen p in marked_unless request.answer task request
 
 -- a task that the request comes to first counts it, and the cancel goes on to what it waits for
-abbrev pub cancel_unseen : Canceller → ℕ → Option Task → List ℕ → Parts → Request
+abbrev pub cancel_unseen : Canceller → ℕ → Option Task → List ℕ → Parts → CancelRequest
 cancel_unseen cancel id None seen p = answers true seen p
 cancel_unseen cancel id (Some task) seen p = cancel_waiter cancel id task.waiter (seen ++ id ∷ []) (raise_count id p)
 
-abbrev pub cancel_task : Canceller → Bool → ℕ → List ℕ → Parts → Request
+abbrev pub cancel_task : Canceller → Bool → ℕ → List ℕ → Parts → CancelRequest
 cancel_task cancel true id seen p = answers true seen p
 cancel_task cancel false id seen p = cancel_unseen cancel id (slice_get p.tasks id) seen p
 
@@ -92,5 +92,5 @@ cancel_with id seen p = cancel_within (suc (length p.tasks)) id seen p
 
 -- A request to cancel a future. It visits each task once: a task that waits for itself through others is answered true
 -- where the request comes back to it.
-abbrev pub cancel : ℕ → Parts → Request
+abbrev pub cancel : ℕ → Parts → CancelRequest
 cancel id p = cancel_with id [] p

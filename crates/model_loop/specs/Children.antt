@@ -35,7 +35,7 @@ pub record IsTold (p : Parts) (id : ℕ) (told : List ℕ) (group : Group) : Typ
   pub parent_lives : group.entered ≡ true → group.ended ≡ false → lives p group.parent ≡ true
 
 -- what it is by its lists and flags
-pub record IsKept (told : List ℕ) (group : Group) : Type 0 where
+pub record IsKeptGroup (told : List ℕ) (group : Group) : Type 0 where
   -- each task was made in it once; it is a child, or the group was told of it
   pub made_once : (task : ℕ) → occurrences task group.made ≤ 1
   pub child_or_told : (task : ℕ) → occurrences task group.children + occurrences task told ≡ occurrences task group.made
@@ -72,7 +72,7 @@ told_more told group task id = if group == id then told id ++ task ∷ [] else t
 -- Group `id`, which was told of these tasks.
 pub record IsGroup (p : Parts) (id : ℕ) (told : List ℕ) (group : Group) : Type 0 where
   pub tellings : IsTold p id told group
-  pub kept : IsKept told group
+  pub kept : IsKeptGroup told group
   pub errors : HasErrors p told group
   pub orderly : IsOrderly group
   pub plain_exit : HasPlainExit p group

@@ -6,8 +6,8 @@ use Rattle.model_value.specs.Action.{Action}
 use Rattle.model_wire.specs.declared.answer.Answer.TheVariants as answer
 use Rattle.model_wire.specs.declared.call.Call.TheVariants as call
 use Rattle.model_wire.specs.declared.item.Item.TheVariants as item
-use Rattle.model_wire.specs.declared.item.Ready.{Ready}
-use Rattle.model_wire.specs.declared.item.Ready.TheVariants as ready
+use Rattle.model_wire.specs.declared.item.Readiness.{Readiness}
+use Rattle.model_wire.specs.declared.item.Readiness.TheVariants as ready
 use Rattle.model_wire.specs.declared.watch.Watch.{Watch}
 use Rattle.model_wire.specs.declared.watch.Watch.TheVariants as watch
 use Rattle.model_wire.specs.Call.{Call, Answer, Item}
@@ -30,7 +30,7 @@ time_of (answer.Turn now items) = now
 time_of _ = 0
 
 -- reading stands before writing
-abbrev pub ready_actions : (conn : ℕ) → Ready → List Action
+abbrev pub ready_actions : (conn : ℕ) → Readiness → List Action
 ready_actions conn ready.Read = action.Readable conn ∷ []
 ready_actions conn ready.Write = action.Writable conn ∷ []
 ready_actions conn ready.Both = action.Readable conn ∷ action.Writable conn ∷ []

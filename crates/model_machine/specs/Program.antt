@@ -14,31 +14,31 @@ use Rattle.model_wire.specs.Told.{ShelfSeen, FileFailed, NoneFailed}
 use Rattle.model_wire.specs.Trace.{End}
 use Rattle.model_machine.specs.Run.{Run, run}
 use Rattle.model_machine.specs.Served.{is_served}
-use Rattle.model_machine.specs.Theorem.{Output}
+use Rattle.model_machine.specs.Theorem.{ProgramOutput}
 use Rattle.model_machine.specs.Transcript.{transcript, status_of}
 use Rattle.model_machine.specs.Words.{Command, Check, Replay}
 
 -- what is written of a whole run
-abbrev pub output_of : (trace : Bool) → Run → Output
+abbrev pub output_of : (trace : Bool) → Run → ProgramOutput
 output_of trace it = record { text = transcript trace it; status = status_of it.end }
 
 -- what is written where nothing runs: the last line alone
-abbrev pub only : End → Output
+abbrev pub only : End → ProgramOutput
 only end = output_of false (record { events = []; end = end })
 
-abbrev pub words_refused : Output
+abbrev pub words_refused : ProgramOutput
 words_refused = only end.WordsRefused
 
 -- a text that is no script, by its first fault
-abbrev pub script_refused : Fault → Output
+abbrev pub script_refused : Fault → ProgramOutput
 script_refused fault = only (end.ScriptRefused fault.line (cause_number fault.cause))
 
 -- a script that doesn't run so far: line 1, cause 9
-abbrev pub not_run : Output
+abbrev pub not_run : ProgramOutput
 not_run = only (end.ScriptRefused 1 9)
 
 -- what is written of a run that a fault of the shelf cut short: the lines of what happened, and the fault's
-abbrev pub faulted : (trace : Bool) → Run → Output
+abbrev pub faulted : (trace : Bool) → Run → ProgramOutput
 faulted trace it = output_of trace (record it { end = end.ShelfFault })
 
 -- What a shelf tells of a file: nothing, that it is missing, or its bytes. A file says a text where that is told, and
@@ -72,7 +72,7 @@ pub record Manner : Type 0 where
 
 -- What a program's replay may write. Where no file failed, its whole run over what the journal says. Where the journal
 -- failed, the run over the answers had so far was over at the call that failed: its lines, and then the fault's.
-abbrev pub MayRun : ShelfSeen → ShelfSeen → Program → Manner → Output → Type 0
+abbrev pub MayRun : ShelfSeen → ShelfSeen → Program → Manner → ProgramOutput → Type 0
 MayRun old new program how output =
     (NoneFailed old new × (entries : List Entry) × JournalSays (old.file how.journal) entries
     × (output ≡ output_of how.trace (run program entries how.turns)))
@@ -80,36 +80,36 @@ MayRun old new program how output =
     × IsOver (run program had how.turns) × (output ≡ faulted how.trace (run program had how.turns)))
 
 -- A program's replay, by whether all that it asks is served: others don't run so far.
-abbrev pub MayRunIf : ShelfSeen → ShelfSeen → (served : Bool) → Program → Manner → Output → Type 0
+abbrev pub MayRunIf : ShelfSeen → ShelfSeen → (served : Bool) → Program → Manner → ProgramOutput → Type 0
 MayRunIf old new false program how output = NoneFailed old new × (output ≡ not_run)
 MayRunIf old new true program how output = MayRun old new program how output
 
 -- by what the text of the script spells
-abbrev pub MayRunScript : ShelfSeen → ShelfSeen → Judged Program → Manner → Output → Type 0
+abbrev pub MayRunScript : ShelfSeen → ShelfSeen → Judged Program → Manner → ProgramOutput → Type 0
 MayRunScript old new (Err fault) how output = NoneFailed old new × (output ≡ script_refused fault)
 MayRunScript old new (Ok program) how output = MayRunIf old new (is_served program) program how output
 
 -- where a script's file failed, the fault's line alone
-abbrev pub script_failed : Output
+abbrev pub script_failed : ProgramOutput
 script_failed = only end.ShelfFault
 
-abbrev pub MayReplay : ShelfSeen → ShelfSeen → (script : List ℕ) → Manner → Output → Type 0
+abbrev pub MayReplay : ShelfSeen → ShelfSeen → (script : List ℕ) → Manner → ProgramOutput → Type 0
 MayReplay old new script how output =
     (FileFailed script old new × (output ≡ script_failed))
     ⊎ ((text : List ℕ) × FileSays (old.file script) text × MayRunScript old new (script_of text) how output)
 
 -- the canonical text of a script, or why it is none
-abbrev pub checked : Judged Program → Output
+abbrev pub checked : Judged Program → ProgramOutput
 checked (Ok script) = record { text = canonical script; status = 0 }
 checked (Err fault) = script_refused fault
 
-abbrev pub MayCheck : ShelfSeen → ShelfSeen → (script : List ℕ) → Output → Type 0
+abbrev pub MayCheck : ShelfSeen → ShelfSeen → (script : List ℕ) → ProgramOutput → Type 0
 MayCheck old new script output =
     (FileFailed script old new × (output ≡ script_failed))
     ⊎ (NoneFailed old new × (text : List ℕ) × FileSays (old.file script) text × (output ≡ checked (script_of text)))
 
 -- What may be written for words, by what is seen of the shelf before and after.
-abbrev pub MayWrite : ShelfSeen → ShelfSeen → Option Command → Output → Type 0
+abbrev pub MayWrite : ShelfSeen → ShelfSeen → Option Command → ProgramOutput → Type 0
 MayWrite old new None output = NoneFailed old new × (output ≡ words_refused)
 MayWrite old new (Some (Check script)) output = MayCheck old new script output
 MayWrite old new (Some (Replay script journal trace turns)) output =

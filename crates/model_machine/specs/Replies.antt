@@ -32,18 +32,18 @@ use Rattle.model_machine.specs.Extra.{Extra, ExtraAnswer, ExtraSaid, called}
 use Rattle.model_machine.specs.Outcomes.{input_of}
 use Rattle.model_machine.specs.State.{Standing, Asked, Sleeping, Leaving, Serving, State, in_loop, with_loop, unbooked_in, noted, stands, with_coroutine}
 
-pub data Reply (S : Type 0) : Type 0 where
+pub data RequestReply (S : Type 0) : Type 0 where
   -- the coroutine goes on with a value
-  Answers : (value : Value) (now : State S) → Reply S
+  Answers : (value : Value) (now : State S) → RequestReply S
   -- or with an exception that is raised in it
-  Raises : (fault : Exc) (now : State S) → Reply S
+  Raises : (fault : Exc) (now : State S) → RequestReply S
   -- the step ends
-  Rests : (now : State S) → Reply S
+  Rests : (now : State S) → RequestReply S
   -- the run ends
-  Halts : (end : End) (last : State S) → Reply S
+  Halts : (end : End) (last : State S) → RequestReply S
 
 -- ---- refusals
-abbrev pub given : {S A : Type 0} → Option A → (A → State S → Reply S) → State S → Reply S
+abbrev pub given : {S A : Type 0} → Option A → (A → State S → RequestReply S) → State S → RequestReply S
 given None next s = Raises bad_argument s
 given (Some argument) next s = next argument s
 
@@ -51,16 +51,16 @@ given (Some argument) next s = next argument s
 abbrev pub most_ids : ℕ
 most_ids = 2 ^ 32 - 1
 
-abbrev pub numbered_if : {S : Type 0} → Bool → (State S → Reply S) → State S → Reply S
+abbrev pub numbered_if : {S : Type 0} → Bool → (State S → RequestReply S) → State S → RequestReply S
 numbered_if true next s = next s
 numbered_if false next s = Raises out_of_range s
 
 -- one more can be made than so many
-abbrev pub numbered : {S : Type 0} → ℕ → (State S → Reply S) → State S → Reply S
+abbrev pub numbered : {S : Type 0} → ℕ → (State S → RequestReply S) → State S → RequestReply S
 numbered made next s = numbered_if (nat_lt made most_ids) next s
 
 -- ---- values and outcomes
-abbrev pub replied : {S : Type 0} → Input → State S → Reply S
+abbrev pub replied : {S : Type 0} → Input → State S → RequestReply S
 replied (Send value) s = Answers value s
 replied (Throw fault) s = Raises fault s
 
@@ -74,7 +74,7 @@ is_cancelled_as _ = false
 abbrev pub not_set : Exc
 not_set = exception_of InvalidStateError (codes "Result is not set.")
 
-abbrev pub result_of : {S : Type 0} → Option Outcome → State S → Reply S
+abbrev pub result_of : {S : Type 0} → Option Outcome → State S → RequestReply S
 result_of (Some outcome) s = replied (input_of outcome) s
 result_of None s = Raises not_set s
 
@@ -91,35 +91,35 @@ shown_all (value ∷ values) = shown value ++ shown_after values
 abbrev pub waits : {S : Type 0} → (task on : ℕ) → State S → State S
 waits task on s = in_loop (book (suspend task on)) s
 
-abbrev pub awaits_as : {S : Type 0} → Option Outcome → (task on : ℕ) → State S → Reply S
+abbrev pub awaits_as : {S : Type 0} → Option Outcome → (task on : ℕ) → State S → RequestReply S
 awaits_as (Some outcome) task on s = replied (input_of outcome) s
 awaits_as None task on s = Rests (waits task on s)
 
 -- what is done is awaited at once
-abbrev pub awaits : {S : Type 0} → (task on : ℕ) → State S → Reply S
+abbrev pub awaits : {S : Type 0} → (task on : ℕ) → State S → RequestReply S
 awaits task on s = awaits_as (ended s on) task on s
 
 -- a bare `yield`
-abbrev pub pauses : {S : Type 0} → ℕ → State S → Reply S
+abbrev pub pauses : {S : Type 0} → ℕ → State S → RequestReply S
 pauses task s = Rests (unbooked_in (pause task) s)
 
 -- a future of its own, which a timer's handle will resolve
 abbrev pub alarmed : (task : ℕ) (delay : ℤ) → Parts → Parts
 alarmed task delay p = later (deadline p.time delay) (SleepDone task (next_future p)) (new_plain p)
 
-abbrev pub sleeps_for : {S : Type 0} → (task : ℕ) (delay : ℤ) → State S → Reply S
+abbrev pub sleeps_for : {S : Type 0} → (task : ℕ) (delay : ℤ) → State S → RequestReply S
 sleeps_for task delay s =
     Rests (stands (Sleeping s.loop.parts.next_tag) task
     (waits task (next_future s.loop.parts) (unbooked_in (alarmed task delay) s)))
 
 -- a sleep of 0 or less is a bare `yield`
-abbrev pub sleeps : {S : Type 0} → ℕ → ℤ → State S → Reply S
+abbrev pub sleeps : {S : Type 0} → ℕ → ℤ → State S → RequestReply S
 sleeps task (negsuc before) s = pauses task s
 sleeps task (pos zero) s = pauses task s
 sleeps task (pos (suc delay)) s = sleeps_for task (pos (suc delay)) s
 
 -- ---- futures
-abbrev pub makes_future : {S : Type 0} → State S → Reply S
+abbrev pub makes_future : {S : Type 0} → State S → RequestReply S
 makes_future s =
     Answers (Fut (length s.futures))
     (unbooked_in new_plain (record s { futures = s.futures ++ next_future s.loop.parts ∷ [] }))
@@ -127,68 +127,68 @@ makes_future s =
 abbrev pub invalid_state : Exc
 invalid_state = exception_of InvalidStateError (codes "invalid state")
 
-abbrev pub settles_if : {S : Type 0} → (done : Bool) → ℕ → Outcome → State S → Reply S
+abbrev pub settles_if : {S : Type 0} → (done : Bool) → ℕ → Outcome → State S → RequestReply S
 settles_if true on outcome s = Raises invalid_state s
 settles_if false on outcome s = Answers Nothing (unbooked_in (settle on outcome) s)
 
 -- a done future is refused
-abbrev pub settles : {S : Type 0} → ℕ → Outcome → State S → Reply S
+abbrev pub settles : {S : Type 0} → ℕ → Outcome → State S → RequestReply S
 settles on outcome s = settles_if (is_some (ended s on)) on outcome s
 
 -- ---- cancels
-abbrev pub requests : {S : Type 0} → (task on : ℕ) → State S → Reply S
+abbrev pub requests : {S : Type 0} → (task on : ℕ) → State S → RequestReply S
 requests task on s =
     let asked = request (ByScript task) on s.loop.parts in
     Answers (Truth asked.answer) (in_loop (book (λ p. asked.booked)) s)
 
-abbrev pub counted : {S : Type 0} → ℕ → State S → Reply S
+abbrev pub counted : {S : Type 0} → ℕ → State S → RequestReply S
 counted task s = Answers (Int (pos (cancelling s.loop.parts task))) s
 
 -- ---- tasks
-abbrev pub spawns : {S : Type 0} → ℕ → List Value → State S → Reply S
+abbrev pub spawns : {S : Type 0} → ℕ → List Value → State S → RequestReply S
 spawns coroutine arguments s =
     Answers (Task (next_task s.loop.parts)) (with_coroutine coroutine arguments (unbooked_in spawn s))
 
 -- ---- timeouts
-abbrev pub enters_timeout : {S : Type 0} → ℕ → Option ℤ → State S → Reply S
+abbrev pub enters_timeout : {S : Type 0} → ℕ → Option ℤ → State S → RequestReply S
 enters_timeout task delay s =
     Answers (Timeout (next_timeout s.loop)) (in_loop (enter_timeout task delay) s)
 
-abbrev pub timed_out_if : {S : Type 0} → Bool → State S → Reply S
+abbrev pub timed_out_if : {S : Type 0} → Bool → State S → RequestReply S
 timed_out_if true s = Raises timeout_fault s
 timed_out_if false s = Answers Nothing s
 
-abbrev pub exits_timeout : {S : Type 0} → Option Exc → ℕ → State S → Reply S
+abbrev pub exits_timeout : {S : Type 0} → Option Exc → ℕ → State S → RequestReply S
 exits_timeout raised id s =
     let left = exit_timeout raised id s.loop in timed_out_if left.timed_out (with_loop left.loop s)
 
-abbrev pub reschedules_if : {S : Type 0} → Bool → ℕ → Option ℤ → State S → Reply S
+abbrev pub reschedules_if : {S : Type 0} → Bool → ℕ → Option ℤ → State S → RequestReply S
 reschedules_if false id when s = Raises (reschedule_fault (timeout_of s.loop id).state) s
 reschedules_if true id when s = Answers Nothing (in_loop (reschedule id when) s)
 
-abbrev pub reschedules : {S : Type 0} → ℕ → Option ℤ → State S → Reply S
+abbrev pub reschedules : {S : Type 0} → ℕ → Option ℤ → State S → RequestReply S
 reschedules id when s = reschedules_if (is_active (timeout_of s.loop id).state) id when s
 
 -- ---- groups
-abbrev pub enters_group : {S : Type 0} → ℕ → State S → Reply S
+abbrev pub enters_group : {S : Type 0} → ℕ → State S → RequestReply S
 enters_group task s =
     let id = next_group s.loop in Answers (Group id) (in_loop (λ l. enter_group id (make_group task l)) s)
 
 -- what the exit of a group, begun or gone on, makes of its task's step
-abbrev pub exits_as : {S : Type 0} → GroupExit → (task id : ℕ) → State S → Reply S
+abbrev pub exits_as : {S : Type 0} → GroupExit → (task id : ℕ) → State S → RequestReply S
 exits_as (Waits on) task id s = Rests (stands (Leaving id) task (waits task on s))
 exits_as Passes task id s = Answers Nothing s
 exits_as (RaisedBy fault) task id s = Raises fault s
 
-abbrev pub exits_group : {S : Type 0} → Exited → (task id : ℕ) → State S → Reply S
+abbrev pub exits_group : {S : Type 0} → Exited → (task id : ℕ) → State S → RequestReply S
 exits_group exited task id s = exits_as exited.answer task id (with_loop exited.loop s)
 
-abbrev pub creates_unless : {S : Type 0} → Option Refusal → ℕ → ℕ → List Value → State S → Reply S
+abbrev pub creates_unless : {S : Type 0} → Option Refusal → ℕ → ℕ → List Value → State S → RequestReply S
 creates_unless (Some cause) id coroutine arguments s = Raises (refusal_fault cause) s
 creates_unless None id coroutine arguments s =
     Answers (Task (next_task s.loop.parts)) (with_coroutine coroutine arguments (in_loop (create id) s))
 
-abbrev pub creates : {S : Type 0} → ℕ → ℕ → List Value → State S → Reply S
+abbrev pub creates : {S : Type 0} → ℕ → ℕ → List Value → State S → RequestReply S
 creates id coroutine arguments s = creates_unless (refusal (group_of s.loop id)) id coroutine arguments s
 
 -- Of connections and children nothing is defined here so far.
@@ -197,18 +197,18 @@ undefined = exception_of NameError (codes "connections and children")
 
 -- ---- requests that are added. One that goes on waiting for what is done is woken at once.
 abbrev pub Wake : Type 0 → Type 0
-Wake S = (key : ℕ) → Input → State S → Reply S
+Wake S = (key : ℕ) → Input → State S → RequestReply S
 
-abbrev pub serves_until : {S : Type 0} → Option Outcome → Wake S → (task on key : ℕ) → State S → Reply S
+abbrev pub serves_until : {S : Type 0} → Option Outcome → Wake S → (task on key : ℕ) → State S → RequestReply S
 serves_until (Some outcome) wake task on key s = wake key (input_of outcome) s
 serves_until None wake task on key s = Rests (stands (Serving key) task (waits task on s))
 
-abbrev pub serves_as : {S : Type 0} → ExtraAnswer → Wake S → ℕ → State S → Reply S
+abbrev pub serves_as : {S : Type 0} → ExtraAnswer → Wake S → ℕ → State S → RequestReply S
 serves_as (extra.Answers value) wake task s = Answers value s
 serves_as (extra.Raises fault) wake task s = Raises fault s
 serves_as (extra.Waits on key) wake task s = serves_until (ended s on) wake task on key s
 
-abbrev pub serves : {S : Type 0} → ExtraSaid S → Wake S → ℕ → State S → Reply S
+abbrev pub serves : {S : Type 0} → ExtraSaid S → Wake S → ℕ → State S → RequestReply S
 serves said wake task s = serves_as said.answer wake task (called said.call s)
 
 module _ {S : Type 0} (added : Extra S) where
@@ -221,7 +221,7 @@ module _ {S : Type 0} (added : Extra S) where
   woken task key input s = woken_within (suc (added.wakes_left key s.extra)) task key input s
 
   -- ---- the table
-  unfoldable pub reply : ℕ → Request → State S → Reply S
+  unfoldable pub reply : ℕ → Request → State S → RequestReply S
   reply task request.Pause s = pauses task s
   reply task (request.Await x) s = given (as_awaited s x) (awaits task) s
   reply task (request.Print values) s = Answers Nothing (noted (event.Said task (shown_all values)) s)
@@ -260,7 +260,7 @@ module _ {S : Type 0} (added : Extra S) where
   reply task _ s = Raises undefined s
 
   -- what the request at which a task stands makes of the input that its step begins with
-  abbrev pub decides : Standing → ℕ → Input → State S → Reply S
+  abbrev pub decides : Standing → ℕ → Input → State S → RequestReply S
   decides Asked task input s = replied input s
   decides (Sleeping tag) task input s = replied input s
   decides (Leaving group) task input s = exits_group (exit_woken input group s.loop) task group s

@@ -10,7 +10,7 @@ use Rattle.model_loop.specs.Handles.{revoke}
 use Rattle.model_loop.specs.Parts.{Parts}
 use Rattle.model_loop.specs.Tasks.{begin_step, finish}
 use Rattle.model_machine.specs.Extra.{Extra}
-use Rattle.model_machine.specs.Replies.{Reply, Answers, Raises, Rests, Halts, reply, decides}
+use Rattle.model_machine.specs.Replies.{RequestReply, Answers, Raises, Rests, Halts, reply, decides}
 use Rattle.model_machine.specs.State.{Standing, Asked, Sleeping, Leaving, Serving, State, generator_of, resumed, stands, unbooked_in}
 use Rattle.model_machine.specs.Went.{Went, Goes, Stops}
 
@@ -27,7 +27,7 @@ abbrev pub most_answers : (limit : ℕ) → Tape → ℕ
 most_answers limit tape = 3 + 2 * (limit * (length tape + 1))
 
 -- the answer goes to the coroutine's tape, and it says on
-abbrev pub taken_as : {S : Type 0} → Reply S → (fresh : Bool) → (task : ℕ) → (State S → Went S) → Went S
+abbrev pub taken_as : {S : Type 0} → RequestReply S → (fresh : Bool) → (task : ℕ) → (State S → Went S) → Went S
 taken_as (Answers value now) fresh task go_on = go_on (resumed fresh task (Send value) now)
 taken_as (Raises fault now) fresh task go_on = go_on (resumed fresh task (Throw fault) now)
 taken_as (Rests now) fresh task go_on = Goes now

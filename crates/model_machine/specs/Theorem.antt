@@ -5,7 +5,7 @@ use Rattle.model_wire.specs.Told.{ShelfSeen, SinkSeen, NoneFailed, took, SinkFai
 use Rattle.model_machine.specs.Words.{Command, command_of}
 
 -- all that is written, and the exit status
-pub record Output : Type 0 where
+pub record ProgramOutput : Type 0 where
   pub text : List ℕ
   pub status : ℕ
 
@@ -17,27 +17,27 @@ pub record Moment (F W : Type 0) : Type 0 where
   pub sink : SinkSeen
 
 -- the sink took the whole text of an output that may be, and this is its status
-abbrev pub WritesWhole : (Output → Type 0) → SinkSeen → SinkSeen → ℕ → Type 0
-WritesWhole may old new status = (output : Output) × may output × (new ≡ took old output.text) × (status ≡ output.status)
+abbrev pub WritesWhole : (ProgramOutput → Type 0) → SinkSeen → SinkSeen → ℕ → Type 0
+WritesWhole may old new status = (output : ProgramOutput) × may output × (new ≡ took old output.text) × (status ≡ output.status)
 
 -- a text begins with this one
 abbrev pub IsFrontOf : List ℕ → List ℕ → Type 0
 IsFrontOf front text = (rest : List ℕ) × (front ++ rest ≡ text)
 
 -- a front of the text of an output that may be; it is empty while no file was read, and then none failed
-abbrev pub MayBegin : (Output → Type 0) → (none_failed : Type 0) → List ℕ → Type 0
-MayBegin may none_failed front = ((front ≡ []) × none_failed) ⊎ ((output : Output) × may output × IsFrontOf front output.text)
+abbrev pub MayBegin : (ProgramOutput → Type 0) → (none_failed : Type 0) → List ℕ → Type 0
+MayBegin may none_failed front = ((front ≡ []) × none_failed) ⊎ ((output : ProgramOutput) × may output × IsFrontOf front output.text)
 
 -- the sink took such a front, and did not fail
-abbrev pub StopsShort : (Output → Type 0) → (none_failed : Type 0) → SinkSeen → SinkSeen → Type 0
+abbrev pub StopsShort : (ProgramOutput → Type 0) → (none_failed : Type 0) → SinkSeen → SinkSeen → Type 0
 StopsShort may none_failed old new = (front : List ℕ) × MayBegin may none_failed front × (new ≡ took old front)
 
 -- the sink took such a front, and then it failed
-abbrev pub SinkStops : (Output → Type 0) → (none_failed : Type 0) → SinkSeen → SinkSeen → Type 0
+abbrev pub SinkStops : (ProgramOutput → Type 0) → (none_failed : Type 0) → SinkSeen → SinkSeen → Type 0
 SinkStops may none_failed old new = (front : List ℕ) × MayBegin may none_failed front × SinkFailed front old new
 
 -- The theorem: what the program does for the words behind its name, for every shelf, wire and sink, by its exit status.
-pub record Behaves {F W : Type 0} (may : ShelfSeen → ShelfSeen → Option Command → Output → Type 0) (given : List (List ℕ))
+pub record Behaves {F W : Type 0} (may : ShelfSeen → ShelfSeen → Option Command → ProgramOutput → Type 0) (given : List (List ℕ))
     (old new : Moment F W) (status : ℕ) : Type 0 where
   -- Under every status but 9 and 11 the sink took exactly the text of an output that may be, and the status is its own.
   pub written : status ≢ 9 → status ≢ 11 → WritesWhole (may old.files new.files (command_of given)) old.sink new.sink status

@@ -4,7 +4,7 @@ use Rattle.std.specs.Prelude.{true, false, List, [], ◌∷◌, Result, Ok, Err}
 use Rattle.model_value.specs.Value.{Value, Nothing, Truth, Int, Text, Bytes, Items, Exc, values}
 use Rattle.model_tree.specs.Syntax.{Constant, NoneConstant, TruthConstant, IntConstant, TextConstant, BytesConstant, Expr, Or, And, Not, Compare, Calculate, Negate, Index, Literal, Variable, ListOf, Apply, MakeError, Exprs, no_exprs, expr_then}
 use Rattle.model_says.specs.Variables.{Env, held}
-use Rattle.model_says.specs.Operations.{Answer, bad_operand, bounded, truth, negation, calculated, negative, compared, indexed, applied, error_made}
+use Rattle.model_says.specs.Operations.{ValueOrFault, bad_operand, bounded, truth, negation, calculated, negative, compared, indexed, applied, error_made}
 
 abbrev pub constant_value : Constant → Value
 constant_value NoneConstant = Nothing
@@ -14,23 +14,23 @@ constant_value (TextConstant bytes) = Text bytes
 constant_value (BytesConstant bytes) = Bytes bytes
 
 -- an operation on a value that may be missing
-abbrev pub of_one : (Value → Answer) → Answer → Answer
+abbrev pub of_one : (Value → ValueOrFault) → ValueOrFault → ValueOrFault
 of_one operation (Ok value) = operation value
 of_one operation (Err fault) = Err fault
 
 -- an operation on two values, of which the left one comes first
-abbrev pub of_two : (Value → Value → Answer) → Answer → Answer → Answer
+abbrev pub of_two : (Value → Value → ValueOrFault) → ValueOrFault → ValueOrFault → ValueOrFault
 of_two operation (Ok left) right = of_one (operation left) right
 of_two operation (Err fault) right = Err fault
 
 -- The left side is tested first. What the right side gives counts only where the left one does not decide.
-abbrev pub either : Answer → Answer → Answer
+abbrev pub either : ValueOrFault → ValueOrFault → ValueOrFault
 either (Ok (Truth true)) right = Ok (Truth true)
 either (Ok (Truth false)) right = of_one truth right
 either (Ok _) right = Err bad_operand
 either (Err fault) right = Err fault
 
-abbrev pub both : Answer → Answer → Answer
+abbrev pub both : ValueOrFault → ValueOrFault → ValueOrFault
 both (Ok (Truth true)) right = of_one truth right
 both (Ok (Truth false)) right = Ok (Truth false)
 both (Ok _) right = Err bad_operand
@@ -40,16 +40,16 @@ abbrev pub behind : Value → Result (List Value) Exc → Result (List Value) Ex
 behind value (Ok others) = Ok (value ∷ others)
 behind value (Err fault) = Err fault
 
-abbrev pub in_order : Answer → Result (List Value) Exc → Result (List Value) Exc
+abbrev pub in_order : ValueOrFault → Result (List Value) Exc → Result (List Value) Exc
 in_order (Ok value) others = behind value others
 in_order (Err fault) others = Err fault
 
-abbrev pub list_made : Result (List Value) Exc → Answer
+abbrev pub list_made : Result (List Value) Exc → ValueOrFault
 list_made (Ok items) = bounded (Items (values items))
 list_made (Err fault) = Err fault
 
 abbrev mutual
-  pub value_of : Expr → Env → Answer
+  pub value_of : Expr → Env → ValueOrFault
   value_of (Or left right) env = either (value_of left env) (value_of right env)
   value_of (And left right) env = both (value_of left env) (value_of right env)
   value_of (Not operand) env = of_one negation (value_of operand env)

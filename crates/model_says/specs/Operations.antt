@@ -22,8 +22,8 @@ use Rattle.model_tree.specs.declared.function.Function.{Function}
 use Rattle.model_tree.specs.declared.function.Function.TheVariants as function
 
 -- a value, or the exception that is raised in its place
-abbrev pub Answer : Type 0
-Answer = Result Value Exc
+abbrev pub ValueOrFault : Type 0
+ValueOrFault = Result Value Exc
 
 -- ---- the exceptions
 abbrev pub bad_operand : Exc
@@ -49,7 +49,7 @@ abbrev pub deepest : ℕ
 deepest = 64
 
 -- a value that an operation gives, unless it is too heavy or too deep
-abbrev pub bounded : Value → Answer
+abbrev pub bounded : Value → ValueOrFault
 bounded value =
     if nat_le (weight_of value) heaviest && nat_le (depth_of value) deepest then Ok value else Err out_of_range
 
@@ -58,15 +58,15 @@ abbrev pub fits : ℤ → Bool
 fits (pos n) = nat_lt n (2 ^ 63)
 fits (negsuc n) = nat_lt n (2 ^ 63)
 
-abbrev pub number : ℤ → Answer
+abbrev pub number : ℤ → ValueOrFault
 number n = if fits n then Ok (Int n) else Err out_of_range
 
 -- ---- truth
-abbrev pub truth : Value → Answer
+abbrev pub truth : Value → ValueOrFault
 truth (Truth t) = Ok (Truth t)
 truth _ = Err bad_operand
 
-abbrev pub negation : Value → Answer
+abbrev pub negation : Value → ValueOrFault
 negation (Truth t) = Ok (Truth (not t))
 negation _ = Err bad_operand
 
@@ -82,7 +82,7 @@ floor_quotient (negsuc a) (negsuc b) = pos (suc a / suc b)
 abbrev pub floor_remainder : ℤ → ℤ → ℤ
 floor_remainder a b = a -ℤ (floor_quotient a b *ℤ b)
 
-abbrev pub divided : (ℤ → ℤ → ℤ) → ℤ → ℤ → Answer
+abbrev pub divided : (ℤ → ℤ → ℤ) → ℤ → ℤ → ValueOrFault
 divided operation a (pos zero) = Err division_by_zero
 divided operation a b = number (operation a b)
 
@@ -91,48 +91,48 @@ abbrev pub times : ℤ → ℕ
 times (pos n) = n
 times (negsuc n) = 0
 
-abbrev pub repeated_if : Bool → (List ℕ → Value) → List ℕ → ℕ → Answer
+abbrev pub repeated_if : Bool → (List ℕ → Value) → List ℕ → ℕ → ValueOrFault
 repeated_if true make bytes count = Ok (make (repeat count bytes))
 repeated_if false make bytes count = Err out_of_range
 
 -- the weight is known before the bytes are
-abbrev pub repeated : (List ℕ → Value) → List ℕ → ℤ → Answer
+abbrev pub repeated : (List ℕ → Value) → List ℕ → ℤ → ValueOrFault
 repeated make bytes count =
     repeated_if (nat_le (1 + times count * length bytes) heaviest) make bytes (times count)
 
-abbrev pub sum : Value → Value → Answer
+abbrev pub sum : Value → Value → ValueOrFault
 sum (Int a) (Int b) = number (a +ℤ b)
 sum (Text a) (Text b) = bounded (Text (a ++ b))
 sum (Bytes a) (Bytes b) = bounded (Bytes (a ++ b))
 sum (Items a) (Items b) = bounded (Items (values (list_of a ++ list_of b)))
 sum _ _ = Err bad_operand
 
-abbrev pub difference : Value → Value → Answer
+abbrev pub difference : Value → Value → ValueOrFault
 difference (Int a) (Int b) = number (a -ℤ b)
 difference _ _ = Err bad_operand
 
-abbrev pub product : Value → Value → Answer
+abbrev pub product : Value → Value → ValueOrFault
 product (Int a) (Int b) = number (a *ℤ b)
 product (Text bytes) (Int count) = repeated Text bytes count
 product (Bytes bytes) (Int count) = repeated Bytes bytes count
 product _ _ = Err bad_operand
 
-abbrev pub quotient : Value → Value → Answer
+abbrev pub quotient : Value → Value → ValueOrFault
 quotient (Int a) (Int b) = divided floor_quotient a b
 quotient _ _ = Err bad_operand
 
-abbrev pub remainder : Value → Value → Answer
+abbrev pub remainder : Value → Value → ValueOrFault
 remainder (Int a) (Int b) = divided floor_remainder a b
 remainder _ _ = Err bad_operand
 
-abbrev pub calculated : Operator → Value → Value → Answer
+abbrev pub calculated : Operator → Value → Value → ValueOrFault
 calculated Add = sum
 calculated Subtract = difference
 calculated Multiply = product
 calculated FloorDivide = quotient
 calculated Remainder = remainder
 
-abbrev pub negative : Value → Answer
+abbrev pub negative : Value → ValueOrFault
 negative (Int a) = number (neg_ℤ a)
 negative _ = Err bad_operand
 
@@ -144,11 +144,11 @@ order (Text a) (Text b) = Some (slice_cmp nat_cmp a b)
 order (Bytes a) (Bytes b) = Some (slice_cmp nat_cmp a b)
 order _ _ = None
 
-abbrev pub ordered : (Ordering → Bool) → Option Ordering → Answer
+abbrev pub ordered : (Ordering → Bool) → Option Ordering → ValueOrFault
 ordered test (Some ordering) = Ok (Truth (test ordering))
 ordered test None = Err bad_operand
 
-abbrev pub compared : Comparison → Value → Value → Answer
+abbrev pub compared : Comparison → Value → Value → ValueOrFault
 compared comparison.Equal a b = Ok (Truth (equal a b))
 compared comparison.NotEqual a b = Ok (Truth (not (equal a b)))
 compared comparison.Less a b = ordered is_lt (order a b)
@@ -162,25 +162,25 @@ abbrev pub item_at : {A : Type 0} → List A → ℤ → Option A
 item_at items (pos index) = slice_get items index
 item_at items (negsuc index) = slice_get (reverse items) index
 
-abbrev pub found : Option Value → Answer
+abbrev pub found : Option Value → ValueOrFault
 found (Some value) = bounded value
 found None = Err index_out_of_range
 
 abbrev pub byte_value : ℕ → Value
 byte_value byte = Int (pos byte)
 
-abbrev pub indexed : Value → Value → Answer
+abbrev pub indexed : Value → Value → ValueOrFault
 indexed (Items items) (Int index) = found (item_at (list_of items) index)
 indexed (Bytes bytes) (Int index) = found (item_at (map byte_value bytes) index)
 indexed _ _ = Err bad_operand
 
 -- ---- functions
 -- the text that bytes are
-abbrev pub decoded : List ℕ → Answer
+abbrev pub decoded : List ℕ → ValueOrFault
 decoded bytes = if is_utf8 bytes then bounded (Text bytes) else Err not_utf8
 
 -- The text of a value is UTF-8 wherever its own texts are.
-abbrev pub applied : Function → Value → Answer
+abbrev pub applied : Function → Value → ValueOrFault
 applied function.Len (Text bytes) = number (pos (length bytes))
 applied function.Len (Bytes bytes) = number (pos (length bytes))
 applied function.Len (Items items) = number (pos (length (list_of items)))
@@ -194,6 +194,6 @@ applied function.Members (Exception fault) = bounded (Items (values (map Excepti
 applied _ _ = Err bad_operand
 
 -- `error(KIND, t)`
-abbrev pub error_made : Kind → Value → Answer
+abbrev pub error_made : Kind → Value → ValueOrFault
 error_made kind (Text text) = bounded (Exception (exception_of kind text))
 error_made kind _ = Err bad_operand

@@ -13,15 +13,15 @@ pub record SectionLines : Type 0 where
   pub lines : List Line
 
 -- what stands behind a block's head: its lines, its sections, and what stands behind its `end`
-pub record Cut : Type 0 where
+pub record BlockLines : Type 0 where
   pub body : List Line
   pub sections : List SectionLines
   pub behind : List Line
 
-abbrev pub with_line : Line → Cut → Cut
+abbrev pub with_line : Line → BlockLines → BlockLines
 with_line line cut = record cut { body = line ∷ cut.body }
 
-abbrev pub with_section : Line → Cut → Cut
+abbrev pub with_section : Line → BlockLines → BlockLines
 with_section line cut =
     record cut { body = []; sections = record { head = line; lines = cut.body } ∷ cut.sections }
 
@@ -33,7 +33,7 @@ depth_behind depth Closes = pred depth
 depth_behind depth Stands = depth
 
 -- The cut at a line, by what stands behind it. Lines of inner blocks are lines of the body.
-abbrev pub cut_at : Role → ℕ → Line → List Line → Cut → Cut
+abbrev pub cut_at : Role → ℕ → Line → List Line → BlockLines → BlockLines
 cut_at (Opens block) depth line lines cut = with_line line cut
 cut_at Stands depth line lines cut = with_line line cut
 cut_at (Begins section) zero line lines cut = with_section line cut
@@ -42,7 +42,7 @@ cut_at Closes zero line lines cut = record { body = []; sections = []; behind = 
 cut_at Closes (suc depth) line lines cut = with_line line cut
 
 -- lines inside a block before which so many of its inner blocks are open
-abbrev pub cut_from : ℕ → List Line → Cut
+abbrev pub cut_from : ℕ → List Line → BlockLines
 cut_from depth [] = record { body = []; sections = []; behind = [] }
 cut_from depth (line ∷ lines) =
     cut_at (role_of line) depth line lines (cut_from (depth_behind depth (role_of line)) lines)
@@ -60,11 +60,11 @@ simple Pass = Some plain.Pass
 simple _ = None
 
 -- a section with its statements
-pub record Body : Type 0 where
+pub record SectionBody : Type 0 where
   pub head : Line
   pub body : Statements
 
-abbrev pub branch_in : List Body → Branch
+abbrev pub branch_in : List SectionBody → Branch
 branch_in [] = no_branch
 branch_in (section ∷ sections) = branch section.body
 
@@ -73,7 +73,7 @@ abbrev pub handler_before : Line → Statements → Handlers → Handlers
 handler_before (Except kind name) body handlers = handler_then kind name body handlers
 handler_before _ body handlers = handlers
 
-abbrev pub handlers_in : List Body → Handlers
+abbrev pub handlers_in : List SectionBody → Handlers
 handlers_in [] = no_handlers
 handlers_in (section ∷ sections) = handler_before section.head section.body (handlers_in sections)
 
@@ -81,12 +81,12 @@ abbrev pub finally_before : Line → Statements → Branch → Branch
 finally_before Finally body others = branch body
 finally_before _ body others = others
 
-abbrev pub finally_in : List Body → Branch
+abbrev pub finally_in : List SectionBody → Branch
 finally_in [] = no_branch
 finally_in (section ∷ sections) = finally_before section.head section.body (finally_in sections)
 
 -- the block of a head, by its statements and those of its sections
-abbrev pub block : Line → Statements → List Body → Option Statement
+abbrev pub block : Line → Statements → List SectionBody → Option Statement
 block (If test) body sections = Some (plain.If test body (branch_in sections))
 block (While test) body sections = Some (plain.While test body)
 block Try body sections = Some (plain.Try body (handlers_in sections) (finally_in sections))
@@ -99,11 +99,11 @@ then_statements None others = others
 then_statements (Some statement) others = statement_then statement others
 
 -- sections with what their lines spell
-abbrev pub bodies : (List Line → Statements) → List SectionLines → List Body
+abbrev pub bodies : (List Line → Statements) → List SectionLines → List SectionBody
 bodies spelled sections = map (λ section. record { head = section.head; body = spelled section.lines }) sections
 
 -- what a head, its bodies and its `end` spell, with what the lines behind spell
-abbrev pub block_then : (List Line → Statements) → Line → Cut → Statements
+abbrev pub block_then : (List Line → Statements) → Line → BlockLines → Statements
 block_then spelled line cut =
     then_statements (block line (spelled cut.body) (bodies spelled cut.sections)) (spelled cut.behind)
 

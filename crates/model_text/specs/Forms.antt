@@ -11,7 +11,7 @@ use Rattle.model_text.specs.declared.reserved_word.ReservedWord.TheVariants as w
 use Rattle.model_text.specs.Words.{Lexeme, Reserved, Named, Number, Sign, is_sign}
 use Rattle.model_text.specs.Terms.{Term}
 use Rattle.model_text.specs.Cutting.{parts, before_last}
-use Rattle.model_text.specs.Levels.{Reading, all_of, bare_name, Arguments, arguments_of, term_of}
+use Rattle.model_text.specs.Levels.{Parser, all_of, bare_name, Arguments, arguments_of, term_of}
 
 -- A line's form, with expressions E, targets G of `yield from`, and kinds K.
 pub data Form (E G K : Type 0) : Type 0 where
@@ -52,7 +52,7 @@ coroutine_place name =
     else None))
 
 -- `NAME`, or `NAME(ARG, ..)`
-abbrev pub goal_of : Reading Goal
+abbrev pub goal_of : Parser Goal
 goal_of (Named name ∷ []) = Some (Awaited name)
 goal_of (Named name ∷ next ∷ lexemes) =
     if is_sign symbol.LeftParenthesis next
@@ -61,19 +61,19 @@ goal_of (Named name ∷ next ∷ lexemes) =
 goal_of _ = None
 
 -- ---- what stands behind the first word of a line
-abbrev pub alone : Spelled → Reading Spelled
+abbrev pub alone : Spelled → Parser Spelled
 alone form [] = Some form
 alone form _ = None
 
-abbrev pub with_term : (Term → Spelled) → Reading Spelled
+abbrev pub with_term : (Term → Spelled) → Parser Spelled
 with_term form lexemes = option_map form (term_of lexemes)
 
-abbrev pub profile_form : Reading Spelled
+abbrev pub profile_form : Parser Spelled
 profile_form (Number number ∷ []) = Some (Profile (nat_abs number))
 profile_form _ = None
 
 -- `NAME(NAME, ..)`
-abbrev pub def_form : Reading Spelled
+abbrev pub def_form : Parser Spelled
 def_form (Named name ∷ next ∷ lexemes) =
     if is_sign symbol.LeftParenthesis next
     then option_and_then (λ inner. option_map (Def name) (all_of bare_name (parts inner))) (before_last symbol.RightParenthesis lexemes)
@@ -81,34 +81,34 @@ def_form (Named name ∷ next ∷ lexemes) =
 def_form _ = None
 
 -- a bare `yield`, or `yield from TARGET`
-abbrev pub yield_from : Option Name → Reading Spelled
+abbrev pub yield_from : Option Name → Parser Spelled
 yield_from into (Reserved word.From ∷ lexemes) = option_map (YieldFrom into) (goal_of lexemes)
 yield_from into _ = None
 
-abbrev pub yield_form : Reading Spelled
+abbrev pub yield_form : Parser Spelled
 yield_form [] = Some Yield
 yield_form (lexeme ∷ lexemes) = yield_from None (lexeme ∷ lexemes)
 
 -- `NAME = EXPR`, or `NAME = yield from TARGET`
-abbrev pub assigned_form : Name → Reading Spelled
+abbrev pub assigned_form : Name → Parser Spelled
 assigned_form name (Reserved word.Yield ∷ lexemes) = yield_from (Some name) lexemes
 assigned_form name lexemes = with_term (Assign name) lexemes
 
-abbrev pub name_form : Name → Reading Spelled
+abbrev pub name_form : Name → Parser Spelled
 name_form name [] = None
 name_form name (next ∷ lexemes) = if is_sign symbol.Assign next then assigned_form name lexemes else None
 
 -- one expression or more
-abbrev pub print_form : Reading Spelled
+abbrev pub print_form : Parser Spelled
 print_form [] = None
 print_form (lexeme ∷ lexemes) = option_map Print (all_of term_of (parts (lexeme ∷ lexemes)))
 
-abbrev pub return_form : Reading Spelled
+abbrev pub return_form : Parser Spelled
 return_form [] = Some (Return None)
 return_form (lexeme ∷ lexemes) = with_term (λ value. Return (Some value)) (lexeme ∷ lexemes)
 
 -- `KIND`, or `KIND as NAME`
-abbrev pub except_form : Reading Spelled
+abbrev pub except_form : Parser Spelled
 except_form (Named kind ∷ []) = Some (Except kind None)
 except_form (Named kind ∷ Reserved word.As ∷ Named name ∷ []) = Some (Except kind (Some name))
 except_form _ = None
@@ -123,13 +123,13 @@ before_as [] = None
 before_as (lexeme ∷ lexemes) = closed_as lexeme lexemes (before_as lexemes)
 
 -- `group as NAME`, or `timeout(EXPR) as NAME`
-abbrev pub with_form : Reading Spelled
+abbrev pub with_form : Parser Spelled
 with_form (Reserved word.Group ∷ Reserved word.As ∷ Named name ∷ []) = Some (WithGroup name)
 with_form (Reserved word.Timeout ∷ Sign symbol.LeftParenthesis ∷ lexemes) =
     option_and_then (λ pair. option_map (λ delay. WithTimeout delay pair.1) (term_of pair.0)) (before_as lexemes)
 with_form _ = None
 
-abbrev pub form_behind : ReservedWord → Reading Spelled
+abbrev pub form_behind : ReservedWord → Parser Spelled
 form_behind word.Profile lexemes = profile_form lexemes
 form_behind word.Def lexemes = def_form lexemes
 form_behind word.End lexemes = alone End lexemes
@@ -148,7 +148,7 @@ form_behind word.With lexemes = with_form lexemes
 form_behind _ lexemes = None
 
 -- The form of a line, which has lexemes.
-unfoldable pub form_of : Reading Spelled
+unfoldable pub form_of : Parser Spelled
 form_of (Reserved reserved ∷ lexemes) = form_behind reserved lexemes
 form_of (Named name ∷ lexemes) = name_form name lexemes
 form_of _ = None

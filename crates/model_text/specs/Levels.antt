@@ -17,8 +17,8 @@ use Rattle.model_text.specs.Words.{Lexeme, Reserved, Named, Number, Texts, Octet
 use Rattle.model_text.specs.Terms.{Term, Or, And, Not, Compare, Calculate, Negate, Index, Constantly, Variable, ListOf, Called, terms}
 use Rattle.model_text.specs.Cutting.{Cutter, pieces, parts, before_last}
 
-abbrev pub Reading : Type 0 → Type 0
-Reading A = List Lexeme → Option A
+abbrev pub Parser : Type 0 → Type 0
+Parser A = List Lexeme → Option A
 
 -- all of the results, if each is there
 abbrev pub all_of : {A B : Type 0} → (A → Option B) → List A → Option (List B)
@@ -70,12 +70,12 @@ at_index true (Sign symbol.LeftBracket) = Some symbol.LeftBracket
 at_index _ _ = None
 
 -- ---- operands that one level joins
-abbrev pub joined : {A : Type 0} → (A → Term → Term → Term) → Reading Term → Term → List (A × List Lexeme) → Option Term
+abbrev pub joined : {A : Type 0} → (A → Term → Term → Term) → Parser Term → Term → List (A × List Lexeme) → Option Term
 joined build operand left [] = Some left
 joined build operand left (other ∷ others) =
     option_and_then (λ right. joined build operand (build other.0 left right) others) (operand other.1)
 
-abbrev pub level : {A : Type 0} → Cutter A → (A → Term → Term → Term) → Reading Term → Reading Term
+abbrev pub level : {A : Type 0} → Cutter A → (A → Term → Term → Term) → Parser Term → Parser Term
 level cutter build operand lexemes =
     let cut = pieces cutter lexemes in
     option_and_then (λ left. joined build operand left cut.others) (operand cut.first)
@@ -94,13 +94,13 @@ abbrev pub with_bare : List Term → Name → List Term → Arguments
 with_bare before name after = record { before = before; bare = Some name; after = after }
 
 -- the arguments behind those before a bare name
-abbrev pub from_bare : Reading Term → List Term → List (List Lexeme) → Option Arguments
+abbrev pub from_bare : Parser Term → List Term → List (List Lexeme) → Option Arguments
 from_bare inside before [] = Some (record { before = before; bare = None; after = [] })
 from_bare inside before (slot ∷ slots) =
     option_and_then (λ name. option_map (with_bare before name) (all_of inside slots)) (bare_name slot)
 
 -- Arguments between commas. Where the call wants a bare name at a place, the argument there is one name.
-abbrev pub arguments_of : Reading Term → Option ℕ → List (List Lexeme) → Option Arguments
+abbrev pub arguments_of : Parser Term → Option ℕ → List (List Lexeme) → Option Arguments
 arguments_of inside None slots =
     option_map (λ all. record { before = all; bare = None; after = [] }) (all_of inside slots)
 arguments_of inside (Some place) slots =
@@ -126,22 +126,22 @@ atom (Sign symbol) = None
 
 -- What may stand in brackets is a parameter.
 module _ (inside : List Lexeme → Option Term) where
-  abbrev pub items : Reading (List Term)
+  abbrev pub items : Parser (List Term)
   items lexemes = all_of inside (parts lexemes)
 
-  abbrev pub called : Name → Reading Term
+  abbrev pub called : Name → Parser Term
   called name lexemes =
       option_map (λ arguments. Called name (terms arguments.before) arguments.bare (terms arguments.after)) (arguments_of inside (kind_place name) (parts lexemes))
 
   -- what begins with a bracket
-  abbrev pub bracketed : AnySymbol → Reading Term
+  abbrev pub bracketed : AnySymbol → Parser Term
   bracketed symbol.LeftParenthesis lexemes = option_and_then inside (before_last symbol.RightParenthesis lexemes)
   bracketed symbol.LeftBracket lexemes =
       option_and_then (λ inner. option_map (λ all. ListOf (terms all)) (items inner)) (before_last symbol.RightBracket lexemes)
   bracketed _ lexemes = None
 
   -- `NAME(..)`, `(..)`, `[..]`, or one lexeme
-  abbrev pub primary : Reading Term
+  abbrev pub primary : Parser Term
   primary [] = None
   primary (lexeme ∷ []) = atom lexeme
   primary (Named name ∷ next ∷ lexemes) =
@@ -149,25 +149,25 @@ module _ (inside : List Lexeme → Option Term) where
   primary (Sign symbol ∷ next ∷ lexemes) = bracketed symbol (next ∷ lexemes)
   primary _ = None
 
-  abbrev pub item_index : Reading Term
+  abbrev pub item_index : Parser Term
   item_index lexemes = option_and_then inside (before_last symbol.RightBracket lexemes)
 
   -- `x[i]`
-  abbrev pub indexed : Reading Term
+  abbrev pub indexed : Parser Term
   indexed lexemes =
       let cut = pieces at_index lexemes in
       option_and_then (λ sequence. joined (λ bracket. Index) item_index sequence cut.others) (primary cut.first)
 
   -- unary `-`
-  abbrev pub negated : Reading Term
+  abbrev pub negated : Parser Term
   negated [] = None
   negated (lexeme ∷ lexemes) =
       if is_sign symbol.Minus lexeme then option_map Negate (negated lexemes) else indexed (lexeme ∷ lexemes)
 
-  abbrev pub product : Reading Term
+  abbrev pub product : Parser Term
   product = level at_product Calculate negated
 
-  abbrev pub sum_of : Reading Term
+  abbrev pub sum_of : Parser Term
   sum_of = level at_sum Calculate product
 
   -- at most one comparison
@@ -176,7 +176,7 @@ module _ (inside : List Lexeme → Option Term) where
   compared (other ∷ []) left = option_map (Compare other.0 left) (sum_of other.1)
   compared _ left = None
 
-  abbrev pub comparison_level : Reading Term
+  abbrev pub comparison_level : Parser Term
   comparison_level lexemes =
       let cut = pieces at_comparison lexemes in option_and_then (compared cut.others) (sum_of cut.first)
 
@@ -184,22 +184,22 @@ module _ (inside : List Lexeme → Option Term) where
   is_not (Reserved word.Not) = true
   is_not _ = false
 
-  abbrev pub denied : Reading Term
+  abbrev pub denied : Parser Term
   denied [] = None
   denied (lexeme ∷ lexemes) =
       if is_not lexeme then option_map Not (denied lexemes) else comparison_level (lexeme ∷ lexemes)
 
-  abbrev pub conjunction : Reading Term
+  abbrev pub conjunction : Parser Term
   conjunction = level (at_word word.And) (λ reserved. And) denied
 
-  abbrev pub disjunction : Reading Term
+  abbrev pub disjunction : Parser Term
   disjunction = level (at_word word.Or) (λ reserved. Or) conjunction
 
 -- with at most so many brackets in one another
-abbrev pub term_within : ℕ → Reading Term
+abbrev pub term_within : ℕ → Parser Term
 term_within zero lexemes = None
 term_within (suc brackets) lexemes = disjunction (term_within brackets) lexemes
 
 -- The expression that lexemes spell.
-unfoldable pub term_of : Reading Term
+unfoldable pub term_of : Parser Term
 term_of lexemes = term_within (suc (length lexemes)) lexemes

@@ -6,7 +6,7 @@ use Rattle.model_text.specs.declared.cause.Cause.TheVariants as cause
 use Rattle.model_text.specs.Forms.{Profile, Spelled}
 use Rattle.model_text.specs.TextLines.{text_lines}
 use Rattle.model_text.specs.FirstPass.{Fault, fault_at, Numbered, first_pass}
-use Rattle.model_text.specs.SecondPass.{Line, Part, Parts, parts_of, Judged, second_pass}
+use Rattle.model_text.specs.SecondPass.{Line, Part, ScriptParts, parts_of, Judged, second_pass}
 use Rattle.model_text.specs.Bodies.{body_in}
 
 -- the longest text, in bytes
@@ -33,7 +33,7 @@ judged_program profile (Ok parts) = Ok (program profile parts)
 judged_program profile (Err fault) = Err fault
 
 -- the line after the last has this number
-abbrev pub script_of_parts : ℕ → Parts (Numbered Spelled) → Judged Program
+abbrev pub script_of_parts : ℕ → ScriptParts (Numbered Spelled) → Judged Program
 script_of_parts line parts = judged_program (profile_in parts.front) (second_pass line parts.coroutines)
 
 abbrev pub script_of_forms : ℕ → Judged (List (Numbered Spelled)) → Judged Program

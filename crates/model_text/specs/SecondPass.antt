@@ -29,17 +29,17 @@ pub record Part (F : Type 0) : Type 0 where
   pub lines : List F
 
 -- lines before the first `def`, and the coroutines
-pub record Parts (F : Type 0) : Type 0 where
+pub record ScriptParts (F : Type 0) : Type 0 where
   pub front : List F
   pub coroutines : List (Part F)
 
-abbrev pub before_parts : Spelled → Numbered Spelled → Parts (Numbered Spelled) → Parts (Numbered Spelled)
+abbrev pub before_parts : Spelled → Numbered Spelled → ScriptParts (Numbered Spelled) → ScriptParts (Numbered Spelled)
 before_parts (Def name parameters) head parts =
     record { front = []; coroutines = record { line = head.line; name = name; parameters = parameters; lines = parts.front } ∷ parts.coroutines }
 before_parts _ line parts = record parts { front = line ∷ parts.front }
 
 -- a coroutine's lines stand from its `def` to the next
-abbrev pub parts_of : List (Numbered Spelled) → Parts (Numbered Spelled)
+abbrev pub parts_of : List (Numbered Spelled) → ScriptParts (Numbered Spelled)
 parts_of [] = record { front = []; coroutines = [] }
 parts_of (line ∷ lines) = before_parts line.form line (parts_of lines)
 

@@ -12,8 +12,8 @@ use Rattle.model_wire.specs.declared.watch.Watch.{Watch}
 use Rattle.model_wire.specs.declared.watch.Watch.TheVariants as watch
 use Rattle.model_wire.specs.declared.item.Item as any_item
 use Rattle.model_wire.specs.declared.item.Item.TheVariants as item
-use Rattle.model_wire.specs.declared.item.Ready.{Ready}
-use Rattle.model_wire.specs.declared.item.Ready.TheVariants as ready
+use Rattle.model_wire.specs.declared.item.Readiness.{Readiness}
+use Rattle.model_wire.specs.declared.item.Readiness.TheVariants as ready
 use Rattle.model_wire.specs.declared.answer.Answer as any_answer
 use Rattle.model_wire.specs.declared.answer.Answer.TheVariants as answer
 use Rattle.model_wire.specs.declared.call.Call as any_call
@@ -79,7 +79,7 @@ written_call (call.Launch words) = codes "launch " ++ shown (Items (values (map 
 written_call (call.Extra code bytes) = codes "extra " ++ signed_decimal code ++ codes " " ++ bytes_literal bytes
 
 -- ---- answers
-abbrev pub ready_text : Ready → List ℕ
+abbrev pub ready_text : Readiness → List ℕ
 ready_text ready.Read = codes "r"
 ready_text ready.Write = codes "w"
 ready_text ready.Both = codes "rw"

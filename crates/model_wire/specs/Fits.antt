@@ -11,8 +11,8 @@ use Rattle.model_wire.specs.declared.watch.Watch.TheVariants as watch
 use Rattle.model_wire.specs.declared.item.Item.TheVariants as item
 use Rattle.model_wire.specs.declared.item.Interest.{Interest}
 use Rattle.model_wire.specs.declared.item.Interest.TheVariants as interest
-use Rattle.model_wire.specs.declared.item.Ready.{Ready}
-use Rattle.model_wire.specs.declared.item.Ready.TheVariants as ready
+use Rattle.model_wire.specs.declared.item.Readiness.{Readiness}
+use Rattle.model_wire.specs.declared.item.Readiness.TheVariants as ready
 use Rattle.model_wire.specs.declared.answer.Answer.TheVariants as answer
 use Rattle.model_wire.specs.declared.call.Call.TheVariants as call
 use Rattle.model_wire.specs.Call.{Call, Answer, Item}
@@ -34,7 +34,7 @@ abbrev pub is_some_within : ℕ → ℕ → Bool
 is_some_within bound count = nat_lt 0 count && nat_le count bound
 
 -- ---- what is watched
-abbrev pub is_ready_for : Ready → Bool → Bool → Bool
+abbrev pub is_ready_for : Readiness → Bool → Bool → Bool
 is_ready_for ready.Read reads writes = reads
 is_ready_for ready.Write reads writes = writes
 is_ready_for ready.Both reads writes = reads && writes

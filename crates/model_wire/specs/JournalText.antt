@@ -12,7 +12,7 @@ use Rattle.model_text.specs.Faults.{TokenFault}
 use Rattle.model_text.specs.Letters.{is_space, is_quote, is_backslash}
 use Rattle.model_text.specs.Literals.{inside_of, parts_of, literal_bytes}
 use Rattle.model_wire.specs.declared.item.Item.TheVariants as item
-use Rattle.model_wire.specs.declared.item.Ready.TheVariants as ready
+use Rattle.model_wire.specs.declared.item.Readiness.TheVariants as ready
 use Rattle.model_wire.specs.declared.answer.Answer.TheVariants as answer
 use Rattle.model_wire.specs.declared.entry.EntryWord.{EntryWord}
 use Rattle.model_wire.specs.declared.entry.EntryWord.TheVariants as word
@@ -28,18 +28,18 @@ EntryToken = any_token.EntryToken (List ℕ)
 
 -- ---- the words of a line
 -- where a byte of a line stands; a backslash inside a literal takes the byte after it along
-pub data Standing : Type 0 where
-  Outside : Standing
-  Inside : Standing
-  Escaped : Standing
+pub data QuoteState : Type 0 where
+  Outside : QuoteState
+  Inside : QuoteState
+  Escaped : QuoteState
 
-abbrev pub is_outside : Standing → Bool
+abbrev pub is_outside : QuoteState → Bool
 is_outside Outside = true
 is_outside Inside = false
 is_outside Escaped = false
 
 -- where the byte after this one stands
-abbrev pub standing_after : Standing → ℕ → Standing
+abbrev pub standing_after : QuoteState → ℕ → QuoteState
 standing_after Outside byte = if is_quote byte then Inside else Outside
 standing_after Inside byte = if is_quote byte then Outside else (if is_backslash byte then Escaped else Inside)
 standing_after Escaped byte = Inside
@@ -50,7 +50,7 @@ put true space pieces = [] ∷ pieces
 put false byte pieces = fronted byte pieces
 
 -- what stands between the spaces that are outside literals
-abbrev pub pieces_of : Standing → List ℕ → List (List ℕ)
+abbrev pub pieces_of : QuoteState → List ℕ → List (List ℕ)
 pieces_of standing [] = [] ∷ []
 pieces_of standing (byte ∷ bytes) =
     put (is_outside standing && is_space byte) byte (pieces_of (standing_after standing byte) bytes)

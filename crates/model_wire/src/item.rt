@@ -2,7 +2,7 @@ use model_value::ChildItem;
 
 /// What a connection is ready for.
 #[derive(Clone, Copy, Debug, PartialEq, Eq)]
-pub enum Ready {
+pub enum Readiness {
     Read,
     Write,
     Both,
@@ -15,7 +15,7 @@ pub enum Item<B> {
     /// A listener may accept.
     ReadableServer(u32),
     /// A connection may receive or send.
-    Ready { conn: u32, ready: Ready },
+    Ready { conn: u32, ready: Readiness },
     /// A connection that was being made stands.
     Up(u32),
     /// A connection could not be made.

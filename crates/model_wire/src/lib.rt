@@ -13,5 +13,5 @@ pub use answer::Answer;
 pub use call::Call;
 pub use entry::{EntryToken, EntryWord, IdLetter};
 pub use event::{End, Event, Handed};
-pub use item::{Interest, Item, Ready};
+pub use item::{Interest, Item, Readiness};
 pub use watch::Watch;

@@ -41,14 +41,14 @@ abbrev pub at : List ℕ → List Entry
 at times = map (λ now. Answered (Turn now [])) times
 
 -- a text that a task printed
-pub record Line : Type 0 where
+pub record PrintedLine : Type 0 where
   pub task : ℕ
   pub text : List ℕ
 
-abbrev pub prints : ℕ → List Value → Line
+abbrev pub prints : ℕ → List Value → PrintedLine
 prints task values = record { task = task; text = shown_all values }
 
-abbrev pub lines_of : List Event → List Line
+abbrev pub lines_of : List Event → List PrintedLine
 lines_of [] = []
 lines_of (event.Said task text ∷ events) = record { task = task; text = text } ∷ lines_of events
 lines_of (_ ∷ events) = lines_of events
@@ -59,7 +59,7 @@ waits_of (event.Called (Select wait watch) ∷ events) = wait ∷ waits_of event
 waits_of (_ ∷ events) = waits_of events
 
 pub record Seen : Type 0 where
-  pub lines : List Line
+  pub lines : List PrintedLine
   pub waits : List (Option ℕ)
   pub end : End
 

@@ -2,20 +2,20 @@
 use Rattle.std.specs.Prelude.{ℕ, Bool, true, false, List, [], ◌∷◌, Option, Some, None, codes}
 use Rattle.model_machine.specs.Words.{Command, Check, Replay, command_of}
 
-pub record Row : Type 0 where
+pub record WordsRow : Type 0 where
   pub words : List (List ℕ)
   pub command : Option Command
 
-abbrev pub found : Row → Option Command
+abbrev pub found : WordsRow → Option Command
 found row = command_of row.words
 
-abbrev pub expected : Row → Option Command
+abbrev pub expected : WordsRow → Option Command
 expected row = row.command
 
-abbrev pub check : List (List ℕ) → Option Command → Row
+abbrev pub check : List (List ℕ) → Option Command → WordsRow
 check words command = record { words = codes "check" ∷ words; command = command }
 
-abbrev pub replay : List (List ℕ) → Option Command → Row
+abbrev pub replay : List (List ℕ) → Option Command → WordsRow
 replay words command = record { words = codes "replay" ∷ words; command = command }
 
 -- a replay of `s` over `j`
@@ -26,7 +26,7 @@ of_both trace turns = Some (Replay (codes "s") (codes "j") trace turns)
 abbrev pub all : ℕ
 all = 1099511627776
 
-abbrev pub accepted : List Row
+abbrev pub accepted : List WordsRow
 accepted =
     check (codes "s" ∷ []) (Some (Check (codes "s")))
     ∷ replay (codes "s" ∷ codes "j" ∷ []) (of_both false all)
@@ -37,7 +37,7 @@ accepted =
     ∷ replay (codes "--trace" ∷ codes "--turns" ∷ codes "0000000000001" ∷ codes "s" ∷ codes "j" ∷ []) (of_both true 1)
     ∷ replay (codes "s" ∷ codes "j" ∷ codes "--turns=1099511627776" ∷ []) (of_both false all) ∷ []
 
-abbrev pub refused : List Row
+abbrev pub refused : List WordsRow
 refused =
     record { words = []; command = None }
     ∷ record { words = codes "play" ∷ codes "s" ∷ codes "j" ∷ []; command = None }

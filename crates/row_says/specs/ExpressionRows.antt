@@ -8,13 +8,13 @@ use Rattle.model_tree.specs.declared.function.Function.TheVariants.{Len, Str, Ki
 use Rattle.model_tree.specs.declared.function.Function.TheVariants as function
 use Rattle.model_tree.specs.Syntax.{Expr, Or, And, Not, Negate, Index, Apply, MakeError}
 use Rattle.model_says.specs.Expressions.{value_of}
-use Rattle.model_says.specs.Operations.{Answer, bad_operand, out_of_range, division_by_zero, index_out_of_range, not_utf8}
+use Rattle.model_says.specs.Operations.{ValueOrFault, bad_operand, out_of_range, division_by_zero, index_out_of_range, not_utf8}
 use Rattle.model_says.specs.Variables.{Env}
 use Rattle.row_says.specs.Written.{none, yes, no, int, text, bytes, var, list, ◌plus◌, ◌less◌, ◌times◌, ◌over◌, ◌modulo◌, ◌equals◌, ◌differs◌, ◌below◌, ◌atmost◌, ◌above◌, ◌atleast◌}
 
-pub record Row : Type 0 where
+pub record ExpressionRow : Type 0 where
   pub expr : Expr
-  pub expected : Answer
+  pub expected : ValueOrFault
 
 -- what the variables of the rows hold: an exception with bytes, and one with a member
 abbrev cut_short : Exc
@@ -23,18 +23,18 @@ cut_short = exc IncompleteReadError (codes "cut") (1 ∷ 2 ∷ []) (exc_then (ex
 abbrev env : Env
 env = record { name = codes "e"; value = Exception cut_short } ∷ record { name = codes "n"; value = Nothing } ∷ []
 
-abbrev pub found : Row → Answer
+abbrev pub found : ExpressionRow → ValueOrFault
 found row = value_of row.expr env
 
-abbrev pub expected : Row → Answer
+abbrev pub expected : ExpressionRow → ValueOrFault
 expected row = row.expected
 
 infix 6 ◌gives◌
-abbrev ◌gives◌ : Expr → Value → Row
+abbrev ◌gives◌ : Expr → Value → ExpressionRow
 expr gives value = record { expr = expr; expected = Ok value }
 
 infix 6 ◌raises◌
-abbrev ◌raises◌ : Expr → Exc → Row
+abbrev ◌raises◌ : Expr → Exc → ExpressionRow
 expr raises fault = record { expr = expr; expected = Err fault }
 
 abbrev number : ℤ → Value
@@ -53,7 +53,7 @@ least = Negate greatest less int 1
 abbrev minus : ℕ → Expr
 minus n = Negate (int n)
 
-abbrev pub arithmetic : List Row
+abbrev pub arithmetic : List ExpressionRow
 arithmetic =
     (int 1 plus int 2 gives Int (pos 3))
     ∷ (int 1 less int 2 gives Int (negsuc 0))
@@ -88,7 +88,7 @@ arithmetic =
     ∷ (var "n" plus int 1 raises bad_operand)
     ∷ []
 
-abbrev pub joining : List Row
+abbrev pub joining : List ExpressionRow
 joining =
     (text "ab" plus text "c" gives string "abc")
     ∷ (text "ab" plus bytes (99 ∷ []) raises bad_operand)
@@ -107,7 +107,7 @@ joining =
     ∷ (list (int 1 over int 0 ∷ var "n" ∷ []) raises division_by_zero)
     ∷ []
 
-abbrev pub comparisons : List Row
+abbrev pub comparisons : List ExpressionRow
 comparisons =
     (int 1 equals int 1 gives Truth true)
     ∷ (int 1 equals yes gives Truth false)
@@ -132,7 +132,7 @@ comparisons =
     ∷ (yes below no raises bad_operand)
     ∷ []
 
-abbrev pub truths : List Row
+abbrev pub truths : List ExpressionRow
 truths =
     (Or yes (int 1 over int 0) gives Truth true)
     ∷ (Or no (int 1 over int 0) raises division_by_zero)
@@ -154,7 +154,7 @@ truths =
 abbrev three : Expr
 three = list (int 10 ∷ int 20 ∷ int 30 ∷ [])
 
-abbrev pub items : List Row
+abbrev pub items : List ExpressionRow
 items =
     (Index three (int 0) gives Int (pos 10))
     ∷ (Index three (int 2) gives Int (pos 30))
@@ -179,7 +179,7 @@ abbrev nested_value : ℕ → Value
 nested_value zero = Int (pos 1)
 nested_value (suc depth) = Items (values (nested_value depth ∷ []))
 
-abbrev pub functions : List Row
+abbrev pub functions : List ExpressionRow
 functions =
     (Apply Len (text "abc") gives Int (pos 3))
     ∷ (Apply Len (bytes []) gives Int (pos 0))

@@ -3,9 +3,9 @@ use Rattle.std.specs.Prelude.{ℕ, List, [], ◌∷◌, ◌++◌, codes, map}
 use Rattle.std.specs.List.{repeat}
 use Prim.Native.String.{String}
 use Rattle.model_text.specs.declared.cause.Cause.TheVariants.{Token, Form, Nesting, Name, Arity, NoMain, Profile}
-use Rattle.row_text.specs.Rows.{text, Row, refused, accepted, at, in_main}
+use Rattle.row_text.specs.Rows.{text, FaultRow, refused, accepted, at, in_main}
 
-abbrev pub stored : List Row
+abbrev pub stored : List FaultRow
 stored =
     refused [] 1 NoMain
     ∷ at 2 Arity ("def main()" ∷ "yield from sleep()" ∷ "end" ∷ [])
@@ -15,7 +15,7 @@ stored =
     ∷ []
 
 -- lines whose bytes are no tokens, and what ends lines
-abbrev pub tokens : List Row
+abbrev pub tokens : List FaultRow
 tokens =
     in_main Token "x = \"a"
     ∷ in_main Token "pass # \t"
@@ -31,7 +31,7 @@ tokens =
     ∷ []
 
 -- lines in `main` that are no form, or may not stand there
-abbrev pub forms : List Row
+abbrev pub forms : List FaultRow
 forms = map (in_main Form)
     ("yield 1" ∷ "x = yield" ∷ "yield from" ∷ "yield from 1" ∷ "yield from (x)" ∷ "x = yield from y z" ∷ "print" ∷ "print 1," ∷ "return 1, 2"
     ∷ "raise" ∷ "pass 1" ∷ "if" ∷ "while" ∷ "try 1" ∷ "else x" ∷ "end x" ∷ "finally x" ∷ "except" ∷ "except (ValueError)" ∷ "except ValueError as" ∷ "except if"
@@ -39,14 +39,14 @@ forms = map (in_main Form)
     ∷ "x =" ∷ "1 = x" ∷ "if = 1" ∷ "x == 1" ∷ "x 1" ∷ "x" ∷ "sleep(1)" ∷ "from x" ∷ "= 1" ∷ "def f()" ∷ "profile 1" ∷ "def" ∷ "group = 1" ∷ [])
 
 -- expressions that are none
-abbrev pub expressions : List Row
+abbrev pub expressions : List FaultRow
 expressions = map (in_main Form)
     ("x = 1 < 2 < 3" ∷ "x = 1 == not 1" ∷ "x = 1 + not 1" ∷ "x = (1" ∷ "x = 1)" ∷ "x = [1)" ∷ "x = ([1)]" ∷ "x = len(1)(2)" ∷ "x = (len)(1)" ∷ "x = [1,]" ∷ "x = [,1]"
     ∷ "x = 1 2" ∷ "x = 1 +" ∷ "x = * 1" ∷ "x = or 1" ∷ "x = 1 or" ∷ "x = not" ∷ "x = -" ∷ "x = + 1" ∷ "x = ()" ∷ "x = x[]" ∷ "x = x[1" ∷ "x = x[1, 2]" ∷ "x = 1, 2"
     ∷ "x = group" ∷ "x = len(1,)" ∷ "x = error(1, \"t\")" ∷ "x = error((ValueError), \"t\")" ∷ "x = error(if, \"t\")" ∷ "x = a = b" ∷ "x = ] 1 [" ∷ [])
 
 -- where a request takes a coroutine's name, and other places of forms
-abbrev pub places : List Row
+abbrev pub places : List FaultRow
 places =
     in_main Form "yield from spawn(1)"
     ∷ in_main Form "yield from spawn((main))"
@@ -79,7 +79,7 @@ listed count =
     codes "def main()\nprint " ++ repeat count (codes "[") ++ codes "1" ++ repeat count (codes "]") ++ codes "\nend\n"
 
 -- blocks that don't fit, or are too deep
-abbrev pub nesting : List Row
+abbrev pub nesting : List FaultRow
 nesting =
     in_main Nesting "else"
     ∷ in_main Nesting "except ValueError"
@@ -109,17 +109,17 @@ abbrev in_coroutines : String → List ℕ
 in_coroutines line =
     text ("def main()" ∷ "g = None" ∷ line ∷ "end" ∷ "def one(a)" ∷ "end" ∷ "def two(a, b)" ∷ "end" ∷ [])
 
-abbrev named : String → Row
+abbrev named : String → FaultRow
 named line = refused (in_coroutines line) 3 Name
 
-abbrev counted : String → Row
+abbrev counted : String → FaultRow
 counted line = refused (in_coroutines line) 3 Arity
 
-abbrev meant : String → Row
+abbrev meant : String → FaultRow
 meant line = accepted (in_coroutines line)
 
 -- names that mean nothing in a line
-abbrev pub names : List Row
+abbrev pub names : List FaultRow
 names = map named
     ("print q" ∷ "print [1, [q]]" ∷ "print g[q]" ∷ "yield from q" ∷ "yield from one" ∷ "yield from three(1)" ∷ "yield from len(g)" ∷ "yield from error(1)" ∷ "x = spawn(1)"
     ∷ "x = sleep(1)" ∷ "x = one(1)" ∷ "x = q(1)" ∷ "yield from spawn(three)" ∷ "yield from create(g, three)" ∷ "yield from listen(1, three)" ∷ "yield from spawn(g)"
@@ -127,7 +127,7 @@ names = map named
     ∷ "len = yield from time()" ∷ "print len" ∷ "print ValueError" ∷ "print one" ∷ [])
 
 -- wrong numbers of arguments
-abbrev pub counts : List Row
+abbrev pub counts : List FaultRow
 counts = map counted
     ("x = len()" ∷ "x = len(1, 2)" ∷ "x = error()" ∷ "x = error(ValueError)" ∷ "x = error(ValueError, \"a\", \"b\")" ∷ "yield from future(1)"
     ∷ "yield from sleep(1, 2)" ∷ "yield from limits(g, 1)" ∷ "yield from one()" ∷ "yield from two(1)" ∷ "yield from main(1)" ∷ "yield from spawn()" ∷ "yield from spawn(one)"
@@ -135,13 +135,13 @@ counts = map counted
     ∷ "yield from listen(1, main)" ∷ "yield from listen(1, two)" ∷ "yield from listen(1, one, 2)" ∷ [])
 
 -- names and counts that are right
-abbrev pub meanings : List Row
+abbrev pub meanings : List FaultRow
 meanings = map meant
     ("x = len(x)" ∷ "x = error(ValueError, \"t\")" ∷ "yield from one(1)" ∷ "x = yield from spawn(two, 1, 2)" ∷ "x = yield from create(g, main)" ∷ "x = yield from listen(1, one)"
     ∷ "one = one" ∷ "yield from extra(1, [])" ∷ "yield from g" ∷ [])
 
 -- several lines: names of coroutines and parameters, `main`, profiles, and which of two faults counts
-abbrev pub faults : List Row
+abbrev pub faults : List FaultRow
 faults =
     at 3 NoMain ("def other()" ∷ "end" ∷ [])
     ∷ at 3 NoMain ("def main(a)" ∷ "end" ∷ [])

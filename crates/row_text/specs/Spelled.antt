@@ -1,13 +1,13 @@
 -- Texts that spell scripts, with their canonical texts, worked out by hand.
 use Rattle.std.specs.Prelude.{List, [], ◌∷◌}
 use Prim.Native.String.{String}
-use Rattle.row_text.specs.Rows.{Pair, spells}
+use Rattle.row_text.specs.Rows.{CanonicalPair, spells}
 
-abbrev line : String → String → Pair
+abbrev line : String → String → CanonicalPair
 line before after = spells ("def main()" ∷ before ∷ "end" ∷ []) ("def main()" ∷ after ∷ "end" ∷ [])
 
 -- one line of `main`
-abbrev pub lines : List Pair
+abbrev pub lines : List CanonicalPair
 lines =
     spells ("def main()" ∷ " x=1+2*3 # sum" ∷ "end" ∷ []) ("def main()" ∷ "  x = 1 + (2 * 3)" ∷ "end" ∷ [])
     ∷ line "x=1-2-3" "  x = (1 - 2) - 3"
@@ -32,7 +32,7 @@ lines =
     ∷ []
 
 -- every form
-abbrev pub whole : List Pair
+abbrev pub whole : List CanonicalPair
 whole =
     spells ("profile 1" ∷ "def main ( )" ∷ "yield" ∷ "yield from x" ∷ "x=yield from sleep(5)" ∷ "x = yield from f(1,2)" ∷ "print 1,x" ∷ "raise error(ValueError,\"t\")" ∷ "return" ∷ "return x"
     ∷ "pass" ∷ "if x" ∷ "pass" ∷ "else" ∷ "end" ∷ "while x" ∷ "if x" ∷ "end" ∷ "end" ∷ "try" ∷ "except BaseException" ∷ "pass" ∷ "except ExceptionGroup as e" ∷ "finally" ∷ "pass" ∷ "end"

@@ -4,10 +4,10 @@ use Rattle.model_value.specs.declared.action.ChildItem.TheVariants as news
 use Rattle.model_wire.specs.declared.watch.Watch.{Watch}
 use Rattle.model_wire.specs.declared.watch.Watch.TheVariants as watch
 use Rattle.model_wire.specs.declared.item.Item.TheVariants as item
-use Rattle.model_wire.specs.declared.item.Ready.TheVariants as ready
+use Rattle.model_wire.specs.declared.item.Readiness.TheVariants as ready
 use Rattle.model_wire.specs.declared.answer.Answer.TheVariants as answer
 use Rattle.model_wire.specs.declared.call.Call.TheVariants as call
-use Rattle.row_wire.specs.Rows.{Pair, pair, turn_to}
+use Rattle.row_wire.specs.Rows.{FittingRow, pair, turn_to}
 
 -- a listener, a connection that is made, two that stand, and a child with every letter
 abbrev pub all : List Watch
@@ -15,7 +15,7 @@ all =
     watch.Server 0 ∷ watch.Making 0 ∷ watch.Conn 1 true true ∷ watch.Conn 2 true false ∷ watch.Child 0 true true true true true
     ∷ watch.Child 1 false true false false true ∷ watch.Extra ∷ []
 
-abbrev pub turns : List Pair
+abbrev pub turns : List FittingRow
 turns =
     turn_to [] [] true
     ∷ turn_to [] (item.ReadableServer 0 ∷ []) false
@@ -45,7 +45,7 @@ turns =
     ∷ []
 
 -- a call with every answer but a turn that its kind may have
-abbrev pub answers : List Pair
+abbrev pub answers : List FittingRow
 answers =
     pair (call.Select None []) answer.Done false
     ∷ pair (call.Listen 9) answer.Done true

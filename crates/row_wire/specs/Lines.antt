@@ -2,12 +2,12 @@
 use Rattle.std.specs.Prelude.{pos, negsuc, List, [], ◌∷◌, codes}
 use Rattle.model_value.specs.declared.action.ChildItem.TheVariants as news
 use Rattle.model_wire.specs.declared.item.Item.TheVariants as item
-use Rattle.model_wire.specs.declared.item.Ready.TheVariants as ready
+use Rattle.model_wire.specs.declared.item.Readiness.TheVariants as ready
 use Rattle.model_wire.specs.declared.answer.Answer.TheVariants as answer
-use Rattle.row_wire.specs.Rows.{Row, says, turns, bad_form, wide}
+use Rattle.row_wire.specs.Rows.{EntryRow, says, turns, bad_form, wide}
 
 -- each form of an entry, and spaces
-abbrev pub right : List Row
+abbrev pub right : List EntryRow
 right =
     says "ok" answer.Done
     ∷ says "refused" answer.Refused
@@ -35,7 +35,7 @@ right =
     ∷ []
 
 -- lines that are no entry
-abbrev pub wrong : List Row
+abbrev pub wrong : List EntryRow
 wrong =
     bad_form ""
     ∷ bad_form "   "
@@ -80,7 +80,7 @@ wrong =
     ∷ []
 
 -- numbers at their bounds
-abbrev pub numbers : List Row
+abbrev pub numbers : List EntryRow
 numbers =
     turns "turn 9223372036854775807" 9223372036854775807 []
     ∷ wide "turn 9223372036854775808"
@@ -108,7 +108,7 @@ numbers =
     ∷ []
 
 -- literals with every escape, and with spaces, which part nothing there
-abbrev pub literals : List Row
+abbrev pub literals : List EntryRow
 literals =
     says "data b\"\\n\\r\\t\\\\\\\"\"" (answer.Data (10 ∷ 13 ∷ 9 ∷ 92 ∷ 34 ∷ []))
     ∷ says "data b\"\\x00\\xff\\xAb\\x7F\"" (answer.Data (0 ∷ 255 ∷ 171 ∷ 127 ∷ []))

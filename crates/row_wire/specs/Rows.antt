@@ -9,46 +9,46 @@ use Rattle.model_wire.specs.Fits.{fits}
 use Rattle.model_wire.specs.Journal.{Entry, Answered, Refused}
 use Rattle.model_wire.specs.JournalText.{entry_of, no_form, bad_number}
 
-pub record Row : Type 0 where
+pub record EntryRow : Type 0 where
   pub line : List ℕ
   pub expected : Entry
 
-abbrev pub found : Row → Entry
+abbrev pub found : EntryRow → Entry
 found row = entry_of 7 row.line
 
-abbrev pub expected : Row → Entry
+abbrev pub expected : EntryRow → Entry
 expected row = row.expected
 
 -- a line that says this answer
-abbrev pub says : String → Answer → Row
+abbrev pub says : String → Answer → EntryRow
 says line said = record { line = codes line; expected = Answered said }
 
 -- a line that says this turn
-abbrev pub turns : String → ℕ → List Item → Row
+abbrev pub turns : String → ℕ → List Item → EntryRow
 turns line now items = says line (answer.Turn now items)
 
 -- a line that is no entry
-abbrev pub bad_form : String → Row
+abbrev pub bad_form : String → EntryRow
 bad_form line = record { line = codes line; expected = Refused 7 no_form }
 
 -- a line with a number that is refused
-abbrev pub wide : String → Row
+abbrev pub wide : String → EntryRow
 wide line = record { line = codes line; expected = Refused 7 bad_number }
 
-pub record Pair : Type 0 where
+pub record FittingRow : Type 0 where
   pub asked : Call
   pub said : Answer
   pub fitting : Bool
 
-abbrev pub is_fitting : Pair → Bool
+abbrev pub is_fitting : FittingRow → Bool
 is_fitting pair = fits pair.asked pair.said
 
-abbrev pub expected_fitting : Pair → Bool
+abbrev pub expected_fitting : FittingRow → Bool
 expected_fitting pair = pair.fitting
 
-abbrev pub pair : Call → Answer → Bool → Pair
+abbrev pub pair : Call → Answer → Bool → FittingRow
 pair asked said fitting = record { asked = asked; said = said; fitting = fitting }
 
 -- a turn said to a select with this watch list
-abbrev pub turn_to : List Watch → List Item → Bool → Pair
+abbrev pub turn_to : List Watch → List Item → Bool → FittingRow
 turn_to watched items fitting = pair (call.Select None watched) (answer.Turn 5 items) fitting

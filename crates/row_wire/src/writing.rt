@@ -7,7 +7,7 @@ ghost use Rattle.model_wire.specs.declared.answer.Answer.TheVariants as answer;
 ghost use Rattle.model_wire.specs.declared.call.Call.TheVariants as call;
 ghost use Rattle.model_wire.specs.declared.event.Event.TheVariants as event;
 ghost use Rattle.model_wire.specs.declared.item.Item.TheVariants as item;
-ghost use Rattle.model_wire.specs.declared.item.Ready.TheVariants as ready;
+ghost use Rattle.model_wire.specs.declared.item.Readiness.TheVariants as ready;
 ghost use Rattle.model_wire.specs.declared.watch.Watch.TheVariants as watch;
 ghost use Rattle.model_wire.specs.Call.{written_call, written};
 ghost use Rattle.model_wire.specs.Trace.{line_of, lines_of_events};

@@ -13,7 +13,7 @@ use Rattle.script_term.specs.declared.lexeme.Lexeme as code
 use Rattle.script_term.specs.Lexeme.{plain_lexeme}
 use Rattle.script_form.specs.declared.fault.LineFault.{LineFault}
 use Rattle.script_form.specs.declared.fault.LineFault.TheVariants as line_fault
-use Rattle.script_form.specs.declared.standing.Standing.{Standing}
+use Rattle.script_form.specs.declared.form_place.FormPlace.{FormPlace}
 use Rattle.script_form.specs.Unplaced.{unplaced_of}
 use Rattle.script_form.specs.Faults.{IsFaultOf, IsCauseOf, at_line}
 use Rattle.script_form.specs.Behind.{roles_of, roles_behind}
@@ -63,12 +63,12 @@ before_all-more forms numbered (Ok others) = ap Ok (sym (append_assoc forms (num
 before_all-more forms numbered (Err fault) = refl
 
 -- a form that was read, by what is kept of it
-pub record Read (kept : Option Spelled × Standing) (form : Option Spelled) : Type 0 where
+pub record Read (kept : Option Spelled × FormPlace) (form : Option Spelled) : Type 0 where
   pub spelled : Spelled
   pub is : form ≡ Some spelled
   pub same : kept ≡ unplaced_of spelled
 
-pub read_of : (kept : Option Spelled × Standing) (form : Option Spelled) → Some kept ≡ option_map unplaced_of form → Read kept form
+pub read_of : (kept : Option Spelled × FormPlace) (form : Option Spelled) → Some kept ≡ option_map unplaced_of form → Read kept form
 read_of kept None e = cc
 read_of kept (Some form) e = record { spelled = form; is = refl; same = cc }
 
@@ -79,7 +79,7 @@ line-lexemes roles line tokens (lexeme ∷ lexemes) is lexed some =
     ap (tokens_behind roles) is ∙ ap (lexemes_behind roles) (sym lexed)
 
 -- a line whose form stands where it may
-pub line-read : (roles : List Role) (line : List ℕ) (tokens : List Token) (lexemes : List code.Lexeme) (kept : Option Spelled × Standing) (spelled : Spelled) → tokens_of line ≡ Ok tokens → map plain_lexeme lexemes ≡ lexemes_of tokens → (length lexemes == 0) ≡ false → Some kept ≡ option_map unplaced_of (form_of (map plain_lexeme lexemes)) → ((form : Spelled) → kept ≡ unplaced_of form → (spelled ≡ form) × (cause_behind roles form ≡ None)) → line_behind roles line ≡ Ok (Some spelled)
+pub line-read : (roles : List Role) (line : List ℕ) (tokens : List Token) (lexemes : List code.Lexeme) (kept : Option Spelled × FormPlace) (spelled : Spelled) → tokens_of line ≡ Ok tokens → map plain_lexeme lexemes ≡ lexemes_of tokens → (length lexemes == 0) ≡ false → Some kept ≡ option_map unplaced_of (form_of (map plain_lexeme lexemes)) → ((form : Spelled) → kept ≡ unplaced_of form → (spelled ≡ form) × (cause_behind roles form ≡ None)) → line_behind roles line ≡ Ok (Some spelled)
 line-read roles line tokens lexemes kept spelled is lexed some read fits =
     let r = read_of kept (form_of (map plain_lexeme lexemes)) read in
     let f = fits r.spelled r.same in

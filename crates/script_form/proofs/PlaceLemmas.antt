@@ -9,8 +9,8 @@ use Rattle.model_text.specs.Places as plain
 use Rattle.model_text.specs.Places.{begins, closes, fits, is_finally, is_outside, may_stand, open_blocks}
 use Rattle.model_text.specs.Forms.{Spelled, Profile, Def, Return, Else, Except, Finally, End}
 use Rattle.script_form.specs.declared.block.Section.{Section}
-use Rattle.script_form.specs.declared.standing.Standing.{Standing}
-use Rattle.script_form.specs.declared.standing.Standing.TheVariants as standing
+use Rattle.script_form.specs.declared.form_place.FormPlace.{FormPlace}
+use Rattle.script_form.specs.declared.form_place.FormPlace.TheVariants as standing
 use Rattle.script_form.specs.Placed.{standing_of}
 use Rattle.script_form.specs.declared.block.OpenBlock.{OpenBlock}
 use Rattle.script_form.specs.Blocks.{plain_block, plain_section, kept, plain_open, latest_of, is_in_finally}
@@ -134,7 +134,7 @@ finally_inside blocks others e =
     ∙ ap (list_any is_in_finally) e ∙ list_any-map kept is_in_finally others ∙ all_kept others
 
 -- where a form may stand, by its standing
-abbrev stands : Standing → Bool → List plain.OpenBlock → Bool
+abbrev stands : FormPlace → Bool → List plain.OpenBlock → Bool
 stands standing.First is_first blocks = is_first
 stands standing.Outside is_first blocks = is_outside blocks
 stands standing.Inside is_first blocks = not (is_outside blocks)

@@ -11,7 +11,7 @@ use Rattle.model_text.specs.Forms.{Spelled, Goal, YieldFrom, Return, Assign, wit
 use Rattle.model_text.specs.Places.{most_height, height_of_goal, height_of_form}
 use Rattle.script_term.specs.declared.lexeme.Lexeme as code
 use Rattle.script_term.specs.Lexeme.{plain_lexeme}
-use Rattle.script_form.specs.declared.standing.Standing.TheVariants as standing
+use Rattle.script_form.specs.declared.form_place.FormPlace.TheVariants as standing
 use Rattle.script_form.specs.Fitting.{fitting}
 use Rattle.script_form.specs.Fronts.{behind_word, behind_sign}
 use Rattle.script_form.specs.Unplaced.{unplaced_of}

@@ -84,12 +84,12 @@ fitting-push ts t =
     by_tests false false = refl
 
 -- what is read of a row, and what is kept of it
-record Kept (all : Option (List Term)) (kept : Option (List Term)) : Type 0 where
+record KeptTerms (all : Option (List Term)) (kept : Option (List Term)) : Type 0 where
   terms : List Term
   are : all ≡ Some terms
   fit : fitting heights terms ≡ kept
 
-kept_of : (all : Option (List Term)) (kept : Option (List Term)) → option_map (fitting heights) all ≡ Some kept → Kept all kept
+kept_of : (all : Option (List Term)) (kept : Option (List Term)) → option_map (fitting heights) all ≡ Some kept → KeptTerms all kept
 kept_of None kept e = cc
 kept_of (Some terms) kept e = record { terms = terms; are = refl; fit = cc }
 

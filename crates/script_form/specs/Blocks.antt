@@ -29,7 +29,7 @@ plain_role role.Closes = plain.Closes
 plain_role role.Stands = plain.Stands
 
 -- what is kept of an open block
-pub record Kept : Type 0 where
+pub record KeptBlock : Type 0 where
   pub block : plain.Block
   pub latest : Option plain.Section
 
@@ -37,14 +37,14 @@ abbrev pub latest_of : List plain.Section → Option plain.Section
 latest_of [] = None
 latest_of (section ∷ sections) = Some section
 
-abbrev pub kept : plain.OpenBlock → Kept
+abbrev pub kept : plain.OpenBlock → KeptBlock
 kept open_block = record { block = open_block.block; latest = latest_of open_block.sections }
 
-abbrev pub plain_open : OpenBlock → Kept
+abbrev pub plain_open : OpenBlock → KeptBlock
 plain_open open_block = record { block = plain_block open_block.block; latest = option_map plain_section open_block.latest }
 
 -- its `finally` has begun
-abbrev pub is_in_finally : Kept → Bool
+abbrev pub is_in_finally : KeptBlock → Bool
 is_in_finally open_block = is_finally_section open_block.latest
   where
     is_finally_section : Option plain.Section → Bool

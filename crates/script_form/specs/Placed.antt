@@ -4,8 +4,8 @@ use Rattle.std.specs.Prelude.{◌≡◌, List, map, reverse, length, nat_eq}
 use Rattle.model_text.specs.Forms.{Spelled, Profile, Def, Return, Else, Except, Finally, End}
 use Rattle.model_text.specs.Places.{Role, open_blocks}
 use Rattle.script_form.specs.declared.places.Places.{Places}
-use Rattle.script_form.specs.declared.standing.Standing.{Standing}
-use Rattle.script_form.specs.declared.standing.Standing.TheVariants as standing
+use Rattle.script_form.specs.declared.form_place.FormPlace.{FormPlace}
+use Rattle.script_form.specs.declared.form_place.FormPlace.TheVariants as standing
 use Rattle.script_form.specs.Blocks.{kept, plain_open}
 
 -- The places are those behind lines with these roles, the latest first.
@@ -13,7 +13,7 @@ pub record IsBehind (places : Places) (roles : List Role) : Type 0 where
   pub first : places.is_first ≡ nat_eq (length roles) 0
   pub blocks : reverse (map plain_open places.blocks.items) ≡ map kept (open_blocks roles)
 
-abbrev pub standing_of : Spelled → Standing
+abbrev pub standing_of : Spelled → FormPlace
 standing_of (Profile number) = standing.First
 standing_of (Def name parameters) = standing.Outside
 standing_of (Return value) = standing.OutsideFinally

@@ -9,10 +9,10 @@ ghost use Rattle.script_form.specs.Fronts.{as_name, timeout_parts, timeout_form}
 ghost use Rattle.script_form.specs.Placed.{standing_of};
 ghost use Rattle.script_form.specs.Unplaced.{plain_unplaced, unplaced_of, Reads};
 
+use crate::form_place::FormPlace;
 use crate::fronts::{as_name, before_as, behind_name, behind_sign, behind_word, in_parentheses};
 use crate::goal::goal_of;
 use crate::parts::parts;
-use crate::standing::Standing;
 use crate::terms::{all_names, all_terms, one_term};
 use script_term::{Goal, Lexeme, ReservedWord, Spelled, Symbol, Term};
 use std::alloc::{AllocError, Global};
@@ -20,15 +20,15 @@ use std::rc::RcStr;
 
 /// A form before its place is looked at.
 #[derive(Drop)]
-pub struct Unplaced {
+pub struct UnplacedForm {
     /// The form, if no expression of it is too high.
     pub form: Option<Spelled>,
-    pub standing: Standing,
+    pub standing: FormPlace,
 }
 
 /// The form of a line, which has lexemes.
 #[tactic(auto, unfolding(model_text::specs::Forms::form_of))]
-pub fn form_of(alloc: Global, lexemes: &[Lexeme]) -> Result<Option<Unplaced>, AllocError>
+pub fn form_of(alloc: Global, lexemes: &[Lexeme]) -> Result<Option<UnplacedForm>, AllocError>
     ensures { Reads result (form_of (map plain_lexeme lexemes.now)) }
 {
     match lexemes.split_first() {
@@ -43,38 +43,38 @@ fn form_behind(
     alloc: Global,
     word: ReservedWord,
     rest: &[Lexeme],
-) -> Result<Option<Unplaced>, AllocError>
+) -> Result<Option<UnplacedForm>, AllocError>
     ensures { Reads result (form_behind word (map plain_lexeme rest.now)) }
 {
     match word {
         ReservedWord::Profile => Ok(profile_form(rest)),
         ReservedWord::Def => def_form(alloc, rest),
-        ReservedWord::End => Ok(alone(Spelled::End, Standing::Anywhere, rest)),
+        ReservedWord::End => Ok(alone(Spelled::End, FormPlace::Anywhere, rest)),
         ReservedWord::Yield => yield_form(alloc, rest),
         ReservedWord::Print => print_form(alloc, rest),
         ReservedWord::Raise => raise_form(alloc, rest),
         ReservedWord::Return => return_form(alloc, rest),
-        ReservedWord::Pass => Ok(alone(Spelled::Pass, Standing::Inside, rest)),
+        ReservedWord::Pass => Ok(alone(Spelled::Pass, FormPlace::Inside, rest)),
         ReservedWord::If => if_form(alloc, rest),
-        ReservedWord::Else => Ok(alone(Spelled::Else, Standing::Anywhere, rest)),
+        ReservedWord::Else => Ok(alone(Spelled::Else, FormPlace::Anywhere, rest)),
         ReservedWord::While => while_form(alloc, rest),
-        ReservedWord::Try => Ok(alone(Spelled::Try, Standing::Inside, rest)),
+        ReservedWord::Try => Ok(alone(Spelled::Try, FormPlace::Inside, rest)),
         ReservedWord::Except => except_form(rest),
-        ReservedWord::Finally => Ok(alone(Spelled::Finally, Standing::Anywhere, rest)),
+        ReservedWord::Finally => Ok(alone(Spelled::Finally, FormPlace::Anywhere, rest)),
         ReservedWord::With => with_form(alloc, rest),
         _ => Ok(None),
     }
 }
 
 /// A form with nothing behind its first word.
-fn alone(form: Spelled, standing: Standing, rest: &[Lexeme]) -> Option<Unplaced>
+fn alone(form: Spelled, standing: FormPlace, rest: &[Lexeme]) -> Option<UnplacedForm>
     requires flat { height_of_form (plain_spelled form) ≡ 0 }
     requires standing { standing ≡ standing_of (plain_spelled form) }
     ensures { option_map plain_unplaced result
         ≡ option_map unplaced_of (alone (plain_spelled form) (map plain_lexeme rest.now)) }
 {
     if rest.is_empty() {
-        Some(Unplaced {
+        Some(UnplacedForm {
             form: Some(form),
             standing,
         })
@@ -83,21 +83,21 @@ fn alone(form: Spelled, standing: Standing, rest: &[Lexeme]) -> Option<Unplaced>
     }
 }
 
-fn profile_form(rest: &[Lexeme]) -> Option<Unplaced>
+fn profile_form(rest: &[Lexeme]) -> Option<UnplacedForm>
     ensures { option_map plain_unplaced result
         ≡ option_map unplaced_of (profile_form (map plain_lexeme rest.now)) }
 {
     match rest.split_first()? {
-        (Lexeme::Number(number), []) => Some(Unplaced {
+        (Lexeme::Number(number), []) => Some(UnplacedForm {
             form: Some(Spelled::Profile(number.unsigned_abs())),
-            standing: Standing::First,
+            standing: FormPlace::First,
         }),
         _ => None,
     }
 }
 
 /// `NAME(NAME, ..)`.
-fn def_form(alloc: Global, rest: &[Lexeme]) -> Result<Option<Unplaced>, AllocError>
+fn def_form(alloc: Global, rest: &[Lexeme]) -> Result<Option<UnplacedForm>, AllocError>
     ensures { Reads result (def_form (map plain_lexeme rest.now)) }
 {
     let Some((name, rest)) = behind_name(rest) else {
@@ -110,9 +110,9 @@ fn def_form(alloc: Global, rest: &[Lexeme]) -> Result<Option<Unplaced>, AllocErr
     let Some(parameters) = all_names(alloc, parts.as_slice())? else {
         return Ok(None);
     };
-    Ok(Some(Unplaced {
+    Ok(Some(UnplacedForm {
         form: Some(Spelled::Def(name.clone()?, parameters)),
-        standing: Standing::Outside,
+        standing: FormPlace::Outside,
     }))
 }
 
@@ -121,7 +121,7 @@ fn yield_from(
     alloc: Global,
     into: Option<RcStr>,
     rest: &[Lexeme],
-) -> Result<Option<Unplaced>, AllocError>
+) -> Result<Option<UnplacedForm>, AllocError>
     ensures { Reads result (yield_from (option_map rc_str_bytes into) (map plain_lexeme rest.now)) }
 {
     let Some(rest) = behind_word(rest, ReservedWord::From) else {
@@ -130,9 +130,9 @@ fn yield_from(
     let Some(goal) = goal_of(alloc, rest)? else {
         return Ok(None);
     };
-    Ok(Some(Unplaced {
+    Ok(Some(UnplacedForm {
         form: awaiting(into, goal),
-        standing: Standing::Inside,
+        standing: FormPlace::Inside,
     }))
 }
 
@@ -143,20 +143,24 @@ fn awaiting(into: Option<RcStr>, goal: Option<Goal>) -> Option<Spelled>
     Some(Spelled::YieldFrom(into, goal?))
 }
 
-fn yield_form(alloc: Global, rest: &[Lexeme]) -> Result<Option<Unplaced>, AllocError>
+fn yield_form(alloc: Global, rest: &[Lexeme]) -> Result<Option<UnplacedForm>, AllocError>
     ensures { Reads result (yield_form (map plain_lexeme rest.now)) }
 {
     if rest.is_empty() {
-        return Ok(Some(Unplaced {
+        return Ok(Some(UnplacedForm {
             form: Some(Spelled::Yield),
-            standing: Standing::Inside,
+            standing: FormPlace::Inside,
         }));
     }
     yield_from(alloc, None, rest)
 }
 
 /// `= EXPR` or `= yield from TARGET`, behind a name.
-fn name_form(alloc: Global, name: &RcStr, rest: &[Lexeme]) -> Result<Option<Unplaced>, AllocError>
+fn name_form(
+    alloc: Global,
+    name: &RcStr,
+    rest: &[Lexeme],
+) -> Result<Option<UnplacedForm>, AllocError>
     ensures { Reads result (name_form (rc_str_bytes name.now) (map plain_lexeme rest.now)) }
 {
     let Some(rest) = behind_sign(rest, Symbol::Assign) else {
@@ -169,20 +173,24 @@ fn name_form(alloc: Global, name: &RcStr, rest: &[Lexeme]) -> Result<Option<Unpl
     }
 }
 
-fn assign_form(alloc: Global, name: RcStr, rest: &[Lexeme]) -> Result<Option<Unplaced>, AllocError>
+fn assign_form(
+    alloc: Global,
+    name: RcStr,
+    rest: &[Lexeme],
+) -> Result<Option<UnplacedForm>, AllocError>
     ensures { Reads result (with_term (Assign (rc_str_bytes name)) (map plain_lexeme rest.now)) }
 {
     let Some(value) = one_term(alloc, rest)? else {
         return Ok(None);
     };
-    Ok(Some(Unplaced {
+    Ok(Some(UnplacedForm {
         form: value.map(|value| Spelled::Assign(name, value)),
-        standing: Standing::Inside,
+        standing: FormPlace::Inside,
     }))
 }
 
 /// One expression or more.
-fn print_form(alloc: Global, rest: &[Lexeme]) -> Result<Option<Unplaced>, AllocError>
+fn print_form(alloc: Global, rest: &[Lexeme]) -> Result<Option<UnplacedForm>, AllocError>
     ensures { Reads result (print_form (map plain_lexeme rest.now)) }
 {
     if rest.is_empty() {
@@ -192,63 +200,63 @@ fn print_form(alloc: Global, rest: &[Lexeme]) -> Result<Option<Unplaced>, AllocE
     let Some(items) = all_terms(alloc, parts.as_slice())? else {
         return Ok(None);
     };
-    Ok(Some(Unplaced {
+    Ok(Some(UnplacedForm {
         form: items.map(Spelled::Print),
-        standing: Standing::Inside,
+        standing: FormPlace::Inside,
     }))
 }
 
-fn raise_form(alloc: Global, rest: &[Lexeme]) -> Result<Option<Unplaced>, AllocError>
+fn raise_form(alloc: Global, rest: &[Lexeme]) -> Result<Option<UnplacedForm>, AllocError>
     ensures { Reads result (with_term Raise (map plain_lexeme rest.now)) }
 {
     let Some(fault) = one_term(alloc, rest)? else {
         return Ok(None);
     };
-    Ok(Some(Unplaced {
+    Ok(Some(UnplacedForm {
         form: fault.map(Spelled::Raise),
-        standing: Standing::Inside,
+        standing: FormPlace::Inside,
     }))
 }
 
-fn if_form(alloc: Global, rest: &[Lexeme]) -> Result<Option<Unplaced>, AllocError>
+fn if_form(alloc: Global, rest: &[Lexeme]) -> Result<Option<UnplacedForm>, AllocError>
     ensures { Reads result (with_term If (map plain_lexeme rest.now)) }
 {
     let Some(test) = one_term(alloc, rest)? else {
         return Ok(None);
     };
-    Ok(Some(Unplaced {
+    Ok(Some(UnplacedForm {
         form: test.map(Spelled::If),
-        standing: Standing::Inside,
+        standing: FormPlace::Inside,
     }))
 }
 
-fn while_form(alloc: Global, rest: &[Lexeme]) -> Result<Option<Unplaced>, AllocError>
+fn while_form(alloc: Global, rest: &[Lexeme]) -> Result<Option<UnplacedForm>, AllocError>
     ensures { Reads result (with_term While (map plain_lexeme rest.now)) }
 {
     let Some(test) = one_term(alloc, rest)? else {
         return Ok(None);
     };
-    Ok(Some(Unplaced {
+    Ok(Some(UnplacedForm {
         form: test.map(Spelled::While),
-        standing: Standing::Inside,
+        standing: FormPlace::Inside,
     }))
 }
 
-fn return_form(alloc: Global, rest: &[Lexeme]) -> Result<Option<Unplaced>, AllocError>
+fn return_form(alloc: Global, rest: &[Lexeme]) -> Result<Option<UnplacedForm>, AllocError>
     ensures { Reads result (return_form (map plain_lexeme rest.now)) }
 {
     if rest.is_empty() {
-        return Ok(Some(Unplaced {
+        return Ok(Some(UnplacedForm {
             form: Some(Spelled::Return(None)),
-            standing: Standing::OutsideFinally,
+            standing: FormPlace::OutsideFinally,
         }));
     }
     let Some(value) = one_term(alloc, rest)? else {
         return Ok(None);
     };
-    Ok(Some(Unplaced {
+    Ok(Some(UnplacedForm {
         form: returning(value),
-        standing: Standing::OutsideFinally,
+        standing: FormPlace::OutsideFinally,
     }))
 }
 
@@ -259,7 +267,7 @@ fn returning(value: Option<Term>) -> Option<Spelled>
 }
 
 /// `KIND`, or `KIND as NAME`.
-fn except_form(rest: &[Lexeme]) -> Result<Option<Unplaced>, AllocError>
+fn except_form(rest: &[Lexeme]) -> Result<Option<UnplacedForm>, AllocError>
     ensures { Reads result (except_form (map plain_lexeme rest.now)) }
 {
     let Some((kind, rest)) = behind_name(rest) else {
@@ -272,14 +280,14 @@ fn except_form(rest: &[Lexeme]) -> Result<Option<Unplaced>, AllocError>
         };
         name = Some(found.clone()?);
     }
-    Ok(Some(Unplaced {
+    Ok(Some(UnplacedForm {
         form: Some(Spelled::Except(kind.clone()?, name)),
-        standing: Standing::Anywhere,
+        standing: FormPlace::Anywhere,
     }))
 }
 
 /// `group as NAME`, or `timeout(EXPR) as NAME`.
-fn with_form(alloc: Global, rest: &[Lexeme]) -> Result<Option<Unplaced>, AllocError>
+fn with_form(alloc: Global, rest: &[Lexeme]) -> Result<Option<UnplacedForm>, AllocError>
     ensures { Reads result (with_form (map plain_lexeme rest.now)) }
 {
     match behind_word(rest, ReservedWord::Group) {
@@ -288,19 +296,19 @@ fn with_form(alloc: Global, rest: &[Lexeme]) -> Result<Option<Unplaced>, AllocEr
     }
 }
 
-fn group_form(rest: &[Lexeme]) -> Result<Option<Unplaced>, AllocError>
+fn group_form(rest: &[Lexeme]) -> Result<Option<UnplacedForm>, AllocError>
     ensures { Reads result (option_map WithGroup (as_name (map plain_lexeme rest.now))) }
 {
     let Some(name) = as_name(rest) else {
         return Ok(None);
     };
-    Ok(Some(Unplaced {
+    Ok(Some(UnplacedForm {
         form: Some(Spelled::WithGroup(name.clone()?)),
-        standing: Standing::Inside,
+        standing: FormPlace::Inside,
     }))
 }
 
-fn timeout_form(alloc: Global, rest: &[Lexeme]) -> Result<Option<Unplaced>, AllocError>
+fn timeout_form(alloc: Global, rest: &[Lexeme]) -> Result<Option<UnplacedForm>, AllocError>
     ensures { Reads result (timeout_form (map plain_lexeme rest.now)) }
 {
     let Some((inner, name)) = timeout_parts(rest) else {
@@ -310,9 +318,9 @@ fn timeout_form(alloc: Global, rest: &[Lexeme]) -> Result<Option<Unplaced>, Allo
         return Ok(None);
     };
     let name = name.clone()?;
-    Ok(Some(Unplaced {
+    Ok(Some(UnplacedForm {
         form: delay.map(|delay| Spelled::WithTimeout(delay, name)),
-        standing: Standing::Inside,
+        standing: FormPlace::Inside,
     }))
 }
 

@@ -3,13 +3,13 @@
 
 mod block;
 mod fault;
+mod form_place;
 mod forms;
 mod fronts;
 mod goal;
 mod parts;
 mod pass;
 mod places;
-mod standing;
 mod terms;
 mod text;
 

@@ -13,7 +13,7 @@ ghost use Rattle.script_form.specs.Behind.{roles_behind};
 
 use crate::block::role_of;
 use crate::fault::{FormFault, LineFault};
-use crate::forms::{Unplaced, form_of};
+use crate::forms::{UnplacedForm, form_of};
 use crate::places::Places;
 use crate::text::next_text_line;
 use aio_lex::{LexFault, TokenList, tokens};
@@ -80,7 +80,7 @@ fn line_tokens(alloc: Global, line: &[u8]) -> Result<TokenList, LineFault>
 }
 
 /// A form that stands where it may, and from then on before the lines to come.
-fn placed(places: &mut Places, unplaced: Unplaced) -> Result<Spelled, LineFault>
+fn placed(places: &mut Places, unplaced: UnplacedForm) -> Result<Spelled, LineFault>
     ensures form { (roles : List PlainRole) (form : PlainSpelled) → IsBehind places.old roles
         → plain_unplaced unplaced ≡ unplaced_of form
         → IfOk result (λ spelled. (plain_spelled spelled ≡ form) × (cause_behind roles form ≡ None)) }

@@ -7,7 +7,7 @@ ghost use Rattle.script_form.specs.Blocks.{plain_role, plain_open, is_in_finally
 ghost use Rattle.script_form.specs.Placed.{IsBehind, standing_of};
 
 use crate::block::{OpenBlock, Role};
-use crate::standing::Standing;
+use crate::form_place::FormPlace;
 use std::alloc::{AllocError, Global};
 
 /// The greatest number of open blocks.
@@ -39,17 +39,17 @@ impl Places {
     }
 
     /// Whether a form that may stand there may stand here.
-    pub fn may_stand(&self, standing: Standing) -> bool
+    pub fn may_stand(&self, standing: FormPlace) -> bool
         ensures { (roles : List PlainRole) (form : PlainSpelled)
             → IsBehind self.now roles → standing ≡ standing_of form
             → result ≡ may_stand (nat_eq (length roles) 0) (open_blocks roles) form }
     {
         match standing {
-            Standing::First => self.is_first,
-            Standing::Outside => self.is_outside(),
-            Standing::Inside => !self.is_outside(),
-            Standing::OutsideFinally => !self.is_outside() && !self.is_in_finally(),
-            Standing::Anywhere => true,
+            FormPlace::First => self.is_first,
+            FormPlace::Outside => self.is_outside(),
+            FormPlace::Inside => !self.is_outside(),
+            FormPlace::OutsideFinally => !self.is_outside() && !self.is_in_finally(),
+            FormPlace::Anywhere => true,
         }
     }
 

@@ -13,7 +13,7 @@ plain_part part =
     record { line = part.line; name = rc_str_bytes part.name.now; parameters = map rc_str_bytes part.parameters.now; lines = map plain_numbered part.lines.now }
 
 -- these lines, and then these coroutines
-abbrev pub lines_before : List (Numbered Spelled) → List (plain.Part (Numbered Spelled)) → plain.Parts (Numbered Spelled)
+abbrev pub lines_before : List (Numbered Spelled) → List (plain.Part (Numbered Spelled)) → plain.ScriptParts (Numbered Spelled)
 lines_before lines coroutines = record { front = lines; coroutines = coroutines }
 
 abbrev pub plain_parts : List Part → List (plain.Part (Numbered Spelled))

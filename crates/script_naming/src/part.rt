@@ -2,7 +2,7 @@
 ghost use Rattle.std.specs.Prelude.{◌≡◌, [], ◌∷◌, List, map, IfOk, IfSome, IfNone};
 ghost use Rattle.model_text.specs.Forms.{Spelled as PlainSpelled};
 ghost use Rattle.model_text.specs.FirstPass.{Numbered};
-ghost use Rattle.model_text.specs.SecondPass.{Part as PlainPart, Parts, before_parts, parts_of};
+ghost use Rattle.model_text.specs.SecondPass.{Part as PlainPart, ScriptParts, before_parts, parts_of};
 ghost use Rattle.model_text.specs.Scripts.{profile_in};
 ghost use Rattle.script_term.specs.Spelled.{plain_spelled, plain_numbered};
 ghost use Rattle.script_naming.specs.Parts.{plain_part, plain_parts, lines_before};
@@ -46,7 +46,7 @@ fn headed_by<'a>(head: &'a NumberedForm, lines: &'a [NumberedForm]) -> Option<Pa
         → before_parts (plain_spelled head.now.form) (plain_numbered head.now)
         (lines_before (map plain_numbered lines.now) others)
         ≡ lines_before [] (plain_part part ∷ others)) }
-    ensures none { IfNone result ((parts : Parts (Numbered PlainSpelled))
+    ensures none { IfNone result ((parts : ScriptParts (Numbered PlainSpelled))
         → before_parts (plain_spelled head.now.form) (plain_numbered head.now) parts
         ≡ lines_before (plain_numbered head.now ∷ parts.front) parts.coroutines) }
 {

@@ -5,7 +5,7 @@ use Rattle.std.proofs.lemmas.List.{reverse-append}
 use Rattle.model_text.specs.Words.{Lexeme, is_sign}
 use Rattle.law_reading.specs.Operands.{Operand}
 use Rattle.law_reading.specs.Pending.{no_loose}
-use Rattle.law_reading.specs.Reader.{Bracket, Open, Progress, AtNot, BehindOperand, reading}
+use Rattle.law_reading.specs.Reader.{Bracket, Open, TermProgress, AtNot, BehindOperand, reading}
 use Rattle.law_reading.specs.Ends.{parted, at_comma, closing, whole, at_closing}
 use Rattle.script_term_reader.specs.Closed.{parted_open, closed}
 
@@ -17,7 +17,7 @@ comma-cases : (o : Open) (opened : List Open) (found : Option Bracket) → optio
 comma-cases o opened None = refl
 comma-cases o opened (Some bracket) = refl
 
-pub at_comma-parted_open : (progress : Progress) (o : Open) (opened : List Open) → at_comma progress (o ∷ opened) ≡ option_and_then (λ innermost. reading (AtNot no_loose) (innermost ∷ opened)) (parted_open o progress)
+pub at_comma-parted_open : (progress : TermProgress) (o : Open) (opened : List Open) → at_comma progress (o ∷ opened) ≡ option_and_then (λ innermost. reading (AtNot no_loose) (innermost ∷ opened)) (parted_open o progress)
 at_comma-parted_open progress o opened = comma-cases o opened (parted o.bracket progress)
 
 -- behind a closing bracket it is gone
@@ -26,5 +26,5 @@ closing-cases true o opened None = refl
 closing-cases true o opened (Some operand) = refl
 closing-cases false o opened found = refl
 
-pub at_closing-closed : (lexeme : Lexeme) (progress : Progress) (o : Open) (opened : List Open) → at_closing lexeme progress (o ∷ opened) ≡ option_and_then (λ behind. reading behind opened) (closed lexeme progress o)
+pub at_closing-closed : (lexeme : Lexeme) (progress : TermProgress) (o : Open) (opened : List Open) → at_closing lexeme progress (o ∷ opened) ≡ option_and_then (λ behind. reading behind opened) (closed lexeme progress o)
 at_closing-closed lexeme progress o opened = closing-cases (is_sign (closing o.bracket) lexeme) o opened (whole o.bracket progress)

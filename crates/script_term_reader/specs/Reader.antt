@@ -16,7 +16,7 @@ plain_bracket (Items items) = plain.Items (map plain_operand items.items)
 plain_bracket (Arguments name bare arguments) =
     plain.Arguments (rc_str_bytes name) (option_map rc_str_bytes bare) (map plain_operand arguments.items)
 
-abbrev pub plain_progress : Position → plain.Progress
+abbrev pub plain_progress : Position → plain.TermProgress
 plain_progress Start = plain.Start
 plain_progress (AtNot loose) = plain.AtNot loose
 plain_progress (AtOperand loose tight) = plain.AtOperand loose tight

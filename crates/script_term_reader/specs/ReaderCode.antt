@@ -5,7 +5,7 @@ use Rattle.std.specs.Coded.{Coded, code_by, coded_ℕ, coded×, coded_list, code
 use Rattle.model_tree.specs.Syntax.{Name}
 use Rattle.law_reading.specs.Operands.{Operand, TooHigh}
 use Rattle.law_reading.specs.Pending.{Loose, Tight, no_loose, no_tight}
-use Rattle.law_reading.specs.Reader.{Bracket, Group, Item, Items, Arguments, Open, Progress, Start, AtNot, AtOperand, BehindName, BehindOperand, AtKind, BehindKind, Reader}
+use Rattle.law_reading.specs.Reader.{Bracket, Group, Item, Items, Arguments, Open, TermProgress, Start, AtNot, AtOperand, BehindName, BehindOperand, AtKind, BehindKind, TermReader}
 use Rattle.script_term_reader.specs.PendingCode.{coded_operand, coded_loose, coded_tight}
 
 abbrev coded_name : Coded Name
@@ -38,7 +38,7 @@ coded_bracket =
 abbrev ProgressParts : Type 0
 ProgressParts = ℕ × (Loose × (Tight × (Operand × Name)))
 
-abbrev progress_parts : Progress → ProgressParts
+abbrev progress_parts : TermProgress → ProgressParts
 progress_parts Start = (0, (no_loose, (no_tight, (TooHigh, []))))
 progress_parts (AtNot loose) = (1, (loose, (no_tight, (TooHigh, []))))
 progress_parts (AtOperand loose tight) = (2, (loose, (tight, (TooHigh, []))))
@@ -47,12 +47,12 @@ progress_parts (BehindOperand loose tight operand) = (4, (loose, (tight, (operan
 progress_parts AtKind = (5, (no_loose, (no_tight, (TooHigh, []))))
 progress_parts (BehindKind kind) = (6, (no_loose, (no_tight, (TooHigh, kind))))
 
-abbrev progress_from : ProgressParts → Progress
+abbrev progress_from : ProgressParts → TermProgress
 progress_from parts =
     slice_index_or (Start ∷ AtNot parts.1.0 ∷ AtOperand parts.1.0 parts.1.1.0 ∷ BehindName parts.1.0 parts.1.1.0 parts.1.1.1.1
     ∷ BehindOperand parts.1.0 parts.1.1.0 parts.1.1.1.0 ∷ AtKind ∷ BehindKind parts.1.1.1.1 ∷ []) parts.0 Start
 
-pub progress_again : (progress : Progress) → progress_from (progress_parts progress) ≡ progress
+pub progress_again : (progress : TermProgress) → progress_from (progress_parts progress) ≡ progress
 progress_again Start = refl
 progress_again (AtNot loose) = refl
 progress_again (AtOperand loose tight) = refl
@@ -61,7 +61,7 @@ progress_again (BehindOperand loose tight operand) = refl
 progress_again AtKind = refl
 progress_again (BehindKind kind) = refl
 
-abbrev pub coded_progress : Coded Progress
+abbrev pub coded_progress : Coded TermProgress
 coded_progress =
     code_by ProgressParts (coded× coded_ℕ (coded× coded_loose (coded× coded_tight (coded× coded_operand coded_name)))) progress_parts progress_from progress_again
 
@@ -72,9 +72,9 @@ coded_open =
     (λ parts. record { bracket = parts.0; loose = parts.1.0; tight = parts.1.1 })
     (λ _. refl)
 
-abbrev pub coded_reader : Coded Reader
+abbrev pub coded_reader : Coded TermReader
 coded_reader =
-    code_by (Progress × List Open) (coded× coded_progress (coded_list coded_open))
+    code_by (TermProgress × List Open) (coded× coded_progress (coded_list coded_open))
     (λ reader. (reader.progress, reader.opened))
     (λ parts. record { progress = parts.0; opened = parts.1 })
     (λ _. refl)

@@ -13,13 +13,13 @@ ghost use Rattle.script_term_reader.specs.Next.{come};
 ghost use Rattle.script_term_reader.specs.Reader.{plain_bracket};
 
 use crate::pending::{Loose, Tight, disjunction_of, no_loose};
-use crate::reader::{Bracket, Open, Position, Progress, at, before, forget, forget_loose};
+use crate::reader::{Bracket, Open, Position, TermProgress, at, before, forget, forget_loose};
 use script_term::{Join, Operand, Symbol, Term, TermList, all_that_fit, capped, joined};
 use std::alloc::{AllocError, Global};
 use std::rc::RcStr;
 
 /// The expression that ends here.
-pub fn ended(alloc: Global, progress: Progress) -> Result<Option<Operand>, AllocError>
+pub fn ended(alloc: Global, progress: TermProgress) -> Result<Option<Operand>, AllocError>
     ensures { IfOk result (λ operand. option_map plain_operand operand ≡ ended progress) }
 {
     match progress.place() {
@@ -64,7 +64,7 @@ fn ended_by(
 fn parted(
     alloc: Global,
     bracket: Bracket,
-    progress: Progress,
+    progress: TermProgress,
 ) -> Result<Option<Bracket>, AllocError>
     ensures { IfOk result (λ behind. option_map plain_bracket behind ≡ parted (plain_bracket bracket) progress) }
 {
@@ -81,7 +81,7 @@ fn parted(
 fn parted_items(
     alloc: Global,
     items: Vec<Operand>,
-    progress: Progress,
+    progress: TermProgress,
 ) -> Result<Option<Bracket>, AllocError>
     ensures { IfOk result (λ behind. option_map plain_bracket behind ≡ parted (Items (map plain_operand items.items)) progress) }
 {
@@ -104,7 +104,7 @@ fn parted_arguments(
     name: RcStr,
     bare: Option<RcStr>,
     arguments: Vec<Operand>,
-    progress: Progress,
+    progress: TermProgress,
 ) -> Result<Option<Bracket>, AllocError>
     ensures { IfOk result (λ behind. option_map plain_bracket behind ≡ parted (Arguments (rc_str_bytes name) (option_map rc_str_bytes bare) (map plain_operand arguments.items)) progress) }
 {
@@ -166,9 +166,9 @@ fn with_last(items: Vec<Operand>, last: Operand) -> Result<Vec<Operand>, AllocEr
 /// How far the expression has come behind a comma, if one may stand.
 pub fn at_comma(
     alloc: Global,
-    progress: Progress,
+    progress: TermProgress,
     opened: &mut Vec<Open>,
-) -> Result<Option<Progress>, AllocError>
+) -> Result<Option<TermProgress>, AllocError>
     ensures { IfOk result (λ reached. come reached opened.new.items ≡ at_comma progress (reverse opened.old.items)) }
 {
     match opened.pop() {
@@ -180,9 +180,9 @@ pub fn at_comma(
 fn comma_within(
     alloc: Global,
     innermost: Open,
-    progress: Progress,
+    progress: TermProgress,
     opened: &mut Vec<Open>,
-) -> Result<Option<Progress>, AllocError>
+) -> Result<Option<TermProgress>, AllocError>
     ensures { IfOk result (λ reached. come reached opened.new.items ≡ at_comma progress (innermost ∷ reverse opened.old.items)) }
 {
     match parted_open(alloc, innermost, progress)? {
@@ -197,7 +197,7 @@ fn comma_within(
 fn parted_open(
     alloc: Global,
     innermost: Open,
-    progress: Progress,
+    progress: TermProgress,
 ) -> Result<Option<Open>, AllocError>
     ensures { IfOk result (λ behind. behind ≡ parted_open innermost progress) }
 {
@@ -342,7 +342,11 @@ fn with_kind(
 }
 
 /// The operand that a bracket makes if it closes here.
-fn whole(alloc: Global, bracket: Bracket, progress: Progress) -> Result<Option<Operand>, AllocError>
+fn whole(
+    alloc: Global,
+    bracket: Bracket,
+    progress: TermProgress,
+) -> Result<Option<Operand>, AllocError>
     ensures { IfOk result (λ operand. option_map plain_operand operand ≡ whole (plain_bracket bracket) progress) }
 {
     match progress.place() {
@@ -404,9 +408,9 @@ fn closing(bracket: &Bracket) -> Symbol
 pub fn at_closing(
     alloc: Global,
     symbol: Symbol,
-    progress: Progress,
+    progress: TermProgress,
     opened: &mut Vec<Open>,
-) -> Result<Option<Progress>, AllocError>
+) -> Result<Option<TermProgress>, AllocError>
     ensures { IfOk result (λ reached. come reached opened.new.items ≡ at_closing (Sign symbol) progress (reverse opened.old.items)) }
 {
     match opened.pop() {
@@ -419,8 +423,8 @@ fn closed(
     alloc: Global,
     symbol: Symbol,
     innermost: Open,
-    progress: Progress,
-) -> Result<Option<Progress>, AllocError>
+    progress: TermProgress,
+) -> Result<Option<TermProgress>, AllocError>
     ensures { IfOk result (λ reached. reached ≡ closed (Sign symbol) progress innermost) }
 {
     if closing(&innermost.bracket) != symbol {
@@ -432,8 +436,8 @@ fn closed(
 fn closed_by(
     alloc: Global,
     innermost: Open,
-    progress: Progress,
-) -> Result<Option<Progress>, AllocError>
+    progress: TermProgress,
+) -> Result<Option<TermProgress>, AllocError>
     ensures { IfOk result (λ reached. reached ≡ option_map (λ operand. BehindOperand innermost.loose innermost.tight operand) (whole innermost.bracket progress)) }
 {
     let (bracket, loose, tight) = innermost.parts();

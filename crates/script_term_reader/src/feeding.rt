@@ -18,7 +18,8 @@ use crate::pending::{
     behind_sum, no_loose, no_tight,
 };
 use crate::reader::{
-    Bracket, Next, Open, Position, Progress, at, forget, forget_loose, forget_operand, goes, opens,
+    AfterLexeme, Bracket, Open, Position, TermProgress, at, forget, forget_loose, forget_operand,
+    goes, opens,
 };
 use script_term::{Comparison, Constant, Lexeme, Operand, Operator, ReservedWord, Symbol, Term};
 use std::alloc::{AllocError, Global};
@@ -56,7 +57,7 @@ fn at_operand(
     loose: Loose,
     tight: Tight,
     lexeme: &Lexeme,
-) -> Result<Next, AllocError>
+) -> Result<AfterLexeme, AllocError>
     ensures { IfOk result (λ next. (opened : List OpenBracket) → applied next opened ≡ at_operand loose tight opened (plain_lexeme lexeme.now)) }
 {
     match lexeme {
@@ -67,7 +68,7 @@ fn at_operand(
     }
 }
 
-fn behind_new_name(loose: Loose, tight: Tight, name: &RcStr) -> Result<Next, AllocError>
+fn behind_new_name(loose: Loose, tight: Tight, name: &RcStr) -> Result<AfterLexeme, AllocError>
     ensures { IfOk result (λ next. (opened : List OpenBracket) → applied next opened ≡ reading (BehindName loose tight (rc_str_bytes name.now)) opened) }
 {
     match name.clone() {
@@ -79,14 +80,14 @@ fn behind_new_name(loose: Loose, tight: Tight, name: &RcStr) -> Result<Next, All
     }
 }
 
-fn behind_atom(loose: Loose, tight: Tight, lexeme: &Lexeme) -> Result<Next, AllocError>
+fn behind_atom(loose: Loose, tight: Tight, lexeme: &Lexeme) -> Result<AfterLexeme, AllocError>
     ensures { IfOk result (λ next. (opened : List OpenBracket) → applied next opened ≡ option_and_then (λ term. reading (BehindOperand loose tight (Fits term)) opened) (atom (plain_lexeme lexeme.now))) }
 {
     match atom(lexeme) {
         Ok(Some(term)) => Ok(goes(Position::BehindOperand(loose, tight, Operand::Fits(term)))),
         Ok(None) => {
             forget(loose, tight);
-            Ok(Next::Fails)
+            Ok(AfterLexeme::Fails)
         }
         Err(refused) => {
             forget(loose, tight);
@@ -100,7 +101,7 @@ fn at_operand_sign(
     loose: Loose,
     tight: Tight,
     symbol: Symbol,
-) -> Result<Next, AllocError>
+) -> Result<AfterLexeme, AllocError>
     ensures { IfOk result (λ next. (opened : List OpenBracket) → applied next opened ≡ at_operand loose tight opened (Sign symbol)) }
 {
     match symbol {
@@ -114,12 +115,12 @@ fn at_operand_sign(
         )),
         _ => {
             forget(loose, tight);
-            Ok(Next::Fails)
+            Ok(AfterLexeme::Fails)
         }
     }
 }
 
-fn minus(loose: Loose, tight: Tight) -> Result<Next, AllocError>
+fn minus(loose: Loose, tight: Tight) -> Result<AfterLexeme, AllocError>
     ensures { IfOk result (λ next. (opened : List OpenBracket) → applied next opened ≡ reading (AtOperand loose (record tight { minuses = suc tight.minuses })) opened) }
 {
     match behind_minus(tight) {
@@ -132,7 +133,7 @@ fn minus(loose: Loose, tight: Tight) -> Result<Next, AllocError>
 }
 
 /// Where `not` may stand too.
-fn at_not(alloc: Global, loose: Loose, lexeme: &Lexeme) -> Result<Next, AllocError>
+fn at_not(alloc: Global, loose: Loose, lexeme: &Lexeme) -> Result<AfterLexeme, AllocError>
     ensures { IfOk result (λ next. (opened : List OpenBracket) → applied next opened ≡ at_not loose opened (plain_lexeme lexeme.now)) }
 {
     match lexeme {
@@ -141,7 +142,7 @@ fn at_not(alloc: Global, loose: Loose, lexeme: &Lexeme) -> Result<Next, AllocErr
     }
 }
 
-fn denial(loose: Loose) -> Result<Next, AllocError>
+fn denial(loose: Loose) -> Result<AfterLexeme, AllocError>
     ensures { IfOk result (λ next. (opened : List OpenBracket) → applied next opened ≡ reading (AtNot (record loose { nots = suc loose.nots })) opened) }
 {
     let loose = behind_not(loose)?;
@@ -151,12 +152,12 @@ fn denial(loose: Loose) -> Result<Next, AllocError>
 // ---- behind an operand
 
 /// It is no expression: what is pending is let go.
-fn fails(loose: Loose, tight: Tight, operand: Operand) -> Next
+fn fails(loose: Loose, tight: Tight, operand: Operand) -> AfterLexeme
     ensures { (opened : List OpenBracket) → applied result opened ≡ None }
 {
     forget(loose, tight);
     forget_operand(operand);
-    Next::Fails
+    AfterLexeme::Fails
 }
 
 /// An operator between operands, by its level.
@@ -207,14 +208,14 @@ fn infixed(
     tight: Tight,
     operand: Operand,
     operator: Infix,
-) -> Result<Next, AllocError>
+) -> Result<AfterLexeme, AllocError>
     ensures { IfOk result (λ next. (opened : List OpenBracket) → applied next opened ≡ option_and_then (λ pending. reading (AtOperand loose pending) opened) (behind_infix tight (plain_operand operand) (plain_infix operator))) }
 {
     match behind_infix(alloc, tight, operand, operator) {
         Ok(Some(pending)) => Ok(goes(Position::AtOperand(loose, pending))),
         Ok(None) => {
             forget_loose(loose);
-            Ok(Next::Fails)
+            Ok(AfterLexeme::Fails)
         }
         Err(refused) => {
             forget_loose(loose);
@@ -229,7 +230,7 @@ fn infixed_by(
     tight: Tight,
     operand: Operand,
     symbol: Symbol,
-) -> Result<Next, AllocError>
+) -> Result<AfterLexeme, AllocError>
     ensures { IfOk result (λ next. (opened : List OpenBracket) → applied next opened ≡ option_and_then (λ pending. reading (AtOperand loose pending) opened) (option_and_then (behind_infix tight (plain_operand operand)) (infix_of symbol))) }
 {
     match infix_of(symbol) {
@@ -244,7 +245,7 @@ fn at_symbol(
     tight: Tight,
     operand: Operand,
     symbol: Symbol,
-) -> Result<Next, AllocError>
+) -> Result<AfterLexeme, AllocError>
     ensures { IfOk result (λ next. (opened : List OpenBracket) → applied next opened ≡ at_symbol loose tight (plain_operand operand) opened symbol) }
 {
     match symbol {
@@ -259,7 +260,7 @@ fn behind_operand(
     tight: Tight,
     operand: Operand,
     lexeme: &Lexeme,
-) -> Result<Next, AllocError>
+) -> Result<AfterLexeme, AllocError>
     ensures { IfOk result (λ next. (opened : List OpenBracket) → applied next opened ≡ behind_operand loose tight (plain_operand operand) opened (plain_lexeme lexeme.now)) }
 {
     match lexeme {
@@ -277,7 +278,7 @@ fn at_word(
     tight: Tight,
     operand: Operand,
     word: ReservedWord,
-) -> Result<Next, AllocError>
+) -> Result<AfterLexeme, AllocError>
     ensures { IfOk result (λ next. (opened : List OpenBracket) → applied next opened ≡ behind_operand loose tight (plain_operand operand) opened (Reserved word)) }
 {
     match word {
@@ -292,7 +293,7 @@ fn disjunction(
     loose: Loose,
     tight: Tight,
     operand: Operand,
-) -> Result<Next, AllocError>
+) -> Result<AfterLexeme, AllocError>
     ensures { IfOk result (λ next. (opened : List OpenBracket) → applied next opened ≡ reading (AtNot (behind_or loose tight (plain_operand operand))) opened) }
 {
     let loose = behind_or(alloc, loose, tight, operand)?;
@@ -304,7 +305,7 @@ fn conjunction(
     loose: Loose,
     tight: Tight,
     operand: Operand,
-) -> Result<Next, AllocError>
+) -> Result<AfterLexeme, AllocError>
     ensures { IfOk result (λ next. (opened : List OpenBracket) → applied next opened ≡ reading (AtNot (behind_and loose tight (plain_operand operand))) opened) }
 {
     let loose = behind_and(alloc, loose, tight, operand)?;
@@ -312,7 +313,7 @@ fn conjunction(
 }
 
 /// What may stand as the first argument of a call: a bare name in `error(KIND, t)`.
-fn first_argument(name: &str) -> Progress
+fn first_argument(name: &str) -> TermProgress
     ensures { result ≡ first_argument name.now }
 {
     if name == "error" {
@@ -328,7 +329,7 @@ fn behind_name(
     tight: Tight,
     name: RcStr,
     lexeme: &Lexeme,
-) -> Result<Next, AllocError>
+) -> Result<AfterLexeme, AllocError>
     ensures { IfOk result (λ next. (opened : List OpenBracket) → applied next opened ≡ behind_name loose tight (rc_str_bytes name) opened (plain_lexeme lexeme.now)) }
 {
     match lexeme {
@@ -337,7 +338,7 @@ fn behind_name(
     }
 }
 
-fn called(alloc: Global, loose: Loose, tight: Tight, name: RcStr) -> Next
+fn called(alloc: Global, loose: Loose, tight: Tight, name: RcStr) -> AfterLexeme
     ensures { (opened : List OpenBracket) → applied result opened ≡ opening (Arguments (rc_str_bytes name) None []) loose tight (first_argument (rc_str_bytes name)) opened }
 {
     let progress = first_argument(name.as_str());
@@ -349,7 +350,7 @@ fn called(alloc: Global, loose: Loose, tight: Tight, name: RcStr) -> Next
     )
 }
 
-fn at_kind(lexeme: &Lexeme) -> Result<Next, AllocError>
+fn at_kind(lexeme: &Lexeme) -> Result<AfterLexeme, AllocError>
     ensures { IfOk result (λ next. (opened : List OpenBracket) → applied next opened ≡ at_kind opened (plain_lexeme lexeme.now)) }
 {
     match lexeme {
@@ -357,13 +358,17 @@ fn at_kind(lexeme: &Lexeme) -> Result<Next, AllocError>
             let kind = kind.clone()?;
             Ok(goes(Position::BehindKind(kind)))
         }
-        _ => Ok(Next::Fails),
+        _ => Ok(AfterLexeme::Fails),
     }
 }
 
 // ---- one lexeme more
 
-fn fed_within(alloc: Global, progress: Progress, lexeme: &Lexeme) -> Result<Next, AllocError>
+fn fed_within(
+    alloc: Global,
+    progress: TermProgress,
+    lexeme: &Lexeme,
+) -> Result<AfterLexeme, AllocError>
     ensures { IfOk result (λ next. (opened : List OpenBracket) → applied next opened ≡ fed_within progress opened (plain_lexeme lexeme.now)) }
 {
     match progress.place() {
@@ -375,30 +380,30 @@ fn fed_within(alloc: Global, progress: Progress, lexeme: &Lexeme) -> Result<Next
             alloc, loose, tight, operand, lexeme,
         ),
         Position::AtKind => at_kind(lexeme),
-        Position::BehindKind(_kind) => Ok(Next::Fails),
+        Position::BehindKind(_kind) => Ok(AfterLexeme::Fails),
     }
 }
 
 /// The brackets that are open are changed in place.
-fn apply(next: Next, opened: &mut Vec<Open>) -> Result<Option<Progress>, AllocError>
+fn apply(next: AfterLexeme, opened: &mut Vec<Open>) -> Result<Option<TermProgress>, AllocError>
     ensures { IfOk result (λ reached. come reached opened.new.items ≡ applied next (reverse opened.old.items)) }
 {
     match next {
-        Next::Goes(progress) => Ok(Some(progress)),
-        Next::Opens(innermost, progress) => {
+        AfterLexeme::Goes(progress) => Ok(Some(progress)),
+        AfterLexeme::Opens(innermost, progress) => {
             opened.push(innermost)?;
             Ok(Some(progress))
         }
-        Next::Fails => Ok(None),
+        AfterLexeme::Fails => Ok(None),
     }
 }
 
 fn within(
     alloc: Global,
-    progress: Progress,
+    progress: TermProgress,
     opened: &mut Vec<Open>,
     lexeme: &Lexeme,
-) -> Result<Option<Progress>, AllocError>
+) -> Result<Option<TermProgress>, AllocError>
     ensures { IfOk result (λ reached. come reached opened.new.items ≡ fed_within progress (reverse opened.old.items) (plain_lexeme lexeme.now)) }
 {
     let next = fed_within(alloc, progress, lexeme)?;
@@ -408,10 +413,10 @@ fn within(
 /// How far the expression has come behind the lexeme, if it still is one; the brackets that are open are changed in place.
 pub fn fed(
     alloc: Global,
-    progress: Progress,
+    progress: TermProgress,
     opened: &mut Vec<Open>,
     lexeme: &Lexeme,
-) -> Result<Option<Progress>, AllocError>
+) -> Result<Option<TermProgress>, AllocError>
     ensures { IfOk result (λ reached. come reached opened.new.items ≡ fed (record { progress = progress; opened = reverse opened.old.items }) (plain_lexeme lexeme.now)) }
 {
     match lexeme {

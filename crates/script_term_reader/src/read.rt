@@ -8,7 +8,7 @@ ghost use Rattle.script_term.specs.Operand.{plain_operand};
 
 use crate::ends::ended;
 use crate::feeding::fed;
-use crate::reader::{Open, Position, Progress, at};
+use crate::reader::{Open, Position, TermProgress, at};
 use script_term::{Lexeme, Operand};
 use std::alloc::{AllocError, Global};
 
@@ -31,7 +31,7 @@ pub fn read_term(alloc: Global, lexemes: &[Lexeme]) -> Result<Option<Operand>, A
 /// The end, where no bracket may be open.
 fn finished(
     alloc: Global,
-    progress: Progress,
+    progress: TermProgress,
     opened: Vec<Open>,
 ) -> Result<Option<Operand>, AllocError>
     ensures { IfOk result (λ operand. option_map plain_operand operand ≡ finished progress (reverse opened.items)) }

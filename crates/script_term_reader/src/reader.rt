@@ -44,7 +44,7 @@ impl Model for Open {
 }
 
 /// How far the expression has come that is read in the innermost bracket.
-pub struct Progress {
+pub struct TermProgress {
     pub place: Position,
 }
 
@@ -65,11 +65,11 @@ pub enum Position {
     BehindKind(RcStr),
 }
 
-impl Model for Progress {
+impl Model for TermProgress {
     ghost use Rattle.law_reading.specs.Reader as plain;
     ghost use Rattle.script_term_reader.specs.ReaderCode.{coded_progress};
 
-    ghost Value = { plain.Progress };
+    ghost Value = { plain.TermProgress };
 
     ghost coded = { coded_progress };
 
@@ -80,34 +80,34 @@ impl Model for Progress {
 
 /// What one lexeme makes of the innermost expression, whatever brackets are open around it.
 #[derive(Drop)]
-pub enum Next {
+pub enum AfterLexeme {
     /// It goes on in its bracket.
-    Goes(Progress),
+    Goes(TermProgress),
     /// A bracket opens.
-    Opens(Open, Progress),
+    Opens(Open, TermProgress),
     /// It is no expression.
     Fails,
 }
 
 /// How far an expression has come.
-pub fn at(place: Position) -> Progress
+pub fn at(place: Position) -> TermProgress
     ensures { result ≡ plain_progress place }
 {
-    Progress { place }
+    TermProgress { place }
 }
 
 /// The expression goes on.
-pub fn goes(place: Position) -> Next
+pub fn goes(place: Position) -> AfterLexeme
     ensures { (opened : List OpenBracket) → applied result opened ≡ reading (plain_progress place) opened }
 {
-    Next::Goes(at(place))
+    AfterLexeme::Goes(at(place))
 }
 
 /// A bracket opens before what is pending.
-pub fn opens(bracket: Bracket, loose: Loose, tight: Tight, progress: Progress) -> Next
+pub fn opens(bracket: Bracket, loose: Loose, tight: Tight, progress: TermProgress) -> AfterLexeme
     ensures { (opened : List OpenBracket) → applied result opened ≡ opening (plain_bracket bracket) loose tight progress opened }
 {
-    Next::Opens(before(bracket, loose, tight), progress)
+    AfterLexeme::Opens(before(bracket, loose, tight), progress)
 }
 
 /// A bracket with what is pending before it.
@@ -135,9 +135,9 @@ impl Drop for Open {
     }
 }
 
-impl Drop for Progress {
+impl Drop for TermProgress {
     fn drop(self) {
-        let Progress { place } = self;
+        let TermProgress { place } = self;
         match place {
             Position::Start => {}
             Position::AtNot(loose) => forget_loose(loose),
@@ -166,11 +166,11 @@ impl Open {
     }
 }
 
-impl Progress {
+impl TermProgress {
     pub fn place(self) -> Position
         ensures { self ≡ plain_progress result }
     {
-        let Progress { place } = self;
+        let TermProgress { place } = self;
         place
     }
 }

@@ -2,7 +2,7 @@
 
 /// What a coroutine is resumed with: a number or an exception, and whether that begins a step of its task.
 #[derive(Clone, Copy)]
-pub struct Given {
+pub struct GivenInput {
     pub throws: bool,
     pub fresh: bool,
 }
@@ -17,7 +17,7 @@ pub enum TapeLine<'a> {
     /// `tape`: the script's `main` is made anew.
     Tape,
     /// `send SAID`, `throw SAID`, `on send SAID`, `on throw SAID`: an input, and what must be said.
-    Input(Given, &'a str),
+    Input(GivenInput, &'a str),
     /// Any other line: a comment, or an empty one.
     Comment,
 }
@@ -45,14 +45,14 @@ fn head_of(words: &str) -> TapeLine<'_> {
 fn input_of(words: &str, fresh: bool) -> TapeLine<'_> {
     match words.split_once(' ') {
         Some(("send", said)) => TapeLine::Input(
-            Given {
+            GivenInput {
                 throws: false,
                 fresh,
             },
             said,
         ),
         Some(("throw", said)) => TapeLine::Input(
-            Given {
+            GivenInput {
                 throws: true,
                 fresh,
             },

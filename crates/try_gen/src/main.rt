@@ -14,19 +14,19 @@ use std::alloc::Global;
 use std::process::ExitCode;
 use std::rt::{Env, Files};
 use std::{env, fs};
-use stopped::Stopped;
+use stopped::TapesStopped;
 use tapes::Tapes;
 
 fn main(rt: HostRuntime) -> ExitCode {
     match run_files(&rt, rt.alloc()) {
         Ok(0) => ExitCode::SUCCESS,
         Ok(_) => ExitCode::FAILURE,
-        Err(Stopped) => ExitCode::from(2),
+        Err(TapesStopped) => ExitCode::from(2),
     }
 }
 
 /// Runs the tapes of each file that the words name, prints what came of them, and answers how many differed.
-fn run_files<R: Env + Files + Print + AllocGlobal>(rt: &R, alloc: Global) -> Result<u64, Stopped> {
+fn run_files<R: Env + Files + Print + AllocGlobal>(rt: &R, alloc: Global) -> Result<u64, TapesStopped> {
     let mut tapes = Tapes::new(alloc);
     for path in env::args(rt)?.skip(1) {
         let text = fs::read(rt, path.as_str())?;
@@ -42,7 +42,7 @@ fn run_tapes<R: Print>(
     alloc: Global,
     text: &[u8],
     tapes: &mut Tapes,
-) -> Result<(), Stopped> {
+) -> Result<(), TapesStopped> {
     let mut rest = text;
     for _ in 0..u64::MAX {
         let Some((bytes, more)) = next_line(rest) else {

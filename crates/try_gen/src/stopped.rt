@@ -6,22 +6,22 @@ use std::io;
 /// A file could not be read, a script not either, a line not printed, memory was refused, or a tape goes on after its
 /// coroutine's end.
 #[derive(Clone, Copy)]
-pub struct Stopped;
+pub struct TapesStopped;
 
-impl From<Memory> for Stopped {
-    fn from(_: Memory) -> Stopped {
-        Stopped
+impl From<Memory> for TapesStopped {
+    fn from(_: Memory) -> TapesStopped {
+        TapesStopped
     }
 }
 
-impl From<io::Error> for Stopped {
-    fn from(_: io::Error) -> Stopped {
-        Stopped
+impl From<io::Error> for TapesStopped {
+    fn from(_: io::Error) -> TapesStopped {
+        TapesStopped
     }
 }
 
-impl From<ScriptFault> for Stopped {
-    fn from(_: ScriptFault) -> Stopped {
-        Stopped
+impl From<ScriptFault> for TapesStopped {
+    fn from(_: ScriptFault) -> TapesStopped {
+        TapesStopped
     }
 }

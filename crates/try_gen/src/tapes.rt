@@ -1,7 +1,7 @@
 //! Tapes, one after another: how many there were, and along how many a coroutine said something else.
-use crate::line::{Given, TapeLine};
-use crate::running::Running;
-use crate::stopped::Stopped;
+use crate::line::{GivenInput, TapeLine};
+use crate::running::RunningGen;
+use crate::stopped::TapesStopped;
 use aio_base::Memory;
 use std::alloc::Global;
 
@@ -12,7 +12,7 @@ pub struct Tapes {
     name: String,
     script: Vec<u8>,
     /// The coroutine of the tape that goes on.
-    running: Option<Running>,
+    running: Option<RunningGen>,
     /// Whether it said all that it must so far.
     is_right: bool,
 }
@@ -35,14 +35,14 @@ impl Tapes {
         rt: &R,
         alloc: Global,
         line: &TapeLine<'_>,
-    ) -> Result<(), Stopped> {
+    ) -> Result<(), TapesStopped> {
         match line {
             TapeLine::Script(name) => Ok(self.begin(alloc, name)?),
             TapeLine::Text(text) => Ok(self.add(text)?),
             TapeLine::Tape => {
                 self.count = self.count.saturating_add(1);
                 self.is_right = true;
-                self.running = Some(Running::new(alloc, self.script.as_slice())?);
+                self.running = Some(RunningGen::new(alloc, self.script.as_slice())?);
                 Ok(())
             }
             TapeLine::Input(given, wanted) => self.resume(rt, alloc, *given, wanted),
@@ -66,9 +66,9 @@ impl Tapes {
         &mut self,
         rt: &R,
         alloc: Global,
-        given: Given,
+        given: GivenInput,
         wanted: &str,
-    ) -> Result<(), Stopped> {
+    ) -> Result<(), TapesStopped> {
         let Some(running) = &mut self.running else {
             return Ok(());
         };

@@ -14,14 +14,14 @@ use std::alloc::Global;
 use std::process::ExitCode;
 use std::rt::{Env, Files};
 use std::{env, fs};
-use stopped::Stopped;
+use stopped::RowsStopped;
 use tally::Tally;
 
 fn main(rt: HostRuntime) -> ExitCode {
     match run_files(&rt, rt.alloc()) {
         Ok(tally) if tally.differ == 0 => ExitCode::SUCCESS,
         Ok(_) => ExitCode::FAILURE,
-        Err(Stopped) => ExitCode::from(2),
+        Err(RowsStopped) => ExitCode::from(2),
     }
 }
 
@@ -29,7 +29,7 @@ fn main(rt: HostRuntime) -> ExitCode {
 fn run_files<R: Env + Files + Print + AllocGlobal>(
     rt: &R,
     alloc: Global,
-) -> Result<Tally, Stopped> {
+) -> Result<Tally, RowsStopped> {
     let mut tally = Tally::new();
     for path in env::args(rt)?.skip(1) {
         let text = fs::read(rt, path.as_str())?;
@@ -45,7 +45,7 @@ fn run_rows<R: Print>(
     alloc: Global,
     text: &[u8],
     tally: &mut Tally,
-) -> Result<(), Stopped> {
+) -> Result<(), RowsStopped> {
     let mut row: Option<Row> = None;
     let mut rest = text;
     for _ in 0..u64::MAX {

@@ -4,16 +4,16 @@ use std::io;
 
 /// A file could not be read, a line not printed, or memory was refused.
 #[derive(Clone, Copy)]
-pub struct Stopped;
+pub struct RowsStopped;
 
-impl From<Memory> for Stopped {
-    fn from(_: Memory) -> Stopped {
-        Stopped
+impl From<Memory> for RowsStopped {
+    fn from(_: Memory) -> RowsStopped {
+        RowsStopped
     }
 }
 
-impl From<io::Error> for Stopped {
-    fn from(_: io::Error) -> Stopped {
-        Stopped
+impl From<io::Error> for RowsStopped {
+    fn from(_: io::Error) -> RowsStopped {
+        RowsStopped
     }
 }

@@ -1,6 +1,6 @@
 //! How many rows there were, and how many came out otherwise.
 use crate::row::{Row, Verdict};
-use crate::stopped::Stopped;
+use crate::stopped::RowsStopped;
 use std::alloc::Global;
 
 #[derive(Clone, Copy)]
@@ -15,7 +15,7 @@ impl Tally {
     }
 
     /// Runs a row, counts it, and prints a line where it came out otherwise.
-    pub fn run<R: Print>(&mut self, rt: &R, alloc: Global, mut row: Row) -> Result<(), Stopped> {
+    pub fn run<R: Print>(&mut self, rt: &R, alloc: Global, mut row: Row) -> Result<(), RowsStopped> {
         self.rows = self.rows.saturating_add(1);
         match row.run(alloc) {
             Verdict::Right => return Ok(()),

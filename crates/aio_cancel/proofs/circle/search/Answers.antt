@@ -1,12 +1,12 @@
 use Rattle.std.proofs.Common.{refl, sym, subst, ◌∙◌, ℕ, List, []}
-use Rattle.law_parts.specs.declared.walk.Frame.{Frame}
+use Rattle.law_parts.specs.declared.walk.WalkFrame.{WalkFrame}
 use Rattle.law_parts.specs.declared.walk.Go.{Go}
 use Rattle.law_parts.specs.declared.walk.Go.TheVariants.{Visit, Answer}
 use Rattle.law_parts.specs.Open.{CanWalk}
 use Rattle.law_parts.specs.Seek.{CanSeek}
 use Rattle.law_parts.proofs.RoomLemmas.{walk_begins}
 use Rattle.law_parts.proofs.SeekLemmas.{seek_begins, seek_found, seek_over}
-use Rattle.aio_cancel.specs.Body.{parts}
+use Rattle.aio_cancel.specs.Awaitables.{parts}
 use Rattle.aio_cancel.specs.Noted.{noted}
 use Rattle.aio_cancel.proofs.circle.search.Goals as goal
 
@@ -38,7 +38,7 @@ returns-in-None-clause-answer c =
     let l = c.loop-go in
     let p = parts a.body.now in
     sym (seek_over p a.from a.to l.seen.visited (noted l.notes) c.in-Answer.field-0
-    (subst (λ (frames : List Frame). CanSeek p a.from a.to l.seen.visited (noted l.notes) (Answer c.in-Answer.field-0) frames)
+    (subst (λ (frames : List WalkFrame). CanSeek p a.from a.to l.seen.visited (noted l.notes) (Answer c.in-Answer.field-0) frames)
     c.in-None.ensures.frames.0
     (subst (λ (go : Go). CanSeek p a.from a.to l.seen.visited (noted l.notes) go l.stack.frames) c.in-Answer.is l.invariant.seeks)))
 
@@ -50,13 +50,13 @@ loop-go-preserved c =
     record {
       seeks =
           c.after.ensures.seeks p a.from a.to c.in-Answer.field-0 l.seen.visited (noted l.notes) c.pop.new.self.frames
-          (subst (λ (frames : List Frame). CanSeek p a.from a.to l.seen.visited (noted l.notes) (Answer c.in-Answer.field-0) frames)
+          (subst (λ (frames : List WalkFrame). CanSeek p a.from a.to l.seen.visited (noted l.notes) (Answer c.in-Answer.field-0) frames)
           c.in-Some.ensures.frames
           (subst (λ (go : Go). CanSeek p a.from a.to l.seen.visited (noted l.notes) go l.stack.frames) c.in-Answer.is l.invariant.seeks));
       walks =
           rw c.pop.ensures.room
           (c.after.ensures.walks p l.stack.room l.seen.tasks c.in-Answer.field-0 c.pop.new.self.frames
-          (subst (λ (frames : List Frame). CanWalk l.stack.room l.seen.tasks (Answer c.in-Answer.field-0) frames [] p)
+          (subst (λ (frames : List WalkFrame). CanWalk l.stack.room l.seen.tasks (Answer c.in-Answer.field-0) frames [] p)
           c.in-Some.ensures.frames
           (subst (λ (go : Go). CanWalk l.stack.room l.seen.tasks go l.stack.frames [] p) c.in-Answer.is l.invariant.walks)));
       room = c.pop.ensures.room ∙ l.invariant.room;

@@ -3,7 +3,7 @@ use Rattle.std.proofs.Common.{◌≡◌, []}
 use Rattle.law_parts.specs.Weight.{weight}
 use Rattle.law_parts.specs.Open.{CanWalk}
 use Rattle.law_parts.specs.Seek.{CanSeek}
-use Rattle.aio_cancel.specs.Body.{parts}
+use Rattle.aio_cancel.specs.Awaitables.{parts}
 use Rattle.aio_cancel.specs.Noted.{noted}
 use Rattle.aio_cancel.proofs.circle.search.Given as goal
 

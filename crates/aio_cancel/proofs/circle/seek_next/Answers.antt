@@ -1,11 +1,11 @@
 use Rattle.std.proofs.Common.{ap, refl, ◌+◌, ◌++◌, ◌∷◌, [], false}
-use Rattle.law_parts.specs.declared.walk.Frame.TheVariants.{Members}
+use Rattle.law_parts.specs.declared.walk.WalkFrame.TheVariants.{Members}
 use Rattle.law_parts.specs.declared.walk.Go.TheVariants.{Visit}
 use Rattle.law_parts.proofs.WeightLemmas.{weigh_push, weigh_skip, weigh_end}
 use Rattle.law_parts.proofs.RoomLemmas.{room_for, walk_member}
 use Rattle.law_parts.proofs.SeekLemmas.{seek_member, seek_skips, seek_ends}
 use Rattle.aio_cancel.specs.Seen.{Stacked}
-use Rattle.aio_cancel.specs.Body.{parts}
+use Rattle.aio_cancel.specs.Awaitables.{parts}
 use Rattle.aio_cancel.proofs.circle.seek_next.Goals as goal
 
 pub push-requires : goal.push-requires

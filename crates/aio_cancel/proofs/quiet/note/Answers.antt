@@ -1,6 +1,6 @@
 use Rattle.law_parts.proofs.QuietLemmas.{put_sound, asked_if}
 use Rattle.aio_cancel.specs.Noted.{noted}
-use Rattle.aio_cancel.specs.Body.{parts}
+use Rattle.aio_cancel.specs.Awaitables.{parts}
 use Rattle.aio_cancel.proofs.quiet.note.Goals as goal
 
 pub returns-in-Some-look_all : goal.returns-in-Some-look_all

@@ -1,5 +1,5 @@
 use Rattle.std.proofs.Common.{◌∙◌, sym, ap, refl, List, ℕ, [], ◌≡◌, Bool, Option, Some, None, subst}
-use Rattle.law_parts.specs.declared.walk.Frame.{Frame}
+use Rattle.law_parts.specs.declared.walk.WalkFrame.{WalkFrame}
 use Rattle.law_parts.specs.declared.walk.Go.{Go}
 use Rattle.law_parts.specs.declared.walk.Go.TheVariants.{Visit, Answer}
 use Rattle.law_parts.specs.Walk.{run}
@@ -7,7 +7,7 @@ use Rattle.law_parts.specs.Open.{CanWalk}
 use Rattle.law_parts.proofs.QuietLemmas.{sound_later}
 use Rattle.law_parts.proofs.RoomLemmas.{walk_begins}
 use Rattle.aio_cancel.specs.Noted.{noted}
-use Rattle.aio_cancel.specs.Body.{parts}
+use Rattle.aio_cancel.specs.Awaitables.{parts}
 use Rattle.aio_cancel.proofs.PartsLemmas.{nothing_appended, appended_on}
 use Rattle.aio_cancel.proofs.walk.cancel.Goals as goal
 
@@ -22,7 +22,7 @@ loop-go-init c =
           rw (c.requires.empty, c.requires.unseen)
           (walk_begins a.stack.now.room a.seen.now.tasks a.target (parts a.body.now) c.requires.no_circle c.requires.fits c.requires.marked);
       same =
-          ap (λ (frames : List Frame). run (Visit a.target) frames a.seen.now.visited (parts a.body.now)) c.requires.empty
+          ap (λ (frames : List WalkFrame). run (Visit a.target) frames a.seen.now.visited (parts a.body.now)) c.requires.empty
           ∙ ap (λ (visited : List ℕ). run (Visit a.target) [] visited (parts a.body.now)) c.requires.unseen;
       sound = λ id again e. absurd (none_some (noted a.notes.now id) again (c.requires.unnoted id) e);
       queue = nothing_appended a.body.now.queue a.body.now.queue refl;
@@ -52,13 +52,13 @@ loop-go-preserved c =
       walks =
           rw c.pop.ensures.room
           (c.back.ensures.walks l.stack.room l.seen.tasks l.seen.visited c.pop.new.self.frames
-          (subst (λ (frames : List Frame). CanWalk l.stack.room l.seen.tasks (Answer c.in-Answer.answer) frames l.seen.visited (parts l.body))
+          (subst (λ (frames : List WalkFrame). CanWalk l.stack.room l.seen.tasks (Answer c.in-Answer.answer) frames l.seen.visited (parts l.body))
           c.in-Some.ensures.frames
           (subst (λ (go : Go). CanWalk l.stack.room l.seen.tasks go l.stack.frames l.seen.visited (parts l.body))
           c.in-Answer.is l.invariant.walks)));
       same =
           c.back.ensures.same l.seen.visited c.pop.new.self.frames
-          ∙ sym (ap (λ (frames : List Frame). run (Answer c.in-Answer.answer) frames l.seen.visited (parts l.body)) c.in-Some.ensures.frames)
+          ∙ sym (ap (λ (frames : List WalkFrame). run (Answer c.in-Answer.answer) frames l.seen.visited (parts l.body)) c.in-Some.ensures.frames)
           ∙ sym (ap (λ (go : Go). run go l.stack.frames l.seen.visited (parts l.body)) c.in-Answer.is)
           ∙ l.invariant.same;
       sound =

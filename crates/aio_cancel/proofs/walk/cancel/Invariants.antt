@@ -6,7 +6,7 @@ use Rattle.law_parts.specs.Weight.{weight}
 use Rattle.law_parts.specs.Open.{CanWalk}
 use Rattle.law_parts.specs.Quiet.{Sound}
 use Rattle.aio_cancel.specs.Noted.{noted}
-use Rattle.aio_cancel.specs.Body.{parts, Appended}
+use Rattle.aio_cancel.specs.Awaitables.{parts, Appended}
 use Rattle.aio_cancel.proofs.walk.cancel.Given as goal
 
 abbrev pub invariant-loop-go : goal.invariant-loop-go

@@ -1,5 +1,5 @@
 use Rattle.std.proofs.Common.{sym, ap, ◌∙◌, refl, ◌+◌, ◌++◌, ◌∷◌, []}
-use Rattle.law_parts.specs.declared.walk.Frame.TheVariants.{Members}
+use Rattle.law_parts.specs.declared.walk.WalkFrame.TheVariants.{Members}
 use Rattle.law_parts.specs.declared.walk.Go.TheVariants.{Visit}
 use Rattle.law_parts.specs.Walk.{resume}
 use Rattle.law_parts.proofs.WalkLemmas.{next_ends_where, next_past, next_member, resume-push}
@@ -8,7 +8,7 @@ use Rattle.law_parts.proofs.RoomLemmas.{room_for, walk_member, walk_ends}
 use Rattle.law_parts.proofs.QuietLemmas.{sound_later, ask_where_later}
 use Rattle.aio_cancel.specs.Noted.{noted}
 use Rattle.aio_cancel.specs.Seen.{Stacked}
-use Rattle.aio_cancel.specs.Body.{parts}
+use Rattle.aio_cancel.specs.Awaitables.{parts}
 use Rattle.aio_cancel.proofs.walk.next.Goals as goal
 
 pub push-requires : goal.push-requires

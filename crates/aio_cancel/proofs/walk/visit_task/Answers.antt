@@ -1,12 +1,12 @@
 use Rattle.std.proofs.Common.{sym, ap, ◌∙◌, refl, true, ◌++◌, ◌∷◌, []}
 use Rattle.model_loop.specs.Tasks.{raise_count}
-use Rattle.law_parts.specs.declared.walk.Frame.TheVariants.{Waits}
+use Rattle.law_parts.specs.declared.walk.WalkFrame.TheVariants.{Waits}
 use Rattle.law_parts.specs.declared.walk.Go.TheVariants.{Visit}
 use Rattle.law_parts.proofs.WalkLemmas.{visit_waits}
 use Rattle.law_parts.proofs.WeightLemmas.{weigh_answer, weigh_marked, weigh_waits}
 use Rattle.law_parts.proofs.RoomLemmas.{room_for, mark_for, walk_waits, walk_marks}
 use Rattle.aio_cancel.specs.Seen.{Stacked, Marked}
-use Rattle.aio_cancel.specs.Body.{parts}
+use Rattle.aio_cancel.specs.Awaitables.{parts}
 use Rattle.aio_cancel.proofs.walk.visit_task.Goals as goal
 
 pub returns-then-has-clause-falls : goal.returns-then-has-clause-falls

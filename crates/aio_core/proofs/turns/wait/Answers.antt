@@ -2,7 +2,7 @@ use Rattle.std.proofs.Common.{◌-◌, Some, [], min, ◌∙◌, sym, ap}
 use Rattle.std.specs.Option.{option_map}
 use Rattle.model_machine.specs.Outside.{select}
 use Rattle.model_machine.specs.Turn.{longest_wait}
-use Rattle.aio_cancel.specs.Body.{waiting}
+use Rattle.aio_cancel.specs.Awaitables.{waiting}
 use Rattle.aio_ready.specs.Queue as queue
 use Rattle.aio_timer.specs.Schedule as schedule
 use Rattle.aio_core.proofs.Waking.{wait_busy, wait_idle, waits_for}

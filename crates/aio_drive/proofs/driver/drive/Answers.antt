@@ -3,7 +3,7 @@ use Rattle.std.proofs.lemmas.Result.{err_from_is_err_and, IfOk-weaker, IfErr-wea
 use Rattle.aio_wire.specs.EventList.{EventList}
 use Rattle.aio_drive.specs.Drive.{MayDrive, Undisturbed}
 use Rattle.aio_drive.specs.Ending.{NextOf}
-use Rattle.aio_drive.specs.declared.ending.Next.{Next}
+use Rattle.aio_drive.specs.declared.ending.AfterTurn.{AfterTurn}
 use Rattle.aio_drive.proofs.Driving.{nothing_at_all, running_first}
 use Rattle.aio_drive.proofs.Fronts.{took-nil}
 use Rattle.aio_drive.proofs.Rounds.{ends_err, ends_ok, fails_err, fails_ok, goes_at, goes_err, goes_on, last_err, last_ok, last_unsaid, refused_at, with_turn}
@@ -43,7 +43,7 @@ returns-in-Ends-clause-ok g c =
     let (left, past, taken, begun) = l.invariant.running in
     let (fewer, running) = with_turn left begun c.loop-made-test.true in
     let fits : c.args.manner.turns ≤ 2 ^ 64 - 1 = omega arith in
-    let is = subst (λ (n : Next). NextOf c.turn.result n) c.in-Ends.is c.next_of-next.ensures in
+    let is = subst (λ (n : AfterTurn). NextOf c.turn.result n) c.in-Ends.is c.next_of-next.ensures in
     IfOk-weaker c.write_end.result _ _
     (ends_ok (g.W.Wire.seen c.args.wire.now) running l.invariant.fails l.invariant.later (c.turn.ensures.turned (running.at []).stands.goes).1
     (g.met.W.Wire.quiet_on c.args.wire.now l.wire c.turn.new.wire l.invariant.quiet)
@@ -56,7 +56,7 @@ returns-in-Ends-clause-err g c =
     let (left, past, taken, begun) = l.invariant.running in
     let (fewer, running) = with_turn left begun c.loop-made-test.true in
     let fits : c.args.manner.turns ≤ 2 ^ 64 - 1 = omega arith in
-    let is = subst (λ (n : Next). NextOf c.turn.result n) c.in-Ends.is c.next_of-next.ensures in
+    let is = subst (λ (n : AfterTurn). NextOf c.turn.result n) c.in-Ends.is c.next_of-next.ensures in
     IfErr-weaker c.write_end.result _ _
     (ends_err (g.W.Wire.seen c.args.wire.now) running l.invariant.fails l.invariant.later (c.turn.ensures.turned (running.at []).stands.goes).1
     (g.met.W.Wire.quiet_on c.args.wire.now l.wire c.turn.new.wire l.invariant.quiet)
@@ -68,7 +68,7 @@ returns-in-Fails-clause-ok g c =
     let l = c.loop-made in
     let (left, past, taken, begun) = l.invariant.running in
     let (fewer, running) = with_turn left begun c.loop-made-test.true in
-    let is = subst (λ (n : Next). NextOf c.turn.result n) c.in-Fails.is c.next_of-next.ensures in
+    let is = subst (λ (n : AfterTurn). NextOf c.turn.result n) c.in-Fails.is c.next_of-next.ensures in
     IfOk-weaker c.write_end-in-Fails.result _ _
     (fails_ok (g.W.Wire.seen c.args.wire.now) running l.invariant.fails l.invariant.later (c.turn.ensures.turned (running.at []).stands.goes).1
     (g.met.W.Wire.quiet_on c.args.wire.now l.wire c.turn.new.wire l.invariant.quiet)
@@ -80,7 +80,7 @@ returns-in-Fails-clause-err g c =
     let l = c.loop-made in
     let (left, past, taken, begun) = l.invariant.running in
     let (fewer, running) = with_turn left begun c.loop-made-test.true in
-    let is = subst (λ (n : Next). NextOf c.turn.result n) c.in-Fails.is c.next_of-next.ensures in
+    let is = subst (λ (n : AfterTurn). NextOf c.turn.result n) c.in-Fails.is c.next_of-next.ensures in
     IfErr-weaker c.write_end-in-Fails.result _ _
     (fails_err (g.W.Wire.seen c.args.wire.now) running l.invariant.fails l.invariant.later (c.turn.ensures.turned (running.at []).stands.goes).1
     (g.met.W.Wire.quiet_on c.args.wire.now l.wire c.turn.new.wire l.invariant.quiet)
@@ -100,7 +100,7 @@ returns-in_err-write_events-in-Turn-clause-err g c =
     let l = c.loop-made in
     let (left, past, taken, begun) = l.invariant.running in
     let (fewer, running) = with_turn left begun c.loop-made-test.true in
-    let is = subst (λ (n : Next). NextOf c.turn.result n) c.in-Turn.is c.next_of-next.ensures in
+    let is = subst (λ (n : AfterTurn). NextOf c.turn.result n) c.in-Turn.is c.next_of-next.ensures in
     let p = err_from_is_err_and c.from_residual-in_err-write_events-in-Turn.result c.from_residual-in_err-write_events-in-Turn.ensures.1 in
     rw (p.1, p.2) (goes_err (g.W.Wire.seen c.args.wire.now) running l.invariant.fails l.invariant.later (c.turn.ensures.turned (running.at []).stands.goes).1
     (g.met.W.Wire.quiet_on c.args.wire.now l.wire c.turn.new.wire l.invariant.quiet)
@@ -112,7 +112,7 @@ loop-made-preserved g c =
     let l = c.loop-made in
     let (left, past, taken, begun) = l.invariant.running in
     let (fewer, running) = with_turn left begun c.loop-made-test.true in
-    let is = subst (λ (n : Next). NextOf c.turn.result n) c.in-Turn.is c.next_of-next.ensures in
+    let is = subst (λ (n : AfterTurn). NextOf c.turn.result n) c.in-Turn.is c.next_of-next.ensures in
     let turned = (c.turn.ensures.turned (running.at []).stands.goes).1 in
     let quietly = g.met.W.Wire.quiet_on c.args.wire.now l.wire c.turn.new.wire l.invariant.quiet in
     let (had, (takes, (goes, still))) = goes_at (g.W.Wire.seen c.args.wire.now) running l.invariant.fails l.invariant.later turned quietly is in

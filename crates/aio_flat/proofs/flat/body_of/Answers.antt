@@ -2,7 +2,7 @@ use Rattle.std.proofs.Common.{rules, ◌≡◌, List, length, refl, ap, subst, �
 use Rattle.model_tree.specs.Syntax.{Name, Statement, Statements, statements}
 use Rattle.model_says.specs.Variables.{variables_of}
 use Rattle.law_locals.specs.Numbered.{locals, numbered_statements}
-use Rattle.law_flat.specs.Ops.{Body}
+use Rattle.law_flat.specs.Ops.{CoroutineCode}
 use Rattle.law_flat.specs.Laid.{LaidAll}
 use Rattle.aio_flat.specs.Built.{built}
 use Rattle.aio_flat.proofs.flat.body_of.Goals as goal
@@ -10,10 +10,10 @@ use Rattle.aio_flat.proofs.flat.body_of.Goals as goal
 pub returns : goal.returns
 returns c =
     let laid = built c.lay_all.new.builder in
-    let code : Body = record laid { variables = locals 0 c.count.result } in
+    let code : CoroutineCode = record laid { variables = locals 0 c.count.result } in
     let program = c.args.places.now in
     let grows = c.in_ok-lay_all.ensures in
-    let start : length c.new-builder.result.ops.items ≡ 0 = ap (λ (body : Body). length body.ops) c.new-builder.ensures in
+    let start : length c.new-builder.result.ops.items ≡ 0 = ap (λ (body : CoroutineCode). length body.ops) c.new-builder.ensures in
     let body : statements c.items.result.now ≡ c.args.coroutine.now.body =
     ap (λ (items : List Statement). statements items) c.items.ensures ∙ c.body.ensures in
     let variables : c.in_ok-numbers.numbers ≡ variables_of c.args.coroutine.now =

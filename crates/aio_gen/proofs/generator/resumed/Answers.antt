@@ -6,7 +6,7 @@ use Rattle.model_says.specs.Says.{step_limit}
 use Rattle.law_locals.specs.Numbered.{numbered_program}
 use Rattle.law_flat.specs.Tapes.{after_input, ComesTo}
 use Rattle.aio_flat.specs.Code.{codes_of}
-use Rattle.aio_gen.specs.declared.types.Stop.{Stop}
+use Rattle.aio_gen.specs.declared.types.LastMove.{LastMove}
 use Rattle.aio_gen.specs.Gens.{plain_waiting}
 use Rattle.aio_gen.specs.Plain.{plain_frames, plain_stop}
 use Rattle.aio_gen.proofs.Resuming.{goes-on, says-so, asks-so}
@@ -24,7 +24,7 @@ returns-in-Asks c =
           asks-so program codes coroutine arguments (tape ++ entry ∷ []) c.in-Asks.request
           (record { frames = plain_frames c.run.new.frames; use_of = c.in-Asks.use_of })
           (subst
-          (λ (s : Stop). ComesTo step_limit (numbered_program program) codes coroutine arguments (tape ++ entry ∷ []) (plain_stop s c.run.new.frames))
+          (λ (s : LastMove). ComesTo step_limit (numbered_program program) codes coroutine arguments (tape ++ entry ∷ []) (plain_stop s c.run.new.frames))
           c.in-Asks.is
           (c.in_ok-request.ensures step_limit (numbered_program program) coroutine arguments (tape ++ entry ∷ []) is_code.laid_out
           (goes-on (numbered_program program) codes coroutine arguments tape entry stands.0 waiting c.in_ok-way.way frames stands.1 c.in_ok-way.ensures.way
@@ -32,7 +32,7 @@ returns-in-Asks c =
       stands = λ program coroutine arguments tape is_code stands request same. (
         c.in-Asks.request,
         (subst
-            (λ (s : Stop). ComesTo step_limit (numbered_program program) codes coroutine arguments (tape ++ entry ∷ []) (plain_stop s c.run.new.frames))
+            (λ (s : LastMove). ComesTo step_limit (numbered_program program) codes coroutine arguments (tape ++ entry ∷ []) (plain_stop s c.run.new.frames))
             c.in-Asks.is
             (c.in_ok-request.ensures step_limit (numbered_program program) coroutine arguments (tape ++ entry ∷ []) is_code.laid_out
             (goes-on (numbered_program program) codes coroutine arguments tape entry stands.0 waiting c.in_ok-way.way frames stands.1 c.in_ok-way.ensures.way
@@ -51,7 +51,7 @@ returns-in-Returns c =
       said = λ program coroutine arguments tape is_code stands.
           says-so program codes coroutine arguments (tape ++ entry ∷ []) (endings.Returns c.in-Returns.value)
           (subst
-          (λ (s : Stop). ComesTo step_limit (numbered_program program) codes coroutine arguments (tape ++ entry ∷ []) (plain_stop s c.run.new.frames))
+          (λ (s : LastMove). ComesTo step_limit (numbered_program program) codes coroutine arguments (tape ++ entry ∷ []) (plain_stop s c.run.new.frames))
           c.in-Returns.is
           (c.in_ok-request.ensures step_limit (numbered_program program) coroutine arguments (tape ++ entry ∷ []) is_code.laid_out
           (goes-on (numbered_program program) codes coroutine arguments tape entry stands.0 waiting c.in_ok-way.way frames stands.1 c.in_ok-way.ensures.way
@@ -70,7 +70,7 @@ returns-in-Raises c =
       said = λ program coroutine arguments tape is_code stands.
           says-so program codes coroutine arguments (tape ++ entry ∷ []) (endings.Raises c.in-Raises.fault)
           (subst
-          (λ (s : Stop). ComesTo step_limit (numbered_program program) codes coroutine arguments (tape ++ entry ∷ []) (plain_stop s c.run.new.frames))
+          (λ (s : LastMove). ComesTo step_limit (numbered_program program) codes coroutine arguments (tape ++ entry ∷ []) (plain_stop s c.run.new.frames))
           c.in-Raises.is
           (c.in_ok-request.ensures step_limit (numbered_program program) coroutine arguments (tape ++ entry ∷ []) is_code.laid_out
           (goes-on (numbered_program program) codes coroutine arguments tape entry stands.0 waiting c.in_ok-way.way frames stands.1 c.in_ok-way.ensures.way
@@ -89,7 +89,7 @@ returns-in-Runaway c =
       said = λ program coroutine arguments tape is_code stands.
           says-so program codes coroutine arguments (tape ++ entry ∷ []) endings.Runaway
           (subst
-          (λ (s : Stop). ComesTo step_limit (numbered_program program) codes coroutine arguments (tape ++ entry ∷ []) (plain_stop s c.run.new.frames))
+          (λ (s : LastMove). ComesTo step_limit (numbered_program program) codes coroutine arguments (tape ++ entry ∷ []) (plain_stop s c.run.new.frames))
           c.in-Runaway.is
           (c.in_ok-request.ensures step_limit (numbered_program program) coroutine arguments (tape ++ entry ∷ []) is_code.laid_out
           (goes-on (numbered_program program) codes coroutine arguments tape entry stands.0 waiting c.in_ok-way.way frames stands.1 c.in_ok-way.ensures.way

@@ -8,7 +8,7 @@ use Rattle.aio_group.specs.Answers.{gone_on}
 use Rattle.aio_group.specs.Exits.{begun, Exits}
 use Rattle.aio_group.specs.Held.{Held}
 use Rattle.aio_group.specs.Stands.{Belongs, KeepsGroup}
-use Rattle.aio_group.proofs.Exiting.{Left, exits_on, exit_belongs}
+use Rattle.aio_group.proofs.Exiting.{LeftByExit, exits_on, exit_belongs}
 use Rattle.aio_group.proofs.Going.{then_moves}
 use Rattle.aio_group.proofs.Waiting.{begun_passes}
 use Rattle.aio_group.proofs.exits.exit_begin.Goals as goal
@@ -36,7 +36,7 @@ returns-clause-steps c =
     let raised = c.args.raised in
     let body = option_copied c.failure_in.result in
     let same = c.begin.ensures.same in
-    let left : (t : Ties) (p : Parts) (group : Group) → KeepsGroup t p a group → Left a b body × (a.ended ≡ false) =
+    let left : (t : Ties) (p : Parts) (group : Group) → KeepsGroup t p a group → LeftByExit a b body × (a.ended ≡ false) =
     λ t p group is.
     let early = is.early c.requires.fresh in (
       record {

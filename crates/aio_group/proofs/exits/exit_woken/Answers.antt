@@ -8,7 +8,7 @@ use Rattle.aio_group.specs.Answers.{gone_on}
 use Rattle.aio_group.specs.Exits.{heard, Exits}
 use Rattle.aio_group.specs.Held.{Held}
 use Rattle.aio_group.specs.Stands.{Belongs, KeepsGroup}
-use Rattle.aio_group.proofs.Exiting.{Left, is_going, exits_on, exit_belongs}
+use Rattle.aio_group.proofs.Exiting.{LeftByExit, is_going, exits_on, exit_belongs}
 use Rattle.aio_group.proofs.Going.{then_moves}
 use Rattle.aio_group.proofs.Waiting.{heard_passes}
 use Rattle.aio_group.proofs.exits.exit_woken.Goals as goal
@@ -37,7 +37,7 @@ returns-clause-steps c =
     let body = option_copied c.body.result in
     let same = c.hear.ensures.same in
     let going = is_going a.exiting a.ended c.requires.going in
-    let left : (t : Ties) (p : Parts) (group : Group) → KeepsGroup t p a group → Left a b body × (a.ended ≡ false) =
+    let left : (t : Ties) (p : Parts) (group : Group) → KeepsGroup t p a group → LeftByExit a b body × (a.ended ≡ false) =
     λ t p group is. (
       record {
         children = ap (λ (h : Held). h.children) same;

@@ -5,7 +5,7 @@ use Rattle.model_tree.specs.Syntax.{Statement, statements}
 use Rattle.model_text.specs.SecondPass as plain
 use Rattle.model_text.specs.Bodies.{body_in}
 use Rattle.aio_program.specs.declared.line.Line.{Line}
-use Rattle.aio_program.specs.declared.body.Step.{Step}
+use Rattle.aio_program.specs.declared.body.BodyStep.{BodyStep}
 use Rattle.aio_program.specs.Line.{plain_line}
 use Rattle.aio_program.specs.Body.{body_with, step_with}
 use Rattle.aio_program.proofs.TryLemmas.{nothing_left}
@@ -20,7 +20,7 @@ returns-in-Over c =
     c.into_iter-line-iterator.ensures.into_iter_gives.0 in
     let steps : into_iter_items at.line-iterator ≡ c.in-Some.line ∷ into_iter_items c.next.new.self =
     c.in-Some.ensures.steps.0 in
-    ap statements c.of.ensures ∙ (sym (ap (λ (step : Step). step_with step behind) c.in-Over.is) ∙ (c.in_ok-next.ensures behind ∙ (sym (ap (λ (ls : List Line). body_with at.begun (map plain_line ls)) steps) ∙ (at.invariant.0 ∙ (nothing_yet c.new.result.items c.new-2.result.items (map plain_line (into_iter_items c.into_iter-line-iterator.result)) c.new.ensures.items c.new-2.ensures.items ∙ ap (λ (ls : List Line). body_in (map plain_line ls)) passed)))))
+    ap statements c.of.ensures ∙ (sym (ap (λ (step : BodyStep). step_with step behind) c.in-Over.is) ∙ (c.in_ok-next.ensures behind ∙ (sym (ap (λ (ls : List Line). body_with at.begun (map plain_line ls)) steps) ∙ (at.invariant.0 ∙ (nothing_yet c.new.result.items c.new-2.result.items (map plain_line (into_iter_items c.into_iter-line-iterator.result)) c.new.ensures.items c.new-2.ensures.items ∙ ap (λ (ls : List Line). body_in (map plain_line ls)) passed)))))
 
 pub returns : goal.returns
 returns c =

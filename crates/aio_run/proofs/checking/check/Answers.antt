@@ -2,7 +2,7 @@ use Rattle.std.proofs.Common.{◌≡◌, ap, ◌∙◌, List, ℕ}
 use Rattle.std.proofs.lemmas.Result.{IfOk-weaker, IfErr-weaker}
 use Rattle.model_text.specs.Canonical.{canonical}
 use Rattle.model_wire.specs.Told.{NoneFailed, took}
-use Rattle.model_machine.specs.Theorem.{Output}
+use Rattle.model_machine.specs.Theorem.{ProgramOutput}
 use Rattle.model_machine.specs.Program.{MayCheck}
 use Rattle.aio_run.specs.Script.{Tells}
 use Rattle.aio_run.specs.declared.script.NoScript.TheVariants.{Memory}
@@ -13,7 +13,7 @@ pub returns-in_ok-text-in-Ok-clause-ok : goal.returns-in_ok-text-in-Ok-clause-ok
 returns-in_ok-text-in-Ok-clause-ok g c =
     let old = g.F.Shelf.seen c.args.shelf.now in
     let new = g.F.Shelf.seen c.read_script.new.shelf in
-    let output : Output = record { text = canonical c.in-Ok.script; status = 0 } in
+    let output : ProgramOutput = record { text = canonical c.in-Ok.script; status = 0 } in
     let may = check_by_script c.in-Ok.script old new c.args.script.now c.in-Ok.ensures.script c.in-Ok.ensures.kept in
     let same = c.as_slice.ensures.value ∙ c.in_ok-text-in-Ok.ensures in
     IfOk-weaker c.tell.result _ _ (λ status d. (output, may, d.1 ∙ ap (λ (t : List ℕ). took (g.K.Sink.seen c.args.out.now) t) same, d.0))
@@ -23,7 +23,7 @@ pub returns-in_ok-text-in-Ok-clause-err : goal.returns-in_ok-text-in-Ok-clause-e
 returns-in_ok-text-in-Ok-clause-err g c =
     let old = g.F.Shelf.seen c.args.shelf.now in
     let new = g.F.Shelf.seen c.read_script.new.shelf in
-    let output : Output = record { text = canonical c.in-Ok.script; status = 0 } in
+    let output : ProgramOutput = record { text = canonical c.in-Ok.script; status = 0 } in
     let may = check_by_script c.in-Ok.script old new c.args.script.now c.in-Ok.ensures.script c.in-Ok.ensures.kept in
     let same = c.as_slice.ensures.value ∙ c.in_ok-text-in-Ok.ensures in
     IfErr-weaker c.tell.result _ _ (λ halt d. line_early halt (MayCheck old new c.args.script.now) (NoneFailed old new) output _

@@ -2,7 +2,7 @@ use Rattle.std.proofs.Common.{◌≡◌, Some, sym, ap, ◌∙◌}
 use Rattle.std.specs.Prelude.{is_some}
 use Rattle.std.specs.Option.{option_copied}
 use Rattle.aio_body.specs.Asked.{Says}
-use Rattle.aio_body.specs.declared.reply.Reply.TheVariants.{Rests}
+use Rattle.aio_body.specs.declared.reply.RequestReply.TheVariants.{Rests}
 use Rattle.aio_extra.specs.declared.asked.Asked.TheVariants.{Wait}
 use Rattle.aio_serve.specs.Adding.{AnswersAgain, answered}
 use Rattle.aio_serve.proofs.Adding.{answers_idle, answers_run, answers_served, answers_there, rests_so, waits_as, waits_may, wakes_so}

@@ -4,7 +4,7 @@ use Rattle.model_value.specs.Value.{Truth}
 use Rattle.model_says.specs.Requests.{bad_argument}
 use Rattle.model_loop.specs.Futures.{future_outcome}
 use Rattle.model_machine.specs.Replies.{is_cancelled_as}
-use Rattle.aio_body.specs.declared.reply.Reply.TheVariants.{Answers}
+use Rattle.aio_body.specs.declared.reply.RequestReply.TheVariants.{Answers}
 use Rattle.aio_serve.proofs.Meaning.{cancelled_means, cancelled_refused}
 use Rattle.aio_serve.proofs.Reading.{awaited_as, outcome_read}
 use Rattle.aio_serve.proofs.Saying.{answers_so, raises_so}

@@ -8,7 +8,7 @@ use Rattle.model_machine.specs.State.{unbooked_in}
 use Rattle.law_kept.proofs.Telling.{next_kept}
 use Rattle.law_body.proofs.Making.{makes_so}
 use Rattle.law_body.proofs.May.{idle_some}
-use Rattle.aio_body.specs.declared.reply.Reply.TheVariants.{Answers}
+use Rattle.aio_body.specs.declared.reply.RequestReply.TheVariants.{Answers}
 use Rattle.aio_serve.proofs.Meaning.{one_more_made, none_made}
 use Rattle.aio_serve.proofs.Saying.{answers_so, raises_so}
 use Rattle.aio_serve.proofs.futures.make_future.Goals as goal

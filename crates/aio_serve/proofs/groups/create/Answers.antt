@@ -6,7 +6,7 @@ use Rattle.model_loop.specs.Tasks.{next_task}
 use Rattle.model_machine.specs.Replies.{most_ids}
 use Rattle.model_value.specs.Value.{Task}
 use Rattle.aio_body.specs.Asked.{Says}
-use Rattle.aio_body.specs.declared.reply.Reply.TheVariants.{Answers, Raises}
+use Rattle.aio_body.specs.declared.reply.RequestReply.TheVariants.{Answers, Raises}
 use Rattle.law_body.proofs.May.{idle_some}
 use Rattle.aio_serve.proofs.Grouping.{belong_some, create_refused, none_created, one_created}
 use Rattle.aio_serve.proofs.Saying.{raises_so}

@@ -9,7 +9,7 @@ use Rattle.model_machine.specs.State.{in_loop}
 use Rattle.aio_group.specs.Stands.{Came, Stands as GroupStands}
 use Rattle.aio_group.proofs.Going.{same_on}
 use Rattle.law_handles.proofs.Appending.{extends_same}
-use Rattle.aio_body.specs.declared.reply.Reply.TheVariants.{Answers}
+use Rattle.aio_body.specs.declared.reply.RequestReply.TheVariants.{Answers}
 use Rattle.aio_serve.proofs.Grouping.{none_grouped, one_grouped}
 use Rattle.aio_serve.proofs.GroupsNeed.{same_many}
 use Rattle.aio_serve.proofs.GroupsOn.{groups_stand, stands_stepped, step_same}

@@ -6,7 +6,7 @@ use Rattle.model_machine.specs.Extra.{Extra}
 use Rattle.model_machine.specs.Replies as plain
 use Rattle.model_machine.specs.Replies.{reply, undefined}
 use Rattle.model_machine.specs.State.{State}
-use Rattle.aio_body.specs.declared.reply.Reply.TheVariants.{Answers}
+use Rattle.aio_body.specs.declared.reply.RequestReply.TheVariants.{Answers}
 use Rattle.aio_body.specs.Asked.{MayAsk}
 use Rattle.law_body.proofs.May.{going_of, some_of}
 use Rattle.aio_serve.proofs.Meaning.{current_means}

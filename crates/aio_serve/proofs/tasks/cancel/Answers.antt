@@ -8,7 +8,7 @@ use Rattle.model_machine.specs.State.{in_loop}
 use Rattle.law_kept.proofs.Telling.{answer_kept}
 use Rattle.law_body.proofs.May.{idle_some}
 use Rattle.law_body.proofs.Rooms.{requests_so}
-use Rattle.aio_body.specs.declared.reply.Reply.TheVariants.{Answers}
+use Rattle.aio_body.specs.declared.reply.RequestReply.TheVariants.{Answers}
 use Rattle.aio_serve.proofs.Meaning.{cancel_means, cancel_refused}
 use Rattle.aio_serve.proofs.Reading.{awaited_as}
 use Rattle.aio_serve.proofs.Saying.{answers_so, raises_so}

@@ -4,7 +4,7 @@ use Rattle.model_wire.specs.declared.event.Event.TheVariants as event
 use Rattle.model_machine.specs.Replies.{shown_all}
 use Rattle.model_machine.specs.State.{noted}
 use Rattle.aio_wire.specs.Events.{pushed}
-use Rattle.aio_body.specs.declared.reply.Reply.TheVariants.{Answers}
+use Rattle.aio_body.specs.declared.reply.RequestReply.TheVariants.{Answers}
 use Rattle.aio_serve.proofs.Changing.{notes_so}
 use Rattle.aio_serve.proofs.Meaning.{print_means}
 use Rattle.aio_serve.proofs.Saying.{answers_so}

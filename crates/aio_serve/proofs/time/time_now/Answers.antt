@@ -1,6 +1,6 @@
 use Rattle.std.proofs.Common.{pos, ap, ◌∙◌}
 use Rattle.model_value.specs.Value.{Int}
-use Rattle.aio_body.specs.declared.reply.Reply.TheVariants.{Answers}
+use Rattle.aio_body.specs.declared.reply.RequestReply.TheVariants.{Answers}
 use Rattle.aio_serve.proofs.Meaning.{time_means}
 use Rattle.aio_serve.proofs.Reading.{few_moments}
 use Rattle.aio_serve.proofs.Saying.{answers_so}

@@ -6,7 +6,7 @@ use Rattle.model_says.specs.Requests.{bad_argument}
 use Rattle.model_loop.specs.Timeouts.{enter_timeout}
 use Rattle.model_machine.specs.Replies.{most_ids}
 use Rattle.model_machine.specs.State.{in_loop}
-use Rattle.aio_body.specs.declared.reply.Reply.TheVariants.{Answers}
+use Rattle.aio_body.specs.declared.reply.RequestReply.TheVariants.{Answers}
 use Rattle.law_body.proofs.May.{idle_of}
 use Rattle.law_body.proofs.TimeoutsOn.{enter_groups, goes_timed, leaves_enter, timeouts_of}
 use Rattle.aio_serve.proofs.Saying.{answers_so, raises_so}

@@ -6,7 +6,7 @@ use Rattle.model_loop.specs.Timeouts.{exit_timeout}
 use Rattle.model_machine.specs.Arguments.{as_timeout}
 use Rattle.model_machine.specs.Replies.{reply}
 use Rattle.model_machine.specs.State.{with_loop}
-use Rattle.aio_body.specs.declared.reply.Reply.{Reply}
+use Rattle.aio_body.specs.declared.reply.RequestReply.{RequestReply}
 use Rattle.aio_body.specs.Asked.{Says}
 use Rattle.law_body.proofs.May.{going_of, idle_of, some_of}
 use Rattle.law_body.proofs.TimeoutsOn.{exit_groups, goes_timed, leaves_exit, timeouts_of}
@@ -53,7 +53,7 @@ returns g c at s h =
     (c.exit-exit.ensures.after in_step.stands.ties s.loop keeps)
     (leaves_exit raised id s.loop) (exit_groups raised id s.loop) c.exit-exit.ensures.below c.exit-exit.ensures.step in
     let machine = reply g.X.Extra.added.meaning task (request.TimeoutExit c.args.timeout.now raised) s in
-    subst (λ (said : Reply). Says task at after said machine) (sym c.left.ensures)
+    subst (λ (said : RequestReply). Says task at after said machine) (sym c.left.ensures)
     (subst (Says task at after (left_as c.exit-exit.result)) (sym (exit_goes g.X.Extra.added.meaning task s c.args.timeout.now raised id named))
     (left_so task at after now on c.exit-exit.result (exit_timeout raised id s.loop).timed_out
     (c.exit-exit.ensures.answer in_step.stands.ties s.loop keeps)))

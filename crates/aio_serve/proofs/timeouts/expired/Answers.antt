@@ -3,7 +3,7 @@ use Rattle.std.proofs.lemmas.Result.{IfOk-weaker}
 use Rattle.model_value.specs.Value.{Truth}
 use Rattle.model_says.specs.Requests.{bad_argument}
 use Rattle.model_loop.specs.Timeouts.{has_expired, timeout_of}
-use Rattle.aio_body.specs.declared.reply.Reply.TheVariants.{Answers}
+use Rattle.aio_body.specs.declared.reply.RequestReply.TheVariants.{Answers}
 use Rattle.aio_serve.proofs.Saying.{answers_so, raises_so}
 use Rattle.aio_serve.proofs.Timing.{expired_goes, expired_unfit}
 use Rattle.aio_serve.proofs.timeouts.expired.Goals as goal

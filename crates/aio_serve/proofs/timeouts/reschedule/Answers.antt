@@ -3,7 +3,7 @@ use Rattle.std.proofs.lemmas.Result.{IfOk-weaker}
 use Rattle.model_says.specs.Requests.{bad_argument}
 use Rattle.model_loop.specs.Timeouts.{reschedule}
 use Rattle.aio_timeout.specs.States.{refused, state_of}
-use Rattle.aio_body.specs.declared.reply.Reply.TheVariants.{Answers}
+use Rattle.aio_body.specs.declared.reply.RequestReply.TheVariants.{Answers}
 use Rattle.law_body.proofs.May.{idle_some}
 use Rattle.law_body.proofs.TimeoutsOn.{goes_timed, leaves_reschedule, reschedule_groups, timeouts_of}
 use Rattle.aio_serve.proofs.Saying.{raises_so}

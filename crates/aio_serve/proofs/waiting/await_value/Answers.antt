@@ -5,7 +5,7 @@ use Rattle.model_value.specs.declared.request.Request.TheVariants as request
 use Rattle.model_says.specs.Requests.{bad_argument}
 use Rattle.model_loop.specs.Futures.{future_outcome}
 use Rattle.model_machine.specs.Replies.{awaits_as}
-use Rattle.aio_body.specs.declared.reply.Reply.TheVariants.{Rests}
+use Rattle.aio_body.specs.declared.reply.RequestReply.TheVariants.{Rests}
 use Rattle.aio_body.specs.Asked.{Says}
 use Rattle.aio_extra.specs.Added.{named_in}
 use Rattle.law_body.proofs.May.{going_of, idle_of, running_of}

@@ -6,7 +6,7 @@ use Rattle.model_loop.specs.Suspend.{suspend_unless, cancel_wait, wait_on}
 use Rattle.model_loop.specs.Tasks.{is_marked}
 use Rattle.law_cancel.proofs.Circling.{allowed, wait_makes_none}
 use Rattle.law_parts.specs.Open.{room_of}
-use Rattle.aio_cancel.specs.Body.{View, parts}
+use Rattle.aio_cancel.specs.Awaitables.{Awaitables, parts}
 use Rattle.aio_cancel.specs.Seen.{Stacked}
 use Rattle.aio_cancel.proofs.PartsLemmas.{appended_on}
 use Rattle.aio_task.proofs.Sizes.{size_wait, wait-marked}
@@ -34,7 +34,7 @@ returns-in-Some-clause-after c =
 
 pub returns-in-Some-clause-queue : goal.returns-in-Some-clause-queue
 returns-in-Some-clause-queue c =
-    (StepInCircle c.args.task c.in-Some.circle ∷ [], ap (λ (b : View). b.queue) c.call_soon.ensures.whole)
+    (StepInCircle c.args.task c.in-Some.circle ∷ [], ap (λ (b : Awaitables). b.queue) c.call_soon.ensures.whole)
 
 pub returns-in-None-clause-after : goal.returns-in-None-clause-after
 returns-in-None-clause-after c =

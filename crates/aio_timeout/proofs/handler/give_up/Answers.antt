@@ -1,6 +1,6 @@
 use Rattle.std.proofs.Common.{◌≡◌, Some, rules, subst}
 use Rattle.aio_timeout.proofs.Handlers.{handle_given_up, timer_given_up}
-use Rattle.aio_timeout.specs.declared.handler.Handler.TheVariants.{Soon, At}
+use Rattle.aio_timeout.specs.declared.handler.TimeoutHandler.TheVariants.{Soon, At}
 use Rattle.aio_timeout.specs.Kept.{IsHandler}
 use Rattle.aio_timeout.proofs.handler.give_up.Goals as goal
 

@@ -3,7 +3,7 @@ use Rattle.model_tree.specs.Syntax.{Statement}
 use Rattle.model_text.specs.Forms.{End}
 use Rattle.aio_program.specs.declared.block.UnendedBlock.{UnendedBlock}
 use Rattle.aio_program.specs.Block.{over, latest}
-use Rattle.aio_program.specs.Body.{Rest, rest, around_all}
+use Rattle.aio_program.specs.Body.{SectionRest, rest, around_all}
 use Rattle.aio_program.proofs.TryLemmas.{nothing_left}
 use Rattle.aio_program.proofs.BlockLemmas.{rest-closes, around-closes, popped, outermost}
 use Rattle.aio_program.proofs.body.OpenBody.with_end.Goals as goal
@@ -20,4 +20,4 @@ returns c = λ lines.
     let so_far = c.args.self.so_far.items in
     let block : UnendedBlock = c.in-Some.block in
     let left = c.pop.new.self.items in
-    ap (λ (s : List Statement). (around_all left (rest s lines)).body) c.in_ok-so_far.ensures ∙ (ap (λ (r : Rest). (around_all left r).body) (sym (around-closes End refl block.outer.items (over block) (latest block) so_far lines)) ∙ popped c.args.self.blocks.items left block (rest so_far (End ∷ lines)) c.in-Some.ensures.items)
+    ap (λ (s : List Statement). (around_all left (rest s lines)).body) c.in_ok-so_far.ensures ∙ (ap (λ (r : SectionRest). (around_all left r).body) (sym (around-closes End refl block.outer.items (over block) (latest block) so_far lines)) ∙ popped c.args.self.blocks.items left block (rest so_far (End ∷ lines)) c.in-Some.ensures.items)

@@ -1,6 +1,6 @@
 use Rattle.std.proofs.Common.{◌≡◌, List, [], ◌∷◌, ◌++◌, sym, ap, ◌∙◌, arith}
 use Rattle.model_tree.specs.Syntax.{statements}
-use Rattle.model_text.specs.Bodies.{Body}
+use Rattle.model_text.specs.Bodies.{SectionBody}
 use Rattle.aio_program.specs.declared.block.UnendedBlock.{UnendedBlock}
 use Rattle.aio_program.specs.Sorted.{plain_begin}
 use Rattle.aio_program.specs.Block.{over, latest}
@@ -26,5 +26,5 @@ returns c = λ lines.
     let block : UnendedBlock = c.in-Some.block in
     let next : UnendedBlock = c.in_ok-with_section.field-0 in
     let left = c.pop.new.self.items in
-    let sections : List Body = over block ++ record { head = latest block; body = statements so_far } ∷ [] in
+    let sections : List SectionBody = over block ++ record { head = latest block; body = statements so_far } ∷ [] in
     pushed left c.push.new.self.items next block.outer.items c.new-so_far.result.items sections begin lines (around block (rest so_far (begin ∷ lines))) c.in_ok-push.ensures.items (ap (λ outer. outer.items) c.in_ok-with_section.ensures.outer) c.in_ok-with_section.ensures.over c.in_ok-with_section.ensures.latest c.new-so_far.ensures.items (sym (around-begins begin role.0 role.1 block.outer.items (over block) (latest block) so_far lines)) ∙ popped c.args.self.blocks.items left block (rest so_far (begin ∷ lines)) c.in-Some.ensures.items

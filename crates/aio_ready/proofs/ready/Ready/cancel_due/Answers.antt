@@ -1,7 +1,7 @@
 -- Those after the bar are marked in the order of the stack, and marks leave names.
 use Rattle.std.proofs.Common.{refl}
 use Rattle.aio_ready.specs.Names.{marked}
-use Rattle.aio_ready.specs.declared.handle.Name.TheVariants.{Timer}
+use Rattle.aio_ready.specs.declared.handle.HandleName.TheVariants.{Timer}
 use Rattle.aio_ready.proofs.Turning.{reverse-map}
 use Rattle.aio_ready.proofs.Untiming.{marks_leave}
 use Rattle.aio_ready.proofs.ready.Ready.cancel_due.Goals as goal

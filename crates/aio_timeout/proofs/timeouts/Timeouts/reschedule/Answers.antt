@@ -1,6 +1,6 @@
 use Rattle.std.proofs.Common.{◌≡◌, ◌<◌, ℕ, true, false, List, Option, Some, None, length, refl, sym, subst, ◌∙◌}
 use Rattle.model_loop.specs.Timeouts.{is_active, reschedule}
-use Rattle.aio_timeout.specs.declared.handler.Handler.{Handler}
+use Rattle.aio_timeout.specs.declared.handler.TimeoutHandler.{TimeoutHandler}
 use Rattle.aio_timeout.specs.declared.timeout.Timeout.{Timeout}
 use Rattle.aio_timeout.specs.States.{refusal, state_of}
 use Rattle.aio_timeout.specs.Kept.{AreTimeouts, KeepsTimeouts, KeptTimeouts, StepsNone, handler_at}
@@ -35,7 +35,7 @@ give_up-requires-clause-steps_none c =
     let within = subst (λ (its : List Timeout). c.args.id < length its) (sym c.self.view_is) c.requires.live in
     let before = subst (λ (its : List Timeout). StepsNone c.args.parts.now.queue (handler_at c.args.id its)) (sym c.self.view_is) c.requires.steps_none in
     c.in_ok-handler.ensures.steps c.index-timeout.result.now.handler
-    (subst (λ (it : Option Handler). StepsNone c.args.parts.now.queue it)
+    (subst (λ (it : Option TimeoutHandler). StepsNone c.args.parts.now.queue it)
     (handler_is items c.args.id c.index-timeout.result.now within c.index-timeout.ensures) before)
 
 pub returns-clause-answer : goal.returns-clause-answer

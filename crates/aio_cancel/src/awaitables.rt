@@ -7,48 +7,48 @@ ghost use Rattle.model_loop.specs.Tasks.{raise_count, mark as mark_task};
 ghost use Rattle.law_parts.specs.Shape.{stands_at, members_at};
 ghost use Rattle.law_parts.specs.Quiet.{asked_of, stage_at};
 ghost use Rattle.aio_ready.specs.Queue.{no_handles};
-ghost use Rattle.aio_cancel.specs.Body.{parts, Appended};
+ghost use Rattle.aio_cancel.specs.Awaitables.{parts, Appended};
 
 use crate::task::Task;
 use aio_base::{Memory, Outcome};
 use aio_future::{FutureId, Futures};
 use aio_ready::Ready;
-use law_parts::Stands;
+use law_parts::FutureState;
 use std::alloc::Global;
 use std::marker::Model;
 
 /// What a request changes. Contracts see the queue, the futures and the tasks.
 #[derive(Drop)]
-pub struct Body {
+pub struct Awaitables {
     pub ready: Ready,
     pub futures: Futures,
     pub tasks: Vec<Task>,
 }
 
-impl Model for Body {
-    ghost use Rattle.aio_cancel.specs.Body.{View};
+impl Model for Awaitables {
+    ghost use Rattle.aio_cancel.specs.Awaitables.{Awaitables};
     ghost use Rattle.aio_cancel.specs.Code.{coded_view};
 
-    ghost Value = { View };
+    ghost Value = { Awaitables };
 
     ghost coded = { coded_view };
 
     ghost view = { λ a. record { queue = a.ready; futures = a.futures; tasks = a.tasks.items } };
 }
 
-impl Body {
-    pub fn new(alloc: Global) -> Result<Body, Memory>
+impl Awaitables {
+    pub fn new(alloc: Global) -> Result<Awaitables, Memory>
         ensures { IfOk result (λ body. body ≡ record { queue = no_handles; futures = []; tasks = [] }) }
     {
         let futures = Futures::new(alloc)?;
-        Ok(Body {
+        Ok(Awaitables {
             ready: Ready::new(),
             futures,
             tasks: Vec::new(alloc),
         })
     }
 
-    pub fn stands(&self, id: FutureId) -> Stands
+    pub fn stands(&self, id: FutureId) -> FutureState
         ensures { result ≡ stands_at (slice_get self.now.futures id) }
     {
         self.futures.stands(id)
@@ -59,10 +59,10 @@ impl Body {
         ensures { result ≡ asked_of (stage_at (parts self.now) id) }
     {
         match self.futures.stands(id) {
-            Stands::Many => Some(self.futures.asked(id)),
-            Stands::Done => None,
-            Stands::Plain => None,
-            Stands::OfTask(_) => None,
+            FutureState::Many => Some(self.futures.asked(id)),
+            FutureState::Done => None,
+            FutureState::Plain => None,
+            FutureState::OfTask(_) => None,
         }
     }
 

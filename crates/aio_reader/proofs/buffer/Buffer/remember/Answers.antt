@@ -1,6 +1,6 @@
 use Rattle.std.proofs.Common.{◌≡◌, length, ◌-◌, ap, ◌∙◌}
 use Rattle.aio_reader.proofs.Searches.{searched_all}
-use Rattle.aio_reader.proofs.held.Held.remember.Goals as goal
+use Rattle.aio_reader.proofs.buffer.Buffer.remember.Goals as goal
 
 pub invariant_of-self-2 : goal.invariant_of-self-2
 invariant_of-self-2 c =

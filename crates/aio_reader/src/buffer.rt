@@ -13,13 +13,13 @@ use std::marker::Model;
 /// It keeps the separator that was sought last, and the place before which that doesn't begin, so that each byte is
 /// searched once as pieces come.
 #[derive(Drop)]
-pub struct Held {
+pub struct Buffer {
     bytes: BytesMut,
     sought: Vec<u8>,
     clear: usize,
 }
 
-impl Model for Held {
+impl Model for Buffer {
     ghost use Rattle.std.specs.Prelude.{List, ℕ};
     ghost use Rattle.aio_reader.specs.Searched.{Searched};
 
@@ -30,11 +30,11 @@ impl Model for Held {
     ghost invariant = { λ held. Searched held.sought.items held.clear held.bytes.items };
 }
 
-impl Held {
-    pub fn new(alloc: Global) -> Held
+impl Buffer {
+    pub fn new(alloc: Global) -> Buffer
         ensures { result ≡ [] }
     {
-        Held {
+        Buffer {
             bytes: BytesMut::new(alloc),
             sought: Vec::new(alloc),
             clear: 0,

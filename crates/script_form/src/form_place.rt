@@ -2,7 +2,7 @@
 
 /// Where a form may stand, as long as nothing is said of nesting.
 #[derive(Clone, Copy)]
-pub enum Standing {
+pub enum FormPlace {
     /// Before all other lines.
     First,
     /// Outside blocks.

@@ -1,7 +1,7 @@
 use Rattle.std.proofs.Common.{sym}
 use Rattle.aio_future.specs.Settled.{called}
 use Rattle.aio_cancel.proofs.PartsLemmas.{settle-parts}
-use Rattle.aio_cancel.proofs.body.Body.settle.Goals as goal
+use Rattle.aio_cancel.proofs.awaitables.Awaitables.settle.Goals as goal
 
 pub returns-clause-after : goal.returns-clause-after
 returns-clause-after c =

@@ -2,7 +2,7 @@
 ghost use Rattle.std.specs.Prelude.{◌≡◌, [], ◌∷◌, ◌++◌};
 ghost use Rattle.aio_ready.specs.Queue.{actions_of};
 
-use crate::handle::{Handle, Name};
+use crate::handle::{Handle, HandleName};
 use crate::stack::Stack;
 use crate::ticket::Ticket;
 use aio_base::Action;
@@ -10,12 +10,12 @@ use std::marker::Model;
 
 /// Callbacks that wait, each in the memory of its ticket. Contracts see what they run, in order.
 #[derive(Drop)]
-pub struct Waiting {
+pub struct Callbacks {
     // the last is on top
     late: Stack,
 }
 
-impl Model for Waiting {
+impl Model for Callbacks {
     ghost use Rattle.std.specs.Prelude.{List, ℕ, reverse};
     ghost use Rattle.model_value.specs.Action.{Action};
     ghost use Rattle.aio_ready.specs.Queue.{actions_of};
@@ -25,19 +25,19 @@ impl Model for Waiting {
     ghost view = { λ a. actions_of (reverse a.late) };
 }
 
-impl Waiting {
+impl Callbacks {
     /// No callbacks.
-    pub fn new() -> Waiting
+    pub fn new() -> Callbacks
         ensures { result ≡ [] }
     {
-        Waiting { late: Stack::new() }
+        Callbacks { late: Stack::new() }
     }
 
     /// A callback after all others.
     pub fn add(&mut self, ticket: Ticket, action: Action)
         ensures { self.new ≡ self.old ++ action ∷ [] }
     {
-        let (name, dead) = (Name::Nameless, false);
+        let (name, dead) = (HandleName::Nameless, false);
         self.late.push(ticket, Handle { name, action, dead });
     }
 

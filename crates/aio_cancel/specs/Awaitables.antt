@@ -6,7 +6,7 @@ use Rattle.model_loop.specs.Parts.{Future, Task, Parts}
 use Rattle.aio_ready.specs.declared.handle.Handle.{Handle}
 use Rattle.aio_ready.specs.Queue.{Queue, soon_all}
 
-pub record View : Type 0 where
+pub record Awaitables : Type 0 where
   pub queue : Queue
   pub futures : List Future
   pub tasks : List Task
@@ -21,7 +21,7 @@ abbrev pub waiting : Queue → List Handle
 waiting q = q.below ++ q.after
 
 -- The parts, whose handles are stamped and named by their places. A request reads neither, and appends handles alone.
-abbrev pub parts : View → Parts
+abbrev pub parts : Awaitables → Parts
 parts v = record {
   time = 0;
   next_stamp = length (waiting v.queue);
