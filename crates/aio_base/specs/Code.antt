@@ -7,7 +7,8 @@ use Rattle.model_value.specs.contracts.kind.Kind.{the_type}
 use Rattle.model_value.specs.declared.kind.Kind.{Kind}
 use Rattle.model_value.specs.declared.kind.Kind.TheVariants.{BaseException}
 use Rattle.model_value.specs.Kinds.{kinds}
-use Rattle.model_value.specs.Value.{Value, Nothing, Truth, Int, Text, Bytes, Items, Fut, Task, Group, Timeout, Conn, Server, Child, Errs, Exception, Values, no_values, value_then, Exc, exc, Excs, no_excs, exc_then}
+use Rattle.model_value.specs.Value.{Value, Nothing, Truth, Int, Text, Bytes, Items, Fut, Task, Group, Timeout, Conn, Server, Child, Errs, Exception, Values}
+use Rattle.model_value.specs.Value.{no_values, value_then, Exc, exc, Excs, no_excs, exc_then}
 
 abbrev truth_code : Bool → Gv
 truth_code false = gnum 0
@@ -72,7 +73,9 @@ bytes_from _ = []
 abbrev by_case : ℕ → Gv → Values → Exc → Value
 by_case number content items fault =
     let id = num content in
-    slice_index_or (Nothing ∷ Truth (truth_from content) ∷ Int (int_from content) ∷ Text (bytes_from content) ∷ Bytes (bytes_from content) ∷ Items items ∷ Fut id ∷ Task id ∷ Group id ∷ Timeout id
+    slice_index_or
+    (Nothing ∷ Truth (truth_from content) ∷ Int (int_from content) ∷ Text (bytes_from content) ∷ Bytes (bytes_from content) ∷ Items items ∷ Fut id ∷ Task id
+    ∷ Group id ∷ Timeout id
     ∷ Conn id ∷ Server id ∷ Child id ∷ Errs id ∷ Exception fault ∷ []) number Nothing
 
 abbrev kind_from : Gv → Kind

@@ -12,7 +12,8 @@ use Rattle.aio_base.specs.declared.exc.Exc.TheDeep.{deep-Exc}
 use Rattle.aio_base.specs.Size.{exc_size, excs_size}
 use Rattle.aio_base.specs.Exc.{exc_of}
 
-pub members_fall : (kind : Kind) (text : Option (RcStr Global)) (bytes : Option (RcSlice ℕ Global)) (members : Option (Rc (List Exc) Global)) → deep-Exc (record { kind = kind; text = text; bytes = bytes; members = members }) ≤ exc_size (exc_of kind text bytes members)
+pub members_fall : (kind : Kind) (text : Option (RcStr Global)) (bytes : Option (RcSlice ℕ Global)) (members : Option (Rc (List Exc) Global))
+    → deep-Exc (record { kind = kind; text = text; bytes = bytes; members = members }) ≤ exc_size (exc_of kind text bytes members)
 members_fall kind text bytes None = omega arith
 members_fall kind text bytes (Some members) = omega arith
 

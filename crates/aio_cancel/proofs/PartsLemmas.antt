@@ -1,5 +1,6 @@
 -- The parts after handles were appended.
-use Rattle.std.proofs.Common.{◌≡◌, ℕ, suc, ◌+◌, List, [], ◌∷◌, ◌++◌, Option, Some, None, length, slice_get, refl, ap, sym, ◌∙◌, arith, append_assoc, length-append, false, ◌<◌}
+use Rattle.std.proofs.Common.{◌≡◌, ℕ, suc, ◌+◌, List, [], ◌∷◌, ◌++◌, Option, Some, None, length, slice_get, refl, ap, sym, ◌∙◌, arith, append_assoc}
+use Rattle.std.proofs.Common.{length-append, false, ◌<◌}
 use Rattle.std.specs.Option.{option_map}
 use Rattle.law_cancel.proofs.Lookups.{get_within}
 use Rattle.model_value.specs.Action.{Action}

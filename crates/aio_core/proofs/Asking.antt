@@ -1,5 +1,6 @@
 -- A turn over the outside's answer: what a call that has none comes to, and a turn that has its answer.
-use Rattle.std.proofs.Common.{◌≡◌, ◌⊎◌, inl, inr, ℕ, Bool, true, false, List, [], ◌∷◌, ◌++◌, None, Result, Ok, Err, ◌∙◌, refl, sym, ap, subst, append_assoc, if◌then◌else◌}
+use Rattle.std.proofs.Common.{◌≡◌, ◌⊎◌, inl, inr, ℕ, Bool, true, false, List, [], ◌∷◌, ◌++◌, None, Result, Ok, Err, ◌∙◌, refl, sym, ap, subst, append_assoc}
+use Rattle.std.proofs.Common.{if◌then◌else◌}
 use Rattle.std.proofs.Math.Logic.{∥∥₁_elim, ∥∥₁_map}
 use Rattle.model_value.specs.Value.{Outcome}
 use Rattle.model_says.specs.Says.{step_limit}
@@ -32,7 +33,8 @@ use Rattle.aio_body.specs.Stands.{Setting, Stands, IsBetween}
 use Rattle.law_body.proofs.Noting.{counted, stands_noted}
 use Rattle.aio_core.specs.declared.went.Went as code
 use Rattle.aio_core.specs.declared.went.Went.TheVariants as went
-use Rattle.aio_core.specs.Turning.{AliveIfWent, ComesTo, EndsTelling, Is, IsAlive, IsAtRest, OfFailing, StallsAs, Stood, Turned, UnlessFailed, all_below, at_bar, resting, stood_by}
+use Rattle.aio_core.specs.Turning.{AliveIfWent, ComesTo, EndsTelling, Is, IsAlive, IsAtRest, OfFailing, StallsAs, Stood, Turned, UnlessFailed, all_below}
+use Rattle.aio_core.specs.Turning.{at_bar, resting, stood_by}
 
 -- ---- the machine
 turn_asks : {S : Type 0} (added : Extra S) (s : State S) → is_stalled added s ≡ false

@@ -25,7 +25,8 @@ use Rattle.aio_drive.specs.declared.driver.Manner.{Manner}
 use Rattle.aio_drive.specs.declared.ending.AfterTurn.TheVariants as next
 use Rattle.aio_drive.specs.declared.halt.Halt.{Halt}
 use Rattle.aio_drive.specs.declared.halt.Halt.TheVariants.{Memory}
-use Rattle.aio_drive.proofs.Driving.{EndsHere, FailsHere, GoesOnHere, IsDriven, ended, ends_early, ends_last, ends_whole, fails, fails_early, fails_whole, goes_early, goes_further, goes_on_here, rose_earlier, turned_on}
+use Rattle.aio_drive.proofs.Driving.{EndsHere, FailsHere, GoesOnHere, IsDriven, ended, ends_early, ends_last, ends_whole, fails, fails_early, fails_whole}
+use Rattle.aio_drive.proofs.Driving.{goes_early, goes_further, goes_on_here, rose_earlier, turned_on}
 use Rattle.aio_drive.proofs.Exits.{alive, ended-quiet, going, of_said, refused}
 use Rattle.aio_drive.proofs.Fronts.{append-nil, took-nil}
 

@@ -1,5 +1,7 @@
 -- Quotients that are rounded down, beside those whose remainder is not negative.
-use Rattle.std.proofs.Common.{rules, ◌≡◌, ◌≢◌, ◌^◌, Bool, true, false, not, nat_lt, Ok, Err, lt-ltb, eqb-true, eq-eqb, FitsSigned, w64, if◌then◌else◌, ◌==◌, int_div, int_rem, ℕ, zero, suc, ◌+◌, ◌-◌, ◌*◌, ◌/◌, ◌%◌, ◌<◌, ◌≤◌, ℤ, pos, negsuc, ◌+ℤ◌, ◌-ℤ◌, ◌*ℤ◌, neg_ℤ, refl, ap, sym, ◌∙◌, subst, lt_of_le_of_lt, div-le_self, arith}
+use Rattle.std.proofs.Common.{rules, ◌≡◌, ◌≢◌, ◌^◌, Bool, true, false, not, nat_lt, Ok, Err, lt-ltb, eqb-true, eq-eqb, FitsSigned, w64, if◌then◌else◌, ◌==◌}
+use Rattle.std.proofs.Common.{int_div, int_rem, ℕ, zero, suc, ◌+◌, ◌-◌, ◌*◌, ◌/◌, ◌%◌, ◌<◌, ◌≤◌, ℤ, pos, negsuc, ◌+ℤ◌, ◌-ℤ◌, ◌*ℤ◌, neg_ℤ, refl, ap, sym, ◌∙◌}
+use Rattle.std.proofs.Common.{subst, lt_of_le_of_lt, div-le_self, arith}
 use Rattle.std.proofs.Math.Nat.{div-eq_of_lt-le, div-add-mod', mod-lt, zero-lt-suc}
 use Rattle.std.proofs.lemmas.Bool.{false≢true}
 use Rattle.std.proofs.lemmas.Int.{quot-rem, ints}

@@ -1,5 +1,6 @@
 -- What joined lists weigh, and how deep they are; when a value is in bounds.
-use Rattle.std.proofs.Common.{◌≡◌, ℕ, ◌+◌, ◌<◌, ◌≤◌, max, Bool, true, false, nat_le, ◌&&◌, if◌then◌else◌, List, [], ◌∷◌, ◌++◌, Ok, Err, refl, ap, ap₂, sym, arith}
+use Rattle.std.proofs.Common.{◌≡◌, ℕ, ◌+◌, ◌<◌, ◌≤◌, max, Bool, true, false, nat_le, ◌&&◌, if◌then◌else◌, List, [], ◌∷◌, ◌++◌, Ok, Err, refl, ap, ap₂, sym}
+use Rattle.std.proofs.Common.{arith}
 use Rattle.std.proofs.lemmas.Bool.{false≢true, lt-leb, le-leb}
 use Rattle.model_value.specs.Value.{Value, values}
 use Rattle.model_value.specs.Weight.{weight_of, items_weight}
@@ -25,7 +26,8 @@ second_no : (a b : Bool) → b ≡ false → (a && b) ≡ false
 second_no true b e = e
 second_no false b e = refl
 
-decided : (test : Bool) (value : Value) (answer : Bool) → test ≡ answer → (if test then Ok value else Err out_of_range) ≡ (if answer then Ok value else Err out_of_range)
+decided : (test : Bool) (value : Value) (answer : Bool) → test ≡ answer → (if test then Ok value else Err out_of_range)
+    ≡ (if answer then Ok value else Err out_of_range)
 decided test value answer e = ap (λ b. if b then Ok value else Err out_of_range) e
 
 pub too_heavy : (value : Value) → heaviest < weight_of value → bounded value ≡ Err out_of_range

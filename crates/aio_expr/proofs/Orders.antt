@@ -1,5 +1,6 @@
 -- Comparisons are orders, where the code's orders are.
-use Rattle.std.proofs.Common.{◌≡◌, ◌⊎◌, inl, inr, Bool, true, false, not, Some, Ok, refl, ap, sym, ◌∙◌, is_lt, is_le, is_gt, is_ge, Ordering, Less, Equal, Greater}
+use Rattle.std.proofs.Common.{◌≡◌, ◌⊎◌, inl, inr, Bool, true, false, not, Some, Ok, refl, ap, sym, ◌∙◌, is_lt, is_le, is_gt, is_ge, Ordering, Less, Equal}
+use Rattle.std.proofs.Common.{Greater}
 use Rattle.std.proofs.lemmas.Bool.{false≢true}
 use Rattle.std.specs.Ordering.{ordering_reverse}
 use Rattle.std.specs.Cmp.{IsTotalOrder}
@@ -37,7 +38,8 @@ not-itself Less e lt = false≢true (ap is_lt (sym e))
 not-itself Equal e lt = false≢true lt
 not-itself Greater e lt = false≢true lt
 
-module _ {A : Type 0} (make : A → Value) (R : A → A → Ordering) (total : IsTotalOrder R) (same : (a b : A) → R a b ≡ Equal → a ≡ b) (is : (a b : A) → order (make a) (make b) ≡ Some (R a b)) where
+module _ {A : Type 0} (make : A → Value) (R : A → A → Ordering) (total : IsTotalOrder R) (same : (a b : A) → R a b ≡ Equal → a ≡ b)
+    (is : (a b : A) → order (make a) (make b) ≡ Some (R a b)) where
   tested : (test : Ordering → Bool) (a b : A) → ordered test (order (make a) (make b)) ≡ Ok (Truth (test (R a b)))
   tested test a b = ap (ordered test) (is a b)
 
@@ -59,6 +61,7 @@ module _ {A : Type 0} (make : A → Value) (R : A → A → Ordering) (total : I
         transitive = λ a b c h g. is_below a c (ap is_lt (total.trans a b c (less-is (R a b) (below a b h)) (less-is (R b c) (below b c g))));
         one_of_three = λ a b. one a b (R a b) refl;
         above = λ a b. tested is_gt a b ∙ ap (λ t. Ok (Truth t)) (mirrored (R a b) ∙ ap is_lt (sym (total.antisymm b a))) ∙ sym (tested is_lt b a);
-        at_most = λ a b. tested is_le a b ∙ ap (λ t. Ok (Truth t)) (le-is (R a b) ∙ ap (λ r. not (is_lt r)) (sym (total.antisymm b a))) ∙ ap (of_one negation) (sym (tested is_lt b a));
+        at_most = λ a b. tested is_le a b ∙ ap (λ t. Ok (Truth t)) (le-is (R a b) ∙ ap (λ r. not (is_lt r)) (sym (total.antisymm b a)))
+            ∙ ap (of_one negation) (sym (tested is_lt b a));
         at_least = λ a b. tested is_ge a b ∙ ap (λ t. Ok (Truth t)) (ge-is (R a b)) ∙ ap (of_one negation) (sym (tested is_lt a b));
       }

@@ -1,5 +1,6 @@
 -- An item by its index, from the place that the index names.
-use Rattle.std.proofs.Common.{◌≡◌, ℕ, suc, ◌-◌, ℤ, pos, negsuc, Bool, true, false, nat_lt, if◌then◌else◌, List, length, reverse, slice_index_or, Some, None, unwrap_or, refl, ap, ap₂, sym, ◌∙◌, arith}
+use Rattle.std.proofs.Common.{◌≡◌, ℕ, suc, ◌-◌, ℤ, pos, negsuc, Bool, true, false, nat_lt, if◌then◌else◌, List, length, reverse, slice_index_or, Some, None}
+use Rattle.std.proofs.Common.{unwrap_or, refl, ap, ap₂, sym, ◌∙◌, arith}
 use Rattle.std.proofs.lemmas.Bool.{ltb-true, ltb-false}
 use Rattle.std.proofs.lemmas.List.{get_or-reverse, length-reverse}
 use Rattle.std.proofs.lemmas.Option.{slice_get-get_or, slice_get_past}
@@ -20,7 +21,8 @@ chosen_none : (test : Bool) (n : ℕ) → (if test then Some n else None) ≡ No
 chosen_none true n e = some-none n e
 chosen_none false n e = refl
 
-pub item_at-some : {A : Type 0} (xs : List A) (z : ℤ) (place : ℕ) (d : A) → place_of (length xs) z ≡ Some place → item_at xs z ≡ Some (slice_index_or xs place d)
+pub item_at-some : {A : Type 0} (xs : List A) (z : ℤ) (place : ℕ) (d : A) → place_of (length xs) z ≡ Some place → item_at xs z
+    ≡ Some (slice_index_or xs place d)
 item_at-some xs (pos index) place d is =
     let found = chosen_some (nat_lt index (length xs)) index place is in
     slice_get-get_or xs index d (ltb-true index (length xs) found.0) ∙ ap (λ p. Some (slice_index_or xs p d)) found.1
@@ -38,6 +40,7 @@ item_at-none xs (negsuc index) is =
     let past = ltb-false index (length xs) (chosen_none (nat_lt index (length xs)) (length xs - suc index) is) in
     slice_get_past (reverse xs) index (omega (arith, past, length-reverse xs))
 
-pub indexed-list : (sequence index : Value) (items : List Value) (z : ℤ) → sequence ≡ Items (values items) → index ≡ Int z → indexed sequence index ≡ found (item_at items z)
+pub indexed-list : (sequence index : Value) (items : List Value) (z : ℤ) → sequence ≡ Items (values items) → index ≡ Int z → indexed sequence index
+    ≡ found (item_at items z)
 indexed-list sequence index items z list_is int_is =
     ap₂ indexed list_is int_is ∙ ap (λ l. found (item_at l z)) (list_of-values items)

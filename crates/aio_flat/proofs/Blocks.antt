@@ -1,7 +1,9 @@
 -- What was laid step by step is a statement.
 use Rattle.std.proofs.Common.{◌≡◌, ℕ, ◌+◌, ◌<◌, List, [], ◌∷◌, ◌++◌, length, Option, Some, None, refl, sym, ◌∙◌, ap, ap₂, subst, arith}
 use Rattle.std.proofs.lemmas.List.{length-set}
-use Rattle.model_tree.specs.Syntax.{Name, Expr, Target, Await, Call, Ask, SpawnTask, CreateTask, ListenAt, Manager, GroupBlock, TimeoutBlock, Statement, Assign, Yield, YieldFrom, Print, Raise, Return, Pass, If, While, Try, With, Statements, Branch, Handlers, Handler, statements, handlers, Program}
+use Rattle.model_tree.specs.Syntax.{Name, Expr, Target, Await, Call, Ask, SpawnTask, CreateTask, ListenAt, Manager, GroupBlock, TimeoutBlock, Statement, Assign}
+use Rattle.model_tree.specs.Syntax.{Yield, YieldFrom, Print, Raise, Return, Pass, If, While, Try, With, Statements, Branch, Handlers, Handler, statements}
+use Rattle.model_tree.specs.Syntax.{handlers, Program}
 use Rattle.law_flat.specs.declared.op.Op.TheVariants as op
 use Rattle.law_flat.specs.Ops.{Op, Clause, Range, CoroutineCode, Has, Covers}
 use Rattle.law_flat.specs.Laid.{target_op, enter_op, exit_op, LaidOne, Laid, LaidAll, LaidBranch, LaidHandlers}

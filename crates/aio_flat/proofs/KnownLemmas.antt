@@ -1,5 +1,6 @@
 -- One name more, in a set and in a list; names of one statement more.
-use Rattle.std.proofs.Common.{◌≡◌, ℕ, suc, zero, ◌<◌, Bool, true, false, cond, ◌||◌, List, [], ◌∷◌, ◌++◌, fold, option_to_list, length, slice_index_or, append_assoc, arith, refl, ap, sym, ◌∙◌}
+use Rattle.std.proofs.Common.{◌≡◌, ℕ, suc, zero, ◌<◌, Bool, true, false, cond, ◌||◌, List, [], ◌∷◌, ◌++◌, fold, option_to_list, length, slice_index_or}
+use Rattle.std.proofs.Common.{append_assoc, arith, refl, ap, sym, ◌∙◌}
 use Rattle.std.specs.Cmp.{decided}
 use Rattle.std.specs.Cmp.Lexicographic.{slice_cmp}
 use Rattle.std.specs.List.{list_any}

@@ -1,5 +1,6 @@
 -- The steps of a group, one by one.
-use Rattle.std.proofs.Common.{◌≡◌, ℕ, ◌<◌, ◌⊎◌, Bool, true, false, not, ◌||◌, ◌&&◌, List, [], ◌∷◌, ◌++◌, Option, Some, None, filter, length, map, slice_get, slice_set, refl, ap, sym, subst, ◌∙◌, inl, inr, arith, append-nil, append_assoc}
+use Rattle.std.proofs.Common.{◌≡◌, ℕ, ◌<◌, ◌⊎◌, Bool, true, false, not, ◌||◌, ◌&&◌, List, [], ◌∷◌, ◌++◌, Option, Some, None, filter, length, map, slice_get}
+use Rattle.std.proofs.Common.{slice_set, refl, ap, sym, subst, ◌∙◌, inl, inr, arith, append-nil, append_assoc}
 use Rattle.std.specs.Prelude.{◌==◌, ◌-◌, is_none, is_some, if◌then◌else◌}
 use Rattle.std.specs.Option.{option_map_or}
 use Rattle.std.proofs.lemmas.Bool.{cases_Bool, cases_eq, eq-eqb, false≢true, ne_eqb}
@@ -10,7 +11,9 @@ use Rattle.model_value.specs.Input.{Input}
 use Rattle.model_value.specs.Value.{Exc, Nothing, Outcome}
 use Rattle.model_loop.specs.Cancel.{Canceller, cancel, cancel_at, cancel_until, cancel_below, cancel_within, has_seen}
 use Rattle.model_loop.specs.Futures.{future_outcome, is_pending_at, is_pending, settle}
-use Rattle.model_loop.specs.Groups.{group_of, set_group, is_empty, failure_in, failure_of, body_failure, only_cancelled, abort, request_parent, wake_if_last, wake_exit, blame, abort_and_request_unless, child_done, take_back, take_back_where, begin_exit, abort_if_raised, hear, keep_and_abort_unless}
+use Rattle.model_loop.specs.Groups.{group_of, set_group, is_empty, failure_in, failure_of, body_failure, only_cancelled, abort, request_parent, wake_if_last}
+use Rattle.model_loop.specs.Groups.{wake_exit, blame, abort_and_request_unless, child_done, take_back, take_back_where, begin_exit, abort_if_raised, hear}
+use Rattle.model_loop.specs.Groups.{keep_and_abort_unless}
 use Rattle.model_loop.specs.Ledger.{Origin, ByAbort, ByGroup, ask_cancel, request_where, request_each, uncancel_by}
 use Rattle.model_loop.specs.Loop.{Group, Loop, book}
 use Rattle.model_loop.specs.Parts.{Future, FutureKind, Task, Parts}

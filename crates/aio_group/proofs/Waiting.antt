@@ -1,5 +1,6 @@
 -- A future that stands for itself alone, and is made before cancels that make none, might as well be made after them.
-use Rattle.std.proofs.Common.{◌≡◌, ℕ, zero, suc, ◌<◌, ◌≤◌, ◌⊎◌, Bool, true, false, not, ◌&&◌, List, [], ◌∷◌, ◌++◌, Option, Some, None, length, map, ◌-◌, slice_get, slice_set, refl, ap, sym, subst, ◌∙◌, inl, inr, arith}
+use Rattle.std.proofs.Common.{◌≡◌, ℕ, zero, suc, ◌<◌, ◌≤◌, ◌⊎◌, Bool, true, false, not, ◌&&◌, List, [], ◌∷◌, ◌++◌, Option, Some, None, length, map, ◌-◌}
+use Rattle.std.proofs.Common.{slice_get, slice_set, refl, ap, sym, subst, ◌∙◌, inl, inr, arith}
 use Rattle.std.specs.Prelude.{◌==◌, is_some, if◌then◌else◌}
 use Rattle.std.proofs.Math.ListN.{length-set}
 use Rattle.std.proofs.lemmas.Bool.{cases_lt, lt-ltb, le-ltb}
@@ -10,9 +11,11 @@ use Rattle.model_value.specs.declared.input.Input.TheVariants.{Send, Throw}
 use Rattle.model_value.specs.declared.outcome.Outcome.TheVariants.{Cancelled}
 use Rattle.model_value.specs.Input.{Input}
 use Rattle.model_value.specs.Value.{Outcome, Exc}
-use Rattle.model_loop.specs.Cancel.{CancelRequest, Canceller, answers, has_seen, cancel_each, asked_where, marked_unless, cancel_waiter, cancel_unseen, cancel_task, cancel_kind, cancel_until, cancel_at, cancel_by, cancel_below, cancel_within, cancel}
+use Rattle.model_loop.specs.Cancel.{CancelRequest, Canceller, answers, has_seen, cancel_each, asked_where, marked_unless, cancel_waiter, cancel_unseen}
+use Rattle.model_loop.specs.Cancel.{cancel_task, cancel_kind, cancel_until, cancel_at, cancel_by, cancel_below, cancel_within, cancel}
 use Rattle.model_loop.specs.Futures.{is_pending_at, is_pending, made_before, mark_asked, new_plain, next_future, settle, settled, settled_as, with_future}
-use Rattle.model_loop.specs.Groups.{group_of, set_group, only_cancelled, abort, abort_where, take_back, take_back_where, begin_exit, abort_if_raised, keep_and_abort_unless}
+use Rattle.model_loop.specs.Groups.{group_of, set_group, only_cancelled, abort, abort_where, take_back, take_back_where, begin_exit, abort_if_raised}
+use Rattle.model_loop.specs.Groups.{keep_and_abort_unless}
 use Rattle.model_loop.specs.Handles.{soon, soon_all}
 use Rattle.model_loop.specs.Ledger.{Origin, ByAbort, ByGroup, Asked, Raised, Booked, raised_among, request_where, request_each, uncancel_by}
 use Rattle.model_loop.specs.Loop.{Group, Loop, in_parts, book}

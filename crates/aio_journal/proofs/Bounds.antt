@@ -12,7 +12,8 @@ use Rattle.model_wire.specs.declared.entry.EntryWord.{EntryWord}
 use Rattle.model_wire.specs.declared.entry.IdLetter.{IdLetter}
 use Rattle.model_wire.specs.declared.entry.IdLetter.TheVariants as letter
 use Rattle.model_wire.specs.declared.entry.EntryToken.TheVariants as token
-use Rattle.model_wire.specs.JournalText.{EntryToken, are_digits, number_token, minus_token, id_token, bytes_or_other, literal_token, word_or_other, token_of, word_token, entry_word_text, entry_words}
+use Rattle.model_wire.specs.JournalText.{EntryToken, are_digits, number_token, minus_token, id_token, bytes_or_other, literal_token, word_or_other, token_of}
+use Rattle.model_wire.specs.JournalText.{word_token, entry_word_text, entry_words}
 use Rattle.aio_journal.specs.Words.{Fits64}
 
 by-if : (b : Bool) (x y : EntryToken) → (b ≡ true → Fits64 x) → (b ≡ false → Fits64 y) → Fits64 (if b then x else y)
@@ -31,7 +32,8 @@ number-fits digits =
 minus-fits : (digits : List ℕ) → Fits64 (minus_token digits)
 minus-fits digits =
     by-if (are_digits digits) _ token.Other
-    (λ a. by-if (nat_le (digits_value digits) (most + 1)) (token.Minus (digits_value digits)) token.TooWide (λ h. le-of (digits_value digits) (most + 1) h) (λ h. tt))
+    (λ a. by-if (nat_le (digits_value digits) (most + 1)) (token.Minus (digits_value digits)) token.TooWide (λ h. le-of (digits_value digits) (most + 1) h)
+    (λ h. tt))
     (λ a. tt)
 
 id-fits : (names : IdLetter) (digits : List ℕ) → Fits64 (id_token names digits)

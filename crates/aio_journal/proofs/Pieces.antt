@@ -1,5 +1,6 @@
 -- The first word of a text, and what follows it.
-use Rattle.std.proofs.Common.{◌≡◌, ℕ, ◌+◌, ◌<◌, ◌≤◌, Bool, true, false, ◌&&◌, List, [], ◌∷◌, length, take, drop, filter, refl, sym, ap, subst, ◌∙◌, arith, add-one, if◌then◌else◌}
+use Rattle.std.proofs.Common.{◌≡◌, ℕ, ◌+◌, ◌<◌, ◌≤◌, Bool, true, false, ◌&&◌, List, [], ◌∷◌, length, take, drop, filter, refl, sym, ap, subst, ◌∙◌, arith}
+use Rattle.std.proofs.Common.{add-one, if◌then◌else◌}
 use Rattle.std.proofs.lemmas.Bool.{and_parts}
 use Rattle.std.proofs.lemmas.List.{length-take}
 use Rattle.std.proofs.lemmas.Bool.Decides.{nat_tests}
@@ -44,7 +45,8 @@ goes-on : (standing : QuoteState) (byte len : ℕ) (bytes : List ℕ) → is_out
     → FirstPiece (standing_after standing byte) bytes len → FirstPiece standing (byte ∷ bytes) (len + 1)
 goes-on standing byte len bytes e f = (
   f.0,
-  ap (λ b. put b byte (pieces_of (standing_after standing byte) bytes)) e ∙ ap (put false byte) f.1 ∙ ap (λ first. first ∷ f.0) (sym (take-next len byte bytes)),
+  ap (λ b. put b byte (pieces_of (standing_after standing byte) bytes)) e ∙ ap (put false byte) f.1
+      ∙ ap (λ first. first ∷ f.0) (sym (take-next len byte bytes)),
   f.2 ∙ ap words_of (sym (drop-next len byte bytes)),
 )
 

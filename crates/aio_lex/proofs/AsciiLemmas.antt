@@ -31,7 +31,8 @@ pub IsAscii-word : (bytes : List ℕ) → IsAscii (take_while is_word bytes)
 IsAscii-word bytes = words_ascii (take_while is_word bytes) (run_of is_word bytes).passes
 
 -- what a text says is UTF-8
-pub IsUtf8-text : (literal : Literal) (column : ℕ) (inside bytes : List ℕ) → literal ≡ OfText → literal_bytes literal column (parts_of inside) ≡ Ok bytes → IsUtf8 bytes
+pub IsUtf8-text : (literal : Literal) (column : ℕ) (inside bytes : List ℕ) → literal ≡ OfText → literal_bytes literal column (parts_of inside) ≡ Ok bytes
+    → IsUtf8 bytes
 IsUtf8-text literal column inside bytes text e =
     let says = Says-literal_bytes OfText column inside bytes (rw text at e) in
     IsUtf8-from_ascii bytes (IsAscii-below bytes (says_small OfText bytes inside says))

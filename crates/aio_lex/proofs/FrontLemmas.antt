@@ -23,7 +23,8 @@ pub first-quote : (rest : List ℕ) → 0 < length rest → get_or rest 0 0 ≡ 
 first-quote [] some e = absurd (omega arith)
 first-quote (byte ∷ bytes) some e = piece_at-quote byte bytes (eq-eqb byte 34 e)
 
-pub first-b : (rest : List ℕ) → 0 < length rest → get_or rest 0 0 ≡ 98 → is_quote (slice_index (drop 1 rest) 0) ≡ true → first_piece rest ≡ literal_at OfBytes (drop 2 rest) (inside_of false (drop 2 rest))
+pub first-b : (rest : List ℕ) → 0 < length rest → get_or rest 0 0 ≡ 98 → is_quote (slice_index (drop 1 rest) 0) ≡ true → first_piece rest
+    ≡ literal_at OfBytes (drop 2 rest) (inside_of false (drop 2 rest))
 first-b [] some e q = absurd (omega arith)
 first-b (byte ∷ bytes) some e q = piece_at-b byte bytes (eq-eqb byte 98 e) q
 
@@ -31,10 +32,12 @@ pub first-digit : (rest : List ℕ) → 0 < length rest → is_ascii_digit (get_
 first-digit [] some d = absurd (omega arith)
 first-digit (byte ∷ bytes) some d = piece_at-digit byte bytes d
 
-pub first-word : (rest : List ℕ) → 0 < length rest → is_word (get_or rest 0 0) ≡ true → is_ascii_digit (get_or rest 0 0) ≡ false → (eqb (get_or rest 0 0) 98 && is_quote (slice_index (drop 1 rest) 0)) ≡ false → first_piece rest ≡ Word (take_while is_word rest)
+pub first-word : (rest : List ℕ) → 0 < length rest → is_word (get_or rest 0 0) ≡ true → is_ascii_digit (get_or rest 0 0) ≡ false
+    → (eqb (get_or rest 0 0) 98 && is_quote (slice_index (drop 1 rest) 0)) ≡ false → first_piece rest ≡ Word (take_while is_word rest)
 first-word [] some w d b = absurd (omega arith)
 first-word (byte ∷ bytes) some w d b = piece_at-word byte bytes w d b
 
-pub first-other : (rest : List ℕ) → 0 < length rest → is_space (get_or rest 0 0) ≡ false → is_hash (get_or rest 0 0) ≡ false → is_quote (get_or rest 0 0) ≡ false → is_word (get_or rest 0 0) ≡ false → first_piece rest ≡ punctuation_at (slice_index rest 0) (symbol_at rest)
+pub first-other : (rest : List ℕ) → 0 < length rest → is_space (get_or rest 0 0) ≡ false → is_hash (get_or rest 0 0) ≡ false → is_quote (get_or rest 0 0)
+    ≡ false → is_word (get_or rest 0 0) ≡ false → first_piece rest ≡ punctuation_at (slice_index rest 0) (symbol_at rest)
 first-other [] some s h q w = absurd (omega arith)
 first-other (byte ∷ bytes) some s h q w = piece_at-other byte bytes s h q w

@@ -1,6 +1,7 @@
 -- What a token is, seen as plain data.
 use Rattle.std.specs.Prelude.{string_bytes}
-use Rattle.model_text.specs.Tokens.{TokenClass as PlainClass, Token as PlainToken, Name as PlainName, Int as PlainInt, Text as PlainText, Bytes as PlainBytes, Symbol as PlainSymbol}
+use Rattle.model_text.specs.Tokens.{TokenClass as PlainClass, Token as PlainToken, Name as PlainName, Int as PlainInt, Text as PlainText, Bytes as PlainBytes}
+use Rattle.model_text.specs.Tokens.{Symbol as PlainSymbol}
 use Rattle.aio_lex.specs.declared.token.TokenClass.{TokenClass}
 use Rattle.aio_lex.specs.declared.token.TokenClass.TheVariants.{Name, Int, Text, Bytes, Symbol}
 use Rattle.aio_lex.specs.declared.token.Content.{Content}

@@ -21,7 +21,8 @@ pub in_front-nothing : (so_far : List Statement) → in_front so_far no_statemen
 in_front-nothing [] = refl
 in_front-nothing (first ∷ more) = ap (statement_then first) (in_front-nothing more)
 
-in_front-then : (so_far : List Statement) (next : Option Statement) (others : Statements) → in_front so_far (then_statements next others) ≡ in_front (so_far ++ option_to_list next) others
+in_front-then : (so_far : List Statement) (next : Option Statement) (others : Statements) → in_front so_far (then_statements next others)
+    ≡ in_front (so_far ++ option_to_list next) others
 in_front-then [] None others = refl
 in_front-then [] (Some next) others = refl
 in_front-then (first ∷ more) next others = ap (statement_then first) (in_front-then more next others)
@@ -30,7 +31,8 @@ in_front-read : (so_far : List Statement) → in_front so_far (statements_in [])
 in_front-read so_far = ap (in_front so_far) read_nothing ∙ in_front-nothing so_far
 
 -- ---- the line stands by itself
-pub rest-stands : (line : Line) → role_of line ≡ Stands → (so_far : List Statement) (lines : List Line) → rest so_far (line ∷ lines) ≡ rest (so_far ++ option_to_list (simple line)) lines
+pub rest-stands : (line : Line) → role_of line ≡ Stands → (so_far : List Statement) (lines : List Line) → rest so_far (line ∷ lines)
+    ≡ rest (so_far ++ option_to_list (simple line)) lines
 unfolding rest
 rest-stands line e so_far lines =
     let cut = cut_from 0 lines in
@@ -43,7 +45,8 @@ pub rest-nothing : (so_far : List Statement) → (rest so_far []).body ≡ state
 unfolding rest
 rest-nothing so_far = in_front-read so_far
 
-pub rest-begins : (line : Line) (section : places.Section) → role_of line ≡ Begins section → (so_far : List Statement) (lines : List Line) → (rest so_far (line ∷ lines)).body ≡ statements so_far
+pub rest-begins : (line : Line) (section : places.Section) → role_of line ≡ Begins section → (so_far : List Statement) (lines : List Line)
+    → (rest so_far (line ∷ lines)).body ≡ statements so_far
 unfolding rest
 rest-begins line section e so_far lines =
     ap (λ (cut : BlockLines). in_front so_far (statements_in cut.body)) (cut_begins line section e lines) ∙ in_front-read so_far
@@ -54,24 +57,36 @@ rest-closes line e so_far lines =
     ap (λ (cut : BlockLines). in_front so_far (statements_in cut.body)) (cut_closes line e lines) ∙ in_front-read so_far
 
 -- ---- a block around the rest
-pub around-nothing : (outer : List Statement) (sections : List SectionBody) (head : Line) (so_far : List Statement) → around_block outer sections head (rest so_far []) ≡ rest (with_block outer (sections ++ record { head = head; body = statements so_far } ∷ [])) []
+pub around-nothing : (outer : List Statement) (sections : List SectionBody) (head : Line) (so_far : List Statement)
+    → around_block outer sections head (rest so_far []) ≡ rest (with_block outer (sections ++ record { head = head; body = statements so_far } ∷ [])) []
 unfolding around_block rest
 around-nothing outer sections head so_far =
     ap (λ (body : Statements). rest (with_block outer (sections ++ record { head = head; body = body } ∷ [])) []) (in_front-read so_far)
 
-pub around-closes : (line : Line) → role_of line ≡ Closes → (outer : List Statement) (sections : List SectionBody) (head : Line) (so_far : List Statement) (lines : List Line) → around_block outer sections head (rest so_far (line ∷ lines)) ≡ rest (with_block outer (sections ++ record { head = head; body = statements so_far } ∷ [])) lines
+pub around-closes : (line : Line) → role_of line ≡ Closes
+    → (outer : List Statement) (sections : List SectionBody) (head : Line) (so_far : List Statement) (lines : List Line)
+    → around_block outer sections head (rest so_far (line ∷ lines))
+    ≡ rest (with_block outer (sections ++ record { head = head; body = statements so_far } ∷ [])) lines
 unfolding around_block rest
 around-closes line e outer sections head so_far lines =
-    ap (λ (cut : BlockLines). around_block outer sections head (rest_of so_far cut)) (cut_closes line e lines) ∙ ap (λ (body : Statements). rest (with_block outer (sections ++ record { head = head; body = body } ∷ [])) lines) (in_front-read so_far)
+    ap (λ (cut : BlockLines). around_block outer sections head (rest_of so_far cut)) (cut_closes line e lines)
+    ∙ ap (λ (body : Statements). rest (with_block outer (sections ++ record { head = head; body = body } ∷ [])) lines) (in_front-read so_far)
 
-pub around-begins : (line : Line) (section : places.Section) → role_of line ≡ Begins section → (outer : List Statement) (sections : List SectionBody) (head : Line) (so_far : List Statement) (lines : List Line) → around_block outer sections head (rest so_far (line ∷ lines)) ≡ around_block outer (sections ++ record { head = head; body = statements so_far } ∷ []) line (rest [] lines)
+pub around-begins : (line : Line) (section : places.Section) → role_of line ≡ Begins section
+    → (outer : List Statement) (sections : List SectionBody) (head : Line) (so_far : List Statement) (lines : List Line)
+    → around_block outer sections head (rest so_far (line ∷ lines))
+    ≡ around_block outer (sections ++ record { head = head; body = statements so_far } ∷ []) line (rest [] lines)
 unfolding around_block rest
 around-begins line section e outer sections head so_far lines =
     let cut = cut_from 0 lines in
     let others : List SectionBody = record { head = line; body = statements_in cut.body } ∷ bodies statements_in cut.sections in
-    ap (λ (cut : BlockLines). around_block outer sections head (rest_of so_far cut)) (cut_begins line section e lines) ∙ (ap (λ (body : Statements). rest (with_block outer (sections ++ record { head = head; body = body } ∷ others)) cut.behind) (in_front-read so_far) ∙ ap (λ (all : List SectionBody). rest (with_block outer all) cut.behind) (sym (append_assoc sections (record { head = head; body = statements so_far } ∷ []) others)))
+    ap (λ (cut : BlockLines). around_block outer sections head (rest_of so_far cut)) (cut_begins line section e lines)
+    ∙ (ap (λ (body : Statements). rest (with_block outer (sections ++ record { head = head; body = body } ∷ others)) cut.behind) (in_front-read so_far)
+    ∙ ap (λ (all : List SectionBody). rest (with_block outer all) cut.behind)
+    (sym (append_assoc sections (record { head = head; body = statements so_far } ∷ []) others)))
 
-pub rest-opens : (line : Line) (b : Block) → role_of line ≡ Opens b → (so_far : List Statement) (lines : List Line) → rest so_far (line ∷ lines) ≡ around_block so_far [] line (rest [] lines)
+pub rest-opens : (line : Line) (b : Block) → role_of line ≡ Opens b → (so_far : List Statement) (lines : List Line) → rest so_far (line ∷ lines)
+    ≡ around_block so_far [] line (rest [] lines)
 unfolding around_block rest
 rest-opens line b e so_far lines =
     let cut = cut_from 0 lines in
@@ -86,7 +101,8 @@ rest-opens line b e so_far lines =
     ap (rest_of so_far) (cut_opens line b e 0 lines) ∙ (λ i. record { body = body i; sections = bodies statements_in (on.sections i); behind = on.behind i })
 
 -- ---- all blocks
-pub around_all-last : (blocks : List UnendedBlock) (last : UnendedBlock) (inner : SectionRest) → around_all (blocks ++ last ∷ []) inner ≡ around_all blocks (around last inner)
+pub around_all-last : (blocks : List UnendedBlock) (last : UnendedBlock) (inner : SectionRest) → around_all (blocks ++ last ∷ []) inner
+    ≡ around_all blocks (around last inner)
 around_all-last [] last inner = refl
 around_all-last (first ∷ blocks) last inner = ap (around first) (around_all-last blocks last inner)
 
@@ -111,14 +127,18 @@ begins begin.Finally = (places.FinallySection, refl)
 
 -- ---- blocks that are pushed and popped
 -- a block at the end, and nothing in its section yet
-pub pushed : (blocks all : List UnendedBlock) (block : UnendedBlock) (outer so_far : List Statement) (sections : List SectionBody) (head : Line) (lines : List Line) (inner : SectionRest) → all ≡ blocks ++ block ∷ [] → block.outer.items ≡ outer → over block ≡ sections → latest block ≡ head → so_far ≡ [] → around_block outer sections head (rest [] lines) ≡ inner → (around_all all (rest so_far lines)).body ≡ (around_all blocks inner).body
+pub pushed : (blocks all : List UnendedBlock) (block : UnendedBlock) (outer so_far : List Statement) (sections : List SectionBody) (head : Line)
+    (lines : List Line) (inner : SectionRest) → all ≡ blocks ++ block ∷ [] → block.outer.items ≡ outer → over block ≡ sections → latest block ≡ head → so_far
+    ≡ [] → around_block outer sections head (rest [] lines) ≡ inner → (around_all all (rest so_far lines)).body ≡ (around_all blocks inner).body
 pushed blocks all block outer so_far sections head lines inner is_all is_outer is_over is_latest is_empty e =
     let here : around block (rest so_far lines) ≡ inner =
     (λ i. around_block (is_outer i) (is_over i) (is_latest i) (rest (is_empty i) lines)) ∙ e in
-    ap (λ (bs : List UnendedBlock). (around_all bs (rest so_far lines)).body) is_all ∙ (ap (λ (r : SectionRest). r.body) (around_all-last blocks block (rest so_far lines)) ∙ ap (λ (r : SectionRest). (around_all blocks r).body) here)
+    ap (λ (bs : List UnendedBlock). (around_all bs (rest so_far lines)).body) is_all
+    ∙ (ap (λ (r : SectionRest). r.body) (around_all-last blocks block (rest so_far lines)) ∙ ap (λ (r : SectionRest). (around_all blocks r).body) here)
 
 -- the last block, taken off
-pub popped : (blocks left : List UnendedBlock) (block : UnendedBlock) (inner : SectionRest) → blocks ≡ left ++ block ∷ [] → (around_all left (around block inner)).body ≡ (around_all blocks inner).body
+pub popped : (blocks left : List UnendedBlock) (block : UnendedBlock) (inner : SectionRest) → blocks ≡ left ++ block ∷ []
+    → (around_all left (around block inner)).body ≡ (around_all blocks inner).body
 popped blocks left block inner e =
     sym (ap (λ (bs : List UnendedBlock). (around_all bs inner).body) e ∙ ap (λ (r : SectionRest). r.body) (around_all-last left block inner))
 
@@ -127,6 +147,7 @@ pub outermost : (blocks : List UnendedBlock) (inner : SectionRest) → blocks �
 outermost blocks inner e = ap (λ (bs : List UnendedBlock). (around_all bs inner).body) e
 
 -- nothing was read yet
-pub nothing_yet : (blocks : List UnendedBlock) (so_far : List Statement) (lines : List Line) → blocks ≡ [] → so_far ≡ [] → (around_all blocks (rest so_far lines)).body ≡ body_in lines
+pub nothing_yet : (blocks : List UnendedBlock) (so_far : List Statement) (lines : List Line) → blocks ≡ [] → so_far ≡ []
+    → (around_all blocks (rest so_far lines)).body ≡ body_in lines
 nothing_yet blocks so_far lines e e' =
     outermost blocks (rest so_far lines) e ∙ (ap (λ (s : List Statement). (rest s lines).body) e' ∙ sym (body_in-rest lines))

@@ -6,16 +6,19 @@ use Rattle.model_text.specs.SecondPass.{Line}
 use Rattle.model_text.specs.Bodies.{SectionLines, BlockLines, with_line, with_section, depth_behind, cut_at, cut_from}
 
 -- ---- a cut by the role of its first line
-by_role : (line : Line) (role : Role) → role_of line ≡ role → (depth : ℕ) (lines : List Line) → cut_from depth (line ∷ lines) ≡ cut_at role depth line lines (cut_from (depth_behind depth role) lines)
+by_role : (line : Line) (role : Role) → role_of line ≡ role → (depth : ℕ) (lines : List Line) → cut_from depth (line ∷ lines)
+    ≡ cut_at role depth line lines (cut_from (depth_behind depth role) lines)
 by_role line role e depth lines = ap (λ r. cut_at r depth line lines (cut_from (depth_behind depth r) lines)) e
 
 pub cut_stands : (line : Line) → role_of line ≡ Stands → (depth : ℕ) (lines : List Line) → cut_from depth (line ∷ lines) ≡ with_line line (cut_from depth lines)
 cut_stands line e depth lines = by_role line Stands e depth lines
 
-pub cut_opens : (line : Line) (block : Block) → role_of line ≡ Opens block → (depth : ℕ) (lines : List Line) → cut_from depth (line ∷ lines) ≡ with_line line (cut_from (suc depth) lines)
+pub cut_opens : (line : Line) (block : Block) → role_of line ≡ Opens block → (depth : ℕ) (lines : List Line) → cut_from depth (line ∷ lines)
+    ≡ with_line line (cut_from (suc depth) lines)
 cut_opens line block e depth lines = by_role line (Opens block) e depth lines
 
-pub cut_begins : (line : Line) (section : places.Section) → role_of line ≡ Begins section → (lines : List Line) → cut_from 0 (line ∷ lines) ≡ with_section line (cut_from 0 lines)
+pub cut_begins : (line : Line) (section : places.Section) → role_of line ≡ Begins section → (lines : List Line) → cut_from 0 (line ∷ lines)
+    ≡ with_section line (cut_from 0 lines)
 cut_begins line section e lines = by_role line (Begins section) e 0 lines
 
 pub cut_closes : (line : Line) → role_of line ≡ Closes → (lines : List Line) → cut_from 0 (line ∷ lines) ≡ record { body = []; sections = []; behind = lines }
@@ -36,7 +39,8 @@ goes_on_at role depth line lines =
 abbrev goes_on_from : (depth : ℕ) (lines : List Line) → Type 0
 goes_on_from depth lines = GoesOnAfter (cut_from (suc depth) lines) (cut_from depth lines) (cut_from depth (cut_from (suc depth) lines).body)
 
-goes_on_by : (role : Role) (depth : ℕ) (line : Line) (lines : List Line) → role_of line ≡ role → ((d : ℕ) → goes_on_from d lines) → goes_on_at role depth line lines
+goes_on_by : (role : Role) (depth : ℕ) (line : Line) (lines : List Line) → role_of line ≡ role → ((d : ℕ) → goes_on_from d lines)
+    → goes_on_at role depth line lines
 goes_on_by (Opens block) depth line lines e below =
     let inner = below (suc depth) in
     record {
@@ -89,7 +93,8 @@ pub record IsWithin (count : ℕ) (lines : List Line) (cut : BlockLines) : Type 
   pub sections : AllWithin count cut.sections
   pub behind : length cut.behind ≤ length lines
 
-within_at : (role : Role) (depth count : ℕ) (line : Line) (lines : List Line) (cut : BlockLines) → length (line ∷ lines) ≤ count → IsWithin count lines cut → IsWithin count (line ∷ lines) (cut_at role depth line lines cut)
+within_at : (role : Role) (depth count : ℕ) (line : Line) (lines : List Line) (cut : BlockLines) → length (line ∷ lines) ≤ count → IsWithin count lines cut
+    → IsWithin count (line ∷ lines) (cut_at role depth line lines cut)
 within_at (Opens block) depth count line lines cut h w =
     let b = w.body in
     let r = w.behind in
@@ -116,4 +121,5 @@ pub is_within : (lines : List Line) (count depth : ℕ) → length lines ≤ cou
 is_within [] count depth h = record { body = omega arith; sections = tt; behind = omega arith }
 is_within (line ∷ lines) count depth h =
     let shorter : length lines ≤ count = omega arith in
-    within_at (role_of line) depth count line lines (cut_from (depth_behind depth (role_of line)) lines) h (is_within lines count (depth_behind depth (role_of line)) shorter)
+    within_at (role_of line) depth count line lines (cut_from (depth_behind depth (role_of line)) lines) h
+    (is_within lines count (depth_behind depth (role_of line)) shorter)

@@ -5,7 +5,8 @@ use Rattle.aio_program.specs.declared.block.OpenTry.{OpenTry}
 use Rattle.aio_program.specs.Target.{plain_branch}
 use Rattle.aio_program.specs.Block.{handlers_before, first_branch, try_with}
 
-pub handlers_before-append : (first : List Handler) (next : Handler) (others : Handlers) → handlers_before (first ++ next ∷ []) others ≡ handlers_before first (handler_then next.kind next.name next.body others)
+pub handlers_before-append : (first : List Handler) (next : Handler) (others : Handlers) → handlers_before (first ++ next ∷ []) others
+    ≡ handlers_before first (handler_then next.kind next.name next.body others)
 handlers_before-append [] next others = refl
 handlers_before-append (h ∷ first) next others = ap (handler_then h.kind h.name h.body) (handlers_before-append first next others)
 

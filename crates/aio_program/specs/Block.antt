@@ -63,4 +63,5 @@ try_with begun others =
 -- the same with a clause between
 abbrev pub try_with_handler : OpenTry → Handler → List SectionBody → Statement
 try_with_handler begun next others =
-    Try (statements begun.body) (handlers_before begun.handlers.items (handler_then next.kind next.name next.body (handlers_in others))) (first_branch (plain_branch begun.finally) (finally_in others))
+    Try (statements begun.body) (handlers_before begun.handlers.items (handler_then next.kind next.name next.body (handlers_in others)))
+    (first_branch (plain_branch begun.finally) (finally_in others))

@@ -13,7 +13,10 @@ use Rattle.model_tree.specs.declared.operator.Comparison.TheVariants.{Equal}
 use Rattle.model_tree.specs.declared.function.Function.TheVariants.{Len}
 use Rattle.model_tree.specs.Known.{requests}
 use Rattle.model_tree.specs.Syntax as plain
-use Rattle.model_tree.specs.Syntax.{Name, NoneConstant, TruthConstant, IntConstant, Expr, Or, And, Not, Compare, Calculate, Negate, Index, Literal, Variable, ListOf, Apply, MakeError, Exprs, no_exprs, expr_then, Target, Await, Call, Ask, SpawnTask, CreateTask, ListenAt, Manager, GroupBlock, TimeoutBlock, Statement, Statements, no_statements, statement_then, Branch, no_branch, branch, Handlers, no_handlers, handler_then, Handler, Coroutine, Program}
+use Rattle.model_tree.specs.Syntax.{Name, NoneConstant, TruthConstant, IntConstant, Expr, Or, And, Not, Compare, Calculate, Negate, Index, Literal, Variable}
+use Rattle.model_tree.specs.Syntax.{ListOf, Apply, MakeError, Exprs, no_exprs, expr_then, Target, Await, Call, Ask, SpawnTask, CreateTask, ListenAt, Manager}
+use Rattle.model_tree.specs.Syntax.{GroupBlock, TimeoutBlock, Statement, Statements, no_statements, statement_then, Branch, no_branch, branch, Handlers}
+use Rattle.model_tree.specs.Syntax.{no_handlers, handler_then, Handler, Coroutine, Program}
 use Rattle.aio_syntax.specs.ExprCode.{coded_expr}
 
 -- ---- what stands in a statement beside its parts
@@ -213,7 +216,8 @@ coroutine_again coroutine =
 
 abbrev pub coded_coroutine : Coded Coroutine
 coded_coroutine =
-    code_by (Name × (List Name × Expr)) (coded× (coded_list coded_ℕ) (coded× (coded_list (coded_list coded_ℕ)) coded_expr)) coroutine_parts coroutine_from coroutine_again
+    code_by (Name × (List Name × Expr))
+    (coded× (coded_list coded_ℕ) (coded× (coded_list (coded_list coded_ℕ)) coded_expr)) coroutine_parts coroutine_from coroutine_again
 
 abbrev program_parts : Program → ℕ × List Coroutine
 program_parts program = (program.profile, program.coroutines)

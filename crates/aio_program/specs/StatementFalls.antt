@@ -27,5 +27,6 @@ case_falls (case.Try body clauses None) = omega (arith, clauses_fall clauses.ite
 case_falls (case.Try body clauses (Some finally)) = omega (arith, clauses_fall clauses.items)
 case_falls _ = omega arith
 
-pub body_falls : (kind : Kind) (name : Option (RcStr Global)) (body : List Statement) → deep-Handler (record { kind = kind; name = name; body = body }) ≤ 1 + statement_list_size body
+pub body_falls : (kind : Kind) (name : Option (RcStr Global)) (body : List Statement)
+    → deep-Handler (record { kind = kind; name = name; body = body }) ≤ 1 + statement_list_size body
 body_falls kind name body = omega arith

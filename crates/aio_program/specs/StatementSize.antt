@@ -1,6 +1,7 @@
 -- How many statements stand inside a statement: what falls in each recursion over statements.
 use Rattle.std.specs.Prelude.{ℕ, ◌+◌, List}
-use Rattle.model_tree.specs.Syntax.{Statement, If, While, Try, With, Statements, no_statements, statement_then, Branch, no_branch, branch, Handlers, no_handlers, handler_then, Handler, statements, handlers}
+use Rattle.model_tree.specs.Syntax.{Statement, If, While, Try, With, Statements, no_statements, statement_then, Branch, no_branch, branch, Handlers}
+use Rattle.model_tree.specs.Syntax.{no_handlers, handler_then, Handler, statements, handlers}
 
 abbrev mutual
   pub statement_size : Statement → ℕ

@@ -1,5 +1,6 @@
 -- Where a separator first begins.
-use Rattle.std.proofs.Common.{◌≡◌, ℕ, zero, suc, ◌+◌, ◌-◌, ◌<◌, ◌≤◌, Bool, true, false, eqb, List, [], ◌∷◌, ◌++◌, Option, Some, None, length, drop, refl, ap, sym, ◌∙◌, arith, inl, inr, ◌⊎◌}
+use Rattle.std.proofs.Common.{◌≡◌, ℕ, zero, suc, ◌+◌, ◌-◌, ◌<◌, ◌≤◌, Bool, true, false, eqb, List, [], ◌∷◌, ◌++◌, Option, Some, None, length, drop, refl, ap}
+use Rattle.std.proofs.Common.{sym, ◌∙◌, arith, inl, inr, ◌⊎◌}
 use Rattle.std.specs.Cmp.Lexicographic.{pointwise}
 use Rattle.std.specs.List.{starts_with}
 use Rattle.std.proofs.lemmas.List.{append-nil, take-append-le, drop-drop, length-drop}
@@ -130,8 +131,11 @@ skip_one separator byte bytes (suc clear) before is other behind =
 skip_by :
     (separator : List ℕ) (byte : ℕ) (bytes more : List ℕ) → first_at separator (byte ∷ bytes) ≡ None
     → (length (byte ∷ bytes) < length separator) ⊎ (length separator ≤ length (byte ∷ bytes)) → 0 < length separator
-    → first_at separator (bytes ++ more) ≡ shifted (length bytes - (length separator - 1)) (first_at separator (drop (length bytes - (length separator - 1)) (bytes ++ more)))
-    → first_at separator (byte ∷ bytes ++ more) ≡ shifted (length (byte ∷ bytes) - (length separator - 1)) (first_at separator (drop (length (byte ∷ bytes) - (length separator - 1)) (byte ∷ bytes ++ more)))
+    → first_at separator (bytes ++ more)
+    ≡ shifted (length bytes - (length separator - 1)) (first_at separator (drop (length bytes - (length separator - 1)) (bytes ++ more)))
+    → first_at separator (byte ∷ bytes ++ more)
+    ≡ shifted (length (byte ∷ bytes) - (length separator - 1))
+    (first_at separator (drop (length (byte ∷ bytes) - (length separator - 1)) (byte ∷ bytes ++ more)))
 skip_by separator byte bytes more nowhere (inl short) some behind =
     skip_none separator (byte ∷ bytes ++ more) (length (byte ∷ bytes) - (length separator - 1)) (omega arith)
 skip_by separator byte bytes more nowhere (inr long) some behind =
@@ -142,7 +146,8 @@ skip_by separator byte bytes more nowhere (inr long) some behind =
 -- A separator that isn't held begins at no place at which it would fit, whatever comes behind.
 not_held :
     (separator bytes more : List ℕ) → 0 < length separator → first_at separator bytes ≡ None
-    → first_at separator (bytes ++ more) ≡ shifted (length bytes - (length separator - 1)) (first_at separator (drop (length bytes - (length separator - 1)) (bytes ++ more)))
+    → first_at separator (bytes ++ more)
+    ≡ shifted (length bytes - (length separator - 1)) (first_at separator (drop (length bytes - (length separator - 1)) (bytes ++ more)))
 not_held separator [] more some nowhere = skip_none separator more (0 - (length separator - 1)) (omega arith)
 not_held separator (byte ∷ bytes) more some nowhere =
     skip_by separator byte bytes more nowhere (cases_lt (length (byte ∷ bytes)) (length separator)) some

@@ -15,7 +15,8 @@ use Rattle.model_wire.specs.Journal.{Entry}
 use Rattle.model_wire.specs.JournalText.{entries_of}
 use Rattle.model_wire.specs.Told.{Agrees, FileFailed, Rose, ShelfSeen, SinkSeen, WireSeen, NoneFailed, took}
 use Rattle.model_wire.specs.Trace.{line}
-use Rattle.model_machine.specs.Program.{Manner, script_refused, script_failed, FileSays, JournalSays, JournalBegins, MayRun, MayRunIf, MayRunScript, MayReplay, MayCheck, checked, not_run}
+use Rattle.model_machine.specs.Program.{Manner, script_refused, script_failed, FileSays, JournalSays, JournalBegins, MayRun, MayRunIf, MayRunScript, MayReplay}
+use Rattle.model_machine.specs.Program.{MayCheck, checked, not_run}
 use Rattle.model_machine.specs.Served.{is_served}
 use Rattle.model_machine.specs.Theorem.{ProgramOutput, MayBegin, WritesWhole}
 use Rattle.aio_memwire.specs.declared.buffers.Buffers.{Buffers}

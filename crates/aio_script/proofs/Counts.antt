@@ -11,7 +11,8 @@ fronted-alike byte other [] (line ∷ others) e = absurd (omega (arith, e))
 fronted-alike byte other (line ∷ lines) [] e = absurd (omega (arith, e))
 fronted-alike byte other (line ∷ lines) (another ∷ others) e = e
 
-kept-alike : (byte : ℕ) (bytes others : List ℕ) → length (lines_of bytes) ≡ length (lines_of others) → (is_end : Bool) → (byte == 10) ≡ is_end → length (lines_of (byte ∷ bytes)) ≡ length (lines_of (byte ∷ others))
+kept-alike : (byte : ℕ) (bytes others : List ℕ) → length (lines_of bytes) ≡ length (lines_of others) → (is_end : Bool) → (byte == 10) ≡ is_end
+    → length (lines_of (byte ∷ bytes)) ≡ length (lines_of (byte ∷ others))
 kept-alike byte bytes others e true is =
     ap (λ test. length (if test then [] ∷ lines_of bytes else fronted byte (lines_of bytes))) is
     ∙ ap suc e
@@ -27,7 +28,9 @@ dropped (byte ∷ bytes) e =
     ap (λ test. length (fronted 13 (if test then [] ∷ lines_of bytes else fronted byte (lines_of bytes)))) e
     ∙ sym (ap (λ test. length (if test then [] ∷ lines_of bytes else fronted byte (lines_of bytes))) e)
 
-by-test : (byte : ℕ) (bytes : List ℕ) → length (lines_of (without_returns bytes)) ≡ length (lines_of bytes) → (returns next : Bool) → (byte == 13) ≡ returns → (slice_index bytes 0 == 10) ≡ next → length (lines_of (if returns && next then without_returns bytes else byte ∷ without_returns bytes)) ≡ length (lines_of (byte ∷ bytes))
+by-test : (byte : ℕ) (bytes : List ℕ) → length (lines_of (without_returns bytes)) ≡ length (lines_of bytes) → (returns next : Bool) → (byte == 13) ≡ returns
+    → (slice_index bytes 0 == 10) ≡ next → length (lines_of (if returns && next then without_returns bytes else byte ∷ without_returns bytes))
+    ≡ length (lines_of (byte ∷ bytes))
 by-test byte bytes alike true true is ends =
     alike ∙ sym (subst (λ (b : ℕ). length (lines_of (b ∷ bytes)) ≡ length (lines_of bytes)) (sym (eqb-true byte 13 is)) (dropped bytes ends))
 by-test byte bytes alike true false is ends = kept-alike byte (without_returns bytes) bytes alike (byte == 10) refl

@@ -24,7 +24,8 @@ unfolding script_of
 not_long text short =
     ap (λ fits. if fits then script_of_lines (text_lines text) else fault_at 1 TooLong) (le-leb (length text) most_bytes short)
 
-pub from_forms : (text : List ℕ) (forms : List (Numbered Spelled)) (last : ℕ) → length text ≤ most_bytes → first_pass (text_lines text) ≡ Ok forms → last ≡ length (lines_of text) + 1 → script_of text ≡ script_of_parts last (parts_of forms)
+pub from_forms : (text : List ℕ) (forms : List (Numbered Spelled)) (last : ℕ) → length text ≤ most_bytes → first_pass (text_lines text) ≡ Ok forms → last
+    ≡ length (lines_of text) + 1 → script_of text ≡ script_of_parts last (parts_of forms)
 from_forms text forms last short passed counted =
     not_long text short
     ∙ ap (script_of_forms (length (text_lines text) + 1)) passed
@@ -38,7 +39,10 @@ again : (parts : List NamedPart) → map (λ part. coroutine (plain_part part)) 
 again [] = refl
 again (part ∷ parts) = ap (λ others. coroutine (plain_part part) ∷ others) (again parts)
 
-pub from_parts : (last profile : ℕ) (parts : ScriptParts (Numbered Spelled)) (named : List NamedPart) (coroutines : List Coroutine) (script : Program) → second_pass last parts.coroutines ≡ Ok (map plain_part named) → profile ≡ profile_in parts.front → coroutines ≡ map (λ part. coroutine (plain_part part)) named → script ≡ record { profile = profile; coroutines = coroutines } → script_of_parts last parts ≡ Ok script
+pub from_parts : (last profile : ℕ) (parts : ScriptParts (Numbered Spelled)) (named : List NamedPart) (coroutines : List Coroutine) (script : Program)
+    → second_pass last parts.coroutines ≡ Ok (map plain_part named) → profile ≡ profile_in parts.front → coroutines
+    ≡ map (λ part. coroutine (plain_part part)) named → script ≡ record { profile = profile; coroutines = coroutines } → script_of_parts last parts
+    ≡ Ok script
 from_parts last profile parts named coroutines script passed of_front all is =
     ap (judged_program (profile_in parts.front)) passed
     ∙ ap Ok (ap₂ (λ (p : ℕ) (cs : List Coroutine). record { profile = p; coroutines = cs }) (sym of_front) (sym (all ∙ again named)) ∙ sym is)

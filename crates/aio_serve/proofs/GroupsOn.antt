@@ -1,5 +1,6 @@
 -- Steps of groups: what they leave, and how what is stood for goes on where groups change.
-use Rattle.std.proofs.Common.{◌≡◌, ℕ, zero, suc, ◌<◌, ◌≤◌, Bool, true, false, not, ◌&&◌, ◌||◌, ◌==◌, List, [], ◌∷◌, ◌++◌, Option, Some, None, filter, length, slice_set, ◌∙◌, refl, sym, ap, subst, arith, if◌then◌else◌}
+use Rattle.std.proofs.Common.{◌≡◌, ℕ, zero, suc, ◌<◌, ◌≤◌, Bool, true, false, not, ◌&&◌, ◌||◌, ◌==◌, List, [], ◌∷◌, ◌++◌, Option, Some, None, filter, length}
+use Rattle.std.proofs.Common.{slice_set, ◌∙◌, refl, sym, ap, subst, arith, if◌then◌else◌}
 use Rattle.std.specs.Prelude.{is_some, slice_index_or}
 use Rattle.model_value.specs.Input.{Input}
 use Rattle.model_value.specs.declared.input.Input.TheVariants.{Send, Throw}
@@ -8,7 +9,9 @@ use Rattle.model_value.specs.Number.{most}
 use Rattle.model_value.specs.Value.{Nothing, Exc}
 use Rattle.model_loop.specs.Children.{HasPlainExit}
 use Rattle.model_loop.specs.Futures.{new_plain, settle}
-use Rattle.model_loop.specs.Groups.{abort, abort_and_request_unless, abort_if_raised, abort_where, begin_exit, blame, child_done, end_exit, exit_begin, exit_woken, failure_of, group_of, hear, keep_and_abort_unless, new_group, request_parent, set_group, take_back, take_back_where, wait_for_children, wait_or_end, wait_or_end_with, wake_exit, wake_if_last, without_child}
+use Rattle.model_loop.specs.Groups.{abort, abort_and_request_unless, abort_if_raised, abort_where, begin_exit, blame, child_done, end_exit, exit_begin}
+use Rattle.model_loop.specs.Groups.{exit_woken, failure_of, group_of, hear, keep_and_abort_unless, new_group, request_parent, set_group, take_back}
+use Rattle.model_loop.specs.Groups.{take_back_where, wait_for_children, wait_or_end, wait_or_end_with, wake_exit, wake_if_last, without_child}
 use Rattle.model_loop.specs.Ledger.{ByAbort, ByGroup, Origin, request, request_each, request_where, uncancel_by}
 use Rattle.model_loop.specs.Loop.{Group, Loop, book, in_parts}
 use Rattle.model_loop.specs.Loop as loop

@@ -13,7 +13,8 @@ use Rattle.model_says.specs.Operations.{out_of_range}
 use Rattle.model_says.specs.Requests.{bad_argument}
 use Rattle.model_machine.specs.Arguments.{as_future, as_awaited, as_task, as_int, as_failure, as_list}
 use Rattle.model_machine.specs.Extra.{Extra}
-use Rattle.model_machine.specs.Replies.{Answers, Raises, reply, given, settles, invalid_state, numbered_if, makes_future, most_ids, is_cancelled_as, result_of, shown_all, serves, woken}
+use Rattle.model_machine.specs.Replies.{Answers, Raises, reply, given, settles, invalid_state, numbered_if, makes_future, most_ids, is_cancelled_as, result_of}
+use Rattle.model_machine.specs.Replies.{shown_all, serves, woken}
 use Rattle.model_machine.specs.State.{State, in_loop, noted, unbooked_in}
 
 -- ---- a future is settled

@@ -11,7 +11,8 @@ use Rattle.model_value.specs.Value.{Value, Nothing, Truth, Timeout as Named, Exc
 use Rattle.model_says.specs.Operations.{out_of_range}
 use Rattle.model_says.specs.Requests.{bad_argument}
 use Rattle.model_loop.specs.Loop.{Loop, TimeoutState, Finished}
-use Rattle.model_loop.specs.Timeouts.{enter_timeout, has_expired, is_active, next_timeout, no_timeout, reschedule, reschedule_fault, reschedule_where, timeout_of}
+use Rattle.model_loop.specs.Timeouts.{enter_timeout, has_expired, is_active, next_timeout, no_timeout, reschedule, reschedule_fault, reschedule_where}
+use Rattle.model_loop.specs.Timeouts.{timeout_of}
 use Rattle.model_machine.specs.Arguments.{as_delay, as_timeout}
 use Rattle.model_machine.specs.Extra.{Extra}
 use Rattle.model_machine.specs.Replies as plain

@@ -1,5 +1,6 @@
 -- A step begins: the task waits no more, the handle of its sleep is given up, and its coroutine is taken out.
-use Rattle.std.proofs.Common.{◌≡◌, ℕ, ◌^◌, ◌<◌, ◌⊎◌, ◌==◌, ◌||◌, Bool, true, false, List, Option, Some, None, length, slice_get, slice_set, length-set, ◌∙◌, refl, sym, ap, subst, inl, inr, arith}
+use Rattle.std.proofs.Common.{◌≡◌, ℕ, ◌^◌, ◌<◌, ◌⊎◌, ◌==◌, ◌||◌, Bool, true, false, List, Option, Some, None, length, slice_get, slice_set, length-set, ◌∙◌}
+use Rattle.std.proofs.Common.{refl, sym, ap, subst, inl, inr, arith}
 use Rattle.std.specs.Option.{option_map_or}
 use Rattle.std.proofs.lemmas.Bool.{cases_eq, ne_eqb, or_cases, eqb-true}
 use Rattle.model_loop.specs.Futures.{is_pending}

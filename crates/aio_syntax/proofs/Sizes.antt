@@ -3,7 +3,8 @@ use Rattle.std.proofs.Common.{◌≡◌, ℕ, zero, suc, ◌<◌, List, [], ◌�
 use Rattle.model_tree.specs.Syntax.{Expr}
 use Rattle.aio_syntax.specs.ExprSize.{expr_size, expr_list_size}
 
-pub expr_size-item : (items : List Expr) (at : ℕ) (item : Expr) → at < length items → item ≡ slice_index_or items at item → expr_size item < expr_list_size items
+pub expr_size-item : (items : List Expr) (at : ℕ) (item : Expr) → at < length items → item ≡ slice_index_or items at item
+    → expr_size item < expr_list_size items
 expr_size-item [] at item inside is = absurd (omega arith)
 expr_size-item (first ∷ items) zero item inside is = omega (arith, ap expr_size is)
 expr_size-item (first ∷ items) (suc at) item inside is = omega (arith, expr_size-item items at item (omega arith) is)

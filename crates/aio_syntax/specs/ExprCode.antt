@@ -17,7 +17,8 @@ use Rattle.model_tree.specs.declared.operator.Comparison.TheVariants as comparis
 use Rattle.model_tree.specs.contracts.function.Function.{the_type as function_type}
 use Rattle.model_tree.specs.declared.function.Function.{Function}
 use Rattle.model_tree.specs.declared.function.Function.TheVariants as function
-use Rattle.model_tree.specs.Syntax.{Constant, NoneConstant, TruthConstant, IntConstant, TextConstant, BytesConstant, Expr, Or, And, Not, Compare, Calculate, Negate, Index, Literal, Variable, ListOf, Apply, MakeError, Exprs, no_exprs, expr_then}
+use Rattle.model_tree.specs.Syntax.{Constant, NoneConstant, TruthConstant, IntConstant, TextConstant, BytesConstant, Expr, Or, And, Not, Compare, Calculate}
+use Rattle.model_tree.specs.Syntax.{Negate, Index, Literal, Variable, ListOf, Apply, MakeError, Exprs, no_exprs, expr_then}
 
 -- ---- what stands in an expression beside its parts
 abbrev bytes_code : List ℕ → Gv
@@ -43,7 +44,9 @@ constant_code (BytesConstant bytes) = gcons (gnum 3) (bytes_code bytes)
 
 abbrev constant_of : ℕ → Gv → Constant
 constant_of number content =
-    slice_index_or (IntConstant (pos (num content)) ∷ IntConstant (negsuc (num content)) ∷ TextConstant (bytes_from content) ∷ BytesConstant (bytes_from content) ∷ []) number NoneConstant
+    slice_index_or
+    (IntConstant (pos (num content)) ∷ IntConstant (negsuc (num content)) ∷ TextConstant (bytes_from content) ∷ BytesConstant (bytes_from content)
+    ∷ []) number NoneConstant
 
 abbrev constant_from : Gv → Constant
 constant_from gnil = NoneConstant
@@ -69,7 +72,8 @@ operator_again _ = refl
 
 abbrev comparison_from : Gv → Comparison
 comparison_from tag =
-    slice_index_or (comparison.Equal ∷ comparison.NotEqual ∷ comparison.Less ∷ comparison.LessOrEqual ∷ comparison.Greater ∷ comparison.GreaterOrEqual ∷ []) (num tag) comparison.Equal
+    slice_index_or (comparison.Equal ∷ comparison.NotEqual ∷ comparison.Less ∷ comparison.LessOrEqual ∷ comparison.Greater ∷ comparison.GreaterOrEqual ∷ [])
+    (num tag) comparison.Equal
 
 comparison_again : (c : Comparison) → comparison_from (gnum (tag_of comparison_type c)) ≡ c
 comparison_again comparison.Equal = refl
@@ -77,7 +81,8 @@ comparison_again _ = refl
 
 abbrev function_from : Gv → Function
 function_from tag =
-    slice_index_or (function.Len ∷ function.Str ∷ function.Bytes ∷ function.Text ∷ function.Kind ∷ function.Message ∷ function.Partial ∷ function.Members ∷ []) (num tag) function.Len
+    slice_index_or (function.Len ∷ function.Str ∷ function.Bytes ∷ function.Text ∷ function.Kind ∷ function.Message ∷ function.Partial ∷ function.Members ∷ [])
+    (num tag) function.Len
 
 function_again : (f : Function) → function_from (gnum (tag_of function_type f)) ≡ f
 function_again function.Len = refl
@@ -116,7 +121,8 @@ abbrev mutual
 
 abbrev by_case : ℕ → Gv → Expr → Expr → Exprs → Expr
 by_case number beside first second row =
-    slice_index_or (Or first second ∷ And first second ∷ Not first ∷ Compare (comparison_from beside) first second ∷ Calculate (operator_from beside) first second
+    slice_index_or
+    (Or first second ∷ And first second ∷ Not first ∷ Compare (comparison_from beside) first second ∷ Calculate (operator_from beside) first second
     ∷ Negate first ∷ Index first second ∷ Literal (constant_from beside) ∷ Variable (bytes_from beside) ∷ ListOf row
     ∷ Apply (function_from beside) first ∷ MakeError (kind_from beside) first ∷ []) number (Literal NoneConstant)
 

@@ -1,5 +1,6 @@
 -- Each call keeps what the type keeps.
-use Rattle.std.proofs.Common.{◌≡◌, ℕ, suc, ◌+◌, ◌<◌, ◌≤◌, ◌⊎◌, Bool, true, false, List, [], ◌∷◌, ◌++◌, Option, Some, None, length, map, filter, cond, slice_get, slice_set, nat_lt, nat_le, refl, ap, sym, subst, ◌∙◌, arith, inl, inr, Result, Ok, Err, IfOk, OnErr, if◌then◌else◌}
+use Rattle.std.proofs.Common.{◌≡◌, ℕ, suc, ◌+◌, ◌<◌, ◌≤◌, ◌⊎◌, Bool, true, false, List, [], ◌∷◌, ◌++◌, Option, Some, None, length, map, filter, cond, slice_get}
+use Rattle.std.proofs.Common.{slice_set, nat_lt, nat_le, refl, ap, sym, subst, ◌∙◌, arith, inl, inr, Result, Ok, Err, IfOk, OnErr, if◌then◌else◌}
 use Rattle.std.specs.Prelude.{◌==◌, ◌&&◌, not}
 use Rattle.std.specs.List.{list_any}
 use Rattle.std.specs.Option.{option_map_or}
@@ -32,7 +33,8 @@ use Rattle.aio_task.specs.View.{View, parts, is_step, steps_as, NamesNoStep}
 use Rattle.aio_task.specs.Kept.{AreSound, IsKept, HasRoom, is_timer, steps_as_timer, steps_later}
 use Rattle.aio_task.proofs.BareLemmas.{make-bare}
 use Rattle.aio_task.proofs.BareSteps.{passes-bare}
-use Rattle.aio_task.proofs.Queues.{or_none, none_or, live, live-pending, live-appended, live-cancelled, live-fallen, any-cancelled, any-fallen, any-soon, waiting-barred}
+use Rattle.aio_task.proofs.Queues.{or_none, none_or, live, live-pending, live-appended, live-cancelled, live-fallen, any-cancelled, any-fallen, any-soon}
+use Rattle.aio_task.proofs.Queues.{waiting-barred}
 
 -- ---- circles are those of the bare parts
 pub bare_no_circle : (p : Parts) → HasNoCircle p → HasNoCircle (bare p)

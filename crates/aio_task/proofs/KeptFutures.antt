@@ -1,5 +1,6 @@
 -- What is done to futures keeps what the type keeps.
-use Rattle.std.proofs.Common.{◌≡◌, ℕ, zero, suc, ◌+◌, ◌<◌, ◌≤◌, ◌⊎◌, Bool, true, false, cond, List, [], ◌∷◌, ◌++◌, Option, Some, None, length, map, slice_get, slice_set, nat_lt, refl, ap, sym, subst, ◌∙◌, arith, inl, inr, Result, Ok, Err, OnOk, OnErr, if◌then◌else◌}
+use Rattle.std.proofs.Common.{◌≡◌, ℕ, zero, suc, ◌+◌, ◌<◌, ◌≤◌, ◌⊎◌, Bool, true, false, cond, List, [], ◌∷◌, ◌++◌, Option, Some, None, length, map, slice_get}
+use Rattle.std.proofs.Common.{slice_set, nat_lt, refl, ap, sym, subst, ◌∙◌, arith, inl, inr, Result, Ok, Err, OnOk, OnErr, if◌then◌else◌}
 use Rattle.std.specs.List.{list_any, count_by}
 use Rattle.std.specs.Option.{option_map, option_map_or}
 use Rattle.model_value.specs.Action.{Action}

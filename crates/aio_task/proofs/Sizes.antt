@@ -1,5 +1,6 @@
 -- How much room a request needs, and how many tasks there are, after what happens to the parts.
-use Rattle.std.proofs.Common.{◌≡◌, ℕ, ◌+◌, ◌≤◌, Bool, true, false, cond, List, [], ◌∷◌, ◌++◌, Option, Some, None, length, slice_get, slice_set, nat_lt, refl, ap, sym, subst, ◌∙◌, arith, Result, Ok, Err, OnOk, OnErr, if◌then◌else◌}
+use Rattle.std.proofs.Common.{◌≡◌, ℕ, ◌+◌, ◌≤◌, Bool, true, false, cond, List, [], ◌∷◌, ◌++◌, Option, Some, None, length, slice_get, slice_set, nat_lt, refl}
+use Rattle.std.proofs.Common.{ap, sym, subst, ◌∙◌, arith, Result, Ok, Err, OnOk, OnErr, if◌then◌else◌}
 use Rattle.std.specs.Option.{option_map_or}
 use Rattle.model_value.specs.Action.{Action, Circle}
 use Rattle.model_value.specs.Input.{Input}

@@ -10,7 +10,8 @@ lines_of-other byte bytes other = let e : eqb byte 10 ≡ false = grind (arith, 
 lines_of-newline : (byte : ℕ) (bytes : List ℕ) → byte ≡ 10 → lines_of (byte ∷ bytes) ≡ [] ∷ lines_of bytes
 lines_of-newline byte bytes same = let e : eqb byte 10 ≡ true = grind (arith, nat_tests) in rw e refl
 
-cut_at : (text : List ℕ) (i : ℕ) → i < length text → ((k : ℕ) → k < i → get_or text k 0 ≡ 10 → ⊥) → get_or text i 0 ≡ 10 → lines_of text ≡ take i text ∷ lines_of (drop (suc i) text)
+cut_at : (text : List ℕ) (i : ℕ) → i < length text → ((k : ℕ) → k < i → get_or text k 0 ≡ 10 → ⊥) → get_or text i 0 ≡ 10 → lines_of text ≡ take i text
+    ∷ lines_of (drop (suc i) text)
 cut_at [] i within before here = absurd (omega arith)
 cut_at (byte ∷ bytes) zero within before here = lines_of-newline byte bytes here
 cut_at (byte ∷ bytes) (suc i) within before here =
@@ -18,7 +19,8 @@ cut_at (byte ∷ bytes) (suc i) within before here =
     ∙ ap (fronted byte) (cut_at bytes i (omega arith) (λ k h. before (suc k) (omega arith)) here)
 
 -- the first newline ends the first line
-pub lines_of-cut : (text : List ℕ) (i : ℕ) → i < length text → ((k : ℕ) → k < i → get_or text k 0 ≡ 10 → ⊥) → get_or text i 0 ≡ 10 → lines_of text ≡ take i text ∷ lines_of (drop (i + 1) text)
+pub lines_of-cut : (text : List ℕ) (i : ℕ) → i < length text → ((k : ℕ) → k < i → get_or text k 0 ≡ 10 → ⊥) → get_or text i 0 ≡ 10 → lines_of text ≡ take i text
+    ∷ lines_of (drop (i + 1) text)
 lines_of-cut text i within before here = rw add-one (cut_at text i within before here)
 
 -- a text with no newline is one line

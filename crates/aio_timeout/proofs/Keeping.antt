@@ -1,5 +1,6 @@
 -- Each call of timeouts keeps the relation to the machine's.
-use Rattle.std.proofs.Common.{◌≡◌, ℕ, zero, suc, ℤ, ◌<◌, ◌≤◌, Bool, true, false, ◌&&◌, List, [], ◌∷◌, ◌++◌, Option, Some, None, length, nat_le, option_map, slice_set, slice_get, slice_index_or, refl, ap, sym, subst, ◌∙◌, arith}
+use Rattle.std.proofs.Common.{◌≡◌, ℕ, zero, suc, ℤ, ◌<◌, ◌≤◌, Bool, true, false, ◌&&◌, List, [], ◌∷◌, ◌++◌, Option, Some, None, length, nat_le, option_map}
+use Rattle.std.proofs.Common.{slice_set, slice_get, slice_index_or, refl, ap, sym, subst, ◌∙◌, arith}
 use Rattle.std.specs.Option.{option_map_or}
 use Rattle.std.proofs.lemmas.Option.{slice_get_within, get_or_from_slice_get}
 use Rattle.model_value.specs.Value.{Exc}
@@ -10,7 +11,8 @@ use Rattle.model_loop.specs.Handles.{deadline}
 use Rattle.model_loop.specs.Cancel.{cancel}
 use Rattle.model_loop.specs.Ledger.{ByTimeout, request}
 use Rattle.model_loop.specs.Tasks.{cancelling, uncancel, future_of, is_cancelled}
-use Rattle.model_loop.specs.Timeouts.{no_timeout, timeout_of, give_up, enter_timeout, reschedule_where, reschedule, is_active, moment, schedule, fire, exit_timeout, has_expired}
+use Rattle.model_loop.specs.Timeouts.{no_timeout, timeout_of, give_up, enter_timeout, reschedule_where, reschedule, is_active, moment, schedule, fire}
+use Rattle.model_loop.specs.Timeouts.{exit_timeout, has_expired}
 use Rattle.aio_task.specs.View.{View, parts}
 use Rattle.aio_task.specs.Keeps.{Ties, Keeps, Kept, Extends, Becomes}
 use Rattle.aio_timeout.specs.declared.handler.TimeoutHandler.{TimeoutHandler}
@@ -24,7 +26,8 @@ use Rattle.law_handles.proofs.Appending.{extends_same, extends_on}
 use Rattle.law_kept.proofs.Calls.{keeps_uncancel, kept_request}
 use Rattle.law_kept.proofs.Telling.{future_of_kept}
 use Rattle.aio_timeout.proofs.Handlers.{give_up_extends, uncancel_extends, StaysKnown, handler_on, handler_given}
-use Rattle.aio_timeout.proofs.Loops.{give_up_after, scheduled_parts, scheduled_timeouts, entered_parts, entered_timeouts, expiring_is, late_parts, late_timeouts, late_answer, early_parts, early_timeouts, early_answer}
+use Rattle.aio_timeout.proofs.Loops.{give_up_after, scheduled_parts, scheduled_timeouts, entered_parts, entered_timeouts, expiring_is, late_parts}
+use Rattle.aio_timeout.proofs.Loops.{late_timeouts, late_answer, early_parts, early_timeouts, early_answer}
 
 count_kept : (t : Ties) (v : View) (p : Parts) (task : ℕ) → Keeps t v p → cancelling (parts v) task ≡ cancelling p task
 count_kept t v p task keeps =

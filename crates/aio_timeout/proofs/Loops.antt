@@ -1,5 +1,6 @@
 -- What the definitions make of the timeouts and of the parts, told apart.
-use Rattle.std.proofs.Common.{◌≡◌, ℕ, ℤ, ◌<◌, Bool, true, false, not, ◌==◌, ◌&&◌, List, [], ◌∷◌, ◌++◌, Option, Some, None, length, map, filter, nat_le, option_map, slice_set, refl, ap, sym, ◌∙◌, arith, if◌then◌else◌}
+use Rattle.std.proofs.Common.{◌≡◌, ℕ, ℤ, ◌<◌, Bool, true, false, not, ◌==◌, ◌&&◌, List, [], ◌∷◌, ◌++◌, Option, Some, None, length, map, filter, nat_le}
+use Rattle.std.proofs.Common.{option_map, slice_set, refl, ap, sym, ◌∙◌, arith, if◌then◌else◌}
 use Rattle.std.specs.Option.{option_map_or}
 use Rattle.std.proofs.lemmas.Bool.{ne_eqb}
 use Rattle.std.proofs.lemmas.List.{map-append, set-set, set_at, get_or-set_same, get_or_push, length_push}
@@ -11,7 +12,8 @@ use Rattle.model_loop.specs.Parts.{Handle, Timer, Parts}
 use Rattle.model_loop.specs.Loop.{TimeoutState, Created, Active, Expiring, Expired, Finished, Timeout, Loop}
 use Rattle.model_loop.specs.Handles.{deadline, soon, later, revoke, cancelled_if}
 use Rattle.model_loop.specs.Tasks.{cancelling, uncancel, is_cancelled}
-use Rattle.model_loop.specs.Timeouts.{no_timeout, timeout_of, give_up, without_handle, fires_at, schedule, make_timeout, enter_timeout, leave_from, exit_timeout}
+use Rattle.model_loop.specs.Timeouts.{no_timeout, timeout_of, give_up, without_handle, fires_at, schedule, make_timeout, enter_timeout, leave_from}
+use Rattle.model_loop.specs.Timeouts.{exit_timeout}
 use Rattle.aio_timeout.specs.States.{is_expiring}
 use Rattle.aio_timeout.specs.Scheduled.{fires_if, tag_if}
 

@@ -31,7 +31,8 @@ pub ReadLeaves-got_of : (max : ℕ) (left : List ℕ) → 1 ≤ max → ReadLeav
 ReadLeaves-got_of max left some =
     got_of_cases (ReadLeaves (telling left) (telling (drop max left))) (take max left)
     (λ none. let empty = none_left max left some none in (λ held is. let same : left ≡ held = cc in sym same ∙ empty, rw (empty, drop-nil max)))
-    (λ given rest new held is. let told : rest ≡ drop max left = sym (new (drop max left) refl) in let same : left ≡ held = cc in sym same ∙ sym (take-append-drop max left) ∙ ap (λ later. take max left ++ later) (sym told))
+    (λ given rest new held is. let told : rest ≡ drop max left = sym (new (drop max left) refl) in let same : left ≡ held = cc in sym same
+    ∙ sym (take-append-drop max left) ∙ ap (λ later. take max left ++ later) (sym told))
 
 -- a read of bytes in memory leaves a shelf as it was
 pub ReadLeavesShelf-got_of : (name : List ℕ) (old new : ShelfSeen) (bytes : List ℕ) → new ≡ old → ReadLeavesShelf name old new (got_of bytes)
@@ -43,4 +44,9 @@ ReadsAt-got_of all from max some =
     let rest = drop from all in
     got_of_cases (ReadsAt (Some all) from) (take max rest)
     (λ none. (all, refl, omega (arith, length-drop from all, ap length (none_left max rest some none))))
-    (λ given. (all, refl, sym (take_min max rest) ∙ ap (λ count. take count rest) (sym (length-take max rest)), omega (arith, length-take max rest, length-drop from all)))
+    (λ given. (
+      all,
+      refl,
+      sym (take_min max rest) ∙ ap (λ count. take count rest) (sym (length-take max rest)),
+      omega (arith, length-take max rest, length-drop from all),
+    ))

@@ -1,5 +1,6 @@
 -- Files in a map beside the files that it stands for.
-use Rattle.std.proofs.Common.{◌≡◌, ◌≢◌, ℕ, Bool, true, false, cond, List, [], ◌∷◌, ◌++◌, Option, Some, None, option_map, unwrap_or, String, Vec, Global, string_bytes, refl, sym, ap, ◌∙◌, true≢false}
+use Rattle.std.proofs.Common.{◌≡◌, ◌≢◌, ℕ, Bool, true, false, cond, List, [], ◌∷◌, ◌++◌, Option, Some, None, option_map, unwrap_or, String, Vec, Global}
+use Rattle.std.proofs.Common.{string_bytes, refl, sym, ap, ◌∙◌, true≢false}
 use Rattle.std.proofs.lemmas.Slice.Eq.{bytes_eq-Decides}
 use Rattle.std.specs.Map.{lookup, set_value}
 use Rattle.std.specs.Str.{bytes_eq}
@@ -39,7 +40,8 @@ files_of-cond : (b : Bool) (written kept : List Entry) (first rest : List (List 
 files_of-cond true written kept first rest here later = here
 files_of-cond false written kept first rest here later = later refl
 
-at_false : (b : Bool) (first : Vec ℕ Global) (rest : Option (Vec ℕ Global)) (old : Vec ℕ Global) → cond b (Some first) rest ≡ Some old → b ≡ false → rest ≡ Some old
+at_false : (b : Bool) (first : Vec ℕ Global) (rest : Option (Vec ℕ Global)) (old : Vec ℕ Global) → cond b (Some first) rest ≡ Some old → b ≡ false → rest
+    ≡ Some old
 at_false true first rest old found other = absurd (true≢false other)
 at_false false first rest old found other = found
 
@@ -63,7 +65,8 @@ files_of-insert_entry (e ∷ es) key bytes =
     files_of-cond (string_eq key e.0) _ _ _ _ refl
     (λ other. ap (λ files. (string_bytes e.0, e.1.items) ∷ files) (files_of-insert_entry es key bytes))
 
-same-cond : (b : Bool) (written kept : List Entry) (files : List (List ℕ × List ℕ)) → (b ≡ true → files_of written ≡ files) → (b ≡ false → files_of kept ≡ files)
+same-cond : (b : Bool) (written kept : List Entry) (files : List (List ℕ × List ℕ)) → (b ≡ true → files_of written ≡ files)
+    → (b ≡ false → files_of kept ≡ files)
     → files_of (cond b written kept) ≡ files
 same-cond true written kept files first later = first refl
 same-cond false written kept files first later = later refl
@@ -75,7 +78,8 @@ files_of-set_value_same name [] old new there same = refl
 files_of-set_value_same name (e ∷ es) old new there same =
     same-cond (has_bytes name e.0) _ _ _
     (λ first. ap (λ bytes. (string_bytes e.0, bytes) ∷ files_of es) (same ∙ sym (ap (λ v. v.items) (at_true (has_bytes name e.0) e.1 _ old there first))))
-    (λ other. ap (λ files. (string_bytes e.0, e.1.items) ∷ files) (files_of-set_value_same name es old new (at_false (has_bytes name e.0) e.1 _ old there other) same))
+    (λ other. ap (λ files. (string_bytes e.0, e.1.items) ∷ files)
+    (files_of-set_value_same name es old new (at_false (has_bytes name e.0) e.1 _ old there other) same))
 
 module _ (name piece : List ℕ) (es after : List Entry) where
   -- what was there, in the words of `held`

@@ -1,5 +1,6 @@
 -- What steps of timeouts and groups leave of the loop.
-use Rattle.std.proofs.Common.{◌≡◌, ℕ, zero, suc, ◌<◌, ◌⊎◌, inl, inr, Bool, true, false, cond, not, ◌&&◌, ◌||◌, ◌==◌, List, [], ◌∷◌, ◌++◌, Option, Some, None, is_some, length, length-set, nat_le, slice_get, slice_set, slice_index_or, refl, sym, ap, subst, ◌∙◌, arith}
+use Rattle.std.proofs.Common.{◌≡◌, ℕ, zero, suc, ◌<◌, ◌⊎◌, inl, inr, Bool, true, false, cond, not, ◌&&◌, ◌||◌, ◌==◌, List, [], ◌∷◌, ◌++◌, Option, Some, None}
+use Rattle.std.proofs.Common.{is_some, length, length-set, nat_le, slice_get, slice_set, slice_index_or, refl, sym, ap, subst, ◌∙◌, arith}
 use Rattle.std.proofs.lemmas.Bool.{cases_eq, eqb-true, false≢true}
 use Rattle.model_value.specs.Action.{Action}
 use Rattle.model_value.specs.Input.{Input}
@@ -10,13 +11,17 @@ use Rattle.model_value.specs.Value.{Value, Nothing, Exc}
 use Rattle.model_loop.specs.Deadlines.{fires, others_as}
 use Rattle.model_loop.specs.Entries.{entries}
 use Rattle.model_loop.specs.Futures.{new_plain, next_future, register}
-use Rattle.model_loop.specs.Groups.{GroupExit, Waits, Passes, Raises, Refusal, abort, abort_and_request_unless, abort_if_raised, abort_where, begin_exit, blame, body_failure, child_done, create, create_unless, end_exit, exit_begin, exit_woken, failure_of, group_of, hear, keep_and_abort_unless, new_group, only_cancelled, raised_of, refusal, set_group, take_back, take_back_where, wait_or_end, wait_or_end_with, wake_exit, wake_if_last, with_child, without_child}
+use Rattle.model_loop.specs.Groups.{GroupExit, Waits, Passes, Raises, Refusal, abort, abort_and_request_unless, abort_if_raised, abort_where, begin_exit, blame}
+use Rattle.model_loop.specs.Groups.{body_failure, child_done, create, create_unless, end_exit, exit_begin, exit_woken, failure_of, group_of, hear}
+use Rattle.model_loop.specs.Groups.{keep_and_abort_unless, new_group, only_cancelled, raised_of, refusal, set_group, take_back, take_back_where, wait_or_end}
+use Rattle.model_loop.specs.Groups.{wait_or_end_with, wake_exit, wake_if_last, with_child, without_child}
 use Rattle.model_loop.specs.Handles.{deadline, later, revoke, soon}
 use Rattle.model_loop.specs.Ledger.{Booked, ByAbort, ByGroup, ByTimeout, ask_cancel, request_each, uncancel_by}
 use Rattle.model_loop.specs.Loop.{TimeoutState, Created, Active, Expiring, Expired, Finished, Timeout, Group, Loop, book, in_parts}
 use Rattle.model_loop.specs.Parts.{Parts, Plain}
 use Rattle.model_loop.specs.Tasks.{cancelling, future_of, next_task, spawn, uncancel}
-use Rattle.model_loop.specs.Timeouts.{exit_timeout, fire, fires_at, give_up, is_active, leave_from, make_timeout, moment, no_timeout, reschedule, reschedule_where, schedule, set_timeout, timeout_of, with_deadline, without_handle}
+use Rattle.model_loop.specs.Timeouts.{exit_timeout, fire, fires_at, give_up, is_active, leave_from, make_timeout, moment, no_timeout, reschedule}
+use Rattle.model_loop.specs.Timeouts.{reschedule_where, schedule, set_timeout, timeout_of, with_deadline, without_handle}
 use Rattle.model_loop.specs.Ways.{is_running}
 use Rattle.model_machine.specs.Sound.{is_open}
 use Rattle.law_told.proofs.Holding.{group_same, group_other}

@@ -1,5 +1,6 @@
 -- What is registered, made and due: what it leaves.
-use Rattle.std.proofs.Common.{◌≡◌, ℕ, zero, suc, ◌+◌, ◌≤◌, ◌<◌, ◌⊎◌, inl, inr, Bool, true, false, cond, not, ◌&&◌, List, [], ◌∷◌, ◌++◌, Option, Some, None, length, slice_get, slice_set, nat_lt, nat_le, filter, refl, sym, ap, subst, ◌∙◌, le_refl, length-append, length-set, arith}
+use Rattle.std.proofs.Common.{◌≡◌, ℕ, zero, suc, ◌+◌, ◌≤◌, ◌<◌, ◌⊎◌, inl, inr, Bool, true, false, cond, not, ◌&&◌, List, [], ◌∷◌, ◌++◌, Option, Some, None}
+use Rattle.std.proofs.Common.{length, slice_get, slice_set, nat_lt, nat_le, filter, refl, sym, ap, subst, ◌∙◌, le_refl, length-append, length-set, arith}
 use Rattle.std.specs.List.{count_by}
 use Rattle.std.specs.Option.{option_map_or}
 use Rattle.std.proofs.lemmas.Bool.{cases_eq, cases_lt, le-leb, le-ltb, lt-leb, lt-ltb, false≢true}
@@ -10,7 +11,8 @@ use Rattle.model_value.specs.declared.action.Action.TheVariants.{MainDone, Step,
 use Rattle.model_value.specs.declared.outcome.Outcome.TheVariants.{Value as Returned}
 use Rattle.model_value.specs.Value.{Value, Outcome}
 use Rattle.model_loop.specs.Entries.{AreTimed, entries, handles_where, timers_where, untimed}
-use Rattle.model_loop.specs.Futures.{future_outcome, outcome_at, is_pending, is_pending_at, make_future, mark_asked, asked_kind, next_future, register, registered, registered_on, with_future}
+use Rattle.model_loop.specs.Futures.{future_outcome, outcome_at, is_pending, is_pending_at, make_future, mark_asked, asked_kind, next_future, register}
+use Rattle.model_loop.specs.Futures.{registered, registered_on, with_future}
 use Rattle.model_loop.specs.Handles.{by_deadline, due, fall_due, placed, soon}
 use Rattle.model_loop.specs.Owning.{is_plain, is_plain_at, is_plain_kind}
 use Rattle.model_loop.specs.Parts.{Future, FutureKind, Plain, OfTask, Many, Handle, Parts, Task, Timer}

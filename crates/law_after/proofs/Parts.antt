@@ -1,5 +1,6 @@
 -- What each change of the parts leaves.
-use Rattle.std.proofs.Common.{◌≡◌, ℕ, zero, suc, ◌+◌, ◌≤◌, ◌<◌, ◌⊎◌, inl, inr, Bool, true, false, cond, not, ◌&&◌, ◌==◌, List, [], ◌∷◌, ◌++◌, Option, Some, None, length, slice_get, slice_set, refl, sym, ap, subst, ◌∙◌, le_refl, length-append, length-set, arith}
+use Rattle.std.proofs.Common.{◌≡◌, ℕ, zero, suc, ◌+◌, ◌≤◌, ◌<◌, ◌⊎◌, inl, inr, Bool, true, false, cond, not, ◌&&◌, ◌==◌, List, [], ◌∷◌, ◌++◌, Option, Some}
+use Rattle.std.proofs.Common.{None, length, slice_get, slice_set, refl, sym, ap, subst, ◌∙◌, le_refl, length-append, length-set, arith}
 use Rattle.std.specs.List.{count_by}
 use Rattle.std.specs.Option.{option_map_or}
 use Rattle.std.proofs.lemmas.Bool.{cases_eq, cases_lt, eq-eqb, ne_eqb, false≢true}
@@ -9,7 +10,8 @@ use Rattle.model_value.specs.Action.{Action}
 use Rattle.model_value.specs.declared.outcome.Outcome.TheVariants.{Value as Returned, Failed, Cancelled}
 use Rattle.model_value.specs.Value.{Value, Nothing, Outcome}
 use Rattle.model_loop.specs.Entries.{entries}
-use Rattle.model_loop.specs.Futures.{future_outcome, outcome_at, is_pending, is_pending_at, make_future, mark_asked, asked_kind, next_future, register, registered, registered_on, settle, settled, settled_as, with_future}
+use Rattle.model_loop.specs.Futures.{future_outcome, outcome_at, is_pending, is_pending_at, make_future, mark_asked, asked_kind, next_future, register}
+use Rattle.model_loop.specs.Futures.{registered, registered_on, settle, settled, settled_as, with_future}
 use Rattle.model_loop.specs.Handles.{later, revoke, soon, soon_all}
 use Rattle.model_loop.specs.Owning.{is_plain, is_plain_at, is_plain_kind}
 use Rattle.model_loop.specs.Parts.{Future, FutureKind, Plain, OfTask, Many, Handle, Parts, Task}

@@ -5,17 +5,21 @@ use Rattle.model_value.specs.declared.request.Request.TheVariants as request
 use Rattle.model_value.specs.Value.{Value, Nothing, Exception, Exc, kind_of}
 use Rattle.model_tree.specs.declared.request_name.RequestName.{RequestName}
 use Rattle.model_tree.specs.declared.request_name.RequestName.TheVariants as named
-use Rattle.model_tree.specs.Syntax.{Name, Expr, Target, Await, Call, Ask, SpawnTask, CreateTask, ListenAt, Statement, Assign, Yield, YieldFrom, Print, Raise, Return, Pass, If, While, Try, With, Statements, no_statements, statement_then, Branch, no_branch, branch, Handlers, no_handlers, handler_then, Program}
+use Rattle.model_tree.specs.Syntax.{Name, Expr, Target, Await, Call, Ask, SpawnTask, CreateTask, ListenAt, Statement, Assign, Yield, YieldFrom, Print, Raise}
+use Rattle.model_tree.specs.Syntax.{Return, Pass, If, While, Try, With, Statements, no_statements, statement_then, Branch, no_branch, branch, Handlers}
+use Rattle.model_tree.specs.Syntax.{no_handlers, handler_then, Program}
 use Rattle.model_says.specs.Operations.{bad_operand}
 use Rattle.model_says.specs.Variables.{Env, held, entered, variables_of}
 use Rattle.model_says.specs.Requests.{requested, place_of, coroutine_at, bad_argument}
 use Rattle.model_says.specs.Tape.{Tape}
 use Rattle.model_says.specs.Endings.{Progress, Ending, Passes, Returned, Raised, Next, then_next, given, valued, all_valued, decided, assign, assign_to, ask}
-use Rattle.model_says.specs.Says.{too_many_frames, raised, handled, finished, back_in, came_back, Calls, managed, exited, to_come, turns, looped, delegated, run, run_all, run_branch, run_handlers, call_within, frame_limit, unbegun, course}
+use Rattle.model_says.specs.Says.{too_many_frames, raised, handled, finished, back_in, came_back, Calls, managed, exited, to_come, turns, looped, delegated}
+use Rattle.model_says.specs.Says.{run, run_all, run_branch, run_handlers, call_within, frame_limit, unbegun, course}
 use Rattle.law_blocks.specs.Given.{AllOf, IsClosed, InTape}
 use Rattle.law_blocks.specs.Opened.{EnteredBlock, opened_after}
 use Rattle.law_blocks.proofs.Values.{InEnv, in_held, in_assigned, in_bound}
-use Rattle.law_blocks.proofs.Nesting.{Clean, Well, IsWell, well_passes, well_returned, well_raised, well_valued, well_all_valued, well_decided, well_if, well_ask, well_exited, well_managed, well_begun, well_routed}
+use Rattle.law_blocks.proofs.Nesting.{Clean, Well, IsWell, well_passes, well_returned, well_raised, well_valued, well_all_valued, well_decided, well_if}
+use Rattle.law_blocks.proofs.Nesting.{well_ask, well_exited, well_managed, well_begun, well_routed}
 
 module _ (P : Value → Type 0) (closed : IsClosed P) where
   well_then : (next : Next) → IsWell P closed next → (blocks : List EnteredBlock) (ending : Ending) → Well P closed blocks ending

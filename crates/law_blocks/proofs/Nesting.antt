@@ -1,5 +1,6 @@
 -- Pieces of a coroutine's body leave the blocks that were open before them, and use what they were given.
-use Rattle.std.proofs.Common.{◌≡◌, ℕ, zero, suc, Bool, true, false, if◌then◌else◌, List, [], ◌∷◌, ◌++◌, Option, Some, None, Result, Ok, Err, refl, sym, ◌∙◌, ap, subst, append_assoc}
+use Rattle.std.proofs.Common.{◌≡◌, ℕ, zero, suc, Bool, true, false, if◌then◌else◌, List, [], ◌∷◌, ◌++◌, Option, Some, None, Result, Ok, Err, refl, sym, ◌∙◌, ap}
+use Rattle.std.proofs.Common.{subst, append_assoc}
 use Rattle.std.proofs.lemmas.List.Sums.{fold-append}
 use Rattle.model_value.specs.Input.{Input}
 use Rattle.model_value.specs.declared.input.Input.TheVariants.{Send, Throw}
@@ -10,7 +11,8 @@ use Rattle.model_tree.specs.Syntax.{Expr, Exprs, Manager, GroupBlock, TimeoutBlo
 use Rattle.model_says.specs.Expressions.{value_of, values_of}
 use Rattle.model_says.specs.Operations.{ValueOrFault, bad_operand}
 use Rattle.model_says.specs.Tape.{Resumed, Tape}
-use Rattle.model_says.specs.Endings.{Saying, Asks, Runaway, Exchange, Progress, Ending, Passes, Returned, Raised, Stopped, Next, routed, given, valued, all_valued, chosen, decided, begun, begun_with, resumed_by, taken, asked_of, ask}
+use Rattle.model_says.specs.Endings.{Saying, Asks, Runaway, Exchange, Progress, Ending, Passes, Returned, Raised, Stopped, Next, routed, given, valued}
+use Rattle.model_says.specs.Endings.{all_valued, chosen, decided, begun, begun_with, resumed_by, taken, asked_of, ask}
 use Rattle.model_says.specs.Says.{exit_of, managed, exited}
 use Rattle.law_blocks.specs.Given.{AllOf, IsClosed, InInput, InTape, InRequest}
 use Rattle.law_blocks.specs.Opened.{EnteredBlock, OfTimeout, OfGroup, opened_with, opened_after, Leaves}

@@ -1,5 +1,6 @@
 -- What an expression gives is of a closed kind where the variables are.
-use Rattle.std.proofs.Common.{ℕ, zero, suc, ◌*◌, ◌+◌, ℤ, pos, negsuc, ◌+ℤ◌, ◌-ℤ◌, ◌*ℤ◌, neg_ℤ, Bool, true, false, not, ◌&&◌, if◌then◌else◌, List, [], ◌∷◌, ◌++◌, map, length, reverse, Option, Some, None, Result, Ok, Err, slice_get, nat_le}
+use Rattle.std.proofs.Common.{ℕ, zero, suc, ◌*◌, ◌+◌, ℤ, pos, negsuc, ◌+ℤ◌, ◌-ℤ◌, ◌*ℤ◌, neg_ℤ, Bool, true, false, not, ◌&&◌, if◌then◌else◌, List, [], ◌∷◌, ◌++◌}
+use Rattle.std.proofs.Common.{map, length, reverse, Option, Some, None, Result, Ok, Err, slice_get, nat_le}
 use Rattle.std.specs.Str.{is_utf8, bytes_eq}
 use Rattle.std.specs.declared.cmp.Ordering.{Ordering}
 use mathlib.Core.List.{reverse_aux}
@@ -14,9 +15,12 @@ use Rattle.model_tree.specs.declared.operator.Comparison.{Comparison}
 use Rattle.model_tree.specs.declared.operator.Comparison.TheVariants as comparison
 use Rattle.model_tree.specs.declared.function.Function.{Function}
 use Rattle.model_tree.specs.declared.function.Function.TheVariants as function
-use Rattle.model_tree.specs.Syntax.{Name, Constant, NoneConstant, TruthConstant, IntConstant, TextConstant, BytesConstant, Expr, Or, And, Not, Compare, Calculate, Negate, Index, Literal, Variable, ListOf, Apply, MakeError, Exprs, no_exprs, expr_then}
+use Rattle.model_tree.specs.Syntax.{Name, Constant, NoneConstant, TruthConstant, IntConstant, TextConstant, BytesConstant, Expr, Or, And, Not, Compare}
+use Rattle.model_tree.specs.Syntax.{Calculate, Negate, Index, Literal, Variable, ListOf, Apply, MakeError, Exprs, no_exprs, expr_then}
 use Rattle.model_says.specs.Expressions.{constant_value, of_one, of_two, either, both, in_order, list_made, value_of, values_of}
-use Rattle.model_says.specs.Operations.{ValueOrFault, bounded, fits, number, truth, negation, divided, repeated_if, repeated, sum, difference, product, quotient, remainder, calculated, negative, order, ordered, compared, item_at, found, byte_value, indexed, decoded, applied, error_made, not_utf8, heaviest, deepest, out_of_range, times, floor_quotient, floor_remainder}
+use Rattle.model_says.specs.Operations.{ValueOrFault, bounded, fits, number, truth, negation, divided, repeated_if, repeated, sum, difference, product}
+use Rattle.model_says.specs.Operations.{quotient, remainder, calculated, negative, order, ordered, compared, item_at, found, byte_value, indexed, decoded}
+use Rattle.model_says.specs.Operations.{applied, error_made, not_utf8, heaviest, deepest, out_of_range, times, floor_quotient, floor_remainder}
 use Rattle.model_says.specs.Variables.{Env, held, assigned, bound}
 use Rattle.law_blocks.specs.Given.{AllOf, IsClosed}
 

@@ -8,7 +8,8 @@ use Rattle.model_loop.specs.Loop.{Loop}
 use Rattle.model_loop.specs.Parts.{Many, Parts, Plain}
 use Rattle.model_loop.specs.Sound.{IsSound}
 use Rattle.model_loop.specs.Tasks.{waiter_of}
-use Rattle.model_machine.specs.Extra.{ExtraCall, ExtraStep, MakesPlain, MakesMany, Settles, Releases, Registers, CallsSoon, CallsLater, Revokes, Cancels, Uncancels, called, made_by, made_by_all}
+use Rattle.model_machine.specs.Extra.{ExtraCall, ExtraStep, MakesPlain, MakesMany, Settles, Releases, Registers, CallsSoon, CallsLater, Revokes, Cancels}
+use Rattle.model_machine.specs.Extra.{Uncancels, called, made_by, made_by_all}
 use Rattle.model_machine.specs.State.{State, generator_of}
 use Rattle.model_machine.specs.Told.{told_in}
 use Rattle.law_extras.specs.Allowed.{AreAllowed, IsAllowed}

@@ -1,5 +1,6 @@
 -- What each operation on the parts leaves.
-use Rattle.std.proofs.Common.{◌≡◌, ℕ, ◌-◌, ◌<◌, ◌≤◌, ◌⊎◌, Bool, true, false, cond, List, [], ◌∷◌, ◌++◌, Option, Some, None, Result, Ok, Err, length, length-append, slice_get, slice_set, length-set, refl, sym, ap, subst, ◌∙◌, inl, inr, arith, if◌then◌else◌}
+use Rattle.std.proofs.Common.{◌≡◌, ℕ, ◌-◌, ◌<◌, ◌≤◌, ◌⊎◌, Bool, true, false, cond, List, [], ◌∷◌, ◌++◌, Option, Some, None, Result, Ok, Err, length}
+use Rattle.std.proofs.Common.{length-append, slice_get, slice_set, length-set, refl, sym, ap, subst, ◌∙◌, inl, inr, arith, if◌then◌else◌}
 use Rattle.std.specs.Prelude.{is_none}
 use Rattle.std.specs.Option.{option_map_or}
 use Rattle.std.proofs.lemmas.Bool.{cases_eq, cases_lt, false≢true, le-ltb, lt-ltb}
@@ -11,13 +12,15 @@ use Rattle.model_value.specs.declared.action.Action.TheVariants.{StepInCircle, W
 use Rattle.model_value.specs.declared.outcome.Outcome.TheVariants.{Value as Returned, Failed, Cancelled}
 use Rattle.model_loop.specs.Cancel.{cancel, has_seen}
 use Rattle.model_loop.specs.Circles.{circle}
-use Rattle.model_loop.specs.Futures.{is_pending, is_pending_at, make_future, new_plain, next_future, outcome_at, register, registered, registered_on, settle, settled, settled_as}
+use Rattle.model_loop.specs.Futures.{is_pending, is_pending_at, make_future, new_plain, next_future, outcome_at, register, registered, registered_on, settle}
+use Rattle.model_loop.specs.Futures.{settled, settled_as}
 use Rattle.model_loop.specs.Handles.{later, revoke, soon, soon_all}
 use Rattle.model_loop.specs.Ledger.{Origin, request}
 use Rattle.model_loop.specs.Owning.{is_plain_at, owner_at, owner_of}
 use Rattle.model_loop.specs.Parts.{Future, FutureKind, Parts, Plain, Task}
 use Rattle.model_loop.specs.Suspend.{cancel_wait, suspend, suspend_unless, wait_on}
-use Rattle.model_loop.specs.Tasks.{begin_step, cancelling, change_task, finish, future_of, is_marked, lives, next_task, one_more, pause, set_waiter, uncancel, unmark, waiter_of}
+use Rattle.model_loop.specs.Tasks.{begin_step, cancelling, change_task, finish, future_of, is_marked, lives, next_task, one_more, pause, set_waiter, uncancel}
+use Rattle.model_loop.specs.Tasks.{unmark, waiter_of}
 use Rattle.model_machine.specs.Sound.{is_main_done}
 use Rattle.law_cancel.proofs.Counting.{change_task-kept, goes-counts}
 use Rattle.law_cancel.proofs.Effects.{change_task-futures, length-change_task, register-tasks, settle-pending, settle-tasks}

@@ -1,5 +1,6 @@
 -- What is stood for goes on through calls of timeouts.
-use Rattle.std.proofs.Common.{◌≡◌, ℕ, ℤ, ◌<◌, ◌≤◌, Bool, true, false, List, Option, Some, None, length, nat_le, option_map, slice_get, if◌then◌else◌, ◌∙◌, refl, sym, ap, subst, inl, arith}
+use Rattle.std.proofs.Common.{◌≡◌, ℕ, ℤ, ◌<◌, ◌≤◌, Bool, true, false, List, Option, Some, None, length, nat_le, option_map, slice_get, if◌then◌else◌, ◌∙◌, refl}
+use Rattle.std.proofs.Common.{sym, ap, subst, inl, arith}
 use Rattle.model_value.specs.Action.{Action}
 use Rattle.model_value.specs.declared.action.Action.TheVariants.{Fires}
 use Rattle.model_value.specs.Number.{most}
@@ -9,7 +10,8 @@ use Rattle.model_loop.specs.Ledger.{ByTimeout}
 use Rattle.model_loop.specs.Loop.{Group, Loop, TimeoutState, Created, Active, Expiring, Expired, Finished}
 use Rattle.model_loop.specs.Parts.{Parts}
 use Rattle.model_loop.specs.Tasks.{future_of, uncancel}
-use Rattle.model_loop.specs.Timeouts.{enter_timeout, exit_timeout, fire, fires_at, give_up, is_active, leave_from, make_timeout, moment, reschedule, reschedule_where, schedule, timeout_of, without_handle}
+use Rattle.model_loop.specs.Timeouts.{enter_timeout, exit_timeout, fire, fires_at, give_up, is_active, leave_from, make_timeout, moment, reschedule}
+use Rattle.model_loop.specs.Timeouts.{reschedule_where, schedule, timeout_of, without_handle}
 use Rattle.model_machine.specs.State.{State, generator_of, with_loop}
 use Rattle.aio_task.specs.View.{View}
 use Rattle.aio_task.specs.Keeps.{Kept}

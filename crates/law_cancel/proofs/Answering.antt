@@ -1,5 +1,6 @@
 -- What a request answers: false exactly where its target is spent, and then it changes nothing.
-use Rattle.std.proofs.Common.{◌≡◌, ℕ, zero, suc, ◌<◌, Bool, true, false, cond, not, ◌&&◌, List, [], ◌∷◌, ◌++◌, Option, Some, None, length, nat_lt, slice_get, refl, ap, sym, ◌∙◌, arith}
+use Rattle.std.proofs.Common.{◌≡◌, ℕ, zero, suc, ◌<◌, Bool, true, false, cond, not, ◌&&◌, List, [], ◌∷◌, ◌++◌, Option, Some, None, length, nat_lt, slice_get}
+use Rattle.std.proofs.Common.{refl, ap, sym, ◌∙◌, arith}
 use Rattle.std.specs.List.{list_all}
 use Rattle.std.proofs.lemmas.Bool.{ltb-true, or_parts}
 use Rattle.model_value.specs.Value.{Outcome}
@@ -7,11 +8,13 @@ use Rattle.model_loop.specs.Parts.{FutureKind, Plain, OfTask, Many, Future, Task
 use Rattle.model_loop.specs.Futures.{made_before}
 use Rattle.model_loop.specs.Tasks.{raise_count}
 use Rattle.model_loop.specs.Spent.{spent_kind, spent_until, spent_by, spent_below, is_spent}
-use Rattle.model_loop.specs.Cancel.{CancelRequest, Canceller, answers, has_seen, cancel_each, asked_where, marked_unless, cancel_waiter, cancel_unseen, cancel_task, cancel_kind, cancel_until, cancel_at, cancel_below, cancel_within, cancel_with}
+use Rattle.model_loop.specs.Cancel.{CancelRequest, Canceller, answers, has_seen, cancel_each, asked_where, marked_unless, cancel_waiter, cancel_unseen}
+use Rattle.model_loop.specs.Cancel.{cancel_task, cancel_kind, cancel_until, cancel_at, cancel_below, cancel_within, cancel_with}
 use Rattle.law_cancel.proofs.Total.{further}
 
 -- ---- spent futures: a greater bound changes nothing
-pub all_same : (f g : ℕ → Bool) (id : ℕ) → ((m : ℕ) → m < id → f m ≡ g m) → (members : List ℕ) → list_all f (made_before id members) ≡ list_all g (made_before id members)
+pub all_same : (f g : ℕ → Bool) (id : ℕ) → ((m : ℕ) → m < id → f m ≡ g m) → (members : List ℕ) → list_all f (made_before id members)
+    ≡ list_all g (made_before id members)
 all_same f g id same [] = refl
 all_same f g id same (m ∷ members) =
     go (nat_lt m id) refl (all_same f g id same members)
@@ -69,7 +72,8 @@ asked_answers false id r = refl
 abbrev Still : Canceller → Type 0
 Still cancel = (id : ℕ) (s : List ℕ) (p : Parts) → (cancel id s p).answer ≡ false → cancel id s p ≡ answers false s p
 
-each_still : (cancel : Canceller) → Still cancel → (ids s : List ℕ) (p : Parts) → (cancel_each cancel ids s p).answer ≡ false → cancel_each cancel ids s p ≡ answers false s p
+each_still : (cancel : Canceller) → Still cancel → (ids s : List ℕ) (p : Parts) → (cancel_each cancel ids s p).answer ≡ false → cancel_each cancel ids s p
+    ≡ answers false s p
 each_still cancel still [] s p h = refl
 each_still cancel still (id ∷ ids) s p h =
     let first = cancel id s p in
@@ -77,11 +81,13 @@ each_still cancel still (id ∷ ids) s p h =
     let on : further first cancel ids ≡ cancel_each cancel ids s p = ap (λ (r : CancelRequest). further r cancel ids) e in
     on ∙ each_still cancel still ids s p (sym (ap (λ (r : CancelRequest). r.answer) on) ∙ h)
 
-asked_still : (answer : Bool) (id : ℕ) (s : List ℕ) (p : Parts) (r : CancelRequest) → r.answer ≡ answer → (r.answer ≡ false → r ≡ answers false s p) → (asked_where answer id r).answer ≡ false → asked_where answer id r ≡ answers false s p
+asked_still : (answer : Bool) (id : ℕ) (s : List ℕ) (p : Parts) (r : CancelRequest) → r.answer ≡ answer → (r.answer ≡ false → r ≡ answers false s p)
+    → (asked_where answer id r).answer ≡ false → asked_where answer id r ≡ answers false s p
 asked_still true id s p r e still h = absurd (cc)
 asked_still false id s p r e still h = still h
 
-kind_still : (member waiter : Canceller) → Still member → (k : FutureKind) (id : ℕ) (s : List ℕ) (p : Parts) → (cancel_kind member waiter k id s p).answer ≡ false → cancel_kind member waiter k id s p ≡ answers false s p
+kind_still : (member waiter : Canceller) → Still member → (k : FutureKind) (id : ℕ) (s : List ℕ) (p : Parts) → (cancel_kind member waiter k id s p).answer
+    ≡ false → cancel_kind member waiter k id s p ≡ answers false s p
 kind_still member waiter still Plain id s p h = absurd (cc)
 kind_still member waiter still (OfTask task) id s p h =
     let t = task_answers waiter (has_seen s task) task s p in absurd (cc)
@@ -89,11 +95,13 @@ kind_still member waiter still (Many members asked) id s p h =
     let r = cancel_each member (made_before id members) s p in
     asked_still r.answer id s p r refl (each_still member still (made_before id members) s p) h
 
-at_still : (member waiter : Canceller) → Still member → (o : Option Future) (id : ℕ) (s : List ℕ) (p : Parts) → (cancel_at member waiter o id s p).answer ≡ false → cancel_at member waiter o id s p ≡ answers false s p
+at_still : (member waiter : Canceller) → Still member → (o : Option Future) (id : ℕ) (s : List ℕ) (p : Parts) → (cancel_at member waiter o id s p).answer
+    ≡ false → cancel_at member waiter o id s p ≡ answers false s p
 at_still member waiter still None id s p h = refl
 at_still member waiter still (Some future) id s p h = until future.outcome future.kind h
   where
-    until : (o : Option Outcome) (k : FutureKind) → (cancel_until member waiter o k id s p).answer ≡ false → cancel_until member waiter o k id s p ≡ answers false s p
+    until : (o : Option Outcome) (k : FutureKind) → (cancel_until member waiter o k id s p).answer ≡ false → cancel_until member waiter o k id s p
+        ≡ answers false s p
     until (Some outcome) k h = refl
     until None k h = kind_still member waiter still k id s p h
 
@@ -109,7 +117,8 @@ with_still id s p h = below_still (suc id) (cancel_within (length p.tasks)) id s
 abbrev AnswersBy : (ℕ → Bool) → Parts → Canceller → Type 0
 AnswersBy spent p cancel = (id : ℕ) (s : List ℕ) → (cancel id s p).answer ≡ not (spent id)
 
-each_answer : (spent : ℕ → Bool) (p : Parts) (cancel : Canceller) → Still cancel → AnswersBy spent p cancel → (ids s : List ℕ) → (cancel_each cancel ids s p).answer ≡ not (list_all spent ids)
+each_answer : (spent : ℕ → Bool) (p : Parts) (cancel : Canceller) → Still cancel → AnswersBy spent p cancel → (ids s : List ℕ)
+    → (cancel_each cancel ids s p).answer ≡ not (list_all spent ids)
 each_answer spent p cancel still by [] s = refl
 each_answer spent p cancel still by (id ∷ ids) s =
     go (spent id) (by id s) (each_answer spent p cancel still by ids s)
@@ -117,11 +126,13 @@ each_answer spent p cancel still by (id ∷ ids) s =
     first : CancelRequest
     first = cancel id s p
 
-    go : (b : Bool) → (cancel id s p).answer ≡ not b → (cancel_each cancel ids s p).answer ≡ not (list_all spent ids) → (further (cancel id s p) cancel ids).answer ≡ not (b && list_all spent ids)
+    go : (b : Bool) → (cancel id s p).answer ≡ not b → (cancel_each cancel ids s p).answer ≡ not (list_all spent ids)
+        → (further (cancel id s p) cancel ids).answer ≡ not (b && list_all spent ids)
     go false e ih = rw e refl
     go true e ih = ap (λ (r : CancelRequest). (further r cancel ids).answer) (still id s p e) ∙ ih
 
-at_answer : (spent : ℕ → Bool) (p : Parts) (member waiter : Canceller) → Still member → AnswersBy spent p member → (o : Option Future) (id : ℕ) (s : List ℕ) → (cancel_at member waiter o id s p).answer ≡ not (spent_by spent o id)
+at_answer : (spent : ℕ → Bool) (p : Parts) (member waiter : Canceller) → Still member → AnswersBy spent p member → (o : Option Future) (id : ℕ) (s : List ℕ)
+    → (cancel_at member waiter o id s p).answer ≡ not (spent_by spent o id)
 at_answer spent p member waiter still by None id s = refl
 at_answer spent p member waiter still by (Some future) id s = until future.outcome future.kind
   where

@@ -1,6 +1,7 @@
 -- No step of the parts makes a circle: a request, an outcome and a callback add no pass, and a wait adds one pass, which
 -- isn't part of a circle where the wait wasn't refused.
-use Rattle.std.proofs.Common.{◌≡◌, ◌≢◌, ℕ, ◌⊎◌, Bool, true, false, cond, ◌||◌, ◌==◌, List, [], ◌∷◌, ◌++◌, Option, Some, None, nat_eq, option_map, slice_get, slice_set, refl, ap, sym, ◌∙◌, inl, inr}
+use Rattle.std.proofs.Common.{◌≡◌, ◌≢◌, ℕ, ◌⊎◌, Bool, true, false, cond, ◌||◌, ◌==◌, List, [], ◌∷◌, ◌++◌, Option, Some, None, nat_eq, option_map, slice_get}
+use Rattle.std.proofs.Common.{slice_set, refl, ap, sym, ◌∙◌, inl, inr}
 use Rattle.std.specs.List.{list_any}
 use Rattle.std.specs.Option.{option_map_or, option_to_list}
 use Rattle.std.proofs.lemmas.Bool.{cases_eq, eqb-true, eq-eqb, or_cases}
@@ -20,7 +21,8 @@ use Rattle.model_loop.specs.Suspend.{wait_on, cancel_wait, suspend_unless, suspe
 use Rattle.model_loop.specs.Owning.{OwnsFutures, own_future, owner_at, owner_in}
 use Rattle.model_loop.specs.Sound.{HasNoCircle}
 use Rattle.law_cancel.proofs.Lookups.{get-set_same, get-set_other, get-set_kept}
-use Rattle.law_cancel.proofs.Effects.{settle-futures, settle-tasks, done_as, mark_asked-futures, mark_asked-tasks, asked_as, register-tasks, change_task-there, change_task-futures}
+use Rattle.law_cancel.proofs.Effects.{settle-futures, settle-tasks, done_as, mark_asked-futures, mark_asked-tasks, asked_as, register-tasks, change_task-there}
+use Rattle.law_cancel.proofs.Effects.{change_task-futures}
 use Rattle.law_cancel.proofs.Counting.{change_task-kept}
 use Rattle.law_cancel.proofs.Reach.{leads_decides}
 use Rattle.law_cancel.proofs.Trace.{Goes, begins, settles, asks, raises, marks, with_row}
@@ -42,7 +44,8 @@ passes_at-same (Some future) x p q same = until future.outcome future.kind
     until (Some outcome) k = refl
     until None k = kind k
 
-pub passes-same : (p q : Parts) (x : ℕ) → passes_at (slice_get q.futures x) x p ≡ passes_at (slice_get p.futures x) x p → ((t : ℕ) → waiter_of q t ≡ waiter_of p t) → passes q x ≡ passes p x
+pub passes-same : (p q : Parts) (x : ℕ) → passes_at (slice_get q.futures x) x p ≡ passes_at (slice_get p.futures x) x p
+    → ((t : ℕ) → waiter_of q t ≡ waiter_of p t) → passes q x ≡ passes p x
 passes-same p q x futures waiters = passes_at-same (slice_get q.futures x) x p q waiters ∙ futures
 
 -- ---- a request
@@ -84,10 +87,13 @@ pub cancel_makes_none : (id : ℕ) (p : Parts) → HasNoCircle p → HasNoCircle
 cancel_makes_none id p none = no_circle_kept p (cancel id p).parts (goes-passes (with_row id [] p)) none
 
 -- ---- callbacks
-pub register-view : {Y : Type 0} (f : Option Future → Y) → ((future : Future) (action : Action) → f (Some (record future { callbacks = future.callbacks ++ action ∷ [] })) ≡ f (Some future)) → (id : ℕ) (action : Action) (p : Parts) (x : ℕ) → f (slice_get (register id action p).futures x) ≡ f (slice_get p.futures x)
+pub register-view : {Y : Type 0} (f : Option Future → Y)
+    → ((future : Future) (action : Action) → f (Some (record future { callbacks = future.callbacks ++ action ∷ [] })) ≡ f (Some future))
+    → (id : ℕ) (action : Action) (p : Parts) (x : ℕ) → f (slice_get (register id action p).futures x) ≡ f (slice_get p.futures x)
 register-view {Y} f same id action p x = at (slice_get p.futures id) refl
   where
-    until : (future : Future) → slice_get p.futures id ≡ Some future → (o : Option Outcome) → f (slice_get (registered_on o id future action p).futures x) ≡ f (slice_get p.futures x)
+    until : (future : Future) → slice_get p.futures id ≡ Some future → (o : Option Outcome) → f (slice_get (registered_on o id future action p).futures x)
+        ≡ f (slice_get p.futures x)
     until future e (Some done) = refl
     until future e None = get-set_kept f p.futures id x future (record future { callbacks = future.callbacks ++ action ∷ [] }) e (same future action)
 
@@ -109,13 +115,16 @@ waiter-other task on other p n = at (slice_get r.tasks task) ∙ ap (λ (ts : Li
     r : Parts
     r = register on (Wakeup task) p
 
-    at : (o : Option Task) → waiter_at (slice_get (option_map_or (λ (t : Task). record r { tasks = slice_set r.tasks task (with_waiter on t) }) o r).tasks other) ≡ waiter_of r other
+    at : (o : Option Task)
+        → waiter_at (slice_get (option_map_or (λ (t : Task). record r { tasks = slice_set r.tasks task (with_waiter on t) }) o r).tasks other)
+        ≡ waiter_of r other
     at None = refl
     at (Some t) = ap waiter_at (get-set_other r.tasks task other (with_waiter on t) n)
 
 waiter-same : (task on : ℕ) (p : Parts) (it : Task) → slice_get p.tasks task ≡ Some it → waiter_of (wait_on task on p) task ≡ Some on
 waiter-same task on p it e =
-    ap (λ (q : Parts). waiter_of q task) (change_task-there task (with_waiter on) r it there) ∙ ap waiter_at (get-set_same r.tasks task it (with_waiter on it) there)
+    ap (λ (q : Parts). waiter_of q task) (change_task-there task (with_waiter on) r it there)
+    ∙ ap waiter_at (get-set_same r.tasks task it (with_waiter on it) there)
   where
     r : Parts
     r = register on (Wakeup task) p
@@ -154,7 +163,8 @@ edge_of task on p owns x y h =
     Hit : List ℕ → Type 0
     Hit xs = list_any (λ n. n == y) xs ≡ true
 
-    mine : (future : Future) → slice_get p.futures x ≡ Some future → future.kind ≡ OfTask task → Hit (option_to_list (waiter_of (wait_on task on p) task)) → Edge task on p x y
+    mine : (future : Future) → slice_get p.futures x ≡ Some future → future.kind ≡ OfTask task → Hit (option_to_list (waiter_of (wait_on task on p) task))
+        → Edge task on p x y
     mine future e k hit =
         let own = owned p owns x task future e k in
         let last : (nat_eq on y || false) ≡ true = ap (λ o. list_any (λ n. n == y) (option_to_list o)) (sym (waiter-same task on p own.0 own.1)) ∙ hit in
@@ -167,18 +177,22 @@ edge_of task on p owns x y h =
             elim_or (inl e) = eqb-true on y e
             elim_or (inr e) = absurd (cc)
 
-    of_task : (future : Future) (other : ℕ) → slice_get p.futures x ≡ Some future → future.outcome ≡ None → future.kind ≡ OfTask other → (task ≡ other) ⊎ (task ≡ other → ⊥) → Hit (option_to_list (waiter_of (wait_on task on p) other)) → Edge task on p x y
-    of_task future other e o k (inl same) hit = mine future e (k ∙ ap OfTask (sym same)) (ap (λ t. list_any (λ n. n == y) (option_to_list (waiter_of (wait_on task on p) t))) same ∙ hit)
+    of_task : (future : Future) (other : ℕ) → slice_get p.futures x ≡ Some future → future.outcome ≡ None → future.kind ≡ OfTask other
+        → (task ≡ other) ⊎ (task ≡ other → ⊥) → Hit (option_to_list (waiter_of (wait_on task on p) other)) → Edge task on p x y
+    of_task future other e o k (inl same) hit = mine future e (k ∙ ap OfTask (sym same))
+        (ap (λ t. list_any (λ n. n == y) (option_to_list (waiter_of (wait_on task on p) t))) same ∙ hit)
     of_task future other e o k (inr n) hit =
         let old : Hit (option_to_list (waiter_of p other)) = ap (λ w. list_any (λ n. n == y) (option_to_list w)) (sym (waiter-other task on other p n)) ∙ hit in
         inl (ap (λ f. list_any (λ n. n == y) (passes_at f x p)) e ∙ rw (o, k) old)
 
-    kind : (future : Future) → slice_get p.futures x ≡ Some future → future.outcome ≡ None → (k : FutureKind) → future.kind ≡ k → Hit (passes_of_kind k x (wait_on task on p)) → Edge task on p x y
+    kind : (future : Future) → slice_get p.futures x ≡ Some future → future.outcome ≡ None → (k : FutureKind) → future.kind ≡ k
+        → Hit (passes_of_kind k x (wait_on task on p)) → Edge task on p x y
     kind future e o Plain k hit = absurd (cc)
     kind future e o (OfTask other) k hit = of_task future other e o k (cases_eq task other) hit
     kind future e o (Many members asked) k hit = inl (ap (λ f. list_any (λ n. n == y) (passes_at f x p)) e ∙ rw (o, k) hit)
 
-    until : (future : Future) → slice_get p.futures x ≡ Some future → (o : Option Outcome) → future.outcome ≡ o → Hit (passes_until o future.kind x (wait_on task on p)) → Edge task on p x y
+    until : (future : Future) → slice_get p.futures x ≡ Some future → (o : Option Outcome) → future.outcome ≡ o
+        → Hit (passes_until o future.kind x (wait_on task on p)) → Edge task on p x y
     until future e (Some outcome) o hit = absurd (cc)
     until future e None o hit = kind future e o future.kind refl hit
 
@@ -268,5 +282,6 @@ suspend_makes_none task on p owns none = at (circle p task on) refl
         elim asked.answer as (λ b. HasNoCircle (cond b (unmark task asked.parts) asked.parts)) [ true ↦ no_circle_kept asked.parts (unmark task asked.parts) (unmark-passes task asked.parts) k | false ↦ k ]
 
     at : (o : Option Circle) → circle p task on ≡ o → HasNoCircle (suspend_unless o task on p).parts
-    at (Some why) e = no_circle_kept p (soon (StepInCircle task why) p) (λ x. passes_at-same (slice_get p.futures x) x p (soon (StepInCircle task why) p) (λ t. refl)) none
+    at (Some why) e = no_circle_kept p (soon (StepInCircle task why) p)
+        (λ x. passes_at-same (slice_get p.futures x) x p (soon (StepInCircle task why) p) (λ t. refl)) none
     at None e = marked (is_marked p task) (wait_makes_none task on p owns (allowed p task on e) none)

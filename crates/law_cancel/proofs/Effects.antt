@@ -21,10 +21,12 @@ abbrev pub done_as : Outcome → Future → Future
 done_as outcome future = record future { outcome = Some outcome; callbacks = [] }
 
 -- a pending future is settled
-pub settle-pending : (id : ℕ) (outcome : Outcome) (p : Parts) (future : Future) → slice_get p.futures id ≡ Some future → future.outcome ≡ None → settle id outcome p ≡ soon_all future.callbacks (with_future id (done_as outcome future) p)
+pub settle-pending : (id : ℕ) (outcome : Outcome) (p : Parts) (future : Future) → slice_get p.futures id ≡ Some future → future.outcome ≡ None
+    → settle id outcome p ≡ soon_all future.callbacks (with_future id (done_as outcome future) p)
 settle-pending id outcome p future e o = ap (λ f. settled f id outcome p) e ∙ ap (λ x. settled_as x id future outcome p) o
 
-pub settle-futures : (id : ℕ) (outcome : Outcome) (p : Parts) (future : Future) → slice_get p.futures id ≡ Some future → future.outcome ≡ None → (settle id outcome p).futures ≡ slice_set p.futures id (done_as outcome future)
+pub settle-futures : (id : ℕ) (outcome : Outcome) (p : Parts) (future : Future) → slice_get p.futures id ≡ Some future → future.outcome ≡ None
+    → (settle id outcome p).futures ≡ slice_set p.futures id (done_as outcome future)
 settle-futures id outcome p future e o = ap (λ (q : Parts). q.futures) (settle-pending id outcome p future e o) ∙ soon_all-futures future.callbacks _
 
 pub settle-tasks : (id : ℕ) (outcome : Outcome) (p : Parts) → (settle id outcome p).tasks ≡ p.tasks
@@ -41,7 +43,8 @@ settle-tasks id outcome p = at (slice_get p.futures id)
 abbrev pub asked_as : Future → Future
 asked_as future = record future { kind = asked_kind future.kind }
 
-pub mark_asked-futures : (id : ℕ) (p : Parts) (future : Future) → slice_get p.futures id ≡ Some future → (mark_asked id p).futures ≡ slice_set p.futures id (asked_as future)
+pub mark_asked-futures : (id : ℕ) (p : Parts) (future : Future) → slice_get p.futures id ≡ Some future → (mark_asked id p).futures
+    ≡ slice_set p.futures id (asked_as future)
 mark_asked-futures id p future e =
     ap (λ (o : Option Future). (option_map_or (λ (f : Future). with_future id (asked_as f) p) o p).futures) e
 
@@ -53,7 +56,8 @@ mark_asked-tasks id p = at (slice_get p.futures id)
     at (Some future) = refl
 
 -- a change of a task that is there
-pub change_task-there : (id : ℕ) (change : Task → Task) (p : Parts) (task : Task) → slice_get p.tasks id ≡ Some task → change_task id change p ≡ record p { tasks = slice_set p.tasks id (change task) }
+pub change_task-there : (id : ℕ) (change : Task → Task) (p : Parts) (task : Task) → slice_get p.tasks id ≡ Some task → change_task id change p
+    ≡ record p { tasks = slice_set p.tasks id (change task) }
 change_task-there id change p task e =
     ap (λ (o : Option Task). option_map_or (λ (t : Task). record p { tasks = slice_set p.tasks id (change t) }) o p) e
 

@@ -1,5 +1,6 @@
 -- Reads of a list after a write to it.
-use Rattle.std.proofs.Common.{◌≡◌, ◌≢◌, ℕ, zero, suc, ◌<◌, ◌⊎◌, List, [], ◌∷◌, ◌++◌, Option, Some, length, slice_get, slice_set, refl, ap, sym, ◌∙◌, arith, inl, inr}
+use Rattle.std.proofs.Common.{◌≡◌, ◌≢◌, ℕ, zero, suc, ◌<◌, ◌⊎◌, List, [], ◌∷◌, ◌++◌, Option, Some, length, slice_get, slice_set, refl, ap, sym, ◌∙◌, arith, inl}
+use Rattle.std.proofs.Common.{inr}
 use Rattle.std.proofs.lemmas.Bool.{cases_eq}
 
 pub get-set_same : {X : Type 0} (xs : List X) (i : ℕ) (old new : X) → slice_get xs i ≡ Some old → slice_get (slice_set xs i new) i ≡ Some new
@@ -15,7 +16,8 @@ get-set_other (x ∷ xs) (suc i) zero new n = refl
 get-set_other (x ∷ xs) (suc i) (suc j) new n = get-set_other xs i j new (λ e. n (ap suc e))
 
 -- what a function makes of each element is the same after a write that it doesn't see
-pub get-set_kept : {X Y : Type 0} (f : Option X → Y) (xs : List X) (i j : ℕ) (old new : X) → slice_get xs i ≡ Some old → f (Some new) ≡ f (Some old) → f (slice_get (slice_set xs i new) j) ≡ f (slice_get xs j)
+pub get-set_kept : {X Y : Type 0} (f : Option X → Y) (xs : List X) (i j : ℕ) (old new : X) → slice_get xs i ≡ Some old → f (Some new) ≡ f (Some old)
+    → f (slice_get (slice_set xs i new) j) ≡ f (slice_get xs j)
 get-set_kept f xs i j old new e same = go (cases_eq i j)
   where
     go : (i ≡ j) ⊎ (i ≡ j → ⊥) → f (slice_get (slice_set xs i new) j) ≡ f (slice_get xs j)

@@ -1,12 +1,15 @@
 -- The function that cancels does what the rows say, and nothing else meets them.
-use Rattle.std.proofs.Common.{◌≡◌, ℕ, zero, suc, ◌<◌, ◌≤◌, Bool, true, false, cond, ◌||◌, List, [], ◌∷◌, ◌++◌, Option, Some, None, is_none, length, nat_lt, slice_get, subst, refl, ap, sym, ◌∙◌, arith}
+use Rattle.std.proofs.Common.{◌≡◌, ℕ, zero, suc, ◌<◌, ◌≤◌, Bool, true, false, cond, ◌||◌, List, [], ◌∷◌, ◌++◌, Option, Some, None, is_none, length, nat_lt}
+use Rattle.std.proofs.Common.{slice_get, subst, refl, ap, sym, ◌∙◌, arith}
 use Rattle.std.proofs.lemmas.Bool.{ltb-true}
 use Rattle.model_value.specs.Value.{Outcome}
 use Rattle.model_loop.specs.Parts.{FutureKind, Plain, OfTask, Many, Future, Task, Parts}
 use Rattle.model_loop.specs.Futures.{is_pending_at, is_pending, made_before}
 use Rattle.model_loop.specs.Tasks.{raise_count}
-use Rattle.model_loop.specs.Cancel.{CancelRequest, Canceller, answers, has_seen, cancel_each, asked_where, marked_unless, cancel_waiter, cancel_unseen, cancel_task, cancel_kind, cancel_until, cancel_at, cancel_by, cancel_below, cancel_within, cancel_with}
-use Rattle.model_loop.specs.Cancelling.{IsPendingAs, Cancels, done, plain, many, visited, task, no_task, CancelsEach, none, each, CancelsWaiter, waits_not, waits}
+use Rattle.model_loop.specs.Cancel.{CancelRequest, Canceller, answers, has_seen, cancel_each, asked_where, marked_unless, cancel_waiter, cancel_unseen}
+use Rattle.model_loop.specs.Cancel.{cancel_task, cancel_kind, cancel_until, cancel_at, cancel_by, cancel_below, cancel_within, cancel_with}
+use Rattle.model_loop.specs.Cancelling.{IsPendingAs, Cancels, done, plain, many, visited, task, no_task, CancelsEach, none, each, CancelsWaiter, waits_not}
+use Rattle.model_loop.specs.Cancelling.{waits}
 use Rattle.law_cancel.proofs.Seen.{left, left_le}
 use Rattle.law_cancel.proofs.Trace.{IsRow, below_row, within_row}
 use Rattle.law_cancel.proofs.Total.{cancel_with_itself, fewer, no_more}

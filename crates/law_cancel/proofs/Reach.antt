@@ -1,5 +1,6 @@
 -- The test whether a future leads to another decides it: a way that comes to no future twice is short enough.
-use Rattle.std.proofs.Common.{◌≡◌, ℕ, zero, suc, ◌+◌, ◌<◌, ◌⊎◌, ◌↔◌, Bool, true, false, ◌||◌, ◌==◌, List, [], ◌∷◌, Option, Some, None, length, nat_eq, slice_get, refl, ap, sym, ◌∙◌, inl, inr, arith}
+use Rattle.std.proofs.Common.{◌≡◌, ℕ, zero, suc, ◌+◌, ◌<◌, ◌⊎◌, ◌↔◌, Bool, true, false, ◌||◌, ◌==◌, List, [], ◌∷◌, Option, Some, None, length, nat_eq}
+use Rattle.std.proofs.Common.{slice_get, refl, ap, sym, ◌∙◌, inl, inr, arith}
 use Rattle.std.specs.List.{list_any}
 use Rattle.std.proofs.lemmas.Bool.{cases_Bool, eq-eqb, eqb-true, or_cases, or_left, or_right}
 use Rattle.std.proofs.lemmas.Option.{slice_get_within}
@@ -39,7 +40,8 @@ leads_from_within (suc n) p from to h =
     let r = any_found (λ next. (next == to) || leads_within n p next to) (passes p from) h in
     go r.at r.there (or_cases (r.at == to) (leads_within n p r.at to) r.passes) (λ k. leads_from_within n p r.at to k)
   where
-    go : (next : ℕ) → PassesTo p from next → (nat_eq next to ≡ true) ⊎ (leads_within n p next to ≡ true) → (leads_within n p next to ≡ true → Leads p next to) → Leads p from to
+    go : (next : ℕ) → PassesTo p from next → (nat_eq next to ≡ true) ⊎ (leads_within n p next to ≡ true) → (leads_within n p next to ≡ true → Leads p next to)
+        → Leads p from to
     go next there (inl e) ih = at_once (ap (λ x. list_any (λ y. y == x) (passes p from)) (sym (eqb-true next to e)) ∙ there)
     go next there (inr k) ih = through next there (ih k)
 
@@ -53,7 +55,8 @@ within_from_way zero p from xs to h w = absurd (omega arith)
 within_from_way (suc n) p from [] to h w =
     any_at (λ next. (next == to) || leads_within n p next to) (passes p from) to w (or_left (nat_eq to to) (leads_within n p to to) (eq-eqb to to refl))
 within_from_way (suc n) p from (x ∷ xs) to h w =
-    any_at (λ next. (next == to) || leads_within n p next to) (passes p from) x w.0 (or_right (nat_eq x to) (leads_within n p x to) (within_from_way n p x xs to (omega arith) w.1))
+    any_at (λ next. (next == to) || leads_within n p next to) (passes p from) x w.0
+    (or_right (nat_eq x to) (leads_within n p x to) (within_from_way n p x xs to (omega arith) w.1))
 
 -- no element stands twice
 abbrev Differ : List ℕ → Type 0

@@ -1,5 +1,6 @@
 -- The tasks that a request visited, and how many are left.
-use Rattle.std.proofs.Common.{◌≡◌, ◌≢◌, ℕ, zero, suc, ◌+◌, ◌<◌, ◌≤◌, ◌⊎◌, Bool, true, false, cond, ◌||◌, List, [], ◌∷◌, ◌++◌, nat_eq, refl, ◌∙◌, arith, inl, inr}
+use Rattle.std.proofs.Common.{◌≡◌, ◌≢◌, ℕ, zero, suc, ◌+◌, ◌<◌, ◌≤◌, ◌⊎◌, Bool, true, false, cond, ◌||◌, List, [], ◌∷◌, ◌++◌, nat_eq, refl, ◌∙◌, arith, inl}
+use Rattle.std.proofs.Common.{inr}
 use Rattle.std.proofs.lemmas.Bool.{cases_eq, eq-eqb, ne_eqb}
 use Rattle.model_loop.specs.Cancel.{has_seen}
 
@@ -44,7 +45,8 @@ pub left-push : (n : ℕ) (s : List ℕ) (t : ℕ) → t < n → has_seen s t �
 left-push zero s t h u = absurd (omega arith)
 left-push (suc n) s t h u = go (cases_eq n t) (λ below. left-push n s t below u)
   where
-    go : (n ≡ t) ⊎ (n ≡ t → ⊥) → (t < n → left n (s ++ t ∷ []) + 1 ≡ left n s) → cond (has_seen (s ++ t ∷ []) n) 0 1 + left n (s ++ t ∷ []) + 1 ≡ cond (has_seen s n) 0 1 + left n s
+    go : (n ≡ t) ⊎ (n ≡ t → ⊥) → (t < n → left n (s ++ t ∷ []) + 1 ≡ left n s) → cond (has_seen (s ++ t ∷ []) n) 0 1 + left n (s ++ t ∷ []) + 1
+        ≡ cond (has_seen s n) 0 1 + left n s
     go (inl e) ih =
         let a : has_seen (s ++ t ∷ []) n ≡ true = rw e (has_seen_last s t) in
         let b : has_seen s n ≡ false = rw e u in
@@ -73,7 +75,8 @@ left-cons (suc n) s t h u = go (cases_eq n t) (λ below. left-cons n s t below u
         let ne : m ≢ t = omega arith in
         rw (ne_eqb m t ne, past m (omega arith)) refl
 
-    go : (n ≡ t) ⊎ (n ≡ t → ⊥) → (t < n → left n (t ∷ s) + 1 ≡ left n s) → cond (has_seen (t ∷ s) n) 0 1 + left n (t ∷ s) + 1 ≡ cond (has_seen s n) 0 1 + left n s
+    go : (n ≡ t) ⊎ (n ≡ t → ⊥) → (t < n → left n (t ∷ s) + 1 ≡ left n s) → cond (has_seen (t ∷ s) n) 0 1 + left n (t ∷ s) + 1
+        ≡ cond (has_seen s n) 0 1 + left n s
     go (inl e) ih =
         let b : has_seen s n ≡ false = rw e u in
         let c : left n (t ∷ s) ≡ left n s = past n (omega arith) in

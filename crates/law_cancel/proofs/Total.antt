@@ -1,12 +1,14 @@
 -- A request ends: the bounds of its definition are never reached.
-use Rattle.std.proofs.Common.{◌≡◌, ℕ, zero, suc, ◌<◌, ◌≤◌, Bool, true, false, cond, ◌||◌, List, [], ◌∷◌, ◌++◌, Option, Some, None, length, nat_lt, slice_get, refl, ap, ◌∙◌, arith}
+use Rattle.std.proofs.Common.{◌≡◌, ℕ, zero, suc, ◌<◌, ◌≤◌, Bool, true, false, cond, ◌||◌, List, [], ◌∷◌, ◌++◌, Option, Some, None, length, nat_lt, slice_get}
+use Rattle.std.proofs.Common.{refl, ap, ◌∙◌, arith}
 use Rattle.std.proofs.lemmas.Option.{slice_get_within}
 use Rattle.std.proofs.lemmas.Bool.{ltb-true}
 use Rattle.model_value.specs.Value.{Outcome}
 use Rattle.model_loop.specs.Parts.{FutureKind, Plain, OfTask, Many, Future, Task, Parts}
 use Rattle.model_loop.specs.Futures.{made_before}
 use Rattle.model_loop.specs.Tasks.{raise_count}
-use Rattle.model_loop.specs.Cancel.{CancelRequest, Canceller, has_seen, cancel_each, asked_where, marked_unless, cancel_waiter, cancel_unseen, cancel_task, cancel_kind, cancel_until, cancel_at, cancel_by, cancel_below, cancel_within, cancel_with}
+use Rattle.model_loop.specs.Cancel.{CancelRequest, Canceller, has_seen, cancel_each, asked_where, marked_unless, cancel_waiter, cancel_unseen, cancel_task}
+use Rattle.model_loop.specs.Cancel.{cancel_kind, cancel_until, cancel_at, cancel_by, cancel_below, cancel_within, cancel_with}
 use Rattle.law_cancel.proofs.Effects.{length-change_task}
 use Rattle.law_cancel.proofs.Seen.{left, left_le, left-push}
 use Rattle.law_cancel.proofs.Trace.{Goes, IsRow, goes-tasks, goes-left, below_row, within_row}
@@ -28,7 +30,8 @@ each_same K F G id stays same (m ∷ members) s p k =
   where
     go : (b : Bool) → nat_lt m id ≡ b
         → ((t : List ℕ) (q : Parts) → K t q → cancel_each F (made_before id members) t q ≡ cancel_each G (made_before id members) t q)
-        → cancel_each F (cond b (m ∷ made_before id members) (made_before id members)) s p ≡ cancel_each G (cond b (m ∷ made_before id members) (made_before id members)) s p
+        → cancel_each F (cond b (m ∷ made_before id members) (made_before id members)) s p
+        ≡ cancel_each G (cond b (m ∷ made_before id members) (made_before id members)) s p
     go false e ih = ih s p k
     go true e ih =
         let first = F m s p in
@@ -38,7 +41,8 @@ each_same K F G id stays same (m ∷ members) s p k =
 -- ---- one future, by cancellers that agree on its members and on what its task waits for
 module _ (F G V W : Canceller) (id : ℕ) (s : List ℕ) (p : Parts)
     (members_same : (members : List ℕ) → cancel_each F (made_before id members) s p ≡ cancel_each G (made_before id members) s p)
-    (waiter_same : (t : ℕ) (task : Task) (w : ℕ) → has_seen s t ≡ false → slice_get p.tasks t ≡ Some task → V w (s ++ t ∷ []) (raise_count t p) ≡ W w (s ++ t ∷ []) (raise_count t p)) where
+    (waiter_same : (t : ℕ) (task : Task) (w : ℕ) → has_seen s t ≡ false → slice_get p.tasks t ≡ Some task → V w (s ++ t ∷ []) (raise_count t p)
+    ≡ W w (s ++ t ∷ []) (raise_count t p)) where
   unseen_same : (t : ℕ) (o : Option Task) → slice_get p.tasks t ≡ o → has_seen s t ≡ false → cancel_unseen V t o s p ≡ cancel_unseen W t o s p
   unseen_same t None e n = refl
   unseen_same t (Some task) e n = go task.waiter
@@ -82,7 +86,8 @@ abbrev AgreeBelow : ℕ → Canceller → Canceller → Type 0
 AgreeBelow n V W = (id : ℕ) (s : List ℕ) (p : Parts) → left (length p.tasks) s < n → V id s p ≡ W id s p
 
 -- a task that is visited leaves fewer
-pub fewer : (s : List ℕ) (p : Parts) (t : ℕ) (task : Task) → has_seen s t ≡ false → slice_get p.tasks t ≡ Some task → left (length (raise_count t p).tasks) (s ++ t ∷ []) < left (length p.tasks) s
+pub fewer : (s : List ℕ) (p : Parts) (t : ℕ) (task : Task) → has_seen s t ≡ false → slice_get p.tasks t ≡ Some task
+    → left (length (raise_count t p).tasks) (s ++ t ∷ []) < left (length p.tasks) s
 fewer s p t task n e =
     let l : length (raise_count t p).tasks ≡ length p.tasks = length-change_task t _ p in
     let h = left-push (length p.tasks) s t (slice_get_within p.tasks t task e) n in
@@ -92,7 +97,8 @@ fewer s p t task n e =
 pub no_more : {s : List ℕ} {p : Parts} {t : List ℕ} {q : Parts} → Goes s p t q → left (length q.tasks) t ≤ left (length p.tasks) s
 no_more {p = p} g = rw (goes-tasks g) (goes-left (length p.tasks) g)
 
-below_same : (bound n : ℕ) (V W : Canceller) → IsRow V → AgreeBelow n V W → (id : ℕ) (s : List ℕ) (p : Parts) → left (length p.tasks) s ≤ n → cancel_below bound V id s p ≡ cancel_below bound W id s p
+below_same : (bound n : ℕ) (V W : Canceller) → IsRow V → AgreeBelow n V W → (id : ℕ) (s : List ℕ) (p : Parts) → left (length p.tasks) s ≤ n
+    → cancel_below bound V id s p ≡ cancel_below bound W id s p
 below_same zero n V W row agree id s p h = refl
 below_same (suc bound) n V W row agree id s p h =
     by_same (cancel_below bound V) (cancel_below bound W) V W id s p
@@ -101,7 +107,8 @@ below_same (suc bound) n V W row agree id s p h =
     (λ m t q below k. below_same bound n V W row agree m t q k) members s p h)
     (λ t task w un e. let f = fewer s p t task un e in agree w (s ++ t ∷ []) (raise_count t p) (omega arith))
 
-within_same : (n m : ℕ) (id : ℕ) (s : List ℕ) (p : Parts) → left (length p.tasks) s < n → left (length p.tasks) s < m → cancel_within n id s p ≡ cancel_within m id s p
+within_same : (n m : ℕ) (id : ℕ) (s : List ℕ) (p : Parts) → left (length p.tasks) s < n → left (length p.tasks) s < m → cancel_within n id s p
+    ≡ cancel_within m id s p
 within_same zero m id s p h k = absurd (omega arith)
 within_same (suc n) zero id s p h k = absurd (omega arith)
 within_same (suc n) (suc m) id s p h k =

@@ -1,24 +1,30 @@
 -- A cancel request as a row of small changes. Each law about requests is proved of one change.
-use Rattle.std.proofs.Common.{◌≡◌, ℕ, zero, suc, ◌≤◌, Bool, true, false, List, [], ◌∷◌, ◌++◌, Option, Some, None, length, slice_get, refl, ap, sym, ◌∙◌, append_assoc, append-nil}
+use Rattle.std.proofs.Common.{◌≡◌, ℕ, zero, suc, ◌≤◌, Bool, true, false, List, [], ◌∷◌, ◌++◌, Option, Some, None, length, slice_get, refl, ap, sym, ◌∙◌}
+use Rattle.std.proofs.Common.{append_assoc, append-nil}
 use Rattle.model_value.specs.declared.outcome.Outcome.TheVariants.{Cancelled}
 use Rattle.model_value.specs.Value.{Outcome}
 use Rattle.model_loop.specs.Parts.{FutureKind, Plain, OfTask, Many, Future, Task, Parts}
 use Rattle.model_loop.specs.Futures.{made_before, settle, mark_asked}
 use Rattle.model_loop.specs.Tasks.{mark, raise_count}
-use Rattle.model_loop.specs.Cancel.{CancelRequest, Canceller, has_seen, cancel_each, asked_where, marked_unless, cancel_waiter, cancel_unseen, cancel_task, cancel_kind, cancel_until, cancel_at, cancel_by, cancel_below, cancel_within, cancel_with}
+use Rattle.model_loop.specs.Cancel.{CancelRequest, Canceller, has_seen, cancel_each, asked_where, marked_unless, cancel_waiter, cancel_unseen, cancel_task}
+use Rattle.model_loop.specs.Cancel.{cancel_kind, cancel_until, cancel_at, cancel_by, cancel_below, cancel_within, cancel_with}
 use Rattle.law_cancel.proofs.Lookups.{get-set_kept}
-use Rattle.law_cancel.proofs.Effects.{settle-futures, settle-tasks, done_as, mark_asked-futures, mark_asked-tasks, asked_as, length-change_task, change_task-futures}
+use Rattle.law_cancel.proofs.Effects.{settle-futures, settle-tasks, done_as, mark_asked-futures, mark_asked-tasks, asked_as, length-change_task}
+use Rattle.law_cancel.proofs.Effects.{change_task-futures}
 use Rattle.law_cancel.proofs.Seen.{left, left_falls}
 
 -- From the parts p, with the tasks s visited, changes lead on.
 pub data Goes (s : List ℕ) (p : Parts) : List ℕ → Parts → Type 0 where
   begins : Goes s p s p
   -- a pending future that is no task's and stands for no others is cancelled
-  settles : {t : List ℕ} {q : Parts} → Goes s p t q → (id : ℕ) (future : Future) → slice_get q.futures id ≡ Some future → future.outcome ≡ None → future.kind ≡ Plain → Goes s p t (settle id Cancelled q)
+  settles : {t : List ℕ} {q : Parts} → Goes s p t q → (id : ℕ) (future : Future) → slice_get q.futures id ≡ Some future → future.outcome ≡ None → future.kind
+      ≡ Plain → Goes s p t (settle id Cancelled q)
   -- a pending one that stands for others keeps that it was asked
-  asks : {t : List ℕ} {q : Parts} → Goes s p t q → (id : ℕ) (future : Future) (members : List ℕ) (asked : Bool) → slice_get q.futures id ≡ Some future → future.outcome ≡ None → future.kind ≡ Many members asked → Goes s p t (mark_asked id q)
+  asks : {t : List ℕ} {q : Parts} → Goes s p t q → (id : ℕ) (future : Future) (members : List ℕ) (asked : Bool) → slice_get q.futures id ≡ Some future
+      → future.outcome ≡ None → future.kind ≡ Many members asked → Goes s p t (mark_asked id q)
   -- a task that wasn't visited counts
-  raises : {t : List ℕ} {q : Parts} → Goes s p t q → (id : ℕ) (task : Task) → has_seen t id ≡ false → slice_get q.tasks id ≡ Some task → Goes s p (t ++ id ∷ []) (raise_count id q)
+  raises : {t : List ℕ} {q : Parts} → Goes s p t q → (id : ℕ) (task : Task) → has_seen t id ≡ false → slice_get q.tasks id ≡ Some task
+      → Goes s p (t ++ id ∷ []) (raise_count id q)
   -- a task is marked
   marks : {t : List ℕ} {q : Parts} → Goes s p t q → (id : ℕ) → Goes s p t (mark id q)
 
@@ -63,12 +69,15 @@ abbrev pub is_pending_many : Option Future → Bool
 is_pending_many None = false
 is_pending_many (Some future) = pending_many future.outcome future.kind
 
-pub goes-many : {s : List ℕ} {p : Parts} {t : List ℕ} {q : Parts} → Goes s p t q → (j : ℕ) → is_pending_many (slice_get q.futures j) ≡ is_pending_many (slice_get p.futures j)
+pub goes-many : {s : List ℕ} {p : Parts} {t : List ℕ} {q : Parts} → Goes s p t q → (j : ℕ) → is_pending_many (slice_get q.futures j)
+    ≡ is_pending_many (slice_get p.futures j)
 goes-many begins j = refl
 goes-many (settles {q = q} g id future e o k) j =
-    ap (λ (fs : List Future). is_pending_many (slice_get fs j)) (settle-futures id Cancelled q future e o) ∙ get-set_kept is_pending_many q.futures id j future (done_as Cancelled future) e (rw (o, k)) ∙ goes-many g j
+    ap (λ (fs : List Future). is_pending_many (slice_get fs j)) (settle-futures id Cancelled q future e o)
+    ∙ get-set_kept is_pending_many q.futures id j future (done_as Cancelled future) e (rw (o, k)) ∙ goes-many g j
 goes-many (asks {q = q} g id future members asked e o k) j =
-    ap (λ (fs : List Future). is_pending_many (slice_get fs j)) (mark_asked-futures id q future e) ∙ get-set_kept is_pending_many q.futures id j future (asked_as future) e (rw (o, k)) ∙ goes-many g j
+    ap (λ (fs : List Future). is_pending_many (slice_get fs j)) (mark_asked-futures id q future e)
+    ∙ get-set_kept is_pending_many q.futures id j future (asked_as future) e (rw (o, k)) ∙ goes-many g j
 goes-many (raises {q = q} g id task n e) j =
     ap (λ (fs : List Future). is_pending_many (slice_get fs j)) (change_task-futures id _ q) ∙ goes-many g j
 goes-many (marks {q = q} g id) j =
@@ -107,7 +116,8 @@ many_there (Some future) h = go future.outcome future.kind refl refl h
     go None (Many members asked) eo ek h =
         record { future = future; members = members; asked = asked; there = refl; pending = eo; many = ek }
 
-asked_row : (s : List ℕ) (p : Parts) (answer : Bool) (id : ℕ) (r : CancelRequest) → Row s p r → is_pending_many (slice_get r.parts.futures id) ≡ true → Row s p (asked_where answer id r)
+asked_row : (s : List ℕ) (p : Parts) (answer : Bool) (id : ℕ) (r : CancelRequest) → Row s p r → is_pending_many (slice_get r.parts.futures id) ≡ true
+    → Row s p (asked_where answer id r)
 asked_row s p false id r g h = g
 asked_row s p true id r g h =
     let m = many_there (slice_get r.parts.futures id) h in
@@ -122,16 +132,19 @@ waiter_row cancel row task None s p = marks begins task
 waiter_row cancel row task (Some waiter) s p =
     let r = cancel waiter s p in marked_row s p r.answer task r (row waiter s p)
 
-unseen_row : (cancel : Canceller) → IsRow cancel → (id : ℕ) (o : Option Task) (s : List ℕ) (p : Parts) → slice_get p.tasks id ≡ o → has_seen s id ≡ false → Row s p (cancel_unseen cancel id o s p)
+unseen_row : (cancel : Canceller) → IsRow cancel → (id : ℕ) (o : Option Task) (s : List ℕ) (p : Parts) → slice_get p.tasks id ≡ o → has_seen s id ≡ false
+    → Row s p (cancel_unseen cancel id o s p)
 unseen_row cancel row id None s p e n = begins
 unseen_row cancel row id (Some task) s p e n =
     goes_on (raises begins id task n e) (waiter_row cancel row id task.waiter (s ++ id ∷ []) (raise_count id p))
 
-task_row : (cancel : Canceller) → IsRow cancel → (seen : Bool) (id : ℕ) (s : List ℕ) (p : Parts) → has_seen s id ≡ seen → Row s p (cancel_task cancel seen id s p)
+task_row : (cancel : Canceller) → IsRow cancel → (seen : Bool) (id : ℕ) (s : List ℕ) (p : Parts) → has_seen s id ≡ seen
+    → Row s p (cancel_task cancel seen id s p)
 task_row cancel row true id s p n = begins
 task_row cancel row false id s p n = unseen_row cancel row id (slice_get p.tasks id) s p refl n
 
-kind_row : (member waiter : Canceller) → IsRow member → IsRow waiter → (id : ℕ) (s : List ℕ) (p : Parts) (future : Future) → slice_get p.futures id ≡ Some future → future.outcome ≡ None → (k : FutureKind) → future.kind ≡ k → Row s p (cancel_kind member waiter k id s p)
+kind_row : (member waiter : Canceller) → IsRow member → IsRow waiter → (id : ℕ) (s : List ℕ) (p : Parts) (future : Future) → slice_get p.futures id
+    ≡ Some future → future.outcome ≡ None → (k : FutureKind) → future.kind ≡ k → Row s p (cancel_kind member waiter k id s p)
 kind_row member waiter member_row waits_row id s p future e o Plain k = settles begins id future e o k
 kind_row member waiter member_row waits_row id s p future e o (OfTask task) k = task_row waiter waits_row (has_seen s task) task s p refl
 kind_row member waiter member_row waits_row id s p future e o (Many members asked) k =
@@ -140,11 +153,13 @@ kind_row member waiter member_row waits_row id s p future e o (Many members aske
     let many : is_pending_many (slice_get r.parts.futures id) ≡ true = goes-many g id ∙ ap is_pending_many e ∙ rw (o, k) refl in
     asked_row s p r.answer id r g many
 
-until_row : (member waiter : Canceller) → IsRow member → IsRow waiter → (id : ℕ) (s : List ℕ) (p : Parts) (future : Future) → slice_get p.futures id ≡ Some future → (o : Option Outcome) → future.outcome ≡ o → Row s p (cancel_until member waiter o future.kind id s p)
+until_row : (member waiter : Canceller) → IsRow member → IsRow waiter → (id : ℕ) (s : List ℕ) (p : Parts) (future : Future) → slice_get p.futures id
+    ≡ Some future → (o : Option Outcome) → future.outcome ≡ o → Row s p (cancel_until member waiter o future.kind id s p)
 until_row member waiter member_row waits_row id s p future e (Some outcome) o = begins
 until_row member waiter member_row waits_row id s p future e None o = kind_row member waiter member_row waits_row id s p future e o future.kind refl
 
-at_row : (member waiter : Canceller) → IsRow member → IsRow waiter → (id : ℕ) (s : List ℕ) (p : Parts) (o : Option Future) → slice_get p.futures id ≡ o → Row s p (cancel_at member waiter o id s p)
+at_row : (member waiter : Canceller) → IsRow member → IsRow waiter → (id : ℕ) (s : List ℕ) (p : Parts) (o : Option Future) → slice_get p.futures id ≡ o
+    → Row s p (cancel_at member waiter o id s p)
 at_row member waiter member_row waits_row id s p None e = begins
 at_row member waiter member_row waits_row id s p (Some future) e = until_row member waiter member_row waits_row id s p future e future.outcome refl
 

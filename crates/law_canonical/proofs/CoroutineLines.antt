@@ -16,7 +16,9 @@ body-lines lines s =
 abbrev pub part_lines : Part Line → List Line
 part_lines part = Def part.name part.parameters ∷ part.lines
 
-pub coroutines-again : (parts : List (Part Line)) → AllByRecursion (λ part. SpellsBody part.lines) parts → without_blocks (coroutines_lines (map coroutine parts)) ≡ flat_map part_lines parts
+pub coroutines-again : (parts : List (Part Line)) → AllByRecursion (λ part. SpellsBody part.lines) parts
+    → without_blocks (coroutines_lines (map coroutine parts)) ≡ flat_map part_lines parts
 coroutines-again [] s = refl
 coroutines-again (part ∷ parts) s =
-    two-parts (coroutine_lines (coroutine part)) (coroutines_lines (map coroutine parts)) (part_lines part) (flat_map part_lines parts) (ap (λ l. Def part.name part.parameters ∷ l) (body-lines part.lines s.0)) (coroutines-again parts s.1)
+    two-parts (coroutine_lines (coroutine part)) (coroutines_lines (map coroutine parts)) (part_lines part) (flat_map part_lines parts)
+    (ap (λ l. Def part.name part.parameters ∷ l) (body-lines part.lines s.0)) (coroutines-again parts s.1)

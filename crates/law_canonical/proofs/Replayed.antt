@@ -27,18 +27,21 @@ stands-anywhere first blocks form e = e
 uncaused : (before : List Role) (form : Spelled) → Fits (open_blocks before) form → cause_behind before form ≡ None
 uncaused before form f =
     let blocks : List OpenBlock = open_blocks before in
-    fitting (may_stand (nat_eq (length before) 0) blocks form) (fits blocks (role_of form)) (nat_le (height_of_form form) most_height) (is_profile form) (stands-anywhere (nat_eq (length before) 0) blocks form f.stands) f.nests f.low f.known
+    fitting (may_stand (nat_eq (length before) 0) blocks form) (fits blocks (role_of form)) (nat_le (height_of_form form) most_height) (is_profile form)
+    (stands-anywhere (nat_eq (length before) 0) blocks form f.stands) f.nests f.low f.known
 
 -- the forms of lines, of which the first has this number
 abbrev pub renumbered : ℕ → List Line → List (Numbered Spelled)
 renumbered number [] = []
 renumbered number (line ∷ lines) = record { line = number; form = spelled line } ∷ renumbered (number + 1) lines
 
-line-again : (before : List Role) (form : Spelled) (line : Indented) → Written form line.line → Fits (open_blocks before) form → line_behind before (line_bytes line) ≡ Ok (Some (spelled line.line))
+line-again : (before : List Role) (form : Spelled) (line : Indented) → Written form line.line → Fits (open_blocks before) form
+    → line_behind before (line_bytes line) ≡ Ok (Some (spelled line.line))
 line-again before form line w f =
     line-inside before line.blocks line.line w.well ∙ ap (λ found. placed found (spelled line.line)) (ap (cause_behind before) w.same ∙ uncaused before form f)
 
-pub replayed : (lines : List Indented) (forms : List Spelled) (number : ℕ) (before : List Role) → AllFit (open_blocks before) forms → AllZip Written forms (without_blocks lines) → forms_from number before (map line_bytes lines) ≡ Ok (renumbered number (without_blocks lines))
+pub replayed : (lines : List Indented) (forms : List Spelled) (number : ℕ) (before : List Role) → AllFit (open_blocks before) forms
+    → AllZip Written forms (without_blocks lines) → forms_from number before (map line_bytes lines) ≡ Ok (renumbered number (without_blocks lines))
 replayed [] [] number before f w = forms-end number before ∙ ap (ended number) f
 replayed [] (form ∷ forms) number before f w = absurd w
 replayed (line ∷ lines) [] number before f w = absurd w
@@ -46,4 +49,6 @@ replayed (line ∷ lines) (form ∷ forms) number before f w =
     let role : Role = role_of (spelled line.line) in
     let behind : AllFit (open_blocks (role ∷ before)) forms =
     subst (λ blocks. AllFit blocks forms) (ap (λ f. after (role_of f) (open_blocks before)) (sym w.0.same) ∙ sym (open-behind role before)) f.1 in
-    forms-step number before (line_bytes line) (map line_bytes lines) ∙ (ap (stepped number before (map line_bytes lines)) (line-again before form line w.0 f.0) ∙ ap (form_before number (spelled line.line)) (replayed lines forms (number + 1) (role ∷ before) behind w.1))
+    forms-step number before (line_bytes line) (map line_bytes lines)
+    ∙ (ap (stepped number before (map line_bytes lines)) (line-again before form line w.0 f.0)
+    ∙ ap (form_before number (spelled line.line)) (replayed lines forms (number + 1) (role ∷ before) behind w.1))

@@ -33,7 +33,8 @@ line-plain placed p = all-append Plain (repeat placed.blocks (codes "  ")) (line
 one-line : (line others : List ℕ) → Clean line → lines_of (line ++ 10 ∷ others) ≡ line ∷ lines_of others
 one-line [] others p = refl
 one-line (byte ∷ line) others p =
-    ap (λ test. if test then [] ∷ lines_of (line ++ 10 ∷ others) else fronted byte (lines_of (line ++ 10 ∷ others))) p.0.0 ∙ ap (fronted byte) (one-line line others p.1)
+    ap (λ test. if test then [] ∷ lines_of (line ++ 10 ∷ others) else fronted byte (lines_of (line ++ 10 ∷ others))) p.0.0
+    ∙ ap (fronted byte) (one-line line others p.1)
 
 -- no carriage return
 abbrev Unreturned : ℕ → Type 0
@@ -48,16 +49,22 @@ plain-unreturned : (line : List ℕ) → Clean line → AllByRecursion Unreturne
 plain-unreturned [] p = tt
 plain-unreturned (byte ∷ line) p = (p.0.1, plain-unreturned line p.1)
 
-texts-unreturned : (lines : List Indented) → AllByRecursion (λ placed. Clean (line_text placed.line)) lines → AllByRecursion Unreturned (flat_map indented_text lines)
+texts-unreturned : (lines : List Indented) → AllByRecursion (λ placed. Clean (line_text placed.line)) lines
+    → AllByRecursion Unreturned (flat_map indented_text lines)
 texts-unreturned [] p = tt
 texts-unreturned (placed ∷ lines) p =
-    all-append Unreturned (indented_text placed) (flat_map indented_text lines) (all-append Unreturned (line_bytes placed) (10 ∷ []) (plain-unreturned (line_bytes placed) (line-plain placed p.0)) (refl, tt)) (texts-unreturned lines p.1)
+    all-append Unreturned (indented_text placed) (flat_map indented_text lines)
+    (all-append Unreturned (line_bytes placed) (10 ∷ []) (plain-unreturned (line_bytes placed) (line-plain placed p.0)) (refl, tt))
+    (texts-unreturned lines p.1)
 
-all-lines : (lines : List Indented) → AllByRecursion (λ placed. Clean (line_text placed.line)) lines → lines_of (flat_map indented_text lines) ≡ map line_bytes lines
+all-lines : (lines : List Indented) → AllByRecursion (λ placed. Clean (line_text placed.line)) lines → lines_of (flat_map indented_text lines)
+    ≡ map line_bytes lines
 all-lines [] p = refl
 all-lines (placed ∷ lines) p =
-    ap lines_of (append_assoc (line_bytes placed) (10 ∷ []) (flat_map indented_text lines)) ∙ (one-line (line_bytes placed) (flat_map indented_text lines) (line-plain placed p.0) ∙ ap (λ l. line_bytes placed ∷ l) (all-lines lines p.1))
+    ap lines_of (append_assoc (line_bytes placed) (10 ∷ []) (flat_map indented_text lines))
+    ∙ (one-line (line_bytes placed) (flat_map indented_text lines) (line-plain placed p.0) ∙ ap (λ l. line_bytes placed ∷ l) (all-lines lines p.1))
 
-pub written-lines : (lines : List Indented) → AllByRecursion (λ placed. Clean (line_text placed.line)) lines → text_lines (flat_map indented_text lines) ≡ map line_bytes lines
+pub written-lines : (lines : List Indented) → AllByRecursion (λ placed. Clean (line_text placed.line)) lines → text_lines (flat_map indented_text lines)
+    ≡ map line_bytes lines
 written-lines lines p =
     ap lines_of (unreturned (flat_map indented_text lines) (texts-unreturned lines p)) ∙ all-lines lines p

@@ -37,17 +37,20 @@ record Script (text : List ℕ) (result : Program) : Type 0 where
   judged : second_pass line (parts_of forms).coroutines ≡ Ok meant
   spelled : result ≡ program (profile_in (parts_of forms).front) meant
 
-program-judged : (profile : ℕ) (found : Judged (List (Part Line))) (result : Program) → judged_program profile found ≡ Ok result → (meant : List (Part Line)) × (found ≡ Ok meant) × (result ≡ program profile meant)
+program-judged : (profile : ℕ) (found : Judged (List (Part Line))) (result : Program) → judged_program profile found ≡ Ok result
+    → (meant : List (Part Line)) × (found ≡ Ok meant) × (result ≡ program profile meant)
 program-judged profile (Ok meant) result e = (meant, refl, cc)
 program-judged profile (Err fault) result e = cc
 
-of-forms : (text : List ℕ) (result : Program) (line : ℕ) (found : Judged (List (Numbered Spelled))) → first_pass (text_lines text) ≡ found → script_of_forms line found ≡ Ok result → Script text result
+of-forms : (text : List ℕ) (result : Program) (line : ℕ) (found : Judged (List (Numbered Spelled))) → first_pass (text_lines text) ≡ found
+    → script_of_forms line found ≡ Ok result → Script text result
 of-forms text result line (Ok forms) f e =
     let p = program-judged (profile_in (parts_of forms).front) (second_pass line (parts_of forms).coroutines) result e in
     record { forms = forms; passed = f; line = line; meant = p.0; judged = p.1; spelled = p.2 }
 of-forms text result line (Err fault) f e = cc
 
-of-length : (text : List ℕ) (result : Program) (fits : Bool) → (let j : Judged Program = if fits then script_of_lines (text_lines text) else fault_at 1 cause.TooLong in j) ≡ Ok result → Script text result
+of-length : (text : List ℕ) (result : Program) (fits : Bool)
+    → (let j : Judged Program = if fits then script_of_lines (text_lines text) else fault_at 1 cause.TooLong in j) ≡ Ok result → Script text result
 of-length text result true e = of-forms text result (length (text_lines text) + 1) (first_pass (text_lines text)) refl e
 of-length text result false e = cc
 
@@ -56,13 +59,18 @@ unfolding script_of
 script text result e = of-length text result (nat_le (length text) most_bytes) e
 
 -- ---- what lines make a script
-spells : (text : List ℕ) (forms : List (Numbered Spelled)) (meant : List (Part Line)) → length text ≤ most_bytes → first_pass (text_lines text) ≡ Ok forms → (parts_of forms).front ≡ [] → second_pass (length (text_lines text) + 1) (parts_of forms).coroutines ≡ Ok meant → script_of text ≡ Ok (program 1 meant)
+spells : (text : List ℕ) (forms : List (Numbered Spelled)) (meant : List (Part Line)) → length text ≤ most_bytes → first_pass (text_lines text) ≡ Ok forms
+    → (parts_of forms).front ≡ [] → second_pass (length (text_lines text) + 1) (parts_of forms).coroutines ≡ Ok meant → script_of text ≡ Ok (program 1 meant)
 unfolding script_of
 spells text forms meant h e f g =
-    ap (λ fits. if fits then script_of_lines (text_lines text) else fault_at 1 cause.TooLong) (le-leb (length text) most_bytes h) ∙ (ap (script_of_forms (length (text_lines text) + 1)) e ∙ (ap (λ (front : List (Numbered Spelled)). judged_program (profile_in front) (second_pass (length (text_lines text) + 1) (parts_of forms).coroutines)) f ∙ ap (judged_program 1) g))
+    ap (λ fits. if fits then script_of_lines (text_lines text) else fault_at 1 cause.TooLong) (le-leb (length text) most_bytes h)
+    ∙ (ap (script_of_forms (length (text_lines text) + 1)) e
+    ∙ (ap (λ (front : List (Numbered Spelled)). judged_program (profile_in front)
+    (second_pass (length (text_lines text) + 1) (parts_of forms).coroutines)) f ∙ ap (judged_program 1) g))
 
 -- ---- the lines of a text, and those of its canonical text
-zip-append : (first : List Spelled) (others : List Spelled) (lines more : List Line) → AllZip Written first lines → AllZip Written others more → AllZip Written (first ++ others) (lines ++ more)
+zip-append : (first : List Spelled) (others : List Spelled) (lines more : List Line) → AllZip Written first lines → AllZip Written others more
+    → AllZip Written (first ++ others) (lines ++ more)
 zip-append [] others [] more z w = w
 zip-append [] others (line ∷ lines) more z w = absurd z
 zip-append (form ∷ first) others [] more z w = absurd z
@@ -75,18 +83,26 @@ lines-written scope (line ∷ lines) [] m = absurd m
 lines-written scope (line ∷ lines) (meaning ∷ meant) m =
     (record { same = m.0.same; well = m.0.well }, lines-written scope lines meant m.1)
 
-head-written : (callees : List Callee) (earlier : List Name) (part : Part (Numbered Spelled)) (meant : Part Line) → PartMeans callees earlier part meant → Written (Def part.name part.parameters) (Def meant.name meant.parameters)
+head-written : (callees : List Callee) (earlier : List Name) (part : Part (Numbered Spelled)) (meant : Part Line) → PartMeans callees earlier part meant
+    → Written (Def part.name part.parameters) (Def meant.name meant.parameters)
 head-written callees earlier part meant m =
-    subst (Written (Def part.name part.parameters)) (sym (ap₂ (λ (name : Name) (parameters : List Name). let line : Line = Def name parameters in line) m.name m.parameters)) (record { same = refl; well = m.well })
+    subst (Written (Def part.name part.parameters))
+    (sym (ap₂ (λ (name : Name) (parameters : List Name). let line : Line = Def name parameters in line) m.name m.parameters))
+    (record { same = refl; well = m.well })
 
-parts-written : (callees : List Callee) (earlier : List Name) (parts : List (Part (Numbered Spelled))) (meant : List (Part Line)) → PartsMean callees earlier parts meant → AllZip Written (flat_map part_forms parts) (flat_map part_lines meant)
+parts-written : (callees : List Callee) (earlier : List Name) (parts : List (Part (Numbered Spelled))) (meant : List (Part Line))
+    → PartsMean callees earlier parts meant → AllZip Written (flat_map part_forms parts) (flat_map part_lines meant)
 parts-written callees earlier [] [] m = tt
 parts-written callees earlier [] (meaning ∷ meant) m = absurd m
 parts-written callees earlier (part ∷ parts) [] m = absurd m
-parts-written callees earlier (part ∷ parts) (meaning ∷ meant) m =
-    (head-written callees earlier part meaning m.0, zip-append (forms_in part.lines) (flat_map part_forms parts) meaning.lines (flat_map part_lines meant) (lines-written (scope_of callees part) part.lines meaning.lines m.0.lines) (parts-written callees (part.name ∷ earlier) parts meant m.1))
+parts-written callees earlier (part ∷ parts) (meaning ∷ meant) m = (
+  head-written callees earlier part meaning m.0,
+  zip-append (forms_in part.lines) (flat_map part_forms parts) meaning.lines (flat_map part_lines meant)
+      (lines-written (scope_of callees part) part.lines meaning.lines m.0.lines) (parts-written callees (part.name ∷ earlier) parts meant m.1),
+)
 
-written-clean : (forms : List Spelled) (lines : List Indented) → AllZip Written forms (without_blocks lines) → AllByRecursion (λ placed. Clean (line_text placed.line)) lines
+written-clean : (forms : List Spelled) (lines : List Indented) → AllZip Written forms (without_blocks lines)
+    → AllByRecursion (λ placed. Clean (line_text placed.line)) lines
 written-clean [] [] w = tt
 written-clean [] (line ∷ lines) w = absurd w
 written-clean (form ∷ forms) [] w = tt
@@ -102,9 +118,11 @@ record Rewritten (meant : List (Part Line)) : Type 0 where
   passed : first_pass (text_lines (canonical (program 1 meant))) ≡ Ok forms
   parted : PartsSpelled (parts_of forms) [] meant
 
-own-lines : (meant : List (Part Line)) (forms : List Spelled) → AllZip Written forms (without_blocks (coroutines_lines (map coroutine meant))) → text_lines (canonical (program 1 meant)) ≡ map line_bytes (coroutines_lines (map coroutine meant))
+own-lines : (meant : List (Part Line)) (forms : List Spelled) → AllZip Written forms (without_blocks (coroutines_lines (map coroutine meant)))
+    → text_lines (canonical (program 1 meant)) ≡ map line_bytes (coroutines_lines (map coroutine meant))
 own-lines meant forms written =
-    ap text_lines (program-texts (program 1 meant)) ∙ written-lines (coroutines_lines (map coroutine meant)) (written-clean forms (coroutines_lines (map coroutine meant)) written)
+    ap text_lines (program-texts (program 1 meant))
+    ∙ written-lines (coroutines_lines (map coroutine meant)) (written-clean forms (coroutines_lines (map coroutine meant)) written)
 
 rewritten : (parts : List (Part (Numbered Spelled))) (meant : List (Part Line)) → Coroutines parts → Meaning parts meant → Rewritten meant
 rewritten parts meant c m =
@@ -116,14 +134,17 @@ rewritten parts meant c m =
     record {
       forms = renumbered 1 (without_blocks lines);
       passed = ap first_pass (own-lines meant (flat_map part_forms parts) written) ∙ replayed lines (flat_map part_forms parts) 1 [] c.forms written;
-      parted = parted-again (renumbered 1 (without_blocks lines)) meant nested (subst (Spelling (renumbered 1 (without_blocks lines))) same (renumbered-spelling 1 (without_blocks lines)));
+      parted = parted-again (renumbered 1 (without_blocks lines)) meant nested
+          (subst (Spelling (renumbered 1 (without_blocks lines))) same (renumbered-spelling 1 (without_blocks lines)));
     }
 
-spelled-again : (parts : List (Part (Numbered Spelled))) (meant : List (Part Line)) → Meaning parts meant → Rewritten meant → length (canonical (program 1 meant)) ≤ most_bytes → script_of (canonical (program 1 meant)) ≡ Ok (program 1 meant)
+spelled-again : (parts : List (Part (Numbered Spelled))) (meant : List (Part Line)) → Meaning parts meant → Rewritten meant
+    → length (canonical (program 1 meant)) ≤ most_bytes → script_of (canonical (program 1 meant)) ≡ Ok (program 1 meant)
 spelled-again parts meant m r h =
     let last : ℕ = length (text_lines (canonical (program 1 meant))) + 1 in
     let a : Again last (parts_of r.forms).coroutines meant = judged-again last parts (parts_of r.forms).coroutines meant m r.parted.coroutines in
-    spells (canonical (program 1 meant)) r.forms a.remade h r.passed (no-front (parts_of r.forms).front r.parted.front) a.judged ∙ ap (λ (all : List Coroutine). let p : Program = record { profile = 1; coroutines = all } in let j : Judged Program = Ok p in j) a.same
+    spells (canonical (program 1 meant)) r.forms a.remade h r.passed (no-front (parts_of r.forms).front r.parted.front) a.judged
+    ∙ ap (λ (all : List Coroutine). let p : Program = record { profile = 1; coroutines = all } in let j : Judged Program = Ok p in j) a.same
 
 again : (text : List ℕ) (result : Program) → Script text result → length (canonical result) ≤ most_bytes → script_of (canonical result) ≡ Ok result
 again text result s h =
@@ -132,13 +153,16 @@ again text result s h =
     let c : Coroutines parts = coroutines w.others w.accepted in
     let m : Meaning parts s.meant = second-passed s.line parts s.meant c.fit (ap (second_pass s.line) (sym w.coroutines) ∙ s.judged) in
     let is : result ≡ program 1 s.meant = s.spelled ∙ ap (λ (p : ℕ). program p s.meant) w.profile in
-    subst (λ (p : Program). length (canonical p) ≤ most_bytes → script_of (canonical p) ≡ Ok p) (sym is) (spelled-again parts s.meant m (rewritten parts s.meant c m)) h
+    subst (λ (p : Program). length (canonical p) ≤ most_bytes → script_of (canonical p) ≡ Ok p) (sym is)
+    (spelled-again parts s.meant m (rewritten parts s.meant c m)) h
 
-pub canonical-again : (text : List ℕ) (result : Program) → script_of text ≡ Ok result → length (canonical result) ≤ most_bytes → script_of (canonical result) ≡ Ok result
+pub canonical-again : (text : List ℕ) (result : Program) → script_of text ≡ Ok result → length (canonical result) ≤ most_bytes → script_of (canonical result)
+    ≡ Ok result
 canonical-again text result e h = again text result (script text result e) h
 
 -- programs that texts spell, with one canonical text
-pub one-program : (text other : List ℕ) (first second : Program) → script_of text ≡ Ok first → script_of other ≡ Ok second → canonical first ≡ canonical second → length (canonical first) ≤ most_bytes → first ≡ second
+pub one-program : (text other : List ℕ) (first second : Program) → script_of text ≡ Ok first → script_of other ≡ Ok second → canonical first ≡ canonical second
+    → length (canonical first) ≤ most_bytes → first ≡ second
 one-program text other first second e f g h =
     let a : script_of (canonical first) ≡ Ok first = canonical-again text first e h in
     let b : script_of (canonical second) ≡ Ok second = canonical-again other second f (subst (λ (t : List ℕ). length t ≤ most_bytes) g h) in

@@ -2,8 +2,10 @@
 -- Source: PEP 8, "Indentation", with two spaces for a block.
 use Rattle.std.specs.Prelude.{ℕ, suc, List, [], ◌∷◌, ◌++◌, nat_eq, if◌then◌else◌}
 use Rattle.model_tree.specs.Syntax as plain
-use Rattle.model_tree.specs.Syntax.{Name, exprs_of, Manager, GroupBlock, TimeoutBlock, Statement, Statements, no_statements, statement_then, Branch, no_branch, branch, Handlers, no_handlers, handler_then, Coroutine, Program}
-use Rattle.model_text.specs.Forms.{Profile, Def, Assign, Yield, YieldFrom, Print, Raise, Return, Pass, If, Else, While, Try, Except, Finally, WithGroup, WithTimeout, End}
+use Rattle.model_tree.specs.Syntax.{Name, exprs_of, Manager, GroupBlock, TimeoutBlock, Statement, Statements, no_statements, statement_then, Branch, no_branch}
+use Rattle.model_tree.specs.Syntax.{branch, Handlers, no_handlers, handler_then, Coroutine, Program}
+use Rattle.model_text.specs.Forms.{Profile, Def, Assign, Yield, YieldFrom, Print, Raise, Return, Pass, If, Else, While, Try, Except, Finally, WithGroup}
+use Rattle.model_text.specs.Forms.{WithTimeout, End}
 use Rattle.model_text.specs.SecondPass.{Line}
 use Rattle.model_text.specs.Canonical.{line_in}
 use Rattle.law_lines.specs.LineTexts.{line_text}
@@ -38,7 +40,8 @@ abbrev mutual
   statement_lines (plain.While test body) blocks =
       indented blocks (While test) ∷ (statements_lines body (suc blocks) ++ indented blocks End ∷ [])
   statement_lines (plain.Try body handlers finally) blocks =
-      indented blocks Try ∷ (statements_lines body (suc blocks) ++ (handlers_lines handlers blocks ++ (branch_lines finally Finally blocks ++ indented blocks End ∷ [])))
+      indented blocks Try
+      ∷ (statements_lines body (suc blocks) ++ (handlers_lines handlers blocks ++ (branch_lines finally Finally blocks ++ indented blocks End ∷ [])))
   statement_lines (plain.With manager name body) blocks =
       indented blocks (with_line manager name) ∷ (statements_lines body (suc blocks) ++ indented blocks End ∷ [])
 

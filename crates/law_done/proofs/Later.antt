@@ -1,5 +1,6 @@
 -- What each change of the loop leaves of tasks and futures: those that there were stay, and what is done stays done.
-use Rattle.std.proofs.Common.{◌≡◌, ℕ, ◌≤◌, ◌<◌, ◌⊎◌, inl, inr, ℤ, Bool, true, false, List, [], ◌∷◌, Option, Some, None, Result, Ok, Err, filter, length, nat_le, nat_lt, slice_get, if◌then◌else◌, refl, sym, ap, ◌∙◌, arith}
+use Rattle.std.proofs.Common.{◌≡◌, ℕ, ◌≤◌, ◌<◌, ◌⊎◌, inl, inr, ℤ, Bool, true, false, List, [], ◌∷◌, Option, Some, None, Result, Ok, Err, filter, length, nat_le}
+use Rattle.std.proofs.Common.{nat_lt, slice_get, if◌then◌else◌, refl, sym, ap, ◌∙◌, arith}
 use Rattle.std.specs.List.{range_with_len}
 use Rattle.std.specs.Option.{option_map_or}
 use Rattle.std.proofs.lemmas.Bool.{eq-eqb, false≢true}
@@ -19,8 +20,10 @@ use Rattle.model_loop.specs.Owning.{OwnsFutures}
 use Rattle.model_loop.specs.Parts.{Future, Plain, Many, Parts, Task, Timer}
 use Rattle.model_loop.specs.Suspend.{suspend}
 use Rattle.model_loop.specs.Tasks.{begin_step, finish, future_of, lives, next_task, spawn, uncancel}
-use Rattle.model_loop.specs.Timeouts.{enter_timeout, exit_timeout, fire, give_up, is_active, leave_from, make_timeout, next_timeout, reschedule, reschedule_where, schedule, timeout_of, with_deadline, without_handle}
-use Rattle.model_machine.specs.Extra.{ExtraStep, MakesPlain, MakesMany, Settles, Releases, Registers, CallsSoon, CallsLater, Revokes, Cancels, Uncancels, made_by, made_by_all}
+use Rattle.model_loop.specs.Timeouts.{enter_timeout, exit_timeout, fire, give_up, is_active, leave_from, make_timeout, next_timeout, reschedule}
+use Rattle.model_loop.specs.Timeouts.{reschedule_where, schedule, timeout_of, with_deadline, without_handle}
+use Rattle.model_machine.specs.Extra.{ExtraStep, MakesPlain, MakesMany, Settles, Releases, Registers, CallsSoon, CallsLater, Revokes, Cancels, Uncancels}
+use Rattle.model_machine.specs.Extra.{made_by, made_by_all}
 use Rattle.law_cancel.proofs.Effects.{soon_all-futures, soon_all-tasks}
 use Rattle.law_after.specs.After.{IsAfter, OutcomeIn, ResultIn}
 use Rattle.law_after.proofs.Exits.{exit_begin_loop, exit_woken_loop}

@@ -1,5 +1,6 @@
 -- What a request and a step leave: what is done stays done, and each event that comes is of the task that runs.
-use Rattle.std.proofs.Common.{◌≡◌, ℕ, zero, suc, ℤ, pos, negsuc, Bool, true, false, List, [], ◌∷◌, ◌++◌, Option, Some, None, Ok, Err, length, nat_lt, is_some, refl, ap, sym, ◌∙◌, append_assoc, append-nil, ◌||◌}
+use Rattle.std.proofs.Common.{◌≡◌, ℕ, zero, suc, ℤ, pos, negsuc, Bool, true, false, List, [], ◌∷◌, ◌++◌, Option, Some, None, Ok, Err, length, nat_lt, is_some}
+use Rattle.std.proofs.Common.{refl, ap, sym, ◌∙◌, append_assoc, append-nil, ◌||◌}
 use Rattle.std.specs.List.{list_any}
 use Rattle.std.proofs.lemmas.List.Folds.{list_any-append}
 use Rattle.model_value.specs.Action.{Action}
@@ -25,14 +26,19 @@ use Rattle.model_machine.specs.Arguments.{as_future, as_awaited, as_task, as_tim
 use Rattle.model_machine.specs.Extra as extra
 use Rattle.model_machine.specs.Extra.{Extra, ExtraAnswer, ExtraSaid, called}
 use Rattle.model_machine.specs.Outcomes.{input_of}
-use Rattle.model_machine.specs.Replies.{RequestReply, Answers, Raises, Rests, Halts, given, most_ids, numbered_if, numbered, replied, ended, result_of, shown_all, waits, awaits_as, awaits, alarmed, sleeps, makes_future, settles_if, settles, requests, counted, spawns, enters_timeout, timed_out_if, exits_timeout, reschedules_if, reschedules, enters_group, exits_as, exits_group, creates_unless, creates, Wake, serves_until, serves_as, serves, woken_within, woken, reply, decides}
+use Rattle.model_machine.specs.Replies.{RequestReply, Answers, Raises, Rests, Halts, given, most_ids, numbered_if, numbered, replied, ended, result_of}
+use Rattle.model_machine.specs.Replies.{shown_all, waits, awaits_as, awaits, alarmed, sleeps, makes_future, settles_if, settles, requests, counted, spawns}
+use Rattle.model_machine.specs.Replies.{enters_timeout, timed_out_if, exits_timeout, reschedules_if, reschedules, enters_group, exits_as, exits_group}
+use Rattle.model_machine.specs.Replies.{creates_unless, creates, Wake, serves_until, serves_as, serves, woken_within, woken, reply, decides}
 use Rattle.model_machine.specs.State.{Standing, Asked, Sleeping, Leaving, Serving, State, generator_of, in_loop, noted, resumed, stands, unbooked_in, with_loop}
 use Rattle.model_machine.specs.Step.{given_up, says_of, taken_as, served, serve, serve_all, step}
 use Rattle.model_machine.specs.Turn.{effect}
 use Rattle.model_machine.specs.Went.{Went, state_of}
 use Rattle.law_machine.proofs.Kept.{reply_state}
 use Rattle.law_done.specs.Done.{is_of}
-use Rattle.law_done.proofs.Later.{IsLater, later_then, later_same, later_refl, later_settle, later_cancel, later_suspend, later_finish, later_begin, later_plain, later_spawn, later_uncancel, later_enter, later_reschedule, later_fire, later_exit, later_create, later_child, later_exit_begin, later_exit_woken, later_all}
+use Rattle.law_done.proofs.Later.{IsLater, later_then, later_same, later_refl, later_settle, later_cancel, later_suspend, later_finish, later_begin}
+use Rattle.law_done.proofs.Later.{later_plain, later_spawn, later_uncancel, later_enter, later_reschedule, later_fire, later_exit, later_create, later_child}
+use Rattle.law_done.proofs.Later.{later_exit_begin, later_exit_woken, later_all}
 
 -- `t` comes after `s` by what this task does, or nobody
 pub record IsWithin {S : Type 0} (runner : Option ℕ) (s t : State S) : Type 0 where

@@ -1,5 +1,6 @@
 -- Callbacks, turns and runs: no event is of a task that is done.
-use Rattle.std.proofs.Common.{◌≡◌, ℕ, zero, suc, Bool, true, false, not, ◌&&◌, List, [], ◌∷◌, ◌++◌, Option, Some, None, length, nat_lt, refl, sym, ap, ◌∙◌, append_assoc, append-nil, ◌||◌}
+use Rattle.std.proofs.Common.{◌≡◌, ℕ, zero, suc, Bool, true, false, not, ◌&&◌, List, [], ◌∷◌, ◌++◌, Option, Some, None, length, nat_lt, refl, sym, ap, ◌∙◌}
+use Rattle.std.proofs.Common.{append_assoc, append-nil, ◌||◌}
 use Rattle.std.specs.List.{list_any}
 use Rattle.std.proofs.lemmas.Bool.{false≢true}
 use Rattle.std.proofs.lemmas.List.Folds.{list_any-append}
@@ -21,7 +22,8 @@ use Rattle.model_machine.specs.Outside.{news_of, time_of}
 use Rattle.model_machine.specs.Run.{run_after, run_on}
 use Rattle.model_machine.specs.Sound.{IsStateSound}
 use Rattle.model_machine.specs.State.{State, noted, unbooked_in}
-use Rattle.model_machine.specs.Turn.{at_time, call_of, cancelled_if, effect, finished_if, is_stalled, next_below, ran, run_below, run_first, run_if, run_pending, turn, turn_over, turn_unless, turned_by, woken_by}
+use Rattle.model_machine.specs.Turn.{at_time, call_of, cancelled_if, effect, finished_if, is_stalled, next_below, ran, run_below, run_first, run_if}
+use Rattle.model_machine.specs.Turn.{run_pending, turn, turn_over, turn_unless, turned_by, woken_by}
 use Rattle.model_machine.specs.Went.{Went, Goes, Stops, answered_by, fitted, state_of, went_on}
 use Rattle.law_replies.specs.Added.{KeepsSound}
 use Rattle.law_inside.specs.InStep.{LeavesStateSound}

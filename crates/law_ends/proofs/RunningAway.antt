@@ -20,7 +20,10 @@ use Rattle.model_machine.specs.Arguments.{as_future, as_awaited, as_task, as_tim
 use Rattle.model_machine.specs.Extra as extra
 use Rattle.model_machine.specs.Extra.{Extra, ExtraAnswer, called}
 use Rattle.model_machine.specs.Outcomes.{input_of}
-use Rattle.model_machine.specs.Replies.{RequestReply, Answers, Raises, Rests, Halts, given, most_ids, numbered_if, numbered, replied, ended, result_of, awaits_as, awaits, sleeps, makes_future, settles_if, settles, requests, counted, spawns, enters_timeout, timed_out_if, exits_timeout, reschedules_if, reschedules, enters_group, exits_as, exits_group, creates_unless, creates, Wake, serves_until, serves_as, serves, woken_within, woken, reply, decides}
+use Rattle.model_machine.specs.Replies.{RequestReply, Answers, Raises, Rests, Halts, given, most_ids, numbered_if, numbered, replied, ended, result_of}
+use Rattle.model_machine.specs.Replies.{awaits_as, awaits, sleeps, makes_future, settles_if, settles, requests, counted, spawns, enters_timeout, timed_out_if}
+use Rattle.model_machine.specs.Replies.{exits_timeout, reschedules_if, reschedules, enters_group, exits_as, exits_group, creates_unless, creates, Wake}
+use Rattle.model_machine.specs.Replies.{serves_until, serves_as, serves, woken_within, woken, reply, decides}
 use Rattle.model_machine.specs.State.{Standing, Asked, Sleeping, Leaving, Serving, State, generator_of, in_loop, noted, resumed, stands, unbooked_in, with_loop}
 use Rattle.model_machine.specs.Step.{given_up, says_of, serve, serve_all, served, step, taken_as}
 use Rattle.model_machine.specs.Turn.{effect, next_below, ran, run_below, run_first, run_if, run_pending}

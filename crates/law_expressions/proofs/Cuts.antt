@@ -8,7 +8,8 @@ use Rattle.model_text.specs.Cutting.{Pieces, Cutter, pieces, pieces_from, with_f
 use Rattle.model_text.specs.declared.reserved_word.ReservedWord.TheVariants as word
 use Rattle.model_text.specs.Terms.{Term}
 use Rattle.model_text.specs.Terms as term
-use Rattle.model_text.specs.Levels.{Parser, level, joined, at_word, at_comparison, at_sum, at_product, at_index, indexed, negated, product, sum_of, comparison_level, compared, denied, is_not, conjunction, disjunction}
+use Rattle.model_text.specs.Levels.{Parser, level, joined, at_word, at_comparison, at_sum, at_product, at_index, indexed, negated, product, sum_of}
+use Rattle.model_text.specs.Levels.{comparison_level, compared, denied, is_not, conjunction, disjunction}
 use Rattle.law_expressions.specs.Lexemes.{within_parentheses}
 
 module _ {A : Type 0} where
@@ -24,16 +25,20 @@ abbrev pub Passes : {A : Type 0} → Cutter A → ℕ → Bool → ℕ → Bool 
 Passes {A} cutter depth behind depth' behind' lexemes =
     (rest : List Lexeme) → pieces_from cutter depth behind (lexemes ++ rest) ≡ in_front lexemes (pieces_from cutter depth' behind' rest)
 
-pub passes-append : {A : Type 0} (cutter : Cutter A) (d : ℕ) (a : Bool) (e : ℕ) (b : Bool) (f : ℕ) (c : Bool) (first others : List Lexeme) → Passes cutter d a e b first → Passes cutter e b f c others → Passes cutter d a f c (first ++ others)
+pub passes-append : {A : Type 0} (cutter : Cutter A) (d : ℕ) (a : Bool) (e : ℕ) (b : Bool) (f : ℕ) (c : Bool) (first others : List Lexeme)
+    → Passes cutter d a e b first → Passes cutter e b f c others → Passes cutter d a f c (first ++ others)
 passes-append cutter d a e b f c first others p q rest =
-    ap (pieces_from cutter d a) (append_assoc first others rest) ∙ (p (others ++ rest) ∙ (ap (in_front first) (q rest) ∙ sym (joined_front first others (pieces_from cutter f c rest))))
+    ap (pieces_from cutter d a) (append_assoc first others rest)
+    ∙ (p (others ++ rest) ∙ (ap (in_front first) (q rest) ∙ sym (joined_front first others (pieces_from cutter f c rest))))
 
 -- one lexeme inside brackets, and what stands behind it
-pub inside-next : {A : Type 0} (cutter : Cutter A) (d : ℕ) (a : Bool) (x : Lexeme) (f : ℕ) (c : Bool) (others : List Lexeme) → Passes cutter (depth_behind (suc d) x) (ends_operand x) f c others → Passes cutter (suc d) a f c (x ∷ others)
+pub inside-next : {A : Type 0} (cutter : Cutter A) (d : ℕ) (a : Bool) (x : Lexeme) (f : ℕ) (c : Bool) (others : List Lexeme)
+    → Passes cutter (depth_behind (suc d) x) (ends_operand x) f c others → Passes cutter (suc d) a f c (x ∷ others)
 inside-next cutter d a x f c others q rest = ap (with_front None x) (q rest)
 
 -- one lexeme outside brackets that isn't cut at
-pub outside-next : {A : Type 0} (cutter : Cutter A) (a : Bool) (x : Lexeme) (f : ℕ) (c : Bool) (others : List Lexeme) → cutter a x ≡ None → Passes cutter (depth_behind 0 x) (ends_operand x) f c others → Passes cutter 0 a f c (x ∷ others)
+pub outside-next : {A : Type 0} (cutter : Cutter A) (a : Bool) (x : Lexeme) (f : ℕ) (c : Bool) (others : List Lexeme) → cutter a x ≡ None
+    → Passes cutter (depth_behind 0 x) (ends_operand x) f c others → Passes cutter 0 a f c (x ∷ others)
 outside-next cutter a x f c others e q rest =
     ap (λ found. with_front found x (pieces_from cutter (depth_behind 0 x) (ends_operand x) (others ++ rest))) e ∙ ap (with_front None x) (q rest)
 
@@ -47,32 +52,49 @@ nothing-passes cutter d a rest = refl
 
 pub inside-parentheses : (lexemes : List Lexeme) → Inside lexemes → Inside (within_parentheses lexemes)
 inside-parentheses lexemes p A cutter d a =
-    inside-next cutter d a (Sign symbol.LeftParenthesis) (suc d) true (lexemes ++ Sign symbol.RightParenthesis ∷ []) (passes-append cutter (suc (suc d)) false (suc (suc d)) true (suc d) true lexemes (Sign symbol.RightParenthesis ∷ []) (p A cutter (suc d) false) (inside-next cutter (suc d) true (Sign symbol.RightParenthesis) (suc d) true [] (nothing-passes cutter (suc d) true)))
+    inside-next cutter d a (Sign symbol.LeftParenthesis) (suc d) true (lexemes ++ Sign symbol.RightParenthesis ∷ [])
+    (passes-append cutter (suc (suc d)) false (suc (suc d)) true (suc d) true lexemes (Sign symbol.RightParenthesis ∷ []) (p A cutter (suc d) false)
+    (inside-next cutter (suc d) true (Sign symbol.RightParenthesis) (suc d) true [] (nothing-passes cutter (suc d) true)))
 
-pub outside-parentheses : {A : Type 0} (cutter : Cutter A) (a : Bool) → cutter a (Sign symbol.LeftParenthesis) ≡ None → (lexemes : List Lexeme) → Inside lexemes → Passes cutter 0 a 0 true (within_parentheses lexemes)
+pub outside-parentheses : {A : Type 0} (cutter : Cutter A) (a : Bool) → cutter a (Sign symbol.LeftParenthesis) ≡ None → (lexemes : List Lexeme) → Inside lexemes
+    → Passes cutter 0 a 0 true (within_parentheses lexemes)
 outside-parentheses cutter a e lexemes p =
-    outside-next cutter a (Sign symbol.LeftParenthesis) 0 true (lexemes ++ Sign symbol.RightParenthesis ∷ []) e (passes-append cutter 1 false 1 true 0 true lexemes (Sign symbol.RightParenthesis ∷ []) (p _ cutter 0 false) (inside-next cutter 0 true (Sign symbol.RightParenthesis) 0 true [] (nothing-passes cutter 0 true)))
+    outside-next cutter a (Sign symbol.LeftParenthesis) 0 true (lexemes ++ Sign symbol.RightParenthesis ∷ []) e
+    (passes-append cutter 1 false 1 true 0 true lexemes (Sign symbol.RightParenthesis ∷ []) (p _ cutter 0 false)
+    (inside-next cutter 0 true (Sign symbol.RightParenthesis) 0 true [] (nothing-passes cutter 0 true)))
 
 -- ---- what the cuts of whole lists are
-pub whole-from : {A : Type 0} (cutter : Cutter A) (d : ℕ) (a : Bool) (b : Bool) (lexemes : List Lexeme) → Passes cutter d a 0 b lexemes → pieces_from cutter d a lexemes ≡ (let p : Pieces A = record { first = lexemes; others = [] } in p)
+pub whole-from : {A : Type 0} (cutter : Cutter A) (d : ℕ) (a : Bool) (b : Bool) (lexemes : List Lexeme) → Passes cutter d a 0 b lexemes
+    → pieces_from cutter d a lexemes ≡ (let p : Pieces A = record { first = lexemes; others = [] } in p)
 whole-from {A} cutter d a b lexemes p =
-    ap (pieces_from cutter d a) (sym (append-nil lexemes)) ∙ (p [] ∙ ap (λ (l : List Lexeme). let p : Pieces A = record { first = l; others = [] } in p) (append-nil lexemes))
+    ap (pieces_from cutter d a) (sym (append-nil lexemes))
+    ∙ (p [] ∙ ap (λ (l : List Lexeme). let p : Pieces A = record { first = l; others = [] } in p) (append-nil lexemes))
 
-pub cut-once : {A : Type 0} (cutter : Cutter A) (left right : List Lexeme) (x : Lexeme) (cut : A) (b : Bool) → Passes cutter 0 false 0 true left → cutter true x ≡ Some cut → Passes cutter (depth_behind 0 x) (ends_operand x) 0 b right → pieces cutter (left ++ x ∷ right) ≡ (let p : Pieces A = record { first = left; others = (cut, right) ∷ [] } in p)
+pub cut-once : {A : Type 0} (cutter : Cutter A) (left right : List Lexeme) (x : Lexeme) (cut : A) (b : Bool) → Passes cutter 0 false 0 true left → cutter true x
+    ≡ Some cut → Passes cutter (depth_behind 0 x) (ends_operand x) 0 b right → pieces cutter (left ++ x ∷ right)
+    ≡ (let p : Pieces A = record { first = left; others = (cut, right) ∷ [] } in p)
 cut-once {A} cutter left right x cut b p e q =
-    p (x ∷ right) ∙ (ap (λ found. in_front left (with_front found x (pieces_from cutter (depth_behind 0 x) (ends_operand x) right))) e ∙ (ap (λ rest. in_front left (with_front (Some cut) x rest)) (whole-from cutter (depth_behind 0 x) (ends_operand x) b right q) ∙ ap (λ (l : List Lexeme). let p : Pieces A = record { first = l; others = (cut, right) ∷ [] } in p) (append-nil left)))
+    p (x ∷ right)
+    ∙ (ap (λ found. in_front left (with_front found x (pieces_from cutter (depth_behind 0 x) (ends_operand x) right))) e
+    ∙ (ap (λ rest. in_front left (with_front (Some cut) x rest)) (whole-from cutter (depth_behind 0 x) (ends_operand x) b right q)
+    ∙ ap (λ (l : List Lexeme). let p : Pieces A = record { first = l; others = (cut, right) ∷ [] } in p) (append-nil left)))
 
 -- ---- a level whose operators don't stand in the lexemes, and one whose operator stands once
 abbrev read_pieces : {A : Type 0} → (A → Term → Term → Term) → Parser Term → Pieces A → Option Term
 read_pieces build operand cut = option_and_then (λ left. joined build operand left cut.others) (operand cut.first)
 
-pub level-uncut : {A : Type 0} (cutter : Cutter A) (build : A → Term → Term → Term) (operand : Parser Term) (b : Bool) (lexemes : List Lexeme) (t : Term) → Passes cutter 0 false 0 b lexemes → operand lexemes ≡ Some t → level cutter build operand lexemes ≡ Some t
+pub level-uncut : {A : Type 0} (cutter : Cutter A) (build : A → Term → Term → Term) (operand : Parser Term) (b : Bool) (lexemes : List Lexeme) (t : Term)
+    → Passes cutter 0 false 0 b lexemes → operand lexemes ≡ Some t → level cutter build operand lexemes ≡ Some t
 level-uncut cutter build operand b lexemes t p e =
     ap (read_pieces build operand) (whole-from cutter 0 false b lexemes p) ∙ ap (λ found. option_and_then (λ left. joined build operand left []) found) e
 
-pub level-cut : {A : Type 0} (cutter : Cutter A) (build : A → Term → Term → Term) (operand : Parser Term) (left right : List Lexeme) (x : Lexeme) (cut : A) (b : Bool) (l r : Term) → Passes cutter 0 false 0 true left → cutter true x ≡ Some cut → Passes cutter (depth_behind 0 x) (ends_operand x) 0 b right → operand left ≡ Some l → operand right ≡ Some r → level cutter build operand (left ++ x ∷ right) ≡ Some (build cut l r)
+pub level-cut : {A : Type 0} (cutter : Cutter A) (build : A → Term → Term → Term) (operand : Parser Term) (left right : List Lexeme) (x : Lexeme) (cut : A)
+    (b : Bool) (l r : Term) → Passes cutter 0 false 0 true left → cutter true x ≡ Some cut → Passes cutter (depth_behind 0 x) (ends_operand x) 0 b right
+    → operand left ≡ Some l → operand right ≡ Some r → level cutter build operand (left ++ x ∷ right) ≡ Some (build cut l r)
 level-cut cutter build operand left right x cut b l r p e q el er =
-    ap (read_pieces build operand) (cut-once cutter left right x cut b p e q) ∙ (ap (λ found. option_and_then (λ first. joined build operand first ((cut, right) ∷ [])) found) el ∙ ap (λ found. option_and_then (λ second. joined build operand (build cut l second) []) found) er)
+    ap (read_pieces build operand) (cut-once cutter left right x cut b p e q)
+    ∙ (ap (λ found. option_and_then (λ first. joined build operand first ((cut, right) ∷ [])) found) el
+    ∙ ap (λ found. option_and_then (λ second. joined build operand (build cut l second) []) found) er)
 
 -- ---- a cutter that cuts at no operand's own lexemes
 pub record Tame {A : Type 0} (cutter : Cutter A) : Type 0 where
@@ -87,16 +109,56 @@ pub record Tame {A : Type 0} (cutter : Cutter A) : Type 0 where
   pub bracket : (b : Bool) → cutter b (Sign symbol.LeftBracket) ≡ None
 
 pub tame_or : Tame (at_word word.Or)
-tame_or = record { named = λ b name. refl; number = λ b number. refl; texts = λ b text. refl; octets = λ b bytes. refl; none = λ b. refl; yes = λ b. refl; nay = λ b. refl; parenthesis = λ b. refl; bracket = λ b. refl }
+tame_or = record {
+  named = λ b name. refl;
+  number = λ b number. refl;
+  texts = λ b text. refl;
+  octets = λ b bytes. refl;
+  none = λ b. refl;
+  yes = λ b. refl;
+  nay = λ b. refl;
+  parenthesis = λ b. refl;
+  bracket = λ b. refl;
+}
 
 pub tame_and : Tame (at_word word.And)
-tame_and = record { named = λ b name. refl; number = λ b number. refl; texts = λ b text. refl; octets = λ b bytes. refl; none = λ b. refl; yes = λ b. refl; nay = λ b. refl; parenthesis = λ b. refl; bracket = λ b. refl }
+tame_and = record {
+  named = λ b name. refl;
+  number = λ b number. refl;
+  texts = λ b text. refl;
+  octets = λ b bytes. refl;
+  none = λ b. refl;
+  yes = λ b. refl;
+  nay = λ b. refl;
+  parenthesis = λ b. refl;
+  bracket = λ b. refl;
+}
 
 pub tame_comparison : Tame at_comparison
-tame_comparison = record { named = λ b name. refl; number = λ b number. refl; texts = λ b text. refl; octets = λ b bytes. refl; none = λ b. refl; yes = λ b. refl; nay = λ b. refl; parenthesis = λ b. refl; bracket = λ b. refl }
+tame_comparison = record {
+  named = λ b name. refl;
+  number = λ b number. refl;
+  texts = λ b text. refl;
+  octets = λ b bytes. refl;
+  none = λ b. refl;
+  yes = λ b. refl;
+  nay = λ b. refl;
+  parenthesis = λ b. refl;
+  bracket = λ b. refl;
+}
 
 pub tame_product : Tame at_product
-tame_product = record { named = λ b name. refl; number = λ b number. refl; texts = λ b text. refl; octets = λ b bytes. refl; none = λ b. refl; yes = λ b. refl; nay = λ b. refl; parenthesis = λ b. refl; bracket = λ b. refl }
+tame_product = record {
+  named = λ b name. refl;
+  number = λ b number. refl;
+  texts = λ b text. refl;
+  octets = λ b bytes. refl;
+  none = λ b. refl;
+  yes = λ b. refl;
+  nay = λ b. refl;
+  parenthesis = λ b. refl;
+  bracket = λ b. refl;
+}
 
 either : (P : Bool → Type 0) → P true → P false → (b : Bool) → P b
 either P t f true = t
@@ -107,7 +169,17 @@ at_sum_none x e true = e
 at_sum_none x e false = refl
 
 pub tame_sum : Tame at_sum
-tame_sum = record { named = λ b name. at_sum_none (Named name) refl b; number = λ b number. at_sum_none (Number number) refl b; texts = λ b text. at_sum_none (Texts text) refl b; octets = λ b bytes. at_sum_none (Octets bytes) refl b; none = at_sum_none (Reserved word.NoneValue) refl; yes = at_sum_none (Reserved word.TrueValue) refl; nay = at_sum_none (Reserved word.FalseValue) refl; parenthesis = at_sum_none (Sign symbol.LeftParenthesis) refl; bracket = at_sum_none (Sign symbol.LeftBracket) refl }
+tame_sum = record {
+  named = λ b name. at_sum_none (Named name) refl b;
+  number = λ b number. at_sum_none (Number number) refl b;
+  texts = λ b text. at_sum_none (Texts text) refl b;
+  octets = λ b bytes. at_sum_none (Octets bytes) refl b;
+  none = at_sum_none (Reserved word.NoneValue) refl;
+  yes = at_sum_none (Reserved word.TrueValue) refl;
+  nay = at_sum_none (Reserved word.FalseValue) refl;
+  parenthesis = at_sum_none (Sign symbol.LeftParenthesis) refl;
+  bracket = at_sum_none (Sign symbol.LeftBracket) refl;
+}
 
 -- pieces, and then a `[` with the pieces behind it
 abbrev pub item_behind : Pieces Symbol → Pieces Symbol → Pieces Symbol
@@ -117,7 +189,8 @@ item_behind cut behind = record cut { others = cut.others ++ (symbol.LeftBracket
 pub record StandsAsOperand (inside : Parser Term) (lexemes : List Lexeme) (t : Term) : Type 1 where
   pub reads : indexed inside lexemes ≡ Some t
   -- an item that is taken of it
-  pub index : (rest : List Lexeme) → pieces_from at_index 0 false (lexemes ++ Sign symbol.LeftBracket ∷ rest) ≡ item_behind (pieces_from at_index 0 false lexemes) (pieces_from at_index 1 false rest)
+  pub index : (rest : List Lexeme) → pieces_from at_index 0 false (lexemes ++ Sign symbol.LeftBracket ∷ rest)
+      ≡ item_behind (pieces_from at_index 0 false lexemes) (pieces_from at_index 1 false rest)
   pub inner : Inside lexemes
   pub outer : (A : Type 0) (cutter : Cutter A) → Tame cutter → (b : Bool) → Passes cutter 0 b 0 true lexemes
   pub first : Lexeme
@@ -129,7 +202,9 @@ pub record StandsAsOperand (inside : Parser Term) (lexemes : List Lexeme) (t : T
 module _ (inside : Parser Term) (lexemes : List Lexeme) (t : Term) (o : StandsAsOperand inside lexemes t) where
   pub as_negated : negated inside lexemes ≡ Some t
   as_negated =
-      ap (negated inside) o.split ∙ (ap (λ test. if test then option_map term.Negate (negated inside o.others) else indexed inside (o.first ∷ o.others)) o.no_minus ∙ (ap (indexed inside) (sym o.split) ∙ o.reads))
+      ap (negated inside) o.split
+      ∙ (ap (λ test. if test then option_map term.Negate (negated inside o.others) else indexed inside (o.first ∷ o.others)) o.no_minus
+      ∙ (ap (indexed inside) (sym o.split) ∙ o.reads))
 
   pub as_product : product inside lexemes ≡ Some t
   as_product =
@@ -140,11 +215,14 @@ module _ (inside : Parser Term) (lexemes : List Lexeme) (t : Term) (o : StandsAs
 
   pub as_comparison : comparison_level inside lexemes ≡ Some t
   as_comparison =
-      ap (λ (c : Pieces _). option_and_then (compared inside c.others) (sum_of inside c.first)) (whole-from at_comparison 0 false true lexemes (o.outer _ at_comparison tame_comparison false)) ∙ ap (option_and_then (compared inside [])) as_sum
+      ap (λ (c : Pieces _). option_and_then (compared inside c.others) (sum_of inside c.first))
+      (whole-from at_comparison 0 false true lexemes (o.outer _ at_comparison tame_comparison false)) ∙ ap (option_and_then (compared inside [])) as_sum
 
   pub as_denied : denied inside lexemes ≡ Some t
   as_denied =
-      ap (denied inside) o.split ∙ (ap (λ test. if test then option_map term.Not (denied inside o.others) else comparison_level inside (o.first ∷ o.others)) o.no_not ∙ (ap (comparison_level inside) (sym o.split) ∙ as_comparison))
+      ap (denied inside) o.split
+      ∙ (ap (λ test. if test then option_map term.Not (denied inside o.others) else comparison_level inside (o.first ∷ o.others)) o.no_not
+      ∙ (ap (comparison_level inside) (sym o.split) ∙ as_comparison))
 
   pub as_conjunction : conjunction inside lexemes ≡ Some t
   as_conjunction =

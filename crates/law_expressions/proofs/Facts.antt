@@ -9,7 +9,8 @@ use Rattle.model_tree.specs.declared.operator.Operator.TheVariants as operator
 use Rattle.model_tree.specs.declared.operator.Operator.{Operator}
 use Rattle.model_tree.specs.declared.operator.Comparison.{Comparison}
 use Rattle.model_tree.specs.declared.operator.Comparison.TheVariants as comparison
-use Rattle.model_tree.specs.Syntax.{Constant, NoneConstant, TruthConstant, IntConstant, TextConstant, BytesConstant, Expr, Or, And, Not, Compare, Calculate, Negate, Index, Literal, Variable, ListOf, Apply, MakeError, Exprs, no_exprs, expr_then}
+use Rattle.model_tree.specs.Syntax.{Constant, NoneConstant, TruthConstant, IntConstant, TextConstant, BytesConstant, Expr, Or, And, Not, Compare, Calculate}
+use Rattle.model_tree.specs.Syntax.{Negate, Index, Literal, Variable, ListOf, Apply, MakeError, Exprs, no_exprs, expr_then}
 use Rattle.model_tree.specs.Known.{function_text, error_text}
 use Rattle.model_text.specs.declared.symbol.Symbol.TheVariants as symbol
 use Rattle.model_text.specs.declared.reserved_word.ReservedWord.TheVariants as word
@@ -17,11 +18,16 @@ use Rattle.model_text.specs.Words.{Lexeme, Reserved, Named, Number, Texts, Octet
 use Rattle.model_text.specs.Cutting.{Pieces, Cutter, pieces_from, with_front, parts}
 use Rattle.model_text.specs.Terms.{Term, terms, terms_of, Terms, no_terms, term_then}
 use Rattle.model_text.specs.Terms as term
-use Rattle.model_text.specs.Levels.{Parser, is_not, Arguments, all_of, arguments_of, kind_place, called, items, primary, at_word, at_comparison, at_sum, at_product, at_index, negated, term_within, term_of}
-use Rattle.law_expressions.specs.Lexemes.{operator_symbol, comparison_symbol, constant_lexeme, within_parentheses, within_brackets, operand_lexemes, expr_lexemes, exprs_lexemes, more_lexemes, term_from, terms_from}
-use Rattle.law_expressions.proofs.Cuts.{nothing-passes, Passes, passes-append, inside-next, outside-next, Inside, inside-parentheses, outside-parentheses, in_front, whole-from, level-uncut, Tame, tame_or, tame_and, tame_comparison, tame_sum, tame_product, as_negated, as_denied}
+use Rattle.model_text.specs.Levels.{Parser, is_not, Arguments, all_of, arguments_of, kind_place, called, items, primary, at_word, at_comparison, at_sum}
+use Rattle.model_text.specs.Levels.{at_product, at_index, negated, term_within, term_of}
+use Rattle.law_expressions.specs.Lexemes.{operator_symbol, comparison_symbol, constant_lexeme, within_parentheses, within_brackets, operand_lexemes}
+use Rattle.law_expressions.specs.Lexemes.{expr_lexemes, exprs_lexemes, more_lexemes, term_from, terms_from}
+use Rattle.law_expressions.proofs.Cuts.{nothing-passes, Passes, passes-append, inside-next, outside-next, Inside, inside-parentheses, outside-parentheses}
+use Rattle.law_expressions.proofs.Cuts.{in_front, whole-from, level-uncut, Tame, tame_or, tame_and, tame_comparison, tame_sum, tame_product, as_negated}
+use Rattle.law_expressions.proofs.Cuts.{as_denied}
 use Rattle.law_expressions.proofs.Shapes.{base-operand, inner-read, room, index-operand, before-last, primary-bracketed}
-use Rattle.law_expressions.proofs.Read.{at_comma, tame_comma, Shape, Facts, operation-facts, bare-facts, up-denied, up-comparison, up-sum, up-product, or-reads, and-reads, compare-reads, sum-reads, product-reads, binary-facts}
+use Rattle.law_expressions.proofs.Read.{at_comma, tame_comma, Shape, Facts, operation-facts, bare-facts, up-denied, up-comparison, up-sum, up-product, or-reads}
+use Rattle.law_expressions.proofs.Read.{and-reads, compare-reads, sum-reads, product-reads, binary-facts}
 
 -- ---- one operand
 module _ (w o : List Lexeme) (t : Term) (f : Facts w o t) where
@@ -44,7 +50,14 @@ module _ (w o : List Lexeme) (t : Term) (f : Facts w o t) where
         first = Sign symbol.Minus;
         others = o;
         split = refl;
-      }) (λ n h. up-denied (term_within n) (Sign symbol.Minus ∷ o) (term.Negate t) (minus-passes (at_word word.And) tame_and refl) (minus-passes (at_word word.Or) tame_or refl) (up-comparison (term_within n) (Sign symbol.Minus ∷ o) (term.Negate t) (Sign symbol.Minus) o refl refl (up-sum (term_within n) (Sign symbol.Minus ∷ o) (term.Negate t) (minus-passes at_comparison tame_comparison refl) (up-product (term_within n) (Sign symbol.Minus ∷ o) (term.Negate t) (minus-passes at_sum tame_sum refl) (level-uncut at_product term.Calculate (negated (term_within n)) true (Sign symbol.Minus ∷ o) (term.Negate t) (minus-passes at_product tame_product refl) (ap (option_map term.Negate) (as_negated (term_within n) o t (f.operands n (behind-first (Sign symbol.Minus) n h)))))))))
+      }) (λ n h. up-denied (term_within n) (Sign symbol.Minus ∷ o) (term.Negate t) (minus-passes (at_word word.And) tame_and refl)
+      (minus-passes (at_word word.Or) tame_or refl)
+      (up-comparison (term_within n) (Sign symbol.Minus ∷ o) (term.Negate t) (Sign symbol.Minus) o refl refl
+      (up-sum (term_within n) (Sign symbol.Minus ∷ o) (term.Negate t) (minus-passes at_comparison tame_comparison refl)
+      (up-product (term_within n) (Sign symbol.Minus ∷ o) (term.Negate t) (minus-passes at_sum tame_sum refl)
+      (level-uncut at_product term.Calculate (negated (term_within n)) true (Sign symbol.Minus ∷ o) (term.Negate t)
+      (minus-passes at_product tame_product refl)
+      (ap (option_map term.Negate) (as_negated (term_within n) o t (f.operands n (behind-first (Sign symbol.Minus) n h)))))))))
 
   pub not-facts : Facts (Reserved word.Not ∷ o) (within_parentheses (Reserved word.Not ∷ o)) (term.Not t)
   not-facts = operation-facts (Reserved word.Not ∷ o) (term.Not t) (
@@ -54,43 +67,66 @@ module _ (w o : List Lexeme) (t : Term) (f : Facts w o t) where
         first = Reserved word.Not;
         others = o;
         split = refl;
-      }) (λ n h. up-denied (term_within n) (Reserved word.Not ∷ o) (term.Not t) (not-passes (at_word word.And) tame_and refl) (not-passes (at_word word.Or) tame_or refl) (ap (option_map term.Not) (as_denied (term_within n) o t (f.operands n (behind-first (Reserved word.Not) n h)))))
+      }) (λ n h. up-denied (term_within n) (Reserved word.Not ∷ o) (term.Not t) (not-passes (at_word word.And) tame_and refl)
+      (not-passes (at_word word.Or) tame_or refl)
+      (ap (option_map term.Not) (as_denied (term_within n) o t (f.operands n (behind-first (Reserved word.Not) n h)))))
 
 -- ---- one lexeme
-atom-facts : (x : Lexeme) (t : Term) → ((inside : Parser Term) → primary inside (x ∷ []) ≡ Some t) → Inside (x ∷ []) → ((A : Type 0) (cutter : Cutter A) → Tame cutter → (b : Bool) → Passes cutter 0 b 0 true (x ∷ [])) → Passes at_index 0 false 0 true (x ∷ []) → is_sign symbol.Minus x ≡ false → ((inside : Parser Term) → is_not inside x ≡ false) → Facts (x ∷ []) (x ∷ []) t
+atom-facts : (x : Lexeme) (t : Term) → ((inside : Parser Term) → primary inside (x ∷ []) ≡ Some t) → Inside (x ∷ [])
+    → ((A : Type 0) (cutter : Cutter A) → Tame cutter → (b : Bool) → Passes cutter 0 b 0 true (x ∷ [])) → Passes at_index 0 false 0 true (x ∷ [])
+    → is_sign symbol.Minus x ≡ false → ((inside : Parser Term) → is_not inside x ≡ false) → Facts (x ∷ []) (x ∷ []) t
 atom-facts x t e inner outer p minus no_not =
     bare-facts (x ∷ []) t (λ n h. base-operand (term_within n) x [] t (e (term_within n)) inner outer p minus (no_not (term_within n)))
 
 -- a lexeme that a tame cutter passes, at the depth where it leaves it
-passed : {A : Type 0} (cutter : Cutter A) (b : Bool) (x : Lexeme) (rest : List Lexeme) → cutter b x ≡ None → with_front (cutter b x) x (pieces_from cutter 0 true rest) ≡ with_front None x (pieces_from cutter 0 true rest)
+passed : {A : Type 0} (cutter : Cutter A) (b : Bool) (x : Lexeme) (rest : List Lexeme) → cutter b x ≡ None
+    → with_front (cutter b x) x (pieces_from cutter 0 true rest) ≡ with_front None x (pieces_from cutter 0 true rest)
 passed cutter b x rest e = ap (λ found. with_front found x (pieces_from cutter 0 true rest)) e
 
 name-facts : (name : List ℕ) → Facts (Named name ∷ []) (Named name ∷ []) (term.Variable name)
 name-facts name =
-    atom-facts (Named name) (term.Variable name) (λ inside. refl) (λ A cutter d a rest. refl) (λ A cutter tame b rest. passed cutter b (Named name) rest (tame.named b name)) (λ rest. refl) refl (λ inside. refl)
+    atom-facts (Named name) (term.Variable name) (λ inside. refl) (λ A cutter d a rest. refl)
+    (λ A cutter tame b rest. passed cutter b (Named name) rest (tame.named b name)) (λ rest. refl) refl (λ inside. refl)
 
 constant-facts : (c : Constant) → Facts (constant_lexeme c ∷ []) (constant_lexeme c ∷ []) (term.Constantly c)
 constant-facts NoneConstant =
-    atom-facts (Reserved word.NoneValue) (term.Constantly NoneConstant) (λ inside. refl) (λ A cutter d a rest. refl) (λ A cutter tame b rest. passed cutter b (Reserved word.NoneValue) rest (tame.none b)) (λ rest. refl) refl (λ inside. refl)
+    atom-facts (Reserved word.NoneValue) (term.Constantly NoneConstant) (λ inside. refl) (λ A cutter d a rest. refl)
+    (λ A cutter tame b rest. passed cutter b (Reserved word.NoneValue) rest (tame.none b)) (λ rest. refl) refl (λ inside. refl)
 constant-facts (TruthConstant true) =
-    atom-facts (Reserved word.TrueValue) (term.Constantly (TruthConstant true)) (λ inside. refl) (λ A cutter d a rest. refl) (λ A cutter tame b rest. passed cutter b (Reserved word.TrueValue) rest (tame.yes b)) (λ rest. refl) refl (λ inside. refl)
+    atom-facts (Reserved word.TrueValue) (term.Constantly (TruthConstant true)) (λ inside. refl) (λ A cutter d a rest. refl)
+    (λ A cutter tame b rest. passed cutter b (Reserved word.TrueValue) rest (tame.yes b)) (λ rest. refl) refl (λ inside. refl)
 constant-facts (TruthConstant false) =
-    atom-facts (Reserved word.FalseValue) (term.Constantly (TruthConstant false)) (λ inside. refl) (λ A cutter d a rest. refl) (λ A cutter tame b rest. passed cutter b (Reserved word.FalseValue) rest (tame.nay b)) (λ rest. refl) refl (λ inside. refl)
+    atom-facts (Reserved word.FalseValue) (term.Constantly (TruthConstant false)) (λ inside. refl) (λ A cutter d a rest. refl)
+    (λ A cutter tame b rest. passed cutter b (Reserved word.FalseValue) rest (tame.nay b)) (λ rest. refl) refl (λ inside. refl)
 constant-facts (IntConstant number) =
-    atom-facts (Number number) (term.Constantly (IntConstant number)) (λ inside. refl) (λ A cutter d a rest. refl) (λ A cutter tame b rest. passed cutter b (Number number) rest (tame.number b number)) (λ rest. refl) refl (λ inside. refl)
+    atom-facts (Number number) (term.Constantly (IntConstant number)) (λ inside. refl) (λ A cutter d a rest. refl)
+    (λ A cutter tame b rest. passed cutter b (Number number) rest (tame.number b number)) (λ rest. refl) refl (λ inside. refl)
 constant-facts (TextConstant text) =
-    atom-facts (Texts text) (term.Constantly (TextConstant text)) (λ inside. refl) (λ A cutter d a rest. refl) (λ A cutter tame b rest. passed cutter b (Texts text) rest (tame.texts b text)) (λ rest. refl) refl (λ inside. refl)
+    atom-facts (Texts text) (term.Constantly (TextConstant text)) (λ inside. refl) (λ A cutter d a rest. refl)
+    (λ A cutter tame b rest. passed cutter b (Texts text) rest (tame.texts b text)) (λ rest. refl) refl (λ inside. refl)
 constant-facts (BytesConstant bytes) =
-    atom-facts (Octets bytes) (term.Constantly (BytesConstant bytes)) (λ inside. refl) (λ A cutter d a rest. refl) (λ A cutter tame b rest. passed cutter b (Octets bytes) rest (tame.octets b bytes)) (λ rest. refl) refl (λ inside. refl)
+    atom-facts (Octets bytes) (term.Constantly (BytesConstant bytes)) (λ inside. refl) (λ A cutter d a rest. refl)
+    (λ A cutter tame b rest. passed cutter b (Octets bytes) rest (tame.octets b bytes)) (λ rest. refl) refl (λ inside. refl)
 
 -- ---- calls
 parts-of : (lexemes : List Lexeme) → Shape lexemes → parts lexemes ≡ lexemes ∷ []
 parts-of lexemes s =
-    ap parts s.split ∙ ap (λ (c : Pieces Lexeme). c.first ∷ map (λ other. other.1) c.others) (ap (pieces_from at_comma 0 false) (sym s.split) ∙ whole-from at_comma 0 false true lexemes s.commas)
+    ap parts s.split
+    ∙ ap (λ (c : Pieces Lexeme). c.first ∷ map (λ other. other.1) c.others)
+    (ap (pieces_from at_comma 0 false) (sym s.split) ∙ whole-from at_comma 0 false true lexemes s.commas)
 
-call-facts : (name : List ℕ) (x : List Lexeme) (t : Term) → Inside x → ((n : ℕ) → suc (length x) ≤ n → called (term_within n) name x ≡ Some t) → Facts (Named name ∷ within_parentheses x) (Named name ∷ within_parentheses x) t
+call-facts : (name : List ℕ) (x : List Lexeme) (t : Term) → Inside x → ((n : ℕ) → suc (length x) ≤ n → called (term_within n) name x ≡ Some t)
+    → Facts (Named name ∷ within_parentheses x) (Named name ∷ within_parentheses x) t
 call-facts name x t inner reads =
-    bare-facts (Named name ∷ within_parentheses x) t (λ n h. base-operand (term_within n) (Named name) (within_parentheses x) t (ap (option_and_then (called (term_within n) name)) (before-last symbol.RightParenthesis (Sign symbol.RightParenthesis) x refl) ∙ reads n (room (Sign symbol.LeftParenthesis) (Sign symbol.RightParenthesis) x n (omega arith))) (λ A cutter d a. inside-next cutter d a (Named name) (suc d) true (within_parentheses x) (inside-parentheses x inner A cutter d true)) (λ A cutter tame b. outside-next cutter b (Named name) 0 true (within_parentheses x) (tame.named b name) (outside-parentheses cutter true (tame.parenthesis true) x inner)) (outside-next at_index false (Named name) 0 true (within_parentheses x) refl (outside-parentheses at_index true refl x inner)) refl refl)
+    bare-facts (Named name ∷ within_parentheses x) t
+    (λ n h. base-operand (term_within n) (Named name) (within_parentheses x) t
+    (ap (option_and_then (called (term_within n) name)) (before-last symbol.RightParenthesis (Sign symbol.RightParenthesis) x refl)
+    ∙ reads n (room (Sign symbol.LeftParenthesis) (Sign symbol.RightParenthesis) x n (omega arith)))
+    (λ A cutter d a. inside-next cutter d a (Named name) (suc d) true (within_parentheses x) (inside-parentheses x inner A cutter d true))
+    (λ A cutter tame b. outside-next cutter b (Named name) 0 true (within_parentheses x) (tame.named b name)
+    (outside-parentheses cutter true (tame.parenthesis true) x inner))
+    (outside-next at_index false (Named name) 0 true (within_parentheses x) refl
+    (outside-parentheses at_index true refl x inner)) refl refl)
 
 no-kind : (f : Function) → kind_place (function_text f) ≡ None
 no-kind function.Len = refl
@@ -105,16 +141,41 @@ no-kind function.Members = refl
 called_by : List ℕ → Arguments → Term
 called_by name arguments = term.Called name (terms arguments.before) arguments.bare (terms arguments.after)
 
-apply-facts : (f : Function) (w o : List Lexeme) (t : Term) → Facts w o t → Facts (Named (function_text f) ∷ within_parentheses w) (Named (function_text f) ∷ within_parentheses w) (term.Called (function_text f) (term_then t no_terms) None no_terms)
+apply-facts : (f : Function) (w o : List Lexeme) (t : Term) → Facts w o t
+    → Facts (Named (function_text f) ∷ within_parentheses w) (Named (function_text f) ∷ within_parentheses w)
+    (term.Called (function_text f) (term_then t no_terms) None no_terms)
 apply-facts f w o t e =
-    call-facts (function_text f) w (term.Called (function_text f) (term_then t no_terms) None no_terms) e.shape.inner (λ n h. ap (λ place. option_map (λ (arguments : Arguments). term.Called (function_text f) (terms arguments.before) arguments.bare (terms arguments.after)) (arguments_of (term_within n) place (parts w))) (no-kind f) ∙ (ap (λ slots. option_map (λ (arguments : Arguments). term.Called (function_text f) (terms arguments.before) arguments.bare (terms arguments.after)) (arguments_of (term_within n) None slots)) (parts-of w e.shape) ∙ ap (λ found. option_map (λ (arguments : Arguments). term.Called (function_text f) (terms arguments.before) arguments.bare (terms arguments.after)) (option_map (λ (all : List Term). let a : Arguments = record { before = all; bare = None; after = [] } in a) (option_and_then (λ y. option_map (λ ys. y ∷ ys) (Some [])) found))) (inner-read n w t e.reads h)))
+    call-facts (function_text f) w (term.Called (function_text f) (term_then t no_terms) None no_terms) e.shape.inner
+    (λ n h. ap
+    (λ place. option_map (λ (arguments : Arguments). term.Called (function_text f) (terms arguments.before) arguments.bare (terms arguments.after))
+    (arguments_of (term_within n) place (parts w))) (no-kind f)
+    ∙ (ap (λ slots. option_map
+    (λ (arguments : Arguments). term.Called (function_text f) (terms arguments.before) arguments.bare (terms arguments.after))
+    (arguments_of (term_within n) None slots)) (parts-of w e.shape)
+    ∙ ap (λ found. option_map
+    (λ (arguments : Arguments). term.Called (function_text f) (terms arguments.before) arguments.bare (terms arguments.after))
+    (option_map (λ (all : List Term). let a : Arguments = record { before = all; bare = None; after = [] } in a)
+    (option_and_then (λ y. option_map (λ ys. y ∷ ys) (Some [])) found))) (inner-read n w t e.reads h)))
 
 kind-then : List ℕ → List Lexeme → List Lexeme
 kind-then kind w = Named kind ∷ Sign symbol.Comma ∷ w
 
-error-facts : (kind : List ℕ) (w o : List Lexeme) (t : Term) → Facts w o t → Facts (Named error_text ∷ within_parentheses (Named kind ∷ Sign symbol.Comma ∷ w)) (Named error_text ∷ within_parentheses (Named kind ∷ Sign symbol.Comma ∷ w)) (term.Called error_text no_terms (Some kind) (term_then t no_terms))
+error-facts : (kind : List ℕ) (w o : List Lexeme) (t : Term) → Facts w o t
+    → Facts (Named error_text ∷ within_parentheses (Named kind ∷ Sign symbol.Comma ∷ w))
+    (Named error_text ∷ within_parentheses (Named kind ∷ Sign symbol.Comma ∷ w)) (term.Called error_text no_terms (Some kind) (term_then t no_terms))
 error-facts kind w o t e =
-    call-facts error_text (Named kind ∷ Sign symbol.Comma ∷ w) (term.Called error_text no_terms (Some kind) (term_then t no_terms)) (λ A cutter d a. inside-next cutter d a (Named kind) (suc d) true (Sign symbol.Comma ∷ w) (inside-next cutter d true (Sign symbol.Comma) (suc d) true w (e.shape.inner A cutter d false))) (λ n h. ap (λ (c : Pieces Lexeme). option_map (λ (arguments : Arguments). term.Called error_text (terms arguments.before) arguments.bare (terms arguments.after)) (arguments_of (term_within n) (Some 0) ((Named kind ∷ []) ∷ c.first ∷ map (λ other. other.1) c.others))) (whole-from at_comma 0 false true w e.shape.commas) ∙ ap (λ found. option_map (λ (arguments : Arguments). term.Called error_text (terms arguments.before) arguments.bare (terms arguments.after)) (option_map (λ (all : List Term). let a : Arguments = record { before = []; bare = Some kind; after = all } in a) (option_and_then (λ y. option_map (λ ys. y ∷ ys) (Some [])) found))) (inner-read n w t e.reads (omega arith)))
+    call-facts error_text (Named kind ∷ Sign symbol.Comma ∷ w) (term.Called error_text no_terms (Some kind) (term_then t no_terms))
+    (λ A cutter d a. inside-next cutter d a (Named kind) (suc d) true (Sign symbol.Comma ∷ w)
+    (inside-next cutter d true (Sign symbol.Comma) (suc d) true w (e.shape.inner A cutter d false)))
+    (λ n h. ap
+    (λ (c : Pieces Lexeme). option_map
+    (λ (arguments : Arguments). term.Called error_text (terms arguments.before) arguments.bare (terms arguments.after))
+    (arguments_of (term_within n) (Some 0) ((Named kind ∷ []) ∷ c.first ∷ map (λ other. other.1) c.others)))
+    (whole-from at_comma 0 false true w e.shape.commas)
+    ∙ ap (λ found. option_map
+    (λ (arguments : Arguments). term.Called error_text (terms arguments.before) arguments.bare (terms arguments.after))
+    (option_map (λ (all : List Term). let a : Arguments = record { before = []; bare = Some kind; after = all } in a)
+    (option_and_then (λ y. option_map (λ ys. y ∷ ys) (Some [])) found))) (inner-read n w t e.reads (omega arith)))
 
 -- ---- rows
 abbrev pub groups : Exprs → List (Lexeme × List Lexeme)
@@ -139,91 +200,146 @@ record ReadsRow (row : Exprs) : Type 1 where
   pub inner : (A : Type 0) (cutter : Cutter A) (d : ℕ) → Passes cutter (suc d) false (suc d) behind (exprs_lexemes row)
   pub reads : (n : ℕ) → suc (length (exprs_lexemes row)) ≤ n → all_of (term_within n) (parts (exprs_lexemes row)) ≡ Some (row_terms row)
 
-pub front-pieces : (first others : List Lexeme) (cut : List (Lexeme × List Lexeme)) → Shape first → pieces_from at_comma 0 true others ≡ (let c : Pieces Lexeme = record { first = []; others = cut } in c) → pieces_from at_comma 0 false (first ++ others) ≡ (let c : Pieces Lexeme = record { first = first; others = cut } in c)
+pub front-pieces : (first others : List Lexeme) (cut : List (Lexeme × List Lexeme)) → Shape first → pieces_from at_comma 0 true others
+    ≡ (let c : Pieces Lexeme = record { first = []; others = cut } in c) → pieces_from at_comma 0 false (first ++ others)
+    ≡ (let c : Pieces Lexeme = record { first = first; others = cut } in c)
 front-pieces first others cut s e =
     s.commas others ∙ (ap (in_front first) e ∙ ap (λ (l : List Lexeme). let c : Pieces Lexeme = record { first = l; others = cut } in c) (append-nil first))
 
-front-reads : (n : ℕ) (w : List Lexeme) (t : Term) (slots : List (List Lexeme)) (ts : List Term) → term_within n w ≡ Some t → all_of (term_within n) slots ≡ Some ts → all_of (term_within n) (w ∷ slots) ≡ Some (t ∷ ts)
+front-reads : (n : ℕ) (w : List Lexeme) (t : Term) (slots : List (List Lexeme)) (ts : List Term) → term_within n w ≡ Some t → all_of (term_within n) slots
+    ≡ Some ts → all_of (term_within n) (w ∷ slots) ≡ Some (t ∷ ts)
 front-reads n w t slots ts e es =
     ap (option_and_then (λ y. option_map (λ ys. y ∷ ys) (all_of (term_within n) slots))) e ∙ ap (option_map (λ ys. t ∷ ys)) es
 
-pub parts-front : (x : Lexeme) (xs lexemes : List Lexeme) → lexemes ≡ x ∷ xs → parts lexemes ≡ (let c : Pieces Lexeme = pieces_from at_comma 0 false lexemes in c.first ∷ map (λ other. other.1) c.others)
+pub parts-front : (x : Lexeme) (xs lexemes : List Lexeme) → lexemes ≡ x ∷ xs → parts lexemes
+    ≡ (let c : Pieces Lexeme = pieces_from at_comma 0 false lexemes in c.first ∷ map (λ other. other.1) c.others)
 parts-front x xs lexemes e =
     ap parts e ∙ ap (λ (l : List Lexeme). let c : Pieces Lexeme = pieces_from at_comma 0 false l in c.first ∷ map (λ other. other.1) c.others) (sym e)
 
 -- ---- two operands
-or-facts : (lw lo : List Lexeme) (l : Term) → Facts lw lo l → (rw ro : List Lexeme) (r : Term) → Facts rw ro r → Facts (lo ++ Reserved word.Or ∷ ro) (within_parentheses (lo ++ Reserved word.Or ∷ ro)) (term.Or l r)
+or-facts : (lw lo : List Lexeme) (l : Term) → Facts lw lo l → (rw ro : List Lexeme) (r : Term) → Facts rw ro r
+    → Facts (lo ++ Reserved word.Or ∷ ro) (within_parentheses (lo ++ Reserved word.Or ∷ ro)) (term.Or l r)
 or-facts lw lo l fl rw ro r fr =
-    binary-facts lw lo l fl rw ro r fr (Reserved word.Or) (λ d. refl) refl (term.Or l r) refl (λ n h. or-reads lw lo l fl rw ro r fr (Reserved word.Or) (λ d. refl) refl n refl h)
+    binary-facts lw lo l fl rw ro r fr (Reserved word.Or) (λ d. refl) refl (term.Or l r) refl
+    (λ n h. or-reads lw lo l fl rw ro r fr (Reserved word.Or) (λ d. refl) refl n refl h)
 
-and-facts : (lw lo : List Lexeme) (l : Term) → Facts lw lo l → (rw ro : List Lexeme) (r : Term) → Facts rw ro r → Facts (lo ++ Reserved word.And ∷ ro) (within_parentheses (lo ++ Reserved word.And ∷ ro)) (term.And l r)
+and-facts : (lw lo : List Lexeme) (l : Term) → Facts lw lo l → (rw ro : List Lexeme) (r : Term) → Facts rw ro r
+    → Facts (lo ++ Reserved word.And ∷ ro) (within_parentheses (lo ++ Reserved word.And ∷ ro)) (term.And l r)
 and-facts lw lo l fl rw ro r fr =
-    binary-facts lw lo l fl rw ro r fr (Reserved word.And) (λ d. refl) refl (term.And l r) refl (λ n h. and-reads lw lo l fl rw ro r fr (Reserved word.And) (λ d. refl) refl n refl refl h)
+    binary-facts lw lo l fl rw ro r fr (Reserved word.And) (λ d. refl) refl (term.And l r) refl
+    (λ n h. and-reads lw lo l fl rw ro r fr (Reserved word.And) (λ d. refl) refl n refl refl h)
 
-compare-facts : (c : Comparison) (lw lo : List Lexeme) (l : Term) → Facts lw lo l → (rw ro : List Lexeme) (r : Term) → Facts rw ro r → Facts (lo ++ Sign (comparison_symbol c) ∷ ro) (within_parentheses (lo ++ Sign (comparison_symbol c) ∷ ro)) (term.Compare c l r)
+compare-facts : (c : Comparison) (lw lo : List Lexeme) (l : Term) → Facts lw lo l → (rw ro : List Lexeme) (r : Term) → Facts rw ro r
+    → Facts (lo ++ Sign (comparison_symbol c) ∷ ro) (within_parentheses (lo ++ Sign (comparison_symbol c) ∷ ro)) (term.Compare c l r)
 compare-facts comparison.Equal lw lo l fl rw ro r fr =
-    binary-facts lw lo l fl rw ro r fr (Sign symbol.Equals) (λ d. refl) refl (term.Compare comparison.Equal l r) refl (λ n h. compare-reads lw lo l fl rw ro r fr (Sign symbol.Equals) (λ d. refl) refl n comparison.Equal refl refl refl h)
+    binary-facts lw lo l fl rw ro r fr (Sign symbol.Equals) (λ d. refl) refl (term.Compare comparison.Equal l r) refl
+    (λ n h. compare-reads lw lo l fl rw ro r fr (Sign symbol.Equals) (λ d. refl) refl n comparison.Equal refl refl refl h)
 compare-facts comparison.NotEqual lw lo l fl rw ro r fr =
-    binary-facts lw lo l fl rw ro r fr (Sign symbol.NotEquals) (λ d. refl) refl (term.Compare comparison.NotEqual l r) refl (λ n h. compare-reads lw lo l fl rw ro r fr (Sign symbol.NotEquals) (λ d. refl) refl n comparison.NotEqual refl refl refl h)
+    binary-facts lw lo l fl rw ro r fr (Sign symbol.NotEquals) (λ d. refl) refl (term.Compare comparison.NotEqual l r) refl
+    (λ n h. compare-reads lw lo l fl rw ro r fr (Sign symbol.NotEquals) (λ d. refl) refl n comparison.NotEqual refl refl refl h)
 compare-facts comparison.Less lw lo l fl rw ro r fr =
-    binary-facts lw lo l fl rw ro r fr (Sign symbol.LessThan) (λ d. refl) refl (term.Compare comparison.Less l r) refl (λ n h. compare-reads lw lo l fl rw ro r fr (Sign symbol.LessThan) (λ d. refl) refl n comparison.Less refl refl refl h)
+    binary-facts lw lo l fl rw ro r fr (Sign symbol.LessThan) (λ d. refl) refl (term.Compare comparison.Less l r) refl
+    (λ n h. compare-reads lw lo l fl rw ro r fr (Sign symbol.LessThan) (λ d. refl) refl n comparison.Less refl refl refl h)
 compare-facts comparison.LessOrEqual lw lo l fl rw ro r fr =
-    binary-facts lw lo l fl rw ro r fr (Sign symbol.LessOrEqual) (λ d. refl) refl (term.Compare comparison.LessOrEqual l r) refl (λ n h. compare-reads lw lo l fl rw ro r fr (Sign symbol.LessOrEqual) (λ d. refl) refl n comparison.LessOrEqual refl refl refl h)
+    binary-facts lw lo l fl rw ro r fr (Sign symbol.LessOrEqual) (λ d. refl) refl (term.Compare comparison.LessOrEqual l r) refl
+    (λ n h. compare-reads lw lo l fl rw ro r fr (Sign symbol.LessOrEqual) (λ d. refl) refl n comparison.LessOrEqual refl refl refl h)
 compare-facts comparison.Greater lw lo l fl rw ro r fr =
-    binary-facts lw lo l fl rw ro r fr (Sign symbol.GreaterThan) (λ d. refl) refl (term.Compare comparison.Greater l r) refl (λ n h. compare-reads lw lo l fl rw ro r fr (Sign symbol.GreaterThan) (λ d. refl) refl n comparison.Greater refl refl refl h)
+    binary-facts lw lo l fl rw ro r fr (Sign symbol.GreaterThan) (λ d. refl) refl (term.Compare comparison.Greater l r) refl
+    (λ n h. compare-reads lw lo l fl rw ro r fr (Sign symbol.GreaterThan) (λ d. refl) refl n comparison.Greater refl refl refl h)
 compare-facts comparison.GreaterOrEqual lw lo l fl rw ro r fr =
-    binary-facts lw lo l fl rw ro r fr (Sign symbol.GreaterOrEqual) (λ d. refl) refl (term.Compare comparison.GreaterOrEqual l r) refl (λ n h. compare-reads lw lo l fl rw ro r fr (Sign symbol.GreaterOrEqual) (λ d. refl) refl n comparison.GreaterOrEqual refl refl refl h)
+    binary-facts lw lo l fl rw ro r fr (Sign symbol.GreaterOrEqual) (λ d. refl) refl (term.Compare comparison.GreaterOrEqual l r) refl
+    (λ n h. compare-reads lw lo l fl rw ro r fr (Sign symbol.GreaterOrEqual) (λ d. refl) refl n comparison.GreaterOrEqual refl refl refl h)
 
-calculate-facts : (c : Operator) (lw lo : List Lexeme) (l : Term) → Facts lw lo l → (rw ro : List Lexeme) (r : Term) → Facts rw ro r → Facts (lo ++ Sign (operator_symbol c) ∷ ro) (within_parentheses (lo ++ Sign (operator_symbol c) ∷ ro)) (term.Calculate c l r)
+calculate-facts : (c : Operator) (lw lo : List Lexeme) (l : Term) → Facts lw lo l → (rw ro : List Lexeme) (r : Term) → Facts rw ro r
+    → Facts (lo ++ Sign (operator_symbol c) ∷ ro) (within_parentheses (lo ++ Sign (operator_symbol c) ∷ ro)) (term.Calculate c l r)
 calculate-facts operator.Add lw lo l fl rw ro r fr =
-    binary-facts lw lo l fl rw ro r fr (Sign symbol.Plus) (λ d. refl) refl (term.Calculate operator.Add l r) refl (λ n h. sum-reads lw lo l fl rw ro r fr (Sign symbol.Plus) (λ d. refl) refl n operator.Add refl refl refl refl h)
+    binary-facts lw lo l fl rw ro r fr (Sign symbol.Plus) (λ d. refl) refl (term.Calculate operator.Add l r) refl
+    (λ n h. sum-reads lw lo l fl rw ro r fr (Sign symbol.Plus) (λ d. refl) refl n operator.Add refl refl refl refl h)
 calculate-facts operator.Subtract lw lo l fl rw ro r fr =
-    binary-facts lw lo l fl rw ro r fr (Sign symbol.Minus) (λ d. refl) refl (term.Calculate operator.Subtract l r) refl (λ n h. sum-reads lw lo l fl rw ro r fr (Sign symbol.Minus) (λ d. refl) refl n operator.Subtract refl refl refl refl h)
+    binary-facts lw lo l fl rw ro r fr (Sign symbol.Minus) (λ d. refl) refl (term.Calculate operator.Subtract l r) refl
+    (λ n h. sum-reads lw lo l fl rw ro r fr (Sign symbol.Minus) (λ d. refl) refl n operator.Subtract refl refl refl refl h)
 calculate-facts operator.Multiply lw lo l fl rw ro r fr =
-    binary-facts lw lo l fl rw ro r fr (Sign symbol.Star) (λ d. refl) refl (term.Calculate operator.Multiply l r) refl (λ n h. product-reads lw lo l fl rw ro r fr (Sign symbol.Star) (λ d. refl) refl n operator.Multiply refl refl refl refl refl h)
+    binary-facts lw lo l fl rw ro r fr (Sign symbol.Star) (λ d. refl) refl (term.Calculate operator.Multiply l r) refl
+    (λ n h. product-reads lw lo l fl rw ro r fr (Sign symbol.Star) (λ d. refl) refl n operator.Multiply refl refl refl refl refl h)
 calculate-facts operator.FloorDivide lw lo l fl rw ro r fr =
-    binary-facts lw lo l fl rw ro r fr (Sign symbol.DoubleSlash) (λ d. refl) refl (term.Calculate operator.FloorDivide l r) refl (λ n h. product-reads lw lo l fl rw ro r fr (Sign symbol.DoubleSlash) (λ d. refl) refl n operator.FloorDivide refl refl refl refl refl h)
+    binary-facts lw lo l fl rw ro r fr (Sign symbol.DoubleSlash) (λ d. refl) refl (term.Calculate operator.FloorDivide l r) refl
+    (λ n h. product-reads lw lo l fl rw ro r fr (Sign symbol.DoubleSlash) (λ d. refl) refl n operator.FloorDivide refl refl refl refl refl h)
 calculate-facts operator.Remainder lw lo l fl rw ro r fr =
-    binary-facts lw lo l fl rw ro r fr (Sign symbol.Percent) (λ d. refl) refl (term.Calculate operator.Remainder l r) refl (λ n h. product-reads lw lo l fl rw ro r fr (Sign symbol.Percent) (λ d. refl) refl n operator.Remainder refl refl refl refl refl h)
+    binary-facts lw lo l fl rw ro r fr (Sign symbol.Percent) (λ d. refl) refl (term.Calculate operator.Remainder l r) refl
+    (λ n h. product-reads lw lo l fl rw ro r fr (Sign symbol.Percent) (λ d. refl) refl n operator.Remainder refl refl refl refl refl h)
 
 -- ---- lists
 module _ (row : Exprs) (r : ReadsRow row) where
   row-closed : (A : Type 0) (cutter : Cutter A) (d : ℕ) → Passes cutter (suc d) false d true (exprs_lexemes row ++ Sign symbol.RightBracket ∷ [])
   row-closed A cutter d =
-      passes-append cutter (suc d) false (suc d) r.behind d true (exprs_lexemes row) (Sign symbol.RightBracket ∷ []) (r.inner A cutter d) (inside-next cutter d r.behind (Sign symbol.RightBracket) d true [] (nothing-passes cutter d true))
+      passes-append cutter (suc d) false (suc d) r.behind d true (exprs_lexemes row) (Sign symbol.RightBracket ∷ []) (r.inner A cutter d)
+      (inside-next cutter d r.behind (Sign symbol.RightBracket) d true [] (nothing-passes cutter d true))
 
-  row-primary : (n : ℕ) → suc (length (exprs_lexemes row)) ≤ n → primary (term_within n) (within_brackets (exprs_lexemes row)) ≡ Some (term.ListOf (terms_from row))
+  row-primary : (n : ℕ) → suc (length (exprs_lexemes row)) ≤ n → primary (term_within n) (within_brackets (exprs_lexemes row))
+      ≡ Some (term.ListOf (terms_from row))
   row-primary n h =
-      primary-bracketed (term_within n) symbol.LeftBracket (exprs_lexemes row) (Sign symbol.RightBracket) ∙ (ap (option_and_then (λ inner. option_map (λ all. term.ListOf (terms all)) (items (term_within n) inner))) (before-last symbol.RightBracket (Sign symbol.RightBracket) (exprs_lexemes row) refl) ∙ (ap (option_map (λ all. term.ListOf (terms all))) (r.reads n h) ∙ ap (λ (ts : Terms). let o : Option Term = Some (term.ListOf ts) in o) (row-terms row)))
+      primary-bracketed (term_within n) symbol.LeftBracket (exprs_lexemes row) (Sign symbol.RightBracket)
+      ∙ (ap (option_and_then (λ inner. option_map (λ all. term.ListOf (terms all)) (items (term_within n) inner)))
+      (before-last symbol.RightBracket (Sign symbol.RightBracket) (exprs_lexemes row) refl)
+      ∙ (ap (option_map (λ all. term.ListOf (terms all))) (r.reads n h)
+      ∙ ap (λ (ts : Terms). let o : Option Term = Some (term.ListOf ts) in o) (row-terms row)))
 
   list-facts : Facts (within_brackets (exprs_lexemes row)) (within_brackets (exprs_lexemes row)) (term.ListOf (terms_from row))
   list-facts =
-      bare-facts (within_brackets (exprs_lexemes row)) (term.ListOf (terms_from row)) (λ n h. base-operand (term_within n) (Sign symbol.LeftBracket) (exprs_lexemes row ++ Sign symbol.RightBracket ∷ []) (term.ListOf (terms_from row)) (row-primary n (room (Sign symbol.LeftBracket) (Sign symbol.RightBracket) (exprs_lexemes row) n h)) (λ A cutter d a. inside-next cutter d a (Sign symbol.LeftBracket) (suc d) true (exprs_lexemes row ++ Sign symbol.RightBracket ∷ []) (row-closed A cutter (suc d))) (λ A cutter tame b. outside-next cutter b (Sign symbol.LeftBracket) 0 true (exprs_lexemes row ++ Sign symbol.RightBracket ∷ []) (tame.bracket b) (row-closed A cutter 0)) (outside-next at_index false (Sign symbol.LeftBracket) 0 true (exprs_lexemes row ++ Sign symbol.RightBracket ∷ []) refl (row-closed _ at_index 0)) refl refl)
+      bare-facts (within_brackets (exprs_lexemes row)) (term.ListOf (terms_from row))
+      (λ n h. base-operand (term_within n) (Sign symbol.LeftBracket) (exprs_lexemes row ++ Sign symbol.RightBracket ∷ []) (term.ListOf (terms_from row))
+      (row-primary n (room (Sign symbol.LeftBracket) (Sign symbol.RightBracket) (exprs_lexemes row) n h))
+      (λ A cutter d a. inside-next cutter d a (Sign symbol.LeftBracket) (suc d) true (exprs_lexemes row ++ Sign symbol.RightBracket ∷ [])
+      (row-closed A cutter (suc d)))
+      (λ A cutter tame b. outside-next cutter b (Sign symbol.LeftBracket) 0 true (exprs_lexemes row ++ Sign symbol.RightBracket ∷ [])
+      (tame.bracket b) (row-closed A cutter 0))
+      (outside-next at_index false (Sign symbol.LeftBracket) 0 true (exprs_lexemes row ++ Sign symbol.RightBracket ∷ []) refl
+      (row-closed _ at_index 0)) refl refl)
 
 no-row : ReadsRow no_exprs
 no-row = record { behind = false; inner = λ A cutter d rest. refl; reads = λ n h. refl }
 
-row-then : (first : Expr) (others : Exprs) → Facts (expr_lexemes first) (operand_lexemes first (expr_lexemes first)) (term_from first) → More others → ReadsRow (expr_then first others)
+row-then : (first : Expr) (others : Exprs) → Facts (expr_lexemes first) (operand_lexemes first (expr_lexemes first)) (term_from first) → More others
+    → ReadsRow (expr_then first others)
 row-then first others f m = record {
   behind = true;
-  inner = λ A cutter d. passes-append cutter (suc d) false (suc d) true (suc d) true (expr_lexemes first) (more_lexemes others) (f.shape.inner A cutter d false) (m.inner A cutter d);
-  reads = λ n h. ap (all_of (term_within n)) (parts-front f.shape.first (f.shape.others ++ more_lexemes others) (expr_lexemes first ++ more_lexemes others) (ap (λ l. l ++ more_lexemes others) f.shape.split)) ∙ (ap (λ (c : Pieces Lexeme). all_of (term_within n) (c.first ∷ map (λ other. other.1) c.others)) (front-pieces (expr_lexemes first) (more_lexemes others) (groups others) f.shape m.cuts) ∙ front-reads n (expr_lexemes first) (term_from first) (map (λ other. other.1) (groups others)) (row_terms others) (inner-read n (expr_lexemes first) (term_from first) f.reads (omega (arith, length-append (expr_lexemes first) (more_lexemes others)))) (m.reads n (omega (arith, length-append (expr_lexemes first) (more_lexemes others)))));
+  inner = λ A cutter d. passes-append cutter (suc d) false (suc d) true (suc d) true (expr_lexemes first) (more_lexemes others) (f.shape.inner A cutter d false)
+      (m.inner A cutter d);
+  reads = λ n h. ap (all_of (term_within n))
+      (parts-front f.shape.first (f.shape.others ++ more_lexemes others) (expr_lexemes first ++ more_lexemes others)
+      (ap (λ l. l ++ more_lexemes others) f.shape.split))
+      ∙ (ap (λ (c : Pieces Lexeme). all_of (term_within n) (c.first ∷ map (λ other. other.1) c.others))
+      (front-pieces (expr_lexemes first) (more_lexemes others) (groups others) f.shape m.cuts)
+      ∙ front-reads n (expr_lexemes first) (term_from first) (map (λ other. other.1) (groups others)) (row_terms others)
+      (inner-read n (expr_lexemes first) (term_from first) f.reads
+      (omega (arith, length-append (expr_lexemes first) (more_lexemes others))))
+      (m.reads n (omega (arith, length-append (expr_lexemes first) (more_lexemes others)))));
 }
 
 no-more : More no_exprs
 no-more = record { inner = λ A cutter d rest. refl; cuts = refl; reads = λ n h. refl }
 
-more-then : (first : Expr) (others : Exprs) → Facts (expr_lexemes first) (operand_lexemes first (expr_lexemes first)) (term_from first) → More others → More (expr_then first others)
+more-then : (first : Expr) (others : Exprs) → Facts (expr_lexemes first) (operand_lexemes first (expr_lexemes first)) (term_from first) → More others
+    → More (expr_then first others)
 more-then first others f m = record {
-  inner = λ A cutter d. inside-next cutter d true (Sign symbol.Comma) (suc d) true (expr_lexemes first ++ more_lexemes others) (passes-append cutter (suc d) false (suc d) true (suc d) true (expr_lexemes first) (more_lexemes others) (f.shape.inner A cutter d false) (m.inner A cutter d));
-  cuts = ap (λ (c : Pieces Lexeme). let p : Pieces Lexeme = record { first = []; others = (Sign symbol.Comma, c.first) ∷ c.others } in p) (front-pieces (expr_lexemes first) (more_lexemes others) (groups others) f.shape m.cuts);
-  reads = λ n h. front-reads n (expr_lexemes first) (term_from first) (map (λ other. other.1) (groups others)) (row_terms others) (inner-read n (expr_lexemes first) (term_from first) f.reads (omega (arith, length-append (expr_lexemes first) (more_lexemes others)))) (m.reads n (omega (arith, length-append (expr_lexemes first) (more_lexemes others))));
+  inner = λ A cutter d. inside-next cutter d true (Sign symbol.Comma) (suc d) true (expr_lexemes first ++ more_lexemes others)
+      (passes-append cutter (suc d) false (suc d) true (suc d) true (expr_lexemes first) (more_lexemes others) (f.shape.inner A cutter d false)
+      (m.inner A cutter d));
+  cuts = ap (λ (c : Pieces Lexeme). let p : Pieces Lexeme = record { first = []; others = (Sign symbol.Comma, c.first) ∷ c.others } in p)
+      (front-pieces (expr_lexemes first) (more_lexemes others) (groups others) f.shape m.cuts);
+  reads = λ n h. front-reads n (expr_lexemes first) (term_from first) (map (λ other. other.1) (groups others)) (row_terms others)
+      (inner-read n (expr_lexemes first) (term_from first) f.reads (omega (arith, length-append (expr_lexemes first) (more_lexemes others))))
+      (m.reads n (omega (arith, length-append (expr_lexemes first) (more_lexemes others))));
 }
 
 -- ---- `x[i]`
-index-facts : (sw so : List Lexeme) (s : Term) → Facts sw so s → (iw io : List Lexeme) (i : Term) → Facts iw io i → Facts (so ++ within_brackets iw) (so ++ within_brackets iw) (term.Index s i)
+index-facts : (sw so : List Lexeme) (s : Term) → Facts sw so s → (iw io : List Lexeme) (i : Term) → Facts iw io i
+    → Facts (so ++ within_brackets iw) (so ++ within_brackets iw) (term.Index s i)
 index-facts sw so s fs iw io i fi =
-    bare-facts (so ++ within_brackets iw) (term.Index s i) (λ n h. index-operand (term_within n) so iw s i (fs.operands n (omega (arith, length-append so (within_brackets iw)))) (inner-read n iw i fi.reads (omega (arith, length-append so (within_brackets iw), length-append iw (Sign symbol.RightBracket ∷ [])))) fi.shape.inner)
+    bare-facts (so ++ within_brackets iw) (term.Index s i)
+    (λ n h. index-operand (term_within n) so iw s i (fs.operands n (omega (arith, length-append so (within_brackets iw))))
+    (inner-read n iw i fi.reads
+    (omega (arith, length-append so (within_brackets iw), length-append iw (Sign symbol.RightBracket ∷ [])))) fi.shape.inner)
 
 mutual
   pub facts : (e : Expr) → Facts (expr_lexemes e) (operand_lexemes e (expr_lexemes e)) (term_from e)

@@ -6,7 +6,8 @@ use Rattle.model_value.specs.declared.kind.Kind.TheVariants as kind
 use Rattle.model_value.specs.Kinds.{kind_name}
 use Rattle.model_tree.specs.declared.function.Function.{Function}
 use Rattle.model_tree.specs.declared.function.Function.TheVariants as function
-use Rattle.model_tree.specs.Syntax.{Expr, Or, And, Not, Compare, Calculate, Negate, Index, Literal, Variable, ListOf, Apply, MakeError, Exprs, no_exprs, expr_then, exprs, exprs_of}
+use Rattle.model_tree.specs.Syntax.{Expr, Or, And, Not, Compare, Calculate, Negate, Index, Literal, Variable, ListOf, Apply, MakeError, Exprs, no_exprs}
+use Rattle.model_tree.specs.Syntax.{expr_then, exprs, exprs_of}
 use Rattle.model_tree.specs.Known.{function_text, function_of, kind_of_name}
 use Rattle.model_text.specs.declared.cause.Cause.TheVariants as cause
 use Rattle.model_text.specs.Naming.{Scope, Meant, both, meant_map, meaning_of, meanings_of, function_call, one_argument, error_of}
@@ -69,11 +70,14 @@ module _ (scope : Scope) where
     meant (Literal constant) k = refl
     meant (Variable name) k = ap (λ (known : Bool). let m : Meant Expr = if known then Ok (Variable name) else Err cause.Name in m) k
     meant (ListOf row) k =
-        ap (meant_map (λ (all : List Expr). ListOf (exprs all))) (all-meant row k) ∙ ap (λ (items : Exprs). let m : Meant Expr = Ok (ListOf items) in m) (exprs-row row)
+        ap (meant_map (λ (all : List Expr). ListOf (exprs all))) (all-meant row k)
+        ∙ ap (λ (items : Exprs). let m : Meant Expr = Ok (ListOf items) in m) (exprs-row row)
     meant (Apply f argument) k =
-        ap (λ found. function_call (function_text f) found (both (λ (x : Expr) (xs : List Expr). x ∷ xs) (meaning_of scope (term_from argument)) (Ok [])) None (Ok [])) (function-named f) ∙ ap (λ m. one_argument (Apply f) (both (λ (x : Expr) (xs : List Expr). x ∷ xs) m (Ok []))) (meant argument k)
+        ap (λ found. function_call (function_text f) found (both (λ (x : Expr) (xs : List Expr). x ∷ xs) (meaning_of scope (term_from argument)) (Ok [])) None
+        (Ok [])) (function-named f) ∙ ap (λ m. one_argument (Apply f) (both (λ (x : Expr) (xs : List Expr). x ∷ xs) m (Ok []))) (meant argument k)
     meant (MakeError kind message) k =
-        ap (λ found. error_of found (both (λ (x : Expr) (xs : List Expr). x ∷ xs) (meaning_of scope (term_from message)) (Ok []))) (kind-named kind) ∙ (ap (λ (made : Bool). let m : Meant Expr = if made then one_argument (MakeError kind) (both (λ (x : Expr) (xs : List Expr). x ∷ xs) (meaning_of scope (term_from message)) (Ok [])) else Err cause.Name in m) k.0 ∙ ap (λ m. one_argument (MakeError kind) (both (λ (x : Expr) (xs : List Expr). x ∷ xs) m (Ok []))) (meant message k.1))
+        ap (λ found. error_of found (both (λ (x : Expr) (xs : List Expr). x ∷ xs) (meaning_of scope (term_from message)) (Ok []))) (kind-named kind)
+        ∙ (ap (λ (made : Bool). let m : Meant Expr = if made then one_argument (MakeError kind) (both (λ (x : Expr) (xs : List Expr). x ∷ xs) (meaning_of scope (term_from message)) (Ok [])) else Err cause.Name in m) k.0 ∙ ap (λ m. one_argument (MakeError kind) (both (λ (x : Expr) (xs : List Expr). x ∷ xs) m (Ok []))) (meant message k.1))
 
     all-meant : (row : Exprs) → AllKnown scope row → meanings_of scope (terms_from row) ≡ Ok (exprs_of row)
     all-meant no_exprs k = refl

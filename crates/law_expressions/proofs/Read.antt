@@ -10,16 +10,29 @@ use Rattle.model_text.specs.Words.{Lexeme, is_sign}
 use Rattle.model_text.specs.Cutting.{Pieces, Cutter, ends_operand, depth_behind}
 use Rattle.model_text.specs.Terms.{Term}
 use Rattle.model_text.specs.Terms as term
-use Rattle.model_text.specs.Levels.{Parser, at_word, at_comparison, at_sum, at_product, negated, product, sum_of, comparison_level, compared, denied, is_not, conjunction, disjunction, term_within}
+use Rattle.model_text.specs.Levels.{Parser, at_word, at_comparison, at_sum, at_product, negated, product, sum_of, comparison_level, compared, denied, is_not}
+use Rattle.model_text.specs.Levels.{conjunction, disjunction, term_within}
 use Rattle.law_expressions.specs.Lexemes.{within_parentheses}
-use Rattle.law_expressions.proofs.Cuts.{Passes, passes-append, inside-next, outside-next, Inside, whole-from, cut-once, level-uncut, level-cut, Tame, StandsAsOperand, tame_or, tame_and, tame_comparison, tame_sum, tame_product, as_negated, as_product, as_sum, as_denied, as_conjunction, as_disjunction}
+use Rattle.law_expressions.proofs.Cuts.{Passes, passes-append, inside-next, outside-next, Inside, whole-from, cut-once, level-uncut, level-cut, Tame}
+use Rattle.law_expressions.proofs.Cuts.{StandsAsOperand, tame_or, tame_and, tame_comparison, tame_sum, tame_product, as_negated, as_product, as_sum, as_denied}
+use Rattle.law_expressions.proofs.Cuts.{as_conjunction, as_disjunction}
 use Rattle.law_expressions.proofs.Shapes.{parentheses-operand}
 
 abbrev pub at_comma : Cutter Lexeme
 at_comma behind at = if is_sign symbol.Comma at then Some at else None
 
 pub tame_comma : Tame at_comma
-tame_comma = record { named = λ b name. refl; number = λ b number. refl; texts = λ b text. refl; octets = λ b bytes. refl; none = λ b. refl; yes = λ b. refl; nay = λ b. refl; parenthesis = λ b. refl; bracket = λ b. refl }
+tame_comma = record {
+  named = λ b name. refl;
+  number = λ b number. refl;
+  texts = λ b text. refl;
+  octets = λ b bytes. refl;
+  none = λ b. refl;
+  yes = λ b. refl;
+  nay = λ b. refl;
+  parenthesis = λ b. refl;
+  bracket = λ b. refl;
+}
 
 -- what is known of the lexemes of an expression, wherever they stand
 pub record Shape (lexemes : List Lexeme) : Type 1 where
@@ -34,7 +47,8 @@ pub record Facts (whole operand : List Lexeme) (t : Term) : Type 1 where
   pub reads : (n : ℕ) → length whole ≤ n → disjunction (term_within n) whole ≡ Some t
   pub operands : (n : ℕ) → length operand ≤ n → StandsAsOperand (term_within n) operand t
 
-pub operation-facts : (whole : List Lexeme) (t : Term) → Shape whole → ((n : ℕ) → length whole ≤ n → disjunction (term_within n) whole ≡ Some t) → Facts whole (within_parentheses whole) t
+pub operation-facts : (whole : List Lexeme) (t : Term) → Shape whole → ((n : ℕ) → length whole ≤ n → disjunction (term_within n) whole ≡ Some t)
+    → Facts whole (within_parentheses whole) t
 operation-facts whole t shape reads = record {
   shape = shape;
   reads = reads;
@@ -52,23 +66,30 @@ bare-facts whole t operands =
 
 -- ---- from a level to the loosest
 module _ (inside : Parser Term) (lexemes : List Lexeme) (t : Term) where
-  pub up-denied : Passes (at_word word.And) 0 false 0 true lexemes → Passes (at_word word.Or) 0 false 0 true lexemes → denied inside lexemes ≡ Some t → disjunction inside lexemes ≡ Some t
+  pub up-denied : Passes (at_word word.And) 0 false 0 true lexemes → Passes (at_word word.Or) 0 false 0 true lexemes → denied inside lexemes ≡ Some t
+      → disjunction inside lexemes ≡ Some t
   up-denied a o e =
-      level-uncut (at_word word.Or) (λ reserved. term.Or) (conjunction inside) true lexemes t o (level-uncut (at_word word.And) (λ reserved. term.And) (denied inside) true lexemes t a e)
+      level-uncut (at_word word.Or) (λ reserved. term.Or) (conjunction inside) true lexemes t o
+      (level-uncut (at_word word.And) (λ reserved. term.And) (denied inside) true lexemes t a e)
 
-  pub up-comparison : (first : Lexeme) (others : List Lexeme) → lexemes ≡ first ∷ others → is_not inside first ≡ false → comparison_level inside lexemes ≡ Some t → denied inside lexemes ≡ Some t
+  pub up-comparison : (first : Lexeme) (others : List Lexeme) → lexemes ≡ first ∷ others → is_not inside first ≡ false → comparison_level inside lexemes
+      ≡ Some t → denied inside lexemes ≡ Some t
   up-comparison first others split no_not e =
-      ap (denied inside) split ∙ (ap (λ test. if test then option_map term.Not (denied inside others) else comparison_level inside (first ∷ others)) no_not ∙ (ap (comparison_level inside) (sym split) ∙ e))
+      ap (denied inside) split
+      ∙ (ap (λ test. if test then option_map term.Not (denied inside others) else comparison_level inside (first ∷ others)) no_not
+      ∙ (ap (comparison_level inside) (sym split) ∙ e))
 
   pub up-sum : Passes at_comparison 0 false 0 true lexemes → sum_of inside lexemes ≡ Some t → comparison_level inside lexemes ≡ Some t
   up-sum p e =
-      ap (λ (c : Pieces Comparison). option_and_then (compared inside c.others) (sum_of inside c.first)) (whole-from at_comparison 0 false true lexemes p) ∙ ap (option_and_then (compared inside [])) e
+      ap (λ (c : Pieces Comparison). option_and_then (compared inside c.others) (sum_of inside c.first)) (whole-from at_comparison 0 false true lexemes p)
+      ∙ ap (option_and_then (compared inside [])) e
 
   pub up-product : Passes at_sum 0 false 0 true lexemes → product inside lexemes ≡ Some t → sum_of inside lexemes ≡ Some t
   up-product p e = level-uncut at_sum term.Calculate (product inside) true lexemes t p e
 
 -- ---- two operands, and between them a lexeme that changes no depth
-module _ (lw lo : List Lexeme) (l : Term) (fl : Facts lw lo l) (rw ro : List Lexeme) (r : Term) (fr : Facts rw ro r) (x : Lexeme) (dx : (d : ℕ) → depth_behind d x ≡ d) (ex : ends_operand x ≡ false) where
+module _ (lw lo : List Lexeme) (l : Term) (fl : Facts lw lo l) (rw ro : List Lexeme) (r : Term) (fr : Facts rw ro r) (x : Lexeme)
+    (dx : (d : ℕ) → depth_behind d x ≡ d) (ex : ends_operand x ≡ false) where
   left : (n : ℕ) → length (lo ++ x ∷ ro) ≤ n → StandsAsOperand (term_within n) lo l
   left n h = fl.operands n (omega (arith, length-append lo (x ∷ ro)))
 
@@ -81,13 +102,15 @@ module _ (lw lo : List Lexeme) (l : Term) (fl : Facts lw lo l) (rw ro : List Lex
 
   outer : {A : Type 0} (cutter : Cutter A) → Tame cutter → cutter true x ≡ None → Passes cutter 0 false 0 true (lo ++ x ∷ ro)
   outer cutter tame e =
-      passes-append cutter 0 false 0 true 0 true lo (x ∷ ro) ((fl.operands (length lo) (omega arith)).outer _ cutter tame false) (outside-next cutter true x 0 true ro e (moved cutter 0 ((fr.operands (length ro) (omega arith)).outer _ cutter tame false)))
+      passes-append cutter 0 false 0 true 0 true lo (x ∷ ro) ((fl.operands (length lo) (omega arith)).outer _ cutter tame false)
+      (outside-next cutter true x 0 true ro e (moved cutter 0 ((fr.operands (length ro) (omega arith)).outer _ cutter tame false)))
 
   shape : at_comma true x ≡ None → Shape (lo ++ x ∷ ro)
   shape e =
       let o : StandsAsOperand (term_within (length lo)) lo l = fl.operands (length lo) (omega arith) in
       record {
-        inner = λ A cutter d a. passes-append cutter (suc d) a (suc d) true (suc d) true lo (x ∷ ro) (o.inner A cutter d a) (inside-next cutter d true x (suc d) true ro (moved cutter (suc d) ((fr.operands (length ro) (omega arith)).inner A cutter d false)));
+        inner = λ A cutter d a. passes-append cutter (suc d) a (suc d) true (suc d) true lo (x ∷ ro) (o.inner A cutter d a)
+            (inside-next cutter d true x (suc d) true ro (moved cutter (suc d) ((fr.operands (length ro) (omega arith)).inner A cutter d false)));
         commas = outer at_comma tame_comma e;
         first = o.first;
         others = o.others ++ x ∷ ro;
@@ -95,30 +118,56 @@ module _ (lw lo : List Lexeme) (l : Term) (fl : Facts lw lo l) (rw ro : List Lex
       }
 
   -- a comparison or less, up to the loosest level
-  up : (n : ℕ) (t : Term) → length (lo ++ x ∷ ro) ≤ n → at_word word.And true x ≡ None → at_word word.Or true x ≡ None → comparison_level (term_within n) (lo ++ x ∷ ro) ≡ Some t → disjunction (term_within n) (lo ++ x ∷ ro) ≡ Some t
+  up : (n : ℕ) (t : Term) → length (lo ++ x ∷ ro) ≤ n → at_word word.And true x ≡ None → at_word word.Or true x ≡ None
+      → comparison_level (term_within n) (lo ++ x ∷ ro) ≡ Some t → disjunction (term_within n) (lo ++ x ∷ ro) ≡ Some t
   up n t h a o e =
       let s : StandsAsOperand (term_within n) lo l = left n h in
-      up-denied (term_within n) (lo ++ x ∷ ro) t (outer (at_word word.And) tame_and a) (outer (at_word word.Or) tame_or o) (up-comparison (term_within n) (lo ++ x ∷ ro) t s.first (s.others ++ x ∷ ro) (ap (λ l. l ++ x ∷ ro) s.split) s.no_not e)
+      up-denied (term_within n) (lo ++ x ∷ ro) t (outer (at_word word.And) tame_and a) (outer (at_word word.Or) tame_or o)
+      (up-comparison (term_within n) (lo ++ x ∷ ro) t s.first (s.others ++ x ∷ ro) (ap (λ l. l ++ x ∷ ro) s.split) s.no_not e)
 
   pub or-reads : (n : ℕ) → at_word word.Or true x ≡ Some word.Or → length (lo ++ x ∷ ro) ≤ n → disjunction (term_within n) (lo ++ x ∷ ro) ≡ Some (term.Or l r)
   or-reads n e h =
-      level-cut (at_word word.Or) (λ reserved. term.Or) (conjunction (term_within n)) lo ro x word.Or true l r ((left n h).outer _ (at_word word.Or) tame_or false) e (moved (at_word word.Or) 0 ((right n h).outer _ (at_word word.Or) tame_or false)) (as_conjunction (term_within n) lo l (left n h)) (as_conjunction (term_within n) ro r (right n h))
+      level-cut (at_word word.Or) (λ reserved. term.Or) (conjunction (term_within n)) lo ro x word.Or true l r
+      ((left n h).outer _ (at_word word.Or) tame_or false) e (moved (at_word word.Or) 0 ((right n h).outer _ (at_word word.Or) tame_or false))
+      (as_conjunction (term_within n) lo l (left n h)) (as_conjunction (term_within n) ro r (right n h))
 
-  pub and-reads : (n : ℕ) → at_word word.And true x ≡ Some word.And → at_word word.Or true x ≡ None → length (lo ++ x ∷ ro) ≤ n → disjunction (term_within n) (lo ++ x ∷ ro) ≡ Some (term.And l r)
+  pub and-reads : (n : ℕ) → at_word word.And true x ≡ Some word.And → at_word word.Or true x ≡ None → length (lo ++ x ∷ ro) ≤ n
+      → disjunction (term_within n) (lo ++ x ∷ ro) ≡ Some (term.And l r)
   and-reads n e o h =
-      level-uncut (at_word word.Or) (λ reserved. term.Or) (conjunction (term_within n)) true (lo ++ x ∷ ro) (term.And l r) (outer (at_word word.Or) tame_or o) (level-cut (at_word word.And) (λ reserved. term.And) (denied (term_within n)) lo ro x word.And true l r ((left n h).outer _ (at_word word.And) tame_and false) e (moved (at_word word.And) 0 ((right n h).outer _ (at_word word.And) tame_and false)) (as_denied (term_within n) lo l (left n h)) (as_denied (term_within n) ro r (right n h)))
+      level-uncut (at_word word.Or) (λ reserved. term.Or) (conjunction (term_within n)) true (lo ++ x ∷ ro) (term.And l r) (outer (at_word word.Or) tame_or o)
+      (level-cut (at_word word.And) (λ reserved. term.And) (denied (term_within n)) lo ro x word.And true l r
+      ((left n h).outer _ (at_word word.And) tame_and false) e (moved (at_word word.And) 0 ((right n h).outer _ (at_word word.And) tame_and false))
+      (as_denied (term_within n) lo l (left n h)) (as_denied (term_within n) ro r (right n h)))
 
-  pub compare-reads : (n : ℕ) (c : Comparison) → at_comparison true x ≡ Some c → at_word word.And true x ≡ None → at_word word.Or true x ≡ None → length (lo ++ x ∷ ro) ≤ n → disjunction (term_within n) (lo ++ x ∷ ro) ≡ Some (term.Compare c l r)
+  pub compare-reads : (n : ℕ) (c : Comparison) → at_comparison true x ≡ Some c → at_word word.And true x ≡ None → at_word word.Or true x ≡ None
+      → length (lo ++ x ∷ ro) ≤ n → disjunction (term_within n) (lo ++ x ∷ ro) ≡ Some (term.Compare c l r)
   compare-reads n c e a o h =
-      up n (term.Compare c l r) h a o (ap (λ (p : Pieces Comparison). option_and_then (compared (term_within n) p.others) (sum_of (term_within n) p.first)) (cut-once at_comparison lo ro x c true ((left n h).outer _ at_comparison tame_comparison false) e (moved at_comparison 0 ((right n h).outer _ at_comparison tame_comparison false))) ∙ (ap (option_and_then (compared (term_within n) ((c, ro) ∷ []))) (as_sum (term_within n) lo l (left n h)) ∙ ap (option_map (term.Compare c l)) (as_sum (term_within n) ro r (right n h))))
+      up n (term.Compare c l r) h a o
+      (ap (λ (p : Pieces Comparison). option_and_then (compared (term_within n) p.others) (sum_of (term_within n) p.first))
+      (cut-once at_comparison lo ro x c true ((left n h).outer _ at_comparison tame_comparison false) e
+      (moved at_comparison 0 ((right n h).outer _ at_comparison tame_comparison false)))
+      ∙ (ap (option_and_then (compared (term_within n) ((c, ro) ∷ []))) (as_sum (term_within n) lo l (left n h))
+      ∙ ap (option_map (term.Compare c l)) (as_sum (term_within n) ro r (right n h))))
 
-  pub sum-reads : (n : ℕ) (c : Operator) → at_sum true x ≡ Some c → at_comparison true x ≡ None → at_word word.And true x ≡ None → at_word word.Or true x ≡ None → length (lo ++ x ∷ ro) ≤ n → disjunction (term_within n) (lo ++ x ∷ ro) ≡ Some (term.Calculate c l r)
+  pub sum-reads : (n : ℕ) (c : Operator) → at_sum true x ≡ Some c → at_comparison true x ≡ None → at_word word.And true x ≡ None → at_word word.Or true x ≡ None
+      → length (lo ++ x ∷ ro) ≤ n → disjunction (term_within n) (lo ++ x ∷ ro) ≡ Some (term.Calculate c l r)
   sum-reads n c e m a o h =
-      up n (term.Calculate c l r) h a o (up-sum (term_within n) (lo ++ x ∷ ro) (term.Calculate c l r) (outer at_comparison tame_comparison m) (level-cut at_sum term.Calculate (product (term_within n)) lo ro x c true l r ((left n h).outer _ at_sum tame_sum false) e (moved at_sum 0 ((right n h).outer _ at_sum tame_sum false)) (as_product (term_within n) lo l (left n h)) (as_product (term_within n) ro r (right n h))))
+      up n (term.Calculate c l r) h a o
+      (up-sum (term_within n) (lo ++ x ∷ ro) (term.Calculate c l r) (outer at_comparison tame_comparison m)
+      (level-cut at_sum term.Calculate (product (term_within n)) lo ro x c true l r ((left n h).outer _ at_sum tame_sum false) e
+      (moved at_sum 0 ((right n h).outer _ at_sum tame_sum false)) (as_product (term_within n) lo l (left n h))
+      (as_product (term_within n) ro r (right n h))))
 
-  pub product-reads : (n : ℕ) (c : Operator) → at_product true x ≡ Some c → at_sum true x ≡ None → at_comparison true x ≡ None → at_word word.And true x ≡ None → at_word word.Or true x ≡ None → length (lo ++ x ∷ ro) ≤ n → disjunction (term_within n) (lo ++ x ∷ ro) ≡ Some (term.Calculate c l r)
+  pub product-reads : (n : ℕ) (c : Operator) → at_product true x ≡ Some c → at_sum true x ≡ None → at_comparison true x ≡ None → at_word word.And true x ≡ None
+      → at_word word.Or true x ≡ None → length (lo ++ x ∷ ro) ≤ n → disjunction (term_within n) (lo ++ x ∷ ro) ≡ Some (term.Calculate c l r)
   product-reads n c e s m a o h =
-      up n (term.Calculate c l r) h a o (up-sum (term_within n) (lo ++ x ∷ ro) (term.Calculate c l r) (outer at_comparison tame_comparison m) (up-product (term_within n) (lo ++ x ∷ ro) (term.Calculate c l r) (outer at_sum tame_sum s) (level-cut at_product term.Calculate (negated (term_within n)) lo ro x c true l r ((left n h).outer _ at_product tame_product false) e (moved at_product 0 ((right n h).outer _ at_product tame_product false)) (as_negated (term_within n) lo l (left n h)) (as_negated (term_within n) ro r (right n h)))))
+      up n (term.Calculate c l r) h a o
+      (up-sum (term_within n) (lo ++ x ∷ ro) (term.Calculate c l r) (outer at_comparison tame_comparison m)
+      (up-product (term_within n) (lo ++ x ∷ ro) (term.Calculate c l r) (outer at_sum tame_sum s)
+      (level-cut at_product term.Calculate (negated (term_within n)) lo ro x c true l r ((left n h).outer _ at_product tame_product false) e
+      (moved at_product 0 ((right n h).outer _ at_product tame_product false)) (as_negated (term_within n) lo l (left n h))
+      (as_negated (term_within n) ro r (right n h)))))
 
-  pub binary-facts : (t : Term) → at_comma true x ≡ None → ((n : ℕ) → length (lo ++ x ∷ ro) ≤ n → disjunction (term_within n) (lo ++ x ∷ ro) ≡ Some t) → Facts (lo ++ x ∷ ro) (within_parentheses (lo ++ x ∷ ro)) t
+  pub binary-facts : (t : Term) → at_comma true x ≡ None → ((n : ℕ) → length (lo ++ x ∷ ro) ≤ n → disjunction (term_within n) (lo ++ x ∷ ro) ≡ Some t)
+      → Facts (lo ++ x ∷ ro) (within_parentheses (lo ++ x ∷ ro)) t
   binary-facts t e reads = operation-facts (lo ++ x ∷ ro) t (shape e) reads

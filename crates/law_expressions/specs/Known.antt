@@ -1,6 +1,7 @@
 -- Which names an expression may use in a coroutine: variables that are bound, and kinds that `error` makes.
 use Rattle.std.specs.Prelude.{◌≡◌, true}
-use Rattle.model_tree.specs.Syntax.{Expr, Or, And, Not, Compare, Calculate, Negate, Index, Literal, Variable, ListOf, Apply, MakeError, Exprs, no_exprs, expr_then}
+use Rattle.model_tree.specs.Syntax.{Expr, Or, And, Not, Compare, Calculate, Negate, Index, Literal, Variable, ListOf, Apply, MakeError, Exprs, no_exprs}
+use Rattle.model_tree.specs.Syntax.{expr_then}
 use Rattle.model_tree.specs.Known.{is_made_by_error}
 use Rattle.model_text.specs.Naming.{Scope, is_variable}
 

@@ -5,7 +5,8 @@ use Rattle.model_tree.specs.declared.operator.Operator.{Operator}
 use Rattle.model_tree.specs.declared.operator.Operator.TheVariants as operator
 use Rattle.model_tree.specs.declared.operator.Comparison.{Comparison}
 use Rattle.model_tree.specs.declared.operator.Comparison.TheVariants as comparison
-use Rattle.model_tree.specs.Syntax.{Constant, NoneConstant, TruthConstant, IntConstant, TextConstant, BytesConstant, Expr, Or, And, Not, Compare, Calculate, Negate, Index, Literal, Variable, ListOf, Apply, MakeError, Exprs, no_exprs, expr_then}
+use Rattle.model_tree.specs.Syntax.{Constant, NoneConstant, TruthConstant, IntConstant, TextConstant, BytesConstant, Expr, Or, And, Not, Compare, Calculate}
+use Rattle.model_tree.specs.Syntax.{Negate, Index, Literal, Variable, ListOf, Apply, MakeError, Exprs, no_exprs, expr_then}
 use Rattle.model_tree.specs.Known.{function_text, error_text}
 use Rattle.model_text.specs.declared.symbol.Symbol.{Symbol}
 use Rattle.model_text.specs.declared.symbol.Symbol.TheVariants as symbol

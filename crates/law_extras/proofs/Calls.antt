@@ -178,7 +178,8 @@ module _ {S : Type 0} (added : Extra S) (allowed : MakesAllowedSteps added) (tas
           (allowed.ask task n values s is.others.loop) (woken_in added task Asked asked_leaves code arguments allowed false) is
 
       number : (o : Option ℤ)
-          → RepliesInStep added false task (given o (λ n. given (as_list arguments) (λ items now. serves (added.ask task n items now) (woken added task) task now)) s)
+          → RepliesInStep added false task
+          (given o (λ n. given (as_list arguments) (λ items now. serves (added.ask task n items now) (woken added task) task now)) s)
       number None = raised bad_argument
       number (Some n) = items n (as_list arguments)
 

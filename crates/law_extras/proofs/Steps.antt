@@ -15,7 +15,8 @@ use Rattle.model_loop.specs.Loop.{Loop, in_parts}
 use Rattle.model_loop.specs.Parts.{Many, Parts, Plain}
 use Rattle.model_loop.specs.Sound.{IsSound}
 use Rattle.model_loop.specs.Tasks.{next_task}
-use Rattle.model_machine.specs.Extra.{ExtraStep, MakesPlain, MakesMany, Settles, Releases, Registers, CallsSoon, CallsLater, Revokes, Cancels, Uncancels, made_by, made_by_all}
+use Rattle.model_machine.specs.Extra.{ExtraStep, MakesPlain, MakesMany, Settles, Releases, Registers, CallsSoon, CallsLater, Revokes, Cancels, Uncancels}
+use Rattle.model_machine.specs.Extra.{made_by, made_by_all}
 use Rattle.model_machine.specs.Sound.{names_made}
 use Rattle.law_ledger.specs.Telling.{IsOther}
 use Rattle.law_numbers.proofs.Numbering.{revoke_numbers}

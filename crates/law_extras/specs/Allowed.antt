@@ -12,7 +12,8 @@ use Rattle.model_loop.specs.Loop.{Loop}
 use Rattle.model_loop.specs.Owning.{is_plain}
 use Rattle.model_loop.specs.Tasks.{next_task}
 use Rattle.model_machine.specs.Extra as extra
-use Rattle.model_machine.specs.Extra.{Extra, ExtraAnswer, ExtraSaid, ExtraStep, MakesPlain, MakesMany, Settles, Releases, Registers, CallsSoon, CallsLater, Revokes, Cancels, Uncancels, called, made_by}
+use Rattle.model_machine.specs.Extra.{Extra, ExtraAnswer, ExtraSaid, ExtraStep, MakesPlain, MakesMany, Settles, Releases, Registers, CallsSoon, CallsLater}
+use Rattle.model_machine.specs.Extra.{Revokes, Cancels, Uncancels, called, made_by}
 use Rattle.model_machine.specs.Sound.{names_made}
 use Rattle.model_machine.specs.State.{State}
 use Rattle.law_turns.specs.Replied.{RunsSound}

@@ -9,7 +9,8 @@ use Rattle.model_says.specs.Tape.{Tape}
 use Rattle.model_says.specs.Endings.{Saying, Progress, Ending, Passes, Returned, Raised, Stopped, Next, then_next, ask, asked_of, resumed_by, taken}
 use Rattle.model_says.specs.Says.{Calls, exit_of, exited, finished, run_all, run_branch, call_within}
 use Rattle.law_flat.specs.declared.way.Way.TheVariants.{Passing, Returning, Raising}
-use Rattle.law_flat.specs.Rests.{Way, ending_by, body_of, Rest, at_end, then_all, then_loop, then_jump, in_try, in_clause, in_finally, in_with, at_exit, fault_of, Caller, ending_after, ending_of_callers, ending_of_all}
+use Rattle.law_flat.specs.Rests.{Way, ending_by, body_of, Rest, at_end, then_all, then_loop, then_jump, in_try, in_clause, in_finally, in_with, at_exit}
+use Rattle.law_flat.specs.Rests.{fault_of, Caller, ending_after, ending_of_callers, ending_of_all}
 
 passes-on : (ending : Ending) → ending ≡ then_next Passes ending
 passes-on (Passes now) = refl

@@ -15,11 +15,14 @@ use Rattle.law_flat.specs.declared.open_handler.OpenHandler.TheVariants.{InTry, 
 use Rattle.law_flat.specs.declared.answer_use.AnswerUse.TheVariants.{Ignored, AssignedTo, Entered}
 use Rattle.law_flat.specs.Ops.{CoroutineCode, Has}
 use Rattle.law_flat.specs.Laid.{exit_op}
-use Rattle.law_flat.specs.Rests.{Way, ending_by, Rest, at_end, then_all, then_loop, then_jump, in_try, in_clause, in_finally, in_with, at_exit, fault_of, Wait, ignored, assigned_to, entering, after_answer as ending_by_answer}
-use Rattle.law_flat.specs.Moves.{OpenHandler, AnswerUse, Frames, Move, Goes, Asks, Says, at_next, with_handlers, with_variable, by_test, after_finally, ask_exit, after_answer, way_out, after_op, move_of}
+use Rattle.law_flat.specs.Rests.{Way, ending_by, Rest, at_end, then_all, then_loop, then_jump, in_try, in_clause, in_finally, in_with, at_exit, fault_of, Wait}
+use Rattle.law_flat.specs.Rests.{ignored, assigned_to, entering, after_answer as ending_by_answer}
+use Rattle.law_flat.specs.Moves.{OpenHandler, AnswerUse, Frames, Move, Goes, Asks, Says, at_next, with_handlers, with_variable, by_test, after_finally}
+use Rattle.law_flat.specs.Moves.{ask_exit, after_answer, way_out, after_op, move_of}
 use Rattle.law_flat.specs.Stands.{StandsAt, Stand, AllLaidOut, progress_at, meaning}
 use Rattle.law_flat.proofs.Endings.{ask-then}
-use Rattle.law_flat.proofs.WaysOut.{code_of, calls_of, StandsIn, AllStand, Meant, KeepsIt, meant_by, meant_next, into_finally-keeps, to_exit-keeps, raising-keeps, returning-keeps, ending-keeps}
+use Rattle.law_flat.proofs.WaysOut.{code_of, calls_of, StandsIn, AllStand, Meant, KeepsIt, meant_by, meant_next, into_finally-keeps, to_exit-keeps}
+use Rattle.law_flat.proofs.WaysOut.{raising-keeps, returning-keeps, ending-keeps}
 use Rattle.law_flat.proofs.Statements.{op-keeps, counted-keeps, given-keeps, first-keeps}
 
 module _ (limit : ℕ) (program : Program) (codes : ℕ → CoroutineCode) where

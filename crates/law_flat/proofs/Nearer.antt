@@ -1,5 +1,6 @@
 -- Each move comes nearer to the end.
-use Rattle.std.proofs.Common.{◌≡◌, ℕ, zero, suc, ◌+◌, ◌<◌, ◌≤◌, List, [], ◌∷◌, Option, Some, None, Result, Ok, Err, length, slice_get, refl, ap, subst, arith, true, false}
+use Rattle.std.proofs.Common.{◌≡◌, ℕ, zero, suc, ◌+◌, ◌<◌, ◌≤◌, List, [], ◌∷◌, Option, Some, None, Result, Ok, Err, length, slice_get, refl, ap, subst, arith}
+use Rattle.std.proofs.Common.{true, false}
 use Rattle.std.specs.Prelude.{⊤}
 use Rattle.std.proofs.lemmas.Option.{slice_get_within}
 use Rattle.std.proofs.Math.Nat.{mul-le-mul_right}
@@ -13,7 +14,9 @@ use Rattle.law_flat.specs.declared.op.Op.TheVariants as op
 use Rattle.law_flat.specs.declared.open_handler.OpenHandler.TheVariants.{InTry, InClause, InFinally, InWith, AtExit}
 use Rattle.law_flat.specs.Ops.{Op, Clause, Range, CoroutineCode}
 use Rattle.law_flat.specs.Rests.{Way}
-use Rattle.law_flat.specs.Moves.{OpenHandler, Frame, Frames, Move, Goes, Asks, Says, at_place, with_handlers, with_variable, in_caller, return_to, raise_in, out_of_frame, clause_for, clauses_in, into_finally, into_clause, to_exit, way_out, counted, with_given, by_test, raise_value, after_finally, ask_exit, call, after_statement, after_op, move_of}
+use Rattle.law_flat.specs.Moves.{OpenHandler, Frame, Frames, Move, Goes, Asks, Says, at_place, with_handlers, with_variable, in_caller, return_to, raise_in}
+use Rattle.law_flat.specs.Moves.{out_of_frame, clause_for, clauses_in, into_finally, into_clause, to_exit, way_out, counted, with_given, by_test, raise_value}
+use Rattle.law_flat.specs.Moves.{after_finally, ask_exit, call, after_statement, after_op, move_of}
 use Rattle.law_flat.specs.Nearer.{JumpsForward, handlers_weight, callers_weight, frames_weight, distance}
 
 -- where it goes on, the frames weigh less than these

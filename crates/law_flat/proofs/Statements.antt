@@ -3,7 +3,9 @@ use Rattle.std.proofs.Common.{◌≡◌, ℕ, zero, suc, ◌+◌, true, false, L
 use Rattle.model_value.specs.declared.request.Request.TheVariants as request
 use Rattle.model_value.specs.Request.{Request}
 use Rattle.model_value.specs.Value.{Value, Truth, Exception, Exc}
-use Rattle.model_tree.specs.Syntax.{Name, Expr, Exprs, no_exprs, expr_then, exprs, exprs_of, Target, Await, Call, Ask, SpawnTask, CreateTask, ListenAt, Manager, GroupBlock, TimeoutBlock, Statement, Assign, Yield, YieldFrom, Print, Raise, Return, Pass, If, While, Try, With, Statements, statement_then, Branch, Handlers, Program}
+use Rattle.model_tree.specs.Syntax.{Name, Expr, Exprs, no_exprs, expr_then, exprs, exprs_of, Target, Await, Call, Ask, SpawnTask, CreateTask, ListenAt, Manager}
+use Rattle.model_tree.specs.Syntax.{GroupBlock, TimeoutBlock, Statement, Assign, Yield, YieldFrom, Print, Raise, Return, Pass, If, While, Try, With, Statements}
+use Rattle.model_tree.specs.Syntax.{statement_then, Branch, Handlers, Program}
 use Rattle.model_says.specs.Variables.{held, bound}
 use Rattle.model_says.specs.Requests.{requested, place_of, coroutine_at}
 use Rattle.model_says.specs.Expressions.{value_of, values_of}

@@ -12,8 +12,10 @@ use Rattle.law_flat.specs.declared.op.Op.TheVariants as op
 use Rattle.law_flat.specs.declared.open_handler.OpenHandler.TheVariants.{InClause}
 use Rattle.law_flat.specs.Ops.{Clause, Range, CoroutineCode, Has, Covers}
 use Rattle.law_flat.specs.Laid.{LaidAll, LaidBranch, LaidHandlers, LaidFinally, LaidExit}
-use Rattle.law_flat.specs.Rests.{Way, ending_by, body_of, Rest, at_end, then_all, then_loop, then_jump, in_try, in_clause, in_finally, in_with, at_exit, ending_of_callers, ending_of_all}
-use Rattle.law_flat.specs.Moves.{OpenHandler, Frame, Frames, Move, Goes, at_place, with_handlers, with_variable, in_caller, return_to, raise_in, out_of_frame, clause_for, clauses_in, into_finally, into_clause, to_exit, way_out}
+use Rattle.law_flat.specs.Rests.{Way, ending_by, body_of, Rest, at_end, then_all, then_loop, then_jump, in_try, in_clause, in_finally, in_with, at_exit}
+use Rattle.law_flat.specs.Rests.{ending_of_callers, ending_of_all}
+use Rattle.law_flat.specs.Moves.{OpenHandler, Frame, Frames, Move, Goes, at_place, with_handlers, with_variable, in_caller, return_to, raise_in, out_of_frame}
+use Rattle.law_flat.specs.Moves.{clause_for, clauses_in, into_finally, into_clause, to_exit, way_out}
 use Rattle.law_flat.specs.Stands.{Stands, StandAll, callers_of, progress_at, meaning, Keeps}
 use Rattle.law_flat.proofs.Endings.{finished-by, exited-by}
 

@@ -1,7 +1,9 @@
 -- Which statements stand in flat code from one place to another.
 -- Source: the language reference, "Compound statements"; CPython's `compile.c` for how blocks are laid.
 use Rattle.std.specs.Prelude.{◌≡◌, ℕ, ◌+◌, List, [], ◌∷◌, Option}
-use Rattle.model_tree.specs.Syntax.{Name, exprs_of, Target, Await, Call, Ask, SpawnTask, CreateTask, ListenAt, Manager, GroupBlock, TimeoutBlock, Statement, Assign, Yield, YieldFrom, Print, Raise, Return, Pass, If, While, Try, With, Statements, no_statements, statement_then, Branch, no_branch, branch, Handlers, no_handlers, handler_then, Program}
+use Rattle.model_tree.specs.Syntax.{Name, exprs_of, Target, Await, Call, Ask, SpawnTask, CreateTask, ListenAt, Manager, GroupBlock, TimeoutBlock, Statement}
+use Rattle.model_tree.specs.Syntax.{Assign, Yield, YieldFrom, Print, Raise, Return, Pass, If, While, Try, With, Statements, no_statements, statement_then}
+use Rattle.model_tree.specs.Syntax.{Branch, no_branch, branch, Handlers, no_handlers, handler_then, Program}
 use Rattle.model_says.specs.Requests.{place_of}
 use Rattle.law_flat.specs.declared.op.Op.TheVariants as op
 use Rattle.law_flat.specs.Ops.{Op, Clause, Range, CoroutineCode, Has, Covers}

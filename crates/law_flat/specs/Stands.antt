@@ -13,7 +13,8 @@ use Rattle.law_flat.specs.declared.open_handler.OpenHandler.TheVariants.{InTry, 
 use Rattle.law_flat.specs.declared.answer_use.AnswerUse.TheVariants.{Ignored, AssignedTo, Entered}
 use Rattle.law_flat.specs.Ops.{Range, CoroutineCode, Has, Covers}
 use Rattle.law_flat.specs.Laid.{exit_op, LaidAll, LaidTry, LaidFinally, LaidExit}
-use Rattle.law_flat.specs.Rests.{Way, ending_by, Rest, at_end, then_all, then_loop, then_jump, in_try, in_clause, in_finally, in_with, at_exit, Wait, ignored, assigned_to, entering, after_answer, Caller, ending_of_all}
+use Rattle.law_flat.specs.Rests.{Way, ending_by, Rest, at_end, then_all, then_loop, then_jump, in_try, in_clause, in_finally, in_with, at_exit, Wait, ignored}
+use Rattle.law_flat.specs.Rests.{assigned_to, entering, after_answer, Caller, ending_of_all}
 use Rattle.law_flat.specs.Moves.{OpenHandler, AnswerUse, Frame, Frames, Move, Goes, Asks, Says}
 
 module _ (program : Program) (code : CoroutineCode) where

@@ -1,5 +1,6 @@
 -- A group is told of a child that is done: with the handle that told it, the whole stays sound.
-use Rattle.std.proofs.Common.{◌≡◌, ℕ, ◌+◌, ◌≤◌, ◌<◌, ◌⊎◌, Bool, true, false, cond, not, ◌&&◌, ◌||◌, ◌==◌, List, [], ◌∷◌, ◌++◌, Option, Some, None, filter, length, nat_eq, refl, ap, sym, subst, ◌∙◌, inl, inr, arith, append-nil}
+use Rattle.std.proofs.Common.{◌≡◌, ℕ, ◌+◌, ◌≤◌, ◌<◌, ◌⊎◌, Bool, true, false, cond, not, ◌&&◌, ◌||◌, ◌==◌, List, [], ◌∷◌, ◌++◌, Option, Some, None, filter}
+use Rattle.std.proofs.Common.{length, nat_eq, refl, ap, sym, subst, ◌∙◌, inl, inr, arith, append-nil}
 use Rattle.std.proofs.lemmas.Bool.{cases_eq, cases_Bool, cases_lt, false≢true, eq-eqb, ne_eqb}
 use Rattle.std.proofs.lemmas.List.{get_or_past}
 use Rattle.std.proofs.lemmas.List.Elements.{filter_map-append}
@@ -13,7 +14,8 @@ use Rattle.model_loop.specs.Loop.{Group, Loop, in_parts}
 use Rattle.model_loop.specs.Futures.{outcome_at, future_outcome, is_pending}
 use Rattle.model_loop.specs.Tasks.{lives, future_of}
 use Rattle.model_loop.specs.Ledger.{ByAbort}
-use Rattle.model_loop.specs.Groups.{new_group, group_of, set_group, failure_in, failure_of, without_child, wake_if_last, wake_exit, abort, request_parent, abort_and_request_unless, blame, child_done}
+use Rattle.model_loop.specs.Groups.{new_group, group_of, set_group, failure_in, failure_of, without_child, wake_if_last, wake_exit, abort, request_parent}
+use Rattle.model_loop.specs.Groups.{abort_and_request_unless, blame, child_done}
 use Rattle.model_loop.specs.Children.{failures, tells, IsTold, IsKeptGroup, HasErrors, body_at_end, told_more}
 use Rattle.model_loop.specs.Numbered.{occurrences}
 use Rattle.model_loop.specs.Totals.{pending_where, registered_at}

@@ -1,5 +1,6 @@
 -- A task is made in a group: it is registered with its own future, and the whole stays sound.
-use Rattle.std.proofs.Common.{◌≡◌, ℕ, ◌+◌, ◌≤◌, ◌<◌, ◌⊎◌, Bool, true, false, cond, not, ◌&&◌, ◌==◌, List, [], ◌∷◌, ◌++◌, Option, Some, None, length, nat_eq, option_map, slice_get, refl, ap, sym, subst, ◌∙◌, inl, inr, arith, length-append}
+use Rattle.std.proofs.Common.{◌≡◌, ℕ, ◌+◌, ◌≤◌, ◌<◌, ◌⊎◌, Bool, true, false, cond, not, ◌&&◌, ◌==◌, List, [], ◌∷◌, ◌++◌, Option, Some, None, length, nat_eq}
+use Rattle.std.proofs.Common.{option_map, slice_get, refl, ap, sym, subst, ◌∙◌, inl, inr, arith, length-append}
 use Rattle.std.proofs.lemmas.Bool.{cases_eq, cases_Bool, cases_lt, false≢true, eq-eqb, ne_eqb, eqb-true}
 use Rattle.std.proofs.lemmas.List.{get_or_past}
 use Rattle.std.proofs.lemmas.Option.{none-some, slice_get_past}
@@ -11,7 +12,8 @@ use Rattle.model_loop.specs.Parts.{OfTask, Future, Task, Parts}
 use Rattle.model_loop.specs.Loop.{Group, Loop, in_parts}
 use Rattle.model_loop.specs.Futures.{outcome_at, future_outcome, with_future, registered, next_future}
 use Rattle.model_loop.specs.Tasks.{next_task, lives, future_of, spawn}
-use Rattle.model_loop.specs.Groups.{new_group, group_of, set_group, Refusal, NotEntered, IsFinished, refusal, with_child, create_unless, create, failure_in, failure_of}
+use Rattle.model_loop.specs.Groups.{new_group, group_of, set_group, Refusal, NotEntered, IsFinished, refusal, with_child, create_unless, create, failure_in}
+use Rattle.model_loop.specs.Groups.{failure_of}
 use Rattle.model_loop.specs.Children.{tells, IsTold, HasErrors, body_at_end, HasPlainExit}
 use Rattle.model_loop.specs.Numbered.{occurrences}
 use Rattle.model_loop.specs.Totals.{callbacks_of, callbacks_at, pending_where, registered_at, total, IsAtHome}

@@ -1,7 +1,9 @@
 -- The exit of a group begins: the whole stays sound.
-use Rattle.std.proofs.Common.{◌≡◌, ℕ, Bool, List, None, Option, Some, [], ap, cond, false, inl, inr, is_some, length, not, refl, subst, sym, true, ◌&&◌, ◌++◌, ◌<◌, ◌==◌, ◌∙◌, ◌∷◌, ◌⊎◌}
+use Rattle.std.proofs.Common.{◌≡◌, ℕ, Bool, List, None, Option, Some, [], ap, cond, false, inl, inr, is_some, length, not, refl, subst, sym, true, ◌&&◌, ◌++◌}
+use Rattle.std.proofs.Common.{◌<◌, ◌==◌, ◌∙◌, ◌∷◌, ◌⊎◌}
 use Rattle.law_groups.proofs.ChildDone.{flag_fits, flags_told}
-use Rattle.model_loop.specs.Groups.{abort_if_raised, abort_where, begin_exit, body_failure, exit_begin, group_of, only_cancelled, set_group, take_back, take_back_where}
+use Rattle.model_loop.specs.Groups.{abort_if_raised, abort_where, begin_exit, body_failure, exit_begin, group_of, only_cancelled, set_group, take_back}
+use Rattle.model_loop.specs.Groups.{take_back_where}
 use Rattle.law_groups.proofs.Exits.{AllOrderly, OthersOrderly, abort_open, wait_or_end_well, IsOpen, IsWell, open_orderly}
 use Rattle.law_told.proofs.Holding.{Fits, fits_at, group_other, group_same, looks_holds, set_holds}
 use Rattle.model_loop.specs.Loop.{Group, Loop, book}

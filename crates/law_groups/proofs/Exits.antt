@@ -1,5 +1,6 @@
 -- The exit of a group goes on after its wait: the whole stays sound.
-use Rattle.std.proofs.Common.{◌≡◌, ℕ, ◌<◌, ◌⊎◌, Bool, true, false, List, [], ◌∷◌, ◌++◌, Option, Some, None, length, refl, ap, sym, subst, ◌∙◌, inl, inr, append-nil}
+use Rattle.std.proofs.Common.{◌≡◌, ℕ, ◌<◌, ◌⊎◌, Bool, true, false, List, [], ◌∷◌, ◌++◌, Option, Some, None, length, refl, ap, sym, subst, ◌∙◌, inl, inr}
+use Rattle.std.proofs.Common.{append-nil}
 use Rattle.std.proofs.Math.ListN.{length-set}
 use Rattle.std.proofs.lemmas.Bool.{cases_eq, false≢true}
 use Rattle.std.proofs.lemmas.Option.{same_Some, none-some}
@@ -10,7 +11,8 @@ use Rattle.model_loop.specs.Parts.{Plain}
 use Rattle.model_loop.specs.Loop.{Group, Loop, in_parts}
 use Rattle.model_loop.specs.Futures.{next_future, new_plain}
 use Rattle.model_loop.specs.Ledger.{ByAbort}
-use Rattle.model_loop.specs.Groups.{group_of, set_group, abort, body_failure, end_exit, wait_for_children, wait_or_end_with, wait_or_end, keep_and_abort_unless, hear, exit_woken}
+use Rattle.model_loop.specs.Groups.{group_of, set_group, abort, body_failure, end_exit, wait_for_children, wait_or_end_with, wait_or_end, keep_and_abort_unless}
+use Rattle.model_loop.specs.Groups.{hear, exit_woken}
 use Rattle.law_settling.specs.Frames.{Covers}
 use Rattle.law_told.specs.Holds.{Holds}
 use Rattle.model_loop.specs.Children.{IsOrderly, body_at_end, failures}

@@ -16,7 +16,8 @@ use Rattle.aio_cancel.specs.Awaitables.{waiting}
 use Rattle.aio_task.specs.View.{View}
 use Rattle.aio_task.specs.Keeps.{Known, ByHandle, name_of, handle_as, IsTimer, Ties, KeepsHandles, Keeps, Extends, Kept, Knows}
 use Rattle.law_handles.proofs.Lists.{all-append, all_left, all_right, all_both}
-use Rattle.law_handles.proofs.Naming.{tags_pending, tags_timers, all-by_deadline, handles_same, timers_same, known_as, known_new, known_same, names_more, next_given, given_rises, next_fresh}
+use Rattle.law_handles.proofs.Naming.{tags_pending, tags_timers, all-by_deadline, handles_same, timers_same, known_as, known_new, known_same, names_more}
+use Rattle.law_handles.proofs.Naming.{next_given, given_rises, next_fresh}
 
 -- ---- ties
 pub extends_same : (t : Ties) (p : Parts) → Extends p t p t

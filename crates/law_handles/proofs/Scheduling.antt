@@ -1,5 +1,6 @@
 -- Timers are made, cancelled, and fall due.
-use Rattle.std.proofs.Common.{◌≡◌, ℕ, ◌+◌, ◌<◌, ◌≤◌, ◌⊎◌, ◌==◌, Bool, true, false, cond, not, List, [], ◌∷◌, ◌++◌, Some, None, map, filter, refl, ap, sym, subst, ◌∙◌, inl, inr, arith, append_assoc, if◌then◌else◌}
+use Rattle.std.proofs.Common.{◌≡◌, ℕ, ◌+◌, ◌<◌, ◌≤◌, ◌⊎◌, ◌==◌, Bool, true, false, cond, not, List, [], ◌∷◌, ◌++◌, Some, None, map, filter, refl, ap, sym}
+use Rattle.std.proofs.Common.{subst, ◌∙◌, inl, inr, arith, append_assoc, if◌then◌else◌}
 use Rattle.std.specs.Prelude.{nat_lt, nat_le, nat_eq}
 use Rattle.std.specs.List.{AllByRecursion as Each}
 use Rattle.std.proofs.lemmas.Bool.{cases_eq, eq-eqb, ne_eqb, eqb-true, false_from_ne_true, and_parts, and_from}
@@ -24,7 +25,8 @@ use Rattle.law_handles.specs.Waiting.{wait_by, stalls_by}
 use Rattle.aio_cancel.specs.Awaitables.{waiting}
 use Rattle.law_handles.proofs.Appending.{extends_still, waiting_kept}
 use Rattle.law_handles.proofs.Lists.{all_left, all_right, all_both, all-append, all-filter, occurrences-cons}
-use Rattle.law_handles.proofs.Naming.{tags_pending, tags_timers, all-by_deadline, handles_same, timers_same, known_as, known_new, known_same, names_more, timer_fresh}
+use Rattle.law_handles.proofs.Naming.{tags_pending, tags_timers, all-by_deadline, handles_same, timers_same, known_as, known_new, known_same, names_more}
+use Rattle.law_handles.proofs.Naming.{timer_fresh}
 use Rattle.law_handles.proofs.Deadlining.{last-by_deadline, filter-by_deadline, filter-map, placed-map, tags-by_deadline, first_least}
 use Rattle.law_handles.proofs.Running.{handles_cancelled}
 

@@ -1,5 +1,6 @@
 -- Values name tasks that were made: what scripts hand on, and what they are given as a task is made.
-use Rattle.std.proofs.Common.{◌≡◌, ℕ, ◌<◌, ◌≤◌, ◌+◌, ◌⊎◌, inl, inr, Bool, true, false, not, ◌&&◌, List, [], ◌∷◌, ◌++◌, Option, Some, None, length, length-append, nat_lt, slice_get, slice_index_or, refl, sym, ap, subst, ◌∙◌, arith}
+use Rattle.std.proofs.Common.{◌≡◌, ℕ, ◌<◌, ◌≤◌, ◌+◌, ◌⊎◌, inl, inr, Bool, true, false, not, ◌&&◌, List, [], ◌∷◌, ◌++◌, Option, Some, None, length}
+use Rattle.std.proofs.Common.{length-append, nat_lt, slice_get, slice_index_or, refl, sym, ap, subst, ◌∙◌, arith}
 use Rattle.std.specs.List.{list_all}
 use Rattle.std.proofs.lemmas.Bool.{cases_eq, cases_lt, eq-eqb, ne_eqb, le-ltb, lt-ltb, false≢true}
 use Rattle.model_value.specs.Input.{Input}
@@ -17,7 +18,8 @@ use Rattle.model_loop.specs.Tasks.{lives, next_task}
 use Rattle.model_loop.specs.Ways.{is_running}
 use Rattle.model_machine.specs.Extra.{Extra}
 use Rattle.model_machine.specs.Outcomes.{input_of}
-use Rattle.model_machine.specs.Sound.{AreScriptsFutures, IsAsking, IsUnbegun, StandsRightly, all_made, blocks_of, exchanges_of, names_block, names_made, sends_made, stands_at}
+use Rattle.model_machine.specs.Sound.{AreScriptsFutures, IsAsking, IsUnbegun, StandsRightly, all_made, blocks_of, exchanges_of, names_block, names_made}
+use Rattle.model_machine.specs.Sound.{sends_made, stands_at}
 use Rattle.model_machine.specs.State.{Standing, Asked, Sleeping, Leaving, Generator, State, generator, generator_of, with_coroutine}
 use Rattle.model_machine.specs.Step.{says_of}
 use Rattle.model_machine.specs.Told.{told_in}

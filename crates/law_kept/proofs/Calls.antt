@@ -29,7 +29,8 @@ use Rattle.aio_cancel.specs.Awaitables.{Appended}
 use Rattle.aio_cancel.proofs.PartsLemmas.{soon-parts, settle-parts}
 use Rattle.aio_task.specs.View.{View, body, parts}
 use Rattle.aio_task.specs.Keeps.{Ties, Keeps, Kept, Becomes}
-use Rattle.law_kept.proofs.Only.{OnlyAppends, OnlyChanges, only_soon, only_settle, only_register, changes_ask, changes_make, changes_task, only_spawn, only_cancel, changes_begin, only_finish, only_suspend}
+use Rattle.law_kept.proofs.Only.{OnlyAppends, OnlyChanges, only_soon, only_settle, only_register, changes_ask, changes_make, changes_task, only_spawn}
+use Rattle.law_kept.proofs.Only.{only_cancel, changes_begin, only_finish, only_suspend}
 use Rattle.law_kept.proofs.PlacedSteps.{begin-placed, finish-placed, suspend-placed}
 use Rattle.law_kept.proofs.Becoming.{parts_kept, kept_becomes, keeps_becomes}
 

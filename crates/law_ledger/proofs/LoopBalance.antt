@@ -1,5 +1,6 @@
 -- Timeouts, groups and the end of a run keep counts the ledger's balance.
-use Rattle.std.proofs.Common.{◌≡◌, ℕ, ◌+◌, ◌⊎◌, ℤ, Bool, true, false, cond, not, ◌||◌, ◌==◌, List, [], ◌∷◌, ◌++◌, Option, Some, None, length, nat_le, option_map, slice_get, refl, ap, ◌∙◌, inl, inr, arith, is_some, ◌&&◌}
+use Rattle.std.proofs.Common.{◌≡◌, ℕ, ◌+◌, ◌⊎◌, ℤ, Bool, true, false, cond, not, ◌||◌, ◌==◌, List, [], ◌∷◌, ◌++◌, Option, Some, None, length, nat_le}
+use Rattle.std.proofs.Common.{option_map, slice_get, refl, ap, ◌∙◌, inl, inr, arith, is_some, ◌&&◌}
 use Rattle.std.specs.List.{count_by, range_with_len}
 use Rattle.std.proofs.lemmas.Bool.{cases_eq}
 use Rattle.std.proofs.lemmas.Option.{slice_get_past}
@@ -14,8 +15,11 @@ use Rattle.model_loop.specs.Futures.{next_future}
 use Rattle.model_loop.specs.Tasks.{cancelling, next_task, spawn, future_of}
 use Rattle.model_loop.specs.Ledger.{Began, Booked, ByTimeout, ByGroup, ByAbort, ByEnd, ask_cancel, request_each, uncancel_by}
 use Rattle.model_loop.specs.Loop.{TimeoutState, Created, Active, Expiring, Expired, Finished, Loop, in_parts, book}
-use Rattle.model_loop.specs.Timeouts.{timeout_of, give_up, without_handle, fires_at, with_deadline, schedule, next_timeout, make_timeout, enter_timeout, moment, is_active, reschedule_where, reschedule, fire, leave_from, exit_timeout}
-use Rattle.model_loop.specs.Groups.{group_of, set_group, Refusal, refusal, with_child, create_unless, create, abort, abort_where, failure_of, without_child, wake_if_last, wake_exit, request_parent, abort_and_request_unless, blame, child_done, end_exit, wait_or_end_with, wait_or_end, begin_exit, take_back_where, take_back, abort_if_raised, exit_begin, keep_and_abort_unless, hear, exit_woken}
+use Rattle.model_loop.specs.Timeouts.{timeout_of, give_up, without_handle, fires_at, with_deadline, schedule, next_timeout, make_timeout, enter_timeout, moment}
+use Rattle.model_loop.specs.Timeouts.{is_active, reschedule_where, reschedule, fire, leave_from, exit_timeout}
+use Rattle.model_loop.specs.Groups.{group_of, set_group, Refusal, refusal, with_child, create_unless, create, abort, abort_where, failure_of, without_child}
+use Rattle.model_loop.specs.Groups.{wake_if_last, wake_exit, request_parent, abort_and_request_unless, blame, child_done, end_exit, wait_or_end_with}
+use Rattle.model_loop.specs.Groups.{wait_or_end, begin_exit, take_back_where, take_back, abort_if_raised, exit_begin, keep_and_abort_unless, hear, exit_woken}
 use Rattle.model_loop.specs.Ending.{cancel_everything}
 use Rattle.model_loop.specs.Balance.{raises, lowers, Balances, TasksBalance}
 use Rattle.law_cancel.proofs.Lookups.{get-push_last, get-push_other}

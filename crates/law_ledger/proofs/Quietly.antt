@@ -1,13 +1,17 @@
 -- Steps that are no timeout's and no group's book nothing of them.
-use Rattle.std.proofs.Common.{◌≡◌, ℕ, Bool, List, None, Option, Some, [], ap, append-nil, append_assoc, arith, cond, false, map, option_map, refl, slice_index_or, slice_set, subst, suc, sym, true, zero, ℤ, ◌++◌, ◌+◌, ◌∙◌, ◌∷◌, nat_lt}
+use Rattle.std.proofs.Common.{◌≡◌, ℕ, Bool, List, None, Option, Some, [], ap, append-nil, append_assoc, arith, cond, false, map, option_map, refl}
+use Rattle.std.proofs.Common.{slice_index_or, slice_set, subst, suc, sym, true, zero, ℤ, ◌++◌, ◌+◌, ◌∙◌, ◌∷◌, nat_lt}
 use Rattle.model_loop.specs.Handles.{deadline}
-use Rattle.model_loop.specs.Groups.{Refusal, abort, create, create_unless, end_exit, exit_woken, group_of, hear, keep_and_abort_unless, make_group, new_group, refusal, set_group, wait_or_end, wait_or_end_with, wake_exit, wake_if_last, with_child}
+use Rattle.model_loop.specs.Groups.{Refusal, abort, create, create_unless, end_exit, exit_woken, group_of, hear, keep_and_abort_unless, make_group, new_group}
+use Rattle.model_loop.specs.Groups.{refusal, set_group, wait_or_end, wait_or_end_with, wake_exit, wake_if_last, with_child}
 use Rattle.model_loop.specs.Circles.{circle}
-use Rattle.model_loop.specs.Timeouts.{enter_timeout, fires_at, give_up, has_expired, is_active, make_timeout, moment, next_timeout, no_timeout, reschedule, reschedule_where, schedule, set_timeout, timeout_of, with_deadline, without_handle}
+use Rattle.model_loop.specs.Timeouts.{enter_timeout, fires_at, give_up, has_expired, is_active, make_timeout, moment, next_timeout, no_timeout, reschedule}
+use Rattle.model_loop.specs.Timeouts.{reschedule_where, schedule, set_timeout, timeout_of, with_deadline, without_handle}
 use Rattle.model_loop.specs.Tasks.{future_of, is_marked, lives, cancelling}
 use Rattle.model_loop.specs.Futures.{new_plain}
 use Rattle.model_loop.specs.Loop.{Group, Loop, Timeout, book, in_parts}
-use Rattle.model_loop.specs.Ledger.{Asked, Booked, ByAbort, ByWait, LedgerEntry, Origin, Raised, Took, ask_cancel, raised_among, request_each, request_where, uncancel_by}
+use Rattle.model_loop.specs.Ledger.{Asked, Booked, ByAbort, ByWait, LedgerEntry, Origin, Raised, Took, ask_cancel, raised_among, request_each, request_where}
+use Rattle.model_loop.specs.Ledger.{uncancel_by}
 use Rattle.model_loop.specs.Suspend.{cancel_wait, suspend, suspend_unless, wait_on}
 use Rattle.std.specs.List.{count_by}
 use Rattle.model_loop.specs.Ways.{one_if}

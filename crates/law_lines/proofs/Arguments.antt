@@ -24,7 +24,8 @@ use Rattle.law_lines.specs.WellWritten.{WellWrittenTarget}
 abbrev pub slots : Exprs → List (List Lexeme)
 slots row = map (λ other. other.1) (groups row)
 
-read-then : (first : Expr) (others : List (List Lexeme)) (ts : List Term) → all_of term_of others ≡ Some ts → all_of term_of (expr_lexemes first ∷ others) ≡ Some (term_from first ∷ ts)
+read-then : (first : Expr) (others : List (List Lexeme)) (ts : List Term) → all_of term_of others ≡ Some ts → all_of term_of (expr_lexemes first ∷ others)
+    ≡ Some (term_from first ∷ ts)
 read-then first others ts e =
     ap (option_and_then (λ y. option_map (λ ys. y ∷ ys) (all_of term_of others))) (expression-read first) ∙ ap (option_map (λ ys. term_from first ∷ ys)) e
 
@@ -33,10 +34,13 @@ slots-read no_exprs = refl
 slots-read (expr_then first others) = read-then first (slots others) (row_from others) (slots-read others)
 
 -- what stands between commas behind an expression
-front-parts : (first : Expr) (others : List Lexeme) (cut : List (Lexeme × List Lexeme)) → pieces_from at_comma 0 true others ≡ (let c : Pieces Lexeme = record { first = []; others = cut } in c) → parts (expr_lexemes first ++ others) ≡ expr_lexemes first ∷ map (λ other. other.1) cut
+front-parts : (first : Expr) (others : List Lexeme) (cut : List (Lexeme × List Lexeme)) → pieces_from at_comma 0 true others
+    ≡ (let c : Pieces Lexeme = record { first = []; others = cut } in c) → parts (expr_lexemes first ++ others) ≡ expr_lexemes first
+    ∷ map (λ other. other.1) cut
 front-parts first others cut e =
     let shape = (facts first).shape in
-    parts-front shape.first (shape.others ++ others) (expr_lexemes first ++ others) (ap (λ l. l ++ others) shape.split) ∙ ap (λ (c : Pieces Lexeme). c.first ∷ map (λ other. other.1) c.others) (front-pieces (expr_lexemes first) others cut shape e)
+    parts-front shape.first (shape.others ++ others) (expr_lexemes first ++ others) (ap (λ l. l ++ others) shape.split)
+    ∙ ap (λ (c : Pieces Lexeme). c.first ∷ map (λ other. other.1) c.others) (front-pieces (expr_lexemes first) others cut shape e)
 
 pub row-read : (row : Exprs) → all_of term_of (parts (exprs_lexemes row)) ≡ Some (row_from row)
 row-read no_exprs = refl
@@ -48,10 +52,12 @@ abbrev name_groups : List Name → List (Lexeme × List Lexeme)
 name_groups [] = []
 name_groups (name ∷ names) = (Sign symbol.Comma, Named name ∷ []) ∷ name_groups names
 
-names-cut : (names : List Name) → pieces_from at_comma 0 true (more_named names) ≡ (let c : Pieces Lexeme = record { first = []; others = name_groups names } in c)
+names-cut : (names : List Name) → pieces_from at_comma 0 true (more_named names)
+    ≡ (let c : Pieces Lexeme = record { first = []; others = name_groups names } in c)
 names-cut [] = refl
 names-cut (name ∷ names) =
-    ap (λ (c : Pieces Lexeme). let p : Pieces Lexeme = record { first = []; others = (Sign symbol.Comma, Named name ∷ c.first) ∷ c.others } in p) (names-cut names)
+    ap (λ (c : Pieces Lexeme). let p : Pieces Lexeme = record { first = []; others = (Sign symbol.Comma, Named name ∷ c.first) ∷ c.others } in p)
+    (names-cut names)
 
 name-slots : (names : List Name) → all_of bare_name (map (λ other. other.1) (name_groups names)) ≡ Some names
 name-slots [] = refl
@@ -71,20 +77,29 @@ named-parts : (name : Name) (row : Exprs) → parts (Named name ∷ more_lexemes
 named-parts name row =
     ap (λ (c : Pieces Lexeme). (Named name ∷ c.first) ∷ map (λ other. other.1) c.others) (mores row).cuts
 
-bare-arguments : (before : List Term) (name : Name) (row : Exprs) → from_bare term_of before ((Named name ∷ []) ∷ slots row) ≡ Some (arguments_from before (Some name) (row_from row))
+bare-arguments : (before : List Term) (name : Name) (row : Exprs) → from_bare term_of before ((Named name ∷ []) ∷ slots row)
+    ≡ Some (arguments_from before (Some name) (row_from row))
 bare-arguments before name row = ap (option_map (with_bare before name)) (slots-read row)
 
-first-bare : (name : Name) (row : Exprs) → arguments_of term_of (Some 0) (parts (Named name ∷ more_lexemes row)) ≡ Some (arguments_from [] (Some name) (row_from row))
+first-bare : (name : Name) (row : Exprs) → arguments_of term_of (Some 0) (parts (Named name ∷ more_lexemes row))
+    ≡ Some (arguments_from [] (Some name) (row_from row))
 first-bare name row = ap (arguments_of term_of (Some 0)) (named-parts name row) ∙ bare-arguments [] name row
 
 -- an argument, a bare name, and arguments behind it
-bare-cut : (name : Name) (row : Exprs) → pieces_from at_comma 0 true (Sign symbol.Comma ∷ Named name ∷ more_lexemes row) ≡ (let c : Pieces Lexeme = record { first = []; others = (Sign symbol.Comma, Named name ∷ []) ∷ groups row } in c)
+bare-cut : (name : Name) (row : Exprs) → pieces_from at_comma 0 true (Sign symbol.Comma ∷ Named name ∷ more_lexemes row)
+    ≡ (let c : Pieces Lexeme = record { first = []; others = (Sign symbol.Comma, Named name ∷ []) ∷ groups row } in c)
 bare-cut name row =
-    ap (λ (c : Pieces Lexeme). let p : Pieces Lexeme = record { first = []; others = (Sign symbol.Comma, Named name ∷ c.first) ∷ c.others } in p) (mores row).cuts
+    ap (λ (c : Pieces Lexeme). let p : Pieces Lexeme = record { first = []; others = (Sign symbol.Comma, Named name ∷ c.first) ∷ c.others } in p)
+    (mores row).cuts
 
-second-bare : (first : Expr) (name : Name) (row : Exprs) → arguments_of term_of (Some 1) (parts (expr_lexemes first ++ Sign symbol.Comma ∷ Named name ∷ more_lexemes row)) ≡ Some (arguments_from (term_from first ∷ []) (Some name) (row_from row))
+second-bare : (first : Expr) (name : Name) (row : Exprs)
+    → arguments_of term_of (Some 1) (parts (expr_lexemes first ++ Sign symbol.Comma ∷ Named name ∷ more_lexemes row))
+    ≡ Some (arguments_from (term_from first ∷ []) (Some name) (row_from row))
 second-bare first name row =
-    ap (arguments_of term_of (Some 1)) (front-parts first (Sign symbol.Comma ∷ Named name ∷ more_lexemes row) ((Sign symbol.Comma, Named name ∷ []) ∷ groups row) (bare-cut name row)) ∙ (ap (option_and_then (λ before. from_bare term_of before ((Named name ∷ []) ∷ slots row))) (read-then first [] [] refl) ∙ bare-arguments (term_from first ∷ []) name row)
+    ap (arguments_of term_of (Some 1))
+    (front-parts first (Sign symbol.Comma ∷ Named name ∷ more_lexemes row) ((Sign symbol.Comma, Named name ∷ []) ∷ groups row) (bare-cut name row))
+    ∙ (ap (option_and_then (λ before. from_bare term_of before ((Named name ∷ []) ∷ slots row))) (read-then first [] [] refl)
+    ∙ bare-arguments (term_from first ∷ []) name row)
 
 -- ---- targets
 -- a name that the language hasn't for itself is none of its own
@@ -108,9 +123,12 @@ pub request-place : (r : RequestName) → coroutine_place (request_text r) ≡ N
 request-place request.MakeFuture = refl
 request-place _ = refl
 
-asked : (name : Name) (place : Option ℕ) (inner : List Lexeme) (arguments : Arguments) → coroutine_place name ≡ place → arguments_of term_of place (parts inner) ≡ Some arguments → goal_of (Named name ∷ within_parentheses inner) ≡ Some (Asked name arguments)
+asked : (name : Name) (place : Option ℕ) (inner : List Lexeme) (arguments : Arguments) → coroutine_place name ≡ place → arguments_of term_of place (parts inner)
+    ≡ Some arguments → goal_of (Named name ∷ within_parentheses inner) ≡ Some (Asked name arguments)
 asked name place inner arguments p e =
-    ap (option_and_then (λ found. option_map (Asked name) (arguments_of term_of (coroutine_place name) (parts found)))) (before-last symbol.RightParenthesis (Sign symbol.RightParenthesis) inner refl) ∙ (ap (λ found. option_map (Asked name) (arguments_of term_of found (parts inner))) p ∙ ap (option_map (Asked name)) e)
+    ap (option_and_then (λ found. option_map (Asked name) (arguments_of term_of (coroutine_place name) (parts found))))
+    (before-last symbol.RightParenthesis (Sign symbol.RightParenthesis) inner refl)
+    ∙ (ap (λ found. option_map (Asked name) (arguments_of term_of found (parts inner))) p ∙ ap (option_map (Asked name)) e)
 
 pub target-read : (target : Target) → WellWrittenTarget target → goal_of (target_lexemes target) ≡ Some (goal_from target)
 target-read (Await name) w = refl
@@ -119,8 +137,11 @@ target-read (Call coroutine arguments) w =
 target-read (Ask request arguments) w =
     asked (request_text request) None (exprs_lexemes arguments) (arguments_from (row_from arguments) None []) (request-place request) (all-arguments arguments)
 target-read (SpawnTask coroutine arguments) w =
-    asked spawn_text (Some 0) (Named coroutine ∷ more_lexemes arguments) (arguments_from [] (Some coroutine) (row_from arguments)) refl (first-bare coroutine arguments)
+    asked spawn_text (Some 0) (Named coroutine ∷ more_lexemes arguments) (arguments_from [] (Some coroutine) (row_from arguments)) refl
+    (first-bare coroutine arguments)
 target-read (CreateTask group coroutine arguments) w =
-    asked create_text (Some 1) (expr_lexemes group ++ Sign symbol.Comma ∷ Named coroutine ∷ more_lexemes arguments) (arguments_from (term_from group ∷ []) (Some coroutine) (row_from arguments)) refl (second-bare group coroutine arguments)
+    asked create_text (Some 1) (expr_lexemes group ++ Sign symbol.Comma ∷ Named coroutine ∷ more_lexemes arguments)
+    (arguments_from (term_from group ∷ []) (Some coroutine) (row_from arguments)) refl (second-bare group coroutine arguments)
 target-read (ListenAt port handler) w =
-    asked listen_text (Some 1) (expr_lexemes port ++ Sign symbol.Comma ∷ Named handler ∷ []) (arguments_from (term_from port ∷ []) (Some handler) []) refl (second-bare port handler no_exprs)
+    asked listen_text (Some 1) (expr_lexemes port ++ Sign symbol.Comma ∷ Named handler ∷ []) (arguments_from (term_from port ∷ []) (Some handler) []) refl
+    (second-bare port handler no_exprs)

@@ -90,7 +90,8 @@ spaced a la f rest others h =
     subst (λ text. Has text (la ++ others)) (sym (append_assoc a (32 ∷ []) rest)) (f (32 ∷ rest) others (refl, refl) (blank-leads rest others h))
 
 -- ---- one token
-one-token : (class : TokenClass) (text rest : List ℕ) (others : List Lexeme) → SpellsToken class text → Ends class rest → Has rest others → Has (text ++ rest) (lexeme_of class ∷ others)
+one-token : (class : TokenClass) (text rest : List ℕ) (others : List Lexeme) → SpellsToken class text → Ends class rest → Has rest others
+    → Has (text ++ rest) (lexeme_of class ∷ others)
 one-token class text rest others spelled ended h column =
     let t = h (column + length text) in (
       token_of column text class ∷ t.0,
@@ -102,7 +103,8 @@ one-token class text rest others spelled ended h column =
       ap (λ l. lexeme_of class ∷ l) t.2,
     )
 
-pub token-fronts : (class : TokenClass) (text : List ℕ) → SpellsToken class text → ((rest : List ℕ) → Quiet rest → Ends class rest) → Fronts text (lexeme_of class ∷ [])
+pub token-fronts : (class : TokenClass) (text : List ℕ) → SpellsToken class text → ((rest : List ℕ) → Quiet rest → Ends class rest)
+    → Fronts text (lexeme_of class ∷ [])
 token-fronts class text spelled ended rest others r h = one-token class text rest others spelled (ended rest r) h
 
 -- ---- symbols
@@ -118,6 +120,9 @@ sign-leads symbol e rest others h =
     one-token (Symbol symbol) (symbol_text symbol) rest others refl (longest symbol rest (e rest)) h
 
 -- a symbol between blanks
-pub spaced-sign : (symbol : AnySymbol) → ((rest : List ℕ) → symbol_at (symbol_text symbol ++ 32 ∷ rest) ≡ Some symbol) → Leads (32 ∷ (symbol_text symbol ++ 32 ∷ [])) (Sign symbol ∷ [])
+pub spaced-sign : (symbol : AnySymbol) → ((rest : List ℕ) → symbol_at (symbol_text symbol ++ 32 ∷ rest) ≡ Some symbol)
+    → Leads (32 ∷ (symbol_text symbol ++ 32 ∷ [])) (Sign symbol ∷ [])
 spaced-sign symbol e rest others h =
-    blank-leads ((symbol_text symbol ++ 32 ∷ []) ++ rest) (Sign symbol ∷ others) (subst (λ text. Has text (Sign symbol ∷ others)) (sym (append_assoc (symbol_text symbol) (32 ∷ []) rest)) (one-token (Symbol symbol) (symbol_text symbol) (32 ∷ rest) others refl (longest symbol (32 ∷ rest) (e rest)) (blank-leads rest others h)))
+    blank-leads ((symbol_text symbol ++ 32 ∷ []) ++ rest) (Sign symbol ∷ others)
+    (subst (λ text. Has text (Sign symbol ∷ others)) (sym (append_assoc (symbol_text symbol) (32 ∷ []) rest))
+    (one-token (Symbol symbol) (symbol_text symbol) (32 ∷ rest) others refl (longest symbol (32 ∷ rest) (e rest)) (blank-leads rest others h)))

@@ -1,5 +1,6 @@
 -- Each byte of a line that has tokens is allowed, so none ends a line.
-use Rattle.std.proofs.Common.{◌≡◌, ℕ, zero, suc, ◌==◌, Bool, true, false, cond, ◌&&◌, not, List, [], ◌∷◌, ◌++◌, replicate, Option, Some, None, Ok, refl, sym, subst, arith}
+use Rattle.std.proofs.Common.{◌≡◌, ℕ, zero, suc, ◌==◌, Bool, true, false, cond, ◌&&◌, not, List, [], ◌∷◌, ◌++◌, replicate, Option, Some, None, Ok, refl, sym}
+use Rattle.std.proofs.Common.{subst, arith}
 use Rattle.std.specs.List.{list_all, AllByRecursion}
 use Rattle.std.specs.Char.{is_ascii_digit, is_ascii_hexdigit}
 use Rattle.std.proofs.lemmas.Bool.{and_parts}
@@ -55,13 +56,18 @@ same-allowed : (byte value : ℕ) → (byte == value) ≡ true → Allowed value
 same-allowed byte value e h = grind (arith, nat_tests)
 
 -- ---- literals
-either-allowed : (test : Bool) (value : Option ℕ) (others : Option ℕ) (byte found : ℕ) → (test ≡ true → Allowed byte) → cond test value others ≡ Some found → (others ≡ Some found → Allowed byte) → Allowed byte
+either-allowed : (test : Bool) (value : Option ℕ) (others : Option ℕ) (byte found : ℕ) → (test ≡ true → Allowed byte) → cond test value others ≡ Some found
+    → (others ≡ Some found → Allowed byte) → Allowed byte
 either-allowed true value others byte found h e other = h refl
 either-allowed false value others byte found h e other = other e
 
 letter-allowed : (letter found : ℕ) → escape_value letter ≡ Some found → Allowed letter
 letter-allowed letter found e =
-    either-allowed (letter == 110) (Some 10) _ letter found (λ s. same-allowed letter 110 s refl) e (λ e. either-allowed (letter == 114) (Some 13) _ letter found (λ s. same-allowed letter 114 s refl) e (λ e. either-allowed (letter == 116) (Some 9) _ letter found (λ s. same-allowed letter 116 s refl) e (λ e. either-allowed (is_backslash letter) (Some 92) _ letter found (λ s. same-allowed letter 92 s refl) e (λ e. either-allowed (is_quote letter) (Some 34) None letter found (λ s. same-allowed letter 34 s refl) e (λ e. cc)))))
+    either-allowed (letter == 110) (Some 10) _ letter found (λ s. same-allowed letter 110 s refl) e
+    (λ e. either-allowed (letter == 114) (Some 13) _ letter found (λ s. same-allowed letter 114 s refl) e
+    (λ e. either-allowed (letter == 116) (Some 9) _ letter found (λ s. same-allowed letter 116 s refl) e
+    (λ e. either-allowed (is_backslash letter) (Some 92) _ letter found (λ s. same-allowed letter 92 s refl) e
+    (λ e. either-allowed (is_quote letter) (Some 34) None letter found (λ s. same-allowed letter 34 s refl) e (λ e. cc)))))
 
 below-some : (bound : ℕ) (value : Option ℕ) (found : ℕ) → value_below bound value ≡ Some found → (inner : ℕ) × (value ≡ Some inner)
 below-some bound None found e = cc
@@ -124,7 +130,9 @@ comment-allowed (first ∷ others) c = (hash-allowed first c.0, by-test is_allow
 reads-allowed : (column : ℕ) (bytes : List ℕ) (tokens : List Token) → Reads column bytes tokens → AllAllowed bytes
 reads-allowed column bytes [] r = subst AllAllowed (sym r.2) (spaces-allowed r.0 r.1 (comment-allowed r.1 r.3))
 reads-allowed column bytes (token ∷ tokens) r =
-    subst AllAllowed (sym r.1.whole) (spaces-allowed r.1.spaces (r.1.text ++ r.0) (allowed-append r.1.text r.0 (token-allowed token.class r.1.text r.1.spelled) (reads-allowed token.end r.0 tokens r.2)))
+    subst AllAllowed (sym r.1.whole)
+    (spaces-allowed r.1.spaces (r.1.text ++ r.0)
+    (allowed-append r.1.text r.0 (token-allowed token.class r.1.text r.1.spelled) (reads-allowed token.end r.0 tokens r.2)))
 
 pub tokens-allowed : (line : List ℕ) (tokens : List Token) → tokens_of line ≡ Ok tokens → AllByRecursion (λ byte. is_allowed byte ≡ true) line
 tokens-allowed line tokens e = reads-allowed 1 line tokens (Reads-tokens_of line tokens e)

@@ -1,5 +1,6 @@
 -- The literals of canonical texts say their constants.
-use Rattle.std.proofs.Common.{◌≡◌, ℕ, zero, suc, ◌+◌, ◌-◌, ◌*◌, ◌/◌, ◌%◌, ◌^◌, ◌<◌, ◌≤◌, Bool, true, false, ◌&&◌, List, [], ◌∷◌, ◌++◌, length, Option, Some, None, refl, sym, ap, subst, ◌∙◌, arith, nat_eq}
+use Rattle.std.proofs.Common.{◌≡◌, ℕ, zero, suc, ◌+◌, ◌-◌, ◌*◌, ◌/◌, ◌%◌, ◌^◌, ◌<◌, ◌≤◌, Bool, true, false, ◌&&◌, List, [], ◌∷◌, ◌++◌, length, Option, Some}
+use Rattle.std.proofs.Common.{None, refl, sym, ap, subst, ◌∙◌, arith, nat_eq}
 use Rattle.std.specs.Prelude.{fold}
 use Rattle.std.specs.List.{list_all, AllByRecursion}
 use Rattle.std.specs.Char.{is_ascii_digit}
@@ -50,7 +51,8 @@ text_computed = refl
 bytes_computed : all_below 256 (says_byte OfBytes InBytes) ≡ true
 bytes_computed = refl
 
-escapes-say : (literal : Literal) (place : Place) (bound : ℕ) → all_below bound (says_byte literal place) ≡ true → (bytes : List ℕ) → AllByRecursion (λ byte. byte < bound) bytes → Says literal bytes (escaped place bytes)
+escapes-say : (literal : Literal) (place : Place) (bound : ℕ) → all_below bound (says_byte literal place) ≡ true → (bytes : List ℕ)
+    → AllByRecursion (λ byte. byte < bound) bytes → Says literal bytes (escaped place bytes)
 escapes-say literal place bound e [] a = refl
 escapes-say literal place bound e (byte ∷ bytes) a = (
   escaped_byte place byte,

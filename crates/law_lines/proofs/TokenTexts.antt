@@ -26,7 +26,8 @@ use Rattle.model_text.specs.Words.{Lexeme, Reserved, Named, Number, Texts, Octet
 use Rattle.model_text.specs.Canonical.{constant_text, operator_text, comparison_text, in_parentheses}
 use Rattle.law_expressions.specs.Lexemes.{constant_lexeme, operator_symbol, comparison_symbol, within_parentheses}
 use Rattle.law_lines.specs.WellWritten.{WellNamed, WellWrittenConstant}
-use Rattle.law_lines.proofs.Fronts.{Leads, Fronts, fronts-then, leads-then, leads-leads, leads-fronts, blank-leads, spaced, token-fronts, sign-leads, spaced-sign}
+use Rattle.law_lines.proofs.Fronts.{Leads, Fronts, fronts-then, leads-then, leads-leads, leads-fronts, blank-leads, spaced, token-fronts, sign-leads}
+use Rattle.law_lines.proofs.Fronts.{spaced-sign}
 use Rattle.law_lines.proofs.Spelling.{text-literal, bytes-literal, decimal-digits}
 
 -- ---- names and words
@@ -172,13 +173,15 @@ comparison-leads comparison.GreaterOrEqual = spaced-sign symbol.GreaterOrEqual (
 -- ---- brackets
 pub parentheses-fronts : (text : List ℕ) (lexemes : List Lexeme) → Fronts text lexemes → Fronts (in_parentheses text) (within_parentheses lexemes)
 parentheses-fronts text lexemes f =
-    leads-then (codes "(") (text ++ codes ")") (Sign symbol.LeftParenthesis ∷ []) (lexemes ++ Sign symbol.RightParenthesis ∷ []) open-leads (fronts-then text (codes ")") lexemes (Sign symbol.RightParenthesis ∷ []) f (refl, refl) close-fronts)
+    leads-then (codes "(") (text ++ codes ")") (Sign symbol.LeftParenthesis ∷ []) (lexemes ++ Sign symbol.RightParenthesis ∷ []) open-leads
+    (fronts-then text (codes ")") lexemes (Sign symbol.RightParenthesis ∷ []) f (refl, refl) close-fronts)
 
 -- a word with a blank behind it
 pub word-leads : (text : List ℕ) (reserved : ReservedWord) → IsName text → reserved_of text ≡ Some reserved → Leads (text ++ 32 ∷ []) (Reserved reserved ∷ [])
 word-leads text reserved n e = spaced text (Reserved reserved ∷ []) (word-fronts text reserved n e)
 
 -- a word between blanks
-pub spaced-word : (text : List ℕ) (reserved : ReservedWord) → IsName text → reserved_of text ≡ Some reserved → Leads (32 ∷ (text ++ 32 ∷ [])) (Reserved reserved ∷ [])
+pub spaced-word : (text : List ℕ) (reserved : ReservedWord) → IsName text → reserved_of text ≡ Some reserved
+    → Leads (32 ∷ (text ++ 32 ∷ [])) (Reserved reserved ∷ [])
 spaced-word text reserved n e =
     leads-leads (32 ∷ []) (text ++ 32 ∷ []) [] (Reserved reserved ∷ []) blank-leads (word-leads text reserved n e)

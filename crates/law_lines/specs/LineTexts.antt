@@ -9,7 +9,8 @@ use Rattle.model_text.specs.declared.reserved_word.ReservedWord.TheVariants as w
 use Rattle.model_text.specs.Words.{Lexeme, Reserved, Named, Number, Sign}
 use Rattle.model_text.specs.Terms.{Term}
 use Rattle.model_text.specs.Levels.{Arguments}
-use Rattle.model_text.specs.Forms.{Profile, Def, Assign, Yield, YieldFrom, Print, Raise, Return, Pass, If, Else, While, Try, Except, Finally, WithGroup, WithTimeout, End, Goal, Awaited, Asked, Spelled}
+use Rattle.model_text.specs.Forms.{Profile, Def, Assign, Yield, YieldFrom, Print, Raise, Return, Pass, If, Else, While, Try, Except, Finally, WithGroup}
+use Rattle.model_text.specs.Forms.{WithTimeout, End, Goal, Awaited, Asked, Spelled}
 use Rattle.model_text.specs.SecondPass.{Line}
 use Rattle.model_text.specs.Canonical.{in_parentheses, expr_text, exprs_text, target_text, into_text, returned_text, as_text, manager_text, names_text}
 use Rattle.law_expressions.specs.Lexemes.{within_parentheses, expr_lexemes, exprs_lexemes, more_lexemes, term_from}

@@ -3,11 +3,14 @@
 -- Source: the Python language reference, "Identifiers", "Keywords", "Literals", cut to what scripts have.
 use Rattle.std.specs.Prelude.{◌≡◌, ℕ, ◌^◌, ◌<◌, false, [], ◌∷◌, List, Option, Some, None, pos}
 use Rattle.std.specs.List.{AllByRecursion}
-use Rattle.model_tree.specs.Syntax.{Name, Constant, NoneConstant, TruthConstant, IntConstant, TextConstant, BytesConstant, Expr, Or, And, Not, Compare, Calculate, Negate, Index, Literal, Variable, ListOf, Apply, MakeError, Exprs, no_exprs, expr_then, exprs, Target, Await, Call, Ask, SpawnTask, CreateTask, ListenAt}
+use Rattle.model_tree.specs.Syntax.{Name, Constant, NoneConstant, TruthConstant, IntConstant, TextConstant, BytesConstant, Expr, Or, And, Not, Compare}
+use Rattle.model_tree.specs.Syntax.{Calculate, Negate, Index, Literal, Variable, ListOf, Apply, MakeError, Exprs, no_exprs, expr_then, exprs, Target, Await}
+use Rattle.model_tree.specs.Syntax.{Call, Ask, SpawnTask, CreateTask, ListenAt}
 use Rattle.model_tree.specs.Known.{is_taken}
 use Rattle.model_text.specs.Cuts.{IsName}
 use Rattle.model_text.specs.Words.{reserved_of}
-use Rattle.model_text.specs.Forms.{Profile, Def, Assign, Yield, YieldFrom, Print, Raise, Return, Pass, If, Else, While, Try, Except, Finally, WithGroup, WithTimeout, End}
+use Rattle.model_text.specs.Forms.{Profile, Def, Assign, Yield, YieldFrom, Print, Raise, Return, Pass, If, Else, While, Try, Except, Finally, WithGroup}
+use Rattle.model_text.specs.Forms.{WithTimeout, End}
 use Rattle.model_text.specs.SecondPass.{Line}
 
 -- a name that is no reserved word

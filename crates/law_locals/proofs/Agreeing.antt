@@ -9,7 +9,8 @@ use Rattle.model_says.specs.Operations.{bad_operand}
 use Rattle.model_says.specs.Variables.{Env, assigned}
 use Rattle.model_says.specs.Expressions.{value_of, values_of}
 use Rattle.model_says.specs.Tape.{Resumed, Tape}
-use Rattle.model_says.specs.Endings.{Progress, Ending, Passes, Returned, Raised, Stopped, Next, routed, then_next, given, valued, all_valued, chosen, decided, assign, assign_to, begun, begun_with, resumed_by, taken, asked_of, ask}
+use Rattle.model_says.specs.Endings.{Progress, Ending, Passes, Returned, Raised, Stopped, Next, routed, then_next, given, valued, all_valued, chosen, decided}
+use Rattle.model_says.specs.Endings.{assign, assign_to, begun, begun_with, resumed_by, taken, asked_of, ask}
 use Rattle.model_says.specs.Says.{back_in, came_back}
 use Rattle.law_locals.specs.Numbered.{holding, numbered_name, numbered_option, numbered_expr, numbered_exprs}
 use Rattle.law_locals.proofs.Environments.{names_in, values_in, assigned-first, names-assigned, value-same, values-same}

@@ -5,17 +5,24 @@ use Rattle.model_value.specs.declared.input.Input.TheVariants.{Send, Throw}
 use Rattle.model_value.specs.Kinds.{matches}
 use Rattle.model_value.specs.declared.request.Request.TheVariants as request
 use Rattle.model_value.specs.Value.{Value, Nothing, Exception, Exc, kind_of}
-use Rattle.model_tree.specs.Syntax.{Name, Expr, Target, Await, Call, Ask, SpawnTask, CreateTask, ListenAt, Manager, GroupBlock, TimeoutBlock, Statement, Assign, Yield, YieldFrom, Print, Raise, Return, Pass, If, While, Try, With, Statements, no_statements, statement_then, Branch, no_branch, branch, Handlers, no_handlers, handler_then, Coroutine, Program}
+use Rattle.model_tree.specs.Syntax.{Name, Expr, Target, Await, Call, Ask, SpawnTask, CreateTask, ListenAt, Manager, GroupBlock, TimeoutBlock, Statement, Assign}
+use Rattle.model_tree.specs.Syntax.{Yield, YieldFrom, Print, Raise, Return, Pass, If, While, Try, With, Statements, no_statements, statement_then, Branch}
+use Rattle.model_tree.specs.Syntax.{no_branch, branch, Handlers, no_handlers, handler_then, Coroutine, Program}
 use Rattle.model_says.specs.Operations.{bad_operand}
 use Rattle.model_says.specs.Variables.{Env, held, entered, bound, variables_of}
 use Rattle.model_says.specs.Requests.{requested, place_of, coroutine_at}
 use Rattle.model_says.specs.Tape.{Tape}
-use Rattle.model_says.specs.Endings.{Progress, Ending, Passes, Returned, Raised, Stopped, saying_of, Next, then_next, given, all_valued, decided, assign, assign_to, ask, resumed_by, taken}
-use Rattle.model_says.specs.Says.{raised, handled, finished, back_in, came_back, Calls, managed, exited, to_come, turns, looped, delegated, run, run_all, run_branch, run_handlers, call_within, frame_limit, unbegun, course, says, step_limit}
-use Rattle.law_locals.specs.Numbered.{holding, numbered_name, numbered_option, numbered_expr, numbered_exprs, numbered_target, numbered_manager, numbered_statement, numbered_statements, numbered_branch, numbered_handlers, numbered_coroutine, numbered_program}
+use Rattle.model_says.specs.Endings.{Progress, Ending, Passes, Returned, Raised, Stopped, saying_of, Next, then_next, given, all_valued, decided, assign}
+use Rattle.model_says.specs.Endings.{assign_to, ask, resumed_by, taken}
+use Rattle.model_says.specs.Says.{raised, handled, finished, back_in, came_back, Calls, managed, exited, to_come, turns, looped, delegated, run, run_all}
+use Rattle.model_says.specs.Says.{run_branch, run_handlers, call_within, frame_limit, unbegun, course, says, step_limit}
+use Rattle.law_locals.specs.Numbered.{holding, numbered_name, numbered_option, numbered_expr, numbered_exprs, numbered_target, numbered_manager}
+use Rattle.law_locals.specs.Numbered.{numbered_statement, numbered_statements, numbered_branch, numbered_handlers, numbered_coroutine, numbered_program}
 use Rattle.law_locals.proofs.Environments.{names_in, values_in, held-first, bound-same, names-bound}
 use Rattle.law_locals.proofs.Coroutines.{variables-same, coroutine-same, place-same}
-use Rattle.law_locals.proofs.Agreeing.{by_number, Ends, Alike, ends-alike, Agree, passes-agree, returned-agree, raised-agree, routed-ends, then_next-ends, given-agree, valued-agree, all_valued-agree, decided-agree, begun-agree, ask-agree, assigned-agree, assigned_to-agree, came_back-ends}
+use Rattle.law_locals.proofs.Agreeing.{by_number, Ends, Alike, ends-alike, Agree, passes-agree, returned-agree, raised-agree, routed-ends, then_next-ends}
+use Rattle.law_locals.proofs.Agreeing.{given-agree, valued-agree, all_valued-agree, decided-agree, begun-agree, ask-agree, assigned-agree, assigned_to-agree}
+use Rattle.law_locals.proofs.Agreeing.{came_back-ends}
 
 module _ (limit : ℕ) (names : List Name) where
   raised_value-agree : (value : Value) → Agree names (raised value) (raised value)
@@ -106,7 +113,8 @@ module _ (limit : ℕ) (program : Program) (call call' : Calls) (alike : CallsAl
       ((value : Value) → Agree names (next value) (next' value)) →
       Agree names (λ now. came_back now.env next (call place values now)) (λ now. came_back now.env next' (call' place' values now))
   call-agree place place' values next next' same agree now named =
-      subst (λ p. Ends names (came_back now.env next (call place values now)) (came_back (holding 0 (values_in now.env)) next' (call' p values (by_number now))))
+      subst (λ p. Ends names (came_back now.env next (call place values now))
+      (came_back (holding 0 (values_in now.env)) next' (call' p values (by_number now))))
       (sym same)
       (came_back-ends names now.env next next' named agree (call place values now) (call' place values (by_number now))
       (alike place values now))

@@ -1,13 +1,16 @@
 -- The variables and the places of coroutines whose variables go by their numbers.
-use Rattle.std.proofs.Common.{◌≡◌, ℕ, zero, suc, ◌+◌, ◌<◌, Bool, true, false, ◌||◌, if◌then◌else◌, List, [], ◌∷◌, ◌++◌, map, fold, option_to_list, length, Option, Some, None, slice_get, append_assoc, append-nil, length-append, refl, sym, ◌∙◌, ap, ap₂, subst, zero-add, arith}
+use Rattle.std.proofs.Common.{◌≡◌, ℕ, zero, suc, ◌+◌, ◌<◌, Bool, true, false, ◌||◌, if◌then◌else◌, List, [], ◌∷◌, ◌++◌, map, fold, option_to_list, length}
+use Rattle.std.proofs.Common.{Option, Some, None, slice_get, append_assoc, append-nil, length-append, refl, sym, ◌∙◌, ap, ap₂, subst, zero-add, arith}
 use Rattle.std.specs.Cmp.{decided}
 use Rattle.std.specs.List.{list_any}
 use Rattle.std.specs.Str.{bytes_eq}
 use Rattle.std.proofs.lemmas.Slice.Eq.{bytes_eq-Decides}
-use Rattle.model_tree.specs.Syntax.{Name, Statement, Assign, Yield, YieldFrom, Print, Raise, Return, Pass, If, While, Try, With, Statements, no_statements, statement_then, Branch, no_branch, branch, Handlers, no_handlers, handler_then, Coroutine, Program}
+use Rattle.model_tree.specs.Syntax.{Name, Statement, Assign, Yield, YieldFrom, Print, Raise, Return, Pass, If, While, Try, With, Statements, no_statements}
+use Rattle.model_tree.specs.Syntax.{statement_then, Branch, no_branch, branch, Handlers, no_handlers, handler_then, Coroutine, Program}
 use Rattle.model_says.specs.Variables.{names_bound, names_of, names_of_branch, names_of_handlers, with_name, variables_of}
 use Rattle.model_says.specs.Requests.{place_among, place_of, coroutine_or_none, coroutine_at}
-use Rattle.law_locals.specs.Numbered.{local, locals, number_of, numbered_name, numbered_option, numbered_statement, numbered_statements, numbered_branch, numbered_handlers, numbered_coroutine, numbered_program}
+use Rattle.law_locals.specs.Numbered.{local, locals, number_of, numbered_name, numbered_option, numbered_statement, numbered_statements, numbered_branch}
+use Rattle.law_locals.specs.Numbered.{numbered_handlers, numbered_coroutine, numbered_program}
 use Rattle.law_locals.proofs.Environments.{same-local, other-local}
 
 -- ---- names that statements bind

@@ -1,9 +1,11 @@
 -- What variables hold, by their names and by their numbers; the values of expressions over both.
-use Rattle.std.proofs.Common.{◌≡◌, ℕ, suc, ◌+◌, ◌≢◌, Bool, true, false, if◌then◌else◌, List, [], ◌∷◌, map, slice_index_or, length, Ok, refl, sym, ◌∙◌, ap, ap₂, zero-add, arith}
+use Rattle.std.proofs.Common.{◌≡◌, ℕ, suc, ◌+◌, ◌≢◌, Bool, true, false, if◌then◌else◌, List, [], ◌∷◌, map, slice_index_or, length, Ok, refl, sym, ◌∙◌, ap, ap₂}
+use Rattle.std.proofs.Common.{zero-add, arith}
 use Rattle.std.specs.Str.{bytes_eq}
 use Rattle.std.proofs.lemmas.Slice.Eq.{bytes_eq-Decides}
 use Rattle.model_value.specs.Value.{Value, Nothing}
-use Rattle.model_tree.specs.Syntax.{Name, Expr, Or, And, Not, Compare, Calculate, Negate, Index, Literal, Variable, ListOf, Apply, MakeError, Exprs, no_exprs, expr_then}
+use Rattle.model_tree.specs.Syntax.{Name, Expr, Or, And, Not, Compare, Calculate, Negate, Index, Literal, Variable, ListOf, Apply, MakeError, Exprs, no_exprs}
+use Rattle.model_tree.specs.Syntax.{expr_then}
 use Rattle.model_says.specs.Variables.{Binding, Env, held, assigned, bound}
 use Rattle.model_says.specs.Operations.{negation, calculated, negative, compared, indexed, applied, error_made}
 use Rattle.model_says.specs.Expressions.{value_of, values_of, of_one, of_two, either, both, in_order, list_made}

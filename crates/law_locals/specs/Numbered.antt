@@ -3,7 +3,10 @@
 use Rattle.std.specs.Prelude.{ℕ, zero, suc, List, [], ◌∷◌, map, length, Option, Some, None, if◌then◌else◌}
 use Rattle.std.specs.Str.{bytes_eq}
 use Rattle.model_value.specs.Value.{Value}
-use Rattle.model_tree.specs.Syntax.{Name, Expr, Or, And, Not, Compare, Calculate, Negate, Index, Literal, Variable, ListOf, Apply, MakeError, Exprs, no_exprs, expr_then, Target, Await, Call, Ask, SpawnTask, CreateTask, ListenAt, Manager, GroupBlock, TimeoutBlock, Statement, Assign, Yield, YieldFrom, Print, Raise, Return, Pass, If, While, Try, With, Statements, no_statements, statement_then, Branch, no_branch, branch, Handlers, no_handlers, handler_then, Coroutine, Program}
+use Rattle.model_tree.specs.Syntax.{Name, Expr, Or, And, Not, Compare, Calculate, Negate, Index, Literal, Variable, ListOf, Apply, MakeError, Exprs, no_exprs}
+use Rattle.model_tree.specs.Syntax.{expr_then, Target, Await, Call, Ask, SpawnTask, CreateTask, ListenAt, Manager, GroupBlock, TimeoutBlock, Statement, Assign}
+use Rattle.model_tree.specs.Syntax.{Yield, YieldFrom, Print, Raise, Return, Pass, If, While, Try, With, Statements, no_statements, statement_then, Branch}
+use Rattle.model_tree.specs.Syntax.{no_branch, branch, Handlers, no_handlers, handler_then, Coroutine, Program}
 use Rattle.model_says.specs.Variables.{Env, variables_of}
 
 -- the name of the variable with a number: the number alone

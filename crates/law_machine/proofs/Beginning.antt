@@ -15,7 +15,8 @@ use Rattle.model_loop.specs.Tasks.{future_of, lives, next_task}
 use Rattle.model_loop.specs.Totals.{callbacks_of}
 use Rattle.model_loop.specs.Futures.{future_outcome}
 use Rattle.model_machine.specs.Extra.{Extra}
-use Rattle.model_machine.specs.Sound.{AreBlocksOf, AreBlocksOpen, AreScriptsFutures, AreTasksMade, AreTasksSound, IsAsking, IsMainTold, IsStateSound, IsUnbegun, StandsRightly, blocks_of, exchanges_of, is_main_done, names_block, names_made, sends_made}
+use Rattle.model_machine.specs.Sound.{AreBlocksOf, AreBlocksOpen, AreScriptsFutures, AreTasksMade, AreTasksSound, IsAsking, IsMainTold, IsStateSound, IsUnbegun}
+use Rattle.model_machine.specs.Sound.{StandsRightly, blocks_of, exchanges_of, is_main_done, names_block, names_made, sends_made}
 use Rattle.model_machine.specs.State.{State, generator_of, start}
 use Rattle.law_sound.proofs.Beginning.{first_sound}
 

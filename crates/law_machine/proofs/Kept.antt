@@ -1,5 +1,6 @@
 -- What a request, a step and a handle leave: what happened, what the outside has left to answer, and the tape of the task.
-use Rattle.std.proofs.Common.{◌≡◌, ℕ, ◌≤◌, zero, suc, ℤ, pos, negsuc, Bool, true, false, List, [], ◌∷◌, ◌++◌, Option, Some, None, length, nat_lt, is_some, slice_index_or, slice_set, refl, ap, sym, ◌∙◌, append_assoc, append-nil, length-append, arith}
+use Rattle.std.proofs.Common.{◌≡◌, ℕ, ◌≤◌, zero, suc, ℤ, pos, negsuc, Bool, true, false, List, [], ◌∷◌, ◌++◌, Option, Some, None, length, nat_lt, is_some}
+use Rattle.std.proofs.Common.{slice_index_or, slice_set, refl, ap, sym, ◌∙◌, append_assoc, append-nil, length-append, arith}
 use Rattle.model_value.specs.declared.input.Input.TheVariants.{Send, Throw}
 use Rattle.model_value.specs.declared.outcome.Outcome.TheVariants.{Value as Returned, Failed}
 use Rattle.model_value.specs.declared.request.Request.TheVariants as request
@@ -19,8 +20,12 @@ use Rattle.model_machine.specs.Arguments.{as_future, as_awaited, as_task, as_tim
 use Rattle.model_machine.specs.Extra as extra
 use Rattle.model_machine.specs.Extra.{Extra, ExtraAnswer, ExtraSaid, called}
 use Rattle.model_machine.specs.Outcomes.{input_of}
-use Rattle.model_machine.specs.Replies.{RequestReply, Answers, Raises, Rests, Halts, given, most_ids, numbered_if, numbered, replied, ended, result_of, shown_all, waits, awaits_as, awaits, alarmed, sleeps, makes_future, settles_if, settles, requests, counted, spawns, enters_timeout, timed_out_if, exits_timeout, reschedules_if, reschedules, enters_group, exits_as, exits_group, creates_unless, creates, Wake, serves_until, serves_as, serves, woken_within, woken, reply, decides}
-use Rattle.model_machine.specs.State.{Standing, Asked, Sleeping, Leaving, Serving, Generator, State, generator, in_loop, noted, stands, unbooked_in, with_coroutine, with_loop}
+use Rattle.model_machine.specs.Replies.{RequestReply, Answers, Raises, Rests, Halts, given, most_ids, numbered_if, numbered, replied, ended, result_of}
+use Rattle.model_machine.specs.Replies.{shown_all, waits, awaits_as, awaits, alarmed, sleeps, makes_future, settles_if, settles, requests, counted, spawns}
+use Rattle.model_machine.specs.Replies.{enters_timeout, timed_out_if, exits_timeout, reschedules_if, reschedules, enters_group, exits_as, exits_group}
+use Rattle.model_machine.specs.Replies.{creates_unless, creates, Wake, serves_until, serves_as, serves, woken_within, woken, reply, decides}
+use Rattle.model_machine.specs.State.{Standing, Asked, Sleeping, Leaving, Serving, Generator, State, generator, in_loop, noted, stands, unbooked_in}
+use Rattle.model_machine.specs.State.{with_coroutine, with_loop}
 use Rattle.model_machine.specs.Went.{answers_in}
 use Rattle.law_machine.specs.Growth.{GoesOn, turns_in}
 

@@ -1,5 +1,6 @@
 -- What steps, handles, turns and runs leave: events are only added, and turns are bounded by what the outside answers.
-use Rattle.std.proofs.Common.{◌≡◌, ℕ, ◌+◌, ◌≤◌, zero, suc, Bool, true, false, not, ◌&&◌, List, [], ◌∷◌, ◌++◌, Option, Some, None, length, nat_lt, subst, refl, ap, sym, ◌∙◌, arith}
+use Rattle.std.proofs.Common.{◌≡◌, ℕ, ◌+◌, ◌≤◌, zero, suc, Bool, true, false, not, ◌&&◌, List, [], ◌∷◌, ◌++◌, Option, Some, None, length, nat_lt, subst, refl}
+use Rattle.std.proofs.Common.{ap, sym, ◌∙◌, arith}
 use Rattle.std.proofs.lemmas.Bool.{true≢false}
 use Rattle.model_value.specs.Action.{Action}
 use Rattle.model_value.specs.declared.action.Action.TheVariants as action
@@ -21,7 +22,8 @@ use Rattle.model_machine.specs.Replies.{RequestReply, Answers, Raises, Rests, Ha
 use Rattle.model_machine.specs.Run.{run_after, run_on}
 use Rattle.model_machine.specs.State.{Asked, State, generator_of, noted, resumed, stands, unbooked_in}
 use Rattle.model_machine.specs.Step.{given_up, says_of, taken_as, served, serve, serve_all, step}
-use Rattle.model_machine.specs.Turn.{call_of, is_stalled, woken_by, effect, ran, run_first, run_if, next_below, run_below, run_pending, cancelled_if, finished_if, turn_over, turned_by, turn_unless, turn}
+use Rattle.model_machine.specs.Turn.{call_of, is_stalled, woken_by, effect, ran, run_first, run_if, next_below, run_below, run_pending, cancelled_if}
+use Rattle.model_machine.specs.Turn.{finished_if, turn_over, turned_by, turn_unless, turn}
 use Rattle.model_machine.specs.Went.{Went, Goes, Stops, answers_in, state_of, went_on, ask, answered_by, fitted}
 use Rattle.law_machine.specs.Growth.{GoesOn, turns_in}
 use Rattle.law_machine.proofs.Kept.{goes_on_same, goes_on_one, goes_on_then, IsKeptInAnswer, reply_state, reply-keeps, decides-keeps}

@@ -1,5 +1,6 @@
 -- A new future that is no task's keeps the parts and what holds of all groups.
-use Rattle.std.proofs.Common.{◌≡◌, ℕ, suc, ◌+◌, ◌<◌, ◌⊎◌, Bool, false, not, ◌&&◌, [], ◌∷◌, Option, Some, None, length, slice_get, refl, ap, sym, subst, ◌∙◌, inl, inr, arith, length-append, true}
+use Rattle.std.proofs.Common.{◌≡◌, ℕ, suc, ◌+◌, ◌<◌, ◌⊎◌, Bool, false, not, ◌&&◌, [], ◌∷◌, Option, Some, None, length, slice_get, refl, ap, sym, subst, ◌∙◌}
+use Rattle.std.proofs.Common.{inl, inr, arith, length-append, true}
 use Rattle.std.proofs.lemmas.Bool.{cases_eq}
 use Rattle.std.proofs.lemmas.Option.{none-some, slice_get_within, slice_get_past}
 use Rattle.std.specs.List.{count_by}

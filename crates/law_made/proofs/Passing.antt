@@ -1,5 +1,6 @@
 -- Steps that add no pass make no circle.
-use Rattle.std.proofs.Common.{◌≡◌, ℕ, ◌⊎◌, true, false, ◌==◌, List, [], Option, Some, None, is_none, length, slice_get, refl, ap, sym, subst, ◌∙◌, inl, inr, Bool, Err, Ok, Result, arith, cond, nat_eq, nat_lt, ◌<◌, ◌||◌, ◌∷◌}
+use Rattle.std.proofs.Common.{◌≡◌, ℕ, ◌⊎◌, true, false, ◌==◌, List, [], Option, Some, None, is_none, length, slice_get, refl, ap, sym, subst, ◌∙◌, inl, inr}
+use Rattle.std.proofs.Common.{Bool, Err, Ok, Result, arith, cond, nat_eq, nat_lt, ◌<◌, ◌||◌, ◌∷◌}
 use Rattle.std.proofs.lemmas.Bool.{cases_eq, false≢true, eqb-true, ltb-true}
 use Rattle.std.specs.List.{list_any}
 use Rattle.std.specs.Option.{option_map_or, option_to_list}

@@ -1,5 +1,6 @@
 -- A task's mark stays in what doesn't step it: requests and steps of other tasks, callbacks, and what a turn does besides.
-use Rattle.std.proofs.Common.{◌≡◌, ℕ, zero, suc, ℤ, pos, negsuc, Bool, true, false, not, cond, ◌&&◌, ◌==◌, List, [], ◌∷◌, Option, Some, None, Result, Ok, Err, length, nat_lt, is_some, refl, sym, ap, ◌∙◌}
+use Rattle.std.proofs.Common.{◌≡◌, ℕ, zero, suc, ℤ, pos, negsuc, Bool, true, false, not, cond, ◌&&◌, ◌==◌, List, [], ◌∷◌, Option, Some, None, Result, Ok, Err}
+use Rattle.std.proofs.Common.{length, nat_lt, is_some, refl, sym, ap, ◌∙◌}
 use Rattle.std.proofs.lemmas.Bool.{eq-eqb, false≢true}
 use Rattle.model_value.specs.Action.{Action, Circle}
 use Rattle.model_value.specs.declared.action.Action.TheVariants as action
@@ -26,10 +27,14 @@ use Rattle.model_loop.specs.Timeouts.{exit_timeout, is_active, next_timeout, tim
 use Rattle.model_loop.specs.Ways.{steps}
 use Rattle.model_machine.specs.Arguments.{as_future, as_awaited, as_task, as_timeout, as_group, as_int, as_delay, as_failure, as_list}
 use Rattle.model_machine.specs.Extra as extra
-use Rattle.model_machine.specs.Extra.{Extra, ExtraAnswer, ExtraSaid, ExtraStep, MakesPlain, MakesMany, Settles, Releases, Registers, CallsSoon, CallsLater, Revokes, Cancels, Uncancels, called, made_by, made_by_all}
+use Rattle.model_machine.specs.Extra.{Extra, ExtraAnswer, ExtraSaid, ExtraStep, MakesPlain, MakesMany, Settles, Releases, Registers, CallsSoon, CallsLater}
+use Rattle.model_machine.specs.Extra.{Revokes, Cancels, Uncancels, called, made_by, made_by_all}
 use Rattle.model_machine.specs.Outcomes.{finished_as, input_of}
 use Rattle.model_machine.specs.Outside.{news_of, time_of}
-use Rattle.model_machine.specs.Replies.{RequestReply, Answers, Raises, Rests, Halts, given, most_ids, numbered_if, numbered, replied, ended, result_of, awaits_as, awaits, alarmed, sleeps, makes_future, settles_if, settles, requests, counted, spawns, enters_timeout, timed_out_if, exits_timeout, reschedules_if, reschedules, enters_group, exits_as, exits_group, creates_unless, creates, Wake, serves_until, serves_as, serves, woken_within, woken, reply, decides}
+use Rattle.model_machine.specs.Replies.{RequestReply, Answers, Raises, Rests, Halts, given, most_ids, numbered_if, numbered, replied, ended, result_of}
+use Rattle.model_machine.specs.Replies.{awaits_as, awaits, alarmed, sleeps, makes_future, settles_if, settles, requests, counted, spawns, enters_timeout}
+use Rattle.model_machine.specs.Replies.{timed_out_if, exits_timeout, reschedules_if, reschedules, enters_group, exits_as, exits_group, creates_unless, creates}
+use Rattle.model_machine.specs.Replies.{Wake, serves_until, serves_as, serves, woken_within, woken, reply, decides}
 use Rattle.model_machine.specs.State.{Standing, Asked, Sleeping, Leaving, Serving, State, generator_of, in_loop, noted, resumed, stands, unbooked_in, with_loop}
 use Rattle.model_machine.specs.Step.{given_up, says_of, serve, serve_all, served, step, taken_as}
 use Rattle.model_machine.specs.Turn.{at_time, cancelled_if, effect, finished_if, ran, run_first, turn_over, woken_by}
@@ -37,7 +42,8 @@ use Rattle.model_machine.specs.Went.{Went, state_of}
 use Rattle.law_cancel.proofs.Effects.{register-tasks, settle-tasks, soon_all-tasks}
 use Rattle.law_steps.proofs.Stepping.{at_task}
 use Rattle.law_promises.proofs.Falling.{cancels_input}
-use Rattle.law_promises.proofs.MarksStay.{mark_at, as_tasks, counted_keeps, due_keeps, spawn_keeps, request_keeps, end_keeps, enter_keeps, reschedule_keeps, fire_keeps, exit_keeps, create_keeps, child_done_keeps, exit_begin_keeps, exit_woken_keeps}
+use Rattle.law_promises.proofs.MarksStay.{mark_at, as_tasks, counted_keeps, due_keeps, spawn_keeps, request_keeps, end_keeps, enter_keeps, reschedule_keeps}
+use Rattle.law_promises.proofs.MarksStay.{fire_keeps, exit_keeps, create_keeps, child_done_keeps, exit_begin_keeps, exit_woken_keeps}
 use Rattle.law_marks.specs.Marked.{IsMarkedIn, ThrowsCancel}
 
 module _ (me : ℕ) where

@@ -3,11 +3,15 @@ use Rattle.std.proofs.Common.{◌≡◌, Bool, true, false, List, [], ◌∷◌,
 use Rattle.std.specs.Prelude.{not}
 use Rattle.model_value.specs.declared.kind.Kind.{Kind}
 use Rattle.model_tree.specs.Syntax as plain
-use Rattle.model_tree.specs.Syntax.{Name, Expr, Statement, Statements, no_statements, statement_then, Branch, no_branch, branch, Handlers, no_handlers, handler_then}
-use Rattle.model_text.specs.Forms.{Form, Profile, Def, Assign, Yield, YieldFrom, Print, Raise, Return, Pass, If, Else, While, Try, Except, Finally, WithGroup, WithTimeout, End}
-use Rattle.model_text.specs.Places.{Block, DefBlock, IfBlock, WhileBlock, TryBlock, WithBlock, Section, ElseSection, ExceptSection, FinallySection, OpenBlock, role_of, fits, begins, is_finally, is_outside}
+use Rattle.model_tree.specs.Syntax.{Name, Expr, Statement, Statements, no_statements, statement_then, Branch, no_branch, branch, Handlers, no_handlers}
+use Rattle.model_tree.specs.Syntax.{handler_then}
+use Rattle.model_text.specs.Forms.{Form, Profile, Def, Assign, Yield, YieldFrom, Print, Raise, Return, Pass, If, Else, While, Try, Except, Finally, WithGroup}
+use Rattle.model_text.specs.Forms.{WithTimeout, End}
+use Rattle.model_text.specs.Places.{Block, DefBlock, IfBlock, WhileBlock, TryBlock, WithBlock, Section, ElseSection, ExceptSection, FinallySection, OpenBlock}
+use Rattle.model_text.specs.Places.{role_of, fits, begins, is_finally, is_outside}
 use Rattle.model_text.specs.SecondPass.{Line}
-use Rattle.model_text.specs.Spells.{Spells, spells_nothing, spells_next, SpellsOne, spells_line, spells_if, spells_while, spells_try, spells_group, spells_timeout, SpellsSection, no_section, section_with, SpellsHandlers, no_clauses, clause_then}
+use Rattle.model_text.specs.Spells.{Spells, spells_nothing, spells_next, SpellsOne, spells_line, spells_if, spells_while, spells_try, spells_group}
+use Rattle.model_text.specs.Spells.{spells_timeout, SpellsSection, no_section, section_with, SpellsHandlers, no_clauses, clause_then}
 use Rattle.law_nesting.proofs.Stack.{after}
 
 -- a line that stands inside blocks
@@ -87,7 +91,8 @@ four a b c d = sym (append_assoc a (b ++ c) d ∙ ap (λ l. a ++ l) (append_asso
 
 five : (a b c d e : List Line) → a ++ ((b ++ c) ++ (d ++ e)) ≡ (a ++ (b ++ (c ++ d))) ++ e
 five a b c d e =
-    sym (append_assoc a (b ++ (c ++ d)) e ∙ ap (λ l. a ++ l) (append_assoc b (c ++ d) e ∙ (ap (λ l. b ++ l) (append_assoc c d e) ∙ sym (append_assoc b c (d ++ e)))))
+    sym (append_assoc a (b ++ (c ++ d)) e
+    ∙ ap (λ l. a ++ l) (append_assoc b (c ++ d) e ∙ (ap (λ l. b ++ l) (append_assoc c d e) ∙ sym (append_assoc b c (d ++ e)))))
 
 no_sections : (rest lines sections others : List Line) → rest ≡ lines ++ (sections ++ (End ∷ others)) → sections ≡ [] → rest ≡ lines ++ (End ∷ others)
 no_sections rest lines sections others e none = e ∙ ap (λ s. lines ++ (s ++ (End ∷ others))) none
@@ -98,7 +103,8 @@ ended rest lines sections others e none =
 
 module _ {block : Block} {begun : List Section} {Next : List Line → Type 0} where
   -- ---- a statement in front
-  in_front : {first : List Line} {statement : Statement} → SpellsOne first statement → {rest : List Line} → Level block begun Next rest → Level block begun Next (first ++ rest)
+  in_front : {first : List Line} {statement : Statement} → SpellsOne first statement → {rest : List Line} → Level block begun Next rest
+      → Level block begun Next (first ++ rest)
   in_front {first} {statement} one level = record {
     lines = first ++ level.lines;
     body = statement_then statement level.body;
@@ -111,30 +117,37 @@ module _ {block : Block} {begun : List Section} {Next : List Line → Type 0} wh
   }
 
   -- a head before lines of its block
-  headed : (head : Line) (inner rest others : List Line) (statement : Statement) → SpellsOne (head ∷ inner) statement → rest ≡ inner ++ others → Level block begun Next others → Level block begun Next (head ∷ rest)
+  headed : (head : Line) (inner rest others : List Line) (statement : Statement) → SpellsOne (head ∷ inner) statement → rest ≡ inner ++ others
+      → Level block begun Next others → Level block begun Next (head ∷ rest)
   headed head inner rest others statement one e level =
       subst (λ l. Level block begun Next (head ∷ l)) (sym e) (in_front one level)
 
   if_headed : (test : Expr) (rest : List Line) → Level IfBlock [] (Level block begun Next) rest → Level block begun Next (If test ∷ rest)
   if_headed test rest l =
-      headed (If test) (l.lines ++ (l.sections ++ End ∷ [])) rest l.others (plain.If test l.body l.begins.0) (spells_if l.spelled l.begins.1) (l.split ∙ four l.lines l.sections (End ∷ []) l.others) l.next
+      headed (If test) (l.lines ++ (l.sections ++ End ∷ [])) rest l.others (plain.If test l.body l.begins.0) (spells_if l.spelled l.begins.1)
+      (l.split ∙ four l.lines l.sections (End ∷ []) l.others) l.next
 
   while_headed : (test : Expr) (rest : List Line) → Level WhileBlock [] (Level block begun Next) rest → Level block begun Next (While test ∷ rest)
   while_headed test rest l =
-      headed (While test) (l.lines ++ End ∷ []) rest l.others (plain.While test l.body) (spells_while l.spelled) (ended rest l.lines l.sections l.others l.split l.begins) l.next
+      headed (While test) (l.lines ++ End ∷ []) rest l.others (plain.While test l.body) (spells_while l.spelled)
+      (ended rest l.lines l.sections l.others l.split l.begins) l.next
 
   group_headed : (name : Name) (rest : List Line) → Level WithBlock [] (Level block begun Next) rest → Level block begun Next (WithGroup name ∷ rest)
   group_headed name rest l =
-      headed (WithGroup name) (l.lines ++ End ∷ []) rest l.others (plain.With plain.GroupBlock name l.body) (spells_group l.spelled) (ended rest l.lines l.sections l.others l.split l.begins) l.next
+      headed (WithGroup name) (l.lines ++ End ∷ []) rest l.others (plain.With plain.GroupBlock name l.body) (spells_group l.spelled)
+      (ended rest l.lines l.sections l.others l.split l.begins) l.next
 
-  timeout_headed : (delay : Expr) (name : Name) (rest : List Line) → Level WithBlock [] (Level block begun Next) rest → Level block begun Next (WithTimeout delay name ∷ rest)
+  timeout_headed : (delay : Expr) (name : Name) (rest : List Line) → Level WithBlock [] (Level block begun Next) rest
+      → Level block begun Next (WithTimeout delay name ∷ rest)
   timeout_headed delay name rest l =
-      headed (WithTimeout delay name) (l.lines ++ End ∷ []) rest l.others (plain.With (plain.TimeoutBlock delay) name l.body) (spells_timeout l.spelled) (ended rest l.lines l.sections l.others l.split l.begins) l.next
+      headed (WithTimeout delay name) (l.lines ++ End ∷ []) rest l.others (plain.With (plain.TimeoutBlock delay) name l.body) (spells_timeout l.spelled)
+      (ended rest l.lines l.sections l.others l.split l.begins) l.next
 
   try_headed : (rest : List Line) → Level TryBlock [] (Level block begun Next) rest → Level block begun Next (Try ∷ rest)
   try_headed rest l =
       let t : TrySections l.sections = l.begins in
-      headed Try (l.lines ++ (t.clauses ++ (t.others ++ End ∷ []))) rest l.others (plain.Try l.body t.handlers t.finally) (spells_try l.spelled t.each t.last) (l.split ∙ (ap (λ s. l.lines ++ (s ++ (End ∷ l.others))) t.split ∙ five l.lines t.clauses t.others (End ∷ []) l.others)) l.next
+      headed Try (l.lines ++ (t.clauses ++ (t.others ++ End ∷ []))) rest l.others (plain.Try l.body t.handlers t.finally) (spells_try l.spelled t.each t.last)
+      (l.split ∙ (ap (λ s. l.lines ++ (s ++ (End ∷ l.others))) t.split ∙ five l.lines t.clauses t.others (End ∷ []) l.others)) l.next
 
 not-true : (b : Bool) → not b ≡ true → b ≡ false
 not-true true e = cc
@@ -142,7 +155,8 @@ not-true false e = refl
 
 module _ {Next : List Line → Type 0} where
   -- ---- a section's line in front
-  else_begun : (block : Block) (begun : List Section) (rest : List Line) → begins ElseSection block begun ≡ true → Level block (ElseSection ∷ begun) Next rest → Level block begun Next (Else ∷ rest)
+  else_begun : (block : Block) (begun : List Section) (rest : List Line) → begins ElseSection block begun ≡ true → Level block (ElseSection ∷ begun) Next rest
+      → Level block begun Next (Else ∷ rest)
   else_begun IfBlock [] rest e l = record {
     lines = [];
     body = no_statements;
@@ -159,7 +173,8 @@ module _ {Next : List Line → Type 0} where
   else_begun TryBlock begun rest e l = cc
   else_begun WithBlock begun rest e l = cc
 
-  except_begun : (block : Block) (begun : List Section) (kind : Kind) (name : _) (rest : List Line) → begins ExceptSection block begun ≡ true → Level block (ExceptSection ∷ begun) Next rest → Level block begun Next (Except kind name ∷ rest)
+  except_begun : (block : Block) (begun : List Section) (kind : Kind) (name : _) (rest : List Line) → begins ExceptSection block begun ≡ true
+      → Level block (ExceptSection ∷ begun) Next rest → Level block begun Next (Except kind name ∷ rest)
   except_begun TryBlock begun kind name rest e l =
       let t : TrySections l.sections = l.begins in
       let more : TrySections (Except kind name ∷ (l.lines ++ l.sections)) = record {
@@ -186,7 +201,8 @@ module _ {Next : List Line → Type 0} where
   except_begun WhileBlock begun kind name rest e l = cc
   except_begun WithBlock begun kind name rest e l = cc
 
-  finally_begun : (block : Block) (begun : List Section) (rest : List Line) → begins FinallySection block begun ≡ true → Level block (FinallySection ∷ begun) Next rest → Level block begun Next (Finally ∷ rest)
+  finally_begun : (block : Block) (begun : List Section) (rest : List Line) → begins FinallySection block begun ≡ true
+      → Level block (FinallySection ∷ begun) Next rest → Level block begun Next (Finally ∷ rest)
   finally_begun TryBlock begun rest e l =
       let more : TrySections (Finally ∷ l.lines) = record {
         handlers = no_handlers;
@@ -256,7 +272,8 @@ behind (WithTimeout delay name ∷ lines) (top ∷ blocks) n =
 behind (End ∷ lines) (top ∷ blocks) n = end_begun top.block top.sections lines (behind lines blocks n.3)
 
 -- The lines of a coroutine behind its head: its body and its `end`.
-pub nested-spelled : (lines : List Line) → Nested (record { block = DefBlock; sections = [] } ∷ []) lines → (inner : List Line) × (body : Statements) × (lines ≡ inner ++ End ∷ []) × Spells inner body
+pub nested-spelled : (lines : List Line) → Nested (record { block = DefBlock; sections = [] } ∷ []) lines
+    → (inner : List Line) × (body : Statements) × (lines ≡ inner ++ End ∷ []) × Spells inner body
 nested-spelled lines n =
     let l : Level DefBlock [] (λ rest. rest ≡ []) lines = behind lines (record { block = DefBlock; sections = [] } ∷ []) n in
     (l.lines, l.body, no_sections lines l.lines l.sections l.others l.split l.begins ∙ ap (λ r. l.lines ++ (End ∷ r)) l.next, l.spelled)

@@ -58,7 +58,8 @@ inside End blocks e f = closed-inside blocks f.nests
 inside form blocks e f = not-outside (is_outside blocks) f.stands
 
 -- ---- one line more
-fits-before : (line : ℕ) (form : Spelled) (blocks : List OpenBlock) (parts : ScriptParts (Numbered Spelled)) → Fits blocks form → Read form → PartsFit (after (role_of form) blocks) parts → PartsFit blocks (before_parts form (record { line = line; form = form }) parts)
+fits-before : (line : ℕ) (form : Spelled) (blocks : List OpenBlock) (parts : ScriptParts (Numbered Spelled)) → Fits blocks form → Read form
+    → PartsFit (after (role_of form) blocks) parts → PartsFit blocks (before_parts form (record { line = line; form = form }) parts)
 fits-before line (Profile number) blocks parts f r p = absurd (let e : false ≡ true = f.stands in cc)
 fits-before line (Def name parameters) blocks parts f r p =
     let none : blocks ≡ [] = nothing-outside blocks f.stands in
@@ -92,7 +93,8 @@ part_forms part = Def part.name part.parameters ∷ forms_in part.lines
 abbrev joined : ScriptParts (Numbered Spelled) → List Spelled
 joined parts = forms_in parts.front ++ flat_map part_forms parts.coroutines
 
-joined-before : (line : ℕ) (form : Spelled) (parts : ScriptParts (Numbered Spelled)) → joined (before_parts form (record { line = line; form = form }) parts) ≡ form ∷ joined parts
+joined-before : (line : ℕ) (form : Spelled) (parts : ScriptParts (Numbered Spelled)) → joined (before_parts form (record { line = line; form = form }) parts)
+    ≡ form ∷ joined parts
 joined-before line (Def name parameters) parts = refl
 joined-before line form parts = refl
 
@@ -123,5 +125,7 @@ coroutines lines a =
     let p : PartsFit [] (parts_of lines) = parts-fit lines [] a in
     record {
       fit = p.coroutines;
-      forms = subst (AllFit []) (sym (joined-parts lines) ∙ ap (λ front. front ++ flat_map part_forms (parts_of lines).coroutines) (no-front (parts_of lines).front p.front)) (all-fit lines [] a);
+      forms = subst (AllFit [])
+          (sym (joined-parts lines) ∙ ap (λ front. front ++ flat_map part_forms (parts_of lines).coroutines) (no-front (parts_of lines).front p.front))
+          (all-fit lines [] a);
     }

@@ -1,5 +1,6 @@
 -- What the first pass over lines says of their forms.
-use Rattle.std.proofs.Common.{◌≡◌, ℕ, ◌+◌, Bool, true, false, List, [], ◌∷◌, Option, Some, None, Result, Ok, Err, length, nat_eq, nat_le, refl, sym, ◌∙◌, subst, ne_eqb, arith}
+use Rattle.std.proofs.Common.{◌≡◌, ℕ, ◌+◌, Bool, true, false, List, [], ◌∷◌, Option, Some, None, Result, Ok, Err, length, nat_eq, nat_le, refl, sym, ◌∙◌, subst}
+use Rattle.std.proofs.Common.{ne_eqb, arith}
 use Rattle.std.proofs.lemmas.Bool.{eqb-true}
 use Rattle.std.specs.Prelude.{not, ◌&&◌, if◌then◌else◌}
 use Rattle.model_text.specs.declared.cause.Cause.{Cause}
@@ -9,7 +10,8 @@ use Rattle.model_text.specs.Tokens.{Token, tokens_of}
 use Rattle.model_text.specs.Words.{Lexeme, lexemes_of}
 use Rattle.model_text.specs.Forms.{Profile, Def, Spelled, form_of}
 use Rattle.model_text.specs.Places.{Role, OpenBlock, role_of, open_blocks, may_stand, fits, height_of_form, most_height, is_profile, cause_behind}
-use Rattle.model_text.specs.FirstPass.{Fault, fault_at, Numbered, placed, form_behind_lines, lexemes_behind, tokens_behind, line_behind, ended, form_before, forms_from}
+use Rattle.model_text.specs.FirstPass.{Fault, fault_at, Numbered, placed, form_behind_lines, lexemes_behind, tokens_behind, line_behind, ended, form_before}
+use Rattle.model_text.specs.FirstPass.{forms_from}
 use Rattle.model_text.specs.SecondPass.{parts_of}
 use Rattle.model_text.specs.Scripts.{profile_in}
 use Rattle.law_nesting.proofs.Stack.{after, open-behind}
@@ -58,17 +60,20 @@ placed-none : (found : Option Cause) (form other : Spelled) → placed found for
 placed-none None form other e = (refl, cc)
 placed-none (Some cause) form other e = cc
 
-form-uncaused : (before : List Role) (found : Option Spelled) (form : Spelled) → form_behind_lines before found ≡ Ok (Some form) → cause_behind before form ≡ None
+form-uncaused : (before : List Role) (found : Option Spelled) (form : Spelled) → form_behind_lines before found ≡ Ok (Some form) → cause_behind before form
+    ≡ None
 form-uncaused before None form e = cc
 form-uncaused before (Some other) form e =
     let p : (cause_behind before other ≡ None) × (other ≡ form) = placed-none (cause_behind before other) other form e in
     subst (λ f. cause_behind before f ≡ None) p.1 p.0
 
-lexemes-uncaused : (before : List Role) (lexemes : List Lexeme) (form : Spelled) → lexemes_behind before lexemes ≡ Ok (Some form) → cause_behind before form ≡ None
+lexemes-uncaused : (before : List Role) (lexemes : List Lexeme) (form : Spelled) → lexemes_behind before lexemes ≡ Ok (Some form) → cause_behind before form
+    ≡ None
 lexemes-uncaused before [] form e = cc
 lexemes-uncaused before (lexeme ∷ lexemes) form e = form-uncaused before (form_of (lexeme ∷ lexemes)) form e
 
-tokens-uncaused : (before : List Role) (tokens : Result (List Token) TokenFault) (form : Spelled) → tokens_behind before tokens ≡ Ok (Some form) → cause_behind before form ≡ None
+tokens-uncaused : (before : List Role) (tokens : Result (List Token) TokenFault) (form : Spelled) → tokens_behind before tokens ≡ Ok (Some form)
+    → cause_behind before form ≡ None
 tokens-uncaused before (Ok tokens) form e = lexemes-uncaused before (lexemes_of tokens) form e
 tokens-uncaused before (Err fault) form e = cc
 
@@ -106,7 +111,8 @@ stepped number before lines found =
       ]
     ]
 
-pub forms-step : (number : ℕ) (before : List Role) (line : List ℕ) (lines : List (List ℕ)) → forms_from number before (line ∷ lines) ≡ stepped number before lines (line_behind before line)
+pub forms-step : (number : ℕ) (before : List Role) (line : List ℕ) (lines : List (List ℕ)) → forms_from number before (line ∷ lines)
+    ≡ stepped number before lines (line_behind before line)
 unfolding forms_from
 forms-step number before line lines = refl
 
@@ -114,7 +120,8 @@ pub forms-end : (number : ℕ) (before : List Role) → forms_from number before
 unfolding forms_from
 forms-end number before = refl
 
-form-before : (number : ℕ) (form : Spelled) (others : Result Forms Fault) (forms : Forms) → form_before number form others ≡ Ok forms → (rest : Forms) × (others ≡ Ok rest) × (forms ≡ numbered number form ∷ rest)
+form-before : (number : ℕ) (form : Spelled) (others : Result Forms Fault) (forms : Forms) → form_before number form others ≡ Ok forms
+    → (rest : Forms) × (others ≡ Ok rest) × (forms ≡ numbered number form ∷ rest)
 form-before number form (Ok rest) forms e = (rest, refl, cc)
 form-before number form (Err fault) forms e = cc
 
@@ -122,21 +129,30 @@ ended-accepted : (number : ℕ) (blocks : List OpenBlock) (forms : Forms) → en
 ended-accepted number [] forms e = (refl, cc)
 ended-accepted number (block ∷ blocks) forms e = cc
 
-accepted : (lines : List (List ℕ)) (number : ℕ) (role : Role) (roles : List Role) (forms : Forms) → forms_from number (role ∷ roles) lines ≡ Ok forms → Accepted (open_blocks (role ∷ roles)) forms
+accepted : (lines : List (List ℕ)) (number : ℕ) (role : Role) (roles : List Role) (forms : Forms) → forms_from number (role ∷ roles) lines ≡ Ok forms
+    → Accepted (open_blocks (role ∷ roles)) forms
 accepted [] number role roles forms e =
     let p : (open_blocks (role ∷ roles) ≡ []) × (forms ≡ []) =
     ended-accepted number (open_blocks (role ∷ roles)) forms (sym (forms-end number (role ∷ roles)) ∙ e) in
     subst (Accepted (open_blocks (role ∷ roles))) (sym p.1) p.0
 accepted (line ∷ lines) number role roles forms e =
-    go (line_behind (role ∷ roles) line) refl (sym (forms-step number (role ∷ roles) line lines) ∙ e) (accepted lines (number + 1) role roles forms) (λ form rest. accepted lines (number + 1) (role_of form) (role ∷ roles) rest)
+    go (line_behind (role ∷ roles) line) refl (sym (forms-step number (role ∷ roles) line lines) ∙ e) (accepted lines (number + 1) role roles forms)
+    (λ form rest. accepted lines (number + 1) (role_of form) (role ∷ roles) rest)
   where
-    go : (found : Result (Option Spelled) Cause) → line_behind (role ∷ roles) line ≡ found → stepped number (role ∷ roles) lines found ≡ Ok forms → (forms_from (number + 1) (role ∷ roles) lines ≡ Ok forms → Accepted (open_blocks (role ∷ roles)) forms) → ((form : Spelled) (rest : Forms) → forms_from (number + 1) (role_of form ∷ role ∷ roles) lines ≡ Ok rest → Accepted (open_blocks (role_of form ∷ role ∷ roles)) rest) → Accepted (open_blocks (role ∷ roles)) forms
+    go : (found : Result (Option Spelled) Cause) → line_behind (role ∷ roles) line ≡ found → stepped number (role ∷ roles) lines found ≡ Ok forms
+        → (forms_from (number + 1) (role ∷ roles) lines ≡ Ok forms → Accepted (open_blocks (role ∷ roles)) forms)
+        → ((form : Spelled) (rest : Forms) → forms_from (number + 1) (role_of form ∷ role ∷ roles) lines ≡ Ok rest
+        → Accepted (open_blocks (role_of form ∷ role ∷ roles)) rest) → Accepted (open_blocks (role ∷ roles)) forms
     go (Err cause) f g empty more = cc
     go (Ok None) f g empty more = empty g
     go (Ok (Some form)) f g empty more =
         let p = form-before number form (forms_from (number + 1) (role_of form ∷ role ∷ roles) lines) forms g in
         let read : Read form = record { before = role ∷ roles; line = line; taken = f } in
-        subst (Accepted (open_blocks (role ∷ roles))) (sym p.2) (fits-behind role roles form (line-uncaused (role ∷ roles) line form f), read, subst (λ blocks. Accepted blocks p.0) (open-behind (role_of form) (role ∷ roles)) (more form p.0 p.1))
+        subst (Accepted (open_blocks (role ∷ roles))) (sym p.2) (
+          fits-behind role roles form (line-uncaused (role ∷ roles) line form f),
+          read,
+          subst (λ blocks. Accepted blocks p.0) (open-behind (role_of form) (role ∷ roles)) (more form p.0 p.1),
+        )
 
 -- ---- the forms of a whole text
 -- what stands behind the line of the profile, if there is one
@@ -146,7 +162,8 @@ pub record Whole (forms : Forms) : Type 0 where
   pub profile : profile_in (parts_of forms).front ≡ 1
   pub coroutines : (parts_of forms).coroutines ≡ (parts_of others).coroutines
 
-first-form : (number : ℕ) (form : Spelled) (rest : Forms) → Read form → cause_behind [] form ≡ None → Accepted (open_blocks (role_of form ∷ [])) rest → Whole (numbered number form ∷ rest)
+first-form : (number : ℕ) (form : Spelled) (rest : Forms) → Read form → cause_behind [] form ≡ None → Accepted (open_blocks (role_of form ∷ [])) rest
+    → Whole (numbered number form ∷ rest)
 first-form number (Profile profile) rest read e a =
     let all = no_cause true true true (nat_eq profile 1) e in
     record {
@@ -174,7 +191,8 @@ whole [] number forms e =
 whole (line ∷ lines) number forms e =
     go (line_behind [] line) refl (sym (forms-step number [] line lines) ∙ e) (whole lines (number + 1) forms)
   where
-    go : (found : Result (Option Spelled) Cause) → line_behind [] line ≡ found → stepped number [] lines found ≡ Ok forms → (forms_from (number + 1) [] lines ≡ Ok forms → Whole forms) → Whole forms
+    go : (found : Result (Option Spelled) Cause) → line_behind [] line ≡ found → stepped number [] lines found ≡ Ok forms
+        → (forms_from (number + 1) [] lines ≡ Ok forms → Whole forms) → Whole forms
     go (Err cause) f g empty = cc
     go (Ok None) f g empty = empty g
     go (Ok (Some form)) f g empty =

@@ -55,19 +55,28 @@ opened_if test block sections = if test then record { block = block; sections = 
 abbrev gone_if : Bool → ℕ → List Section → Going
 gone_if test ended sections = if test then going 0 [] else going ended sections
 
-open-before : (roles : List Role) (ended : ℕ) (sections : List Section) → open_before (going ended sections) roles ≡ with_sections sections (outer ended (open_blocks roles))
+open-before : (roles : List Role) (ended : ℕ) (sections : List Section) → open_before (going ended sections) roles
+    ≡ with_sections sections (outer ended (open_blocks roles))
 open-before [] zero sections = refl
 open-before [] (suc ended) sections = refl
 open-before (Opens block ∷ roles) zero sections =
     ap (λ (s : List Section). let b : OpenBlock = record { block = block; sections = s } in b ∷ open_blocks roles) (sym (append-nil sections))
 open-before (Opens block ∷ roles) (suc ended) sections =
-    ap (λ (test : Bool). opened_if test block sections ++ open_before (gone_if test (suc ended - 1) sections) roles) (not-zero ended) ∙ (ap (λ (n : ℕ). open_before (going n sections) roles) (one-less ended) ∙ open-before roles ended sections)
+    ap (λ (test : Bool). opened_if test block sections ++ open_before (gone_if test (suc ended - 1) sections) roles) (not-zero ended)
+    ∙ (ap (λ (n : ℕ). open_before (going n sections) roles) (one-less ended) ∙ open-before roles ended sections)
 open-before (Begins section ∷ roles) zero sections =
-    open-before roles 0 (sections ++ section ∷ []) ∙ (sym (with_both sections (section ∷ []) (open_blocks roles)) ∙ ap (with_sections sections) (sym (open-before roles 0 (section ∷ []))))
+    open-before roles 0 (sections ++ section ∷ [])
+    ∙ (sym (with_both sections (section ∷ []) (open_blocks roles)) ∙ ap (with_sections sections) (sym (open-before roles 0 (section ∷ []))))
 open-before (Begins section ∷ roles) (suc ended) sections =
-    ap (λ (test : Bool). open_before (if test then going (suc ended) (sections ++ section ∷ []) else going (suc ended) sections) roles) (not-zero ended) ∙ (open-before roles (suc ended) sections ∙ (ap (with_sections sections) (sym (outer-with ended (section ∷ []) (open_blocks roles))) ∙ ap (λ (blocks : List OpenBlock). with_sections sections (outer (suc ended) blocks)) (sym (open-before roles 0 (section ∷ [])))))
+    ap (λ (test : Bool). open_before (if test then going (suc ended) (sections ++ section ∷ []) else going (suc ended) sections) roles) (not-zero ended)
+    ∙ (open-before roles (suc ended) sections
+    ∙ (ap (with_sections sections) (sym (outer-with ended (section ∷ []) (open_blocks roles)))
+    ∙ ap (λ (blocks : List OpenBlock). with_sections sections (outer (suc ended) blocks)) (sym (open-before roles 0 (section ∷ [])))))
 open-before (Closes ∷ roles) ended sections =
-    open-before roles (suc ended) sections ∙ (ap (with_sections sections) (sym (outer-outer ended (open_blocks roles))) ∙ ap (λ (blocks : List OpenBlock). with_sections sections (outer ended blocks)) (sym (with_none (outer 1 (open_blocks roles))) ∙ sym (open-before roles 1 [])))
+    open-before roles (suc ended) sections
+    ∙ (ap (with_sections sections) (sym (outer-outer ended (open_blocks roles)))
+    ∙ ap (λ (blocks : List OpenBlock). with_sections sections (outer ended blocks))
+    (sym (with_none (outer 1 (open_blocks roles))) ∙ sym (open-before roles 1 [])))
 open-before (Stands ∷ roles) ended sections = open-before roles ended sections
 
 -- one line more

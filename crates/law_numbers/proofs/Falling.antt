@@ -1,5 +1,6 @@
 -- Timers that fall due, and what is made new, keep what is numbered.
-use Rattle.std.proofs.Common.{◌≡◌, ℕ, ◌+◌, ◌<◌, ◌≤◌, ◌⊎◌, Bool, true, false, cond, List, [], ◌∷◌, ◌++◌, None, map, filter, length, nat_eq, nat_le, nat_lt, slice_get, refl, inl, inr, arith}
+use Rattle.std.proofs.Common.{◌≡◌, ℕ, ◌+◌, ◌<◌, ◌≤◌, ◌⊎◌, Bool, true, false, cond, List, [], ◌∷◌, ◌++◌, None, map, filter, length, nat_eq, nat_le, nat_lt}
+use Rattle.std.proofs.Common.{slice_get, refl, inl, inr, arith}
 use Rattle.std.specs.List.{All}
 use Rattle.std.proofs.lemmas.Bool.{cases_lt, lt-ltb, le-ltb, le-leb, lt-leb, cases_eq}
 use Rattle.std.proofs.lemmas.List.Elements.{All-nil}
@@ -16,13 +17,15 @@ occurrences-cons : (k x : ℕ) (xs : List ℕ) → occurrences k (x ∷ xs) ≡ 
 occurrences-cons k x xs = sum_by-cons (λ y. cond (nat_eq k y) 1 0) x xs
 
 -- ---- the order of deadlines
-placed-tags : (k : ℕ) (timer : Timer) (timers : List Timer) → occurrences k (map timer_tag (placed timer timers)) ≡ one_at k timer.tag + occurrences k (map timer_tag timers)
+placed-tags : (k : ℕ) (timer : Timer) (timers : List Timer) → occurrences k (map timer_tag (placed timer timers))
+    ≡ one_at k timer.tag + occurrences k (map timer_tag timers)
 placed-tags k timer [] = occurrences-cons k timer.tag []
 placed-tags k timer (other ∷ others) =
     go (nat_lt other.when timer.when) (placed-tags k timer others)
   where
     go : (b : Bool) → occurrences k (map timer_tag (placed timer others)) ≡ one_at k timer.tag + occurrences k (map timer_tag others)
-        → occurrences k (map timer_tag (cond b (other ∷ placed timer others) (timer ∷ other ∷ others))) ≡ one_at k timer.tag + occurrences k (map timer_tag (other ∷ others))
+        → occurrences k (map timer_tag (cond b (other ∷ placed timer others) (timer ∷ other ∷ others)))
+        ≡ one_at k timer.tag + occurrences k (map timer_tag (other ∷ others))
     go true ih =
         let a = occurrences-cons k other.tag (map timer_tag (placed timer others)) in
         let b = occurrences-cons k other.tag (map timer_tag others) in
@@ -44,13 +47,15 @@ early time = filter (λ (timer : Timer). nat_le timer.when time)
 abbrev pub late : ℕ → List Timer → List Timer
 late time = filter (λ (timer : Timer). nat_lt time timer.when)
 
-split-tags : (k time : ℕ) (timers : List Timer) → occurrences k (map timer_tag (early time timers)) + occurrences k (map timer_tag (late time timers)) ≡ occurrences k (map timer_tag timers)
+split-tags : (k time : ℕ) (timers : List Timer) → occurrences k (map timer_tag (early time timers)) + occurrences k (map timer_tag (late time timers))
+    ≡ occurrences k (map timer_tag timers)
 split-tags k time [] = refl
 split-tags k time (timer ∷ timers) = go (cases_lt time timer.when) (split-tags k time timers)
   where
     go : (time < timer.when) ⊎ (timer.when ≤ time)
         → occurrences k (map timer_tag (early time timers)) + occurrences k (map timer_tag (late time timers)) ≡ occurrences k (map timer_tag timers)
-        → occurrences k (map timer_tag (early time (timer ∷ timers))) + occurrences k (map timer_tag (late time (timer ∷ timers))) ≡ occurrences k (map timer_tag (timer ∷ timers))
+        → occurrences k (map timer_tag (early time (timer ∷ timers))) + occurrences k (map timer_tag (late time (timer ∷ timers)))
+        ≡ occurrences k (map timer_tag (timer ∷ timers))
     go (inl h) ih =
         let whole = occurrences-cons k timer.tag (map timer_tag timers) in
         let part = occurrences-cons k timer.tag (map timer_tag (late time timers)) in
@@ -68,13 +73,15 @@ fallen timer p =
       next_stamp = p.next_stamp + 1;
     }
 
-fall_due-stamps : (timers : List Timer) (p : Parts) → AreGivenOnce (stamps_of p) p.next_stamp → AreGivenOnce (stamps_of (fall_due timers p)) (fall_due timers p).next_stamp
+fall_due-stamps : (timers : List Timer) (p : Parts) → AreGivenOnce (stamps_of p) p.next_stamp
+    → AreGivenOnce (stamps_of (fall_due timers p)) (fall_due timers p).next_stamp
 fall_due-stamps [] p is = is
 fall_due-stamps (timer ∷ timers) p is =
     fall_due-stamps timers (fallen timer p)
     (given_more (stamps_of p) (stamps_of (fallen timer p)) p.next_stamp (λ k. occurrences-pushed k stamp_of p.pending _) is)
 
-fall_due-tags : (k : ℕ) (timers : List Timer) (p : Parts) → occurrences k (tags_of (fall_due timers p)) ≡ occurrences k (tags_of p) + occurrences k (map timer_tag timers)
+fall_due-tags : (k : ℕ) (timers : List Timer) (p : Parts) → occurrences k (tags_of (fall_due timers p))
+    ≡ occurrences k (tags_of p) + occurrences k (map timer_tag timers)
 fall_due-tags k [] p = omega arith
 fall_due-tags k (timer ∷ timers) p =
     let new : Handle = record { stamp = p.next_stamp; tag = timer.tag; action = timer.action; dead = false } in
@@ -96,7 +103,10 @@ fall_due-futures (timer ∷ timers) p = fall_due-futures timers (fallen timer p)
 pub due_numbers : (p : Parts) → IsNumbered p → IsNumbered (due p)
 due_numbers p is = record {
   stamps = fall_due-stamps (by_deadline (early p.time p.timers)) rest is.stamps;
-  tags = record { once = λ k. rw same_tags (is.tags.once k); below = λ k h. rw same_tags (is.tags.below k (rw (fall_due-next (by_deadline (early p.time p.timers)) rest) at h)) };
+  tags = record {
+    once = λ k. rw same_tags (is.tags.once k);
+    below = λ k h. rw same_tags (is.tags.below k (rw (fall_due-next (by_deadline (early p.time p.timers)) rest) at h));
+  };
   members = λ id. rw (fall_due-futures (by_deadline (early p.time p.timers)) rest) (is.members id);
 }
   where
@@ -116,14 +126,16 @@ due_numbers p is = record {
 abbrev fresh : FutureKind → Future
 fresh kind = record { kind = kind; outcome = None; callbacks = [] }
 
-make_future_numbers : (kind : FutureKind) (p : Parts) → All (λ member. member < next_future p) (members_in kind) → IsNumbered p → IsNumbered (make_future kind p)
+make_future_numbers : (kind : FutureKind) (p : Parts) → All (λ member. member < next_future p) (members_in kind) → IsNumbered p
+    → IsNumbered (make_future kind p)
 make_future_numbers kind p new is = record {
   stamps = is.stamps;
   tags = is.tags;
   members = λ id. at id (cases_eq id (length p.futures));
 }
   where
-    at : (id : ℕ) → (id ≡ length p.futures) ⊎ (id ≡ length p.futures → ⊥) → All (λ member. member < id) (members_at (slice_get (p.futures ++ fresh kind ∷ []) id))
+    at : (id : ℕ) → (id ≡ length p.futures) ⊎ (id ≡ length p.futures → ⊥)
+        → All (λ member. member < id) (members_at (slice_get (p.futures ++ fresh kind ∷ []) id))
     at id (inl e) = rw (e, get-push_last p.futures (fresh kind)) new
     at id (inr n) = rw (get-push_other p.futures (fresh kind) id n) (is.members id)
 

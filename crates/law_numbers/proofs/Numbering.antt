@@ -1,5 +1,6 @@
 -- What is numbered stays numbered once.
-use Rattle.std.proofs.Common.{◌≡◌, ℕ, ◌+◌, ◌≤◌, ◌⊎◌, Bool, true, false, cond, not, ◌==◌, List, [], ◌∷◌, ◌++◌, Option, Some, None, map, filter, nat_eq, slice_get, slice_set, refl, ap, ◌∙◌, inl, inr, arith}
+use Rattle.std.proofs.Common.{◌≡◌, ℕ, ◌+◌, ◌≤◌, ◌⊎◌, Bool, true, false, cond, not, ◌==◌, List, [], ◌∷◌, ◌++◌, Option, Some, None, map, filter, nat_eq}
+use Rattle.std.proofs.Common.{slice_get, slice_set, refl, ap, ◌∙◌, inl, inr, arith}
 use Rattle.std.specs.Option.{option_map_or}
 use Rattle.std.proofs.lemmas.Bool.{cases_eq, eq-eqb, ne_eqb}
 use Rattle.std.proofs.lemmas.List.{map-append}
@@ -40,7 +41,8 @@ given_fewer xs ys n fewer given = record {
   below = λ k h. let f = fewer k in let g = given.below k h in omega arith;
 }
 
-pub occurrences-pushed : {A : Type 0} (k : ℕ) (f : A → ℕ) (xs : List A) (x : A) → occurrences k (map f (xs ++ x ∷ [])) ≡ occurrences k (map f xs) + one_at k (f x)
+pub occurrences-pushed : {A : Type 0} (k : ℕ) (f : A → ℕ) (xs : List A) (x : A) → occurrences k (map f (xs ++ x ∷ []))
+    ≡ occurrences k (map f xs) + one_at k (f x)
 occurrences-pushed k f xs x =
     ap (occurrences k) (map-append f xs (x ∷ [])) ∙ sum_by_push (λ y. cond (nat_eq k y) 1 0) (map f xs) (f x)
 
@@ -119,7 +121,8 @@ occurrences-filter : {A : Type 0} (k : ℕ) (f : A → ℕ) (test : A → Bool) 
 occurrences-filter k f test [] = omega arith
 occurrences-filter {A} k f test (x ∷ xs) = go (test x) (occurrences-filter k f test xs)
   where
-    go : (b : Bool) → occurrences k (map f (filter test xs)) ≤ occurrences k (map f xs) → occurrences k (map f (cond b (x ∷ filter test xs) (filter test xs))) ≤ occurrences k (map f (x ∷ xs))
+    go : (b : Bool) → occurrences k (map f (filter test xs)) ≤ occurrences k (map f xs)
+        → occurrences k (map f (cond b (x ∷ filter test xs) (filter test xs))) ≤ occurrences k (map f (x ∷ xs))
     go true h =
         let a = sum_by-cons (λ y. cond (nat_eq k y) 1 0) (f x) (map f (filter test xs)) in
         let b = sum_by-cons (λ y. cond (nat_eq k y) 1 0) (f x) (map f xs) in
@@ -142,7 +145,8 @@ revoke_numbers tag p is = record {
         omega arith
 
 -- ---- futures
-with_future_numbers : (id : ℕ) (old new : Future) (p : Parts) → slice_get p.futures id ≡ Some old → members_in new.kind ≡ members_in old.kind → IsNumbered p → IsNumbered (with_future id new p)
+with_future_numbers : (id : ℕ) (old new : Future) (p : Parts) → slice_get p.futures id ≡ Some old → members_in new.kind ≡ members_in old.kind → IsNumbered p
+    → IsNumbered (with_future id new p)
 with_future_numbers id old new p e same is = record {
   stamps = is.stamps;
   tags = is.tags;

@@ -1,5 +1,6 @@
 -- A request that a timeout or a group makes raises its task's count, and what is taken back lowers it by one at most.
-use Rattle.std.proofs.Common.{◌≡◌, ℕ, ◌+◌, ◌≤◌, ◌<◌, ◌⊎◌, inl, inr, Bool, true, false, cond, ◌&&◌, ◌||◌, ◌==◌, List, [], ◌∷◌, ◌++◌, Option, Some, None, length, is_none, map, nat_lt, option_map, slice_get, refl, sym, ap, subst, ◌∙◌, arith}
+use Rattle.std.proofs.Common.{◌≡◌, ℕ, ◌+◌, ◌≤◌, ◌<◌, ◌⊎◌, inl, inr, Bool, true, false, cond, ◌&&◌, ◌||◌, ◌==◌, List, [], ◌∷◌, ◌++◌, Option, Some, None, length}
+use Rattle.std.proofs.Common.{is_none, map, nat_lt, option_map, slice_get, refl, sym, ap, subst, ◌∙◌, arith}
 use Rattle.std.specs.List.{count_by, list_any}
 use Rattle.std.specs.Option.{option_map_or}
 use Rattle.std.proofs.lemmas.Bool.{cases_eq, cases_lt, eq-eqb, ltb-false, ne_eqb, false≢true, leb-true}
@@ -10,7 +11,8 @@ use Rattle.model_value.specs.Action.{Circle}
 use Rattle.model_value.specs.Number.{most}
 use Rattle.model_value.specs.Value.{Outcome}
 use Rattle.model_loop.specs.Balance.{lowers}
-use Rattle.model_loop.specs.Cancel.{Canceller, cancel, cancel_at, cancel_below, cancel_kind, cancel_unseen, cancel_until, cancel_waiter, cancel_within, has_seen, marked_unless}
+use Rattle.model_loop.specs.Cancel.{Canceller, cancel, cancel_at, cancel_below, cancel_kind, cancel_unseen, cancel_until, cancel_waiter, cancel_within}
+use Rattle.model_loop.specs.Cancel.{has_seen, marked_unless}
 use Rattle.model_loop.specs.Circles.{circle}
 use Rattle.model_loop.specs.Futures.{is_pending_at, next_future}
 use Rattle.model_loop.specs.Ledger.{Origin, ByWait, LedgerEntry, Raised, Took, ask_cancel, raised_among, request_each, request_where, uncancel_by}

@@ -1,5 +1,6 @@
 -- Steps of groups: what each of them owes, and what it takes back.
-use Rattle.std.proofs.Common.{◌≡◌, ℕ, ◌+◌, ◌≤◌, ◌<◌, Bool, true, false, cond, not, ◌&&◌, ◌||◌, ◌==◌, List, [], ◌∷◌, ◌++◌, Option, Some, None, filter, is_some, length, slice_index_or, refl, sym, ap, subst, ◌∙◌, le_refl, append_assoc, length-append, length-set, arith}
+use Rattle.std.proofs.Common.{◌≡◌, ℕ, ◌+◌, ◌≤◌, ◌<◌, Bool, true, false, cond, not, ◌&&◌, ◌||◌, ◌==◌, List, [], ◌∷◌, ◌++◌, Option, Some, None, filter, is_some}
+use Rattle.std.proofs.Common.{length, slice_index_or, refl, sym, ap, subst, ◌∙◌, le_refl, append_assoc, length-append, length-set, arith}
 use Rattle.std.specs.List.{count_by}
 use Rattle.std.proofs.lemmas.Bool.{eq-eqb, false≢true}
 use Rattle.std.proofs.lemmas.List.Sums.{sum_by_push}
@@ -9,7 +10,10 @@ use Rattle.model_value.specs.declared.action.Action.TheVariants.{GroupDone}
 use Rattle.model_value.specs.declared.input.Input.TheVariants.{Send, Throw}
 use Rattle.model_value.specs.declared.outcome.Outcome.TheVariants.{Value as Returned, Cancelled}
 use Rattle.model_loop.specs.Futures.{new_plain, next_future, settle}
-use Rattle.model_loop.specs.Groups.{Refusal, abort, abort_and_request_unless, abort_where, begin_exit, blame, child_done, create, create_unless, end_exit, enter_group, exit_begin, exit_woken, failure_of, group_of, hear, keep_and_abort_unless, make_group, new_group, next_group, only_cancelled, refusal, request_parent, set_group, take_back, take_back_where, wait_or_end, wait_or_end_with, wake_exit, wake_if_last, with_child, without_child}
+use Rattle.model_loop.specs.Groups.{Refusal, abort, abort_and_request_unless, abort_where, begin_exit, blame, child_done, create, create_unless, end_exit}
+use Rattle.model_loop.specs.Groups.{enter_group, exit_begin, exit_woken, failure_of, group_of, hear, keep_and_abort_unless, make_group, new_group, next_group}
+use Rattle.model_loop.specs.Groups.{only_cancelled, refusal, request_parent, set_group, take_back, take_back_where, wait_or_end, wait_or_end_with, wake_exit}
+use Rattle.model_loop.specs.Groups.{wake_if_last, with_child, without_child}
 use Rattle.model_loop.specs.Ledger.{Began, ByAbort, ByGroup, Origin, request_each, request_where, uncancel_by}
 use Rattle.model_loop.specs.Loop.{Group, Loop, book, in_parts}
 use Rattle.model_loop.specs.Owning.{OwnsFutures}
@@ -26,7 +30,8 @@ use Rattle.law_settling.proofs.Spreading.{Spreads, begins, settles, asks, raises
 use Rattle.law_told.proofs.Holding.{group_same}
 use Rattle.law_after.proofs.Exits.{exit_begin_loop, exit_woken_loop}
 use Rattle.law_after.proofs.Requests.{each_after}
-use Rattle.law_done.proofs.Later.{IsLater, any, later_create, later_exit_begin, later_exit_woken, later_of, later_plain, later_refl, later_settle, later_uncancel}
+use Rattle.law_done.proofs.Later.{IsLater, any, later_create, later_exit_begin, later_exit_woken, later_of, later_plain, later_refl, later_settle}
+use Rattle.law_done.proofs.Later.{later_uncancel}
 use Rattle.law_owed.proofs.Asking.{ask_covers, each_took, take_covers}
 use Rattle.law_owed.proofs.Owed.{IsEasy, covers, easy_book, easy_group, easy_parts, easy_refl, easy_then, group_owed, right_on, same_counts}
 use Rattle.law_owed.specs.Owed.{IsCovered, IsRight, owed, owes_group}
@@ -300,7 +305,8 @@ module _ (raised : Option Exc) (id : ℕ) (l : Loop) (within : id < length l.gro
     where
       unkept : IsEasy (book (uncancel_by (ByGroup id) (group_of begun id).parent) begun)
           (set_group id (record (group_of begun id) { kept = None }) (book (uncancel_by (ByGroup id) (group_of begun id).parent) begun))
-      unkept = easy_group id (record (group_of begun id) { kept = None }) (book (uncancel_by (ByGroup id) (group_of begun id).parent) begun) (λ other. le_refl _)
+      unkept = easy_group id (record (group_of begun id) { kept = None }) (book (uncancel_by (ByGroup id) (group_of begun id).parent) begun)
+          (λ other. le_refl _)
 
   taken_back : Taken (take_back id begun)
   taken_back = back_taken (group_of begun id).requested (sym (ap (λ (g : Group). g.requested) marked_is))

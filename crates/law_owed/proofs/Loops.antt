@@ -1,5 +1,7 @@
 -- Steps of tasks and timeouts: what each of them owes, and what it takes back.
-use Rattle.std.proofs.Common.{◌≡◌, ℕ, ◌+◌, ◌≤◌, ◌<◌, zero, suc, ℤ, Bool, true, false, cond, ◌&&◌, ◌==◌, List, [], ◌∷◌, ◌++◌, Option, Some, None, Result, Ok, Err, length, nat_le, option_map, slice_index_or, slice_set, if◌then◌else◌, refl, ap, ◌∙◌, le_refl, length-append, length-set, arith}
+use Rattle.std.proofs.Common.{◌≡◌, ℕ, ◌+◌, ◌≤◌, ◌<◌, zero, suc, ℤ, Bool, true, false, cond, ◌&&◌, ◌==◌, List, [], ◌∷◌, ◌++◌, Option, Some, None, Result, Ok}
+use Rattle.std.proofs.Common.{Err, length, nat_le, option_map, slice_index_or, slice_set, if◌then◌else◌, refl, ap, ◌∙◌, le_refl, length-append, length-set}
+use Rattle.std.proofs.Common.{arith}
 use Rattle.std.specs.List.{count_by, range_with_len}
 use Rattle.std.specs.Option.{option_map_or}
 use Rattle.std.proofs.lemmas.List.Sums.{sum_by_push}
@@ -16,8 +18,10 @@ use Rattle.model_loop.specs.Owning.{OwnsFutures}
 use Rattle.model_loop.specs.Parts.{Parts, Task}
 use Rattle.model_loop.specs.Suspend.{suspend}
 use Rattle.model_loop.specs.Tasks.{begin_step, cancelling, finish, future_of, is_cancelled, is_marked, lives, next_task, set_waiter, spawn, unmark}
-use Rattle.model_loop.specs.Timeouts.{enter_timeout, exit_timeout, fire, fires_at, give_up, is_active, leave_from, make_timeout, moment, next_timeout, no_timeout, reschedule, reschedule_where, schedule, set_timeout, timeout_of, with_deadline, without_handle}
-use Rattle.model_machine.specs.Extra.{ExtraStep, MakesPlain, MakesMany, Settles, Releases, Registers, CallsSoon, CallsLater, Revokes, Cancels, Uncancels, made_by, made_by_all}
+use Rattle.model_loop.specs.Timeouts.{enter_timeout, exit_timeout, fire, fires_at, give_up, is_active, leave_from, make_timeout, moment, next_timeout}
+use Rattle.model_loop.specs.Timeouts.{no_timeout, reschedule, reschedule_where, schedule, set_timeout, timeout_of, with_deadline, without_handle}
+use Rattle.model_machine.specs.Extra.{ExtraStep, MakesPlain, MakesMany, Settles, Releases, Registers, CallsSoon, CallsLater, Revokes, Cancels, Uncancels}
+use Rattle.model_machine.specs.Extra.{made_by, made_by_all}
 use Rattle.model_machine.specs.Replies.{most_ids}
 use Rattle.law_cancel.proofs.Counting.{change_task-kept}
 use Rattle.law_cancel.proofs.Effects.{length-change_task, register-tasks, settle-tasks}

@@ -1,5 +1,6 @@
 -- What happens to the parts does not depend on the numbers of handles.
-use Rattle.std.proofs.Common.{◌≡◌, ℕ, zero, suc, ◌+◌, Bool, true, false, List, [], ◌∷◌, ◌++◌, Option, Some, None, length, slice_get, slice_set, refl, ap, ◌∙◌, arith, length-append}
+use Rattle.std.proofs.Common.{◌≡◌, ℕ, zero, suc, ◌+◌, Bool, true, false, List, [], ◌∷◌, ◌++◌, Option, Some, None, length, slice_get, slice_set, refl, ap, ◌∙◌}
+use Rattle.std.proofs.Common.{arith, length-append}
 use Rattle.std.specs.Option.{option_map_or}
 use Rattle.model_value.specs.Action.{Action}
 use Rattle.model_value.specs.declared.action.Action.TheVariants.{Step}
@@ -9,7 +10,8 @@ use Rattle.model_loop.specs.Parts.{FutureKind, Plain, OfTask, Many, Future, Task
 use Rattle.model_loop.specs.Handles.{soon, soon_all}
 use Rattle.model_loop.specs.Futures.{made_before, with_future, settle, settled, settled_as, register, registered, registered_on, mark_asked, make_future}
 use Rattle.model_loop.specs.Tasks.{raise_count, change_task, spawn, next_task}
-use Rattle.model_loop.specs.Cancel.{CancelRequest, Canceller, answers, has_seen, cancel_each, asked_where, marked_unless, cancel_waiter, cancel_unseen, cancel_task, cancel_kind, cancel_until, cancel_at, cancel_by, cancel_below, cancel_within, cancel}
+use Rattle.model_loop.specs.Cancel.{CancelRequest, Canceller, answers, has_seen, cancel_each, asked_where, marked_unless, cancel_waiter, cancel_unseen}
+use Rattle.model_loop.specs.Cancel.{cancel_task, cancel_kind, cancel_until, cancel_at, cancel_by, cancel_below, cancel_within, cancel}
 use Rattle.law_cancel.proofs.Effects.{done_as, asked_as}
 use Rattle.law_parts.specs.Placed.{placed_from, placed, placed_of}
 

@@ -1,5 +1,6 @@
 -- A future that a request is done with stays so, and a request for it changes nothing.
-use Rattle.std.proofs.Common.{◌≡◌, ℕ, zero, suc, ◌+◌, ◌<◌, ◌≤◌, ◌⊎◌, Bool, true, false, cond, ◌||◌, List, [], ◌∷◌, ◌++◌, Option, Some, None, take, slice_get, slice_set, nat_lt, refl, ap, sym, ◌∙◌, arith, inl, inr, subst, append-nil, if◌then◌else◌}
+use Rattle.std.proofs.Common.{◌≡◌, ℕ, zero, suc, ◌+◌, ◌<◌, ◌≤◌, ◌⊎◌, Bool, true, false, cond, ◌||◌, List, [], ◌∷◌, ◌++◌, Option, Some, None, take, slice_get}
+use Rattle.std.proofs.Common.{slice_set, nat_lt, refl, ap, sym, ◌∙◌, arith, inl, inr, subst, append-nil, if◌then◌else◌}
 use Rattle.std.specs.Option.{option_map_or}
 use Rattle.std.proofs.lemmas.Bool.{cases_eq, lt-ltb, le-ltb}
 use Rattle.model_value.specs.declared.outcome.Outcome.TheVariants.{Cancelled}

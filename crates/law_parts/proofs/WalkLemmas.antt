@@ -1,5 +1,6 @@
 -- A request on a stack goes as its definition does.
-use Rattle.std.proofs.Common.{◌≡◌, ℕ, zero, suc, ◌+◌, ◌<◌, ◌≤◌, Bool, true, false, ◌||◌, List, [], ◌∷◌, ◌++◌, Option, Some, None, drop, slice_get, Result, Ok, Err, IfOk, refl, ap, sym, ◌∙◌, arith, if◌then◌else◌}
+use Rattle.std.proofs.Common.{◌≡◌, ℕ, zero, suc, ◌+◌, ◌<◌, ◌≤◌, Bool, true, false, ◌||◌, List, [], ◌∷◌, ◌++◌, Option, Some, None, drop, slice_get, Result, Ok}
+use Rattle.std.proofs.Common.{Err, IfOk, refl, ap, sym, ◌∙◌, arith, if◌then◌else◌}
 use Rattle.std.specs.Option.{option_map}
 use Rattle.std.proofs.lemmas.Bool.{lt-ltb, le-ltb}
 use Rattle.model_value.specs.declared.outcome.Outcome.TheVariants.{Cancelled}
@@ -7,7 +8,8 @@ use Rattle.model_value.specs.Value.{Outcome}
 use Rattle.model_loop.specs.Parts.{FutureKind, Plain, OfTask, Many, Future, Task, Parts}
 use Rattle.model_loop.specs.Futures.{made_before, settle, mark_asked, asked_kind}
 use Rattle.model_loop.specs.Tasks.{raise_count}
-use Rattle.model_loop.specs.Cancel.{CancelRequest, answers, has_seen, cancel_each, asked_where, marked_unless, cancel_task, cancel_until, cancel_at, cancel_with, cancel_unseen}
+use Rattle.model_loop.specs.Cancel.{CancelRequest, answers, has_seen, cancel_each, asked_where, marked_unless, cancel_task, cancel_until, cancel_at}
+use Rattle.model_loop.specs.Cancel.{cancel_with, cancel_unseen}
 use Rattle.law_cancel.proofs.Lookups.{get-set_kept}
 use Rattle.law_cancel.proofs.Effects.{settle-futures, done_as, mark_asked-futures, asked_as, change_task-futures}
 use Rattle.law_cancel.proofs.Trace.{Goes, begins, settles, asks, raises, marks, with_row}

@@ -1,7 +1,8 @@
 -- Where a mark falls: at the beginning of its task's step, at the task's return, and at a wait for what was cancelled.
 use Rattle.std.proofs.Common.{◌≡◌, ℕ, Bool, Err, List, None, Ok, Option, Result, Some, ap, cond, false, inl, inr, refl, slice_get, subst, sym, true, ◌∙◌, ◌⊎◌}
 use Rattle.model_loop.specs.Suspend.{cancel_wait, suspend, suspend_unless, wait_on}
-use Rattle.model_loop.specs.Tasks.{begin_step, cancelled_error, cancelling_input, change_task, finish, future_of, is_cancelled, is_marked, lives, set_waiter, uncancel, unmark}
+use Rattle.model_loop.specs.Tasks.{begin_step, cancelled_error, cancelling_input, change_task, finish, future_of, is_cancelled, is_marked, lives, set_waiter}
+use Rattle.model_loop.specs.Tasks.{uncancel, unmark}
 use Rattle.std.proofs.lemmas.Bool.{cases_eq, false≢true}
 use Rattle.law_cancel.proofs.Effects.{change_task-futures, done_as, register-tasks, settle-futures, settle-tasks}
 use Rattle.model_value.specs.declared.outcome.Outcome.TheVariants.{Value as Returned, Failed, Cancelled}

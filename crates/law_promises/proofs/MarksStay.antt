@@ -1,5 +1,6 @@
 -- What takes no mark away.
-use Rattle.std.proofs.Common.{◌≡◌, ℕ, zero, suc, ℤ, Bool, true, false, not, cond, ◌&&◌, ◌||◌, ◌==◌, List, [], ◌∷◌, ◌++◌, Option, Some, None, is_some, nat_le, option_map, slice_get, refl, ap, ◌∙◌}
+use Rattle.std.proofs.Common.{◌≡◌, ℕ, zero, suc, ℤ, Bool, true, false, not, cond, ◌&&◌, ◌||◌, ◌==◌, List, [], ◌∷◌, ◌++◌, Option, Some, None, is_some, nat_le}
+use Rattle.std.proofs.Common.{option_map, slice_get, refl, ap, ◌∙◌}
 use Rattle.std.specs.List.{range_with_len}
 use Rattle.std.specs.Option.{option_map_or}
 use Rattle.std.proofs.lemmas.Bool.{false≢true}
@@ -9,16 +10,21 @@ use Rattle.model_value.specs.declared.outcome.Outcome.TheVariants.{Value as Retu
 use Rattle.model_value.specs.Input.{Input}
 use Rattle.model_value.specs.Value.{Exc, Nothing}
 use Rattle.model_loop.specs.Cancel.{CancelRequest, asked_where, cancel, marked_unless}
-use Rattle.model_loop.specs.Cancelling.{Cancels, CancelsEach, CancelsWaiter, done as done_row, plain as plain_row, many as many_row, visited as visited_row, task as task_row, no_task as no_task_row, none as none_row, each as each_row, waits_not as waits_not_row, waits as waits_row}
+use Rattle.model_loop.specs.Cancelling.{Cancels, CancelsEach, CancelsWaiter, done as done_row, plain as plain_row, many as many_row, visited as visited_row}
+use Rattle.model_loop.specs.Cancelling.{task as task_row, no_task as no_task_row, none as none_row, each as each_row, waits_not as waits_not_row}
+use Rattle.model_loop.specs.Cancelling.{waits as waits_row}
 use Rattle.model_loop.specs.Ending.{cancel_everything}
 use Rattle.model_loop.specs.Futures.{mark_asked, next_future, settle}
-use Rattle.model_loop.specs.Groups.{Refusal, abort, abort_and_request_unless, abort_if_raised, abort_where, begin_exit, blame, child_done, create, create_unless, end_exit, exit_begin, exit_woken, failure_of, group_of, hear, keep_and_abort_unless, refusal, set_group, take_back, take_back_where, wait_or_end, wait_or_end_with, wake_exit, wake_if_last, with_child, without_child}
+use Rattle.model_loop.specs.Groups.{Refusal, abort, abort_and_request_unless, abort_if_raised, abort_where, begin_exit, blame, child_done, create}
+use Rattle.model_loop.specs.Groups.{create_unless, end_exit, exit_begin, exit_woken, failure_of, group_of, hear, keep_and_abort_unless, refusal, set_group}
+use Rattle.model_loop.specs.Groups.{take_back, take_back_where, wait_or_end, wait_or_end_with, wake_exit, wake_if_last, with_child, without_child}
 use Rattle.model_loop.specs.Handles.{deadline, due, later, soon}
 use Rattle.model_loop.specs.Ledger.{Origin, ByAbort, ByEnd, ByGroup, request_each, request_where, uncancel_by}
 use Rattle.model_loop.specs.Loop.{TimeoutState, Expiring, Loop, book}
 use Rattle.model_loop.specs.Parts.{Parts, Task}
 use Rattle.model_loop.specs.Tasks.{cancelling, change_task, future_of, is_marked, lives, next_task, spawn, uncancel}
-use Rattle.model_loop.specs.Timeouts.{enter_timeout, exit_timeout, fire, fires_at, give_up, is_active, leave_from, make_timeout, moment, next_timeout, reschedule, reschedule_where, schedule, timeout_of, without_handle}
+use Rattle.model_loop.specs.Timeouts.{enter_timeout, exit_timeout, fire, fires_at, give_up, is_active, leave_from, make_timeout, moment, next_timeout}
+use Rattle.model_loop.specs.Timeouts.{reschedule, reschedule_where, schedule, timeout_of, without_handle}
 use Rattle.law_cancel.proofs.Counting.{change_task-kept}
 use Rattle.law_cancel.proofs.Effects.{mark_asked-tasks, register-tasks, settle-tasks}
 use Rattle.law_cancel.proofs.Meeting.{cancel_meets}

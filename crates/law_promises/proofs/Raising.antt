@@ -1,10 +1,13 @@
 -- What the exit of a group raises where it ends: all that failed.
-use Rattle.std.proofs.Common.{◌≡◌, ℕ, ◌<◌, ◌⊎◌, inl, inr, Bool, true, false, not, cond, ◌&&◌, ◌==◌, List, [], ◌∷◌, ◌++◌, Option, Some, None, is_some, length, refl, sym, subst, ◌∙◌}
+use Rattle.std.proofs.Common.{◌≡◌, ℕ, ◌<◌, ◌⊎◌, inl, inr, Bool, true, false, not, cond, ◌&&◌, ◌==◌, List, [], ◌∷◌, ◌++◌, Option, Some, None, is_some, length}
+use Rattle.std.proofs.Common.{refl, sym, subst, ◌∙◌}
 use Rattle.std.proofs.Math.ListN.{length-set}
 use Rattle.model_value.specs.declared.input.Input.TheVariants.{Send, Throw}
 use Rattle.model_value.specs.Input.{Input}
 use Rattle.model_value.specs.Value.{Exc}
-use Rattle.model_loop.specs.Groups.{GroupExit, Waits, Passes, Raises, Exited, abort, abort_if_raised, abort_where, begin_exit, body_failure, end_exit, exit_begin, exit_woken, group_of, hear, keep_and_abort_unless, only_cancelled, raised_of, set_group, take_back, take_back_where, wait_or_end, wait_or_end_with}
+use Rattle.model_loop.specs.Groups.{GroupExit, Waits, Passes, Raises, Exited, abort, abort_if_raised, abort_where, begin_exit, body_failure, end_exit}
+use Rattle.model_loop.specs.Groups.{exit_begin, exit_woken, group_of, hear, keep_and_abort_unless, only_cancelled, raised_of, set_group, take_back}
+use Rattle.model_loop.specs.Groups.{take_back_where, wait_or_end, wait_or_end_with}
 use Rattle.model_loop.specs.Ledger.{ByGroup, uncancel_by}
 use Rattle.model_loop.specs.Loop.{Group, Loop, book}
 use Rattle.model_loop.specs.Sound.{IsSound}

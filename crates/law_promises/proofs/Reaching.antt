@@ -1,5 +1,6 @@
 -- A cancel goes on from each task that it comes to: the task is marked, or what it waits for was reached.
-use Rattle.std.proofs.Common.{◌≡◌, ℕ, Bool, List, None, Option, Some, [], ap, false, inl, inr, option_map, refl, slice_get, slice_set, subst, sym, true, ◌++◌, ◌||◌, ◌∙◌, ◌∷◌, ◌⊎◌}
+use Rattle.std.proofs.Common.{◌≡◌, ℕ, Bool, List, None, Option, Some, [], ap, false, inl, inr, option_map, refl, slice_get, slice_set, subst, sym, true, ◌++◌}
+use Rattle.std.proofs.Common.{◌||◌, ◌∙◌, ◌∷◌, ◌⊎◌}
 use Rattle.model_loop.specs.Parts.{Future, FutureKind, Many, OfTask, Parts, Plain, Task}
 use Rattle.model_loop.specs.Tasks.{change_task, is_marked, mark, raise_count, waiter_of}
 use Rattle.law_cancel.proofs.Effects.{asked_as, change_task-futures, change_task-there, done_as, settle-futures, settle-tasks}
@@ -9,7 +10,9 @@ use Rattle.model_loop.specs.Futures.{asked_kind, future_outcome, mark_asked, out
 use Rattle.model_loop.specs.Owning.{OwnsFutures, own_future, owner_at, owner_in, owner_of}
 use Rattle.std.proofs.lemmas.Bool.{cases_eq, false≢true, or_left}
 use Rattle.law_cancel.proofs.Seen.{has_seen-append, has_seen_last, has_seen_other}
-use Rattle.model_loop.specs.Cancelling.{IsPendingAs, Cancels, CancelsEach, CancelsWaiter, done as done_row, plain as plain_row, many as many_row, visited as visited_row, task as task_row, no_task as no_task_row, none as none_row, each as each_row, waits_not as waits_not_row, waits as waits_row}
+use Rattle.model_loop.specs.Cancelling.{IsPendingAs, Cancels, CancelsEach, CancelsWaiter, done as done_row, plain as plain_row, many as many_row}
+use Rattle.model_loop.specs.Cancelling.{visited as visited_row, task as task_row, no_task as no_task_row, none as none_row, each as each_row}
+use Rattle.model_loop.specs.Cancelling.{waits_not as waits_not_row, waits as waits_row}
 use Rattle.law_cancel.proofs.Lookups.{get-set_kept, get-set_other, get-set_same}
 use Rattle.law_cancel.proofs.Meeting.{cancel_meets}
 use Rattle.law_steps.proofs.Stepping.{at_task}

@@ -16,7 +16,8 @@ capped-low t h = ap (λ test. if test then Fits t else TooHigh) (le-leb (height 
 pub capped-high : (t : Term) → most_height < height t → capped t ≡ TooHigh
 capped-high t h = ap (λ test. if test then Fits t else TooHigh) (lt-leb (height t) most_height h)
 
-one-at : (build : Term → Term) (t : Term) → height t ≤ height (build t) → (most_height < height t) ⊎ (height t ≤ most_height) → capped (build t) ≡ of_one build (capped t)
+one-at : (build : Term → Term) (t : Term) → height t ≤ height (build t) → (most_height < height t) ⊎ (height t ≤ most_height) → capped (build t)
+    ≡ of_one build (capped t)
 one-at build t h (inl high) =
     capped-high (build t) (omega arith) ∙ sym (ap (of_one build) (capped-high t high))
 one-at build t h (inr low) = sym (ap (of_one build) (capped-low t low))
@@ -24,13 +25,15 @@ one-at build t h (inr low) = sym (ap (of_one build) (capped-low t low))
 pub one-capped : (build : Term → Term) (t : Term) → height t ≤ height (build t) → capped (build t) ≡ of_one build (capped t)
 one-capped build t h = one-at build t h (cases_lt most_height (height t))
 
-two-at : (build : Term → Term → Term) (l r : Term) → height l ≤ height (build l r) → height r ≤ height (build l r) → (most_height < height l) ⊎ (height l ≤ most_height) → capped (build l r) ≡ of_two build (capped l) (capped r)
+two-at : (build : Term → Term → Term) (l r : Term) → height l ≤ height (build l r) → height r ≤ height (build l r)
+    → (most_height < height l) ⊎ (height l ≤ most_height) → capped (build l r) ≡ of_two build (capped l) (capped r)
 two-at build l r hl hr (inl high) =
     capped-high (build l r) (omega arith) ∙ sym (ap (λ left. of_two build left (capped r)) (capped-high l high))
 two-at build l r hl hr (inr low) =
     one-capped (build l) r hr ∙ sym (ap (λ left. of_two build left (capped r)) (capped-low l low))
 
-pub two-capped : (build : Term → Term → Term) (l r : Term) → height l ≤ height (build l r) → height r ≤ height (build l r) → capped (build l r) ≡ of_two build (capped l) (capped r)
+pub two-capped : (build : Term → Term → Term) (l r : Term) → height l ≤ height (build l r) → height r ≤ height (build l r) → capped (build l r)
+    ≡ of_two build (capped l) (capped r)
 two-capped build l r hl hr = two-at build l r hl hr (cases_lt most_height (height l))
 
 pub not-capped : (t : Term) → capped (Not t) ≡ of_one Not (capped t)
@@ -65,7 +68,8 @@ row-low : (t : Term) (ts : List Term) (found : Option (List Term)) → height t 
 row-low t ts found h row =
     elim row.is [ inl low ↦ record { is = inl (omega (arith, low.0), ap (then_fits (Fits t)) low.1) } | inr high ↦ record { is = inr (omega (arith, high.0), ap (then_fits (Fits t)) high.1) } ]
 
-row-at : (t : Term) (ts : List Term) (found : Option (List Term)) → (most_height < height t) ⊎ (height t ≤ most_height) → CappedRow ts found → CappedRow (t ∷ ts) (then_fits (capped t) found)
+row-at : (t : Term) (ts : List Term) (found : Option (List Term)) → (most_height < height t) ⊎ (height t ≤ most_height) → CappedRow ts found
+    → CappedRow (t ∷ ts) (then_fits (capped t) found)
 row-at t ts found (inl high) row =
     record { is = inr (omega arith, ap (λ operand. then_fits operand found) (capped-high t high)) }
 row-at t ts found (inr low) row = rw (capped-low t low) (row-low t ts found low row)
@@ -74,11 +78,13 @@ pub row : (all : List Term) → CappedRow all (all_of that_fits (map capped all)
 row [] = record { is = inl (omega arith, refl) }
 row (t ∷ ts) = row-at t ts (all_of that_fits (map capped ts)) (cases_lt most_height (height t)) (row ts)
 
-all-at : (build : List Term → Term) (all : List Term) (found : Option (List Term)) → height_of_all (terms all) ≤ height (build all) → CappedRow all found → capped (build all) ≡ of_fitting build found
+all-at : (build : List Term → Term) (all : List Term) (found : Option (List Term)) → height_of_all (terms all) ≤ height (build all) → CappedRow all found
+    → capped (build all) ≡ of_fitting build found
 all-at build all found h row =
     elim row.is [ inl low ↦ sym (ap (of_fitting build) low.1) | inr high ↦ capped-high (build all) (omega (arith, high.0)) ∙ sym (ap (of_fitting build) high.1) ]
 
-pub all-capped : (build : List Term → Term) (all : List Term) → height_of_all (terms all) ≤ height (build all) → capped (build all) ≡ of_all build (map capped all)
+pub all-capped : (build : List Term → Term) (all : List Term) → height_of_all (terms all) ≤ height (build all) → capped (build all)
+    ≡ of_all build (map capped all)
 all-capped build all h = all-at build all (all_of that_fits (map capped all)) h (row all)
 
 pub list-capped : (all : List Term) → capped (ListOf (terms all)) ≡ list_of (map capped all)
@@ -89,12 +95,15 @@ call-capped name None all = all-capped (call name None) all (omega arith)
 call-capped name (Some bare) all = all-capped (call name (Some bare)) all (omega arith)
 
 -- ---- all of the readings
-pub all_of-capped : {A : Type 0} (reading : A → Option Term) (slots : List A) → option_map (map capped) (all_of reading slots) ≡ all_of (λ slot. option_map capped (reading slot)) slots
+pub all_of-capped : {A : Type 0} (reading : A → Option Term) (slots : List A) → option_map (map capped) (all_of reading slots)
+    ≡ all_of (λ slot. option_map capped (reading slot)) slots
 all_of-capped reading [] = refl
 all_of-capped reading (slot ∷ slots) =
-    first-capped (reading slot) (all_of reading slots) ∙ ap (λ rest. option_and_then (λ y. option_map (λ ys. y ∷ ys) rest) (option_map capped (reading slot))) (all_of-capped reading slots)
+    first-capped (reading slot) (all_of reading slots)
+    ∙ ap (λ rest. option_and_then (λ y. option_map (λ ys. y ∷ ys) rest) (option_map capped (reading slot))) (all_of-capped reading slots)
   where
-    first-capped : (first : Option Term) (rest : Option (List Term)) → option_map (map capped) (option_and_then (λ y. option_map (λ ys. y ∷ ys) rest) first) ≡ option_and_then (λ y. option_map (λ ys. y ∷ ys) (option_map (map capped) rest)) (option_map capped first)
+    first-capped : (first : Option Term) (rest : Option (List Term)) → option_map (map capped) (option_and_then (λ y. option_map (λ ys. y ∷ ys) rest) first)
+        ≡ option_and_then (λ y. option_map (λ ys. y ∷ ys) (option_map (map capped) rest)) (option_map capped first)
     first-capped None rest = refl
     first-capped (Some t) None = refl
     first-capped (Some t) (Some ts) = refl

@@ -8,7 +8,8 @@ use Rattle.model_text.specs.declared.reserved_word.ReservedWord.TheVariants as w
 use Rattle.model_text.specs.Words.{Lexeme, is_sign}
 use Rattle.model_text.specs.Cutting.{Pieces, Cutter, pieces_from}
 use Rattle.model_text.specs.Terms.{Term, Or, And, Compare, Calculate, Index}
-use Rattle.model_text.specs.Levels.{Parser, all_of, at_word, at_comparison, at_sum, at_product, at_index, item_index, negated, product, sum_of, denied, conjunction}
+use Rattle.model_text.specs.Levels.{Parser, all_of, at_word, at_comparison, at_sum, at_product, at_index, item_index, negated, product, sum_of, denied}
+use Rattle.model_text.specs.Levels.{conjunction}
 use Rattle.law_reading.specs.Operands.{Operand, capped, of_two}
 use Rattle.law_reading.specs.Pending.{Loose, Tight, with_minuses, with_nots, calculated, compared, and_of, or_of}
 
@@ -26,12 +27,14 @@ abbrev pub joined_pieces : {A : Type 0} → (A → Operand → Operand → Opera
 joined_pieces build later pending first cut =
     option_and_then (λ right. joined_operands build later (pending right) cut.others) (first cut.first)
 
-abbrev pub level_from : {A : Type 0} → Cutter A → (A → Operand → Operand → Operand) → Parser Operand → (Operand → Operand) → ℕ → Bool → Parser Operand → Parser Operand
+abbrev pub level_from : {A : Type 0} → Cutter A → (A → Operand → Operand → Operand) → Parser Operand → (Operand → Operand) → ℕ → Bool → Parser Operand
+    → Parser Operand
 level_from cutter build later pending depth behind first lexemes =
     joined_pieces build later pending first (pieces_from cutter depth behind lexemes)
 
 -- ---- the level of comparisons
-abbrev pub compared_other : Parser Operand → Option (Comparison × Operand) → Comparison × List Lexeme → List (Comparison × List Lexeme) → Operand → Option Operand
+abbrev pub compared_other : Parser Operand → Option (Comparison × Operand) → Comparison × List Lexeme → List (Comparison × List Lexeme) → Operand
+    → Option Operand
 compared_other later None other [] left = option_map (of_two (Compare other.0) left) (later other.1)
 compared_other later None other (another ∷ others) left = None
 compared_other later (Some pending) other others left = None
@@ -73,7 +76,8 @@ module _ (inside : Parser Term) where
   -- behind the tight operators: the rest is that of their last operand
   abbrev pub tight_level : Tight → ℕ → Bool → Parser Operand → Parser Operand
   tight_level tight depth behind first =
-      compared_level tight.compare_left depth behind (sum_level tight.sum_left depth behind (product_level tight.product_left depth behind (λ rest. option_map (with_minuses tight.minuses) (first rest))))
+      compared_level tight.compare_left depth behind
+      (sum_level tight.sum_left depth behind (product_level tight.product_left depth behind (λ rest. option_map (with_minuses tight.minuses) (first rest))))
 
   -- behind the loose ones
   abbrev pub loose_level : Loose → ℕ → Bool → Parser Operand → Parser Operand

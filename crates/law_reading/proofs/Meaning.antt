@@ -7,7 +7,8 @@ use Rattle.model_text.specs.Cutting.{Pieces, pieces_from, parts, before_last}
 use Rattle.model_text.specs.Terms.{Term, Index, Called, terms}
 use Rattle.model_text.specs.Levels.{Parser, Arguments as Slots, all_of, arguments_of, primary, negated, denied, disjunction, term_within}
 use Rattle.law_reading.specs.Operands.{Operand, of_two, list_of, call_of}
-use Rattle.law_reading.specs.Reader.{Bracket, Group, Item, Items, Arguments, Open, TermProgress, Start, AtNot, AtOperand, BehindName, BehindOperand, AtKind, BehindKind, ReaderState}
+use Rattle.law_reading.specs.Reader.{Bracket, Group, Item, Items, Arguments, Open, TermProgress, Start, AtNot, AtOperand, BehindName, BehindOperand, AtKind}
+use Rattle.law_reading.specs.Reader.{BehindKind, ReaderState}
 use Rattle.law_reading.specs.Ends.{empty, closing}
 use Rattle.law_reading.proofs.Levels.{keeping, loose_level, operand_level, primary_level, comma, row_from}
 
@@ -92,12 +93,14 @@ around inside opened depth behind content =
 abbrev pub unwound : ℕ → ℕ → Bool → List Open → Parser Operand → Parser Operand
 unwound brackets depth behind [] first = first
 unwound brackets depth behind (bracket ∷ opened) first =
-    unwound (suc brackets) (suc depth) behind opened (around (term_within (suc brackets)) bracket (suc depth) behind (contents (term_within brackets) bracket.bracket depth behind first))
+    unwound (suc brackets) (suc depth) behind opened
+    (around (term_within (suc brackets)) bracket (suc depth) behind (contents (term_within brackets) bracket.bracket depth behind first))
 
 abbrev pub meaning_within : ℕ → TermProgress → List Open → Parser Operand
 meaning_within brackets progress [] = expression (term_within brackets) progress
 meaning_within brackets progress (bracket ∷ opened) =
-    unwound (suc brackets) 1 (is_behind progress) opened (around (term_within (suc brackets)) bracket 1 (is_behind progress) (contents_at (term_within brackets) bracket.bracket progress))
+    unwound (suc brackets) 1 (is_behind progress) opened
+    (around (term_within (suc brackets)) bracket 1 (is_behind progress) (contents_at (term_within brackets) bracket.bracket progress))
 
 abbrev pub meaning : ℕ → ReaderState → Parser Operand
 meaning brackets None = λ rest. None

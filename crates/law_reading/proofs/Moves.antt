@@ -9,7 +9,8 @@ use Rattle.model_text.specs.Terms.{Term}
 use Rattle.model_text.specs.Levels.{Parser, at_word, at_comparison, at_sum, at_product, at_index, sum_of}
 use Rattle.law_reading.specs.Operands.{Operand}
 use Rattle.law_reading.specs.Pending.{Loose, Tight, with_minuses, with_nots}
-use Rattle.law_reading.proofs.Levels.{keeping, joined_operands, level_from, compared_others, index_level, compared_level, tight_level, loose_level, operand_level, primary_level}
+use Rattle.law_reading.proofs.Levels.{keeping, joined_operands, level_from, compared_others, index_level, compared_level, tight_level, loose_level}
+use Rattle.law_reading.proofs.Levels.{operand_level, primary_level}
 
 -- ---- two readings that agree on nothing and on what begins with the lexeme
 pub record Agree (x : Lexeme) (f g : Parser Operand) : Type 0 where
@@ -24,20 +25,25 @@ module _ (x : Lexeme) where
   }
 
   module _ {A : Type 0} (next : List (A × List Lexeme) → Operand → Option Operand) (f g : Parser Operand) (a : Agree x f g) where
-    front-agree : (found : Option A) (cut : Pieces A) → option_and_then (next (with_front found x cut).others) (f (with_front found x cut).first) ≡ option_and_then (next (with_front found x cut).others) (g (with_front found x cut).first)
+    front-agree : (found : Option A) (cut : Pieces A) → option_and_then (next (with_front found x cut).others) (f (with_front found x cut).first)
+        ≡ option_and_then (next (with_front found x cut).others) (g (with_front found x cut).first)
     front-agree None cut = ap (option_and_then (next cut.others)) (a.something cut.first)
     front-agree (Some c) cut = ap (option_and_then (next ((c, cut.first) ∷ cut.others))) a.nothing
 
-  level-agree : {A : Type 0} (cutter : Cutter A) (build : A → Operand → Operand → Operand) (later : Parser Operand) (pending : Operand → Operand) (b : Bool) (f g : Parser Operand) → Agree x f g → Agree x (level_from cutter build later pending 0 b f) (level_from cutter build later pending 0 b g)
+  level-agree : {A : Type 0} (cutter : Cutter A) (build : A → Operand → Operand → Operand) (later : Parser Operand) (pending : Operand → Operand) (b : Bool)
+      (f g : Parser Operand) → Agree x f g → Agree x (level_from cutter build later pending 0 b f) (level_from cutter build later pending 0 b g)
   level-agree cutter build later pending b f g a = record {
     nothing = ap (option_and_then (λ right. joined_operands build later (pending right) [])) a.nothing;
-    something = λ rest. front-agree (λ others right. joined_operands build later (pending right) others) f g a (cutter b x) (pieces_from cutter (depth_behind 0 x) (ends_operand x) rest);
+    something = λ rest. front-agree (λ others right. joined_operands build later (pending right) others) f g a (cutter b x)
+        (pieces_from cutter (depth_behind 0 x) (ends_operand x) rest);
   }
 
-  compared-agree : (inside : Parser Term) (left : Option (Comparison × Operand)) (b : Bool) (f g : Parser Operand) → Agree x f g → Agree x (compared_level inside left 0 b f) (compared_level inside left 0 b g)
+  compared-agree : (inside : Parser Term) (left : Option (Comparison × Operand)) (b : Bool) (f g : Parser Operand) → Agree x f g
+      → Agree x (compared_level inside left 0 b f) (compared_level inside left 0 b g)
   compared-agree inside left b f g a = record {
     nothing = ap (option_and_then (compared_others (keeping (sum_of inside)) left [])) a.nothing;
-    something = λ rest. front-agree (compared_others (keeping (sum_of inside)) left) f g a (at_comparison b x) (pieces_from at_comparison (depth_behind 0 x) (ends_operand x) rest);
+    something = λ rest. front-agree (compared_others (keeping (sum_of inside)) left) f g a (at_comparison b x)
+        (pieces_from at_comparison (depth_behind 0 x) (ends_operand x) rest);
   }
 
   module _ (inside : Parser Term) (b : Bool) where
@@ -46,14 +52,17 @@ module _ (x : Lexeme) where
 
     pub tight-agree : (tight : Tight) (f g : Parser Operand) → Agree x f g → Agree x (tight_level inside tight 0 b f) (tight_level inside tight 0 b g)
     tight-agree tight f g a =
-        compared-agree inside tight.compare_left b _ _ (level-agree at_sum _ _ _ b _ _ (level-agree at_product _ _ _ b _ _ (after-agree (with_minuses tight.minuses) f g a)))
+        compared-agree inside tight.compare_left b _ _
+        (level-agree at_sum _ _ _ b _ _ (level-agree at_product _ _ _ b _ _ (after-agree (with_minuses tight.minuses) f g a)))
 
     pub loose-agree : (loose : Loose) (f g : Parser Operand) → Agree x f g → Agree x (loose_level inside loose 0 b f) (loose_level inside loose 0 b g)
     loose-agree loose f g a =
         level-agree (at_word word.Or) _ _ _ b _ _ (level-agree (at_word word.And) _ _ _ b _ _ (after-agree (with_nots loose.nots) f g a))
 
-    pub operand-agree : (loose : Loose) (tight : Tight) (f g : Parser Operand) → Agree x f g → Agree x (operand_level inside loose tight 0 b f) (operand_level inside loose tight 0 b g)
+    pub operand-agree : (loose : Loose) (tight : Tight) (f g : Parser Operand) → Agree x f g
+        → Agree x (operand_level inside loose tight 0 b f) (operand_level inside loose tight 0 b g)
     operand-agree loose tight f g a = loose-agree loose _ _ (tight-agree tight f g a)
 
-    pub primary-agree : (loose : Loose) (tight : Tight) (f g : Parser Operand) → Agree x f g → Agree x (primary_level inside loose tight 0 b f) (primary_level inside loose tight 0 b g)
+    pub primary-agree : (loose : Loose) (tight : Tight) (f g : Parser Operand) → Agree x f g
+        → Agree x (primary_level inside loose tight 0 b f) (primary_level inside loose tight 0 b g)
     primary-agree loose tight f g a = operand-agree loose tight _ _ (index-agree f g a)

@@ -7,11 +7,13 @@ pub map-none : {A B : Type 0} (f : A → Option B) (found : Option A) → ((a : 
 map-none f None e = refl
 map-none f (Some a) e = e a
 
-pub and_then-map : {A B C : Type 0} (f : A → B) (g : B → Option C) (found : Option A) → option_and_then g (option_map f found) ≡ option_and_then (λ a. g (f a)) found
+pub and_then-map : {A B C : Type 0} (f : A → B) (g : B → Option C) (found : Option A) → option_and_then g (option_map f found)
+    ≡ option_and_then (λ a. g (f a)) found
 and_then-map f g None = refl
 and_then-map f g (Some a) = refl
 
-pub map-and_then : {A B C : Type 0} (f : B → C) (g : A → Option B) (found : Option A) → option_map f (option_and_then g found) ≡ option_and_then (λ a. option_map f (g a)) found
+pub map-and_then : {A B C : Type 0} (f : B → C) (g : A → Option B) (found : Option A) → option_map f (option_and_then g found)
+    ≡ option_and_then (λ a. option_map f (g a)) found
 map-and_then f g None = refl
 map-and_then f g (Some a) = refl
 
@@ -19,7 +21,8 @@ pub map-map : {A B C : Type 0} (f : A → B) (g : B → C) (found : Option A) �
 map-map f g None = refl
 map-map f g (Some a) = refl
 
-pub and_then-and_then : {A B C : Type 0} (f : A → Option B) (g : B → Option C) (found : Option A) → option_and_then g (option_and_then f found) ≡ option_and_then (λ a. option_and_then g (f a)) found
+pub and_then-and_then : {A B C : Type 0} (f : A → Option B) (g : B → Option C) (found : Option A) → option_and_then g (option_and_then f found)
+    ≡ option_and_then (λ a. option_and_then g (f a)) found
 and_then-and_then f g None = refl
 and_then-and_then f g (Some a) = refl
 

@@ -8,7 +8,8 @@ use Rattle.model_text.specs.Words.{Lexeme, is_sign}
 use Rattle.model_text.specs.Terms.{Variable, Index}
 use Rattle.law_reading.specs.Operands.{Operand, Fits, of_two, list_of, call_of}
 use Rattle.law_reading.specs.Pending.{no_loose, disjunction_of}
-use Rattle.law_reading.specs.Reader.{Bracket, Group, Item, Items, Arguments, Open, TermProgress, Start, AtNot, BehindName, BehindOperand, AtKind, BehindKind, ReaderState, reading}
+use Rattle.law_reading.specs.Reader.{Bracket, Group, Item, Items, Arguments, Open, TermProgress, Start, AtNot, BehindName, BehindOperand, AtKind, BehindKind}
+use Rattle.law_reading.specs.Reader.{ReaderState, reading}
 
 -- the expression that ends here
 abbrev pub ended : TermProgress → Option Operand

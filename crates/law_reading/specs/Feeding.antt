@@ -16,7 +16,8 @@ use Rattle.model_text.specs.Terms.{Variable}
 use Rattle.model_text.specs.Levels.{atom}
 use Rattle.law_reading.specs.Operands.{Operand, Fits}
 use Rattle.law_reading.specs.Pending.{Loose, Tight, no_loose, no_tight, behind_product, behind_sum, behind_comparison, behind_and, behind_or}
-use Rattle.law_reading.specs.Reader.{Bracket, Group, Item, Items, Arguments, Open, TermProgress, Start, AtNot, AtOperand, BehindName, BehindOperand, AtKind, BehindKind, TermReader, ReaderState, reading, start}
+use Rattle.law_reading.specs.Reader.{Bracket, Group, Item, Items, Arguments, Open, TermProgress, Start, AtNot, AtOperand, BehindName, BehindOperand, AtKind}
+use Rattle.law_reading.specs.Reader.{BehindKind, TermReader, ReaderState, reading, start}
 use Rattle.law_reading.specs.Ends.{ended, at_comma, at_closing}
 
 -- a bracket opens, and in it nothing stands yet

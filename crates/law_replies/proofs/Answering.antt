@@ -1,5 +1,6 @@
 -- An answer leaves the step sound, and a wait the whole state, where nothing of the open blocks changed.
-use Rattle.std.proofs.Common.{◌≡◌, ℕ, ◌<◌, ◌≤◌, ◌⊎◌, inl, inr, Bool, true, false, not, ◌&&◌, List, [], ◌∷◌, ◌++◌, Option, Some, None, length, slice_get, slice_index_or, is_none, refl, sym, ap, subst, ◌∙◌, arith}
+use Rattle.std.proofs.Common.{◌≡◌, ℕ, ◌<◌, ◌≤◌, ◌⊎◌, inl, inr, Bool, true, false, not, ◌&&◌, List, [], ◌∷◌, ◌++◌, Option, Some, None, length, slice_get}
+use Rattle.std.proofs.Common.{slice_index_or, is_none, refl, sym, ap, subst, ◌∙◌, arith}
 use Rattle.std.specs.Option.{option_map_or}
 use Rattle.std.proofs.lemmas.Bool.{cases_eq, eq-eqb, ne_eqb, false≢true}
 use Rattle.std.proofs.lemmas.Option.{none-some}
@@ -33,7 +34,9 @@ use Rattle.law_inside.specs.InStep.{IsLeft, IsSoundBut, IsStepSound, IsAsked, Re
 use Rattle.law_inside.proofs.Blocks.{AreOpenAt, open_kept}
 use Rattle.law_inside.proofs.Counts.{get_there, and_first, and_second, and_both, lives_within, own_there, lives_before, of_plain}
 use Rattle.law_inside.proofs.Given.{Made, said_made, made_task, asked_sleeps, asked_leaves}
-use Rattle.law_inside.proofs.Keeping.{IsApart, apart_of, open_of, with_open, joined, says_same, tapes_blocks, loop_keeps, stays_stood, leaves_none, resumed_blocks, resumed_others, resumed_standing, resumed_begun, answer_keeps, stood_standing, stood_tape, stood_says, stood_blocks, stands_keeps}
+use Rattle.law_inside.proofs.Keeping.{IsApart, apart_of, open_of, with_open, joined, says_same, tapes_blocks, loop_keeps, stays_stood, leaves_none}
+use Rattle.law_inside.proofs.Keeping.{resumed_blocks, resumed_others, resumed_standing, resumed_begun, answer_keeps, stood_standing, stood_tape, stood_says}
+use Rattle.law_inside.proofs.Keeping.{stood_blocks, stands_keeps}
 
 -- ---- a future that isn't done is pending
 pub pending_of : {S : Type 0} (s : State S) (on : ℕ) (future : Future) → slice_get s.loop.parts.futures on ≡ Some future

@@ -1,5 +1,6 @@
 -- Requests that make tasks, and those that enter blocks.
-use Rattle.std.proofs.Common.{◌≡◌, ℕ, ◌+◌, ◌<◌, ◌≤◌, ◌⊎◌, inl, inr, ℤ, Bool, true, false, not, ◌&&◌, List, [], ◌∷◌, ◌++◌, Option, Some, None, length, length-append, nat_lt, option_map, slice_index_or, cond, ◌==◌, refl, sym, ap, subst, ◌∙◌, arith}
+use Rattle.std.proofs.Common.{◌≡◌, ℕ, ◌+◌, ◌<◌, ◌≤◌, ◌⊎◌, inl, inr, ℤ, Bool, true, false, not, ◌&&◌, List, [], ◌∷◌, ◌++◌, Option, Some, None, length}
+use Rattle.std.proofs.Common.{length-append, nat_lt, option_map, slice_index_or, cond, ◌==◌, refl, sym, ap, subst, ◌∙◌, arith}
 use Rattle.std.specs.List.{list_all}
 use Rattle.std.proofs.lemmas.Bool.{cases_eq, cases_lt, eq-eqb, ne_eqb, false≢true}
 use Rattle.model_value.specs.Input.{Input}
@@ -11,7 +12,8 @@ use Rattle.model_value.specs.Value.{Value, Nothing, Task, Group, Timeout}
 use Rattle.model_says.specs.Blocks.{open_with}
 use Rattle.model_says.specs.Endings.{Asks}
 use Rattle.model_says.specs.Says.{step_limit}
-use Rattle.model_loop.specs.Groups.{Refusal, create, group_of, make_group, enter_group, new_group, next_group, refusal, refusal_fault, create_unless, with_child}
+use Rattle.model_loop.specs.Groups.{Refusal, create, group_of, make_group, enter_group, new_group, next_group, refusal, refusal_fault, create_unless}
+use Rattle.model_loop.specs.Groups.{with_child}
 use Rattle.model_loop.specs.Futures.{next_future, register}
 use Rattle.model_loop.specs.Handles.{deadline}
 use Rattle.model_loop.specs.Loop.{Group as GroupFields, Loop, in_parts}
@@ -40,7 +42,8 @@ use Rattle.law_replies.proofs.Answering.{half, alive, within, left_before}
 use Rattle.law_inside.proofs.Blocks.{AreOpenAt, open_kept, timeout_made_open, group_entered_open, entered_new, entered_is, entered_old, groups_longer}
 use Rattle.law_inside.proofs.Counts.{and_first, and_second, and_both, count_unbegun, lives_before, lives_within}
 use Rattle.law_inside.proofs.Given.{asked_leaves, task_made, spawn_keeps, spawned_blocks, old_same}
-use Rattle.law_inside.proofs.Keeping.{IsApart, open_of, with_open, says_same, tapes_blocks, futures_kept, loop_keeps, standing_kept, resumed_blocks, resumed_others, resumed_standing, resumed_begun, answer_keeps}
+use Rattle.law_inside.proofs.Keeping.{IsApart, open_of, with_open, says_same, tapes_blocks, futures_kept, loop_keeps, standing_kept, resumed_blocks}
+use Rattle.law_inside.proofs.Keeping.{resumed_others, resumed_standing, resumed_begun, answer_keeps}
 use Rattle.law_replies.proofs.Table.{same_tapes, self, thrown}
 use Rattle.law_inside.proofs.Tapes.{push_past, past_default}
 
@@ -207,7 +210,8 @@ module _ {S : Type 0} (added : Extra S) (task : ℕ) (s : State S) (asked : Requ
           (ap (λ q. names_block q (Send (Timeout (length s.loop.timeouts)))) is_asked) refl into_half)
           (open_kept _ _ (Some task) None (make_timeout task s.loop) into.loop (blocks_of sent) (blocks_of sent) scheduled (λ other. refl)
           (timeout_made_open s.loop task (blocks_of s) (blocks_of sent) sent_others (open_of added (Some task) (Some task) s is.others.blocks) sent_blocks));
-      standing = resumed_standing added task asked false (Send (Timeout (length s.loop.timeouts))) into (within added task Asked asked s is) into_says is.standing;
+      standing = resumed_standing added task asked false (Send (Timeout (length s.loop.timeouts))) into
+          (within added task Asked asked s is) into_says is.standing;
       begun = resumed_begun added task asked false (Send (Timeout (length s.loop.timeouts))) into (within added task Asked asked s is) into_says;
       exits = λ id e mine. asked_leaves id (is.exits id
           (left_before (record s { loop = make_timeout task s.loop }) into _ _ (Some task) None None None scheduled id refl refl e)
@@ -293,8 +297,10 @@ module _ {S : Type 0} (added : Extra S) (task : ℕ) (s : State S) (asked : Requ
       others = with_open added (Some task) (Some task) handed
           (answer_keeps added task asked false (Send (Group (length s.loop.groups))) inside (within added task Asked asked s is) inside_says
           (ap (λ q. names_block q (Send (Group (length s.loop.groups)))) is_asked) refl inside_half)
-          (group_entered_open s.loop task (blocks_of s) (blocks_of handed) handed_others (open_of added (Some task) (Some task) s is.others.blocks) handed_blocks);
-      standing = resumed_standing added task asked false (Send (Group (length s.loop.groups))) inside (within added task Asked asked s is) inside_says is.standing;
+          (group_entered_open s.loop task (blocks_of s) (blocks_of handed) handed_others
+          (open_of added (Some task) (Some task) s is.others.blocks) handed_blocks);
+      standing = resumed_standing added task asked false (Send (Group (length s.loop.groups))) inside
+          (within added task Asked asked s is) inside_says is.standing;
       begun = resumed_begun added task asked false (Send (Group (length s.loop.groups))) inside (within added task Asked asked s is) inside_says;
       exits = λ id e mine. asked_leaves id (is.exits id (was_left id e) (mine ∙ ap (λ (g : GroupFields). g.parent) (old_left id e)));
     }

@@ -1,5 +1,6 @@
 -- Requests that leave blocks: the exit of a timeout, and that of a group, as it begins and as it goes on.
-use Rattle.std.proofs.Common.{◌≡◌, ℕ, ◌<◌, ◌≤◌, ◌⊎◌, inl, inr, Bool, true, false, not, ◌&&◌, ◌||◌, ◌==◌, List, [], ◌∷◌, ◌++◌, Option, Some, None, drop, length, refl, sym, ap, subst, ◌∙◌, arith}
+use Rattle.std.proofs.Common.{◌≡◌, ℕ, ◌<◌, ◌≤◌, ◌⊎◌, inl, inr, Bool, true, false, not, ◌&&◌, ◌||◌, ◌==◌, List, [], ◌∷◌, ◌++◌, Option, Some, None, drop, length}
+use Rattle.std.proofs.Common.{refl, sym, ap, subst, ◌∙◌, arith}
 use Rattle.std.specs.List.{list_any}
 use Rattle.std.proofs.lemmas.Bool.{cases_eq, eq-eqb, ne_eqb, eqb-true, false≢true}
 use Rattle.model_value.specs.Equality.{equal}
@@ -35,7 +36,8 @@ use Rattle.law_replies.proofs.Answering.{half, alive, within, left_before, rest_
 use Rattle.law_inside.proofs.Blocks.{AreOpenAt, timeout_left_open, group_left_open}
 use Rattle.law_inside.proofs.Counts.{and_first, and_second, and_both, not_true, not_false, lives_before}
 use Rattle.law_inside.proofs.Given.{asked_leaves}
-use Rattle.law_inside.proofs.Keeping.{IsApart, open_of, with_open, says_same, tapes_blocks, futures_kept, loop_keeps, stays_stood, leaves_none, resumed_blocks, resumed_others, resumed_standing, resumed_begun, answer_keeps, stood_standing}
+use Rattle.law_inside.proofs.Keeping.{IsApart, open_of, with_open, says_same, tapes_blocks, futures_kept, loop_keeps, stays_stood, leaves_none, resumed_blocks}
+use Rattle.law_inside.proofs.Keeping.{resumed_others, resumed_standing, resumed_begun, answer_keeps, stood_standing}
 use Rattle.law_replies.proofs.Table.{same_tapes}
 
 -- ---- one block less
@@ -119,7 +121,8 @@ module _ {S : Type 0} (added : Extra S) (task : ℕ) (s : State S) (raised : Opt
       let a = leave_loop (names_made (next_task s.loop.parts)) refl false (Some task) None None raised id s.loop tags in
       left_to added task Asked (request.TimeoutExit (Timeout id) raised) s is false input m (Timeout id) outer mine (λ b. refl) (Some id) None None a h
       (λ other gid f e r. refl) (λ gid f. (refl, refl))
-      (λ gid e m'. asked_leaves gid (is.exits gid (left_before s (with_loop m s) _ _ (Some task) (Some id) None None a gid refl refl e) (m' ∙ (a.groups gid).parent)))
+      (λ gid e m'. asked_leaves gid
+      (is.exits gid (left_before s (with_loop m s) _ _ (Some task) (Some id) None None a gid refl refl e) (m' ∙ (a.groups gid).parent)))
       (timeout_left_open s.loop task (blocks_of s) (blocks_of (resumed false task input (with_loop m s)))
       (u_others added task Asked (request.TimeoutExit (Timeout id) raised) s is false input m (Timeout id) outer mine (λ b. refl))
       (open_of added (Some task) (Some task) s is.others.blocks) _ _ (Some task) None m id a
@@ -172,7 +175,8 @@ module _ {S : Type 0} (added : Extra S) (task : ℕ) (stood : Standing) (s : Sta
 
   -- of this task, it alone is left
   its_own : (gid : ℕ) → is_running (Some task) (group_of s.loop gid).parent ≡ false → is_running (Some id) gid ≡ false
-  its_own gid f = ne_eqb id gid (λ e. false≢true (sym f ∙ eq-eqb task (group_of s.loop gid).parent (sym (ap (λ k. (group_of s.loop k).parent) (sym e) ∙ group_its))))
+  its_own gid f = ne_eqb id gid
+      (λ e. false≢true (sym f ∙ eq-eqb task (group_of s.loop gid).parent (sym (ap (λ k. (group_of s.loop k).parent) (sym e) ∙ group_its))))
 
   others_stood : (other gid : ℕ) → is_running (Some task) other ≡ false → (generator_of other s).standing ≡ Leaving gid → StandsRightly s other
       → is_running (Some id) gid ≡ false

@@ -52,7 +52,8 @@ right_from : (blocks : List EnteredBlock) (exchanges : List Exchange) → list_a
 right_from blocks [] h k = h
 right_from blocks (x ∷ exchanges) h k =
     right_from (opened_with blocks x.request x.answer) exchanges
-    (right_step blocks x.request x.answer h (and_first (names_block x.request x.answer) (list_all (λ (y : Exchange). names_block y.request y.answer) exchanges) k))
+    (right_step blocks x.request x.answer h
+    (and_first (names_block x.request x.answer) (list_all (λ (y : Exchange). names_block y.request y.answer) exchanges) k))
     (and_second (names_block x.request x.answer) (list_all (λ (y : Exchange). names_block y.request y.answer) exchanges) k)
 
 is_timeout : (value : Value) → named_rightly (OfTimeout value) ≡ true → (id : ℕ) × (value ≡ Timeout id)

@@ -1,5 +1,6 @@
 -- Each request of a task in its step is fit, and what it comes to is sound; and so is the end of the task.
-use Rattle.std.proofs.Common.{◌≡◌, ℕ, ℤ, pos, ◌<◌, ◌≤◌, ◌⊎◌, inl, inr, Bool, true, false, not, ◌&&◌, List, [], ◌∷◌, Option, Some, None, Result, Ok, Err, is_some, length, map, slice_get, if◌then◌else◌, refl, sym, ap, subst, ◌∙◌, arith}
+use Rattle.std.proofs.Common.{◌≡◌, ℕ, ℤ, pos, ◌<◌, ◌≤◌, ◌⊎◌, inl, inr, Bool, true, false, not, ◌&&◌, List, [], ◌∷◌, Option, Some, None, Result, Ok, Err}
+use Rattle.std.proofs.Common.{is_some, length, map, slice_get, if◌then◌else◌, refl, sym, ap, subst, ◌∙◌, arith}
 use Rattle.std.specs.List.{list_any}
 use Rattle.std.specs.Option.{option_map_or}
 use Rattle.std.proofs.lemmas.Bool.{cases_eq, cases_lt, eq-eqb, eqb-true, false≢true}
@@ -23,7 +24,9 @@ use Rattle.model_loop.specs.Tasks.{cancelling, finish, future_of, is_cancelled, 
 use Rattle.model_loop.specs.Timeouts.{has_expired, is_active, next_timeout, reschedule, reschedule_fault, timeout_of}
 use Rattle.model_machine.specs.Arguments.{as_awaited, as_delay, as_failure, as_future, as_group, as_int, as_list, as_task, as_timeout}
 use Rattle.model_machine.specs.Extra.{Extra}
-use Rattle.model_machine.specs.Replies.{RequestReply, awaits, counted, creates, ended, enters_group, enters_timeout, exits_as, exits_group, exits_timeout, given, is_cancelled_as, makes_future, numbered, requests, reschedules, reschedules_if, result_of, settles, shown_all, sleeps, spawns, undefined, reply}
+use Rattle.model_machine.specs.Replies.{RequestReply, awaits, counted, creates, ended, enters_group, enters_timeout, exits_as, exits_group, exits_timeout}
+use Rattle.model_machine.specs.Replies.{given, is_cancelled_as, makes_future, numbered, requests, reschedules, reschedules_if, result_of, settles, shown_all}
+use Rattle.model_machine.specs.Replies.{sleeps, spawns, undefined, reply}
 use Rattle.model_machine.specs.Sound.{IsStateSound, blocks_of, is_open, names_block, names_made}
 use Rattle.model_machine.specs.State.{Asked, Leaving, State, generator_of, in_loop, noted, resumed, unbooked_in, with_loop}
 use Rattle.model_machine.specs.Step.{says_of}
@@ -51,7 +54,8 @@ use Rattle.law_replies.proofs.Exiting.{timeout_there, timeout_open, exits_timeou
 use Rattle.law_inside.proofs.Given.{Made, asked_leaves, of_all, said_made, task_made}
 use Rattle.law_replies.proofs.Innermost.{innermost_timeout, innermost_group}
 use Rattle.law_inside.proofs.Keeping.{joined, open_of, with_open, tapes_blocks, futures_kept, loop_keeps, stays_stood, leaves_none}
-use Rattle.law_replies.proofs.Table.{same_tapes, self, thrown, given_in, numbered_in, answered, valued, pauses_in, awaits_in, sleeps_in, result_in, settles_in, requests_in, uncancels_in, makes_future_in}
+use Rattle.law_replies.proofs.Table.{same_tapes, self, thrown, given_in, numbered_in, answered, valued, pauses_in, awaits_in, sleeps_in, result_in, settles_in}
+use Rattle.law_replies.proofs.Table.{requests_in, uncancels_in, makes_future_in}
 use Rattle.law_inside.proofs.Tapes.{past_default}
 
 same_open : (state : TimeoutState) → is_open state ≡ true → is_open_there state ≡ true
@@ -109,7 +113,8 @@ module _ {S : Type 0} (added : Extra S) (task : ℕ) (s : State S) (step : IsSte
         where
           at : (b : Bool) → (group_of s.loop k).exiting ≡ b → (group_of s.loop k).exiting ≡ false
           at false e = e
-          at true e = absurd (step.exits k (and_both (group_of s.loop k).exiting (not (group_of s.loop k).ended) e (not_false (group_of s.loop k).ended open_)) its)
+          at true e = absurd
+              (step.exits k (and_both (group_of s.loop k).exiting (not (group_of s.loop k).ended) e (not_false (group_of s.loop k).ended open_)) its)
 
   pub fits_in : (asked : Request) → says_of step_limit added task s ≡ Asks asked → is_added asked ≡ false → IsFit asked s
   fits_in (request.Await x) says own = λ on e none.
@@ -178,10 +183,12 @@ module _ {S : Type 0} (added : Extra S) (keeps : KeepsSound added) (task : ℕ) 
       false (Send Nothing) (λ b. refl) refl refl
 
   timeout_in : (value : Value) (raised : Option Exc) → says_of step_limit added task s ≡ Asks (request.TimeoutExit value raised)
-      → RepliesSound task (given (as_timeout value) (exits_timeout raised) s) → RepliesInStep added false task (given (as_timeout value) (exits_timeout raised) s)
+      → RepliesSound task (given (as_timeout value) (exits_timeout raised) s)
+      → RepliesInStep added false task (given (as_timeout value) (exits_timeout raised) s)
   timeout_in value raised says h =
       let r = innermost_timeout added task s (step.others.blocks.entered task) value raised says in
-      subst (λ v. RepliesSound task (given (as_timeout v) (exits_timeout raised) s) → RepliesInStep added false task (given (as_timeout v) (exits_timeout raised) s))
+      subst (λ v. RepliesSound task (given (as_timeout v) (exits_timeout raised) s)
+      → RepliesInStep added false task (given (as_timeout v) (exits_timeout raised) s))
       (sym r.1)
       (exits_timeout_in added task s raised r.0
       (asked_is added task s step (request.TimeoutExit (Timeout r.0) raised) (says ∙ ap (λ v. Asks (request.TimeoutExit v raised)) r.1)) r.2.0 r.2.1) h
@@ -209,7 +216,8 @@ module _ {S : Type 0} (added : Extra S) (keeps : KeepsSound added) (task : ℕ) 
   pub reply_in : (asked : Request) → says_of step_limit added task s ≡ Asks asked → RepliesInStep added false task (reply added task asked s)
   unfolding reply
   reply_in request.Pause says =
-      pauses_in added task s request.Pause (asked_is added task s step request.Pause says) (λ b i. refl) (λ i. refl) step.begun refl (sound_of request.Pause says refl)
+      pauses_in added task s request.Pause (asked_is added task s step request.Pause says) (λ b i. refl) (λ i. refl) step.begun refl
+      (sound_of request.Pause says refl)
   reply_in (request.Await x) says =
       let q = request.Await x in let is = asked_is added task s step q says in
       given_in added task s q is (λ b f. refl) (λ f. refl) (as_awaited s x) (awaits task) (sound_of q says refl)

@@ -1,5 +1,6 @@
 -- Requests that enter no block and leave none: what they come to is sound inside the step, or ends it.
-use Rattle.std.proofs.Common.{◌≡◌, ℕ, zero, suc, ◌+◌, ◌<◌, ◌⊎◌, inl, inr, ℤ, pos, negsuc, Bool, true, false, cond, not, ◌&&◌, ◌==◌, List, [], ◌∷◌, ◌++◌, Option, Some, None, is_some, length, nat_lt, slice_get, refl, sym, ap, subst, ◌∙◌, le_refl, arith}
+use Rattle.std.proofs.Common.{◌≡◌, ℕ, zero, suc, ◌+◌, ◌<◌, ◌⊎◌, inl, inr, ℤ, pos, negsuc, Bool, true, false, cond, not, ◌&&◌, ◌==◌, List, [], ◌∷◌, ◌++◌, Option}
+use Rattle.std.proofs.Common.{Some, None, is_some, length, nat_lt, slice_get, refl, sym, ap, subst, ◌∙◌, le_refl, arith}
 use Rattle.std.specs.Option.{option_map_or}
 use Rattle.std.proofs.lemmas.Bool.{cases_eq, eq-eqb, ne_eqb, false≢true}
 use Rattle.std.proofs.lemmas.Option.{none-some}
@@ -24,7 +25,8 @@ use Rattle.model_loop.specs.Suspend.{suspend}
 use Rattle.model_loop.specs.Tasks.{cancelling, next_task, pause, uncancel}
 use Rattle.model_machine.specs.Extra.{Extra}
 use Rattle.model_machine.specs.Outcomes.{input_of}
-use Rattle.model_machine.specs.Replies.{RequestReply, alarmed, awaits, awaits_as, counted, ended, given, makes_future, most_ids, not_set, numbered, numbered_if, pauses, replied, requests, result_of, settles, settles_if, sleeps, waits, invalid_state}
+use Rattle.model_machine.specs.Replies.{RequestReply, alarmed, awaits, awaits_as, counted, ended, given, makes_future, most_ids, not_set, numbered, numbered_if}
+use Rattle.model_machine.specs.Replies.{pauses, replied, requests, result_of, settles, settles_if, sleeps, waits, invalid_state}
 use Rattle.model_machine.specs.Sound.{AreScriptsFutures, IsStateSound, NamesItsSleep, StandsRightly, names_block, names_made, sends_made, stands_at}
 use Rattle.model_machine.specs.State.{Standing, Asked, Sleeping, Leaving, State, generator_of, in_loop, resumed, stands, unbooked_in}
 use Rattle.law_cancel.proofs.Lookups.{get-push_last, get-push_other, get_within}

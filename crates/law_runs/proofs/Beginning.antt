@@ -1,5 +1,6 @@
 -- A step begins by a handle that steps its task: what the task stands at says what the input means, and the answer is sound.
-use Rattle.std.proofs.Common.{◌≡◌, ℕ, zero, suc, ◌<◌, ◌≤◌, ◌+◌, ◌⊎◌, inl, inr, Bool, true, false, cond, not, ◌&&◌, ◌==◌, List, [], ◌∷◌, ◌++◌, Option, Some, None, length, slice_get, if◌then◌else◌, refl, sym, ap, subst, ◌∙◌, arith}
+use Rattle.std.proofs.Common.{◌≡◌, ℕ, zero, suc, ◌<◌, ◌≤◌, ◌+◌, ◌⊎◌, inl, inr, Bool, true, false, cond, not, ◌&&◌, ◌==◌, List, [], ◌∷◌, ◌++◌, Option, Some}
+use Rattle.std.proofs.Common.{None, length, slice_get, if◌then◌else◌, refl, sym, ap, subst, ◌∙◌, arith}
 use mathlib.Core.List.{nil≢cons}
 use Rattle.std.specs.List.{count_by}
 use Rattle.std.specs.Option.{option_and_then, option_map_or}
@@ -28,7 +29,8 @@ use Rattle.model_machine.specs.Extra.{Extra}
 use Rattle.model_machine.specs.Outcomes.{input_of, woken_with}
 use Rattle.model_machine.specs.Replies.{RequestReply, decides, exits_as, replied}
 use Rattle.model_machine.specs.Sound.{IsStateSound, NamesItsSleep, ends_sleep_of, blocks_of, names_block, names_made, sends_made, stands_at}
-use Rattle.model_machine.specs.State.{Standing, Asked, Sleeping, Leaving, Serving, Generator, State, generator_of, noted, resumed, stands, unbooked_in, with_loop}
+use Rattle.model_machine.specs.State.{Standing, Asked, Sleeping, Leaving, Serving, Generator, State, generator_of, noted, resumed, stands, unbooked_in}
+use Rattle.model_machine.specs.State.{with_loop}
 use Rattle.model_machine.specs.Step.{given_up, says_of}
 use Rattle.model_machine.specs.Told.{told_in}
 use Rattle.law_settling.specs.Frames.{taken}
@@ -50,7 +52,8 @@ use Rattle.law_inside.proofs.Counts.{and_first, and_second, and_both, not_true, 
 use Rattle.law_replies.proofs.Exiting.{group_there, exits_in, leaving_is}
 use Rattle.law_inside.proofs.Given.{asked_leaves}
 use Rattle.law_replies.proofs.Innermost.{innermost_group}
-use Rattle.law_inside.proofs.Keeping.{IsApart, apart_of, but_none, open_of, with_open, says_same, tapes_blocks, futures_kept, loop_keeps, stays_stood, leaves_none, stood_standing, stood_tape, stood_says, stood_blocks, stands_keeps}
+use Rattle.law_inside.proofs.Keeping.{IsApart, apart_of, but_none, open_of, with_open, says_same, tapes_blocks, futures_kept, loop_keeps, stays_stood}
+use Rattle.law_inside.proofs.Keeping.{leaves_none, stood_standing, stood_tape, stood_says, stood_blocks, stands_keeps}
 use Rattle.law_replies.proofs.Table.{same_tapes, sleeps_leaves}
 use Rattle.law_inside.proofs.Tapes.{past_default}
 
@@ -199,7 +202,8 @@ module _ {S : Type 0} (added : Extra S) (s : State S) (task : ℕ) (input : Inpu
   -- ---- the loop, once the step began
   taken_first : IsAfter (names_made (next_task s.loop.parts)) false (Some task) s.loop.parts (taken rest s.loop.parts)
   taken_first =
-      taken_after (names_made (next_task s.loop.parts)) false (Some task) handle rest s.loop.parts first (λ other f. at other f (is_step other handle.action) refl)
+      taken_after (names_made (next_task s.loop.parts)) false (Some task) handle rest s.loop.parts first
+      (λ other f. at other f (is_step other handle.action) refl)
     where
       off : (b : Bool) → (b && false) ≡ false
       off true = refl
@@ -235,8 +239,11 @@ module _ {S : Type 0} (added : Extra S) (s : State S) (task : ℕ) (input : Inpu
       sleep_named tag e (λ k action. not (is_sleep_end action)) (λ k action h. no_end_no_sleep task action h)
   standing_fit (Leaving id) e n =
       let now = (sound.standing task stepped_lives).leaving_now id e in
-      let out = and_first (group_of s.loop id).exiting (not (group_of s.loop id).ended) now in
-      (inside id out (cases_lt id (length s.loop.groups)), out, not_true (group_of s.loop id).ended (and_second (group_of s.loop id).exiting (not (group_of s.loop id).ended) now))
+      let out = and_first (group_of s.loop id).exiting (not (group_of s.loop id).ended) now in (
+        inside id out (cases_lt id (length s.loop.groups)),
+        out,
+        not_true (group_of s.loop id).ended (and_second (group_of s.loop id).exiting (not (group_of s.loop id).ended) now),
+      )
     where
       inside : (id : ℕ) → (group_of s.loop id).exiting ≡ true → (id < length s.loop.groups) ⊎ (length s.loop.groups ≤ id) → id < length s.loop.groups
       inside id out (inl l) = l
@@ -246,8 +253,10 @@ module _ {S : Type 0} (added : Extra S) (s : State S) (task : ℕ) (input : Inpu
   runs_as : (st : Standing) → (generator_of task s).standing ≡ st
       → RunsSound task (stands Asked task (unbooked_in (λ p. (begin_step task input (given_up st gone.loop.parts)).parts) gone))
   runs_as Asked e = runs added s task input handle rest first live mine sound.loop Asked tt
-  runs_as (Sleeping tag) e = runs added s task input handle rest first live mine sound.loop (Sleeping tag) (standing_fit (Sleeping tag) e (λ k x. sleeping_serves tag k x))
-  runs_as (Leaving id) e = runs added s task input handle rest first live mine sound.loop (Leaving id) (standing_fit (Leaving id) e (λ k x. leaving_serves id k x))
+  runs_as (Sleeping tag) e = runs added s task input handle rest first live mine sound.loop (Sleeping tag)
+      (standing_fit (Sleeping tag) e (λ k x. sleeping_serves tag k x))
+  runs_as (Leaving id) e = runs added s task input handle rest first live mine sound.loop (Leaving id)
+      (standing_fit (Leaving id) e (λ k x. leaving_serves id k x))
   runs_as (Serving key) e = runs added s task input handle rest first live mine sound.loop Asked tt
 
   -- ---- its coroutine asks as before
@@ -264,8 +273,10 @@ module _ {S : Type 0} (added : Extra S) (s : State S) (task : ℕ) (input : Inpu
   t_half =
       loop_keeps added s t (record { program = refl; generators = refl }) None (Some task) None (Some task) moved_after.parts (moved_after.parts.same refl)
       (runs_as (generator_of task s).standing refl) (λ other f. refl) over
-      (stays_stood added s t (record { program = refl; generators = refl }) None (Some task) None (Some task) _ _ None None None moved_after (λ other id f e r. refl))
-      (leaves_none added s t (record { program = refl; generators = refl }) None (Some task) None (Some task) _ _ None None None moved_after (λ id f. (refl, refl)))
+      (stays_stood added s t (record { program = refl; generators = refl }) None (Some task) None (Some task) _ _ None None None moved_after
+      (λ other id f e r. refl))
+      (leaves_none added s t (record { program = refl; generators = refl }) None (Some task) None (Some task) _ _ None None None moved_after
+      (λ id f. (refl, refl)))
       (futures_kept s t refl (λ id h. moved_after.parts.plain id h) sound.futures) (apart_of added None None s (but_none added s sound))
 
   pub begun_asked : (asked : Request) → says_of step_limit added task s ≡ Asks asked → IsAsked added task (generator_of task s).standing asked begun

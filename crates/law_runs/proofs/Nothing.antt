@@ -34,7 +34,8 @@ module _ (task : ℕ) (code arguments : Value) (s : State (Unit {0})) (is : IsAs
       items n (Some values) = raised (unknown_code n)
 
       number : (o : Option ℤ)
-          → RepliesInStep no_extra false task (given o (λ n. given (as_list arguments) (λ items now. serves (no_extra.ask task n items now) (woken no_extra task) task now)) s)
+          → RepliesInStep no_extra false task
+          (given o (λ n. given (as_list arguments) (λ items now. serves (no_extra.ask task n items now) (woken no_extra task) task now)) s)
       number None = raised bad_argument
       number (Some n) = items n (as_list arguments)
 

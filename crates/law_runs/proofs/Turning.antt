@@ -1,5 +1,6 @@
 -- A turn leaves a sound state, and so does each callback in it; so every state of a run is sound.
-use Rattle.std.proofs.Common.{◌≡◌, ℕ, zero, suc, ◌+◌, ◌⊎◌, inl, inr, Bool, true, false, not, ◌&&◌, List, [], ◌∷◌, ◌++◌, Option, Some, None, length, max, nat_lt, refl, sym, ap, subst, ◌∙◌, le_refl, arith}
+use Rattle.std.proofs.Common.{◌≡◌, ℕ, zero, suc, ◌+◌, ◌⊎◌, inl, inr, Bool, true, false, not, ◌&&◌, List, [], ◌∷◌, ◌++◌, Option, Some, None, length, max, nat_lt}
+use Rattle.std.proofs.Common.{refl, sym, ap, subst, ◌∙◌, le_refl, arith}
 use Rattle.std.specs.List.{flat_map}
 use Rattle.model_value.specs.Action.{Action}
 use Rattle.model_value.specs.Value.{Value, Nothing, Outcome}
@@ -33,7 +34,8 @@ use Rattle.model_machine.specs.Outside.{actions_of, items_of, news_of, ready_act
 use Rattle.model_machine.specs.Sound.{IsStateSound, is_main_done, names_made}
 use Rattle.model_machine.specs.State.{State, Asked, Serving, in_loop, noted, unbooked_in}
 use Rattle.model_machine.specs.Told.{told_by, told_in}
-use Rattle.model_machine.specs.Turn.{at_time, call_of, cancelled_if, finished_if, is_stalled, next_below, run_below, run_first, run_if, run_pending, turn, turn_over, turn_unless, turned_by, woken_by}
+use Rattle.model_machine.specs.Turn.{at_time, call_of, cancelled_if, finished_if, is_stalled, next_below, run_below, run_first, run_if, run_pending, turn}
+use Rattle.model_machine.specs.Turn.{turn_over, turn_unless, turned_by, woken_by}
 use Rattle.model_machine.specs.Went.{Went, Goes, Stops, answered_by, fitted, went_on}
 use Rattle.law_sound.proofs.Steps.{end_of_run_sound}
 use Rattle.law_turns.specs.SoundState.{HasSoundLoop}

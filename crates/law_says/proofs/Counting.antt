@@ -1,5 +1,6 @@
 -- Each statement asks twice at most, so what is asked along a tape is bounded by the statements that may begin.
-use Rattle.std.proofs.Common.{◌≡◌, ℕ, zero, suc, ◌+◌, ◌*◌, ◌≤◌, Bool, true, false, if◌then◌else◌, List, [], ◌∷◌, ◌++◌, length, Option, Some, None, Result, Ok, Err, refl, ap, sym, ◌∙◌, length-append, arith}
+use Rattle.std.proofs.Common.{◌≡◌, ℕ, zero, suc, ◌+◌, ◌*◌, ◌≤◌, Bool, true, false, if◌then◌else◌, List, [], ◌∷◌, ◌++◌, length, Option, Some, None, Result, Ok}
+use Rattle.std.proofs.Common.{Err, refl, ap, sym, ◌∙◌, length-append, arith}
 use Rattle.std.proofs.lemmas.List.{length-map}
 use Rattle.std.proofs.lemmas.List.Sums.{sum_by-cons}
 use Rattle.model_value.specs.declared.input.Input.TheVariants.{Send, Throw}
@@ -8,14 +9,18 @@ use Rattle.model_value.specs.Input.{Input}
 use Rattle.model_value.specs.Kinds.{matches}
 use Rattle.model_value.specs.Request.{Request}
 use Rattle.model_value.specs.Value.{Value, Nothing, Truth, Exception, Exc, kind_of}
-use Rattle.model_tree.specs.Syntax.{Name, Expr, Exprs, Target, Await, Call, Ask, SpawnTask, CreateTask, ListenAt, Manager, GroupBlock, TimeoutBlock, Statement, Assign, Yield, YieldFrom, Print, Raise, Return, Pass, If, While, Try, With, Statements, no_statements, statement_then, Branch, no_branch, branch, Handlers, no_handlers, handler_then, Program}
+use Rattle.model_tree.specs.Syntax.{Name, Expr, Exprs, Target, Await, Call, Ask, SpawnTask, CreateTask, ListenAt, Manager, GroupBlock, TimeoutBlock, Statement}
+use Rattle.model_tree.specs.Syntax.{Assign, Yield, YieldFrom, Print, Raise, Return, Pass, If, While, Try, With, Statements, no_statements, statement_then}
+use Rattle.model_tree.specs.Syntax.{Branch, no_branch, branch, Handlers, no_handlers, handler_then, Program}
 use Rattle.model_says.specs.Expressions.{value_of, values_of}
 use Rattle.model_says.specs.Variables.{held, entered}
 use Rattle.model_says.specs.Requests.{requested, place_of, coroutine_at}
 use Rattle.model_says.specs.Tape.{Resumed, Tape}
 use Rattle.model_says.specs.Asked.{answers_of, inputs_of}
-use Rattle.model_says.specs.Endings.{Asks, Exchange, Progress, Ending, Passes, Returned, Raised, Stopped, saying_of, progress_of, Next, routed, then_next, given, valued, all_valued, chosen, decided, assign, assign_to, begun, begun_with, resumed_by, taken, asked_of, ask}
-use Rattle.model_says.specs.Says.{too_many_frames, raised, handled, finished, back_in, came_back, Calls, exit_of, managed, exited, turns, looped, to_come, delegated, run, run_all, run_branch, run_handlers, call_within, frame_limit, unbegun, course}
+use Rattle.model_says.specs.Endings.{Asks, Exchange, Progress, Ending, Passes, Returned, Raised, Stopped, saying_of, progress_of, Next, routed, then_next}
+use Rattle.model_says.specs.Endings.{given, valued, all_valued, chosen, decided, assign, assign_to, begun, begun_with, resumed_by, taken, asked_of, ask}
+use Rattle.model_says.specs.Says.{too_many_frames, raised, handled, finished, back_in, came_back, Calls, exit_of, managed, exited, turns, looped, to_come}
+use Rattle.model_says.specs.Says.{delegated, run, run_all, run_branch, run_handlers, call_within, frame_limit, unbegun, course}
 use Rattle.law_says.specs.Steps.{steps_in}
 use Rattle.law_says.proofs.Bodies.{course_here}
 use Rattle.law_says.proofs.Ends.{all_answered}

@@ -40,7 +40,8 @@ nothing_left (Returned value now) request emptied is = absurd (nil≢cons (ap wa
 nothing_left (Raised fault now) request emptied is = absurd (nil≢cons (ap waiting is))
 nothing_left (Stopped saying now) request emptied is = absurd (nil≢cons (ap waiting is))
 
-pub all_answered : (ending : Ending) (request : Request) (inputs : List Input) → Emptied ending → saying_of ending ≡ Asks request → answers_of (progress_of ending).exchanges ++ inputs_of (progress_of ending).tape ≡ inputs → answers_of (progress_of ending).exchanges ≡ inputs
+pub all_answered : (ending : Ending) (request : Request) (inputs : List Input) → Emptied ending → saying_of ending ≡ Asks request
+    → answers_of (progress_of ending).exchanges ++ inputs_of (progress_of ending).tape ≡ inputs → answers_of (progress_of ending).exchanges ≡ inputs
 all_answered ending request inputs emptied is takes =
     sym (append-nil (answers_of (progress_of ending).exchanges))
     ∙ ap (λ t. answers_of (progress_of ending).exchanges ++ inputs_of t) (sym (nothing_left ending request emptied is))
@@ -52,15 +53,22 @@ passes_on (Passes now) = refl
 passes_on _ = refl
 
 module _ (limit : ℕ) (program : Program) (call : Calls) (last : Statement) where
-  run_last : (body : Statements) (now : Progress) → run_all limit program call (statements (statements_of body ++ last ∷ [])) now ≡ then_next (run limit program call last) (run_all limit program call body now)
+  run_last : (body : Statements) (now : Progress) → run_all limit program call (statements (statements_of body ++ last ∷ [])) now
+      ≡ then_next (run limit program call last) (run_all limit program call body now)
   run_last no_statements now = passes_on (run limit program call last now)
   run_last (statement_then first others) now = by_ending (run limit program call first now) (run_last others)
     where
-      by_ending : (ending : Ending) → ((at : Progress) → run_all limit program call (statements (statements_of others ++ last ∷ [])) at ≡ then_next (run limit program call last) (run_all limit program call others at)) → then_next (run_all limit program call (statements (statements_of others ++ last ∷ []))) ending ≡ then_next (run limit program call last) (then_next (run_all limit program call others) ending)
+      by_ending : (ending : Ending)
+          → ((at : Progress) → run_all limit program call (statements (statements_of others ++ last ∷ [])) at
+          ≡ then_next (run limit program call last) (run_all limit program call others at))
+          → then_next (run_all limit program call (statements (statements_of others ++ last ∷ []))) ending
+          ≡ then_next (run limit program call last) (then_next (run_all limit program call others) ending)
       by_ending (Passes at) same = same at
       by_ending _ same = refl
 
-pub loop_as_body : (limit : ℕ) (program : Program) (frames : ℕ) (test : Expr) (body : Statements) (now : Progress) → run limit program (call_within limit program frames) (While test body) now ≡ run limit program (call_within limit program frames) (If test (statements (statements_of body ++ While test body ∷ [])) no_branch) now
+pub loop_as_body : (limit : ℕ) (program : Program) (frames : ℕ) (test : Expr) (body : Statements) (now : Progress)
+    → run limit program (call_within limit program frames) (While test body) now
+    ≡ run limit program (call_within limit program frames) (If test (statements (statements_of body ++ While test body ∷ [])) no_branch) now
 loop_as_body limit program frames test body now =
     let call = call_within limit program frames in
     let body_sound = sound_run_all limit program call (sound_call_within limit program frames) body in

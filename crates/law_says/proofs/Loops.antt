@@ -7,7 +7,8 @@ use Rattle.model_says.specs.Endings.{Runaway, Progress, Ending, Passes, Stopped,
 use Rattle.model_says.specs.Says.{to_come, turns, looped}
 
 -- what begins behind the first statement
-begun-same : (next next' : Next) (now : Progress) → ((left : ℕ) → now.left ≡ suc left → next (record now { left = left }) ≡ next' (record now { left = left })) → begun next now ≡ begun next' now
+begun-same : (next next' : Next) (now : Progress) → ((left : ℕ) → now.left ≡ suc left → next (record now { left = left }) ≡ next' (record now { left = left }))
+    → begun next now ≡ begun next' now
 begun-same next next' now same = go now.left refl
   where
     go : (left : ℕ) → now.left ≡ left → begun_with left next now ≡ begun_with left next' now
@@ -34,7 +35,8 @@ module _ (test : Expr) (body : Next) where
 
 module _ (limit : ℕ) where
   -- what comes behind an ending is met only where that passes
-  then_next-same : (next next' : Next) (bound : ℕ) → ((now : Progress) → to_come limit now ≤ bound → next now ≡ next' now) → (ending : Ending) → to_come limit (progress_of ending) ≤ bound → then_next next ending ≡ then_next next' ending
+  then_next-same : (next next' : Next) (bound : ℕ) → ((now : Progress) → to_come limit now ≤ bound → next now ≡ next' now) → (ending : Ending)
+      → to_come limit (progress_of ending) ≤ bound → then_next next ending ≡ then_next next' ending
   then_next-same next next' bound same (Passes now) below = same now below
   then_next-same next next' bound same _ below = refl
 
@@ -43,7 +45,8 @@ module _ (limit : ℕ) where
   one_less now left e = omega (arith, e)
 
   module _ (test : Expr) (body : Next) (spends : (now : Progress) → to_come limit (progress_of (body now)) ≤ to_come limit now) where
-    tested-same : (next next' : Next) (bound : ℕ) → ((now : Progress) → to_come limit now ≤ bound → next now ≡ next' now) → (now : Progress) → to_come limit now ≤ bound → tested test body next now ≡ tested test body next' now
+    tested-same : (next next' : Next) (bound : ℕ) → ((now : Progress) → to_come limit now ≤ bound → next now ≡ next' now) → (now : Progress)
+        → to_come limit now ≤ bound → tested test body next now ≡ tested test body next' now
     tested-same next next' bound same now below =
         decided-same test (behind test body next) (behind test body next') Passes now
         (then_next-same next next' bound same (body now) (le_trans (spends now) below))

@@ -1,5 +1,6 @@
 -- What each piece of a coroutine's body does to its progress, and what a longer tape changes.
-use Rattle.std.proofs.Common.{◌≡◌, ℕ, zero, suc, ◌+◌, ◌*◌, ◌≤◌, Bool, true, false, if◌then◌else◌, List, [], ◌∷◌, ◌++◌, map, length, Result, Ok, Err, refl, sym, ◌∙◌, ap, subst, append_assoc, append-nil, le_refl, le_trans, arith}
+use Rattle.std.proofs.Common.{◌≡◌, ℕ, zero, suc, ◌+◌, ◌*◌, ◌≤◌, Bool, true, false, if◌then◌else◌, List, [], ◌∷◌, ◌++◌, map, length, Result, Ok, Err, refl, sym}
+use Rattle.std.proofs.Common.{◌∙◌, ap, subst, append_assoc, append-nil, le_refl, le_trans, arith}
 use Rattle.model_value.specs.Input.{Input}
 use Rattle.model_value.specs.declared.input.Input.TheVariants.{Send, Throw}
 use Rattle.model_value.specs.Request.{Request}
@@ -10,7 +11,8 @@ use Rattle.model_says.specs.Variables.{Env}
 use Rattle.model_says.specs.Expressions.{value_of, values_of}
 use Rattle.model_says.specs.Operations.{bad_operand}
 use Rattle.model_says.specs.Tape.{Resumed, Tape}
-use Rattle.model_says.specs.Endings.{Asks, Runaway, Exchange, Progress, Ending, Passes, Returned, Raised, Stopped, saying_of, progress_of, Next, routed, given, valued, all_valued, chosen, decided, begun, begun_with, resumed_by, taken, asked_of, ask}
+use Rattle.model_says.specs.Endings.{Asks, Runaway, Exchange, Progress, Ending, Passes, Returned, Raised, Stopped, saying_of, progress_of, Next, routed, given}
+use Rattle.model_says.specs.Endings.{valued, all_valued, chosen, decided, begun, begun_with, resumed_by, taken, asked_of, ask}
 use Rattle.model_says.specs.Says.{to_come, back_in}
 use Rattle.law_says.proofs.Loops.{one_less}
 
@@ -77,7 +79,8 @@ abbrev pub Sound : ℕ → Next → Type 0
 Sound limit next = (bound : ℕ) → SoundBelow limit bound next
 
 -- ---- ends at once
-kept : (limit : ℕ) (now : Progress) (ending : Ending) → (progress_of ending).exchanges ≡ now.exchanges → (progress_of ending).tape ≡ now.tape → (progress_of ending).left ≡ now.left → Emptied ending → Here limit now ending
+kept : (limit : ℕ) (now : Progress) (ending : Ending) → (progress_of ending).exchanges ≡ now.exchanges → (progress_of ending).tape ≡ now.tape
+    → (progress_of ending).left ≡ now.left → Emptied ending → Here limit now ending
 kept limit now ending exchanges tape left emptied =
     record {
       grows = subst (λ l. IsFront now.exchanges l) (sym exchanges) (front_refl now.exchanges);
@@ -119,35 +122,42 @@ sound_in_env limit bound env next sound =
     }
 
 -- ---- expressions
-pub sound_given : {A : Type 0} (limit bound : ℕ) (next : A → Next) (result : Result A Exc) → ((value : A) → SoundBelow limit bound (next value)) → SoundBelow limit bound (given next result)
+pub sound_given : {A : Type 0} (limit bound : ℕ) (next : A → Next) (result : Result A Exc) → ((value : A) → SoundBelow limit bound (next value))
+    → SoundBelow limit bound (given next result)
 sound_given limit bound next (Ok value) sound =
     record { here = λ now below. (sound value).here now below; extends = λ more now below. (sound value).extends more now below }
 sound_given limit bound next (Err fault) sound =
     record { here = (sound_raised limit fault bound).here; extends = (sound_raised limit fault bound).extends }
 
-pub sound_valued : (limit bound : ℕ) (expr : Expr) (next : Value → Next) → ((value : Value) → SoundBelow limit bound (next value)) → SoundBelow limit bound (valued expr next)
+pub sound_valued : (limit bound : ℕ) (expr : Expr) (next : Value → Next) → ((value : Value) → SoundBelow limit bound (next value))
+    → SoundBelow limit bound (valued expr next)
 sound_valued limit bound expr next sound =
     sound_by_env limit bound (λ env. given next (value_of expr env)) (λ env. sound_given limit bound next (value_of expr env) sound)
 
-pub sound_all_valued : (limit bound : ℕ) (exprs : Exprs) (next : List Value → Next) → ((values : List Value) → SoundBelow limit bound (next values)) → SoundBelow limit bound (all_valued exprs next)
+pub sound_all_valued : (limit bound : ℕ) (exprs : Exprs) (next : List Value → Next) → ((values : List Value) → SoundBelow limit bound (next values))
+    → SoundBelow limit bound (all_valued exprs next)
 sound_all_valued limit bound exprs next sound =
     sound_by_env limit bound (λ env. given next (values_of exprs env)) (λ env. sound_given limit bound next (values_of exprs env) sound)
 
-pub sound_if : (limit bound : ℕ) (test : Bool) (next next' : Next) → SoundBelow limit bound next → SoundBelow limit bound next' → SoundBelow limit bound (if test then next else next')
+pub sound_if : (limit bound : ℕ) (test : Bool) (next next' : Next) → SoundBelow limit bound next → SoundBelow limit bound next'
+    → SoundBelow limit bound (if test then next else next')
 sound_if limit bound true next next' sound sound' = sound
 sound_if limit bound false next next' sound sound' = sound'
 
-sound_chosen : (limit bound : ℕ) (next next' : Next) → SoundBelow limit bound next → SoundBelow limit bound next' → (value : Value) → SoundBelow limit bound (chosen next next' value)
+sound_chosen : (limit bound : ℕ) (next next' : Next) → SoundBelow limit bound next → SoundBelow limit bound next' → (value : Value)
+    → SoundBelow limit bound (chosen next next' value)
 sound_chosen limit bound next next' sound sound' (Truth true) = sound
 sound_chosen limit bound next next' sound sound' (Truth false) = sound'
 sound_chosen limit bound next next' sound sound' _ = sound_raised limit bad_operand bound
 
-pub sound_decided : (limit bound : ℕ) (test : Expr) (next next' : Next) → SoundBelow limit bound next → SoundBelow limit bound next' → SoundBelow limit bound (decided test next next')
+pub sound_decided : (limit bound : ℕ) (test : Expr) (next next' : Next) → SoundBelow limit bound next → SoundBelow limit bound next'
+    → SoundBelow limit bound (decided test next next')
 sound_decided limit bound test next next' sound sound' =
     sound_valued limit bound test (chosen next next') (sound_chosen limit bound next next' sound sound')
 
 -- ---- requests
-sound_resumed_by : (limit bound : ℕ) (input : Input) (next : Value → Next) → ((value : Value) → SoundBelow limit bound (next value)) → SoundBelow limit bound (resumed_by input next)
+sound_resumed_by : (limit bound : ℕ) (input : Input) (next : Value → Next) → ((value : Value) → SoundBelow limit bound (next value))
+    → SoundBelow limit bound (resumed_by input next)
 sound_resumed_by limit bound (Send value) next sound = sound value
 sound_resumed_by limit bound (Throw fault) next sound = sound_raised limit fault bound
 
@@ -156,13 +166,15 @@ left_after limit true left rest = omega arith
 left_after limit false left rest = omega arith
 
 -- taking an input leaves no more statements to come
-taken_less : (limit : ℕ) (request : Request) (entry : Resumed) (tape : Tape) (now : Progress) → now.tape ≡ entry ∷ tape → to_come limit (taken limit request entry tape now) ≤ to_come limit now
+taken_less : (limit : ℕ) (request : Request) (entry : Resumed) (tape : Tape) (now : Progress) → now.tape ≡ entry ∷ tape
+    → to_come limit (taken limit request entry tape now) ≤ to_come limit now
 taken_less limit request entry tape now is =
     let length_is : limit * length now.tape ≡ limit * suc (length tape) = ap (λ t. limit * length t) is in
     omega (arith, length_is, left_after limit entry.fresh now.left (limit * length tape))
 
 module _ (limit bound : ℕ) (request : Request) (next : Value → Next) (sound : (value : Value) → SoundBelow limit bound (next value)) where
-  here_taken : (now : Progress) (entry : Resumed) (tape : Tape) → now.tape ≡ entry ∷ tape → to_come limit now ≤ bound → Here limit now (resumed_by entry.input next (taken limit request entry tape now))
+  here_taken : (now : Progress) (entry : Resumed) (tape : Tape) → now.tape ≡ entry ∷ tape → to_come limit now ≤ bound
+      → Here limit now (resumed_by entry.input next (taken limit request entry tape now))
   here_taken now entry tape is below =
       let less = taken_less limit request entry tape now is in
       let there = (sound_resumed_by limit bound entry.input next sound).here (taken limit request entry tape now) (le_trans less below) in
@@ -182,7 +194,8 @@ module _ (limit bound : ℕ) (request : Request) (next : Value → Next) (sound 
   ask_here now (entry ∷ tape) is below = here_taken now entry tape is below
 
   -- a request that waited is asked first, whatever comes
-  asked_first : (now : Progress) (tape : Tape) → now.tape ≡ tape → to_come limit now ≤ bound → IsFront (asked (Stopped (Asks request) now)) (asked (asked_of limit request next tape now))
+  asked_first : (now : Progress) (tape : Tape) → now.tape ≡ tape → to_come limit now ≤ bound
+      → IsFront (asked (Stopped (Asks request) now)) (asked (asked_of limit request next tape now))
   asked_first now [] is below = front_refl (asked (Stopped (Asks request) now))
   asked_first now (entry ∷ tape) is below =
       let less = taken_less limit request entry tape now is in
@@ -191,7 +204,8 @@ module _ (limit bound : ℕ) (request : Request) (next : Value → Next) (sound 
       subst (λ front. IsFront front (asked ending)) (requests-append now.exchanges (record { request = request; answer = entry.input } ∷ []))
       (requests-front (taken limit request entry tape now).exchanges (progress_of ending).exchanges (waiting (saying_of ending)) there.grows)
 
-  ask_extends : (more : Tape) (now : Progress) (tape : Tape) → now.tape ≡ tape → to_come limit (extended more now) ≤ bound → Extends more (asked_of limit request next tape now) (asked_of limit request next (tape ++ more) (extended more now))
+  ask_extends : (more : Tape) (now : Progress) (tape : Tape) → now.tape ≡ tape → to_come limit (extended more now) ≤ bound
+      → Extends more (asked_of limit request next tape now) (asked_of limit request next (tape ++ more) (extended more now))
   ask_extends more now [] is below = asked_first (extended more now) more (ap (λ t. t ++ more) is) below
   ask_extends more now (entry ∷ tape) is below =
       let less = taken_less limit request entry (tape ++ more) (extended more now) (ap (λ t. t ++ more) is) in
@@ -218,7 +232,8 @@ module _ (limit bound : ℕ) (next : Next) (sound : SoundBelow limit bound next)
         empties = there.empties;
       }
 
-  begun_extends : (more : Tape) (now : Progress) (left : ℕ) → now.left ≡ left → to_come limit (extended more now) ≤ suc bound → Extends more (begun_with left next now) (begun_with left next (extended more now))
+  begun_extends : (more : Tape) (now : Progress) (left : ℕ) → now.left ≡ left → to_come limit (extended more now) ≤ suc bound
+      → Extends more (begun_with left next now) (begun_with left next (extended more now))
   begun_extends more now zero is below = refl
   begun_extends more now (suc left) is below =
       let less = one_less limit (extended more now) left is in
@@ -252,26 +267,30 @@ afterwards limit now first second here there =
       empties = there.empties;
     }
 
-asked-front : (now : Progress) (ending : Ending) → IsFront now.exchanges (progress_of ending).exchanges → IsFront (requests_of now.exchanges ++ []) (asked ending)
+asked-front : (now : Progress) (ending : Ending) → IsFront now.exchanges (progress_of ending).exchanges
+    → IsFront (requests_of now.exchanges ++ []) (asked ending)
 asked-front now ending front =
     subst (λ l. IsFront l (asked ending)) (sym (append-nil (requests_of now.exchanges)))
     (requests-front now.exchanges (progress_of ending).exchanges (waiting (saying_of ending)) front)
 
 module _ (limit bound : ℕ) (pass : Next) (return : Value → Next) (raise : Exc → Next)
-    (sound_pass : SoundBelow limit bound pass) (sound_return : (value : Value) → SoundBelow limit bound (return value)) (sound_raise : (fault : Exc) → SoundBelow limit bound (raise fault)) where
+    (sound_pass : SoundBelow limit bound pass) (sound_return : (value : Value) → SoundBelow limit bound (return value))
+    (sound_raise : (fault : Exc) → SoundBelow limit bound (raise fault)) where
   asked_on : (ending : Ending) → to_come limit (progress_of ending) ≤ bound → IsFront (asked ending) (asked (routed pass return raise ending))
   asked_on (Passes now) below = asked-front now (pass now) (sound_pass.here now below).grows
   asked_on (Returned value now) below = asked-front now (return value now) ((sound_return value).here now below).grows
   asked_on (Raised fault now) below = asked-front now (raise fault now) ((sound_raise fault).here now below).grows
   asked_on (Stopped saying now) below = front_refl (asked (Stopped saying now))
 
-  routed_here : (now : Progress) (ending : Ending) → Here limit now ending → to_come limit (progress_of ending) ≤ bound → Here limit now (routed pass return raise ending)
+  routed_here : (now : Progress) (ending : Ending) → Here limit now ending → to_come limit (progress_of ending) ≤ bound
+      → Here limit now (routed pass return raise ending)
   routed_here now (Passes at) here below = afterwards limit now (Passes at) (pass at) here (sound_pass.here at below)
   routed_here now (Returned value at) here below = afterwards limit now (Returned value at) (return value at) here ((sound_return value).here at below)
   routed_here now (Raised fault at) here below = afterwards limit now (Raised fault at) (raise fault at) here ((sound_raise fault).here at below)
   routed_here now (Stopped saying at) here below = here
 
-  routed_extends : (more : Tape) (short long : Ending) → Extends more short long → to_come limit (progress_of long) ≤ bound → Extends more (routed pass return raise short) (routed pass return raise long)
+  routed_extends : (more : Tape) (short long : Ending) → Extends more short long → to_come limit (progress_of long) ≤ bound
+      → Extends more (routed pass return raise short) (routed pass return raise long)
   routed_extends more (Passes now) long is below =
       subst (λ l. Extends more (pass now) (routed pass return raise l)) (sym is)
       (sound_pass.extends more now (subst (λ l. to_come limit (progress_of l) ≤ bound) is below))

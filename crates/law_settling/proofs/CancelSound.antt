@@ -1,5 +1,6 @@
 -- A request keeps the parts sound.
-use Rattle.std.proofs.Common.{◌≡◌, ℕ, suc, ◌<◌, ◌⊎◌, Bool, true, false, List, [], Option, Some, None, length, option_map, slice_get, slice_set, refl, ap, sym, subst, ◌∙◌, inl, inr, arith, ◌≤◌}
+use Rattle.std.proofs.Common.{◌≡◌, ℕ, suc, ◌<◌, ◌⊎◌, Bool, true, false, List, [], Option, Some, None, length, option_map, slice_get, slice_set, refl, ap, sym}
+use Rattle.std.proofs.Common.{subst, ◌∙◌, inl, inr, arith, ◌≤◌}
 use Rattle.std.proofs.lemmas.Bool.{cases_eq, cases_Bool, cases_lt, false≢true}
 use Rattle.std.proofs.lemmas.Option.{none-some, slice_get_within}
 use Rattle.std.specs.List.{count_by}
@@ -17,11 +18,13 @@ use Rattle.law_cancel.proofs.Lookups.{get-set_other}
 use Rattle.law_cancel.proofs.Counting.{change_task-kept}
 use Rattle.law_cancel.proofs.Effects.{mark_asked-tasks}
 use Rattle.law_settling.specs.Frames.{IsNoTask, Covers, IsOnWaiter}
-use Rattle.model_loop.specs.Owning.{owner_in, owner_at, owner_of, own_future, OwnsFutures, AreSettled, AreCallbacks, is_no_callback, is_plain, is_plain_at, is_plain_kind}
+use Rattle.model_loop.specs.Owning.{owner_in, owner_at, owner_of, own_future, OwnsFutures, AreSettled, AreCallbacks, is_no_callback, is_plain, is_plain_at}
+use Rattle.model_loop.specs.Owning.{is_plain_kind}
 use Rattle.model_loop.specs.Sound.{ArePartsSound}
 use Rattle.law_settling.proofs.Settling.{IsSettled, settle_effect, count_fewer, settle_cases}
 use Rattle.law_settling.proofs.SettleWays.{settled-waiter, settled-pending, settled-lives, settled_keeps}
-use Rattle.law_settling.proofs.Looks.{LooksSame, future_of-owned, spent_grows_below, same-lives, same_ways, same_owns, same_settled, same_may, same_marks, change_looks_same, asked_looks_same, same_callbacks, same_ready}
+use Rattle.law_settling.proofs.Looks.{LooksSame, future_of-owned, spent_grows_below, same-lives, same_ways, same_owns, same_settled, same_may, same_marks}
+use Rattle.law_settling.proofs.Looks.{change_looks_same, asked_looks_same, same_callbacks, same_ready}
 use Rattle.law_settling.proofs.Spreading.{CanBeMarked, begins, settles, asks, raises, marks, with_spread, Spreads}
 use Rattle.model_value.specs.declared.action.Action.TheVariants.{Step, StepInCircle, Wakeup}
 use Rattle.model_value.specs.Action.{Action}

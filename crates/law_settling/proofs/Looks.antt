@@ -1,5 +1,6 @@
 -- A step that changes none of what the facts look at keeps them.
-use Rattle.std.proofs.Common.{◌≡◌, ℕ, zero, suc, ◌+◌, ◌<◌, ◌⊎◌, Bool, true, false, not, ◌&&◌, List, [], ◌∷◌, Option, Some, None, is_none, length, option_map, slice_get, slice_set, refl, ap, sym, subst, ◌∙◌, inl, inr}
+use Rattle.std.proofs.Common.{◌≡◌, ℕ, zero, suc, ◌+◌, ◌<◌, ◌⊎◌, Bool, true, false, not, ◌&&◌, List, [], ◌∷◌, Option, Some, None, is_none, length, option_map}
+use Rattle.std.proofs.Common.{slice_get, slice_set, refl, ap, sym, subst, ◌∙◌, inl, inr}
 use Rattle.std.proofs.Math.ListN.{length-set}
 use Rattle.std.proofs.lemmas.Bool.{and_parts, and_from, false≢true}
 use Rattle.std.specs.List.{count_by, list_all}
@@ -16,7 +17,8 @@ use Rattle.model_loop.specs.Marks.{MarksWait, MayBeMarked}
 use Rattle.law_cancel.proofs.Lookups.{get-set_kept}
 use Rattle.law_cancel.proofs.Effects.{asked_as, change_task-futures, length-change_task, mark_asked-futures, mark_asked-tasks}
 use Rattle.law_cancel.proofs.Counting.{change_task-kept}
-use Rattle.model_loop.specs.Owning.{owner_in, owner_at, owner_of, own_future, OwnsFutures, AreSettled, AreCallbacks, is_no_callback, is_plain_kind, is_plain_at, is_plain}
+use Rattle.model_loop.specs.Owning.{owner_in, owner_at, owner_of, own_future, OwnsFutures, AreSettled, AreCallbacks, is_no_callback, is_plain_kind, is_plain_at}
+use Rattle.model_loop.specs.Owning.{is_plain}
 use Rattle.model_loop.specs.Circles.{passes_until, passes_at}
 use Rattle.model_loop.specs.Sound.{HasNoCircle}
 use Rattle.model_loop.specs.Children.{tells}

@@ -1,5 +1,6 @@
 -- What each step of the loop carries on: what is numbered, that no circle is, what is called and scheduled.
-use Rattle.std.proofs.Common.{◌≡◌, ℕ, Bool, List, None, Option, Some, [], ap, arith, cond, false, inl, inr, is_some, length, not, refl, slice_get, sym, true, ◌&&◌, ◌++◌, ◌==◌, ◌||◌, ◌∙◌, ◌∷◌, ◌⊎◌}
+use Rattle.std.proofs.Common.{◌≡◌, ℕ, Bool, List, None, Option, Some, [], ap, arith, cond, false, inl, inr, is_some, length, not, refl, slice_get, sym, true}
+use Rattle.std.proofs.Common.{◌&&◌, ◌++◌, ◌==◌, ◌||◌, ◌∙◌, ◌∷◌, ◌⊎◌}
 use Rattle.model_loop.specs.Parts.{Future, FutureKind, Handle, OfTask, Parts, Plain, Task}
 use Rattle.model_loop.specs.Tasks.{cancelling, change_task, future_of, lives, next_task, spawn, uncancel, waiter_of}
 use Rattle.model_loop.specs.Totals.{callbacks_at, callbacks_of}
@@ -7,8 +8,11 @@ use Rattle.law_numbers.proofs.Falling.{new_plain_numbers, spawn_numbers}
 use Rattle.model_value.specs.Value.{Exc, Nothing, Outcome}
 use Rattle.model_loop.specs.Futures.{make_future, new_plain, next_future, register, registered, registered_on, settle}
 use Rattle.model_loop.specs.Handles.{soon}
-use Rattle.law_timeouts.proofs.Quiet.{change_task_quiet, make_quiet, mark_asked_quiet, quiet_on, refl_quiet, register_quiet, settle_quiet, soon_quiet, spawn_quiet, taken_quiet}
-use Rattle.model_loop.specs.Groups.{Refusal, abort, abort_and_request_unless, abort_if_raised, abort_where, begin_exit, blame, child_done, create, create_unless, end_exit, exit_begin, exit_woken, failure_of, group_of, hear, keep_and_abort_unless, refusal, set_group, take_back, take_back_where, wait_or_end, wait_or_end_with, wake_exit, wake_if_last, with_child, without_child}
+use Rattle.law_timeouts.proofs.Quiet.{change_task_quiet, make_quiet, mark_asked_quiet, quiet_on, refl_quiet, register_quiet, settle_quiet, soon_quiet}
+use Rattle.law_timeouts.proofs.Quiet.{spawn_quiet, taken_quiet}
+use Rattle.model_loop.specs.Groups.{Refusal, abort, abort_and_request_unless, abort_if_raised, abort_where, begin_exit, blame, child_done, create}
+use Rattle.model_loop.specs.Groups.{create_unless, end_exit, exit_begin, exit_woken, failure_of, group_of, hear, keep_and_abort_unless, refusal, set_group}
+use Rattle.model_loop.specs.Groups.{take_back, take_back_where, wait_or_end, wait_or_end_with, wake_exit, wake_if_last, with_child, without_child}
 use Rattle.std.specs.Option.{option_map_or, option_to_list}
 use Rattle.model_loop.specs.Numbered.{IsNumbered}
 use Rattle.law_cancel.proofs.Effects.{register-tasks}

@@ -6,7 +6,8 @@ use Rattle.law_sound.proofs.Steps.{build, holds_of, off, rest_of, tells_of}
 use Rattle.law_ledger.proofs.Quietly.{create_quietly, group_quietly, make_group_quietly, quietly_tells, woken_quietly}
 use Rattle.model_value.specs.Input.{Input}
 use Rattle.law_ledger.proofs.Booking.{begin_tells, child_done_tells}
-use Rattle.law_sound.proofs.Carrying.{LoopCarries, begin_loop, child_done_loop, create_loop, group_loop, loop_on, parts_loop, refl_carries, taken_carries, woken_loop}
+use Rattle.law_sound.proofs.Carrying.{LoopCarries, begin_loop, child_done_loop, create_loop, group_loop, loop_on, parts_loop, refl_carries, taken_carries}
+use Rattle.law_sound.proofs.Carrying.{woken_loop}
 use Rattle.model_loop.specs.Deadlines.{HasTag, fires}
 use Rattle.model_value.specs.declared.action.Action.TheVariants.{GroupDone}
 use Rattle.model_loop.specs.Children.{told_more}

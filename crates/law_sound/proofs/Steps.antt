@@ -1,5 +1,6 @@
 -- Each kind of step keeps a sound state sound.
-use Rattle.std.proofs.Common.{◌≡◌, ℕ, Bool, Err, List, None, Ok, Option, Result, Some, ap, arith, cond, false, inl, inr, not, refl, slice_get, slice_index_or, subst, sym, true, ◌&&◌, ◌+◌, ◌<◌, ◌==◌, ◌∙◌, ◌∷◌, ◌⊎◌}
+use Rattle.std.proofs.Common.{◌≡◌, ℕ, Bool, Err, List, None, Ok, Option, Result, Some, ap, arith, cond, false, inl, inr, not, refl, slice_get, slice_index_or}
+use Rattle.std.proofs.Common.{subst, sym, true, ◌&&◌, ◌+◌, ◌<◌, ◌==◌, ◌∙◌, ◌∷◌, ◌⊎◌}
 use Rattle.law_numbers.proofs.Falling.{due_numbers, new_many_numbers}
 use Rattle.law_numbers.proofs.Numbering.{later_numbers, revoke_numbers, taken_numbers}
 use Rattle.model_loop.specs.Balance.{Balances, TasksBalance, lowers}
@@ -13,7 +14,8 @@ use Rattle.law_told.proofs.Holding.{cancel_holds, looks_holds, request_each_hold
 use Rattle.law_ledger.proofs.Quietly.{book_quietly, each_none, parts_quietly, quietly_tells, request_none, suspend_none, uncancel_none}
 use Rattle.law_timeouts.specs.Tags.{HaveTags, IsQuiet, KeepsTags}
 use Rattle.law_settling.proofs.Looks.{LooksSame, handles_look_same}
-use Rattle.law_sound.proofs.Carrying.{Carries, LoopCarries, book_loop, cancel_carries, carries_on, change_carries, each_carries, looks_carries, parts_loop, plain_carries, settle_carries, soon_carries, spawn_carries, taken_carries, uncancel_carries}
+use Rattle.law_sound.proofs.Carrying.{Carries, LoopCarries, book_loop, cancel_carries, carries_on, change_carries, each_carries, looks_carries, parts_loop}
+use Rattle.law_sound.proofs.Carrying.{plain_carries, settle_carries, soon_carries, spawn_carries, taken_carries, uncancel_carries}
 use Rattle.model_loop.specs.Loop.{Loop, Timeout, book, in_parts}
 use Rattle.model_value.specs.Action.{Action}
 use Rattle.model_loop.specs.Tasks.{begin_step, cancelling, change_task, finish, future_of, next_task, pause, set_waiter, spawn, uncancel, unmark}

@@ -1,5 +1,6 @@
 -- The ends of a step keep the parts sound: a return, an exception, a bare yield.
-use Rattle.std.proofs.Common.{◌≡◌, ℕ, ◌+◌, ◌⊎◌, true, false, cond, not, ◌&&◌, Option, Some, None, is_none, slice_get, refl, subst, ◌∙◌, inl, inr, arith, Err, Ok, Result, ◌<◌}
+use Rattle.std.proofs.Common.{◌≡◌, ℕ, ◌+◌, ◌⊎◌, true, false, cond, not, ◌&&◌, Option, Some, None, is_none, slice_get, refl, subst, ◌∙◌, inl, inr, arith, Err}
+use Rattle.std.proofs.Common.{Ok, Result, ◌<◌}
 use Rattle.std.proofs.lemmas.Bool.{cases_eq, cases_Bool, false≢true, eq-eqb, ne_eqb}
 use Rattle.model_value.specs.declared.outcome.Outcome.TheVariants.{Value as Returned, Cancelled}
 use Rattle.model_value.specs.Action.{Action}

@@ -1,5 +1,6 @@
 -- A step's beginning and its ends keep the parts sound.
-use Rattle.std.proofs.Common.{◌≡◌, ℕ, zero, suc, ◌+◌, ◌<◌, ◌⊎◌, Bool, true, false, cond, not, ◌&&◌, List, ◌∷◌, Option, Some, None, length, option_map, slice_get, slice_set, refl, ap, sym, subst, ◌∙◌, inl, inr, arith, ◌≤◌}
+use Rattle.std.proofs.Common.{◌≡◌, ℕ, zero, suc, ◌+◌, ◌<◌, ◌⊎◌, Bool, true, false, cond, not, ◌&&◌, List, ◌∷◌, Option, Some, None, length, option_map}
+use Rattle.std.proofs.Common.{slice_get, slice_set, refl, ap, sym, subst, ◌∙◌, inl, inr, arith, ◌≤◌}
 use Rattle.std.proofs.lemmas.Bool.{cases_eq, cases_Bool, false≢true, eqb-true, eq-eqb, ne_eqb}
 use Rattle.std.proofs.lemmas.Option.{same_Some, none-some, slice_get_past}
 use Rattle.std.proofs.lemmas.List.Sums.{sum_by-cons}
@@ -22,7 +23,8 @@ use Rattle.law_settling.specs.Frames.{taken}
 use Rattle.law_settling.proofs.Settling.{IsSettled, fewer_pending}
 use Rattle.law_settling.proofs.SettleWays.{settled-waiter, settled-future, settled-pending, settled-lives, settled-ways, settled-wakeups, settled-gone}
 use Rattle.law_settling.proofs.Looks.{future_of-same, spent-futures, change_looks_same, change_task-pending, LooksSame}
-use Rattle.law_settling.proofs.CancelSound.{settled_may, settled_marked, settled_settled, settled_owns, same_sound, settled_callbacks, settled_ready, wakes_steps}
+use Rattle.law_settling.proofs.CancelSound.{settled_may, settled_marked, settled_settled, settled_owns, same_sound, settled_callbacks, settled_ready}
+use Rattle.law_settling.proofs.CancelSound.{wakes_steps}
 use Rattle.model_value.specs.Input.{Input}
 
 -- ---- what a task waits for, and a mark, by its number

@@ -1,13 +1,16 @@
 -- What is read stays in order.
-use Rattle.std.proofs.Common.{◌≡◌, ℕ, ◌+◌, ◌-◌, ◌*◌, ◌≤◌, ℤ, pos, negsuc, Bool, true, false, cond, eqb, ltb, leb, ◌||◌, ◌&&◌, not, List, [], ◌∷◌, ◌++◌, Some, None, length, take, drop, min, refl, ap, sym, ◌∙◌, arith}
+use Rattle.std.proofs.Common.{◌≡◌, ℕ, ◌+◌, ◌-◌, ◌*◌, ◌≤◌, ℤ, pos, negsuc, Bool, true, false, cond, eqb, ltb, leb, ◌||◌, ◌&&◌, not, List, [], ◌∷◌, ◌++◌, Some}
+use Rattle.std.proofs.Common.{None, length, take, drop, min, refl, ap, sym, ◌∙◌, arith}
 use lib.Chars.{codes}
 use Rattle.std.proofs.lemmas.List.{append_assoc, append-nil, take-append-drop, take_min, drop_all, length-drop, length-append}
 use Rattle.std.proofs.lemmas.Bool.Decides.{nat_tests}
 use Rattle.model_value.specs.Value.{Exc}
 use Rattle.model_stream.specs.declared.read_op.ReadOp.TheVariants.{UpTo, Exactly, Until, Line}
-use Rattle.model_stream.specs.Reading.{Reading, ReadOp, Take, take_read, take_up_to, take_exactly, take_until, take_line, gives, raises, needs, removes, unless_failed, incomplete, first_at, until_found, until_unfound, line_at, unended_line, newline, feed}
+use Rattle.model_stream.specs.Reading.{Reading, ReadOp, Take, take_read, take_up_to, take_exactly, take_until, take_line, gives, raises, needs, removes}
+use Rattle.model_stream.specs.Reading.{unless_failed, incomplete, first_at, until_found, until_unfound, line_at, unended_line, newline, feed}
 use Rattle.model_stream.specs.Sending.{is_nothing}
-use Rattle.law_stream.specs.ReaderSteps.{TakesFront, ReaderStep, Feeds, FeedsEnd, Fails, Resumes, Takes, after, fed_in, taken_away, gone_in, all_after, fed, gone, joined, feed_all}
+use Rattle.law_stream.specs.ReaderSteps.{TakesFront, ReaderStep, Feeds, FeedsEnd, Fails, Resumes, Takes, after, fed_in, taken_away, gone_in, all_after, fed}
+use Rattle.law_stream.specs.ReaderSteps.{gone, joined, feed_all}
 
 -- ---- each operation takes a front
 front_given : (count : ℕ) (held : List ℕ) → TakesFront (gives count held) held

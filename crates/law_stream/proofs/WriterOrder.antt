@@ -1,10 +1,12 @@
 -- What is written stays in order.
-use Rattle.std.proofs.Common.{◌≡◌, ℕ, ◌≤◌, arith, zero, suc, Bool, true, false, cond, leb, List, [], ◌∷◌, ◌++◌, Option, Some, None, length, take, drop, refl, ap, sym, ◌∙◌, inl, inr, ◌⊎◌}
+use Rattle.std.proofs.Common.{◌≡◌, ℕ, ◌≤◌, arith, zero, suc, Bool, true, false, cond, leb, List, [], ◌∷◌, ◌++◌, Option, Some, None, length, take, drop, refl}
+use Rattle.std.proofs.Common.{ap, sym, ◌∙◌, inl, inr, ◌⊎◌}
 use Rattle.std.proofs.lemmas.List.{append_assoc, append-nil, take-append-drop, take-take, length-take}
 use Rattle.model_stream.specs.declared.put.Put.{Put}
 use Rattle.model_stream.specs.declared.put.Put.TheVariants.{Offer, Kept, Empty, AfterEof, Dropped}
 use Rattle.model_stream.specs.Sending.{Writer, put_as, put_answer, took, resume_mark, resumed_under, paused_over, with_marks, marks_of, is_nothing}
-use Rattle.law_stream.specs.WriterSteps.{WriterStep, Writes, Takes, SetsMarks, WritesEnd, IsLost, after, written_as, written_in, handed_in, dropped_in, after_all, written, handed, dropped}
+use Rattle.law_stream.specs.WriterSteps.{WriterStep, Writes, Takes, SetsMarks, WritesEnd, IsLost, after, written_as, written_in, handed_in, dropped_in}
+use Rattle.law_stream.specs.WriterSteps.{after_all, written, handed, dropped}
 
 -- ---- what is unsent after each step, and that it ended
 record LeftUnsent (w after : Writer) (unsent : List ℕ) : Type 0 where

@@ -1,5 +1,6 @@
 -- Each request of a task in its step leaves what is owed covered.
-use Rattle.std.proofs.Common.{◌≡◌, ℕ, zero, suc, ◌≤◌, ◌<◌, ℤ, pos, negsuc, Bool, true, false, cond, not, ◌&&◌, ◌==◌, List, [], ◌∷◌, Option, Some, None, length, nat_lt, is_some, slice_index_or, refl, sym, ap, subst, ◌∙◌, le_refl, arith}
+use Rattle.std.proofs.Common.{◌≡◌, ℕ, zero, suc, ◌≤◌, ◌<◌, ℤ, pos, negsuc, Bool, true, false, cond, not, ◌&&◌, ◌==◌, List, [], ◌∷◌, Option, Some, None, length}
+use Rattle.std.proofs.Common.{nat_lt, is_some, slice_index_or, refl, sym, ap, subst, ◌∙◌, le_refl, arith}
 use Rattle.std.specs.List.{count_by, list_any}
 use Rattle.std.specs.Option.{option_map_or}
 use Rattle.std.proofs.lemmas.Bool.{eq-eqb, eqb-true, ltb-true, false≢true}
@@ -15,7 +16,8 @@ use Rattle.model_says.specs.Blocks.{open_blocks}
 use Rattle.model_says.specs.Endings.{Asks}
 use Rattle.model_says.specs.Says.{course, step_limit}
 use Rattle.model_loop.specs.Futures.{new_plain, next_future, settle}
-use Rattle.model_loop.specs.Groups.{GroupExit, Waits, Passes, Raises as RaisedBy, Refusal, create, exit_begin, exit_woken, group_of, new_group, next_group, refusal}
+use Rattle.model_loop.specs.Groups.{GroupExit, Waits, Passes, Raises as RaisedBy, Refusal, create, exit_begin, exit_woken, group_of, new_group, next_group}
+use Rattle.model_loop.specs.Groups.{refusal}
 use Rattle.model_loop.specs.Ledger.{ByScript, ask_cancel, uncancel_by}
 use Rattle.model_loop.specs.Loop.{TimeoutState, Created, Active, Expiring, Expired, Finished, Loop, book, in_parts}
 use Rattle.model_loop.specs.Sound.{IsSound}
@@ -26,7 +28,10 @@ use Rattle.model_machine.specs.Arguments.{as_future, as_awaited, as_task, as_tim
 use Rattle.model_machine.specs.Extra as extra
 use Rattle.model_machine.specs.Extra.{Extra, ExtraAnswer, ExtraSaid, called}
 use Rattle.model_machine.specs.Outcomes.{input_of}
-use Rattle.model_machine.specs.Replies.{RequestReply, given, most_ids, numbered_if, numbered, replied, ended, result_of, waits, awaits_as, awaits, alarmed, sleeps, makes_future, settles_if, settles, requests, counted, spawns, enters_timeout, timed_out_if, exits_timeout, reschedules_if, reschedules, enters_group, exits_as, exits_group, creates_unless, creates, Wake, serves_until, serves_as, serves, woken_within, woken, reply, decides}
+use Rattle.model_machine.specs.Replies.{RequestReply, given, most_ids, numbered_if, numbered, replied, ended, result_of, waits, awaits_as, awaits, alarmed}
+use Rattle.model_machine.specs.Replies.{sleeps, makes_future, settles_if, settles, requests, counted, spawns, enters_timeout, timed_out_if, exits_timeout}
+use Rattle.model_machine.specs.Replies.{reschedules_if, reschedules, enters_group, exits_as, exits_group, creates_unless, creates, Wake, serves_until}
+use Rattle.model_machine.specs.Replies.{serves_as, serves, woken_within, woken, reply, decides}
 use Rattle.model_machine.specs.Sound.{AreBlocksOf, AreBlocksOpen, blocks_of, has_open, is_open}
 use Rattle.model_machine.specs.State.{Standing, Asked, Sleeping, Leaving, Serving, Generator, State, generator, in_loop, with_loop}
 use Rattle.model_machine.specs.Step.{says_of}

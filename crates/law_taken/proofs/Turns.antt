@@ -1,5 +1,6 @@
 -- Callbacks, turns and runs leave what is owed covered, so the ledger is right.
-use Rattle.std.proofs.Common.{◌≡◌, ℕ, zero, suc, ◌≤◌, Bool, true, false, not, ◌&&◌, List, [], ◌∷◌, Option, Some, None, Ok, Err, filter, length, nat_le, nat_lt, refl, ap, subst, ◌∙◌, le_refl, arith}
+use Rattle.std.proofs.Common.{◌≡◌, ℕ, zero, suc, ◌≤◌, Bool, true, false, not, ◌&&◌, List, [], ◌∷◌, Option, Some, None, Ok, Err, filter, length, nat_le, nat_lt}
+use Rattle.std.proofs.Common.{refl, ap, subst, ◌∙◌, le_refl, arith}
 use Rattle.std.proofs.lemmas.Bool.{eq-eqb}
 use Rattle.model_value.specs.Action.{Action}
 use Rattle.model_value.specs.Input.{Input}
@@ -29,7 +30,8 @@ use Rattle.model_machine.specs.Replies.{RequestReply, Answers, Raises, Rests, Ha
 use Rattle.model_machine.specs.Sound.{IsStateSound, sends_made}
 use Rattle.model_machine.specs.State.{Standing, Asked, Sleeping, Leaving, Serving, State, generator_of, noted, stands, start, unbooked_in}
 use Rattle.model_machine.specs.Step.{given_up, most_answers, says_of, serve, serve_all, served, step, taken_as}
-use Rattle.model_machine.specs.Turn.{at_time, call_of, cancelled_if, effect, finished_if, is_stalled, next_below, ran, run_below, run_first, run_if, run_pending, turn, turn_over, turn_unless, turned_by, woken_by}
+use Rattle.model_machine.specs.Turn.{at_time, call_of, cancelled_if, effect, finished_if, is_stalled, next_below, ran, run_below, run_first, run_if}
+use Rattle.model_machine.specs.Turn.{run_pending, turn, turn_over, turn_unless, turned_by, woken_by}
 use Rattle.model_machine.specs.Went.{Went, Goes, Stops, answered_by, fitted, state_of, went_on}
 use Rattle.law_cancel.proofs.Effects.{soon_all-tasks}
 use Rattle.law_after.proofs.Requests.{begin_after}

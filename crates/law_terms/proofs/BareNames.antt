@@ -14,11 +14,14 @@ use Rattle.law_terms.proofs.Lift.{around-none, unwound-none}
 use Rattle.law_terms.proofs.Within.{Step, Inner, content-step}
 
 -- ---- nothing can be read any more in the bracket
-none-within : (x : Lexeme) → Inner x → (p : TermProgress) (k : ℕ) (o : Open) (os : List Open) → MovesPast x (contents_at (term_within (suc k)) o.bracket p) (λ rest. None) → Step k x p (o ∷ os) None
+none-within : (x : Lexeme) → Inner x → (p : TermProgress) (k : ℕ) (o : Open) (os : List Open)
+    → MovesPast x (contents_at (term_within (suc k)) o.bracket p) (λ rest. None) → Step k x p (o ∷ os) None
 none-within x i p k o os m = record {
   fuel = k;
   enough = omega arith;
-  moves = subst (MovesPast x (meaning_within (suc k) p (o ∷ os))) (ap (unwound (suc (suc k)) (depth_behind 1 x) (ends_operand x) os) (around-none (term_within (suc (suc k))) o (depth_behind 1 x) (ends_operand x)) ∙ unwound-none os (suc (suc k)) (depth_behind 1 x) (ends_operand x)) (content-step x i p (suc k) o os (λ rest. None) m);
+  moves = subst (MovesPast x (meaning_within (suc k) p (o ∷ os)))
+      (ap (unwound (suc (suc k)) (depth_behind 1 x) (ends_operand x) os) (around-none (term_within (suc (suc k))) o (depth_behind 1 x) (ends_operand x))
+      ∙ unwound-none os (suc (suc k)) (depth_behind 1 x) (ends_operand x)) (content-step x i p (suc k) o os (λ rest. None) m);
 }
 
 module _ (inside : Parser Term) where
@@ -50,7 +53,8 @@ module _ (k : ℕ) where
   named-step (o ∷ os) kind i = record {
     fuel = suc k;
     enough = omega arith;
-    moves = content-step (Named kind) i AtKind (suc k) o os (contents_at (term_within (suc k)) o.bracket (BehindKind kind)) (kind-at (term_within (suc k)) o.bracket kind);
+    moves = content-step (Named kind) i AtKind (suc k) o os (contents_at (term_within (suc k)) o.bracket (BehindKind kind))
+        (kind-at (term_within (suc k)) o.bracket kind);
   }
 
   pub kind-step : (opened : List Open) (x : Lexeme) → Inner x → Step k x AtKind opened (at_kind opened x)

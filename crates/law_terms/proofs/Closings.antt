@@ -8,7 +8,8 @@ use Rattle.model_text.specs.Cutting.{depth_behind, ends_operand, before_last}
 use Rattle.model_text.specs.Terms.{Term}
 use Rattle.model_text.specs.Levels.{Parser, bare_name, term_within}
 use Rattle.law_reading.specs.Operands.{Operand}
-use Rattle.law_reading.specs.Reader.{Bracket, Group, Item, Items, Arguments, Open, TermProgress, Start, AtNot, AtOperand, BehindName, BehindOperand, AtKind, BehindKind, reading}
+use Rattle.law_reading.specs.Reader.{Bracket, Group, Item, Items, Arguments, Open, TermProgress, Start, AtNot, AtOperand, BehindName, BehindOperand, AtKind}
+use Rattle.law_reading.specs.Reader.{BehindKind, reading}
 use Rattle.law_reading.specs.Ends.{closing, whole, at_closing}
 use Rattle.law_reading.proofs.Options.{and_then-map, map-none}
 use Rattle.law_reading.proofs.Levels.{primary_level}
@@ -31,7 +32,9 @@ module _ (x : Lexeme) (c : Closer x) where
   module _ (inside : Parser Term) where
     nothing-behind : (bracket : Bracket) (b : Bool) (p : TermProgress) → MovesPast x (contents inside bracket 0 b (expression inside p)) (λ rest. None)
     nothing-behind bracket b p =
-        subst (MovesPast x (contents inside bracket 0 b (expression inside p))) (contents-none inside bracket (depth_behind 0 x) (ends_operand x)) (contents-moves inside bracket 0 b x (expression inside p) (λ rest. None) (ap (λ test. if test then Some x else None) c.no_comma) (dead-at inside x (c.dead inside) p))
+        subst (MovesPast x (contents inside bracket 0 b (expression inside p))) (contents-none inside bracket (depth_behind 0 x) (ends_operand x))
+        (contents-moves inside bracket 0 b x (expression inside p) (λ rest. None) (ap (λ test. if test then Some x else None) c.no_comma)
+        (dead-at inside x (c.dead inside) p))
 
     -- nothing in the bracket stands behind its end
     over : (bracket : Bracket) (p : TermProgress) → MovesPast x (contents_at inside bracket p) (λ rest. None)
@@ -49,14 +52,17 @@ module _ (x : Lexeme) (c : Closer x) where
     over (Items items) (BehindKind kind) = record { at = λ rest. refl }
     over (Arguments name bare arguments) (BehindKind kind) = behind-other inside name bare arguments kind x c.no_comma
 
-  last-at : (f : Parser Operand) (found : Option Operand) → f [] ≡ found → (test : Bool) → option_and_then f (if test then Some [] else None) ≡ (if test then found else None)
+  last-at : (f : Parser Operand) (found : Option Operand) → f [] ≡ found → (test : Bool) → option_and_then f (if test then Some [] else None)
+      ≡ (if test then found else None)
   last-at f found e true = e
   last-at f found e false = refl
 
-  closes : (bracket : Bracket) (f : Parser Operand) (found : Option Operand) → f [] ≡ found → MovesPast x f (λ rest. None) → (rest : List Lexeme) → closed bracket f (x ∷ rest) ≡ ends (if is_sign (closing bracket) x then found else None) rest
+  closes : (bracket : Bracket) (f : Parser Operand) (found : Option Operand) → f [] ≡ found → MovesPast x f (λ rest. None) → (rest : List Lexeme)
+      → closed bracket f (x ∷ rest) ≡ ends (if is_sign (closing bracket) x then found else None) rest
   closes bracket f found e m [] = last-at f found e (is_sign (closing bracket) x)
   closes bracket f found e m (y ∷ ys) =
-      and_then-map (λ inner. x ∷ inner) f (before_last (closing bracket) (y ∷ ys)) ∙ map-none (λ inner. f (x ∷ inner)) (before_last (closing bracket) (y ∷ ys)) m.at
+      and_then-map (λ inner. x ∷ inner) f (before_last (closing bracket) (y ∷ ys))
+      ∙ map-none (λ inner. f (x ∷ inner)) (before_last (closing bracket) (y ∷ ys)) m.at
 
   ends-none : ends None ≡ (λ rest. None)
   ends-none = fun_ext go
@@ -79,14 +85,20 @@ module _ (x : Lexeme) (c : Closer x) where
         let first : Parser Operand = around (term_within (suc (suc k))) o 1 b content in
         let next : Parser Operand = primary_level (term_within (suc (suc k))) o.loose o.tight (depth_behind 1 x) (ends_operand x) (ends found) in
         let step : MovesPast x first next = primary-moves 1 b x (term_within (suc (suc k))) (uncut-inside 0 b x) o.loose o.tight (closed o.bracket content) (ends found) refl m in
-        subst (MovesPast x (unwound (suc (suc k)) 1 b os first)) (ap (λ d. outside d (ends_operand x) found) c.depth ∙ ap (λ behind. outside 0 behind found) c.behind) (lift x os (suc (suc k)) 0 b first next refl step)
+        subst (MovesPast x (unwound (suc (suc k)) 1 b os first))
+        (ap (λ d. outside d (ends_operand x) found) c.depth ∙ ap (λ behind. outside 0 behind found) c.behind)
+        (lift x os (suc (suc k)) 0 b first next refl step)
 
-    next : (found : Option Operand) → outside 0 true found ≡ meaning (suc (suc k)) (option_and_then (λ operand. reading (BehindOperand o.loose o.tight operand) os) found)
+    next : (found : Option Operand) → outside 0 true found
+        ≡ meaning (suc (suc k)) (option_and_then (λ operand. reading (BehindOperand o.loose o.tight operand) os) found)
     next (Some operand) = goes_on-behind o.loose o.tight operand (suc (suc k)) os
     next None =
-        ap (λ f. unwound (suc (suc k)) 0 true os (primary_level (term_within (suc (suc k))) o.loose o.tight 0 true f)) ends-none ∙ unwound-none os (suc (suc k)) 0 true
+        ap (λ f. unwound (suc (suc k)) 0 true os (primary_level (term_within (suc (suc k))) o.loose o.tight 0 true f)) ends-none
+        ∙ unwound-none os (suc (suc k)) 0 true
 
-    same : (test : Bool) (found : Option Operand) → option_and_then (λ operand. reading (BehindOperand o.loose o.tight operand) os) (if test then found else None) ≡ (if test then option_and_then (λ operand. reading (BehindOperand o.loose o.tight operand) os) found else None)
+    same : (test : Bool) (found : Option Operand)
+        → option_and_then (λ operand. reading (BehindOperand o.loose o.tight operand) os) (if test then found else None)
+        ≡ (if test then option_and_then (λ operand. reading (BehindOperand o.loose o.tight operand) os) found else None)
     same true found = refl
     same false found = refl
 
@@ -99,7 +111,8 @@ module _ (x : Lexeme) (c : Closer x) where
         record {
           fuel = suc (suc k);
           enough = omega arith;
-          moves = subst (MovesPast x (meaning_within (suc k) p (o ∷ os))) (next found ∙ ap (meaning (suc (suc k))) (same test (whole o.bracket p))) (outer found closed-is);
+          moves = subst (MovesPast x (meaning_within (suc k) p (o ∷ os))) (next found ∙ ap (meaning (suc (suc k))) (same test (whole o.bracket p)))
+              (outer found closed-is);
         }
 
   pub closing-step : (k : ℕ) (p : TermProgress) (opened : List Open) → Step k x p opened (at_closing x p opened)

@@ -9,7 +9,8 @@ use Rattle.model_text.specs.Levels.{Parser, disjunction, term_within}
 use Rattle.model_text.specs.Cutting.{before_last}
 use Rattle.law_reading.specs.Operands.{Operand, of_two, list_of, call_of}
 use Rattle.law_reading.specs.Pending.{no_loose}
-use Rattle.law_reading.specs.Reader.{Bracket, Group, Item, Items, Arguments, Open, TermProgress, Start, AtNot, AtOperand, BehindName, BehindOperand, AtKind, BehindKind, reading}
+use Rattle.law_reading.specs.Reader.{Bracket, Group, Item, Items, Arguments, Open, TermProgress, Start, AtNot, AtOperand, BehindName, BehindOperand, AtKind}
+use Rattle.law_reading.specs.Reader.{BehindKind, reading}
 use Rattle.law_reading.specs.Ends.{ended, parted, closing, at_comma}
 use Rattle.law_reading.proofs.Levels.{keeping, row_from, primary_level}
 use Rattle.law_reading.proofs.Fresh.{fresh-loose}
@@ -43,27 +44,33 @@ commaed (Arguments name bare arguments) found =
     option_map (λ argument. Arguments name bare (arguments ++ argument ∷ [])) found
 
 module _ (inside : Parser Term) where
-  row-at : (kept : List Operand → Operand) (items : List Operand) (p : TermProgress) (b : Bool) (found : Option Operand) → ended p ≡ found → MovesPast at (row_from kept items (keeping (disjunction inside)) 0 b (expression inside p)) (row_behind inside kept items found)
+  row-at : (kept : List Operand → Operand) (items : List Operand) (p : TermProgress) (b : Bool) (found : Option Operand) → ended p ≡ found
+      → MovesPast at (row_from kept items (keeping (disjunction inside)) 0 b (expression inside p)) (row_behind inside kept items found)
   row-at kept items p b None e =
       comma-ends kept items (keeping (disjunction inside)) (expression inside p) b (expression-ended inside p ∙ e)
   row-at kept items p b (Some item) e =
-      subst (λ f. MovesPast at (row_from kept items (keeping (disjunction inside)) 0 b (expression inside p)) (row_from kept (items ++ item ∷ []) (keeping (disjunction inside)) 0 false f)) (fresh-loose inside) (comma-goes_on kept items (keeping (disjunction inside)) (expression inside p) b item (expression-ended inside p ∙ e))
+      subst (λ f. MovesPast at (row_from kept items (keeping (disjunction inside)) 0 b (expression inside p))
+      (row_from kept (items ++ item ∷ []) (keeping (disjunction inside)) 0 false f)) (fresh-loose inside)
+      (comma-goes_on kept items (keeping (disjunction inside)) (expression inside p) b item (expression-ended inside p ∙ e))
 
   items-behind : (items : List Operand) (found : Option Operand) → row_behind inside list_of items found ≡ behind inside (commaed (Items items) found)
   items-behind items None = refl
   items-behind items (Some item) = refl
 
-  arguments-behind : (name : Name) (bare : Option Name) (arguments : List Operand) (found : Option Operand) → row_behind inside (call_of name bare) arguments found ≡ behind inside (commaed (Arguments name bare arguments) found)
+  arguments-behind : (name : Name) (bare : Option Name) (arguments : List Operand) (found : Option Operand)
+      → row_behind inside (call_of name bare) arguments found ≡ behind inside (commaed (Arguments name bare arguments) found)
   arguments-behind name bare arguments None = refl
   arguments-behind name bare arguments (Some argument) = refl
 
-  regular-at : (bracket : Bracket) (p : TermProgress) (b : Bool) → MovesPast at (contents inside bracket 0 b (expression inside p)) (behind inside (commaed bracket (ended p)))
+  regular-at : (bracket : Bracket) (p : TermProgress) (b : Bool)
+      → MovesPast at (contents inside bracket 0 b (expression inside p)) (behind inside (commaed bracket (ended p)))
   regular-at Group p b = dead-at inside at (dead-comma inside) p
   regular-at (Item sequence) p b = record { at = λ rest. ap (option_map (of_two Index sequence)) ((dead-at inside at (dead-comma inside) p).at rest) }
   regular-at (Items items) p b =
       subst (MovesPast at (contents inside (Items items) 0 b (expression inside p))) (items-behind items (ended p)) (row-at list_of items p b (ended p) refl)
   regular-at (Arguments name bare arguments) p b =
-      subst (MovesPast at (contents inside (Arguments name bare arguments) 0 b (expression inside p))) (arguments-behind name bare arguments (ended p)) (row-at (call_of name bare) arguments p b (ended p) refl)
+      subst (MovesPast at (contents inside (Arguments name bare arguments) 0 b (expression inside p))) (arguments-behind name bare arguments (ended p))
+      (row-at (call_of name bare) arguments p b (ended p) refl)
 
   parts-at : (bracket : Bracket) (p : TermProgress) → MovesPast at (contents_at inside bracket p) (behind inside (parted bracket p))
   parts-at Group Start = record { at = (regular-at Group Start false).at }
@@ -91,7 +98,8 @@ module _ (inside : Parser Term) where
   parts-at (Arguments name bare arguments) (AtNot loose) = regular-at (Arguments name bare arguments) (AtNot loose) false
   parts-at (Arguments name bare arguments) (AtOperand loose tight) = regular-at (Arguments name bare arguments) (AtOperand loose tight) false
   parts-at (Arguments name bare arguments) (BehindName loose tight last) = regular-at (Arguments name bare arguments) (BehindName loose tight last) true
-  parts-at (Arguments name bare arguments) (BehindOperand loose tight operand) = regular-at (Arguments name bare arguments) (BehindOperand loose tight operand) true
+  parts-at (Arguments name bare arguments) (BehindOperand loose tight operand) = regular-at (Arguments name bare arguments)
+      (BehindOperand loose tight operand) true
   parts-at (Arguments name bare arguments) AtKind = at-kind-other inside name bare arguments at (λ rest. refl)
   parts-at (Arguments name bare arguments) (BehindKind kind) = behind-comma inside name bare arguments kind
 
@@ -104,7 +112,8 @@ closes-items : (items : List Operand) (found : Option Operand) → Closes (Items
 closes-items items None = tt
 closes-items items (Some item) = refl
 
-closes-arguments : (name : Name) (bare : Option Name) (arguments : List Operand) (found : Option Operand) → Closes (Arguments name bare arguments) (commaed (Arguments name bare arguments) found)
+closes-arguments : (name : Name) (bare : Option Name) (arguments : List Operand) (found : Option Operand)
+    → Closes (Arguments name bare arguments) (commaed (Arguments name bare arguments) found)
 closes-arguments name bare arguments None = tt
 closes-arguments name bare arguments (Some argument) = refl
 
@@ -117,7 +126,8 @@ closes-parted (Arguments name bare arguments) Start = closes-arguments name bare
 closes-parted (Arguments name bare arguments) (AtNot loose) = closes-arguments name bare arguments (ended (AtNot loose))
 closes-parted (Arguments name bare arguments) (AtOperand loose tight) = closes-arguments name bare arguments (ended (AtOperand loose tight))
 closes-parted (Arguments name bare arguments) (BehindName loose tight last) = closes-arguments name bare arguments (ended (BehindName loose tight last))
-closes-parted (Arguments name bare arguments) (BehindOperand loose tight operand) = closes-arguments name bare arguments (ended (BehindOperand loose tight operand))
+closes-parted (Arguments name bare arguments) (BehindOperand loose tight operand) = closes-arguments name bare arguments
+    (ended (BehindOperand loose tight operand))
 closes-parted (Arguments name bare arguments) AtKind = closes-arguments name bare arguments (ended AtKind)
 
 no_closing : (bracket : Bracket) → is_sign (closing bracket) at ≡ false
@@ -127,18 +137,26 @@ no_closing (Items items) = refl
 no_closing (Arguments name bare arguments) = refl
 
 module _ (k : ℕ) (p : TermProgress) (o : Open) (os : List Open) where
-  outer : (g : Parser Operand) → MovesPast at (contents_at (term_within (suc k)) o.bracket p) g → MovesPast at (meaning_within (suc k) p (o ∷ os)) (unwound (suc (suc k)) 1 false os (around (term_within (suc (suc k))) o 1 false g))
+  outer : (g : Parser Operand) → MovesPast at (contents_at (term_within (suc k)) o.bracket p) g
+      → MovesPast at (meaning_within (suc k) p (o ∷ os)) (unwound (suc (suc k)) 1 false os (around (term_within (suc (suc k))) o 1 false g))
   outer g m =
       let b : Bool = is_behind p in
       let content : Parser Operand = contents_at (term_within (suc k)) o.bracket p in
-      lift at os (suc (suc k)) 0 b (around (term_within (suc (suc k))) o 1 b content) (around (term_within (suc (suc k))) o 1 false g) refl (around-moves (term_within (suc (suc k))) o 0 b at content g (closed-other at content g o.bracket (no_closing o.bracket) m))
+      lift at os (suc (suc k)) 0 b (around (term_within (suc (suc k))) o 1 b content) (around (term_within (suc (suc k))) o 1 false g) refl
+      (around-moves (term_within (suc (suc k))) o 0 b at content g (closed-other at content g o.bracket (no_closing o.bracket) m))
 
-  next : (found : Option Bracket) → Closes o.bracket found → MovesPast at (contents_at (term_within (suc k)) o.bracket p) (behind (term_within (suc k)) found) → MovesPast at (meaning_within (suc k) p (o ∷ os)) (meaning (suc k) (option_and_then (λ bracket. reading (AtNot no_loose) (record o { bracket = bracket } ∷ os)) found))
+  next : (found : Option Bracket) → Closes o.bracket found → MovesPast at (contents_at (term_within (suc k)) o.bracket p) (behind (term_within (suc k)) found)
+      → MovesPast at (meaning_within (suc k) p (o ∷ os))
+      (meaning (suc k) (option_and_then (λ bracket. reading (AtNot no_loose) (record o { bracket = bracket } ∷ os)) found))
   next None c m =
-      subst (MovesPast at (meaning_within (suc k) p (o ∷ os))) (ap (unwound (suc (suc k)) 1 false os) (around-none (term_within (suc (suc k))) o 1 false) ∙ unwound-none os (suc (suc k)) 1 false) (outer (λ rest. None) m)
+      subst (MovesPast at (meaning_within (suc k) p (o ∷ os)))
+      (ap (unwound (suc (suc k)) 1 false os) (around-none (term_within (suc (suc k))) o 1 false) ∙ unwound-none os (suc (suc k)) 1 false)
+      (outer (λ rest. None) m)
   next (Some bracket) c m =
       let g : Parser Operand = behind (term_within (suc k)) (Some bracket) in
-      subst (λ s. MovesPast at (meaning_within (suc k) p (o ∷ os)) (unwound (suc (suc k)) 1 false os (primary_level (term_within (suc (suc k))) o.loose o.tight 1 false (λ rest. option_and_then g (before_last s rest))))) (sym c) (outer g m)
+      subst (λ s. MovesPast at (meaning_within (suc k) p (o ∷ os))
+      (unwound (suc (suc k)) 1 false os
+      (primary_level (term_within (suc (suc k))) o.loose o.tight 1 false (λ rest. option_and_then g (before_last s rest))))) (sym c) (outer g m)
 
   around-step : Step k at p (o ∷ os) (at_comma p (o ∷ os))
   around-step = record {
@@ -148,5 +166,9 @@ module _ (k : ℕ) (p : TermProgress) (o : Open) (os : List Open) where
   }
 
 pub comma-step : (k : ℕ) (p : TermProgress) (opened : List Open) → Step k (Sign symbol.Comma) p opened (at_comma p opened)
-comma-step k p [] = record { fuel = k; enough = omega arith; moves = record { at = (dead-at (term_within (suc k)) at (dead-comma (term_within (suc k))) p).at } }
+comma-step k p [] = record {
+  fuel = k;
+  enough = omega arith;
+  moves = record { at = (dead-at (term_within (suc k)) at (dead-comma (term_within (suc k))) p).at };
+}
 comma-step k p (o ∷ os) = around-step k p o os

@@ -31,26 +31,48 @@ module _ (inside : Parser Term) where
   comma-begins (y ∷ ys) = refl
 
   pub dead-comma : Dead inside (Sign symbol.Comma)
-  dead-comma = record { no_not = refl; no_minus = refl; no_call = refl; begins_none = record { at = comma-begins }; uncut = record { at_or = refl; at_and = refl; compares = refl; adds = refl; multiplies = refl }; no_item = refl }
+  dead-comma = record {
+    no_not = refl;
+    no_minus = refl;
+    no_call = refl;
+    begins_none = record { at = comma-begins };
+    uncut = record { at_or = refl; at_and = refl; compares = refl; adds = refl; multiplies = refl };
+    no_item = refl;
+  }
 
   parenthesis-begins : (rest : List Lexeme) → keeping (primary inside) (Sign symbol.RightParenthesis ∷ rest) ≡ None
   parenthesis-begins [] = refl
   parenthesis-begins (y ∷ ys) = refl
 
   pub dead-parenthesis : Dead inside (Sign symbol.RightParenthesis)
-  dead-parenthesis = record { no_not = refl; no_minus = refl; no_call = refl; begins_none = record { at = parenthesis-begins }; uncut = record { at_or = refl; at_and = refl; compares = refl; adds = refl; multiplies = refl }; no_item = refl }
+  dead-parenthesis = record {
+    no_not = refl;
+    no_minus = refl;
+    no_call = refl;
+    begins_none = record { at = parenthesis-begins };
+    uncut = record { at_or = refl; at_and = refl; compares = refl; adds = refl; multiplies = refl };
+    no_item = refl;
+  }
 
   bracket-begins : (rest : List Lexeme) → keeping (primary inside) (Sign symbol.RightBracket ∷ rest) ≡ None
   bracket-begins [] = refl
   bracket-begins (y ∷ ys) = refl
 
   pub dead-bracket : Dead inside (Sign symbol.RightBracket)
-  dead-bracket = record { no_not = refl; no_minus = refl; no_call = refl; begins_none = record { at = bracket-begins }; uncut = record { at_or = refl; at_and = refl; compares = refl; adds = refl; multiplies = refl }; no_item = refl }
+  dead-bracket = record {
+    no_not = refl;
+    no_minus = refl;
+    no_call = refl;
+    begins_none = record { at = bracket-begins };
+    uncut = record { at_or = refl; at_and = refl; compares = refl; adds = refl; multiplies = refl };
+    no_item = refl;
+  }
 
   module _ (x : Lexeme) (dead : Dead inside x) where
     pub dead-at : (p : TermProgress) → MovesPast x (expression inside p) (λ rest. None)
     dead-at Start =
-        at-start inside no_loose x (λ rest. None) (at-not-other inside no_loose x (λ rest. None) dead.no_not (at-none inside no_loose no_tight x dead.no_minus dead.begins_none))
+        at-start inside no_loose x (λ rest. None)
+        (at-not-other inside no_loose x (λ rest. None) dead.no_not (at-none inside no_loose no_tight x dead.no_minus dead.begins_none))
     dead-at (AtNot loose) =
         at-not-other inside loose x (λ rest. None) dead.no_not (at-none inside loose no_tight x dead.no_minus dead.begins_none)
     dead-at (AtOperand loose tight) = at-none inside loose tight x dead.no_minus dead.begins_none
@@ -70,7 +92,8 @@ module _ (inside : Parser Term) where
   expression-ended AtKind = refl
   expression-ended (BehindKind kind) = refl
 
-  filled-at : (bracket : Bracket) (b : Bool) (f : Parser Operand) (found : Option Operand) → f [] ≡ found → contents inside bracket 0 b f [] ≡ option_map (filled bracket) found
+  filled-at : (bracket : Bracket) (b : Bool) (f : Parser Operand) (found : Option Operand) → f [] ≡ found → contents inside bracket 0 b f []
+      ≡ option_map (filled bracket) found
   filled-at Group b f None e = e
   filled-at Group b f (Some operand) e = e
   filled-at (Item sequence) b f found e = ap (option_map (of_two Index sequence)) e

@@ -34,7 +34,8 @@ module _ (x : Lexeme) (f g : Parser Operand) where
   last-at true e = e
   last-at false e = refl
 
-  pub before-moves : (s : AnySymbol) (rest : List Lexeme) → option_and_then f (if is_sign s x then Some [] else None) ≡ None → MovesPast x f g → option_and_then f (before_last s (x ∷ rest)) ≡ option_and_then g (before_last s rest)
+  pub before-moves : (s : AnySymbol) (rest : List Lexeme) → option_and_then f (if is_sign s x then Some [] else None) ≡ None → MovesPast x f g
+      → option_and_then f (before_last s (x ∷ rest)) ≡ option_and_then g (before_last s rest)
   before-moves s [] e m = e
   before-moves s (y ∷ ys) e m =
       and_then-map (λ inner. x ∷ inner) f (before_last s (y ∷ ys)) ∙ and_then-ap (λ inner. f (x ∷ inner)) g (before_last s (y ∷ ys)) m.at
@@ -52,7 +53,8 @@ module _ (x : Lexeme) (f g : Parser Operand) where
 
 -- ---- what stands in a bracket
 module _ (inside : Parser Term) where
-  pub contents-moves : (bracket : Bracket) (d : ℕ) (b : Bool) (x : Lexeme) (f g : Parser Operand) → cut_outside d comma b x ≡ None → MovesPast x f g → MovesPast x (contents inside bracket d b f) (contents inside bracket (depth_behind d x) (ends_operand x) g)
+  pub contents-moves : (bracket : Bracket) (d : ℕ) (b : Bool) (x : Lexeme) (f g : Parser Operand) → cut_outside d comma b x ≡ None → MovesPast x f g
+      → MovesPast x (contents inside bracket d b f) (contents inside bracket (depth_behind d x) (ends_operand x) g)
   contents-moves Group d b x f g e m = m
   contents-moves (Item sequence) d b x f g e m = record { at = λ rest. ap (option_map (of_two Index sequence)) (m.at rest) }
   contents-moves (Items items) d b x f g e m = row-moves d b x list_of items (keeping (disjunction inside)) f g e m
@@ -71,25 +73,32 @@ module _ (inside : Parser Term) where
   contents-none (Items items) d b = refl
   contents-none (Arguments name bare arguments) d b = refl
 
-  pub around-moves : (opened : Open) (d : ℕ) (b : Bool) (x : Lexeme) (f g : Parser Operand) → MovesPast x (closed opened.bracket f) (closed opened.bracket g) → MovesPast x (around inside opened (suc d) b f) (around inside opened (depth_behind (suc d) x) (ends_operand x) g)
+  pub around-moves : (opened : Open) (d : ℕ) (b : Bool) (x : Lexeme) (f g : Parser Operand) → MovesPast x (closed opened.bracket f) (closed opened.bracket g)
+      → MovesPast x (around inside opened (suc d) b f) (around inside opened (depth_behind (suc d) x) (ends_operand x) g)
   around-moves opened d b x f g m =
       primary-moves (suc d) b x inside (uncut-inside d b x) opened.loose opened.tight (closed opened.bracket f) (closed opened.bracket g) refl m
 
   pub around-none : (opened : Open) (d : ℕ) (b : Bool) → around inside opened d b (λ rest. None) ≡ (λ rest. None)
   around-none opened d b =
-      ap (primary_level inside opened.loose opened.tight d b) (fun_ext λ rest. map-none (λ inner. None) (before_last (closing opened.bracket) rest) (λ inner. refl))
+      ap (primary_level inside opened.loose opened.tight d b)
+      (fun_ext λ rest. map-none (λ inner. None) (before_last (closing opened.bracket) rest) (λ inner. refl))
 
 -- ---- in all open brackets
-pub lift : (x : Lexeme) (opened : List Open) (k d : ℕ) (b : Bool) (f g : Parser Operand) → f [] ≡ None → MovesPast x f g → MovesPast x (unwound k (suc d) b opened f) (unwound k (depth_behind (suc d) x) (ends_operand x) opened g)
+pub lift : (x : Lexeme) (opened : List Open) (k d : ℕ) (b : Bool) (f g : Parser Operand) → f [] ≡ None → MovesPast x f g
+    → MovesPast x (unwound k (suc d) b opened f) (unwound k (depth_behind (suc d) x) (ends_operand x) opened g)
 lift x [] k d b f g e m = m
 lift x (o ∷ os) k d b f g e m =
     let inner : Parser Operand = contents (term_within k) o.bracket (suc d) b f in
     let behind : Parser Operand = contents (term_within k) o.bracket (depth_behind (suc d) x) (ends_operand x) g in
     let moved : MovesPast x inner behind = contents-moves (term_within k) o.bracket (suc d) b x f g refl m in
     let step : MovesPast x (around (term_within (suc k)) o (suc (suc d)) b inner) (around (term_within (suc k)) o (depth_behind (suc (suc d)) x) (ends_operand x) behind) = around-moves (term_within (suc k)) o (suc d) b x inner behind (closed-inside x inner behind o.bracket (contents-nothing (term_within k) o.bracket (suc d) b f e) moved) in
-    subst (λ n. MovesPast x (unwound (suc k) (suc (suc d)) b os (around (term_within (suc k)) o (suc (suc d)) b inner)) (unwound (suc k) n (ends_operand x) os (around (term_within (suc k)) o n (ends_operand x) behind))) (deeper d x) (lift x os (suc k) (suc d) b (around (term_within (suc k)) o (suc (suc d)) b inner) (around (term_within (suc k)) o (depth_behind (suc (suc d)) x) (ends_operand x) behind) refl step)
+    subst (λ n. MovesPast x (unwound (suc k) (suc (suc d)) b os (around (term_within (suc k)) o (suc (suc d)) b inner))
+    (unwound (suc k) n (ends_operand x) os (around (term_within (suc k)) o n (ends_operand x) behind))) (deeper d x)
+    (lift x os (suc k) (suc d) b (around (term_within (suc k)) o (suc (suc d)) b inner)
+    (around (term_within (suc k)) o (depth_behind (suc (suc d)) x) (ends_operand x) behind) refl step)
 
 pub unwound-none : (opened : List Open) (k d : ℕ) (b : Bool) → unwound k d b opened (λ rest. None) ≡ (λ rest. None)
 unwound-none [] k d b = refl
 unwound-none (o ∷ os) k d b =
-    ap (λ f. unwound (suc k) (suc d) b os (around (term_within (suc k)) o (suc d) b f)) (contents-none (term_within k) o.bracket d b) ∙ (ap (unwound (suc k) (suc d) b os) (around-none (term_within (suc k)) o (suc d) b) ∙ unwound-none os (suc k) (suc d) b)
+    ap (λ f. unwound (suc k) (suc d) b os (around (term_within (suc k)) o (suc d) b f)) (contents-none (term_within k) o.bracket d b)
+    ∙ (ap (unwound (suc k) (suc d) b os) (around-none (term_within (suc k)) o (suc d) b) ∙ unwound-none os (suc k) (suc d) b)

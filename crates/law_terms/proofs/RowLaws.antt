@@ -1,5 +1,6 @@
 -- What stands between commas is read as the definitions read it.
-use Rattle.std.proofs.Common.{◌≡◌, ◌⊎◌, inl, inr, ℕ, max, ◌≤◌, ◌<◌, List, [], ◌∷◌, Option, Some, None, map, take, drop, fold, refl, ap, ◌∙◌, sym, nat_le, le-leb, arith}
+use Rattle.std.proofs.Common.{◌≡◌, ◌⊎◌, inl, inr, ℕ, max, ◌≤◌, ◌<◌, List, [], ◌∷◌, Option, Some, None, map, take, drop, fold, refl, ap, ◌∙◌, sym, nat_le}
+use Rattle.std.proofs.Common.{le-leb, arith}
 use Rattle.std.proofs.Math.Path.{fun_ext}
 use Rattle.std.proofs.lemmas.Bool.{lt-leb, cases_lt}
 use Rattle.std.specs.Prelude.{option_and_then, option_map, if◌then◌else◌}
@@ -22,30 +23,37 @@ pub items-read : (slots : List (List Lexeme)) → read_items slots ≡ option_ma
 items-read slots = ap (λ (reading : Parser Operand). all_of reading slots) read-same ∙ sym (all_of-capped term_of slots)
 
 -- ---- arguments
-after-bare : (before : List Term) (name : Name) (found : Option (List Term)) → option_map (around_bare (map capped before) name) (option_map (map capped) found) ≡ option_map capped_arguments (option_map (with_bare before name) found)
+after-bare : (before : List Term) (name : Name) (found : Option (List Term)) → option_map (around_bare (map capped before) name) (option_map (map capped) found)
+    ≡ option_map capped_arguments (option_map (with_bare before name) found)
 after-bare before name None = refl
 after-bare before name (Some after) = refl
 
-bare-read : (before : List Term) (slots : List (List Lexeme)) → read_from_bare (map capped before) slots ≡ option_map capped_arguments (from_bare term_of before slots)
+bare-read : (before : List Term) (slots : List (List Lexeme)) → read_from_bare (map capped before) slots
+    ≡ option_map capped_arguments (from_bare term_of before slots)
 bare-read before [] = refl
 bare-read before (slot ∷ slots) = at (bare_name slot)
   where
-    at : (found : Option Name) → option_and_then (λ name. option_map (around_bare (map capped before) name) (read_items slots)) found ≡ option_map capped_arguments (option_and_then (λ name. option_map (with_bare before name) (all_of term_of slots)) found)
+    at : (found : Option Name) → option_and_then (λ name. option_map (around_bare (map capped before) name) (read_items slots)) found
+        ≡ option_map capped_arguments (option_and_then (λ name. option_map (with_bare before name) (all_of term_of slots)) found)
     at None = refl
     at (Some name) = ap (option_map (around_bare (map capped before) name)) (items-read slots) ∙ after-bare before name (all_of term_of slots)
 
-values-read : (found : Option (List Term)) → option_map only_values (option_map (map capped) found) ≡ option_map capped_arguments (option_map (λ all. let arguments : Arguments = record { before = all; bare = None; after = [] } in arguments) found)
+values-read : (found : Option (List Term)) → option_map only_values (option_map (map capped) found)
+    ≡ option_map capped_arguments (option_map (λ all. let arguments : Arguments = record { before = all; bare = None; after = [] } in arguments) found)
 values-read None = refl
 values-read (Some all) = refl
 
-place-read : (slots : List (List Lexeme)) (found : Option (List Term)) → option_and_then (λ before. read_from_bare before slots) (option_map (map capped) found) ≡ option_map capped_arguments (option_and_then (λ before. from_bare term_of before slots) found)
+place-read : (slots : List (List Lexeme)) (found : Option (List Term)) → option_and_then (λ before. read_from_bare before slots) (option_map (map capped) found)
+    ≡ option_map capped_arguments (option_and_then (λ before. from_bare term_of before slots) found)
 place-read slots None = refl
 place-read slots (Some before) = bare-read before slots
 
-pub arguments-read : (place : Option ℕ) (slots : List (List Lexeme)) → read_arguments place slots ≡ option_map capped_arguments (arguments_of term_of place slots)
+pub arguments-read : (place : Option ℕ) (slots : List (List Lexeme)) → read_arguments place slots
+    ≡ option_map capped_arguments (arguments_of term_of place slots)
 arguments-read None slots = ap (option_map only_values) (items-read slots) ∙ values-read (all_of term_of slots)
 arguments-read (Some place) slots =
-    ap (option_and_then (λ before. read_from_bare before (drop place slots))) (items-read (take place slots)) ∙ place-read (drop place slots) (all_of term_of (take place slots))
+    ap (option_and_then (λ before. read_from_bare before (drop place slots))) (items-read (take place slots))
+    ∙ place-read (drop place slots) (all_of term_of (take place slots))
 
 -- ---- heights
 fits-at : (t : Term) → (most_height < height t) ⊎ (height t ≤ most_height) → that_fits (capped t) ≡ (if nat_le (height t) most_height then Some t else None)

@@ -36,7 +36,10 @@ not_closing x i (Item sequence) = i.no_bracket
 not_closing x i (Items items) = i.no_bracket
 not_closing x i (Arguments name bare arguments) = i.no_parenthesis
 
-pub content-step : (x : Lexeme) (i : Inner x) (p : TermProgress) (k : ℕ) (o : Open) (os : List Open) (g : Parser Operand) → MovesPast x (contents_at (term_within k) o.bracket p) g → MovesPast x (meaning_within k p (o ∷ os)) (unwound (suc k) (depth_behind 1 x) (ends_operand x) os (around (term_within (suc k)) o (depth_behind 1 x) (ends_operand x) g))
+pub content-step : (x : Lexeme) (i : Inner x) (p : TermProgress) (k : ℕ) (o : Open) (os : List Open) (g : Parser Operand)
+    → MovesPast x (contents_at (term_within k) o.bracket p) g
+    → MovesPast x (meaning_within k p (o ∷ os))
+    (unwound (suc k) (depth_behind 1 x) (ends_operand x) os (around (term_within (suc k)) o (depth_behind 1 x) (ends_operand x) g))
 content-step x i p k o os g m =
     let b : Bool = is_behind p in
     let first : Parser Operand = contents_at (term_within k) o.bracket p in
@@ -45,7 +48,8 @@ content-step x i p k o os g m =
 
 -- an expression stands in the bracket, and no bare name
 pub record Regular (p : TermProgress) : Type 0 where
-  pub contains : (inside : Parser Term) (bracket : Bracket) (x : Lexeme) (rest : List Lexeme) → contents_at inside bracket p (x ∷ rest) ≡ contents inside bracket 0 (is_behind p) (expression inside p) (x ∷ rest)
+  pub contains : (inside : Parser Term) (bracket : Bracket) (x : Lexeme) (rest : List Lexeme) → contents_at inside bracket p (x ∷ rest)
+      ≡ contents inside bracket 0 (is_behind p) (expression inside p) (x ∷ rest)
 
 pub regular-start : Regular Start
 regular-start = record { contains = λ inside bracket x rest. refl }
@@ -54,40 +58,53 @@ module _ (x : Lexeme) (i : Inner x) (p : TermProgress) (r : Regular p) where
   uncut : (b : Bool) → cut_outside 0 comma b x ≡ None
   uncut b = ap (λ test. if test then Some x else None) i.no_comma
 
-  pub inner-moves : (k : ℕ) (opened : List Open) (g : Parser Operand) → MovesPast x (expression (term_within k) p) g → MovesPast x (meaning_within k p opened) (unwound k (depth_behind 0 x) (ends_operand x) opened g)
+  pub inner-moves : (k : ℕ) (opened : List Open) (g : Parser Operand) → MovesPast x (expression (term_within k) p) g
+      → MovesPast x (meaning_within k p opened) (unwound k (depth_behind 0 x) (ends_operand x) opened g)
   inner-moves k [] g m = m
   inner-moves k (o ∷ os) g m =
       let b : Bool = is_behind p in
       let first : Parser Operand = contents_at (term_within k) o.bracket p in
       let next : Parser Operand = contents (term_within k) o.bracket (depth_behind 0 x) (ends_operand x) g in
       let moved : MovesPast x first next = record { at = λ rest. r.contains (term_within k) o.bracket x rest ∙ (contents-moves (term_within k) o.bracket 0 b x (expression (term_within k) p) g (uncut b) m).at rest } in
-      subst (λ n. MovesPast x (unwound (suc k) 1 b os (around (term_within (suc k)) o 1 b first)) (unwound (suc k) n (ends_operand x) os (around (term_within (suc k)) o n (ends_operand x) next))) i.deeper (content-step x i p k o os next moved)
+      subst (λ n. MovesPast x (unwound (suc k) 1 b os (around (term_within (suc k)) o 1 b first))
+      (unwound (suc k) n (ends_operand x) os (around (term_within (suc k)) o n (ends_operand x) next))) i.deeper (content-step x i p k o os next moved)
 
   -- ---- nothing can be read any more
   pub none-step : (k : ℕ) (opened : List Open) → MovesPast x (expression (term_within (suc k)) p) (λ rest. None) → Step k x p opened None
   none-step k opened m = record {
     fuel = k;
     enough = omega arith;
-    moves = subst (MovesPast x (meaning_within (suc k) p opened)) (unwound-none opened (suc k) (depth_behind 0 x) (ends_operand x)) (inner-moves (suc k) opened (λ rest. None) m);
+    moves = subst (MovesPast x (meaning_within (suc k) p opened)) (unwound-none opened (suc k) (depth_behind 0 x) (ends_operand x))
+        (inner-moves (suc k) opened (λ rest. None) m);
   }
 
   -- ---- the same bracket goes on
-  pub same-step : (k : ℕ) (opened : List Open) (q : TermProgress) → ((n : ℕ) (os : List Open) → unwound n 0 (is_behind q) os (expression (term_within n) q) ≡ meaning_within n q os) → depth_behind 0 x ≡ 0 → ends_operand x ≡ is_behind q → MovesPast x (expression (term_within (suc k)) p) (expression (term_within (suc k)) q) → Step k x p opened (reading q opened)
+  pub same-step : (k : ℕ) (opened : List Open) (q : TermProgress)
+      → ((n : ℕ) (os : List Open) → unwound n 0 (is_behind q) os (expression (term_within n) q) ≡ meaning_within n q os) → depth_behind 0 x ≡ 0 → ends_operand x
+      ≡ is_behind q → MovesPast x (expression (term_within (suc k)) p) (expression (term_within (suc k)) q) → Step k x p opened (reading q opened)
   same-step k opened q goes_on d b m = record {
     fuel = suc k;
     enough = omega arith;
-    moves = subst (MovesPast x (meaning_within (suc k) p opened)) (ap (λ n. unwound (suc k) n (ends_operand x) opened (expression (term_within (suc k)) q)) d ∙ (ap (λ n. unwound (suc k) 0 n opened (expression (term_within (suc k)) q)) b ∙ goes_on (suc k) opened)) (inner-moves (suc k) opened (expression (term_within (suc k)) q) m);
+    moves = subst (MovesPast x (meaning_within (suc k) p opened))
+        (ap (λ n. unwound (suc k) n (ends_operand x) opened (expression (term_within (suc k)) q)) d
+        ∙ (ap (λ n. unwound (suc k) 0 n opened (expression (term_within (suc k)) q)) b ∙ goes_on (suc k) opened))
+        (inner-moves (suc k) opened (expression (term_within (suc k)) q) m);
   }
 
   -- ---- a bracket opens
-  pub open-step : (k : ℕ) (opened : List Open) (o : Open) (q : TermProgress) → is_behind q ≡ false → depth_behind 0 x ≡ 1 → ends_operand x ≡ false → MovesPast x (expression (term_within (suc k)) p) (around (term_within (suc k)) o 1 false (contents_at (term_within k) o.bracket q)) → Step k x p opened (reading q (o ∷ opened))
+  pub open-step : (k : ℕ) (opened : List Open) (o : Open) (q : TermProgress) → is_behind q ≡ false → depth_behind 0 x ≡ 1 → ends_operand x ≡ false
+      → MovesPast x (expression (term_within (suc k)) p) (around (term_within (suc k)) o 1 false (contents_at (term_within k) o.bracket q))
+      → Step k x p opened (reading q (o ∷ opened))
   open-step k opened o q e d b m =
       let content : Parser Operand = contents_at (term_within k) o.bracket q in
       let found : Parser Operand = around (term_within (suc k)) o 1 false content in
       record {
         fuel = k;
         enough = omega arith;
-        moves = subst (MovesPast x (meaning_within (suc k) p opened)) (ap (λ n. unwound (suc k) n (ends_operand x) opened found) d ∙ (ap (λ n. unwound (suc k) 1 n opened found) b ∙ ap (λ n. unwound (suc k) 1 n opened (around (term_within (suc k)) o 1 n content)) (sym e))) (inner-moves (suc k) opened found m);
+        moves = subst (MovesPast x (meaning_within (suc k) p opened))
+            (ap (λ n. unwound (suc k) n (ends_operand x) opened found) d
+            ∙ (ap (λ n. unwound (suc k) 1 n opened found) b ∙ ap (λ n. unwound (suc k) 1 n opened (around (term_within (suc k)) o 1 n content)) (sym e)))
+            (inner-moves (suc k) opened found m);
       }
 
 module _ (loose : Loose) where
@@ -102,20 +119,23 @@ module _ (loose : Loose) (tight : Tight) where
   pub regular-operand : Regular (AtOperand loose tight)
   regular-operand = record { contains = λ inside bracket x rest. refl }
 
-  pub goes_on-operand : (n : ℕ) (os : List Open) → unwound n 0 false os (expression (term_within n) (AtOperand loose tight)) ≡ meaning_within n (AtOperand loose tight) os
+  pub goes_on-operand : (n : ℕ) (os : List Open) → unwound n 0 false os (expression (term_within n) (AtOperand loose tight))
+      ≡ meaning_within n (AtOperand loose tight) os
   goes_on-operand n [] = refl
   goes_on-operand n (o ∷ os) = refl
 
   pub regular-name : (name : Name) → Regular (BehindName loose tight name)
   regular-name name = record { contains = λ inside bracket x rest. refl }
 
-  pub goes_on-name : (name : Name) (n : ℕ) (os : List Open) → unwound n 0 true os (expression (term_within n) (BehindName loose tight name)) ≡ meaning_within n (BehindName loose tight name) os
+  pub goes_on-name : (name : Name) (n : ℕ) (os : List Open) → unwound n 0 true os (expression (term_within n) (BehindName loose tight name))
+      ≡ meaning_within n (BehindName loose tight name) os
   goes_on-name name n [] = refl
   goes_on-name name n (o ∷ os) = refl
 
   pub regular-behind : (operand : Operand) → Regular (BehindOperand loose tight operand)
   regular-behind operand = record { contains = λ inside bracket x rest. refl }
 
-  pub goes_on-behind : (operand : Operand) (n : ℕ) (os : List Open) → unwound n 0 true os (expression (term_within n) (BehindOperand loose tight operand)) ≡ meaning_within n (BehindOperand loose tight operand) os
+  pub goes_on-behind : (operand : Operand) (n : ℕ) (os : List Open) → unwound n 0 true os (expression (term_within n) (BehindOperand loose tight operand))
+      ≡ meaning_within n (BehindOperand loose tight operand) os
   goes_on-behind operand n [] = refl
   goes_on-behind operand n (o ∷ os) = refl

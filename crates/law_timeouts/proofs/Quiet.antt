@@ -1,7 +1,9 @@
 -- Steps of tasks and requests schedule nothing.
-use Rattle.std.proofs.Common.{◌≡◌, ℕ, Bool, Err, List, None, Ok, Option, Result, Some, [], ap, arith, cond, false, not, refl, slice_get, slice_set, sym, true, ◌&&◌, ◌++◌, ◌+◌, ◌==◌, ◌∙◌, ◌∷◌, ◌<◌, ◌≤◌}
+use Rattle.std.proofs.Common.{◌≡◌, ℕ, Bool, Err, List, None, Ok, Option, Result, Some, [], ap, arith, cond, false, not, refl, slice_get, slice_set, sym, true}
+use Rattle.std.proofs.Common.{◌&&◌, ◌++◌, ◌+◌, ◌==◌, ◌∙◌, ◌∷◌, ◌<◌, ◌≤◌}
 use Rattle.model_loop.specs.Tasks.{begin_step, change_task, finish, future_of, is_marked, lives, next_task, set_waiter, spawn, unmark}
-use Rattle.model_loop.specs.Futures.{is_pending, make_future, mark_asked, next_future, register, registered, registered_on, settle, settled, settled_as, with_future}
+use Rattle.model_loop.specs.Futures.{is_pending, make_future, mark_asked, next_future, register, registered, registered_on, settle, settled, settled_as}
+use Rattle.model_loop.specs.Futures.{with_future}
 use Rattle.model_loop.specs.Loop.{Timeout}
 use Rattle.law_steps.proofs.Waiting.{task_there, wait_effect, waiting_sound}
 use Rattle.model_loop.specs.Handles.{soon, soon_all}

@@ -1,5 +1,6 @@
 -- A timeout gets another deadline, or none: each timeout goes on having its tag, and no step or telling is lost.
-use Rattle.std.proofs.Common.{◌≡◌, ℕ, ℤ, ◌+◌, ◌≤◌, ◌<◌, ◌⊎◌, Bool, true, false, cond, not, ◌==◌, Option, Some, None, length, nat_le, refl, ap, sym, subst, ◌∙◌, inl, inr, arith, option_map}
+use Rattle.std.proofs.Common.{◌≡◌, ℕ, ℤ, ◌+◌, ◌≤◌, ◌<◌, ◌⊎◌, Bool, true, false, cond, not, ◌==◌, Option, Some, None, length, nat_le, refl, ap, sym, subst, ◌∙◌}
+use Rattle.std.proofs.Common.{inl, inr, arith, option_map}
 use Rattle.std.proofs.Math.ListN.{length-set}
 use Rattle.std.proofs.lemmas.Bool.{cases_eq, cases_Bool, cases_lt, false≢true, eq-eqb, ne_eqb, eqb-true, and_parts, and_from}
 use Rattle.std.proofs.lemmas.List.{get_or-set_same, get_or-set_other, get_or_past}
@@ -9,7 +10,8 @@ use Rattle.model_value.specs.declared.action.Action.TheVariants.{Fires}
 use Rattle.model_loop.specs.Parts.{Parts}
 use Rattle.model_loop.specs.Loop.{Timeout, Loop, in_parts}
 use Rattle.model_loop.specs.Handles.{soon, later, revoke}
-use Rattle.model_loop.specs.Timeouts.{no_timeout, timeout_of, set_timeout, give_up, without_handle, with_deadline, schedule, is_active, reschedule_where, reschedule, moment}
+use Rattle.model_loop.specs.Timeouts.{no_timeout, timeout_of, set_timeout, give_up, without_handle, with_deadline, schedule, is_active, reschedule_where}
+use Rattle.model_loop.specs.Timeouts.{reschedule, moment}
 use Rattle.model_loop.specs.Deadlines.{fires, fires_any, fires_as, others_as, entries_at, HasTag}
 use Rattle.model_loop.specs.Numbered.{IsNumbered}
 use Rattle.law_numbers.proofs.Numbering.{soon_numbers, later_numbers, revoke_numbers}

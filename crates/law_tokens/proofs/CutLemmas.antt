@@ -1,20 +1,24 @@
 -- `pieces_of` gives the one cut of a line.
-use Rattle.std.proofs.Common.{◌≡◌, ℕ, zero, suc, ◌-◌, ◌<◌, ◌≤◌, Bool, true, false, ◌&&◌, List, [], ◌∷◌, ◌++◌, length, drop, refl, sym, ap, ◌∙◌, arith, Option, Some, None, eqb, slice_index, codes, append_assoc, subst}
+use Rattle.std.proofs.Common.{◌≡◌, ℕ, zero, suc, ◌-◌, ◌<◌, ◌≤◌, Bool, true, false, ◌&&◌, List, [], ◌∷◌, ◌++◌, length, drop, refl, sym, ap, ◌∙◌, arith, Option}
+use Rattle.std.proofs.Common.{Some, None, eqb, slice_index, codes, append_assoc, subst}
 use Rattle.std.proofs.lemmas.List.{length-append, append-nil}
 use Rattle.std.proofs.Math.Seq.{drop-append_seam}
 use Rattle.std.proofs.lemmas.Bool.{and_parts, and_left, and_right, eqb-true}
 use Rattle.std.specs.List.{list_all, take_while}
 use Rattle.std.specs.Char.{is_ascii_digit}
 use Rattle.model_text.specs.declared.symbol.Symbol.{Symbol}
-use Rattle.model_text.specs.declared.symbol.Symbol.TheVariants.{LeftParenthesis, RightParenthesis, LeftBracket, RightBracket, Comma, Assign, Equals, NotEquals, LessThan, LessOrEqual, GreaterThan, GreaterOrEqual, Plus, Minus, Star, DoubleSlash, Percent}
+use Rattle.model_text.specs.declared.symbol.Symbol.TheVariants.{LeftParenthesis, RightParenthesis, LeftBracket, RightBracket, Comma, Assign, Equals, NotEquals}
+use Rattle.model_text.specs.declared.symbol.Symbol.TheVariants.{LessThan, LessOrEqual, GreaterThan, GreaterOrEqual, Plus, Minus, Star, DoubleSlash, Percent}
 use Rattle.model_text.specs.Letters.{is_word, is_space, is_hash, is_quote}
 use Rattle.model_text.specs.Symbols.{symbol_text, symbol_at}
 use Rattle.model_text.specs.declared.literal.Literal.{Literal}
 use Rattle.model_text.specs.declared.literal.Literal.TheVariants.{OfText, OfBytes}
 use Rattle.model_text.specs.Literals.{opening, inside_of}
-use Rattle.model_text.specs.Pieces.{Piece, Blank, Comment, Word, Numeral, Quoted, Unclosed, Punctuation, Stray, piece_text, piece_at, literal_at, punctuation_at, pieces_after, pieces_of}
+use Rattle.model_text.specs.Pieces.{Piece, Blank, Comment, Word, Numeral, Quoted, Unclosed, Punctuation, Stray, piece_text, piece_at, literal_at}
+use Rattle.model_text.specs.Pieces.{punctuation_at, pieces_after, pieces_of}
 use Rattle.model_text.specs.Cuts.{FirstIs, IsLongest, Fits, Cuts}
-use Rattle.law_tokens.proofs.PieceLemmas.{word-no_quote, digit-word, piece_at-space, piece_at-hash, piece_at-quote, piece_at-b, piece_at-digit, piece_at-word, piece_at-other}
+use Rattle.law_tokens.proofs.PieceLemmas.{word-no_quote, digit-word, piece_at-space, piece_at-hash, piece_at-quote, piece_at-b, piece_at-digit, piece_at-word}
+use Rattle.law_tokens.proofs.PieceLemmas.{piece_at-other}
 use Rattle.law_tokens.proofs.RunLemmas.{take_while-run, take_while-cons_passes, run_of, one_more}
 use Rattle.law_tokens.proofs.InsideLemmas.{closes, inside_of-more}
 use Rattle.law_tokens.proofs.SymbolLemmas.{SymbolIs, symbol_is, symbol_at-longest, symbol_at-none}
@@ -70,22 +74,26 @@ text-some (Punctuation symbol) rest f = symbol-some symbol
 text-some (Stray byte) rest f = omega arith
 
 -- no quote touches a name but for one that a b alone would make a literal of
-no_b_quote : (first : ℕ) (others rest : List ℕ) → list_all is_word others ≡ true → (first ∷ others ≡ codes "b" → FirstIs is_quote false rest) → (eqb first 98 && is_quote (slice_index (others ++ rest) 0)) ≡ false
+no_b_quote : (first : ℕ) (others rest : List ℕ) → list_all is_word others ≡ true → (first ∷ others ≡ codes "b" → FirstIs is_quote false rest)
+    → (eqb first 98 && is_quote (slice_index (others ++ rest) 0)) ≡ false
 no_b_quote first (other ∷ others) rest all stop =
     and_right (eqb first 98) (is_quote other) (word-no_quote other ((and_parts (is_word other) (list_all is_word others) all).0))
 no_b_quote first [] rest all stop = by_b (eqb first 98) refl rest stop
   where
-    by_b : (b : Bool) → eqb first 98 ≡ b → (rest : List ℕ) → (first ∷ [] ≡ codes "b" → FirstIs is_quote false rest) → (eqb first 98 && is_quote (slice_index rest 0)) ≡ false
+    by_b : (b : Bool) → eqb first 98 ≡ b → (rest : List ℕ) → (first ∷ [] ≡ codes "b" → FirstIs is_quote false rest)
+        → (eqb first 98 && is_quote (slice_index rest 0)) ≡ false
     by_b false e rest stop = and_left (eqb first 98) (is_quote (slice_index rest 0)) e
     by_b true e [] stop = and_right (eqb first 98) false refl
     by_b true e (byte ∷ rest) stop =
         and_right (eqb first 98) (is_quote byte) (stop (ap (λ x. x ∷ []) (eqb-true first 98 e)))
 
-closed_front : (literal : Literal) (inside rest : List ℕ) → inside_of false (inside ++ 34 ∷ []) ≡ Some inside → literal_at literal ((inside ++ 34 ∷ []) ++ rest) (inside_of false ((inside ++ 34 ∷ []) ++ rest)) ≡ Quoted literal inside
+closed_front : (literal : Literal) (inside rest : List ℕ) → inside_of false (inside ++ 34 ∷ []) ≡ Some inside
+    → literal_at literal ((inside ++ 34 ∷ []) ++ rest) (inside_of false ((inside ++ 34 ∷ []) ++ rest)) ≡ Quoted literal inside
 closed_front literal inside rest e =
     ap (literal_at literal ((inside ++ 34 ∷ []) ++ rest)) (inside_of-more false (inside ++ 34 ∷ []) rest inside e)
 
-open_front : (literal : Literal) (others : List ℕ) → inside_of false others ≡ None → front_of (opening literal ++ others) ≡ Some (Unclosed (opening literal ++ others))
+open_front : (literal : Literal) (others : List ℕ) → inside_of false others ≡ None → front_of (opening literal ++ others)
+    ≡ Some (Unclosed (opening literal ++ others))
 open_front OfText others e =
     ap (λ p. Some p) (piece_at-quote 34 others refl ∙ ap (literal_at OfText others) e)
 open_front OfBytes others e =
@@ -132,11 +140,15 @@ pub front_found : (piece : Piece) (rest : List ℕ) → Fits piece rest → fron
 front_found Blank rest f = ap (λ p. Some p) (piece_at-space 32 rest refl)
 front_found (Comment []) rest f = absurd f
 front_found (Comment (first ∷ others)) rest f =
-    ap (λ p. Some p) (piece_at-hash first (others ++ rest) f.0 ∙ ap (λ more. Comment (first ∷ (others ++ more))) f.1 ∙ ap (λ more. Comment (first ∷ more)) (append-nil others))
+    ap (λ p. Some p)
+    (piece_at-hash first (others ++ rest) f.0 ∙ ap (λ more. Comment (first ∷ (others ++ more))) f.1
+    ∙ ap (λ more. Comment (first ∷ more)) (append-nil others))
 front_found (Word []) rest f = absurd f.0
 front_found (Word (first ∷ others)) rest f =
     let parts = and_parts (is_word first) (list_all is_word others) f.0.1 in
-    ap (λ p. Some p) (piece_at-word first (others ++ rest) parts.0 f.0.0 (no_b_quote first others rest parts.1 f.2) ∙ ap (λ text. Word text) (take_while-run is_word (first ∷ others) rest f.0.1 f.1))
+    ap (λ p. Some p)
+    (piece_at-word first (others ++ rest) parts.0 f.0.0 (no_b_quote first others rest parts.1 f.2)
+    ∙ ap (λ text. Word text) (take_while-run is_word (first ∷ others) rest f.0.1 f.1))
 front_found (Numeral []) rest f = absurd f.0
 front_found (Numeral (first ∷ others)) rest f =
     ap (λ p. Some p) (piece_at-digit first (others ++ rest) f.0.0 ∙ ap (λ text. Numeral text) (take_while-run is_word (first ∷ others) rest f.0.1 f.1))
@@ -156,7 +168,8 @@ pub record StandsInFront (bytes : List ℕ) (piece : Piece) : Type 0 where
   pub whole : bytes ≡ piece_text piece ++ rest
   pub fits : Fits piece rest
 
-stands-literal : (literal : Literal) (others : List ℕ) (o : Option (List ℕ)) → inside_of false others ≡ o → StandsInFront (opening literal ++ others) (literal_at literal others o)
+stands-literal : (literal : Literal) (others : List ℕ) (o : Option (List ℕ)) → inside_of false others ≡ o
+    → StandsInFront (opening literal ++ others) (literal_at literal others o)
 stands-literal literal others None e = record {
   rest = [];
   whole = sym (append-nil (opening literal ++ others));
@@ -167,7 +180,8 @@ stands-literal literal others (Some inside) e =
     record {
       rest = c.rest;
       whole =
-          ap (λ more. opening literal ++ more) (c.whole ∙ sym (append_assoc inside (34 ∷ []) c.rest)) ∙ sym (append_assoc (opening literal) (inside ++ 34 ∷ []) c.rest);
+          ap (λ more. opening literal ++ more) (c.whole ∙ sym (append_assoc inside (34 ∷ []) c.rest))
+          ∙ sym (append_assoc (opening literal) (inside ++ 34 ∷ []) c.rest);
       fits = c.closes;
     }
 
@@ -192,40 +206,52 @@ stands-digit : (byte : ℕ) (bytes : List ℕ) → is_ascii_digit byte ≡ true 
 stands-digit byte bytes d =
     let w = digit-word byte d in
     let run = one_more is_word byte bytes (take_while is_word bytes) w (run_of is_word bytes) in
-    rw (piece_at-digit byte bytes d, take_while-cons_passes is_word byte bytes w) (record { rest = run.rest; whole = run.whole; fits = ((d, run.passes), run.stops) })
+    rw (piece_at-digit byte bytes d, take_while-cons_passes is_word byte bytes w)
+    (record { rest = run.rest; whole = run.whole; fits = ((d, run.passes), run.stops) })
 
 first_no_quote : (rest : List ℕ) → is_quote (slice_index rest 0) ≡ false → FirstIs is_quote false rest
 first_no_quote [] h = tt
 first_no_quote (byte ∷ rest) h = h
 
-no_quote_behind_b : (byte : ℕ) (bytes run rest : List ℕ) → (eqb byte 98 && is_quote (slice_index bytes 0)) ≡ false → bytes ≡ run ++ rest → byte ∷ run ≡ codes "b" → FirstIs is_quote false rest
+no_quote_behind_b : (byte : ℕ) (bytes run rest : List ℕ) → (eqb byte 98 && is_quote (slice_index bytes 0)) ≡ false → bytes ≡ run ++ rest → byte ∷ run
+    ≡ codes "b" → FirstIs is_quote false rest
 no_quote_behind_b byte bytes run rest n whole e =
     let b : byte ≡ 98 = cc in
     let none : run ≡ [] = cc in
     let same : bytes ≡ rest = whole ∙ ap (λ run. run ++ rest) none in
     first_no_quote rest (rw (b, same) at n)
 
-stands-word : (byte : ℕ) (bytes : List ℕ) → is_word byte ≡ true → is_ascii_digit byte ≡ false → (eqb byte 98 && is_quote (slice_index bytes 0)) ≡ false → StandsInFront (byte ∷ bytes) (piece_at byte bytes)
+stands-word : (byte : ℕ) (bytes : List ℕ) → is_word byte ≡ true → is_ascii_digit byte ≡ false → (eqb byte 98 && is_quote (slice_index bytes 0)) ≡ false
+    → StandsInFront (byte ∷ bytes) (piece_at byte bytes)
 stands-word byte bytes w d n =
     let run = one_more is_word byte bytes (take_while is_word bytes) w (run_of is_word bytes) in
     let behind : bytes ≡ take_while is_word bytes ++ run.rest = let whole = run.whole in cc in
-    rw (piece_at-word byte bytes w d n, take_while-cons_passes is_word byte bytes w) (record { rest = run.rest; whole = run.whole; fits = ((d, run.passes), run.stops, no_quote_behind_b byte bytes (take_while is_word bytes) run.rest n behind) })
+    rw (piece_at-word byte bytes w d n, take_while-cons_passes is_word byte bytes w)
+    (record {
+      rest = run.rest;
+      whole = run.whole;
+      fits = ((d, run.passes), run.stops, no_quote_behind_b byte bytes (take_while is_word bytes) run.rest n behind);
+    })
 
-stands-punctuation : (byte : ℕ) (bytes : List ℕ) (o : Option Symbol) → is_space byte ≡ false → is_hash byte ≡ false → is_quote byte ≡ false → is_word byte ≡ false → SymbolIs (byte ∷ bytes) o → StandsInFront (byte ∷ bytes) (punctuation_at byte o)
+stands-punctuation : (byte : ℕ) (bytes : List ℕ) (o : Option Symbol) → is_space byte ≡ false → is_hash byte ≡ false → is_quote byte ≡ false → is_word byte
+    ≡ false → SymbolIs (byte ∷ bytes) o → StandsInFront (byte ∷ bytes) (punctuation_at byte o)
 stands-punctuation byte bytes None s h q w found = record { rest = bytes; whole = refl; fits = (s, h, q, w, found) }
 stands-punctuation byte bytes (Some symbol) s h q w found =
     record { rest = found.0; whole = found.1; fits = found.2 }
 
-stands-other : (byte : ℕ) (bytes : List ℕ) → is_space byte ≡ false → is_hash byte ≡ false → is_quote byte ≡ false → is_word byte ≡ false → StandsInFront (byte ∷ bytes) (piece_at byte bytes)
+stands-other : (byte : ℕ) (bytes : List ℕ) → is_space byte ≡ false → is_hash byte ≡ false → is_quote byte ≡ false → is_word byte ≡ false
+    → StandsInFront (byte ∷ bytes) (piece_at byte bytes)
 stands-other byte bytes s h q w =
     rw (piece_at-other byte bytes s h q w) (stands-punctuation byte bytes (symbol_at (byte ∷ bytes)) s h q w (symbol_is (byte ∷ bytes)))
 
 -- The piece at the front fits.
 pub stands : (byte : ℕ) (bytes : List ℕ) → StandsInFront (byte ∷ bytes) (piece_at byte bytes)
 stands byte bytes =
-    by_tests (is_space byte) (is_hash byte) (is_quote byte) (is_word byte) (is_ascii_digit byte) (eqb byte 98 && is_quote (slice_index bytes 0)) refl refl refl refl refl refl
+    by_tests (is_space byte) (is_hash byte) (is_quote byte) (is_word byte) (is_ascii_digit byte)
+    (eqb byte 98 && is_quote (slice_index bytes 0)) refl refl refl refl refl refl
   where
-    by_tests : (s h q w d b : Bool) → is_space byte ≡ s → is_hash byte ≡ h → is_quote byte ≡ q → is_word byte ≡ w → is_ascii_digit byte ≡ d → (eqb byte 98 && is_quote (slice_index bytes 0)) ≡ b → StandsInFront (byte ∷ bytes) (piece_at byte bytes)
+    by_tests : (s h q w d b : Bool) → is_space byte ≡ s → is_hash byte ≡ h → is_quote byte ≡ q → is_word byte ≡ w → is_ascii_digit byte ≡ d
+        → (eqb byte 98 && is_quote (slice_index bytes 0)) ≡ b → StandsInFront (byte ∷ bytes) (piece_at byte bytes)
     by_tests true h q w d b es eh eq ew ed eb = stands-space byte bytes es
     by_tests false true q w d b es eh eq ew ed eb = stands-hash byte bytes eh
     by_tests false false true w d b es eh eq ew ed eb = stands-quote byte bytes eq
@@ -244,7 +270,8 @@ behind_front byte bytes (first ∷ text) rest some e =
     rw (n, same) (drop-append_seam text rest)
 
 -- A piece that fits is the first, and the others are those of the rest.
-pub pieces_of-front : (bytes : List ℕ) (piece : Piece) (rest : List ℕ) → Fits piece rest → bytes ≡ piece_text piece ++ rest → pieces_of bytes ≡ piece ∷ pieces_of rest
+pub pieces_of-front : (bytes : List ℕ) (piece : Piece) (rest : List ℕ) → Fits piece rest → bytes ≡ piece_text piece ++ rest → pieces_of bytes ≡ piece
+    ∷ pieces_of rest
 pieces_of-front [] piece rest fits e =
     absurd (omega (arith, text-some piece rest fits, ap length e, length-append (piece_text piece) rest))
 pieces_of-front (byte ∷ bytes) piece rest fits e =
@@ -274,14 +301,16 @@ Cuts-one line (piece ∷ pieces) c =
     ap (λ others. piece ∷ others) (Cuts-one c.0 pieces c.3) ∙ sym (pieces_of-front line piece c.0 c.2 c.1)
 
 -- the first piece, and the pieces of what stands behind it
-pub pieces_of-cons : (byte : ℕ) (bytes : List ℕ) → pieces_of (byte ∷ bytes) ≡ piece_at byte bytes ∷ pieces_of (drop (length (piece_text (piece_at byte bytes))) (byte ∷ bytes))
+pub pieces_of-cons : (byte : ℕ) (bytes : List ℕ) → pieces_of (byte ∷ bytes) ≡ piece_at byte bytes
+    ∷ pieces_of (drop (length (piece_text (piece_at byte bytes))) (byte ∷ bytes))
 pieces_of-cons byte bytes =
     let s = stands byte bytes in
     let text : List ℕ = piece_text (piece_at byte bytes) in
     let behind = ap (drop (length text)) s.whole ∙ drop-append_seam text s.rest in
     pieces_of-front (byte ∷ bytes) (piece_at byte bytes) s.rest s.fits s.whole ∙ ap (λ rest. piece_at byte bytes ∷ pieces_of rest) (sym behind)
 
-pub length-piece_at : (byte : ℕ) (bytes : List ℕ) → (0 < length (piece_text (piece_at byte bytes))) × (length (piece_text (piece_at byte bytes)) ≤ length (byte ∷ bytes))
+pub length-piece_at : (byte : ℕ) (bytes : List ℕ)
+    → (0 < length (piece_text (piece_at byte bytes))) × (length (piece_text (piece_at byte bytes)) ≤ length (byte ∷ bytes))
 length-piece_at byte bytes =
     let s = stands byte bytes in
     let text : List ℕ = piece_text (piece_at byte bytes) in

@@ -1,5 +1,6 @@
 -- `tokens_of` answers exactly the first fault.
-use Rattle.std.proofs.Common.{◌≡◌, ℕ, ◌+◌, ◌<◌, Bool, false, ◌⊎◌, inl, inr, List, [], ◌∷◌, ◌++◌, length, refl, sym, ap, ◌∙◌, arith, Result, Ok, Err, append_assoc, subst}
+use Rattle.std.proofs.Common.{◌≡◌, ℕ, ◌+◌, ◌<◌, Bool, false, ◌⊎◌, inl, inr, List, [], ◌∷◌, ◌++◌, length, refl, sym, ap, ◌∙◌, arith, Result, Ok, Err}
+use Rattle.std.proofs.Common.{append_assoc, subst}
 use Rattle.std.specs.List.{flat_map}
 use Rattle.std.proofs.lemmas.List.{length-append}
 use Rattle.model_text.specs.Letters.{is_word, is_quote}
@@ -13,7 +14,8 @@ use Rattle.law_tokens.proofs.CutLemmas.{text-some, Cuts-pieces_of, Cuts-one}
 use Rattle.law_tokens.proofs.PartLemmas.{both_ok}
 use Rattle.law_tokens.proofs.LineLemmas.{read_pieces, tokens_in-Reads}
 
-both_err : {A : Type 0} (first second : Result (List A) TokenFault) (fault : TokenFault) → both_or_fault first second ≡ Err fault → (first ≡ Err fault) ⊎ ((xs : List A) × (first ≡ Ok xs) × (second ≡ Err fault))
+both_err : {A : Type 0} (first second : Result (List A) TokenFault) (fault : TokenFault) → both_or_fault first second ≡ Err fault
+    → (first ≡ Err fault) ⊎ ((xs : List A) × (first ≡ Ok xs) × (second ≡ Err fault))
 both_err (Ok xs) (Ok ys) fault e = cc
 both_err (Ok xs) (Err found) fault e = inr (xs, refl, cc)
 both_err (Err found) second fault e = inl (cc)
@@ -28,7 +30,8 @@ record Faulty (column : ℕ) (pieces : List Piece) (fault : TokenFault) : Type 0
   fine : tokens_in column before ≡ Ok tokens
   faulty : piece_tokens (column + length (flat_map piece_text before)) piece ≡ Err fault
 
-further : (column : ℕ) (piece : Piece) (pieces : List Piece) (fault : TokenFault) (tokens : List Token) → piece_tokens column piece ≡ Ok tokens → Faulty (column + length (piece_text piece)) pieces fault → Faulty column (piece ∷ pieces) fault
+further : (column : ℕ) (piece : Piece) (pieces : List Piece) (fault : TokenFault) (tokens : List Token) → piece_tokens column piece ≡ Ok tokens
+    → Faulty (column + length (piece_text piece)) pieces fault → Faulty column (piece ∷ pieces) fault
 further column piece pieces fault tokens e f =
     let place : column + length (flat_map piece_text (piece ∷ f.before)) ≡ (column + length (piece_text piece)) + length (flat_map piece_text f.before) =
     omega (arith, length-append (piece_text piece) (flat_map piece_text f.before)) in
@@ -44,9 +47,13 @@ further column piece pieces fault tokens e f =
 
 faulty_in : (column : ℕ) (pieces : List Piece) (fault : TokenFault) → tokens_in column pieces ≡ Err fault → Faulty column pieces fault
 faulty_in column [] fault e = cc
-faulty_in column (piece ∷ pieces) fault e = by_piece (both_err (piece_tokens column piece) (tokens_in (column + length (piece_text piece)) pieces) fault e) (λ f. faulty_in (column + length (piece_text piece)) pieces fault f)
+faulty_in column (piece ∷ pieces) fault e = by_piece (both_err (piece_tokens column piece) (tokens_in (column + length (piece_text piece)) pieces) fault e)
+    (λ f. faulty_in (column + length (piece_text piece)) pieces fault f)
   where
-    by_piece : (piece_tokens column piece ≡ Err fault) ⊎ ((xs : List Token) × (piece_tokens column piece ≡ Ok xs) × (tokens_in (column + length (piece_text piece)) pieces ≡ Err fault)) → (tokens_in (column + length (piece_text piece)) pieces ≡ Err fault → Faulty (column + length (piece_text piece)) pieces fault) → Faulty column (piece ∷ pieces) fault
+    by_piece : (piece_tokens column piece
+        ≡ Err fault) ⊎ ((xs : List Token) × (piece_tokens column piece ≡ Ok xs) × (tokens_in (column + length (piece_text piece)) pieces ≡ Err fault))
+        → (tokens_in (column + length (piece_text piece)) pieces ≡ Err fault → Faulty (column + length (piece_text piece)) pieces fault)
+        → Faulty column (piece ∷ pieces) fault
     by_piece (inl f) behind =
         let place : column + 0 ≡ column = omega arith in
         record {
@@ -96,7 +103,8 @@ record CutBefore (before : List Piece) (piece : Piece) (behind : List Piece) (li
   some : 0 < length rest
   cut : Cuts (flat_map piece_text before) before
 
-cut_before : (before : List Piece) (piece : Piece) (behind : List Piece) (line : List ℕ) → Cuts line (before ++ piece ∷ behind) → CutBefore before piece behind line
+cut_before : (before : List Piece) (piece : Piece) (behind : List Piece) (line : List ℕ) → Cuts line (before ++ piece ∷ behind)
+    → CutBefore before piece behind line
 cut_before [] piece behind line c = record {
   rest = line;
   whole = refl;
@@ -132,7 +140,8 @@ FirstFault-tokens_of line fault e =
       faulty = f.faulty;
     }
 
-faulty_behind : (column : ℕ) (before : List Piece) (piece : Piece) (behind : List Piece) (tokens : List Token) (fault : TokenFault) → tokens_in column before ≡ Ok tokens → piece_tokens (column + length (flat_map piece_text before)) piece ≡ Err fault → tokens_in column (before ++ piece ∷ behind) ≡ Err fault
+faulty_behind : (column : ℕ) (before : List Piece) (piece : Piece) (behind : List Piece) (tokens : List Token) (fault : TokenFault) → tokens_in column before
+    ≡ Ok tokens → piece_tokens (column + length (flat_map piece_text before)) piece ≡ Err fault → tokens_in column (before ++ piece ∷ behind) ≡ Err fault
 faulty_behind column [] piece behind tokens fault fine faulty =
     let place : column + 0 ≡ column = omega arith in
     let here = ap (λ column. piece_tokens column piece) (sym place) ∙ faulty in rw here refl

@@ -1,5 +1,6 @@
 -- `tokens_of` answers exactly the tokens that a line has.
-use Rattle.std.proofs.Common.{◌≡◌, ℕ, zero, suc, ◌+◌, ◌^◌, ◌<◌, ◌≤◌, Bool, true, false, cond, not, List, [], ◌∷◌, ◌++◌, length, replicate, refl, sym, ap, ◌∙◌, arith, Option, Some, None, Result, Ok, Err, pos, nat_lt, add-zero}
+use Rattle.std.proofs.Common.{◌≡◌, ℕ, zero, suc, ◌+◌, ◌^◌, ◌<◌, ◌≤◌, Bool, true, false, cond, not, List, [], ◌∷◌, ◌++◌, length, replicate, refl, sym, ap, ◌∙◌}
+use Rattle.std.proofs.Common.{arith, Option, Some, None, Result, Ok, Err, pos, nat_lt, add-zero}
 use Rattle.std.specs.List.{list_all, position, position_or_len}
 use Rattle.std.specs.Char.{is_ascii_digit}
 use Rattle.std.proofs.lemmas.List.{length-append, append-nil}
@@ -11,7 +12,8 @@ use Rattle.model_text.specs.Faults.{TokenFault, BadNumber}
 use Rattle.model_text.specs.declared.literal.Literal.TheVariants.{OfText, OfBytes}
 use Rattle.model_text.specs.Literals.{parts_of, literal_bytes}
 use Rattle.model_text.specs.Pieces.{Piece, Blank, Comment, Word, Numeral, Quoted, Unclosed, Punctuation, Stray, piece_text, pieces_of}
-use Rattle.model_text.specs.Tokens.{TokenClass, Name, Int, Text, Bytes, Symbol, Token, number_of, is_number, token_of, comment_tokens, literal_tokens, piece_tokens, tokens_in, tokens_of}
+use Rattle.model_text.specs.Tokens.{TokenClass, Name, Int, Text, Bytes, Symbol, Token, number_of, is_number, token_of, comment_tokens, literal_tokens}
+use Rattle.model_text.specs.Tokens.{piece_tokens, tokens_in, tokens_of}
 use Rattle.model_text.specs.Cuts.{IsNumeral, Fits, Cuts}
 use Rattle.model_text.specs.Lines.{IsDecimal, SpellsToken, Ends, IsComment, Reads}
 use Rattle.law_tokens.proofs.CutLemmas.{symbol-some, opening-some, pieces_of-front, Cuts-pieces_of}
@@ -19,7 +21,8 @@ use Rattle.law_tokens.proofs.PartLemmas.{both_ok, Says-literal_bytes, literal_by
 use Rattle.law_tokens.proofs.PieceLemmas.{digit-word}
 
 -- a token from its parts
-token-is : (token : Token) (column : ℕ) (text : List ℕ) → token.start ≡ column → token.end ≡ token.start + length text → token_of column text token.class ≡ token
+token-is : (token : Token) (column : ℕ) (text : List ℕ) → token.start ≡ column → token.end ≡ token.start + length text → token_of column text token.class
+    ≡ token
 token-is token column text s e =
     let start = sym s in
     let end : column + length text ≡ token.end = omega arith in
@@ -43,7 +46,8 @@ Reads-blank column rest (token ∷ tokens) r = (
 )
 
 -- the tokens behind one
-Reads-token : (column : ℕ) (text rest : List ℕ) (class : TokenClass) (tokens : List Token) → SpellsToken class text → Ends class rest → Reads (column + length text) rest tokens → Reads column (text ++ rest) (token_of column text class ∷ tokens)
+Reads-token : (column : ℕ) (text rest : List ℕ) (class : TokenClass) (tokens : List Token) → SpellsToken class text → Ends class rest
+    → Reads (column + length text) rest tokens → Reads column (text ++ rest) (token_of column text class ∷ tokens)
 Reads-token column text rest class tokens spelled ended r = (
   rest,
   record {
@@ -70,7 +74,13 @@ text-some (Symbol symbol) text s = rw s (symbol-some symbol)
 Reads-nothing : (column : ℕ) (tokens : List Token) → Reads column [] tokens → tokens ≡ []
 Reads-nothing column [] r = refl
 Reads-nothing column (token ∷ tokens) r =
-    absurd (omega (arith, text-some token.class r.1.text r.1.spelled, ap length r.1.whole, length-append (replicate r.1.spaces 32) (r.1.text ++ r.0), length-append r.1.text r.0))
+    absurd (omega (
+      arith,
+      text-some token.class r.1.text r.1.spelled,
+      ap length r.1.whole,
+      length-append (replicate r.1.spaces 32) (r.1.text ++ r.0),
+      length-append r.1.text r.0,
+    ))
 
 -- a comment without a byte that isn't allowed
 no_fault : (column : ℕ) (place : Option ℕ) (mine : List Token) → comment_tokens column place ≡ Ok mine → (place ≡ None) × (mine ≡ [])
@@ -81,7 +91,8 @@ no_fault column (Some place) mine e = cc
 abbrev first_bad : List ℕ → ℕ
 first_bad text = position_or_len (λ byte. not (is_allowed byte)) text
 
-all_pass_by : (byte : ℕ) (text : List ℕ) (b : Bool) → is_allowed byte ≡ b → length (byte ∷ text) ≤ first_bad (byte ∷ text) → (length text ≤ first_bad text → list_all is_allowed text ≡ true) → list_all is_allowed (byte ∷ text) ≡ true
+all_pass_by : (byte : ℕ) (text : List ℕ) (b : Bool) → is_allowed byte ≡ b → length (byte ∷ text) ≤ first_bad (byte ∷ text)
+    → (length text ≤ first_bad text → list_all is_allowed text ≡ true) → list_all is_allowed (byte ∷ text) ≡ true
 all_pass_by byte text true e h behind = and_from (is_allowed byte) (list_all is_allowed text) e (behind (omega (arith, rw e at h)))
 all_pass_by byte text false e h behind = absurd (omega (arith, rw e at h))
 
@@ -105,16 +116,19 @@ numeral-some : (text : List ℕ) → IsNumeral text → 0 < length text
 numeral-some [] h = absurd h
 numeral-some (first ∷ others) h = omega arith
 
-text_ok : (column : ℕ) (text : List ℕ) (saying : Result (List ℕ) TokenFault) (mine : List Token) → literal_tokens column text OfText saying ≡ Ok mine → (bytes : List ℕ) × (saying ≡ Ok bytes) × (mine ≡ token_of column text (Text bytes) ∷ [])
+text_ok : (column : ℕ) (text : List ℕ) (saying : Result (List ℕ) TokenFault) (mine : List Token) → literal_tokens column text OfText saying ≡ Ok mine
+    → (bytes : List ℕ) × (saying ≡ Ok bytes) × (mine ≡ token_of column text (Text bytes) ∷ [])
 text_ok column text (Ok bytes) mine e = (bytes, refl, cc)
 text_ok column text (Err fault) mine e = cc
 
-bytes_ok : (column : ℕ) (text : List ℕ) (saying : Result (List ℕ) TokenFault) (mine : List Token) → literal_tokens column text OfBytes saying ≡ Ok mine → (bytes : List ℕ) × (saying ≡ Ok bytes) × (mine ≡ token_of column text (Bytes bytes) ∷ [])
+bytes_ok : (column : ℕ) (text : List ℕ) (saying : Result (List ℕ) TokenFault) (mine : List Token) → literal_tokens column text OfBytes saying ≡ Ok mine
+    → (bytes : List ℕ) × (saying ≡ Ok bytes) × (mine ≡ token_of column text (Bytes bytes) ∷ [])
 bytes_ok column text (Ok bytes) mine e = (bytes, refl, cc)
 bytes_ok column text (Err fault) mine e = cc
 
 -- one piece judged, and the tokens of the rest
-behind_piece : (column : ℕ) (piece : Piece) (rest : List ℕ) (mine others : List Token) → Fits piece rest → piece_tokens column piece ≡ Ok mine → Reads (column + length (piece_text piece)) rest others → Reads column (piece_text piece ++ rest) (mine ++ others)
+behind_piece : (column : ℕ) (piece : Piece) (rest : List ℕ) (mine others : List Token) → Fits piece rest → piece_tokens column piece ≡ Ok mine
+    → Reads (column + length (piece_text piece)) rest others → Reads column (piece_text piece ++ rest) (mine ++ others)
 unfolding piece_tokens
 behind_piece column Blank rest mine others fits e r =
     let none : mine ≡ [] = cc in rw none (Reads-blank column rest others r)
@@ -148,12 +162,14 @@ behind_piece column (Punctuation symbol) rest mine others fits e r =
 behind_piece column (Stray byte) rest mine others fits e r = cc
 
 -- the tokens of a cut
-pub read_pieces : (column : ℕ) (bytes : List ℕ) (pieces : List Piece) (tokens : List Token) → Cuts bytes pieces → tokens_in column pieces ≡ Ok tokens → Reads column bytes tokens
+pub read_pieces : (column : ℕ) (bytes : List ℕ) (pieces : List Piece) (tokens : List Token) → Cuts bytes pieces → tokens_in column pieces ≡ Ok tokens
+    → Reads column bytes tokens
 read_pieces column bytes [] tokens cut e =
     let none : tokens ≡ [] = cc in rw (none, cut) (0, [], refl, tt)
 read_pieces column bytes (piece ∷ pieces) tokens cut e =
     let both = both_ok (piece_tokens column piece) (tokens_in (column + length (piece_text piece)) pieces) tokens e in
-    rw (both.4, cut.1) (behind_piece column piece cut.0 both.0 both.1 cut.2 both.2 (read_pieces (column + length (piece_text piece)) cut.0 pieces both.1 cut.3 both.3))
+    rw (both.4, cut.1)
+    (behind_piece column piece cut.0 both.0 both.1 cut.2 both.2 (read_pieces (column + length (piece_text piece)) cut.0 pieces both.1 cut.3 both.3))
 
 -- What is answered is read.
 pub Reads-tokens_of : (line : List ℕ) (tokens : List Token) → tokens_of line ≡ Ok tokens → Reads 1 line tokens
@@ -219,15 +235,19 @@ token_piece (Symbol symbol) text rest s e =
     (Punctuation symbol, record { same = sym s; fits = e; one = λ column. rw s refl })
 
 -- one piece, and the tokens of the rest
-at_piece : (column : ℕ) (bytes : List ℕ) (piece : Piece) (rest : List ℕ) (mine others : List Token) → Fits piece rest → bytes ≡ piece_text piece ++ rest → piece_tokens column piece ≡ Ok mine → tokens_in (column + length (piece_text piece)) (pieces_of rest) ≡ Ok others → tokens_in column (pieces_of bytes) ≡ Ok (mine ++ others)
+at_piece : (column : ℕ) (bytes : List ℕ) (piece : Piece) (rest : List ℕ) (mine others : List Token) → Fits piece rest → bytes ≡ piece_text piece ++ rest
+    → piece_tokens column piece ≡ Ok mine → tokens_in (column + length (piece_text piece)) (pieces_of rest) ≡ Ok others → tokens_in column (pieces_of bytes)
+    ≡ Ok (mine ++ others)
 at_piece column bytes piece rest mine others fits whole e r =
     ap (tokens_in column) (pieces_of-front bytes piece rest fits whole) ∙ (rw (e, r) refl)
 
-at_blank : (column : ℕ) (more : List ℕ) (tokens : List Token) → tokens_in (column + 1) (pieces_of more) ≡ Ok tokens → tokens_in column (pieces_of (32 ∷ more)) ≡ Ok tokens
+at_blank : (column : ℕ) (more : List ℕ) (tokens : List Token) → tokens_in (column + 1) (pieces_of more) ≡ Ok tokens → tokens_in column (pieces_of (32 ∷ more))
+    ≡ Ok tokens
 unfolding piece_tokens
 at_blank column more tokens e = at_piece column (32 ∷ more) Blank more [] tokens tt refl refl e
 
-at_blanks : (spaces column : ℕ) (more : List ℕ) (tokens : List Token) → tokens_in (column + spaces) (pieces_of more) ≡ Ok tokens → tokens_in column (pieces_of (replicate spaces 32 ++ more)) ≡ Ok tokens
+at_blanks : (spaces column : ℕ) (more : List ℕ) (tokens : List Token) → tokens_in (column + spaces) (pieces_of more) ≡ Ok tokens
+    → tokens_in column (pieces_of (replicate spaces 32 ++ more)) ≡ Ok tokens
 at_blanks zero column more tokens e = rw add-zero at e
 at_blanks (suc spaces) column more tokens e =
     let n : column + suc spaces ≡ (column + 1) + spaces = omega arith in
@@ -241,7 +261,8 @@ none_bad (byte ∷ text) h =
 
 no_place : (text : List ℕ) → list_all is_allowed text ≡ true → position (λ byte. not (is_allowed byte)) text ≡ None
 no_place text h =
-    cond-false (nat_lt (first_bad text) (length text)) (Some (first_bad text)) None (le-ltb (first_bad text) (length text) (let same = none_bad text h in omega arith))
+    cond-false (nat_lt (first_bad text) (length text)) (Some (first_bad text)) None
+    (le-ltb (first_bad text) (length text) (let same = none_bad text h in omega arith))
 
 hash-allowed : (byte : ℕ) → is_hash byte ≡ true → is_allowed byte ≡ true
 hash-allowed byte h = grind (arith, nat_tests)
@@ -251,7 +272,8 @@ unfolding piece_tokens
 at_comment column [] c = refl
 at_comment column (first ∷ others) c =
     let allowed = and_from (is_allowed first) (list_all is_allowed others) (hash-allowed first c.0) c.1 in
-    at_piece column (first ∷ others) (Comment (first ∷ others)) [] [] [] (c.0, refl) (sym (append-nil (first ∷ others))) (ap (comment_tokens column) (no_place (first ∷ others) allowed)) refl
+    at_piece column (first ∷ others) (Comment (first ∷ others)) [] [] [] (c.0, refl) (sym (append-nil (first ∷ others)))
+    (ap (comment_tokens column) (no_place (first ∷ others) allowed)) refl
 
 -- What is read is answered.
 pub tokens_in-Reads : (column : ℕ) (bytes : List ℕ) (tokens : List Token) → Reads column bytes tokens → tokens_in column (pieces_of bytes) ≡ Ok tokens

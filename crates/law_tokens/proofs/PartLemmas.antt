@@ -1,5 +1,6 @@
 -- What the inside of a literal says.
-use Rattle.std.proofs.Common.{◌≡◌, ℕ, zero, suc, ◌<◌, ◌+◌, ◌-◌, ◌*◌, ◌≤◌, Bool, true, false, cond, ◌&&◌, not, List, [], ◌∷◌, ◌++◌, length, take, drop, refl, sym, ap, ◌∙◌, arith, Option, Some, None, Result, Ok, Err, eqb, slice_index, append_assoc}
+use Rattle.std.proofs.Common.{◌≡◌, ℕ, zero, suc, ◌<◌, ◌+◌, ◌-◌, ◌*◌, ◌≤◌, Bool, true, false, cond, ◌&&◌, not, List, [], ◌∷◌, ◌++◌, length, take, drop, refl}
+use Rattle.std.proofs.Common.{sym, ap, ◌∙◌, arith, Option, Some, None, Result, Ok, Err, eqb, slice_index, append_assoc}
 use Rattle.std.specs.Option.{option_map}
 use Rattle.std.specs.Char.{is_ascii_hexdigit, digit_value}
 use Rattle.std.proofs.lemmas.List.{length-append, take-append-drop}
@@ -9,12 +10,14 @@ use Rattle.std.proofs.lemmas.Bool.Decides.{nat_tests}
 use Rattle.model_text.specs.Letters.{is_allowed, is_quote, is_backslash}
 use Rattle.model_text.specs.Faults.{TokenFault, both_or_fault}
 use Rattle.model_text.specs.declared.literal.Literal.{Literal}
-use Rattle.model_text.specs.Literals.{limit, inside_of, part_at, parts_after, parts_of, escape_value, hexadecimal_value, value_below, part_value, part_bytes, literal_bytes}
+use Rattle.model_text.specs.Literals.{limit, inside_of, part_at, parts_after, parts_of, escape_value, hexadecimal_value, value_below, part_value, part_bytes}
+use Rattle.model_text.specs.Literals.{literal_bytes}
 use Rattle.model_text.specs.Lines.{Says}
 use Rattle.law_tokens.proofs.InsideLemmas.{inside_of-other}
 
 -- two lists joined, where both are there
-pub both_ok : {A : Type 0} (first second : Result (List A) TokenFault) (all : List A) → both_or_fault first second ≡ Ok all → (xs ys : List A) × (first ≡ Ok xs) × (second ≡ Ok ys) × (all ≡ xs ++ ys)
+pub both_ok : {A : Type 0} (first second : Result (List A) TokenFault) (all : List A) → both_or_fault first second ≡ Ok all
+    → (xs ys : List A) × (first ≡ Ok xs) × (second ≡ Ok ys) × (all ≡ xs ++ ys)
 both_ok (Ok xs) (Ok ys) all e = (xs, ys, refl, refl, cc)
 both_ok (Ok xs) (Err fault) all e = cc
 both_ok (Err fault) second all e = cc
@@ -31,7 +34,8 @@ parts_after-drop zero (byte ∷ bytes) = refl
 parts_after-drop (suc taken) (byte ∷ bytes) = parts_after-drop taken bytes
 
 -- a part that is found at the front is the first, and the others are those of the rest
-pub parts_of-front : (byte : ℕ) (bytes more rest : List ℕ) → part_at byte bytes ≡ byte ∷ more → bytes ≡ more ++ rest → parts_of (byte ∷ bytes) ≡ (byte ∷ more) ∷ parts_of rest
+pub parts_of-front : (byte : ℕ) (bytes more rest : List ℕ) → part_at byte bytes ≡ byte ∷ more → bytes ≡ more ++ rest → parts_of (byte ∷ bytes) ≡ (byte ∷ more)
+    ∷ parts_of rest
 parts_of-front byte bytes more rest e whole =
     let n : length (byte ∷ more) - 1 ≡ length more = omega arith in
     rw e (ap (λ others. (byte ∷ more) ∷ others) (parts_after-drop (length (byte ∷ more) - 1) bytes ∙ ap parts_of (rw (n, whole) (drop-append_seam more rest))))
@@ -62,7 +66,8 @@ part_bytes_ok : (column : ℕ) (value : Option ℕ) (bytes : List ℕ) → part_
 part_bytes_ok column (Some byte) bytes e = (byte, refl, cc)
 part_bytes_ok column None bytes e = cc
 
-says_within : (n : ℕ) (literal : Literal) (column : ℕ) (inside bytes : List ℕ) → length inside ≤ n → literal_bytes literal column (parts_of inside) ≡ Ok bytes → Says literal bytes inside
+says_within : (n : ℕ) (literal : Literal) (column : ℕ) (inside bytes : List ℕ) → length inside ≤ n → literal_bytes literal column (parts_of inside) ≡ Ok bytes
+    → Says literal bytes inside
 says_within n literal column [] bytes small e =
     let none : bytes ≡ [] = cc in rw none refl
 says_within zero literal column (byte ∷ inside) bytes small e = absurd (omega arith)
@@ -76,7 +81,8 @@ says_within (suc n) literal column (byte ∷ inside) bytes small e =
     rw all (byte ∷ s.0, s.1, ap (λ more. byte ∷ more) s.3, one.1, says_within n literal (column + length (byte ∷ s.0)) s.1 both.1 shorter both.3)
 
 -- what is said is spelled so
-pub Says-literal_bytes : (literal : Literal) (column : ℕ) (inside bytes : List ℕ) → literal_bytes literal column (parts_of inside) ≡ Ok bytes → Says literal bytes inside
+pub Says-literal_bytes : (literal : Literal) (column : ℕ) (inside bytes : List ℕ) → literal_bytes literal column (parts_of inside) ≡ Ok bytes
+    → Says literal bytes inside
 Says-literal_bytes literal column inside bytes e =
     says_within (length inside) literal column inside bytes (omega arith) e
 
@@ -137,7 +143,8 @@ parts_of-part (byte ∷ letter ∷ high ∷ low ∷ []) others p =
 parts_of-part (byte ∷ letter ∷ high ∷ low ∷ next ∷ more) others p = absurd p
 
 -- what is spelled so is said
-pub literal_bytes-Says : (literal : Literal) (column : ℕ) (bytes inside : List ℕ) → Says literal bytes inside → literal_bytes literal column (parts_of inside) ≡ Ok bytes
+pub literal_bytes-Says : (literal : Literal) (column : ℕ) (bytes inside : List ℕ) → Says literal bytes inside → literal_bytes literal column (parts_of inside)
+    ≡ Ok bytes
 literal_bytes-Says literal column [] inside s = rw s refl
 literal_bytes-Says literal column (byte ∷ bytes) inside s =
     let p = is_part literal s.0 byte s.3 in
@@ -145,7 +152,8 @@ literal_bytes-Says literal column (byte ∷ bytes) inside s =
     rw (parts, s.3, literal_bytes-Says literal (column + length s.0) bytes s.1 s.4) refl
 
 -- one byte further in an inside
-inside_of-plain : (unpaired : Bool) (byte : ℕ) (bytes inside : List ℕ) → (is_quote byte && not unpaired) ≡ false → inside_of (is_backslash byte && not unpaired) bytes ≡ Some inside → inside_of unpaired (byte ∷ bytes) ≡ Some (byte ∷ inside)
+inside_of-plain : (unpaired : Bool) (byte : ℕ) (bytes inside : List ℕ) → (is_quote byte && not unpaired) ≡ false
+    → inside_of (is_backslash byte && not unpaired) bytes ≡ Some inside → inside_of unpaired (byte ∷ bytes) ≡ Some (byte ∷ inside)
 inside_of-plain unpaired byte bytes inside h e =
     inside_of-other unpaired byte bytes h ∙ ap (option_map (λ more. byte ∷ more)) e
 
@@ -170,7 +178,8 @@ inside_of-part (byte ∷ letter ∷ high ∷ []) bytes inside p e = absurd p
 inside_of-part (byte ∷ letter ∷ high ∷ low ∷ []) bytes inside p e =
     let last = inside_of-plain false low bytes inside (hexdigit-no_quote low p.3) (rw (hexdigit-no_backslash low p.3) e) in
     let third = inside_of-plain false high (low ∷ bytes) (low ∷ inside) (hexdigit-no_quote high p.2) (rw (hexdigit-no_backslash high p.2) last) in
-    rw p.0 (inside_of-plain false 92 (letter ∷ high ∷ low ∷ bytes) (letter ∷ high ∷ low ∷ inside) refl (inside_of-paired letter (high ∷ low ∷ bytes) (high ∷ low ∷ inside) third))
+    rw p.0 (inside_of-plain false 92 (letter ∷ high ∷ low ∷ bytes) (letter ∷ high ∷ low ∷ inside) refl
+    (inside_of-paired letter (high ∷ low ∷ bytes) (high ∷ low ∷ inside) third))
 inside_of-part (byte ∷ letter ∷ high ∷ low ∷ next ∷ more) bytes inside p e = absurd p
 
 -- what says bytes is an inside

@@ -48,7 +48,8 @@ piece_at-quote byte bytes q =
     let h : is_hash byte ≡ false = grind (arith, nat_tests) in
     rw (s, h, q) refl
 
-pub piece_at-b : (byte : ℕ) (bytes : List ℕ) → eqb byte 98 ≡ true → is_quote (slice_index bytes 0) ≡ true → piece_at byte bytes ≡ literal_at OfBytes (drop 1 bytes) (inside_of false (drop 1 bytes))
+pub piece_at-b : (byte : ℕ) (bytes : List ℕ) → eqb byte 98 ≡ true → is_quote (slice_index bytes 0) ≡ true → piece_at byte bytes
+    ≡ literal_at OfBytes (drop 1 bytes) (inside_of false (drop 1 bytes))
 unfolding piece_at
 piece_at-b byte bytes b n =
     let s : is_space byte ≡ false = grind (arith, nat_tests) in
@@ -66,7 +67,8 @@ piece_at-digit byte bytes d =
     let b = digit-no_b byte d in
     rw (s, h, q, b, d) refl
 
-pub piece_at-word : (byte : ℕ) (bytes : List ℕ) → is_word byte ≡ true → is_ascii_digit byte ≡ false → (eqb byte 98 && is_quote (slice_index bytes 0)) ≡ false → piece_at byte bytes ≡ Word (take_while is_word (byte ∷ bytes))
+pub piece_at-word : (byte : ℕ) (bytes : List ℕ) → is_word byte ≡ true → is_ascii_digit byte ≡ false → (eqb byte 98 && is_quote (slice_index bytes 0)) ≡ false
+    → piece_at byte bytes ≡ Word (take_while is_word (byte ∷ bytes))
 unfolding piece_at
 piece_at-word byte bytes w d n =
     let s = word-no_space byte w in
@@ -74,7 +76,8 @@ piece_at-word byte bytes w d n =
     let q = word-no_quote byte w in
     rw (s, h, q, n, w, d) refl
 
-pub piece_at-other : (byte : ℕ) (bytes : List ℕ) → is_space byte ≡ false → is_hash byte ≡ false → is_quote byte ≡ false → is_word byte ≡ false → piece_at byte bytes ≡ punctuation_at byte (symbol_at (byte ∷ bytes))
+pub piece_at-other : (byte : ℕ) (bytes : List ℕ) → is_space byte ≡ false → is_hash byte ≡ false → is_quote byte ≡ false → is_word byte ≡ false
+    → piece_at byte bytes ≡ punctuation_at byte (symbol_at (byte ∷ bytes))
 unfolding piece_at
 piece_at-other byte bytes s h q w =
     let d = no_word-no_digit byte w in

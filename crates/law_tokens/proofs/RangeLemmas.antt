@@ -15,13 +15,18 @@ limit_ascii : (literal : Literal) → 128 ≤ limit literal
 limit_ascii OfText = omega arith
 limit_ascii OfBytes = omega arith
 
-either_value : (bound : ℕ) (b : Bool) (value : ℕ) (others : Option ℕ) (byte : ℕ) → value < bound → cond b (Some value) others ≡ Some byte → (others ≡ Some byte → byte < bound) → byte < bound
+either_value : (bound : ℕ) (b : Bool) (value : ℕ) (others : Option ℕ) (byte : ℕ) → value < bound → cond b (Some value) others ≡ Some byte
+    → (others ≡ Some byte → byte < bound) → byte < bound
 either_value bound true value others byte small e other = let same : value ≡ byte = cc in omega arith
 either_value bound false value others byte small e other = other e
 
 escape_value_small : (letter byte : ℕ) → escape_value letter ≡ Some byte → byte < 128
 escape_value_small letter byte e =
-    either_value 128 (letter == 110) 10 _ byte (omega arith) e (λ e. either_value 128 (letter == 114) 13 _ byte (omega arith) e (λ e. either_value 128 (letter == 116) 9 _ byte (omega arith) e (λ e. either_value 128 (is_backslash letter) 92 _ byte (omega arith) e (λ e. either_value 128 (is_quote letter) 34 None byte (omega arith) e (λ e. cc)))))
+    either_value 128 (letter == 110) 10 _ byte (omega arith) e
+    (λ e. either_value 128 (letter == 114) 13 _ byte (omega arith) e
+    (λ e. either_value 128 (letter == 116) 9 _ byte (omega arith) e
+    (λ e. either_value 128 (is_backslash letter) 92 _ byte (omega arith) e
+    (λ e. either_value 128 (is_quote letter) 34 None byte (omega arith) e (λ e. cc)))))
 
 value_below_small : (bound : ℕ) (value : Option ℕ) (byte : ℕ) → value_below bound value ≡ Some byte → byte < bound
 value_below_small bound None byte e = cc

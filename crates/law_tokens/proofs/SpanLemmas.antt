@@ -16,7 +16,8 @@ further : (line : List ℕ) (at next : ℕ) (front others : List ℕ) → next �
 further line at next front others n e =
     ap (λ k. drop k line) n ∙ (sym (drop-drop (length front) at line) ∙ (ap (drop (length front)) e ∙ drop-append_seam front others))
 
-given_back : (line : List ℕ) (column : ℕ) (token : Token) (rest : List ℕ) → 0 < column → column ≤ length line + 1 → ReadsToken column (drop (column - 1) line) token rest → IsGivenBack line column token × (drop (token.end - 1) line ≡ rest)
+given_back : (line : List ℕ) (column : ℕ) (token : Token) (rest : List ℕ) → 0 < column → column ≤ length line + 1
+    → ReadsToken column (drop (column - 1) line) token rest → IsGivenBack line column token × (drop (token.end - 1) line ≡ rest)
 given_back line column token rest some within r =
     let blanks : List ℕ = replicate r.spaces 32 in
     let text : List ℕ = r.text in
@@ -41,7 +42,8 @@ given_back line column token rest some within r =
       at_end,
     )
 
-pub GivesBack-Reads : (line : List ℕ) (column : ℕ) (tokens : List Token) → 0 < column → column ≤ length line + 1 → Reads column (drop (column - 1) line) tokens → GivesBack line column tokens
+pub GivesBack-Reads : (line : List ℕ) (column : ℕ) (tokens : List Token) → 0 < column → column ≤ length line + 1 → Reads column (drop (column - 1) line) tokens
+    → GivesBack line column tokens
 GivesBack-Reads line column [] some within r = r
 GivesBack-Reads line column (token ∷ tokens) some within r =
     let g = given_back line column token r.0 some within r.1 in

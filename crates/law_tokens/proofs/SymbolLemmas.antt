@@ -1,11 +1,13 @@
 -- The longest symbol that fits is the first in the list that does.
-use Rattle.std.proofs.Common.{◌≡◌, ℕ, ◌≤◌, Bool, true, false, cond, ◌⊎◌, inl, inr, List, [], ◌∷◌, ◌++◌, length, take, drop, refl, sym, ap, ◌∙◌, Option, Some, None, arith, nat_eq, find}
+use Rattle.std.proofs.Common.{◌≡◌, ℕ, ◌≤◌, Bool, true, false, cond, ◌⊎◌, inl, inr, List, [], ◌∷◌, ◌++◌, length, take, drop, refl, sym, ap, ◌∙◌, Option, Some}
+use Rattle.std.proofs.Common.{None, arith, nat_eq, find}
 use Rattle.std.specs.List.{starts_with}
 use Rattle.std.proofs.Math.Seq.{take-append_seam}
 use Rattle.std.proofs.lemmas.Slice.Eq.{starts_is}
 use Rattle.std.proofs.lemmas.Bool.Decides.{Decides-eqb}
 use Rattle.model_text.specs.declared.symbol.Symbol.{Symbol}
-use Rattle.model_text.specs.declared.symbol.Symbol.TheVariants.{LeftParenthesis, RightParenthesis, LeftBracket, RightBracket, Comma, Assign, Equals, NotEquals, LessThan, LessOrEqual, GreaterThan, GreaterOrEqual, Plus, Minus, Star, DoubleSlash, Percent}
+use Rattle.model_text.specs.declared.symbol.Symbol.TheVariants.{LeftParenthesis, RightParenthesis, LeftBracket, RightBracket, Comma, Assign, Equals, NotEquals}
+use Rattle.model_text.specs.declared.symbol.Symbol.TheVariants.{LessThan, LessOrEqual, GreaterThan, GreaterOrEqual, Plus, Minus, Star, DoubleSlash, Percent}
 use Rattle.model_text.specs.Symbols.{symbol_text, symbols, symbol_at}
 use Rattle.model_text.specs.Cuts.{BeginsWith, IsLongest}
 
@@ -69,7 +71,8 @@ passed_over p x xs (Some found) fails f = (f.0, λ y a passes. at_first y a pass
     at_first y (inl e) passes = let same = ap p e in cc
     at_first y (inr a) passes = f.1 y a passes
 
-by_test : (p : Symbol → Bool) (x : Symbol) (xs : List Symbol) (b : Bool) → NoneLonger x xs → p x ≡ b → Finds p xs (find p xs) → Finds p (x ∷ xs) (cond b (Some x) (find p xs))
+by_test : (p : Symbol → Bool) (x : Symbol) (xs : List Symbol) (b : Bool) → NoneLonger x xs → p x ≡ b → Finds p xs (find p xs)
+    → Finds p (x ∷ xs) (cond b (Some x) (find p xs))
 by_test p x xs true least e f = (e, λ y a passes. at_first y a)
   where
     at_first : (y : Symbol) → Among y (x ∷ xs) → length (symbol_text y) ≤ length (symbol_text x)

@@ -1,5 +1,6 @@
 -- A task is made in no group: what holds of the parts and of all groups goes on holding.
-use Rattle.std.proofs.Common.{◌≡◌, ℕ, List, None, Option, Some, ap, arith, inl, inr, length, length-append, option_map, refl, subst, sym, true, ◌++◌, ◌+◌, ◌<◌, ◌∙◌, ◌≤◌, ◌⊎◌}
+use Rattle.std.proofs.Common.{◌≡◌, ℕ, List, None, Option, Some, ap, arith, inl, inr, length, length-append, option_map, refl, subst, sym, true, ◌++◌, ◌+◌, ◌<◌}
+use Rattle.std.proofs.Common.{◌∙◌, ◌≤◌, ◌⊎◌}
 use Rattle.model_loop.specs.Loop.{Group}
 use Rattle.model_loop.specs.Tasks.{future_of, lives, next_task, spawn}
 use Rattle.law_told.proofs.Told.{failures_kept, own_is}
@@ -7,7 +8,8 @@ use Rattle.law_settling.proofs.CancelSound.{plain_within}
 use Rattle.model_loop.specs.Owning.{is_plain_at, own_future}
 use Rattle.model_loop.specs.Totals.{IsAtHome, callbacks_at, callbacks_of, pending_where, registered_at, total}
 use Rattle.model_loop.specs.Children.{body_at_end, tells}
-use Rattle.law_made.proofs.Spawning.{called, live_in, new_lived_not, new_none, new_task, no_future, no_task, old_future, old_lives, old_task, spawn_sound, old_same}
+use Rattle.law_made.proofs.Spawning.{called, live_in, new_lived_not, new_none, new_task, no_future, no_task, old_future, old_lives, old_task, spawn_sound}
+use Rattle.law_made.proofs.Spawning.{old_same}
 use Rattle.std.specs.List.{count_by}
 use Rattle.model_loop.specs.Numbered.{occurrences}
 use Rattle.law_told.specs.Holds.{Holds}

@@ -1,5 +1,6 @@
 -- What a task does in its step keeps what holds of the parts and of all groups.
-use Rattle.std.proofs.Common.{◌≡◌, ℕ, Bool, Err, List, None, Ok, Option, Result, Some, [], ap, cond, false, inl, inr, length, option_map, refl, slice_get, subst, sym, true, ◌∙◌, ◌∷◌, ◌⊎◌}
+use Rattle.std.proofs.Common.{◌≡◌, ℕ, Bool, Err, List, None, Ok, Option, Result, Some, [], ap, cond, false, inl, inr, length, option_map, refl, slice_get}
+use Rattle.std.proofs.Common.{subst, sym, true, ◌∙◌, ◌∷◌, ◌⊎◌}
 use Rattle.model_loop.specs.Tasks.{begin_step, change_task, finish, future_of, is_marked, pause, set_waiter, unmark}
 use Rattle.model_loop.specs.Suspend.{cancel_wait, suspend, suspend_unless, wait_on}
 use Rattle.model_value.specs.Value.{Exc, Outcome, Value}

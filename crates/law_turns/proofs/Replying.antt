@@ -1,5 +1,6 @@
 -- Each request of the table keeps the loop sound.
-use Rattle.std.proofs.Common.{◌≡◌, ℕ, zero, suc, ◌+◌, ◌<◌, ℤ, pos, negsuc, Bool, true, false, List, [], ◌∷◌, ◌++◌, Option, Some, None, is_some, length, slice_index_or, nat_lt, refl, ap, ◌∙◌, length-append, arith}
+use Rattle.std.proofs.Common.{◌≡◌, ℕ, zero, suc, ◌+◌, ◌<◌, ℤ, pos, negsuc, Bool, true, false, List, [], ◌∷◌, ◌++◌, Option, Some, None, is_some, length}
+use Rattle.std.proofs.Common.{slice_index_or, nat_lt, refl, ap, ◌∙◌, length-append, arith}
 use Rattle.std.proofs.lemmas.Bool.{eq-eqb}
 use Rattle.std.proofs.lemmas.Option.{none-some}
 use Rattle.model_value.specs.declared.input.Input.TheVariants.{Send, Throw}
@@ -22,12 +23,15 @@ use Rattle.model_loop.specs.Timeouts.{exit_timeout, is_active, next_timeout, tim
 use Rattle.model_machine.specs.Arguments.{as_future, as_awaited, as_task, as_timeout, as_group, as_int, as_delay, as_failure}
 use Rattle.model_machine.specs.Extra.{Extra}
 use Rattle.model_machine.specs.Outcomes.{input_of}
-use Rattle.model_machine.specs.Replies.{RequestReply, given, most_ids, numbered_if, numbered, replied, ended, result_of, shown_all, awaits_as, awaits, alarmed, sleeps, makes_future, settles_if, settles, requests, counted, spawns, enters_timeout, timed_out_if, exits_timeout, reschedules_if, reschedules, enters_group, exits_as, exits_group, creates_unless, creates, reply}
+use Rattle.model_machine.specs.Replies.{RequestReply, given, most_ids, numbered_if, numbered, replied, ended, result_of, shown_all, awaits_as, awaits, alarmed}
+use Rattle.model_machine.specs.Replies.{sleeps, makes_future, settles_if, settles, requests, counted, spawns, enters_timeout, timed_out_if, exits_timeout}
+use Rattle.model_machine.specs.Replies.{reschedules_if, reschedules, enters_group, exits_as, exits_group, creates_unless, creates, reply}
 use Rattle.model_machine.specs.State.{State, with_loop}
 use Rattle.model_machine.specs.Told.{told_by, told_in}
 use Rattle.law_cancel.proofs.Lookups.{get-push_last}
 use Rattle.law_ledger.specs.Telling.{is_open, IsOther}
-use Rattle.law_sound.proofs.Steps.{pause_step_sound, suspend_step_sound, plain_step_sound, settle_step_sound, request_step_sound, uncancel_step_sound, spawn_step_sound, later_step_sound}
+use Rattle.law_sound.proofs.Steps.{pause_step_sound, suspend_step_sound, plain_step_sound, settle_step_sound, request_step_sound, uncancel_step_sound}
+use Rattle.law_sound.proofs.Steps.{spawn_step_sound, later_step_sound}
 use Rattle.law_sound.proofs.GroupSteps.{make_group_sound, enter_group_sound, create_sound, exit_begin_sound}
 use Rattle.law_sound.proofs.TimeoutSteps.{enter_timeout_sound, reschedule_sound, exit_timeout_sound}
 use Rattle.law_groups.proofs.Waits.{exit_waits}

@@ -9,7 +9,8 @@ use denote.Enum.Bare.{same_true, true_same}
 use Rattle.model_value.specs.contracts.kind.Kind.{the_type}
 use Rattle.model_value.specs.declared.kind.Kind.{Kind}
 use Rattle.model_value.specs.Kinds.{same_kind}
-use Rattle.model_value.specs.Value.{Value, Nothing, Truth, Int, Text, Bytes, Items, Fut, Task, Group, Timeout, Conn, Server, Child, Errs, Exception, Values, no_values, value_then, Exc, exc, Excs, no_excs, exc_then, values, excs, kind_of, text_of, bytes_of, members_of}
+use Rattle.model_value.specs.Value.{Value, Nothing, Truth, Int, Text, Bytes, Items, Fut, Task, Group, Timeout, Conn, Server, Child, Errs, Exception, Values}
+use Rattle.model_value.specs.Value.{no_values, value_then, Exc, exc, Excs, no_excs, exc_then, values, excs, kind_of, text_of, bytes_of, members_of}
 use Rattle.model_value.specs.Equality.{equal, same_truth, same_items, same_exc, same_members}
 use Rattle.law_value.proofs.Rows.{excs-excs_of}
 
@@ -66,7 +67,8 @@ mutual
       let two = same_kind k k' && bytes_eq t t' in
       let front = first_true three (same_members ms ms') e in
       let start = first_true two (bytes_eq b b') front in
-      λ i. exc (kind k k' (first_true (same_kind k k') (bytes_eq t t') start) i) (bytes t t' (second_true (same_kind k k') (bytes_eq t t') start) i) (bytes b b' (second_true two (bytes_eq b b') front) i) (one_members ms ms' (second_true three (same_members ms ms') e) i)
+      λ i. exc (kind k k' (first_true (same_kind k k') (bytes_eq t t') start) i) (bytes t t' (second_true (same_kind k k') (bytes_eq t t') start) i)
+      (bytes b b' (second_true two (bytes_eq b b') front) i) (one_members ms ms' (second_true three (same_members ms ms') e) i)
 
   one_members : (v w : Excs) → same_members v w ≡ true → v ≡ w
   one_members no_excs no_excs e = refl
@@ -107,7 +109,8 @@ mutual
   same_exc_again : (e : Exc) → same_exc e e ≡ true
   same_exc_again (exc k t b ms) =
       both (same_kind k k && bytes_eq t t && bytes_eq b b) (same_members ms ms)
-      (both (same_kind k k && bytes_eq t t) (bytes_eq b b) (both (same_kind k k) (bytes_eq t t) (true_same the_type k k refl) ((bytes_eq-Decides t t).1 refl)) ((bytes_eq-Decides b b).1 refl))
+      (both (same_kind k k && bytes_eq t t) (bytes_eq b b) (both (same_kind k k) (bytes_eq t t) (true_same the_type k k refl) ((bytes_eq-Decides t t).1 refl))
+      ((bytes_eq-Decides b b).1 refl))
       (same_members_again ms)
 
   same_members_again : (es : Excs) → same_members es es ≡ true
@@ -134,5 +137,7 @@ same_members-lengths [] (f ∷ fs) n = refl
 same_members-lengths (e ∷ es) [] n = refl
 
 -- whether two exceptions are equal, by their parts
-pub same_exc-parts : (a b : Exc) → same_exc a b ≡ (same_kind (kind_of a) (kind_of b) && bytes_eq (text_of a) (text_of b) && bytes_eq (bytes_of a) (bytes_of b) && same_members (excs (members_of a)) (excs (members_of b)))
+pub same_exc-parts : (a b : Exc) → same_exc a b
+    ≡ (same_kind (kind_of a) (kind_of b) && bytes_eq (text_of a) (text_of b) && bytes_eq (bytes_of a) (bytes_of b) && same_members (excs (members_of a))
+    (excs (members_of b)))
 same_exc-parts (exc k t b ms) (exc k' t' b' ms') = rw (excs-excs_of ms, excs-excs_of ms') refl

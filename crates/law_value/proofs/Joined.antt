@@ -34,5 +34,7 @@ shown_members-push [] e = append-nil (shown_exc e)
 shown_members-push (f ∷ es) e = simp (more_members-push es e, append_assoc)
 
 -- an exception's text by its parts
-pub shown_exc-parts : (e : Exc) → shown_exc e ≡ kind_name (kind_of e) ++ codes "(" ++ text_literal (text_of e) ++ (if is_group (kind_of e) then codes ", [" ++ shown_members (excs (members_of e)) ++ codes "]" else []) ++ codes ")"
+pub shown_exc-parts : (e : Exc) → shown_exc e ≡ kind_name (kind_of e)
+    ++ codes "(" ++ text_literal (text_of e) ++ (if is_group (kind_of e) then codes ", [" ++ shown_members (excs (members_of e)) ++ codes "]" else [])
+    ++ codes ")"
 shown_exc-parts (exc kind text bytes members) = rw (excs-excs_of members) refl

@@ -10,7 +10,8 @@ use Rattle.model_value.specs.declared.place.Place.{Place}
 use Rattle.model_value.specs.declared.place.Place.TheVariants.{Bare, InText, InBytes}
 use Rattle.model_value.specs.Kinds.{kind_name}
 use Rattle.model_value.specs.Escapes.{escaped, escaped_byte, text_literal, bytes_literal}
-use Rattle.model_value.specs.Value.{Value, Nothing, Truth, Int, Text, Bytes, Items, Fut, Task, Group, Timeout, Conn, Server, Child, Errs, Exception, Values, no_values, value_then, Exc, exc, Excs, no_excs, exc_then}
+use Rattle.model_value.specs.Value.{Value, Nothing, Truth, Int, Text, Bytes, Items, Fut, Task, Group, Timeout, Conn, Server, Child, Errs, Exception, Values}
+use Rattle.model_value.specs.Value.{no_values, value_then, Exc, exc, Excs, no_excs, exc_then}
 use Rattle.model_value.specs.Shown.{shown, quoted, quoted_items, more_items, shown_exc, shown_members, more_members, is_group, truth_text}
 use Rattle.law_value.specs.Endings.{has_newline}
 
@@ -41,7 +42,8 @@ digits_printed : (k n : ℕ) (rest : List ℕ) → has_newline rest ≡ false �
 digits_printed zero n rest p = p
 digits_printed (suc k) n rest p =
     let here = glyph_printed (n % 10) rest p in
-    chosen (n / 10 == 0) (digit_glyph false (n % 10) ∷ rest) (digits_onto k 10 false (n / 10) (digit_glyph false (n % 10) ∷ rest)) here (digits_printed k (n / 10) _ here)
+    chosen (n / 10 == 0) (digit_glyph false (n % 10) ∷ rest) (digits_onto k 10 false (n / 10) (digit_glyph false (n % 10) ∷ rest)) here
+    (digits_printed k (n / 10) _ here)
 
 decimal_printed : (n : ℕ) → has_newline (decimal n) ≡ false
 unfolding digits
@@ -91,7 +93,8 @@ mutual
       (
       joined (kind_name kind ++ codes "(" ++ text_literal text) (if is_group kind then codes ", [" ++ shown_members members ++ codes "]" else [])
       (joined (kind_name kind ++ codes "(") (text_literal text) (joined (kind_name kind) (codes "(") (name_printed kind) refl) (text_literal_printed text))
-      (chosen (is_group kind) (codes ", [" ++ shown_members members ++ codes "]") [] (joined (shown_members members) (codes "]") (members_printed members) refl) refl)
+      (chosen (is_group kind) (codes ", [" ++ shown_members members ++ codes "]") [] (joined (shown_members members) (codes "]")
+      (members_printed members) refl) refl)
       ) refl
 
   members_printed : (es : Excs) → has_newline (shown_members es) ≡ false

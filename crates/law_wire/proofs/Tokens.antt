@@ -1,5 +1,6 @@
 -- Each word that is written, with the token that it is read as.
-use Rattle.std.proofs.Common.{◌≡◌, ℕ, zero, suc, ◌+◌, ◌<◌, ◌≤◌, Bool, true, false, not, ◌&&◌, List, [], ◌∷◌, ◌++◌, length, refl, sym, ap, subst, ◌∙◌, append_assoc, arith, nat_eq, nat_le}
+use Rattle.std.proofs.Common.{◌≡◌, ℕ, zero, suc, ◌+◌, ◌<◌, ◌≤◌, Bool, true, false, not, ◌&&◌, List, [], ◌∷◌, ◌++◌, length, refl, sym, ap, subst, ◌∙◌}
+use Rattle.std.proofs.Common.{append_assoc, arith, nat_eq, nat_le}
 use Rattle.std.specs.List.{list_all, AllByRecursion}
 use Rattle.std.specs.Fmt.{decimal}
 use Rattle.std.proofs.lemmas.List.{length-append}
@@ -17,7 +18,8 @@ use Rattle.model_wire.specs.declared.entry.EntryWord.TheVariants as word
 use Rattle.model_wire.specs.declared.entry.IdLetter.{IdLetter}
 use Rattle.model_wire.specs.declared.entry.IdLetter.TheVariants as letter
 use Rattle.model_wire.specs.declared.entry.EntryToken.TheVariants as token
-use Rattle.model_wire.specs.JournalText.{EntryToken, QuoteState, Outside, Inside, Escaped, standing_after, is_outside, is_some, are_digits, most_id, entry_word_text, token_of, number_token, minus_token, id_token, literal_token}
+use Rattle.model_wire.specs.JournalText.{EntryToken, QuoteState, Outside, Inside, Escaped, standing_after, is_outside, is_some, are_digits, most_id}
+use Rattle.model_wire.specs.JournalText.{entry_word_text, token_of, number_token, minus_token, id_token, literal_token}
 use Rattle.law_tokens.proofs.PartLemmas.{literal_bytes-Says, inside_of-Says}
 use Rattle.law_lines.proofs.Spelling.{bytes-literal}
 use Rattle.law_wire.proofs.Numbers.{decimal-of}

@@ -9,7 +9,10 @@ use Rattle.model_text.specs.Words.{Lexeme, Reserved, Named, Number, Sign, is_sig
 use Rattle.model_text.specs.Cutting.{parts, before_last}
 use Rattle.model_text.specs.Terms.{Term}
 use Rattle.model_text.specs.Levels.{all_of, bare_name, arguments_of, term_of}
-use Rattle.model_text.specs.Forms.{Profile, Def, Assign, Yield, YieldFrom, Print, Raise, Return, Pass, If, Else, While, Try, Except, Finally, WithGroup, WithTimeout, End, Goal, Awaited, Asked, Spelled, coroutine_place, goal_of, alone, with_term, profile_form, def_form, yield_from, yield_form, assigned_form, name_form, print_form, return_form, except_form, closed_as, before_as, with_form, form_behind, form_of}
+use Rattle.model_text.specs.Forms.{Profile, Def, Assign, Yield, YieldFrom, Print, Raise, Return, Pass, If, Else, While, Try, Except, Finally, WithGroup}
+use Rattle.model_text.specs.Forms.{WithTimeout, End, Goal, Awaited, Asked, Spelled, coroutine_place, goal_of, alone, with_term, profile_form, def_form}
+use Rattle.model_text.specs.Forms.{yield_from, yield_form, assigned_form, name_form, print_form, return_form, except_form, closed_as, before_as, with_form}
+use Rattle.model_text.specs.Forms.{form_behind, form_of}
 use Rattle.law_lines.specs.WellWritten.{WellNamed, AllNamed, PerhapsNamed}
 use Rattle.law_written.proofs.Goods.{GoodLexeme, AllGood, GoodTerm, AllGoodTerms, then-some, map-some, all-some}
 use Rattle.law_written.proofs.GoodTerms.{parts-good, before-last-good, bare-good, GoodArguments, slots-good, arguments-good, term-good}
@@ -45,11 +48,17 @@ given : (f form : Spelled) → GoodForm f → (let found : Option Spelled = Some
 given f form g e = let same : f ≡ form = cc in subst GoodForm same g
 
 -- ---- targets
-call-good : (test : Bool) (name : Name) (lexemes : List Lexeme) (goal : Goal) → WellNamed name → AllGood lexemes → (if test then option_and_then (λ inner. option_map (Asked name) (arguments_of term_of (coroutine_place name) (parts inner))) (before_last symbol.RightParenthesis lexemes) else None) ≡ Some goal → GoodGoal goal
+call-good : (test : Bool) (name : Name) (lexemes : List Lexeme) (goal : Goal) → WellNamed name → AllGood lexemes
+    → (if test then option_and_then (λ inner. option_map (Asked name) (arguments_of term_of (coroutine_place name) (parts inner)))
+    (before_last symbol.RightParenthesis lexemes) else None) ≡ Some goal → GoodGoal goal
 call-good true name lexemes goal n g e =
     let i = then-some (λ inner. option_map (Asked name) (arguments_of term_of (coroutine_place name) (parts inner))) (before_last symbol.RightParenthesis lexemes) goal e in
     let a = map-some (Asked name) (arguments_of term_of (coroutine_place name) (parts i.0)) goal i.2 in
-    subst GoodGoal a.2 (n, arguments-good term_of term-good (coroutine_place name) (parts i.0) a.0 (parts-good i.0 (before-last-good symbol.RightParenthesis lexemes i.0 g i.1)) a.1)
+    subst GoodGoal a.2 (
+      n,
+      arguments-good term_of term-good (coroutine_place name) (parts i.0) a.0
+          (parts-good i.0 (before-last-good symbol.RightParenthesis lexemes i.0 g i.1)) a.1,
+    )
 call-good false name lexemes goal n g e = cc
 
 goal-good : (lexemes : List Lexeme) (goal : Goal) → AllGood lexemes → goal_of lexemes ≡ Some goal → GoodGoal goal
@@ -75,11 +84,14 @@ profile-good (Number number ∷ []) form g e =
     given (Profile (nat_abs number)) form (subst (λ z. nat_abs z < 2 ^ 63) (sym g.0.1) g.0.2) e
 profile-good _ form g e = cc
 
-parameters-good : (test : Bool) (name : Name) (lexemes : List Lexeme) (form : Spelled) → WellNamed name → AllGood lexemes → (let found : Option Spelled = if test then option_and_then (λ inner. option_map (Def name) (all_of bare_name (parts inner))) (before_last symbol.RightParenthesis lexemes) else None in found) ≡ Some form → GoodForm form
+parameters-good : (test : Bool) (name : Name) (lexemes : List Lexeme) (form : Spelled) → WellNamed name → AllGood lexemes
+    → (let found : Option Spelled = if test then option_and_then (λ inner. option_map (Def name) (all_of bare_name (parts inner))) (before_last symbol.RightParenthesis lexemes) else None in found) ≡ Some form → GoodForm form
 parameters-good true name lexemes form n g e =
-    let i = then-some (λ inner. let found : Option Spelled = option_map (Def name) (all_of bare_name (parts inner)) in found) (before_last symbol.RightParenthesis lexemes) form e in
+    let i = then-some (λ inner. let found : Option Spelled = option_map (Def name) (all_of bare_name (parts inner)) in found)
+    (before_last symbol.RightParenthesis lexemes) form e in
     let p = map-some (λ names. let f : Spelled = Def name names in f) (all_of bare_name (parts i.0)) form i.2 in
-    subst GoodForm p.2 (n, all-some AllGood WellNamed bare_name bare-good (parts i.0) p.0 (parts-good i.0 (before-last-good symbol.RightParenthesis lexemes i.0 g i.1)) p.1)
+    subst GoodForm p.2
+    (n, all-some AllGood WellNamed bare_name bare-good (parts i.0) p.0 (parts-good i.0 (before-last-good symbol.RightParenthesis lexemes i.0 g i.1)) p.1)
 parameters-good false name lexemes form n g e = cc
 
 def-good : ReadsForm def_form
@@ -101,7 +113,8 @@ assigned-good : (name : Name) → WellNamed name → ReadsForm (assigned_form na
 assigned-good name n (Reserved word.Yield ∷ lexemes) form g e = from-good (Some name) n lexemes form g.1 e
 assigned-good name n lexemes form g e = with-term-good (Assign name) (λ t h. (n, h)) lexemes form g e
 
-assign-good : (test : Bool) (name : Name) → WellNamed name → (lexemes : List Lexeme) (form : Spelled) → AllGood lexemes → (if test then assigned_form name lexemes else None) ≡ Some form → GoodForm form
+assign-good : (test : Bool) (name : Name) → WellNamed name → (lexemes : List Lexeme) (form : Spelled) → AllGood lexemes
+    → (if test then assigned_form name lexemes else None) ≡ Some form → GoodForm form
 assign-good true name n lexemes form g e = assigned-good name n lexemes form g e
 assign-good false name n lexemes form g e = cc
 
@@ -138,7 +151,8 @@ except-good _ form g e = cc
 abbrev GoodPair : List Lexeme × Name → Type 0
 GoodPair pair = AllGood pair.0 × WellNamed pair.1
 
-closed-good : (x : Lexeme) (lexemes : List Lexeme) (found : Option (List Lexeme × Name)) (pair : List Lexeme × Name) → GoodLexeme x → AllGood lexemes → ((inner : List Lexeme × Name) → found ≡ Some inner → GoodPair inner) → closed_as x lexemes found ≡ Some pair → GoodPair pair
+closed-good : (x : Lexeme) (lexemes : List Lexeme) (found : Option (List Lexeme × Name)) (pair : List Lexeme × Name) → GoodLexeme x → AllGood lexemes
+    → ((inner : List Lexeme × Name) → found ≡ Some inner → GoodPair inner) → closed_as x lexemes found ≡ Some pair → GoodPair pair
 closed-good (Sign symbol.RightParenthesis) (Reserved word.As ∷ Named name ∷ []) found pair x g h e =
     let whole : List Lexeme × Name = ([], name) in
     let same : whole ≡ pair = cc in
@@ -156,7 +170,8 @@ as-good (x ∷ lexemes) pair g e =
 with-good : ReadsForm with_form
 with-good (Reserved word.Group ∷ Reserved word.As ∷ Named name ∷ []) form g e = given (WithGroup name) form g.1.1.0 e
 with-good (Reserved word.Timeout ∷ Sign symbol.LeftParenthesis ∷ lexemes) form g e =
-    let p = then-some (λ (pair : List Lexeme × Name). let found : Option Spelled = option_map (λ delay. WithTimeout delay pair.1) (term_of pair.0) in found) (before_as lexemes) form e in
+    let p = then-some (λ (pair : List Lexeme × Name). let found : Option Spelled = option_map (λ delay. WithTimeout delay pair.1) (term_of pair.0) in found)
+    (before_as lexemes) form e in
     let t = map-some (λ delay. let f : Spelled = WithTimeout delay p.0.1 in f) (term_of p.0.0) form p.2 in
     let a = as-good lexemes p.0 g.1.1 p.1 in
     subst GoodForm t.2 (term-good p.0.0 t.0 a.0 t.1, a.1)

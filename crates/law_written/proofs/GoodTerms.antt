@@ -12,7 +12,9 @@ use Rattle.model_text.specs.declared.reserved_word.ReservedWord.TheVariants as w
 use Rattle.model_text.specs.Words.{Lexeme, Reserved, Named, Number, Texts, Octets, Sign, is_sign}
 use Rattle.model_text.specs.Cutting.{Pieces, Cutter, with_front, cut_outside, depth_behind, ends_operand, pieces_from, pieces, parts, before_last}
 use Rattle.model_text.specs.Terms.{Term, Or, And, Not, Compare, Calculate, Negate, Index, Constantly, Variable, ListOf, Called, terms}
-use Rattle.model_text.specs.Levels.{Parser, all_of, at_word, at_comparison, at_sum, at_product, at_index, joined, level, bare_name, Arguments, with_bare, from_bare, arguments_of, kind_place, atom, items, called, bracketed, primary, item_index, indexed, negated, product, sum_of, compared, comparison_level, is_not, denied, conjunction, disjunction, term_within, term_of}
+use Rattle.model_text.specs.Levels.{Parser, all_of, at_word, at_comparison, at_sum, at_product, at_index, joined, level, bare_name, Arguments, with_bare}
+use Rattle.model_text.specs.Levels.{from_bare, arguments_of, kind_place, atom, items, called, bracketed, primary, item_index, indexed, negated, product, sum_of}
+use Rattle.model_text.specs.Levels.{compared, comparison_level, is_not, denied, conjunction, disjunction, term_within, term_of}
 use Rattle.law_lines.specs.WellWritten.{WellNamed, PerhapsNamed}
 use Rattle.law_written.proofs.Goods.{GoodLexeme, AllGood, CalledAs, GoodTerm, AllGoodTerms, good-row, then-some, map-some, all-some}
 
@@ -27,12 +29,15 @@ front-good : {A : Type 0} (found : Option A) (x : Lexeme) (cut : Pieces A) → G
 front-good (Some at) x cut g p = (tt, (p.0, p.1))
 front-good None x cut g p = ((g, p.0), p.1)
 
-pieces-good : {A : Type 0} (cutter : Cutter A) (depth : ℕ) (behind : Bool) (lexemes : List Lexeme) → AllGood lexemes → GoodPieces (pieces_from cutter depth behind lexemes)
+pieces-good : {A : Type 0} (cutter : Cutter A) (depth : ℕ) (behind : Bool) (lexemes : List Lexeme) → AllGood lexemes
+    → GoodPieces (pieces_from cutter depth behind lexemes)
 pieces-good cutter depth behind [] g = (tt, tt)
 pieces-good cutter depth behind (x ∷ lexemes) g =
-    front-good (cut_outside depth cutter behind x) x (pieces_from cutter (depth_behind depth x) (ends_operand x) lexemes) g.0 (pieces-good cutter (depth_behind depth x) (ends_operand x) lexemes g.1)
+    front-good (cut_outside depth cutter behind x) x (pieces_from cutter (depth_behind depth x) (ends_operand x) lexemes) g.0
+    (pieces-good cutter (depth_behind depth x) (ends_operand x) lexemes g.1)
 
-others-good : {A : Type 0} (others : List (A × List Lexeme)) → AllByRecursion (λ other. AllGood other.1) others → AllByRecursion AllGood (map (λ other. other.1) others)
+others-good : {A : Type 0} (others : List (A × List Lexeme)) → AllByRecursion (λ other. AllGood other.1) others
+    → AllByRecursion AllGood (map (λ other. other.1) others)
 others-good [] g = tt
 others-good (other ∷ others) g = (g.0, others-good others g.1)
 
@@ -55,13 +60,16 @@ before-last-good s (x ∷ y ∷ lexemes) inner g e =
     subst AllGood m.2 (g.0, before-last-good s (y ∷ lexemes) m.0 g.1 m.1)
 
 -- ---- levels
-joined-good : {A : Type 0} (build : A → Term → Term → Term) (operand : Parser Term) → ReadsGood operand → ((a : A) (l r : Term) → GoodTerm l → GoodTerm r → GoodTerm (build a l r)) → (others : List (A × List Lexeme)) (left t : Term) → GoodTerm left → AllByRecursion (λ other. AllGood other.1) others → joined build operand left others ≡ Some t → GoodTerm t
+joined-good : {A : Type 0} (build : A → Term → Term → Term) (operand : Parser Term) → ReadsGood operand
+    → ((a : A) (l r : Term) → GoodTerm l → GoodTerm r → GoodTerm (build a l r)) → (others : List (A × List Lexeme)) (left t : Term) → GoodTerm left
+    → AllByRecursion (λ other. AllGood other.1) others → joined build operand left others ≡ Some t → GoodTerm t
 joined-good build operand reads builds [] left t l g e = let same : left ≡ t = cc in subst GoodTerm same l
 joined-good build operand reads builds (other ∷ others) left t l g e =
     let r = then-some (λ right. joined build operand (build other.0 left right) others) (operand other.1) t e in
     joined-good build operand reads builds others (build other.0 left r.0) t (builds other.0 left r.0 l (reads other.1 r.0 g.0 r.1)) g.1 r.2
 
-level-good : {A : Type 0} (cutter : Cutter A) (build : A → Term → Term → Term) (operand : Parser Term) → ReadsGood operand → ((a : A) (l r : Term) → GoodTerm l → GoodTerm r → GoodTerm (build a l r)) → ReadsGood (level cutter build operand)
+level-good : {A : Type 0} (cutter : Cutter A) (build : A → Term → Term → Term) (operand : Parser Term) → ReadsGood operand
+    → ((a : A) (l r : Term) → GoodTerm l → GoodTerm r → GoodTerm (build a l r)) → ReadsGood (level cutter build operand)
 level-good cutter build operand reads builds lexemes t g e =
     let p = pieces-good cutter 0 false lexemes g in
     let cut = pieces cutter lexemes in
@@ -96,12 +104,14 @@ GoodArguments place arguments =
 abbrev GoodBehind : List Term → Arguments → Type 0
 GoodBehind before arguments = (arguments.before ≡ before) × PerhapsNamed arguments.bare × AllGoodTerms arguments.after
 
-by_place : (place : ℕ) (before : List Term) (arguments : Arguments) → (place ≡ 0 → before ≡ []) → AllGoodTerms before → GoodBehind before arguments → GoodArguments (Some place) arguments
+by_place : (place : ℕ) (before : List Term) (arguments : Arguments) → (place ≡ 0 → before ≡ []) → AllGoodTerms before → GoodBehind before arguments
+    → GoodArguments (Some place) arguments
 by_place zero before arguments none b g = (g.0 ∙ none refl, subst AllGoodTerms (sym g.0) b, g.1, g.2)
 by_place (suc place) before arguments none b g = (tt, subst AllGoodTerms (sym g.0) b, g.1, g.2)
 
 -- the kind of `error` has the first place
-pub called-as : (test : Bool) (arguments : Arguments) → ShapedAs (if test then Some 0 else None) arguments → CalledAs test (terms arguments.before) arguments.bare (terms arguments.after)
+pub called-as : (test : Bool) (arguments : Arguments) → ShapedAs (if test then Some 0 else None) arguments
+    → CalledAs test (terms arguments.before) arguments.bare (terms arguments.after)
 called-as true arguments s = ap terms s
 called-as false arguments s = (s.0, ap terms s.1)
 
@@ -128,7 +138,8 @@ module _ (inside : Parser Term) (reads : ReadsGood inside) where
   empty-front zero slots before e p = cc
   empty-front (suc place) slots before e p = absurd (omega (arith, p))
 
-  from-bare-good : (before : List Term) (slots : List (List Lexeme)) (arguments : Arguments) → AllByRecursion AllGood slots → from_bare inside before slots ≡ Some arguments → GoodBehind before arguments
+  from-bare-good : (before : List Term) (slots : List (List Lexeme)) (arguments : Arguments) → AllByRecursion AllGood slots → from_bare inside before slots
+      ≡ Some arguments → GoodBehind before arguments
   from-bare-good before [] arguments g e =
       let none : Arguments = record { before = before; bare = None; after = [] } in
       let same : none ≡ arguments = cc in
@@ -138,13 +149,15 @@ module _ (inside : Parser Term) (reads : ReadsGood inside) where
       let a = map-some (with_bare before n.0) (all_of inside slots) arguments n.2 in
       subst (GoodBehind before) a.2 (refl, bare-good slot n.0 g.0 n.1, slots-good slots a.0 g.1 a.1)
 
-  pub arguments-good : (place : Option ℕ) (slots : List (List Lexeme)) (arguments : Arguments) → AllByRecursion AllGood slots → arguments_of inside place slots ≡ Some arguments → GoodArguments place arguments
+  pub arguments-good : (place : Option ℕ) (slots : List (List Lexeme)) (arguments : Arguments) → AllByRecursion AllGood slots → arguments_of inside place slots
+      ≡ Some arguments → GoodArguments place arguments
   arguments-good None slots arguments g e =
       let a = map-some (λ all. let found : Arguments = record { before = all; bare = None; after = [] } in found) (all_of inside slots) arguments e in
       subst (GoodArguments None) a.2 ((refl, refl), slots-good slots a.0 g a.1, tt, tt)
   arguments-good (Some place) slots arguments g e =
       let b = then-some (λ before. from_bare inside before (drop place slots)) (all_of inside (take place slots)) arguments e in
-      by_place place b.0 arguments (empty-front place slots b.0 b.1) (slots-good (take place slots) b.0 (take-good place slots g) b.1) (from-bare-good b.0 (drop place slots) arguments (drop-good place slots g) b.2)
+      by_place place b.0 arguments (empty-front place slots b.0 b.1) (slots-good (take place slots) b.0 (take-good place slots g) b.1)
+      (from-bare-good b.0 (drop place slots) arguments (drop-good place slots g) b.2)
 
   -- ---- operands
   called-good : (name : Name) (lexemes : List Lexeme) (t : Term) → AllGood lexemes → called inside name lexemes ≡ Some t → GoodTerm t
@@ -163,7 +176,8 @@ module _ (inside : Parser Term) (reads : ReadsGood inside) where
       subst GoodTerm a.2 (good-row a.0 (items-good i.0 a.0 (before-last-good symbol.RightBracket lexemes i.0 g i.1) a.1))
   bracketed-good _ lexemes t g e = cc
 
-  call-good : (test : Bool) (name : Name) (lexemes : List Lexeme) (t : Term) → AllGood lexemes → (if test then option_and_then (called inside name) (before_last symbol.RightParenthesis lexemes) else None) ≡ Some t → GoodTerm t
+  call-good : (test : Bool) (name : Name) (lexemes : List Lexeme) (t : Term) → AllGood lexemes
+      → (if test then option_and_then (called inside name) (before_last symbol.RightParenthesis lexemes) else None) ≡ Some t → GoodTerm t
   call-good true name lexemes t g e =
       let i = then-some (called inside name) (before_last symbol.RightParenthesis lexemes) t e in
       called-good name i.0 t (before-last-good symbol.RightParenthesis lexemes i.0 g i.1) i.2
@@ -189,7 +203,9 @@ module _ (inside : Parser Term) (reads : ReadsGood inside) where
       let l = then-some (λ sequence. joined (λ bracket. Index) (item_index inside) sequence cut.others) (primary inside cut.first) t e in
       joined-good (λ bracket. Index) (item_index inside) item-good (λ a l r gl gr. (gl, gr)) cut.others l.0 t (primary-good cut.first l.0 p.0 l.1) p.1 l.2
 
-  negated-by : (test : Bool) (x : Lexeme) (lexemes : List Lexeme) (t : Term) → AllGood (x ∷ lexemes) → ((s : Term) → negated inside lexemes ≡ Some s → GoodTerm s) → (if test then option_map Negate (negated inside lexemes) else indexed inside (x ∷ lexemes)) ≡ Some t → GoodTerm t
+  negated-by : (test : Bool) (x : Lexeme) (lexemes : List Lexeme) (t : Term) → AllGood (x ∷ lexemes)
+      → ((s : Term) → negated inside lexemes ≡ Some s → GoodTerm s)
+      → (if test then option_map Negate (negated inside lexemes) else indexed inside (x ∷ lexemes)) ≡ Some t → GoodTerm t
   negated-by true x lexemes t g h e =
       let m = map-some Negate (negated inside lexemes) t e in subst GoodTerm m.2 (h m.0 m.1)
   negated-by false x lexemes t g h e = indexed-good (x ∷ lexemes) t g e
@@ -207,7 +223,8 @@ module _ (inside : Parser Term) (reads : ReadsGood inside) where
   sum-good lexemes t g e =
       level-good at_sum Calculate (product inside) product-good (λ a l r gl gr. (gl, gr)) lexemes t g e
 
-  compared-good : (others : List (Comparison × List Lexeme)) (left t : Term) → GoodTerm left → AllByRecursion (λ other. AllGood other.1) others → compared inside others left ≡ Some t → GoodTerm t
+  compared-good : (others : List (Comparison × List Lexeme)) (left t : Term) → GoodTerm left → AllByRecursion (λ other. AllGood other.1) others
+      → compared inside others left ≡ Some t → GoodTerm t
   compared-good [] left t l g e = let same : left ≡ t = cc in subst GoodTerm same l
   compared-good (other ∷ []) left t l g e =
       let m = map-some (Compare other.0 left) (sum_of inside other.1) t e in
@@ -221,7 +238,8 @@ module _ (inside : Parser Term) (reads : ReadsGood inside) where
       let l = then-some (compared inside cut.others) (sum_of inside cut.first) t e in
       compared-good cut.others l.0 t (sum-good cut.first l.0 p.0 l.1) p.1 l.2
 
-  denied-by : (test : Bool) (x : Lexeme) (lexemes : List Lexeme) (t : Term) → AllGood (x ∷ lexemes) → ((s : Term) → denied inside lexemes ≡ Some s → GoodTerm s) → (if test then option_map Not (denied inside lexemes) else comparison_level inside (x ∷ lexemes)) ≡ Some t → GoodTerm t
+  denied-by : (test : Bool) (x : Lexeme) (lexemes : List Lexeme) (t : Term) → AllGood (x ∷ lexemes) → ((s : Term) → denied inside lexemes ≡ Some s → GoodTerm s)
+      → (if test then option_map Not (denied inside lexemes) else comparison_level inside (x ∷ lexemes)) ≡ Some t → GoodTerm t
   denied-by true x lexemes t g h e = let m = map-some Not (denied inside lexemes) t e in subst GoodTerm m.2 (h m.0 m.1)
   denied-by false x lexemes t g h e = comparison-good (x ∷ lexemes) t g e
 

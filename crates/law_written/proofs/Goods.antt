@@ -11,7 +11,8 @@ use Rattle.model_text.specs.Tokens.{TokenClass, Name as NameClass, Int, Text, By
 use Rattle.model_text.specs.Cuts.{IsName}
 use Rattle.model_text.specs.Lines.{IsTokenValue}
 use Rattle.model_text.specs.Words.{Lexeme, Reserved, Named, Number, Texts, Octets, Sign, reserved_of, word_or_name, lexeme_of, lexemes_of}
-use Rattle.model_text.specs.Terms.{Term, Or, And, Not, Compare, Calculate, Negate, Index, Constantly, Variable, ListOf, Called, Terms, no_terms, term_then, terms}
+use Rattle.model_text.specs.Terms.{Term, Or, And, Not, Compare, Calculate, Negate, Index, Constantly, Variable, ListOf, Called, Terms, no_terms, term_then}
+use Rattle.model_text.specs.Terms.{terms}
 use Rattle.model_text.specs.Levels.{all_of}
 use Rattle.law_tokens.proofs.LineLemmas.{Reads-tokens_of}
 use Rattle.law_tokens.proofs.RangeLemmas.{each_in_range}
@@ -89,7 +90,8 @@ pub map-some : {A B : Type 0} (f : A → B) (found : Option A) (b : B) → optio
 map-some f None b e = cc
 map-some f (Some a) b e = (a, refl, cc)
 
-pub all-some : {A B : Type 0} (P : A → Type 0) (Q : B → Type 0) (f : A → Option B) → ((a : A) (b : B) → P a → f a ≡ Some b → Q b) → (xs : List A) (ys : List B) → AllByRecursion P xs → all_of f xs ≡ Some ys → AllByRecursion Q ys
+pub all-some : {A B : Type 0} (P : A → Type 0) (Q : B → Type 0) (f : A → Option B) → ((a : A) (b : B) → P a → f a ≡ Some b → Q b) → (xs : List A) (ys : List B)
+    → AllByRecursion P xs → all_of f xs ≡ Some ys → AllByRecursion Q ys
 all-some P Q f g [] ys p e = let none : ys ≡ [] = cc in subst (AllByRecursion Q) (sym none) tt
 all-some P Q f g (x ∷ xs) ys p e =
     let first = then-some (λ y. option_map (λ ys. y ∷ ys) (all_of f xs)) (f x) ys e in

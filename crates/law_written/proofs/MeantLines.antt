@@ -1,5 +1,6 @@
 -- What the line of an accepted text means spells the line's form again, and a text can spell it.
-use Rattle.std.proofs.Common.{◌≡◌, ℕ, Bool, true, false, List, [], ◌∷◌, length, map, Option, Some, None, Result, Ok, Err, refl, sym, ap, subst, ◌∙◌, arith, nat_eq}
+use Rattle.std.proofs.Common.{◌≡◌, ℕ, Bool, true, false, List, [], ◌∷◌, length, map, Option, Some, None, Result, Ok, Err, refl, sym, ap, subst, ◌∙◌, arith}
+use Rattle.std.proofs.Common.{nat_eq}
 use Rattle.std.specs.Prelude.{option_map, not, if◌then◌else◌}
 use Rattle.std.specs.Str.{bytes_eq}
 use Rattle.std.proofs.lemmas.Bool.{eqb-true}
@@ -15,14 +16,17 @@ use Rattle.model_text.specs.Terms.{Term}
 use Rattle.model_text.specs.Faults.{TokenFault}
 use Rattle.model_text.specs.Tokens.{Token, tokens_of}
 use Rattle.model_text.specs.Words.{Lexeme, lexemes_of}
-use Rattle.model_text.specs.Forms.{Profile, Def, Assign, Yield, YieldFrom, Print, Raise, Return, Pass, If, Else, While, Try, Except, Finally, WithGroup, WithTimeout, End, Goal, Awaited, Asked, Spelled, coroutine_place, form_of}
-use Rattle.model_text.specs.Naming.{Callee, Scope, Meant, both, if_arity, is_variable, one_argument, counted, missing, meaning_of, all_meant, callee_of, passed, request_target, spawn_target, create_by, create_target, listen_by, listen_target, called_target, target_of}
+use Rattle.model_text.specs.Forms.{Profile, Def, Assign, Yield, YieldFrom, Print, Raise, Return, Pass, If, Else, While, Try, Except, Finally, WithGroup}
+use Rattle.model_text.specs.Forms.{WithTimeout, End, Goal, Awaited, Asked, Spelled, coroutine_place, form_of}
+use Rattle.model_text.specs.Naming.{Callee, Scope, Meant, both, if_arity, is_variable, one_argument, counted, missing, meaning_of, all_meant, callee_of, passed}
+use Rattle.model_text.specs.Naming.{request_target, spawn_target, create_by, create_target, listen_by, listen_target, called_target, target_of}
 use Rattle.model_text.specs.Places.{Role, cause_behind}
 use Rattle.model_text.specs.FirstPass.{placed, form_behind_lines, lexemes_behind, tokens_behind, line_behind}
 use Rattle.model_text.specs.SecondPass.{Line, free, free_or_none, kind_meant, value_meant, line_meant}
 use Rattle.law_expressions.specs.Lexemes.{term_from}
 use Rattle.law_lines.specs.LineTexts.{row_from, arguments_from, goal_from, spelled}
-use Rattle.law_lines.specs.WellWritten.{WellNamed, PerhapsNamed, WellWrittenExpr, WellWrittenExprs, WellWrittenTarget, WellWrittenItems, PerhapsWritten, WellWritten}
+use Rattle.law_lines.specs.WellWritten.{WellNamed, PerhapsNamed, WellWrittenExpr, WellWrittenExprs, WellWrittenTarget, WellWrittenItems, PerhapsWritten}
+use Rattle.law_lines.specs.WellWritten.{WellWritten}
 use Rattle.law_lines.proofs.Arguments.{request-place}
 use Rattle.law_lines.proofs.FormReads.{row-back}
 use Rattle.law_written.proofs.Goods.{AllGoodTerms, good-tokens}
@@ -35,7 +39,8 @@ arity-ok : {A : Type 0} (test : Bool) (meaning a : A) → if_arity test meaning 
 arity-ok true meaning a e = (refl, cc)
 arity-ok false meaning a e = cc
 
-counted-ok : {A : Type 0} (count : ℕ) (meaning : List Expr → A) (all : Meant (List Expr)) (a : A) → counted count meaning all ≡ Ok a → (es : List Expr) × (all ≡ Ok es) × (nat_eq (length es) count ≡ true) × (meaning es ≡ a)
+counted-ok : {A : Type 0} (count : ℕ) (meaning : List Expr → A) (all : Meant (List Expr)) (a : A) → counted count meaning all ≡ Ok a
+    → (es : List Expr) × (all ≡ Ok es) × (nat_eq (length es) count ≡ true) × (meaning es ≡ a)
 counted-ok count meaning (Ok es) a e =
     let k = arity-ok (nat_eq (length es) count) (meaning es) a e in
     (es, refl, k.0, k.1)
@@ -69,7 +74,9 @@ module _ (scope : Scope) (name : Name) (before after : List Term) (gb : AllGoodT
       let b = all-back scope before (o.0 ∷ []) gb o.1 in
       subst P o.2 (b.0, b.1.0)
 
-  request-back : (bare : Option Name) (r : RequestName) (t : Target) → request_text r ≡ name → ShapedAs (coroutine_place name) (arguments_from before bare after) → request_target scope r (all_meant scope before) ≡ Ok t → GoalBack (Asked name (arguments_from before bare after)) t
+  request-back : (bare : Option Name) (r : RequestName) (t : Target) → request_text r ≡ name
+      → ShapedAs (coroutine_place name) (arguments_from before bare after) → request_target scope r (all_meant scope before) ≡ Ok t
+      → GoalBack (Asked name (arguments_from before bare after)) t
   request-back bare r t n s h =
       let c = counted-ok (request_arity r) (λ all. plain.Ask r (exprs all)) (all_meant scope before) t h in
       let b = rows-before c.0 c.1 in
@@ -77,18 +84,21 @@ module _ (scope : Scope) (name : Name) (before after : List Term) (gb : AllGoodT
       let a : ShapedAs None (arguments_from before bare after) = subst (λ p. ShapedAs p (arguments_from before bare after)) place s in
       subst (GoalBack (Asked name (arguments_from before bare after))) c.3 ((λ i. Asked (n i) (arguments_from (b.0 i) (sym a.0 i) (sym a.1 i))), b.1)
 
-  spawn-passed : (n : Name) (found : Option Callee) (t : Target) → WellNamed n → spawn_text ≡ name → before ≡ [] → passed scope found (plain.SpawnTask n) (all_meant scope after) ≡ Ok t → GoalBack (Asked name (arguments_from before (Some n) after)) t
+  spawn-passed : (n : Name) (found : Option Callee) (t : Target) → WellNamed n → spawn_text ≡ name → before ≡ []
+      → passed scope found (plain.SpawnTask n) (all_meant scope after) ≡ Ok t → GoalBack (Asked name (arguments_from before (Some n) after)) t
   spawn-passed n None t w same none h = cc
   spawn-passed n (Some callee) t w same none h =
       let c = counted-ok callee.parameters (λ all. plain.SpawnTask n (exprs all)) (all_meant scope after) t h in
       let b = rows-after c.0 c.1 in
       subst (GoalBack (Asked name (arguments_from before (Some n) after))) c.3 ((λ i. Asked (same i) (arguments_from (sym none i) (Some n) (b.0 i))), (w, b.1))
 
-  spawn-back : (bare : Option Name) (t : Target) → PerhapsNamed bare → spawn_text ≡ name → before ≡ [] → spawn_target scope bare (all_meant scope after) ≡ Ok t → GoalBack (Asked name (arguments_from before bare after)) t
+  spawn-back : (bare : Option Name) (t : Target) → PerhapsNamed bare → spawn_text ≡ name → before ≡ [] → spawn_target scope bare (all_meant scope after) ≡ Ok t
+      → GoalBack (Asked name (arguments_from before bare after)) t
   spawn-back None t w same none h = cc
   spawn-back (Some n) t w same none h = spawn-passed n (callee_of scope n) t w same none h
 
-  create-by : (n : Name) (found : Option Callee) (t : Target) → WellNamed n → create_text ≡ name → create_by scope found n (all_meant scope before) (all_meant scope after) ≡ Ok t → GoalBack (Asked name (arguments_from before (Some n) after)) t
+  create-by : (n : Name) (found : Option Callee) (t : Target) → WellNamed n → create_text ≡ name
+      → create_by scope found n (all_meant scope before) (all_meant scope after) ≡ Ok t → GoalBack (Asked name (arguments_from before (Some n) after)) t
   create-by n None t w same h = cc
   create-by n (Some callee) t w same h =
       let b = both-ok (λ group arguments. plain.CreateTask group n (exprs arguments)) (one_argument (λ group. group) (all_meant scope before)) (counted callee.parameters (λ all. all) (all_meant scope after)) t h in
@@ -97,11 +107,13 @@ module _ (scope : Scope) (name : Name) (before after : List Term) (gb : AllGoodT
       let a = rows-after b.1 (c.1 ∙ ap Ok c.3) in
       subst (GoalBack (Asked name (arguments_from before (Some n) after))) b.4 ((λ i. Asked (same i) (arguments_from (g.0 i) (Some n) (a.0 i))), (g.1, w, a.1))
 
-  create-back : (bare : Option Name) (t : Target) → PerhapsNamed bare → create_text ≡ name → create_target scope (all_meant scope before) bare (all_meant scope after) ≡ Ok t → GoalBack (Asked name (arguments_from before bare after)) t
+  create-back : (bare : Option Name) (t : Target) → PerhapsNamed bare → create_text ≡ name
+      → create_target scope (all_meant scope before) bare (all_meant scope after) ≡ Ok t → GoalBack (Asked name (arguments_from before bare after)) t
   create-back None t w same h = absurd (never-missing (all_meant scope before) t h)
   create-back (Some n) t w same h = create-by n (callee_of scope n) t w same h
 
-  listen-by : (n : Name) (found : Option Callee) (t : Target) → WellNamed n → listen_text ≡ name → listen_by scope found n (all_meant scope before) (all_meant scope after) ≡ Ok t → GoalBack (Asked name (arguments_from before (Some n) after)) t
+  listen-by : (n : Name) (found : Option Callee) (t : Target) → WellNamed n → listen_text ≡ name
+      → listen_by scope found n (all_meant scope before) (all_meant scope after) ≡ Ok t → GoalBack (Asked name (arguments_from before (Some n) after)) t
   listen-by n None t w same h = cc
   listen-by n (Some callee) t w same h =
       let handler = both {A = List Expr} (λ none handler. handler) (counted 0 (λ all. all) (all_meant scope after)) (if_arity (nat_eq callee.parameters 1) n) in
@@ -111,42 +123,63 @@ module _ (scope : Scope) (name : Name) (before after : List Term) (gb : AllGoodT
       let c = counted-ok 0 (λ all. all) (all_meant scope after) k.0 k.2 in
       let none : [] ≡ after = ap (map term_from) (sym (none-counted c.0 c.2)) ∙ (all-back scope after c.0 ga c.1).0 in
       let kept : n ≡ b.1 = (arity-ok (nat_eq callee.parameters 1) n k.1 k.3).1 ∙ k.4 in
-      subst (GoalBack (Asked name (arguments_from before (Some n) after))) b.4 ((λ i. Asked (same i) (arguments_from (p.0 i) (Some (sym kept i)) (none i))), (p.1, subst WellNamed kept w))
+      subst (GoalBack (Asked name (arguments_from before (Some n) after))) b.4
+      ((λ i. Asked (same i) (arguments_from (p.0 i) (Some (sym kept i)) (none i))), (p.1, subst WellNamed kept w))
 
-  listen-back : (bare : Option Name) (t : Target) → PerhapsNamed bare → listen_text ≡ name → listen_target scope (all_meant scope before) bare (all_meant scope after) ≡ Ok t → GoalBack (Asked name (arguments_from before bare after)) t
+  listen-back : (bare : Option Name) (t : Target) → PerhapsNamed bare → listen_text ≡ name
+      → listen_target scope (all_meant scope before) bare (all_meant scope after) ≡ Ok t → GoalBack (Asked name (arguments_from before bare after)) t
   listen-back None t w same h = absurd (never-missing (all_meant scope before) t h)
   listen-back (Some n) t w same h = listen-by n (callee_of scope n) t w same h
 
-  call-passed : (bare : Option Name) (found : Option Callee) (t : Target) → WellNamed name → is_taken name ≡ false → ShapedAs None (arguments_from before bare after) → passed scope found (plain.Call name) (all_meant scope before) ≡ Ok t → GoalBack (Asked name (arguments_from before bare after)) t
+  call-passed : (bare : Option Name) (found : Option Callee) (t : Target) → WellNamed name → is_taken name ≡ false
+      → ShapedAs None (arguments_from before bare after) → passed scope found (plain.Call name) (all_meant scope before) ≡ Ok t
+      → GoalBack (Asked name (arguments_from before bare after)) t
   call-passed bare None t w free a h = cc
   call-passed bare (Some callee) t w free a h =
       let c = counted-ok callee.parameters (λ all. plain.Call name (exprs all)) (all_meant scope before) t h in
       let b = rows-before c.0 c.1 in
       subst (GoalBack (Asked name (arguments_from before bare after))) c.3 ((λ i. Asked name (arguments_from (b.0 i) (sym a.0 i) (sym a.1 i))), (w, free, b.1))
 
-  call-back : (bare : Option Name) (taken : Bool) (found : Option Callee) (t : Target) → WellNamed name → is_taken name ≡ taken → ShapedAs None (arguments_from before bare after) → passed scope (if taken then None else found) (plain.Call name) (all_meant scope before) ≡ Ok t → GoalBack (Asked name (arguments_from before bare after)) t
+  call-back : (bare : Option Name) (taken : Bool) (found : Option Callee) (t : Target) → WellNamed name → is_taken name ≡ taken
+      → ShapedAs None (arguments_from before bare after) → passed scope (if taken then None else found) (plain.Call name) (all_meant scope before) ≡ Ok t
+      → GoalBack (Asked name (arguments_from before bare after)) t
   call-back bare true found t w e a h = cc
   call-back bare false found t w e a h = call-passed bare found t w e a h
 
   -- where the name is none of the language's requests
-  by-listen : (bare : Option Name) (listens : Bool) (t : Target) → PerhapsNamed bare → WellNamed name → bytes_eq name spawn_text ≡ false → bytes_eq name create_text ≡ false → bytes_eq name listen_text ≡ listens → ShapedAs (coroutine_place name) (arguments_from before bare after) → (if listens then listen_target scope (all_meant scope before) bare (all_meant scope after) else passed scope (callee_of scope name) (plain.Call name) (all_meant scope before)) ≡ Ok t → GoalBack (Asked name (arguments_from before bare after)) t
+  by-listen : (bare : Option Name) (listens : Bool) (t : Target) → PerhapsNamed bare → WellNamed name → bytes_eq name spawn_text ≡ false
+      → bytes_eq name create_text ≡ false → bytes_eq name listen_text ≡ listens → ShapedAs (coroutine_place name) (arguments_from before bare after)
+      → (if listens then listen_target scope (all_meant scope before) bare (all_meant scope after) else passed scope (callee_of scope name)
+      (plain.Call name) (all_meant scope before)) ≡ Ok t → GoalBack (Asked name (arguments_from before bare after)) t
   by-listen bare true t n w s c l a h = listen-back bare t n (sym ((bytes_eq-Decides name listen_text).0 l)) h
   by-listen bare false t n w s c l a h =
       let place : coroutine_place name ≡ None = rw (s, c, l) refl in
       call-back bare (is_taken name) _ t w refl (subst (λ p. ShapedAs p (arguments_from before bare after)) place a) h
 
-  by-create : (bare : Option Name) (creates : Bool) (t : Target) → PerhapsNamed bare → WellNamed name → bytes_eq name spawn_text ≡ false → bytes_eq name create_text ≡ creates → ShapedAs (coroutine_place name) (arguments_from before bare after) → (if creates then create_target scope (all_meant scope before) bare (all_meant scope after) else (if bytes_eq name listen_text then listen_target scope (all_meant scope before) bare (all_meant scope after) else passed scope (callee_of scope name) (plain.Call name) (all_meant scope before))) ≡ Ok t → GoalBack (Asked name (arguments_from before bare after)) t
+  by-create : (bare : Option Name) (creates : Bool) (t : Target) → PerhapsNamed bare → WellNamed name → bytes_eq name spawn_text ≡ false
+      → bytes_eq name create_text ≡ creates → ShapedAs (coroutine_place name) (arguments_from before bare after)
+      → (if creates then create_target scope (all_meant scope before) bare (all_meant scope after) else
+      (if bytes_eq name listen_text then listen_target scope (all_meant scope before) bare (all_meant scope after) else passed scope
+      (callee_of scope name) (plain.Call name) (all_meant scope before))) ≡ Ok t → GoalBack (Asked name (arguments_from before bare after)) t
   by-create bare true t n w s c a h = create-back bare t n (sym ((bytes_eq-Decides name create_text).0 c)) h
   by-create bare false t n w s c a h = by-listen bare (bytes_eq name listen_text) t n w s c refl a h
 
-  by-spawn : (bare : Option Name) (spawns : Bool) (t : Target) → PerhapsNamed bare → WellNamed name → bytes_eq name spawn_text ≡ spawns → ShapedAs (coroutine_place name) (arguments_from before bare after) → (if spawns then spawn_target scope bare (all_meant scope after) else (if bytes_eq name create_text then create_target scope (all_meant scope before) bare (all_meant scope after) else (if bytes_eq name listen_text then listen_target scope (all_meant scope before) bare (all_meant scope after) else passed scope (callee_of scope name) (plain.Call name) (all_meant scope before)))) ≡ Ok t → GoalBack (Asked name (arguments_from before bare after)) t
+  by-spawn : (bare : Option Name) (spawns : Bool) (t : Target) → PerhapsNamed bare → WellNamed name → bytes_eq name spawn_text ≡ spawns
+      → ShapedAs (coroutine_place name) (arguments_from before bare after)
+      → (if spawns then spawn_target scope bare (all_meant scope after) else
+      (if bytes_eq name create_text then create_target scope (all_meant scope before) bare (all_meant scope after) else
+      (if bytes_eq name listen_text then listen_target scope (all_meant scope before) bare (all_meant scope after) else passed scope
+      (callee_of scope name) (plain.Call name) (all_meant scope before)))) ≡ Ok t → GoalBack (Asked name (arguments_from before bare after)) t
   by-spawn bare true t n w s a h =
       let same : spawn_text ≡ name = sym ((bytes_eq-Decides name spawn_text).0 s) in
       let none : before ≡ [] = subst (λ p. ShapedAs p (arguments_from before bare after)) (ap coroutine_place (sym same)) a in
       spawn-back bare t n same none h
   by-spawn bare false t n w s a h = by-create bare (bytes_eq name create_text) t n w s refl a h
 
-  called-back : (bare : Option Name) (found : Option RequestName) (t : Target) → request_of name ≡ found → PerhapsNamed bare → WellNamed name → ShapedAs (coroutine_place name) (arguments_from before bare after) → called_target scope name found (all_meant scope before) bare (all_meant scope after) ≡ Ok t → GoalBack (Asked name (arguments_from before bare after)) t
+  called-back : (bare : Option Name) (found : Option RequestName) (t : Target) → request_of name ≡ found → PerhapsNamed bare → WellNamed name
+      → ShapedAs (coroutine_place name) (arguments_from before bare after)
+      → called_target scope name found (all_meant scope before) bare (all_meant scope after) ≡ Ok t
+      → GoalBack (Asked name (arguments_from before bare after)) t
   called-back bare (Some r) t f n w a h = request-back bare r t (named-so request_text requests name r f) a h
   called-back bare None t f n w a h = by-spawn bare (bytes_eq name spawn_text) t n w refl a h
 
@@ -189,7 +222,8 @@ value-back scope (Some value) found g h =
     subst (ValueBack (Some value)) m.2 (ap Some b.0, b.1)
 
 -- something is printed
-items-back : (scope : Scope) (items : List Term) (all : List Expr) → GoodItems items → all_meant scope items ≡ Ok all → (map term_from all ≡ items) × WellWrittenItems all
+items-back : (scope : Scope) (items : List Term) (all : List Expr) → GoodItems items → all_meant scope items ≡ Ok all
+    → (map term_from all ≡ items) × WellWrittenItems all
 items-back scope [] all g h = absurd g
 items-back scope (first ∷ others) [] g h = let b = all-back scope (first ∷ others) [] g h in let wrong = b.0 in cc
 items-back scope (first ∷ others) (x ∷ xs) g h = all-back scope (first ∷ others) (x ∷ xs) g h
@@ -251,7 +285,8 @@ line-back scope (WithTimeout delay name) line g h =
 line-back scope End line g h = let same : End ≡ line = cc in subst (LineBack End) same (refl, tt)
 
 -- ---- the line of a text
-pub accepted-back : (scope : Scope) (text : List ℕ) (tokens : List Token) (form : Spelled) (line : Line) → tokens_of text ≡ Ok tokens → form_of (lexemes_of tokens) ≡ Some form → line_meant scope form ≡ Ok line → (spelled line ≡ form) × WellWritten line
+pub accepted-back : (scope : Scope) (text : List ℕ) (tokens : List Token) (form : Spelled) (line : Line) → tokens_of text ≡ Ok tokens
+    → form_of (lexemes_of tokens) ≡ Some form → line_meant scope form ≡ Ok line → (spelled line ≡ form) × WellWritten line
 accepted-back scope text tokens form line t f m =
     line-back scope form line (form-good (lexemes_of tokens) form (good-tokens text tokens t) f) m
 
@@ -267,11 +302,13 @@ lexemes-so : (before : List Role) (lexemes : List Lexeme) (form : Spelled) → l
 lexemes-so before [] form e = cc
 lexemes-so before (lexeme ∷ lexemes) form e = formed-so before (form_of (lexeme ∷ lexemes)) form e
 
-taken-so : (before : List Role) (text : List ℕ) (found : Result (List Token) TokenFault) (form : Spelled) → tokens_of text ≡ found → tokens_behind before found ≡ Ok (Some form) → (tokens : List Token) × (tokens_of text ≡ Ok tokens) × (form_of (lexemes_of tokens) ≡ Some form)
+taken-so : (before : List Role) (text : List ℕ) (found : Result (List Token) TokenFault) (form : Spelled) → tokens_of text ≡ found → tokens_behind before found
+    ≡ Ok (Some form) → (tokens : List Token) × (tokens_of text ≡ Ok tokens) × (form_of (lexemes_of tokens) ≡ Some form)
 taken-so before text (Err fault) form t e = cc
 taken-so before text (Ok tokens) form t e = (tokens, t, lexemes-so before (lexemes_of tokens) form e)
 
 -- the line of a text that the first pass took
-pub taken-back : (scope : Scope) (before : List Role) (text : List ℕ) (form : Spelled) (line : Line) → line_behind before text ≡ Ok (Some form) → line_meant scope form ≡ Ok line → (spelled line ≡ form) × WellWritten line
+pub taken-back : (scope : Scope) (before : List Role) (text : List ℕ) (form : Spelled) (line : Line) → line_behind before text ≡ Ok (Some form)
+    → line_meant scope form ≡ Ok line → (spelled line ≡ form) × WellWritten line
 taken-back scope before text form line e m =
     let t = taken-so before text (tokens_of text) form refl e in accepted-back scope text t.0 form line t.1 t.2 m

@@ -12,13 +12,15 @@ use Rattle.model_tree.specs.Syntax.{Name, Expr, Exprs, exprs, exprs_of}
 use Rattle.model_tree.specs.Known.{functions, function_text, function_of, error_text, kind_of_name, is_made_by_error}
 use Rattle.model_text.specs.declared.cause.Cause.TheVariants as cause
 use Rattle.model_text.specs.Terms.{Term, Or, And, Not, Compare, Calculate, Negate, Index, Constantly, Variable, ListOf, Called, Terms, no_terms, term_then}
-use Rattle.model_text.specs.Naming.{Scope, Meant, both, meant_map, if_known, is_variable, one_argument, error_of, error_call, function_call, meaning_of, meanings_of, all_meant}
+use Rattle.model_text.specs.Naming.{Scope, Meant, both, meant_map, if_known, is_variable, one_argument, error_of, error_call, function_call, meaning_of}
+use Rattle.model_text.specs.Naming.{meanings_of, all_meant}
 use Rattle.law_expressions.specs.Lexemes.{term_from, terms_from}
 use Rattle.law_lines.specs.WellWritten.{WellWrittenExpr, WellWrittenExprs}
 use Rattle.law_written.proofs.Goods.{CalledAs, GoodTerm, GoodTerms, AllGoodTerms}
 
 -- ---- what meanings came from
-pub both-ok : {A B C : Type 0} (f : A → B → C) (x : Meant A) (y : Meant B) (c : C) → both f x y ≡ Ok c → (a : A) × (b : B) × (x ≡ Ok a) × (y ≡ Ok b) × (f a b ≡ c)
+pub both-ok : {A B C : Type 0} (f : A → B → C) (x : Meant A) (y : Meant B) (c : C) → both f x y ≡ Ok c
+    → (a : A) × (b : B) × (x ≡ Ok a) × (y ≡ Ok b) × (f a b ≡ c)
 both-ok f (Ok a) (Ok b) c e = (a, b, refl, refl, cc)
 both-ok f (Ok a) (Err fault) c e = cc
 both-ok f (Err fault) (Ok b) c e = cc
@@ -32,14 +34,16 @@ pub known-ok : {A : Type 0} (test : Bool) (meaning a : A) → if_known test mean
 known-ok true meaning a e = (refl, cc)
 known-ok false meaning a e = cc
 
-pub one-ok : (call : Expr → Expr) (all : Meant (List Expr)) (e : Expr) → one_argument call all ≡ Ok e → (argument : Expr) × (all ≡ Ok (argument ∷ [])) × (call argument ≡ e)
+pub one-ok : (call : Expr → Expr) (all : Meant (List Expr)) (e : Expr) → one_argument call all ≡ Ok e
+    → (argument : Expr) × (all ≡ Ok (argument ∷ [])) × (call argument ≡ e)
 one-ok call (Ok (argument ∷ [])) e h = (argument, refl, cc)
 one-ok call (Ok []) e h = cc
 one-ok call (Ok (first ∷ next ∷ others)) e h = cc
 one-ok call (Err fault) e h = cc
 
 -- ---- names that were found
-found-by : {A : Type 0} (test : A → Bool) (x : A) (others : Option A) (a : A) (passes : Bool) → test x ≡ passes → (if passes then Some x else others) ≡ Some a → (others ≡ Some a → test a ≡ true) → test a ≡ true
+found-by : {A : Type 0} (test : A → Bool) (x : A) (others : Option A) (a : A) (passes : Bool) → test x ≡ passes → (if passes then Some x else others) ≡ Some a
+    → (others ≡ Some a → test a ≡ true) → test a ≡ true
 found-by test x others a true e h behind = let same : x ≡ a = cc in subst (λ y. test y ≡ true) same e
 found-by test x others a false e h behind = behind h
 
@@ -61,8 +65,10 @@ no-function : (f : Function) → bytes_eq (function_text f) error_text ≡ false
 no-function function.Len = refl
 no-function _ = refl
 
-module _ (scope : Scope) (name : Name) (before after : Terms) (gb : (all : List Expr) → meanings_of scope before ≡ Ok all → RowBack before all) (ga : (all : List Expr) → meanings_of scope after ≡ Ok all → RowBack after all) where
-  apply-back : (bare : Option Name) (f : Function) (e : Expr) → function_text f ≡ name → CalledAs (bytes_eq name error_text) before bare after → one_argument (plain.Apply f) (meanings_of scope before) ≡ Ok e → Back (Called name before bare after) e
+module _ (scope : Scope) (name : Name) (before after : Terms) (gb : (all : List Expr) → meanings_of scope before ≡ Ok all → RowBack before all)
+    (ga : (all : List Expr) → meanings_of scope after ≡ Ok all → RowBack after all) where
+  apply-back : (bare : Option Name) (f : Function) (e : Expr) → function_text f ≡ name → CalledAs (bytes_eq name error_text) before bare after
+      → one_argument (plain.Apply f) (meanings_of scope before) ≡ Ok e → Back (Called name before bare after) e
   apply-back bare f e n g h =
       let o = one-ok (plain.Apply f) (meanings_of scope before) e h in
       let b = gb (o.0 ∷ []) o.1 in
@@ -70,27 +76,32 @@ module _ (scope : Scope) (name : Name) (before after : Terms) (gb : (all : List 
       let c : CalledAs false before bare after = subst (λ test. CalledAs test before bare after) other g in
       subst (Back (Called name before bare after)) o.2 ((λ i. Called (n i) (b.0 i) (sym c.0 i) (sym c.1 i)), b.1.0)
 
-  kind-back : (kind : Name) (made : Bool) (k : Kind) (e : Expr) → kind_name k ≡ kind → error_text ≡ name → before ≡ no_terms → (if made then one_argument (plain.MakeError k) (meanings_of scope after) else Err cause.Name) ≡ Ok e → Back (Called name before (Some kind) after) e
+  kind-back : (kind : Name) (made : Bool) (k : Kind) (e : Expr) → kind_name k ≡ kind → error_text ≡ name → before ≡ no_terms
+      → (if made then one_argument (plain.MakeError k) (meanings_of scope after) else Err cause.Name) ≡ Ok e → Back (Called name before (Some kind) after) e
   kind-back kind true k e n same none h =
       let o = one-ok (plain.MakeError k) (meanings_of scope after) e h in
       let b = ga (o.0 ∷ []) o.1 in
       subst (Back (Called name before (Some kind) after)) o.2 ((λ i. Called (same i) (sym none i) (Some (n i)) (b.0 i)), b.1.0)
   kind-back kind false k e n same none h = cc
 
-  error-of-back : (kind : Name) (found : Option Kind) (e : Expr) → kind_of_name kind ≡ found → error_text ≡ name → before ≡ no_terms → error_of found (meanings_of scope after) ≡ Ok e → Back (Called name before (Some kind) after) e
+  error-of-back : (kind : Name) (found : Option Kind) (e : Expr) → kind_of_name kind ≡ found → error_text ≡ name → before ≡ no_terms
+      → error_of found (meanings_of scope after) ≡ Ok e → Back (Called name before (Some kind) after) e
   error-of-back kind None e f same none h = cc
   error-of-back kind (Some k) e f same none h =
       kind-back kind (is_made_by_error k) k e (named-so kind_name kinds kind k f) same none h
 
-  error-back : (bare : Option Name) (e : Expr) → error_text ≡ name → before ≡ no_terms → error_call bare (meanings_of scope after) ≡ Ok e → Back (Called name before bare after) e
+  error-back : (bare : Option Name) (e : Expr) → error_text ≡ name → before ≡ no_terms → error_call bare (meanings_of scope after) ≡ Ok e
+      → Back (Called name before bare after) e
   error-back None e same none h = cc
   error-back (Some kind) e same none h = error-of-back kind (kind_of_name kind) e refl same none h
 
-  other-back : (bare : Option Name) (test : Bool) (e : Expr) → bytes_eq name error_text ≡ test → CalledAs test before bare after → (if test then error_call bare (meanings_of scope after) else Err cause.Name) ≡ Ok e → Back (Called name before bare after) e
+  other-back : (bare : Option Name) (test : Bool) (e : Expr) → bytes_eq name error_text ≡ test → CalledAs test before bare after
+      → (if test then error_call bare (meanings_of scope after) else Err cause.Name) ≡ Ok e → Back (Called name before bare after) e
   other-back bare true e n g h = error-back bare e (sym ((bytes_eq-Decides name error_text).0 n)) g h
   other-back bare false e n g h = cc
 
-  called-back : (bare : Option Name) (found : Option Function) (e : Expr) → function_of name ≡ found → CalledAs (bytes_eq name error_text) before bare after → function_call name found (meanings_of scope before) bare (meanings_of scope after) ≡ Ok e → Back (Called name before bare after) e
+  called-back : (bare : Option Name) (found : Option Function) (e : Expr) → function_of name ≡ found → CalledAs (bytes_eq name error_text) before bare after
+      → function_call name found (meanings_of scope before) bare (meanings_of scope after) ≡ Ok e → Back (Called name before bare after) e
   called-back bare (Some f) e n g h = apply-back bare f e (named-so function_text functions name f n) g h
   called-back bare None e n g h = other-back bare (bytes_eq name error_text) e refl g h
 
@@ -142,7 +153,8 @@ module _ (scope : Scope) where
     term-back (Called name before bare after) e g h =
         called-back scope name before after (λ all m. terms-back before all g.1 m) (λ all m. terms-back after all g.2 m) bare (function_of name) e refl g.0 h
 
-    pub terms-back : (ts : Terms) (all : List Expr) → GoodTerms ts → meanings_of scope ts ≡ Ok all → (terms_from (exprs all) ≡ ts) × WellWrittenExprs (exprs all)
+    pub terms-back : (ts : Terms) (all : List Expr) → GoodTerms ts → meanings_of scope ts ≡ Ok all
+        → (terms_from (exprs all) ≡ ts) × WellWrittenExprs (exprs all)
     terms-back no_terms all g h = let none : [] ≡ all = cc in subst (RowBack no_terms) none (refl, tt)
     terms-back (term_then first others) all g h =
         let b = both-ok (λ (x : Expr) (xs : List Expr). x ∷ xs) (meaning_of scope first) (meanings_of scope others) all h in

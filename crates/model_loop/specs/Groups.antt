@@ -1,6 +1,7 @@
 -- Task groups. Source: the library reference, "Task Groups"; `taskgroups.py`, `TaskGroup.create_task`, `_abort`,
 -- `_on_task_done`, `__aexit__`.
-use Rattle.std.specs.Prelude.{ℕ, Bool, true, false, not, ◌&&◌, ◌||◌, ◌==◌, List, [], ◌∷◌, ◌++◌, Option, Some, None, codes, filter, is_some, length, nat_le, slice_index_or, slice_set, if◌then◌else◌}
+use Rattle.std.specs.Prelude.{ℕ, Bool, true, false, not, ◌&&◌, ◌||◌, ◌==◌, List, [], ◌∷◌, ◌++◌, Option, Some, None, codes, filter, is_some, length, nat_le}
+use Rattle.std.specs.Prelude.{slice_index_or, slice_set, if◌then◌else◌}
 use Rattle.model_value.specs.declared.input.Input.TheVariants.{Send, Throw}
 use Rattle.model_value.specs.declared.kind.Kind.TheVariants.{RuntimeError, ExceptionGroup}
 use Rattle.model_value.specs.declared.outcome.Outcome.TheVariants.{Value as Returned, Failed}

@@ -1,6 +1,7 @@
 -- Timeouts. Source: the library reference, "Timeouts"; `timeouts.py`, `Timeout.__aenter__`, `reschedule`, `_on_timeout`,
 -- `__aexit__`.
-use Rattle.std.specs.Prelude.{ℕ, ℤ, pos, negsuc, Bool, true, false, ◌&&◌, List, [], ◌∷◌, ◌++◌, Option, Some, None, codes, length, nat_le, option_map, slice_index_or, slice_set, if◌then◌else◌}
+use Rattle.std.specs.Prelude.{ℕ, ℤ, pos, negsuc, Bool, true, false, ◌&&◌, List, [], ◌∷◌, ◌++◌, Option, Some, None, codes, length, nat_le, option_map}
+use Rattle.std.specs.Prelude.{slice_index_or, slice_set, if◌then◌else◌}
 use Rattle.std.specs.Option.{option_map_or}
 use Rattle.model_value.specs.declared.kind.Kind.TheVariants.{RuntimeError, TimeoutError}
 use Rattle.model_value.specs.declared.action.Action.TheVariants.{Fires}

@@ -1,7 +1,8 @@
 -- What each request comes to: an answer, an exception, or the end of the task's step. The kinds of its arguments are tested
 -- first, then whether one more of what it makes can be numbered, and then the rest.
 -- Source: the library reference, "Coroutines and Tasks", "Futures"; `timeouts.py`; `taskgroups.py`.
-use Rattle.std.specs.Prelude.{ℕ, zero, suc, ◌^◌, ◌-◌, ℤ, pos, negsuc, Bool, true, false, List, [], ◌∷◌, ◌++◌, Option, Some, None, codes, is_some, length, nat_lt}
+use Rattle.std.specs.Prelude.{ℕ, zero, suc, ◌^◌, ◌-◌, ℤ, pos, negsuc, Bool, true, false, List, [], ◌∷◌, ◌++◌, Option, Some, None, codes, is_some, length}
+use Rattle.std.specs.Prelude.{nat_lt}
 use Rattle.std.specs.List.{flat_map}
 use Rattle.model_value.specs.declared.action.Action.TheVariants.{SleepDone}
 use Rattle.model_value.specs.declared.input.Input.TheVariants.{Send, Throw}
@@ -18,14 +19,16 @@ use Rattle.model_wire.specs.declared.event.End.TheVariants as end
 use Rattle.model_wire.specs.declared.event.Event.TheVariants as event
 use Rattle.model_wire.specs.Trace.{End}
 use Rattle.model_loop.specs.Futures.{future_outcome, new_plain, next_future, settle}
-use Rattle.model_loop.specs.Groups.{GroupExit, Waits, Passes, Raises as RaisedBy, Exited, Refusal, create, enter_group, exit_begin, exit_woken, group_of, make_group, next_group, refusal, refusal_fault}
+use Rattle.model_loop.specs.Groups.{GroupExit, Waits, Passes, Raises as RaisedBy, Exited, Refusal, create, enter_group, exit_begin, exit_woken, group_of}
+use Rattle.model_loop.specs.Groups.{make_group, next_group, refusal, refusal_fault}
 use Rattle.model_loop.specs.Handles.{deadline, later}
 use Rattle.model_loop.specs.Ledger.{ByScript, request, uncancel_by}
 use Rattle.model_loop.specs.Loop.{book}
 use Rattle.model_loop.specs.Parts.{Parts}
 use Rattle.model_loop.specs.Suspend.{suspend}
 use Rattle.model_loop.specs.Tasks.{cancelling, next_task, pause, spawn}
-use Rattle.model_loop.specs.Timeouts.{enter_timeout, exit_timeout, has_expired, is_active, next_timeout, reschedule, reschedule_fault, timeout_fault, timeout_of}
+use Rattle.model_loop.specs.Timeouts.{enter_timeout, exit_timeout, has_expired, is_active, next_timeout, reschedule, reschedule_fault, timeout_fault}
+use Rattle.model_loop.specs.Timeouts.{timeout_of}
 use Rattle.model_machine.specs.Arguments.{as_future, as_awaited, as_task, as_timeout, as_group, as_int, as_delay, as_failure, as_list}
 use Rattle.model_machine.specs.Extra as extra
 use Rattle.model_machine.specs.Extra.{Extra, ExtraAnswer, ExtraSaid, called}

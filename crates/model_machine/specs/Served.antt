@@ -3,7 +3,8 @@ use Rattle.std.specs.Prelude.{Bool, true, false, ◌&&◌}
 use Rattle.std.specs.List.{list_all}
 use Rattle.model_tree.specs.declared.request_name.RequestName.{RequestName}
 use Rattle.model_tree.specs.declared.request_name.RequestName.TheVariants as request
-use Rattle.model_tree.specs.Syntax.{Target, Ask, ListenAt, Statement, YieldFrom, If, While, Try, With, Statements, no_statements, statement_then, Branch, no_branch, branch, Handlers, no_handlers, handler_then, Program}
+use Rattle.model_tree.specs.Syntax.{Target, Ask, ListenAt, Statement, YieldFrom, If, While, Try, With, Statements, no_statements, statement_then, Branch}
+use Rattle.model_tree.specs.Syntax.{no_branch, branch, Handlers, no_handlers, handler_then, Program}
 
 abbrev pub is_request_served : RequestName → Bool
 is_request_served request.Connect = false

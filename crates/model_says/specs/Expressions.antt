@@ -2,7 +2,8 @@
 -- Source: the language reference, "Expressions", "Evaluation order".
 use Rattle.std.specs.Prelude.{true, false, List, [], ◌∷◌, Result, Ok, Err}
 use Rattle.model_value.specs.Value.{Value, Nothing, Truth, Int, Text, Bytes, Items, Exc, values}
-use Rattle.model_tree.specs.Syntax.{Constant, NoneConstant, TruthConstant, IntConstant, TextConstant, BytesConstant, Expr, Or, And, Not, Compare, Calculate, Negate, Index, Literal, Variable, ListOf, Apply, MakeError, Exprs, no_exprs, expr_then}
+use Rattle.model_tree.specs.Syntax.{Constant, NoneConstant, TruthConstant, IntConstant, TextConstant, BytesConstant, Expr, Or, And, Not, Compare, Calculate}
+use Rattle.model_tree.specs.Syntax.{Negate, Index, Literal, Variable, ListOf, Apply, MakeError, Exprs, no_exprs, expr_then}
 use Rattle.model_says.specs.Variables.{Env, held}
 use Rattle.model_says.specs.Operations.{ValueOrFault, bad_operand, bounded, truth, negation, calculated, negative, compared, indexed, applied, error_made}
 

@@ -1,6 +1,7 @@
 -- What each operator and each function of an expression gives for values, or the exception that it raises.
 -- Source: the language reference, "Expressions"; the library reference, "Built-in Types"; with the bounds of scripts.
-use Rattle.std.specs.Prelude.{ℕ, zero, suc, ◌+◌, ◌*◌, ◌/◌, ◌^◌, ℤ, pos, negsuc, ◌+ℤ◌, ◌-ℤ◌, ◌*ℤ◌, neg_ℤ, Bool, true, false, not, ◌&&◌, List, ◌++◌, length, map, reverse, slice_get, Option, Some, None, Result, Ok, Err, codes, nat_lt, nat_le, if◌then◌else◌}
+use Rattle.std.specs.Prelude.{ℕ, zero, suc, ◌+◌, ◌*◌, ◌/◌, ◌^◌, ℤ, pos, negsuc, ◌+ℤ◌, ◌-ℤ◌, ◌*ℤ◌, neg_ℤ, Bool, true, false, not, ◌&&◌, List, ◌++◌, length, map}
+use Rattle.std.specs.Prelude.{reverse, slice_get, Option, Some, None, Result, Ok, Err, codes, nat_lt, nat_le, if◌then◌else◌}
 use Rattle.std.specs.List.{repeat}
 use Rattle.std.specs.declared.cmp.Ordering.{Ordering}
 use Rattle.std.specs.Ordering.{nat_cmp, int_cmp, is_lt, is_le, is_gt, is_ge}
@@ -8,7 +9,8 @@ use Rattle.std.specs.Cmp.Lexicographic.{slice_cmp}
 use Rattle.std.specs.Str.{is_utf8}
 use Rattle.model_value.specs.declared.kind.Kind.{Kind}
 use Rattle.model_value.specs.declared.kind.Kind.TheVariants.{TypeError, OverflowError, ZeroDivisionError, IndexError, ValueError}
-use Rattle.model_value.specs.Value.{Value, Truth, Int, Text, Bytes, Items, Exception, Exc, list_of, values, exception_of, kind_of, text_of, bytes_of, members_of}
+use Rattle.model_value.specs.Value.{Value, Truth, Int, Text, Bytes, Items, Exception, Exc, list_of, values, exception_of, kind_of, text_of, bytes_of}
+use Rattle.model_value.specs.Value.{members_of}
 use Rattle.model_value.specs.Weight.{weight_of}
 use Rattle.model_value.specs.Depth.{depth_of}
 use Rattle.model_value.specs.Equality.{equal}

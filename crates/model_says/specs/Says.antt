@@ -8,12 +8,15 @@ use Rattle.model_value.specs.declared.request.Request.TheVariants as request
 use Rattle.model_value.specs.Kinds.{matches}
 use Rattle.model_value.specs.Request.{Request}
 use Rattle.model_value.specs.Value.{Value, Nothing, Exception, Exc, exception_of, kind_of}
-use Rattle.model_tree.specs.Syntax.{Expr, Target, Await, Call, Ask, SpawnTask, CreateTask, ListenAt, Manager, GroupBlock, TimeoutBlock, Statement, Assign, Yield, YieldFrom, Print, Raise, Return, Pass, If, While, Try, With, Statements, no_statements, statement_then, Branch, no_branch, branch, Handlers, no_handlers, handler_then, Program}
+use Rattle.model_tree.specs.Syntax.{Expr, Target, Await, Call, Ask, SpawnTask, CreateTask, ListenAt, Manager, GroupBlock, TimeoutBlock, Statement, Assign}
+use Rattle.model_tree.specs.Syntax.{Yield, YieldFrom, Print, Raise, Return, Pass, If, While, Try, With, Statements, no_statements, statement_then, Branch}
+use Rattle.model_tree.specs.Syntax.{no_branch, branch, Handlers, no_handlers, handler_then, Program}
 use Rattle.model_says.specs.Variables.{Env, held, entered}
 use Rattle.model_says.specs.Operations.{bad_operand}
 use Rattle.model_says.specs.Requests.{requested, place_of, coroutine_at}
 use Rattle.model_says.specs.Tape.{Tape}
-use Rattle.model_says.specs.Endings.{Saying, Runaway, Exchange, Progress, Ending, Passes, Returned, Raised, Stopped, saying_of, progress_of, Next, routed, then_next, given, valued, all_valued, decided, assign, assign_to, begun, ask}
+use Rattle.model_says.specs.Endings.{Saying, Runaway, Exchange, Progress, Ending, Passes, Returned, Raised, Stopped, saying_of, progress_of, Next, routed}
+use Rattle.model_says.specs.Endings.{then_next, given, valued, all_valued, decided, assign, assign_to, begun, ask}
 
 abbrev pub too_many_frames : Exc
 too_many_frames = exception_of RecursionError (codes "too many frames")

@@ -4,7 +4,8 @@ use Rattle.std.specs.Prelude.{List, [], ◌∷◌, ◌++◌, option_to_list, fol
 use Rattle.std.specs.List.{list_any}
 use Rattle.std.specs.Str.{bytes_eq}
 use Rattle.model_value.specs.Value.{Value, Nothing}
-use Rattle.model_tree.specs.Syntax.{Name, Statement, Assign, YieldFrom, If, While, Try, With, Statements, no_statements, statement_then, Branch, no_branch, branch, Handlers, no_handlers, handler_then, Coroutine}
+use Rattle.model_tree.specs.Syntax.{Name, Statement, Assign, YieldFrom, If, While, Try, With, Statements, no_statements, statement_then, Branch, no_branch}
+use Rattle.model_tree.specs.Syntax.{branch, Handlers, no_handlers, handler_then, Coroutine}
 
 -- the names that statements bind, in order of their places
 abbrev mutual

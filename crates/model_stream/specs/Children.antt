@@ -16,7 +16,8 @@ use Rattle.model_stream.specs.declared.answers.Wrote.TheVariants as wrote
 use Rattle.model_stream.specs.Doing.{Doing, Ends, Changes, MakeFuture, and_then, asks, settles}
 use Rattle.model_stream.specs.Reading.{ReadOp}
 use Rattle.model_stream.specs.Receivers.{Receiver, StreamGot, new_receiver, takes_more, receive, receive_end, read, give_up_read}
-use Rattle.model_stream.specs.Senders.{Sender, Outlet, Drain, new_sender, has_unsent, schedule_loss, close_sender, lose_sender, write, send_more, is_flushed, drain_sender, lost_text}
+use Rattle.model_stream.specs.Senders.{Sender, Outlet, Drain, new_sender, has_unsent, schedule_loss, close_sender, lose_sender, write, send_more, is_flushed}
+use Rattle.model_stream.specs.Senders.{drain_sender, lost_text}
 
 -- `waits` are the futures that waits for the exit are on, in order.
 pub record Child : Type 0 where

@@ -14,7 +14,8 @@ use Rattle.model_stream.specs.declared.answers.Drain.TheVariants as drain_as
 use Rattle.model_stream.specs.Doing.{Doing, Ends, Changes, Asks, CallSoon, Settle, and_then, asks}
 use Rattle.model_stream.specs.Reading.{ReadOp}
 use Rattle.model_stream.specs.Receivers.{Receiver, StreamGot, new_receiver, takes_more, receive, receive_end, receive_loss, read, give_up_read}
-use Rattle.model_stream.specs.Senders.{Sender, Outlet, Drain, new_sender, with_writer, has_unsent, ended_sender, fail_sender, close_sender, loss_of, lose_sender, write, send_more, is_flushed, drain_sender, lost_text}
+use Rattle.model_stream.specs.Senders.{Sender, Outlet, Drain, new_sender, with_writer, has_unsent, ended_sender, fail_sender, close_sender, loss_of}
+use Rattle.model_stream.specs.Senders.{lose_sender, write, send_more, is_flushed, drain_sender, lost_text}
 use Rattle.model_stream.specs.Sending.{set_eof}
 
 -- `making` is the future that the connect waits on, while the connection is being made; `handler` is the coroutine that

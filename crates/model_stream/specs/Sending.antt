@@ -2,7 +2,8 @@
 -- between which writing is paused and resumed.
 -- Source: `selector_events.py`, `_SelectorSocketTransport.write` and `_write_ready`; `transports.py`, `_FlowControlMixin`;
 -- of a child `unix_events.py`, `_UnixWritePipeTransport`.
-use Rattle.std.specs.Prelude.{ℕ, ◌*◌, ◌/◌, ◌==◌, ℤ, pos, negsuc, Bool, false, true, ◌&&◌, ◌||◌, if◌then◌else◌, List, [], ◌++◌, Option, Some, None, length, take, drop, nat_lt, nat_le}
+use Rattle.std.specs.Prelude.{ℕ, ◌*◌, ◌/◌, ◌==◌, ℤ, pos, negsuc, Bool, false, true, ◌&&◌, ◌||◌, if◌then◌else◌, List, [], ◌++◌, Option, Some, None, length, take}
+use Rattle.std.specs.Prelude.{drop, nat_lt, nat_le}
 use Rattle.std.specs.Option.{option_and_then}
 use Rattle.model_stream.specs.declared.put.Put.{Put}
 use Rattle.model_stream.specs.declared.put.Put.TheVariants.{Offer, Kept, Empty, AfterEof, Dropped}

@@ -1,6 +1,7 @@
 -- All listeners, connections and children of a run, each kind numbered from 0 in order of making; and how each callback
 -- and each request changes them.
-use Rattle.std.specs.Prelude.{ℕ, zero, suc, ◌+◌, Bool, true, false, if◌then◌else◌, List, [], ◌∷◌, ◌++◌, Option, Some, None, length, nat_lt, slice_get, slice_set}
+use Rattle.std.specs.Prelude.{ℕ, zero, suc, ◌+◌, Bool, true, false, if◌then◌else◌, List, [], ◌∷◌, ◌++◌, Option, Some, None, length, nat_lt, slice_get}
+use Rattle.std.specs.Prelude.{slice_set}
 use Rattle.model_value.specs.declared.action.Action.TheVariants as action
 use Rattle.model_value.specs.Action.{Action}
 use Rattle.model_wire.specs.declared.answer.Answer.TheVariants as answer

@@ -11,7 +11,11 @@ use Rattle.model_tree.specs.declared.operator.Operator.{Operator}
 use Rattle.model_tree.specs.declared.operator.Operator.TheVariants as operator
 use Rattle.model_tree.specs.declared.operator.Comparison.{Comparison}
 use Rattle.model_tree.specs.declared.operator.Comparison.TheVariants as comparison
-use Rattle.model_tree.specs.Syntax.{Name, Constant, NoneConstant, TruthConstant, IntConstant, TextConstant, BytesConstant, Expr, Or, And, Not, Compare, Calculate, Negate, Index, Literal, Variable, ListOf, Apply, MakeError, Exprs, no_exprs, expr_then, Target, Await, Call, Ask, SpawnTask, CreateTask, ListenAt, Manager, GroupBlock, TimeoutBlock, Statement, Assign, Yield, YieldFrom, Print, Raise, Return, Pass, If, While, Try, With, Statements, no_statements, statement_then, Branch, no_branch, branch, Handlers, no_handlers, handler_then, Coroutine, Program}
+use Rattle.model_tree.specs.Syntax.{Name, Constant, NoneConstant, TruthConstant, IntConstant, TextConstant, BytesConstant, Expr, Or, And, Not, Compare}
+use Rattle.model_tree.specs.Syntax.{Calculate, Negate, Index, Literal, Variable, ListOf, Apply, MakeError, Exprs, no_exprs, expr_then, Target, Await, Call, Ask}
+use Rattle.model_tree.specs.Syntax.{SpawnTask, CreateTask, ListenAt, Manager, GroupBlock, TimeoutBlock, Statement, Assign, Yield, YieldFrom, Print, Raise}
+use Rattle.model_tree.specs.Syntax.{Return, Pass, If, While, Try, With, Statements, no_statements, statement_then, Branch, no_branch, branch, Handlers}
+use Rattle.model_tree.specs.Syntax.{no_handlers, handler_then, Coroutine, Program}
 use Rattle.model_tree.specs.Known.{function_text, error_text, request_text, spawn_text, create_text, listen_text}
 
 -- ---- expressions
@@ -125,7 +129,8 @@ abbrev mutual
   statement_text (While test body) blocks =
       line_in blocks (codes "while " ++ expr_text test) ++ statements_text body (suc blocks) ++ end_in blocks
   statement_text (Try body handlers finally) blocks =
-      line_in blocks (codes "try") ++ statements_text body (suc blocks) ++ handlers_text handlers blocks ++ branch_text finally (codes "finally") blocks ++ end_in blocks
+      line_in blocks (codes "try") ++ statements_text body (suc blocks) ++ handlers_text handlers blocks ++ branch_text finally (codes "finally") blocks
+      ++ end_in blocks
   statement_text (With manager name body) blocks =
       line_in blocks (codes "with " ++ manager_text manager ++ codes " as " ++ name) ++ statements_text body (suc blocks) ++ end_in blocks
 

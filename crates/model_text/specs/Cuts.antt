@@ -49,7 +49,8 @@ Fits (Unclosed text) rest =
     (literal : Literal) × (others : List ℕ) × (text ≡ opening literal ++ others) × (inside_of false others ≡ None) × (rest ≡ [])
 Fits (Punctuation symbol) rest = IsLongest symbol rest
 Fits (Stray byte) rest =
-    (is_space byte ≡ false) × (is_hash byte ≡ false) × (is_quote byte ≡ false) × (is_word byte ≡ false) × ((symbol : Symbol) → BeginsWith (byte ∷ rest) (symbol_text symbol) → ⊥)
+    (is_space byte ≡ false) × (is_hash byte ≡ false) × (is_quote byte ≡ false) × (is_word byte ≡ false) × ((symbol : Symbol)
+    → BeginsWith (byte ∷ rest) (symbol_text symbol) → ⊥)
 
 -- the line is these pieces in order
 abbrev pub Cuts : List ℕ → List Piece → Type 0

@@ -56,7 +56,8 @@ abbrev pub goal_of : Parser Goal
 goal_of (Named name ∷ []) = Some (Awaited name)
 goal_of (Named name ∷ next ∷ lexemes) =
     if is_sign symbol.LeftParenthesis next
-    then option_and_then (λ inner. option_map (Asked name) (arguments_of term_of (coroutine_place name) (parts inner))) (before_last symbol.RightParenthesis lexemes)
+    then option_and_then (λ inner. option_map (Asked name) (arguments_of term_of (coroutine_place name) (parts inner)))
+    (before_last symbol.RightParenthesis lexemes)
     else None
 goal_of _ = None
 

@@ -1,7 +1,8 @@
 -- Which tokens spell which expression, level by level from the loosest: at each level the tokens are cut at its operators
 -- outside brackets, and what stands between them is of the next level. Equal levels group from the left.
 -- Source: the Python language reference, "Operator precedence".
-use Rattle.std.specs.Prelude.{ℕ, zero, suc, Bool, true, false, List, [], ◌∷◌, Option, Some, None, length, take, drop, option_map, option_and_then, if◌then◌else◌}
+use Rattle.std.specs.Prelude.{ℕ, zero, suc, Bool, true, false, List, [], ◌∷◌, Option, Some, None, length, take, drop, option_map, option_and_then}
+use Rattle.std.specs.Prelude.{if◌then◌else◌}
 use Rattle.std.specs.Str.{bytes_eq}
 use Rattle.model_tree.specs.declared.operator.Operator.{Operator}
 use Rattle.model_tree.specs.declared.operator.Operator.TheVariants as operator
@@ -131,7 +132,8 @@ module _ (inside : List Lexeme → Option Term) where
 
   abbrev pub called : Name → Parser Term
   called name lexemes =
-      option_map (λ arguments. Called name (terms arguments.before) arguments.bare (terms arguments.after)) (arguments_of inside (kind_place name) (parts lexemes))
+      option_map (λ arguments. Called name (terms arguments.before) arguments.bare (terms arguments.after))
+      (arguments_of inside (kind_place name) (parts lexemes))
 
   -- what begins with a bracket
   abbrev pub bracketed : AnySymbol → Parser Term

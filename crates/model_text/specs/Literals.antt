@@ -1,6 +1,7 @@
 -- Literals of texts and of bytes: where one ends, and what its inside says.
 -- Source: the Python language reference, "String and Bytes literals", cut to double quotes and six escapes.
-use Rattle.std.specs.Prelude.{ℕ, zero, suc, ◌+◌, ◌-◌, ◌*◌, Bool, not, ◌&&◌, List, [], ◌∷◌, length, take, slice_index, Option, Some, None, option_map, Result, Ok, Err, ◌==◌, nat_lt, if◌then◌else◌, codes}
+use Rattle.std.specs.Prelude.{ℕ, zero, suc, ◌+◌, ◌-◌, ◌*◌, Bool, not, ◌&&◌, List, [], ◌∷◌, length, take, slice_index, Option, Some, None, option_map, Result}
+use Rattle.std.specs.Prelude.{Ok, Err, ◌==◌, nat_lt, if◌then◌else◌, codes}
 use Rattle.std.specs.Char.{is_ascii_hexdigit, digit_value}
 use Rattle.model_text.specs.declared.literal.Literal.{Literal}
 use Rattle.model_text.specs.declared.literal.Literal.TheVariants.{OfText, OfBytes}

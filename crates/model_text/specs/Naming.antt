@@ -9,7 +9,8 @@ use Rattle.model_tree.specs.declared.function.Function.{Function}
 use Rattle.model_tree.specs.declared.request_name.RequestName.{RequestName}
 use Rattle.model_tree.specs.Syntax as plain
 use Rattle.model_tree.specs.Syntax.{Name, Expr, Exprs, exprs, Target}
-use Rattle.model_tree.specs.Known.{function_of, error_text, request_of, request_arity, spawn_text, create_text, listen_text, kind_of_name, is_made_by_error, is_taken}
+use Rattle.model_tree.specs.Known.{function_of, error_text, request_of, request_arity, spawn_text, create_text, listen_text, kind_of_name, is_made_by_error}
+use Rattle.model_tree.specs.Known.{is_taken}
 use Rattle.model_text.specs.declared.cause.Cause.{Cause}
 use Rattle.model_text.specs.declared.cause.Cause.TheVariants as cause
 use Rattle.model_text.specs.Terms.{Term, Or, And, Not, Compare, Calculate, Negate, Index, Constantly, Variable, ListOf, Called, Terms, no_terms, term_then}
@@ -134,7 +135,8 @@ module _ (scope : Scope) where
   abbrev pub create_by : Option Callee → Name → Meant (List Expr) → Meant (List Expr) → Meant Target
   create_by None name before after = Err cause.Name
   create_by (Some callee) name before after =
-      both (λ group arguments. plain.CreateTask group name (exprs arguments)) (one_argument (λ group. group) before) (counted callee.parameters (λ all. all) after)
+      both (λ group arguments. plain.CreateTask group name (exprs arguments)) (one_argument (λ group. group) before)
+      (counted callee.parameters (λ all. all) after)
 
   abbrev pub create_target : Meant (List Expr) → Option Name → Meant (List Expr) → Meant Target
   create_target before None after = missing before
@@ -144,7 +146,8 @@ module _ (scope : Scope) where
   abbrev pub listen_by : Option Callee → Name → Meant (List Expr) → Meant (List Expr) → Meant Target
   listen_by None name before after = Err cause.Name
   listen_by (Some callee) name before after =
-      both plain.ListenAt (one_argument (λ port. port) before) (both (λ none handler. handler) (counted 0 (λ all. all) after) (if_arity (nat_eq callee.parameters 1) name))
+      both plain.ListenAt (one_argument (λ port. port) before)
+      (both (λ none handler. handler) (counted 0 (λ all. all) after) (if_arity (nat_eq callee.parameters 1) name))
 
   abbrev pub listen_target : Meant (List Expr) → Option Name → Meant (List Expr) → Meant Target
   listen_target before None after = missing before

@@ -1,6 +1,7 @@
 -- A line is cut into pieces from the left, each as long as it can be.
 -- Source: the Python language reference, "Lexical analysis", cut to what scripts have.
-use Rattle.std.specs.Prelude.{ℕ, zero, suc, ◌-◌, ◌&&◌, List, [], ◌∷◌, ◌++◌, length, drop, slice_index, Option, Some, None, ◌==◌, if◌then◌else◌, take_while, codes, false}
+use Rattle.std.specs.Prelude.{ℕ, zero, suc, ◌-◌, ◌&&◌, List, [], ◌∷◌, ◌++◌, length, drop, slice_index, Option, Some, None, ◌==◌, if◌then◌else◌, take_while}
+use Rattle.std.specs.Prelude.{codes, false}
 use Rattle.std.specs.Char.{is_ascii_digit}
 use Rattle.model_text.specs.declared.symbol.Symbol.{Symbol}
 use Rattle.model_text.specs.Letters.{is_word, is_space, is_hash, is_quote}

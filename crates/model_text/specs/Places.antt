@@ -1,11 +1,13 @@
 -- Where a line may stand: the blocks that are open before it, found by going back through the lines before.
 -- Source: the Python language reference, "Compound statements", with `end` in place of indentation.
-use Rattle.std.specs.Prelude.{ℕ, suc, max, Bool, true, false, not, ◌&&◌, List, [], ◌∷◌, ◌++◌, ◌-◌, length, map, Option, Some, None, fold, nat_lt, nat_le, nat_eq, if◌then◌else◌, option_to_list}
+use Rattle.std.specs.Prelude.{ℕ, suc, max, Bool, true, false, not, ◌&&◌, List, [], ◌∷◌, ◌++◌, ◌-◌, length, map, Option, Some, None, fold, nat_lt, nat_le}
+use Rattle.std.specs.Prelude.{nat_eq, if◌then◌else◌, option_to_list}
 use Rattle.std.specs.List.{list_any}
 use Rattle.model_text.specs.declared.cause.Cause.{Cause}
 use Rattle.model_text.specs.declared.cause.Cause.TheVariants as cause
 use Rattle.model_text.specs.Terms.{Term, height}
-use Rattle.model_text.specs.Forms.{Form, Profile, Def, Assign, YieldFrom, Print, Raise, Return, If, Else, While, Try, Except, Finally, WithGroup, WithTimeout, End, Goal, Awaited, Asked, Spelled}
+use Rattle.model_text.specs.Forms.{Form, Profile, Def, Assign, YieldFrom, Print, Raise, Return, If, Else, While, Try, Except, Finally, WithGroup, WithTimeout}
+use Rattle.model_text.specs.Forms.{End, Goal, Awaited, Asked, Spelled}
 
 -- the greatest number of open blocks, and the greatest height of an expression
 abbrev pub most_blocks : ℕ

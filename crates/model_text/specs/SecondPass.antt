@@ -1,7 +1,8 @@
 -- The second pass over lines that have their forms: what their names mean. The least faulty line counts, and in one line
 -- the least cause; that there is no `main` without parameters is told behind all lines.
 -- Source: the Python language reference, "Naming and binding", "Function definitions".
-use Rattle.std.specs.Prelude.{ℕ, Bool, true, false, ◌&&◌, not, List, [], ◌∷◌, ◌++◌, length, map, flat_map, option_to_list, Option, Some, None, Result, Ok, Err, codes, find, nat_eq, nat_le, if◌then◌else◌}
+use Rattle.std.specs.Prelude.{ℕ, Bool, true, false, ◌&&◌, not, List, [], ◌∷◌, ◌++◌, length, map, flat_map, option_to_list, Option, Some, None, Result, Ok, Err}
+use Rattle.std.specs.Prelude.{codes, find, nat_eq, nat_le, if◌then◌else◌}
 use Rattle.std.specs.List.{list_any}
 use Rattle.std.specs.Str.{bytes_eq}
 use Rattle.model_value.specs.declared.kind.Kind.{Kind}
@@ -9,7 +10,8 @@ use Rattle.model_tree.specs.Syntax.{Name, Expr, Target}
 use Rattle.model_tree.specs.Known.{kind_of_name, is_taken}
 use Rattle.model_text.specs.declared.cause.Cause.TheVariants as cause
 use Rattle.model_text.specs.Terms.{Term}
-use Rattle.model_text.specs.Forms.{Form, Profile, Def, Assign, Yield, YieldFrom, Print, Raise, Return, Pass, If, Else, While, Try, Except, Finally, WithGroup, WithTimeout, End, Spelled}
+use Rattle.model_text.specs.Forms.{Form, Profile, Def, Assign, Yield, YieldFrom, Print, Raise, Return, Pass, If, Else, While, Try, Except, Finally, WithGroup}
+use Rattle.model_text.specs.Forms.{WithTimeout, End, Spelled}
 use Rattle.model_text.specs.FirstPass.{Fault, fault_at, Numbered}
 use Rattle.model_text.specs.Naming.{Callee, Scope, Meant, both, meant_map, if_known, if_arity, meaning_of, all_meant, target_of}
 
@@ -104,7 +106,8 @@ are_fresh (name ∷ names) = not (is_taken name) && not (list_any (bytes_eq name
 -- a head behind coroutines of these names
 abbrev pub head_meant : List Name → Part (Numbered Spelled) → Meant Name
 head_meant earlier part =
-    both (λ name right. name) (if_known (not (is_taken part.name) && not (list_any (bytes_eq part.name) earlier) && are_fresh part.parameters) part.name) (if_arity (nat_le (length part.parameters) most_parameters) part.name)
+    both (λ name right. name) (if_known (not (is_taken part.name) && not (list_any (bytes_eq part.name) earlier) && are_fresh part.parameters) part.name)
+    (if_arity (nat_le (length part.parameters) most_parameters) part.name)
 
 -- ---- the first fault in order of lines, or the meanings of all
 abbrev pub Judged : Type 0 → Type 0
@@ -129,7 +132,8 @@ named_part part lines = record { line = part.line; name = part.name; parameters 
 
 abbrev pub part_judged : List Callee → List Name → Part (Numbered Spelled) → Judged (Part Line)
 part_judged callees earlier part =
-    in_turn (λ name lines. named_part part lines) (judged_at part.line (head_meant earlier part)) (lines_judged (record { callees = callees; variables = variables_in part }) part.lines)
+    in_turn (λ name lines. named_part part lines) (judged_at part.line (head_meant earlier part))
+    (lines_judged (record { callees = callees; variables = variables_in part }) part.lines)
 
 abbrev pub parts_judged : List Callee → List Name → List (Part (Numbered Spelled)) → Judged (List (Part Line))
 parts_judged callees earlier [] = Ok []

@@ -3,7 +3,8 @@
 use Rattle.std.specs.Prelude.{ℕ, List, [], ◌∷◌, Option, codes, find, nat_eq}
 use Rattle.std.specs.List.{starts_with}
 use Rattle.model_text.specs.declared.symbol.Symbol.{Symbol}
-use Rattle.model_text.specs.declared.symbol.Symbol.TheVariants.{LeftParenthesis, RightParenthesis, LeftBracket, RightBracket, Comma, Assign, Equals, NotEquals, LessThan, LessOrEqual, GreaterThan, GreaterOrEqual, Plus, Minus, Star, DoubleSlash, Percent}
+use Rattle.model_text.specs.declared.symbol.Symbol.TheVariants.{LeftParenthesis, RightParenthesis, LeftBracket, RightBracket, Comma, Assign, Equals, NotEquals}
+use Rattle.model_text.specs.declared.symbol.Symbol.TheVariants.{LessThan, LessOrEqual, GreaterThan, GreaterOrEqual, Plus, Minus, Star, DoubleSlash, Percent}
 
 abbrev pub symbol_text : Symbol → List ℕ
 symbol_text LeftParenthesis = codes "("
@@ -27,7 +28,8 @@ symbol_text Percent = codes "%"
 -- all of them, the longer ones first
 abbrev pub symbols : List Symbol
 symbols =
-    Equals ∷ NotEquals ∷ LessOrEqual ∷ GreaterOrEqual ∷ DoubleSlash ∷ LeftParenthesis ∷ RightParenthesis ∷ LeftBracket ∷ RightBracket ∷ Comma ∷ Assign ∷ LessThan ∷ GreaterThan ∷ Plus ∷ Minus ∷ Star ∷ Percent ∷ []
+    Equals ∷ NotEquals ∷ LessOrEqual ∷ GreaterOrEqual ∷ DoubleSlash ∷ LeftParenthesis ∷ RightParenthesis ∷ LeftBracket ∷ RightBracket ∷ Comma ∷ Assign
+    ∷ LessThan ∷ GreaterThan ∷ Plus ∷ Minus ∷ Star ∷ Percent ∷ []
 
 -- the longest symbol that the bytes begin with
 abbrev pub symbol_at : List ℕ → Option Symbol

@@ -1,6 +1,7 @@
 -- The tokens of a line, or its first fault. Each piece of the line is judged for itself.
 -- Source: the Python language reference, "Lexical analysis", cut to what scripts have.
-use Rattle.std.specs.Prelude.{ℕ, ◌+◌, ◌-◌, ◌*◌, ◌^◌, Bool, not, ◌&&◌, List, [], ◌∷◌, length, ℤ, pos, Option, Some, None, Result, Ok, Err, nat_lt, if◌then◌else◌, position, fold}
+use Rattle.std.specs.Prelude.{ℕ, ◌+◌, ◌-◌, ◌*◌, ◌^◌, Bool, not, ◌&&◌, List, [], ◌∷◌, length, ℤ, pos, Option, Some, None, Result, Ok, Err, nat_lt, if◌then◌else◌}
+use Rattle.std.specs.Prelude.{position, fold}
 use Rattle.std.specs.List.{list_all}
 use Rattle.std.specs.Char.{is_ascii_digit}
 use Rattle.model_text.specs.declared.symbol.Symbol.{Symbol as AnySymbol}

@@ -38,8 +38,10 @@ reserved_text word.NoneValue = codes "None"
 
 abbrev pub reserved_words : List ReservedWord
 reserved_words =
-    word.Profile ∷ word.Def ∷ word.End ∷ word.Yield ∷ word.From ∷ word.Print ∷ word.Raise ∷ word.Return ∷ word.Pass ∷ word.If ∷ word.Else ∷ word.While ∷ word.Try
-    ∷ word.Except ∷ word.As ∷ word.Finally ∷ word.With ∷ word.Group ∷ word.Timeout ∷ word.And ∷ word.Or ∷ word.Not ∷ word.TrueValue ∷ word.FalseValue ∷ word.NoneValue ∷ []
+    word.Profile ∷ word.Def ∷ word.End ∷ word.Yield ∷ word.From ∷ word.Print ∷ word.Raise ∷ word.Return ∷ word.Pass ∷ word.If ∷ word.Else ∷ word.While
+    ∷ word.Try
+    ∷ word.Except ∷ word.As ∷ word.Finally ∷ word.With ∷ word.Group ∷ word.Timeout ∷ word.And ∷ word.Or ∷ word.Not ∷ word.TrueValue ∷ word.FalseValue
+    ∷ word.NoneValue ∷ []
 
 abbrev pub reserved_of : List ℕ → Option ReservedWord
 reserved_of name = find (λ reserved. bytes_eq (reserved_text reserved) name) reserved_words

@@ -70,7 +70,8 @@ request_text request.Extra = codes "extra"
 
 abbrev pub requests : List RequestName
 requests =
-    request.MakeFuture ∷ request.Set ∷ request.Fail ∷ request.IsDone ∷ request.IsCancelled ∷ request.ResultOf ∷ request.Cancel ∷ request.Cancelling ∷ request.Uncancel
+    request.MakeFuture ∷ request.Set ∷ request.Fail ∷ request.IsDone ∷ request.IsCancelled ∷ request.ResultOf ∷ request.Cancel ∷ request.Cancelling
+    ∷ request.Uncancel
     ∷ request.Current ∷ request.Time ∷ request.Sleep ∷ request.Reschedule ∷ request.Expired ∷ request.Connect ∷ request.Write ∷ request.WriteEof ∷ request.Close
     ∷ request.WaitClosed ∷ request.Drain ∷ request.Limits ∷ request.Read ∷ request.ReadExactly ∷ request.ReadUntil ∷ request.ReadLine ∷ request.Launch
     ∷ request.StandardError ∷ request.WaitChild ∷ request.ReturnCode ∷ request.Kill ∷ request.Extra ∷ []

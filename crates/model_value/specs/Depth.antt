@@ -1,6 +1,7 @@
 -- How deep lists and groups of exceptions nest in a value.
 use Rattle.std.specs.Prelude.{ℕ, ◌+◌, max}
-use Rattle.model_value.specs.Value.{Value, Nothing, Truth, Int, Text, Bytes, Items, Fut, Task, Group, Timeout, Conn, Server, Child, Errs, Exception, Values, no_values, value_then, Exc, exc, Excs, no_excs, exc_then}
+use Rattle.model_value.specs.Value.{Value, Nothing, Truth, Int, Text, Bytes, Items, Fut, Task, Group, Timeout, Conn, Server, Child, Errs, Exception, Values}
+use Rattle.model_value.specs.Value.{no_values, value_then, Exc, exc, Excs, no_excs, exc_then}
 
 abbrev mutual
   -- a list or an exception is one deeper than its deepest item or member; any other value has no depth

@@ -6,13 +6,18 @@ use Rattle.std.specs.List.{list_any}
 use lib.Chars.{codes}
 use Rattle.model_value.specs.contracts.kind.Kind.{the_type}
 use Rattle.model_value.specs.declared.kind.Kind.{Kind}
-use Rattle.model_value.specs.declared.kind.Kind.TheVariants.{BaseException, CancelledError, Exception, ArithmeticError, LookupError, OSError, RuntimeError, TypeError, ValueError, NameError, EOFError, LimitOverrunError, InvalidStateError, ExceptionGroup, OverflowError, ZeroDivisionError, IndexError, RecursionError, IncompleteReadError, TimeoutError, ConnectionError, ConnectionResetError, ConnectionRefusedError, BrokenPipeError}
+use Rattle.model_value.specs.declared.kind.Kind.TheVariants.{BaseException, CancelledError, Exception, ArithmeticError, LookupError, OSError, RuntimeError}
+use Rattle.model_value.specs.declared.kind.Kind.TheVariants.{TypeError, ValueError, NameError, EOFError, LimitOverrunError, InvalidStateError, ExceptionGroup}
+use Rattle.model_value.specs.declared.kind.Kind.TheVariants.{OverflowError, ZeroDivisionError, IndexError, RecursionError, IncompleteReadError, TimeoutError}
+use Rattle.model_value.specs.declared.kind.Kind.TheVariants.{ConnectionError, ConnectionResetError, ConnectionRefusedError, BrokenPipeError}
 
 -- every kind, in the order of their declaration
 abbrev pub kinds : List Kind
 kinds =
-    BaseException ∷ CancelledError ∷ Exception ∷ ArithmeticError ∷ LookupError ∷ OSError ∷ RuntimeError ∷ TypeError ∷ ValueError ∷ NameError ∷ EOFError ∷ LimitOverrunError
-    ∷ InvalidStateError ∷ ExceptionGroup ∷ OverflowError ∷ ZeroDivisionError ∷ IndexError ∷ RecursionError ∷ IncompleteReadError ∷ TimeoutError ∷ ConnectionError
+    BaseException ∷ CancelledError ∷ Exception ∷ ArithmeticError ∷ LookupError ∷ OSError ∷ RuntimeError ∷ TypeError ∷ ValueError ∷ NameError ∷ EOFError
+    ∷ LimitOverrunError
+    ∷ InvalidStateError ∷ ExceptionGroup ∷ OverflowError ∷ ZeroDivisionError ∷ IndexError ∷ RecursionError ∷ IncompleteReadError ∷ TimeoutError
+    ∷ ConnectionError
     ∷ ConnectionResetError ∷ ConnectionRefusedError ∷ BrokenPipeError ∷ []
 
 -- the kind, its parent, and so on up to the root

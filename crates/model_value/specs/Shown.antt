@@ -7,7 +7,8 @@ use Rattle.model_value.specs.declared.kind.Kind.TheVariants.{ExceptionGroup}
 use Rattle.model_value.specs.Kinds.{kind_name, same_kind}
 use Rattle.model_value.specs.declared.place.Place.TheVariants.{Bare}
 use Rattle.model_value.specs.Escapes.{escaped, text_literal, bytes_literal}
-use Rattle.model_value.specs.Value.{Value, Nothing, Truth, Int, Text, Bytes, Items, Fut, Task, Group, Timeout, Conn, Server, Child, Errs, Exception, Values, no_values, value_then, Exc, exc, Excs, no_excs, exc_then}
+use Rattle.model_value.specs.Value.{Value, Nothing, Truth, Int, Text, Bytes, Items, Fut, Task, Group, Timeout, Conn, Server, Child, Errs, Exception, Values}
+use Rattle.model_value.specs.Value.{no_values, value_then, Exc, exc, Excs, no_excs, exc_then}
 
 -- the letter of an id and its number
 abbrev pub id_text : (letter id : ℕ) → List ℕ

@@ -1,6 +1,7 @@
 -- How much a value weighs. The bounds on what scripts compute are bounds on this number.
 use Rattle.std.specs.Prelude.{ℕ, ◌+◌, length}
-use Rattle.model_value.specs.Value.{Value, Nothing, Truth, Int, Text, Bytes, Items, Fut, Task, Group, Timeout, Conn, Server, Child, Errs, Exception, Values, no_values, value_then, Exc, exc, Excs, no_excs, exc_then}
+use Rattle.model_value.specs.Value.{Value, Nothing, Truth, Int, Text, Bytes, Items, Fut, Task, Group, Timeout, Conn, Server, Child, Errs, Exception, Values}
+use Rattle.model_value.specs.Value.{no_values, value_then, Exc, exc, Excs, no_excs, exc_then}
 
 abbrev mutual
   -- one for the value itself, and what it holds

@@ -1,6 +1,7 @@
 -- A journal's text: an answer a line, as it is written, with one space or more between its words. Numbers may have
 -- leading zeros, and literals any of the escapes of a script's.
-use Rattle.std.specs.Prelude.{ℕ, zero, suc, ◌+◌, ℤ, pos, negsuc, Bool, true, false, ◌&&◌, ◌==◌, List, [], ◌∷◌, Option, Some, None, Result, Ok, Err, option_map, length, map, filter, find, drop, slice_index, nat_le, nat_lt, if◌then◌else◌, codes}
+use Rattle.std.specs.Prelude.{ℕ, zero, suc, ◌+◌, ℤ, pos, negsuc, Bool, true, false, ◌&&◌, ◌==◌, List, [], ◌∷◌, Option, Some, None, Result, Ok, Err, option_map}
+use Rattle.std.specs.Prelude.{length, map, filter, find, drop, slice_index, nat_le, nat_lt, if◌then◌else◌, codes}
 use Rattle.std.specs.List.{list_all, list_any}
 use Rattle.std.specs.Str.{bytes_eq}
 use Rattle.model_value.specs.declared.action.ChildItem.{ChildItem}

@@ -19,7 +19,8 @@ use Rattle.law_settling.proofs.Looks.{change_looks_same}
 use Rattle.law_told.proofs.Holding.{looks_holds}
 use Rattle.law_sound.proofs.Carrying.{change_carries}
 use Rattle.law_sound.proofs.Steps as step
-use Rattle.row_loop.specs.Cancels.{all_done, awaited_runs, chain, chain_cancelled, free_task, full_count, member_refused, member_runs, one_of_two, one_of_two_cancelled, refused, twice_to_one, two_on_one, two_ways}
+use Rattle.row_loop.specs.Cancels.{all_done, awaited_runs, chain, chain_cancelled, free_task, full_count, member_refused, member_runs, one_of_two}
+use Rattle.row_loop.specs.Cancels.{one_of_two_cancelled, refused, twice_to_one, two_on_one, two_ways}
 use Rattle.row_loop.specs.Made.{free, parts_of, waiting}
 use Rattle.row_loop.specs.Standing.{PartsStand, bare}
 use Rattle.row_loop.proofs.Building.{asks, begins, below, many, nobody, nothing, plain, settles, task, waits}

@@ -10,7 +10,8 @@ use Rattle.model_tree.specs.Syntax.{Expr, Or, And, Not, Negate, Index, Apply, Ma
 use Rattle.model_says.specs.Expressions.{value_of}
 use Rattle.model_says.specs.Operations.{ValueOrFault, bad_operand, out_of_range, division_by_zero, index_out_of_range, not_utf8}
 use Rattle.model_says.specs.Variables.{Env}
-use Rattle.row_says.specs.Written.{none, yes, no, int, text, bytes, var, list, ◌plus◌, ◌less◌, ◌times◌, ◌over◌, ◌modulo◌, ◌equals◌, ◌differs◌, ◌below◌, ◌atmost◌, ◌above◌, ◌atleast◌}
+use Rattle.row_says.specs.Written.{none, yes, no, int, text, bytes, var, list, ◌plus◌, ◌less◌, ◌times◌, ◌over◌, ◌modulo◌, ◌equals◌, ◌differs◌, ◌below◌}
+use Rattle.row_says.specs.Written.{◌atmost◌, ◌above◌, ◌atleast◌}
 
 pub record ExpressionRow : Type 0 where
   pub expr : Expr

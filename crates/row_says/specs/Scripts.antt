@@ -1,13 +1,15 @@
 -- Scripts of the tape rows, each with its text, and the inputs and exceptions that the rows name.
 use Rattle.std.specs.Prelude.{ℕ, true, false, [], ◌∷◌}
 use Rattle.model_value.specs.declared.input.Input.TheVariants.{Send, Throw}
-use Rattle.model_value.specs.declared.kind.Kind.TheVariants.{BaseException, CancelledError, Exception, LookupError, RuntimeError, RecursionError, TimeoutError, ValueError, ZeroDivisionError}
+use Rattle.model_value.specs.declared.kind.Kind.TheVariants.{BaseException, CancelledError, Exception, LookupError, RuntimeError, RecursionError, TimeoutError}
+use Rattle.model_value.specs.declared.kind.Kind.TheVariants.{ValueError, ZeroDivisionError}
 use Rattle.model_value.specs.Value.{Value, Nothing, Exc, exception_of}
 use Rattle.model_tree.specs.declared.function.Function.TheVariants.{Message}
 use Rattle.model_tree.specs.declared.request_name.RequestName.TheVariants.{Sleep}
 use Rattle.model_tree.specs.Syntax.{Apply, MakeError, Yield, Raise, Pass, If, statements, branch, Program}
 use Rattle.model_says.specs.Tape.{Resumed}
-use Rattle.row_says.specs.Written.{none, yes, int, text, var, list, ◌plus◌, ◌less◌, ◌over◌, ◌below◌, ◌equals◌, ◌:=◌, ◌:=from◌, yield_from, call, ask, print, return, when, while, try, try_finally, except, except_as, with_timeout, with_group, def, script}
+use Rattle.row_says.specs.Written.{none, yes, int, text, var, list, ◌plus◌, ◌less◌, ◌over◌, ◌below◌, ◌equals◌, ◌:=◌, ◌:=from◌, yield_from, call, ask, print}
+use Rattle.row_says.specs.Written.{return, when, while, try, try_finally, except, except_as, with_timeout, with_group, def, script}
 
 -- the first input of a step: none, and an exception
 abbrev pub first : Resumed

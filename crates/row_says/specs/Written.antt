@@ -6,7 +6,9 @@ use Rattle.model_value.specs.declared.kind.Kind.{Kind}
 use Rattle.model_tree.specs.declared.operator.Operator.TheVariants.{Add, Subtract, Multiply, FloorDivide, Remainder}
 use Rattle.model_tree.specs.declared.operator.Comparison.TheVariants as comparison
 use Rattle.model_tree.specs.declared.request_name.RequestName.{RequestName}
-use Rattle.model_tree.specs.Syntax.{NoneConstant, TruthConstant, IntConstant, TextConstant, BytesConstant, Expr, Compare, Calculate, Literal, Variable, ListOf, exprs, Target, Call, Ask, GroupBlock, TimeoutBlock, Statement, Assign, YieldFrom, Print, Return, If, While, Try, With, statements, branch, no_branch, Handler, handlers, Coroutine, Program}
+use Rattle.model_tree.specs.Syntax.{NoneConstant, TruthConstant, IntConstant, TextConstant, BytesConstant, Expr, Compare, Calculate, Literal, Variable, ListOf}
+use Rattle.model_tree.specs.Syntax.{exprs, Target, Call, Ask, GroupBlock, TimeoutBlock, Statement, Assign, YieldFrom, Print, Return, If, While, Try, With}
+use Rattle.model_tree.specs.Syntax.{statements, branch, no_branch, Handler, handlers, Coroutine, Program}
 
 -- ---- expressions
 abbrev pub none : Expr

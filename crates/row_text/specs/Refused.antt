@@ -41,8 +41,10 @@ forms = map (in_main Form)
 -- expressions that are none
 abbrev pub expressions : List FaultRow
 expressions = map (in_main Form)
-    ("x = 1 < 2 < 3" ∷ "x = 1 == not 1" ∷ "x = 1 + not 1" ∷ "x = (1" ∷ "x = 1)" ∷ "x = [1)" ∷ "x = ([1)]" ∷ "x = len(1)(2)" ∷ "x = (len)(1)" ∷ "x = [1,]" ∷ "x = [,1]"
-    ∷ "x = 1 2" ∷ "x = 1 +" ∷ "x = * 1" ∷ "x = or 1" ∷ "x = 1 or" ∷ "x = not" ∷ "x = -" ∷ "x = + 1" ∷ "x = ()" ∷ "x = x[]" ∷ "x = x[1" ∷ "x = x[1, 2]" ∷ "x = 1, 2"
+    ("x = 1 < 2 < 3" ∷ "x = 1 == not 1" ∷ "x = 1 + not 1" ∷ "x = (1" ∷ "x = 1)" ∷ "x = [1)" ∷ "x = ([1)]" ∷ "x = len(1)(2)" ∷ "x = (len)(1)" ∷ "x = [1,]"
+    ∷ "x = [,1]"
+    ∷ "x = 1 2" ∷ "x = 1 +" ∷ "x = * 1" ∷ "x = or 1" ∷ "x = 1 or" ∷ "x = not" ∷ "x = -" ∷ "x = + 1" ∷ "x = ()" ∷ "x = x[]"
+    ∷ "x = x[1" ∷ "x = x[1, 2]" ∷ "x = 1, 2"
     ∷ "x = group" ∷ "x = len(1,)" ∷ "x = error(1, \"t\")" ∷ "x = error((ValueError), \"t\")" ∷ "x = error(if, \"t\")" ∷ "x = a = b" ∷ "x = ] 1 [" ∷ [])
 
 -- where a request takes a coroutine's name, and other places of forms
@@ -121,23 +123,29 @@ meant line = accepted (in_coroutines line)
 -- names that mean nothing in a line
 abbrev pub names : List FaultRow
 names = map named
-    ("print q" ∷ "print [1, [q]]" ∷ "print g[q]" ∷ "yield from q" ∷ "yield from one" ∷ "yield from three(1)" ∷ "yield from len(g)" ∷ "yield from error(1)" ∷ "x = spawn(1)"
-    ∷ "x = sleep(1)" ∷ "x = one(1)" ∷ "x = q(1)" ∷ "yield from spawn(three)" ∷ "yield from create(g, three)" ∷ "yield from listen(1, three)" ∷ "yield from spawn(g)"
-    ∷ "x = error(Wrong, \"t\")" ∷ "x = error(Wrong)" ∷ "x = error(BaseException, \"t\")" ∷ "x = error(ExceptionGroup, \"t\")" ∷ "len = 1" ∷ "sleep = 1" ∷ "spawn = 1" ∷ "ValueError = 1" ∷ "error = 1"
+    ("print q" ∷ "print [1, [q]]" ∷ "print g[q]" ∷ "yield from q" ∷ "yield from one" ∷ "yield from three(1)" ∷ "yield from len(g)" ∷ "yield from error(1)"
+    ∷ "x = spawn(1)"
+    ∷ "x = sleep(1)" ∷ "x = one(1)" ∷ "x = q(1)" ∷ "yield from spawn(three)" ∷ "yield from create(g, three)" ∷ "yield from listen(1, three)"
+    ∷ "yield from spawn(g)"
+    ∷ "x = error(Wrong, \"t\")" ∷ "x = error(Wrong)" ∷ "x = error(BaseException, \"t\")" ∷ "x = error(ExceptionGroup, \"t\")" ∷ "len = 1" ∷ "sleep = 1"
+    ∷ "spawn = 1" ∷ "ValueError = 1" ∷ "error = 1"
     ∷ "len = yield from time()" ∷ "print len" ∷ "print ValueError" ∷ "print one" ∷ [])
 
 -- wrong numbers of arguments
 abbrev pub counts : List FaultRow
 counts = map counted
     ("x = len()" ∷ "x = len(1, 2)" ∷ "x = error()" ∷ "x = error(ValueError)" ∷ "x = error(ValueError, \"a\", \"b\")" ∷ "yield from future(1)"
-    ∷ "yield from sleep(1, 2)" ∷ "yield from limits(g, 1)" ∷ "yield from one()" ∷ "yield from two(1)" ∷ "yield from main(1)" ∷ "yield from spawn()" ∷ "yield from spawn(one)"
-    ∷ "yield from spawn(main, 1)" ∷ "yield from create()" ∷ "yield from create(g)" ∷ "yield from create(g, two, 1)" ∷ "yield from listen()" ∷ "yield from listen(1)"
+    ∷ "yield from sleep(1, 2)" ∷ "yield from limits(g, 1)" ∷ "yield from one()" ∷ "yield from two(1)" ∷ "yield from main(1)" ∷ "yield from spawn()"
+    ∷ "yield from spawn(one)"
+    ∷ "yield from spawn(main, 1)" ∷ "yield from create()" ∷ "yield from create(g)" ∷ "yield from create(g, two, 1)" ∷ "yield from listen()"
+    ∷ "yield from listen(1)"
     ∷ "yield from listen(1, main)" ∷ "yield from listen(1, two)" ∷ "yield from listen(1, one, 2)" ∷ [])
 
 -- names and counts that are right
 abbrev pub meanings : List FaultRow
 meanings = map meant
-    ("x = len(x)" ∷ "x = error(ValueError, \"t\")" ∷ "yield from one(1)" ∷ "x = yield from spawn(two, 1, 2)" ∷ "x = yield from create(g, main)" ∷ "x = yield from listen(1, one)"
+    ("x = len(x)" ∷ "x = error(ValueError, \"t\")" ∷ "yield from one(1)" ∷ "x = yield from spawn(two, 1, 2)" ∷ "x = yield from create(g, main)"
+    ∷ "x = yield from listen(1, one)"
     ∷ "one = one" ∷ "yield from extra(1, [])" ∷ "yield from g" ∷ [])
 
 -- several lines: names of coroutines and parameters, `main`, profiles, and which of two faults counts
@@ -173,5 +181,7 @@ faults =
     ∷ at 2 Name ("def main()" ∷ "with group as kill" ∷ "end" ∷ "end" ∷ [])
     ∷ at 2 Name ("def main()" ∷ "with timeout(q) as o" ∷ "end" ∷ "end" ∷ [])
     ∷ at 5 Name ("def main()" ∷ "x = 1" ∷ "end" ∷ "def other()" ∷ "print x" ∷ "end" ∷ [])
-    ∷ accepted (text ("def main()" ∷ "print a, b, c, d, e" ∷ "if False" ∷ "a = 1" ∷ "end" ∷ "b = yield from time()" ∷ "try" ∷ "except OSError as c" ∷ "end" ∷ "with group as d" ∷ "end" ∷ "with timeout(None) as e" ∷ "end" ∷ "end" ∷ []))
+    ∷ accepted
+    (text ("def main()" ∷ "print a, b, c, d, e" ∷ "if False" ∷ "a = 1" ∷ "end" ∷ "b = yield from time()" ∷ "try" ∷ "except OSError as c" ∷ "end"
+    ∷ "with group as d" ∷ "end" ∷ "with timeout(None) as e" ∷ "end" ∷ "end" ∷ []))
     ∷ []

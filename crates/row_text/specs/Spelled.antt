@@ -34,13 +34,19 @@ lines =
 -- every form
 abbrev pub whole : List CanonicalPair
 whole =
-    spells ("profile 1" ∷ "def main ( )" ∷ "yield" ∷ "yield from x" ∷ "x=yield from sleep(5)" ∷ "x = yield from f(1,2)" ∷ "print 1,x" ∷ "raise error(ValueError,\"t\")" ∷ "return" ∷ "return x"
-    ∷ "pass" ∷ "if x" ∷ "pass" ∷ "else" ∷ "end" ∷ "while x" ∷ "if x" ∷ "end" ∷ "end" ∷ "try" ∷ "except BaseException" ∷ "pass" ∷ "except ExceptionGroup as e" ∷ "finally" ∷ "pass" ∷ "end"
-    ∷ "with group as g" ∷ "x = yield from create ( g , f , 1 , 2 )" ∷ "end" ∷ "with timeout(10) as o" ∷ "x = yield from spawn(main)" ∷ "yield from listen(80, h)" ∷ "end" ∷ "end"
+    spells ("profile 1" ∷ "def main ( )" ∷ "yield" ∷ "yield from x" ∷ "x=yield from sleep(5)" ∷ "x = yield from f(1,2)" ∷ "print 1,x"
+    ∷ "raise error(ValueError,\"t\")" ∷ "return" ∷ "return x"
+    ∷ "pass" ∷ "if x" ∷ "pass" ∷ "else" ∷ "end" ∷ "while x" ∷ "if x" ∷ "end" ∷ "end" ∷ "try" ∷ "except BaseException" ∷ "pass" ∷ "except ExceptionGroup as e"
+    ∷ "finally" ∷ "pass" ∷ "end"
+    ∷ "with group as g" ∷ "x = yield from create ( g , f , 1 , 2 )" ∷ "end" ∷ "with timeout(10) as o" ∷ "x = yield from spawn(main)"
+    ∷ "yield from listen(80, h)" ∷ "end" ∷ "end"
     ∷ "def f(a,b)" ∷ "end" ∷ "" ∷ "def h(c) # handler" ∷ "end" ∷ [])
-    ("def main()" ∷ "  yield" ∷ "  yield from x" ∷ "  x = yield from sleep(5)" ∷ "  x = yield from f(1, 2)" ∷ "  print 1, x" ∷ "  raise error(ValueError, \"t\")" ∷ "  return" ∷ "  return x"
-    ∷ "  pass" ∷ "  if x" ∷ "    pass" ∷ "  else" ∷ "  end" ∷ "  while x" ∷ "    if x" ∷ "    end" ∷ "  end" ∷ "  try" ∷ "  except BaseException" ∷ "    pass" ∷ "  except ExceptionGroup as e" ∷ "  finally" ∷ "    pass" ∷ "  end"
-    ∷ "  with group as g" ∷ "    x = yield from create(g, f, 1, 2)" ∷ "  end" ∷ "  with timeout(10) as o" ∷ "    x = yield from spawn(main)" ∷ "    yield from listen(80, h)" ∷ "  end" ∷ "end"
+    ("def main()" ∷ "  yield" ∷ "  yield from x" ∷ "  x = yield from sleep(5)" ∷ "  x = yield from f(1, 2)" ∷ "  print 1, x"
+    ∷ "  raise error(ValueError, \"t\")" ∷ "  return" ∷ "  return x"
+    ∷ "  pass" ∷ "  if x" ∷ "    pass" ∷ "  else" ∷ "  end" ∷ "  while x" ∷ "    if x" ∷ "    end" ∷ "  end" ∷ "  try" ∷ "  except BaseException" ∷ "    pass"
+    ∷ "  except ExceptionGroup as e" ∷ "  finally" ∷ "    pass" ∷ "  end"
+    ∷ "  with group as g" ∷ "    x = yield from create(g, f, 1, 2)" ∷ "  end" ∷ "  with timeout(10) as o" ∷ "    x = yield from spawn(main)"
+    ∷ "    yield from listen(80, h)" ∷ "  end" ∷ "end"
     ∷ "def f(a, b)" ∷ "end" ∷ "def h(c)" ∷ "end" ∷ [])
     ∷ spells ("def main()" ∷ "print \"a\\x0a\\\"\\\\\\x7f\", b\"\\xFF\\t\\x00~\", 007, None" ∷ "end" ∷ [])
     ("def main()" ∷ "  print \"a\\n\\\"\\\\\\x7f\", b\"\\xff\\t\\x00~\", 7, None" ∷ "end" ∷ [])

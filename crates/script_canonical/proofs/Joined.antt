@@ -5,7 +5,8 @@ use Rattle.std.proofs.lemmas.List.{append-nil}
 use Rattle.std.specs.List.{repeat}
 use lib.Chars.{codes}
 use Rattle.model_tree.specs.Syntax.{Name, Expr, exprs, Statement, statements, Handler, handlers, Coroutine}
-use Rattle.model_text.specs.Canonical.{expr_text, exprs_text, more_text, statement_text, statements_text, handlers_text, more_names, names_text, coroutine_text, coroutines_text}
+use Rattle.model_text.specs.Canonical.{expr_text, exprs_text, more_text, statement_text, statements_text, handlers_text, more_names, names_text, coroutine_text}
+use Rattle.model_text.specs.Canonical.{coroutines_text}
 use Rattle.law_value.proofs.Joined.{separator}
 use Rattle.aio_program.specs.StatementSize.{statement_size, statement_list_size, handler_size, handler_list_size}
 
@@ -18,11 +19,13 @@ pub exprs_text-push : (es : List Expr) (e : Expr) → exprs_text (exprs (es ++ e
 exprs_text-push [] e = append-nil (expr_text e)
 exprs_text-push (f ∷ es) e = simp (more_text-push es e, append_assoc)
 
-pub statements_text-push : (ss : List Statement) (s : Statement) (blocks : ℕ) → statements_text (statements (ss ++ s ∷ [])) blocks ≡ statements_text (statements ss) blocks ++ statement_text s blocks
+pub statements_text-push : (ss : List Statement) (s : Statement) (blocks : ℕ) → statements_text (statements (ss ++ s ∷ [])) blocks
+    ≡ statements_text (statements ss) blocks ++ statement_text s blocks
 statements_text-push [] s blocks = append-nil (statement_text s blocks)
 statements_text-push (r ∷ ss) s blocks = simp (statements_text-push ss s blocks, append_assoc)
 
-pub handlers_text-push : (hs : List Handler) (h : Handler) (blocks : ℕ) → handlers_text (handlers (hs ++ h ∷ [])) blocks ≡ handlers_text (handlers hs) blocks ++ handlers_text (handlers (h ∷ [])) blocks
+pub handlers_text-push : (hs : List Handler) (h : Handler) (blocks : ℕ) → handlers_text (handlers (hs ++ h ∷ [])) blocks ≡ handlers_text (handlers hs) blocks
+    ++ handlers_text (handlers (h ∷ [])) blocks
 handlers_text-push [] h blocks = refl
 handlers_text-push (g ∷ hs) h blocks = simp (handlers_text-push hs h blocks, append_assoc)
 

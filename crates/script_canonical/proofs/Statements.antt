@@ -5,7 +5,8 @@ use Rattle.model_tree.specs.Syntax.{Statement, Assign, Yield, YieldFrom, Print, 
 use Rattle.model_text.specs.Canonical.{statement_text, line_in}
 use Rattle.script_canonical.specs.FirstLine.{head_text, sections_text}
 
-pub statement_text-parts : (statement : Statement) (blocks : ℕ) → statement_text statement blocks ≡ line_in blocks (head_text statement) ++ sections_text statement blocks
+pub statement_text-parts : (statement : Statement) (blocks : ℕ) → statement_text statement blocks ≡ line_in blocks (head_text statement)
+    ++ sections_text statement blocks
 statement_text-parts (If test body otherwise) blocks = simp append_assoc
 statement_text-parts (While test body) blocks = simp append_assoc
 statement_text-parts (Try body clauses finally) blocks = simp append_assoc

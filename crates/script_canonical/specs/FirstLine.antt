@@ -1,7 +1,8 @@
 -- The text of a statement in two parts: its first line, without its indentation, and the lines behind it.
 use Rattle.std.specs.Prelude.{ℕ, suc, List, [], ◌++◌, codes}
 use Rattle.model_tree.specs.Syntax.{Statement, Assign, Yield, YieldFrom, Print, Raise, Return, Pass, If, While, Try, With}
-use Rattle.model_text.specs.Canonical.{expr_text, exprs_text, target_text, into_text, returned_text, manager_text, statements_text, handlers_text, branch_text, end_in}
+use Rattle.model_text.specs.Canonical.{expr_text, exprs_text, target_text, into_text, returned_text, manager_text, statements_text, handlers_text, branch_text}
+use Rattle.model_text.specs.Canonical.{end_in}
 
 abbrev pub head_text : Statement → List ℕ
 head_text (Assign name value) = name ++ codes " = " ++ expr_text value

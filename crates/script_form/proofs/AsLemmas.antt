@@ -25,28 +25,33 @@ two_are_none first second = ap (closed_as first (second ∷ [])) (one_is_none se
     none (Sign symbol.RightParenthesis) second = refl
     none first second = refl
 
-three_close : (first second third : Lexeme) → before_as (first ∷ second ∷ third ∷ []) ≡ option_map (λ name. ([], name)) (closing_name (first ∷ second ∷ third ∷ []))
+three_close : (first second third : Lexeme) → before_as (first ∷ second ∷ third ∷ [])
+    ≡ option_map (λ name. ([], name)) (closing_name (first ∷ second ∷ third ∷ []))
 three_close first second third =
     ap (closed_as first (second ∷ third ∷ [])) (two_are_none second third) ∙ by_cases first second third
   where
-    by_cases : (first second third : Lexeme) → closed_as first (second ∷ third ∷ []) None ≡ option_map (λ name. ([], name)) (closing_name (first ∷ second ∷ third ∷ []))
+    by_cases : (first second third : Lexeme) → closed_as first (second ∷ third ∷ []) None
+        ≡ option_map (λ name. ([], name)) (closing_name (first ∷ second ∷ third ∷ []))
     by_cases (Sign symbol.RightParenthesis) (Reserved word.As) (Named name) = refl
     by_cases (Sign symbol.RightParenthesis) (Reserved word.As) third = refl
     by_cases (Sign symbol.RightParenthesis) second third = refl
     by_cases first second third = refl
 
 -- with more than two behind it, a lexeme closes nothing
-goes_on : (first second third fourth : Lexeme) (others : List Lexeme) (found : Option (List Lexeme × Name)) → closed_as first (second ∷ third ∷ fourth ∷ others) found ≡ put_before first found
+goes_on : (first second third fourth : Lexeme) (others : List Lexeme) (found : Option (List Lexeme × Name))
+    → closed_as first (second ∷ third ∷ fourth ∷ others) found ≡ put_before first found
 goes_on (Sign symbol.RightParenthesis) (Reserved word.As) (Named name) fourth others found = refl
 goes_on (Sign symbol.RightParenthesis) (Reserved word.As) third fourth others found = refl
 goes_on (Sign symbol.RightParenthesis) second third fourth others found = refl
 goes_on first second third fourth others found = refl
 
-put_before-closing : (lexeme : Lexeme) (inner : List Lexeme) (name : Option Name) → put_before lexeme (option_map (λ n. (inner, n)) name) ≡ option_map (λ n. (lexeme ∷ inner, n)) name
+put_before-closing : (lexeme : Lexeme) (inner : List Lexeme) (name : Option Name) → put_before lexeme (option_map (λ n. (inner, n)) name)
+    ≡ option_map (λ n. (lexeme ∷ inner, n)) name
 put_before-closing lexeme inner None = refl
 put_before-closing lexeme inner (Some name) = refl
 
-before_as-append : (inner : List Lexeme) (first second third : Lexeme) → before_as (inner ++ first ∷ second ∷ third ∷ []) ≡ option_map (λ name. (inner, name)) (closing_name (first ∷ second ∷ third ∷ []))
+before_as-append : (inner : List Lexeme) (first second third : Lexeme) → before_as (inner ++ first ∷ second ∷ third ∷ [])
+    ≡ option_map (λ name. (inner, name)) (closing_name (first ∷ second ∷ third ∷ []))
 before_as-append [] first second third = three_close first second third
 before_as-append (lexeme ∷ []) first second third =
     goes_on lexeme first second third [] (before_as (first ∷ second ∷ third ∷ []))
@@ -81,7 +86,9 @@ before_as-short (a ∷ b ∷ []) e = two_are_none a b
 before_as-short (a ∷ b ∷ c ∷ lexemes) e = absurd (omega arith)
 
 -- the same of the code's lexemes
-pub before_as-at : (lexemes inner end : List code.Lexeme) (place : ℕ) (name : Option Name) → place + 3 ≡ length lexemes → inner ≡ take place lexemes → end ≡ drop place lexemes → name ≡ closing_name (map plain_lexeme end) → option_map (λ n. (map plain_lexeme inner, n)) name ≡ before_as (map plain_lexeme lexemes)
+pub before_as-at : (lexemes inner end : List code.Lexeme) (place : ℕ) (name : Option Name) → place + 3 ≡ length lexemes → inner ≡ take place lexemes → end
+    ≡ drop place lexemes → name ≡ closing_name (map plain_lexeme end) → option_map (λ n. (map plain_lexeme inner, n)) name
+    ≡ before_as (map plain_lexeme lexemes)
 before_as-at lexemes inner end place name three is_inner is_end is_name =
     let all : lexemes ≡ inner ++ end = sym (take-append-drop place lexemes) ∙ (λ i. sym is_inner i ++ sym is_end i) in
     let length_end : length end ≡ 3 = ap length is_end ∙ length-drop place lexemes ∙ omega arith in

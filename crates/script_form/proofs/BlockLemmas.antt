@@ -10,15 +10,19 @@ begun sections (open_block ∷ others) =
     record { block = open_block.block; sections = sections ++ open_block.sections } ∷ others
 
 -- a block that ends behind isn't open
-before_ended : (block : Block) (roles : List Role) (ended : ℕ) (sections : List Section) → open_before (record { ended = suc ended; sections = sections }) (Opens block ∷ roles) ≡ open_before (record { ended = ended; sections = sections }) roles
+before_ended : (block : Block) (roles : List Role) (ended : ℕ) (sections : List Section)
+    → open_before (record { ended = suc ended; sections = sections }) (Opens block ∷ roles) ≡ open_before (record { ended = ended; sections = sections }) roles
 before_ended block roles ended sections =
     let less : suc ended - 1 ≡ ended = omega arith in rw (eqb-suc-zero ended, less) refl
 
 -- a section of a block that ends behind doesn't count
-within_ended : (section : Section) (roles : List Role) (ended : ℕ) (sections : List Section) → open_before (record { ended = suc ended; sections = sections }) (Begins section ∷ roles) ≡ open_before (record { ended = suc ended; sections = sections }) roles
+within_ended : (section : Section) (roles : List Role) (ended : ℕ) (sections : List Section)
+    → open_before (record { ended = suc ended; sections = sections }) (Begins section ∷ roles)
+    ≡ open_before (record { ended = suc ended; sections = sections }) roles
 within_ended section roles ended sections = rw (eqb-suc-zero ended) refl
 
-open_before-begun : (roles : List Role) (ended : ℕ) (new sections : List Section) → open_before (record { ended = ended; sections = new ++ sections }) roles ≡ begun new (open_before (record { ended = ended; sections = sections }) roles)
+open_before-begun : (roles : List Role) (ended : ℕ) (new sections : List Section) → open_before (record { ended = ended; sections = new ++ sections }) roles
+    ≡ begun new (open_before (record { ended = ended; sections = sections }) roles)
 open_before-begun [] ended new sections = refl
 open_before-begun (Opens block ∷ roles) zero new sections = refl
 open_before-begun (Opens block ∷ roles) (suc ended) new sections =
@@ -39,7 +43,8 @@ open_before-begun (Stands ∷ roles) ended new sections = open_before-begun role
 pub open_blocks-begins : (section : Section) (roles : List Role) → open_blocks (Begins section ∷ roles) ≡ begun (section ∷ []) (open_blocks roles)
 open_blocks-begins section roles = open_before-begun roles 0 (section ∷ []) []
 
-open_before-closed : (roles : List Role) (ended : ℕ) (sections : List Section) → open_before (record { ended = suc ended; sections = [] }) roles ≡ drop 1 (open_before (record { ended = ended; sections = sections }) roles)
+open_before-closed : (roles : List Role) (ended : ℕ) (sections : List Section) → open_before (record { ended = suc ended; sections = [] }) roles
+    ≡ drop 1 (open_before (record { ended = ended; sections = sections }) roles)
 open_before-closed [] ended sections = refl
 open_before-closed (Opens block ∷ roles) zero sections = before_ended block roles zero []
 open_before-closed (Opens block ∷ roles) (suc ended) sections =

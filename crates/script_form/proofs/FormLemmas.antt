@@ -8,13 +8,15 @@ use Rattle.model_text.specs.Forms.{Assign, YieldFrom, WithGroup, with_term, yiel
 use Rattle.script_form.specs.Fronts.{behind_sign, behind_word, as_name, timeout_form}
 
 -- `from TARGET`
-pub yield_from-by : (into : Option Name) (lexemes : List Lexeme) → yield_from into lexemes ≡ option_and_then (λ rest. option_map (YieldFrom into) (goal_of rest)) (behind_word word.From lexemes)
+pub yield_from-by : (into : Option Name) (lexemes : List Lexeme) → yield_from into lexemes
+    ≡ option_and_then (λ rest. option_map (YieldFrom into) (goal_of rest)) (behind_word word.From lexemes)
 yield_from-by into [] = refl
 yield_from-by into (Reserved word.From ∷ lexemes) = refl
 yield_from-by into (lexeme ∷ lexemes) = refl
 
 -- `= yield ..`
-pub assigned-yield : (name : Name) (lexemes rest : List Lexeme) → Some rest ≡ behind_word word.Yield lexemes → assigned_form name lexemes ≡ yield_from (Some name) rest
+pub assigned-yield : (name : Name) (lexemes rest : List Lexeme) → Some rest ≡ behind_word word.Yield lexemes → assigned_form name lexemes
+    ≡ yield_from (Some name) rest
 assigned-yield name [] rest e = cc
 assigned-yield name (Reserved word.Yield ∷ lexemes) rest e = let same : lexemes ≡ rest = cc in ap (yield_from (Some name)) same
 assigned-yield name (lexeme ∷ lexemes) rest e = cc

@@ -1,5 +1,6 @@
 -- The first line of a text, and its lines with and without carriage returns.
-use Rattle.std.proofs.Common.{◌≡◌, ℕ, suc, ◌+◌, ◌<◌, ◌≤◌, ◌&&◌, Bool, true, false, cond, eqb, List, [], ◌∷◌, ◌++◌, length, drop, slice_index, refl, sym, ap, ◌∙◌, subst, arith}
+use Rattle.std.proofs.Common.{◌≡◌, ℕ, suc, ◌+◌, ◌<◌, ◌≤◌, ◌&&◌, Bool, true, false, cond, eqb, List, [], ◌∷◌, ◌++◌, length, drop, slice_index, refl, sym, ap}
+use Rattle.std.proofs.Common.{◌∙◌, subst, arith}
 use Rattle.std.proofs.lemmas.Bool.Decides.{nat_tests}
 use Rattle.std.proofs.lemmas.Bool.{false≢true}
 use Rattle.model_value.specs.Lines.{lines_of, fronted}
@@ -49,7 +50,8 @@ cut-return byte next rest is_return is_newline c =
     }
 
 -- a byte in front of a line
-cut-front : (byte next : ℕ) (rest line : List ℕ) → eqb byte 10 ≡ false → (eqb byte 13 && eqb next 10) ≡ false → Cut (next ∷ rest) line → Cut (byte ∷ next ∷ rest) (byte ∷ line)
+cut-front : (byte next : ℕ) (rest line : List ℕ) → eqb byte 10 ≡ false → (eqb byte 13 && eqb next 10) ≡ false → Cut (next ∷ rest) line
+    → Cut (byte ∷ next ∷ rest) (byte ∷ line)
 cut-front byte next rest line other kept c =
     let bytes : List ℕ = next ∷ rest in
     let whole : text_lines (byte ∷ bytes) ≡ fronted byte (text_lines bytes) = rw (kept, other) refl in
@@ -106,7 +108,8 @@ first_cut (byte ∷ next ∷ rest) line others e =
     let found = some_line next rest in
     by_test (eqb byte 10) refl found.0 found.1 found.2 (first_cut (next ∷ rest) found.0 found.1 found.2)
   where
-    by_return : (l : List ℕ) (ls : List (List ℕ)) → lines_of (next ∷ rest) ≡ l ∷ ls → eqb byte 10 ≡ false → Cut (next ∷ rest) l → (a b : Bool) → eqb byte 13 ≡ a → eqb next 10 ≡ b → Cut (byte ∷ next ∷ rest) (byte ∷ l)
+    by_return : (l : List ℕ) (ls : List (List ℕ)) → lines_of (next ∷ rest) ≡ l ∷ ls → eqb byte 10 ≡ false → Cut (next ∷ rest) l → (a b : Bool) → eqb byte 13 ≡ a
+        → eqb next 10 ≡ b → Cut (byte ∷ next ∷ rest) (byte ∷ l)
     by_return l ls e' other c true true at_byte at_next =
         let same = newline-line next rest l ls at_next e' in
         subst (λ l. Cut (byte ∷ next ∷ rest) (byte ∷ l)) same (cut-return byte next rest at_byte at_next (subst (Cut (next ∷ rest)) (sym same) c))
@@ -115,7 +118,8 @@ first_cut (byte ∷ next ∷ rest) line others e =
     by_return l ls e' other c false b at_byte at_next =
         cut-front byte next rest l other (λ i. at_byte i && eqb next 10) c
 
-    by_test : (b : Bool) → eqb byte 10 ≡ b → (l : List ℕ) (ls : List (List ℕ)) → lines_of (next ∷ rest) ≡ l ∷ ls → Cut (next ∷ rest) l → Cut (byte ∷ next ∷ rest) line
+    by_test : (b : Bool) → eqb byte 10 ≡ b → (l : List ℕ) (ls : List (List ℕ)) → lines_of (next ∷ rest) ≡ l ∷ ls → Cut (next ∷ rest) l
+        → Cut (byte ∷ next ∷ rest) line
     by_test true newline l ls e' c =
         subst (Cut (byte ∷ next ∷ rest)) (newline-line byte (next ∷ rest) line others newline e) (cut-newline byte (next ∷ rest) newline)
     by_test false other l ls e' c =

@@ -1,5 +1,6 @@
 -- The first pass, one more line at a time.
-use Rattle.std.proofs.Common.{◌≡◌, ℕ, ◌+◌, ◌==◌, true, false, List, [], ◌∷◌, ◌++◌, length, Option, Some, None, option_map, Result, Ok, Err, map, reverse, refl, sym, ap, ◌∙◌, append_assoc, append-nil}
+use Rattle.std.proofs.Common.{◌≡◌, ℕ, ◌+◌, ◌==◌, true, false, List, [], ◌∷◌, ◌++◌, length, Option, Some, None, option_map, Result, Ok, Err, map, reverse, refl}
+use Rattle.std.proofs.Common.{sym, ap, ◌∙◌, append_assoc, append-nil}
 use Rattle.std.proofs.lemmas.Bool.{false≢true}
 use Rattle.std.proofs.lemmas.List.{reverse-append, map-append}
 use Rattle.model_text.specs.declared.cause.Cause.{Cause}
@@ -8,7 +9,8 @@ use Rattle.model_text.specs.Tokens.{Token, tokens_of}
 use Rattle.model_text.specs.Words.{lexemes_of}
 use Rattle.model_text.specs.Forms.{Spelled, form_of}
 use Rattle.model_text.specs.Places.{Role, OpenBlock, role_of, open_blocks, is_outside, cause_behind}
-use Rattle.model_text.specs.FirstPass.{Fault, Numbered, placed, form_behind_lines, lexemes_behind, tokens_behind, line_behind, forms_from, form_before, fault_at, ended}
+use Rattle.model_text.specs.FirstPass.{Fault, Numbered, placed, form_behind_lines, lexemes_behind, tokens_behind, line_behind, forms_from, form_before}
+use Rattle.model_text.specs.FirstPass.{fault_at, ended}
 use Rattle.script_term.specs.declared.lexeme.Lexeme as code
 use Rattle.script_term.specs.Lexeme.{plain_lexeme}
 use Rattle.script_form.specs.declared.fault.LineFault.{LineFault}
@@ -37,12 +39,14 @@ pub forms_end : (number : ℕ) (roles : List Role) → forms_from number roles [
 unfolding forms_from
 forms_end number roles = refl
 
-pub forms_fail : (number : ℕ) (roles : List Role) (line : List ℕ) (lines : List (List ℕ)) (cause : Cause) → line_behind roles line ≡ Err cause → forms_from number roles (line ∷ lines) ≡ fault_at number cause
+pub forms_fail : (number : ℕ) (roles : List Role) (line : List ℕ) (lines : List (List ℕ)) (cause : Cause) → line_behind roles line ≡ Err cause
+    → forms_from number roles (line ∷ lines) ≡ fault_at number cause
 unfolding forms_from
 forms_fail number roles line lines cause e =
     ap (λ (found : Result (Option Spelled) Cause). elim found [ Err cause ↦ fault_at number cause | Ok form ↦ elim form [ None ↦ forms_from (number + 1) roles lines | Some form ↦ form_before number form (forms_from (number + 1) (role_of form ∷ roles) lines) ] ]) e
 
-pub forms_more : (number : ℕ) (roles : List Role) (line : List ℕ) (lines : List (List ℕ)) (form : Option Spelled) → line_behind roles line ≡ Ok form → forms_from number roles (line ∷ lines) ≡ with_first number form (forms_from (number + 1) (roles_behind form roles) lines)
+pub forms_more : (number : ℕ) (roles : List Role) (line : List ℕ) (lines : List (List ℕ)) (form : Option Spelled) → line_behind roles line ≡ Ok form
+    → forms_from number roles (line ∷ lines) ≡ with_first number form (forms_from (number + 1) (roles_behind form roles) lines)
 unfolding forms_from
 forms_more number roles line lines form e =
     ap (λ (found : Result (Option Spelled) Cause). elim found [ Err cause ↦ fault_at number cause | Ok form ↦ elim form [ None ↦ forms_from (number + 1) roles lines | Some form ↦ form_before number form (forms_from (number + 1) (role_of form ∷ roles) lines) ] ]) e
@@ -58,7 +62,8 @@ roles_of-more forms numbered =
     ap reverse (map-append (λ (n : Numbered Spelled). role_of n.form) forms (numbered ∷ []))
     ∙ reverse-append (map (λ (n : Numbered Spelled). role_of n.form) forms) (role_of numbered.form ∷ [])
 
-pub before_all-more : (forms : List (Numbered Spelled)) (numbered : Numbered Spelled) (others : Result (List (Numbered Spelled)) Fault) → before_all forms (form_before numbered.line numbered.form others) ≡ before_all (forms ++ numbered ∷ []) others
+pub before_all-more : (forms : List (Numbered Spelled)) (numbered : Numbered Spelled) (others : Result (List (Numbered Spelled)) Fault)
+    → before_all forms (form_before numbered.line numbered.form others) ≡ before_all (forms ++ numbered ∷ []) others
 before_all-more forms numbered (Ok others) = ap Ok (sym (append_assoc forms (numbered ∷ []) others))
 before_all-more forms numbered (Err fault) = refl
 
@@ -73,13 +78,17 @@ read_of kept None e = cc
 read_of kept (Some form) e = record { spelled = form; is = refl; same = cc }
 
 -- a line with lexemes
-line-lexemes : (roles : List Role) (line : List ℕ) (tokens : List Token) (lexemes : List code.Lexeme) → tokens_of line ≡ Ok tokens → map plain_lexeme lexemes ≡ lexemes_of tokens → (length lexemes == 0) ≡ false → line_behind roles line ≡ form_behind_lines roles (form_of (map plain_lexeme lexemes))
+line-lexemes : (roles : List Role) (line : List ℕ) (tokens : List Token) (lexemes : List code.Lexeme) → tokens_of line ≡ Ok tokens → map plain_lexeme lexemes
+    ≡ lexemes_of tokens → (length lexemes == 0) ≡ false → line_behind roles line ≡ form_behind_lines roles (form_of (map plain_lexeme lexemes))
 line-lexemes roles line tokens [] is lexed some = absurd (false≢true (sym some))
 line-lexemes roles line tokens (lexeme ∷ lexemes) is lexed some =
     ap (tokens_behind roles) is ∙ ap (lexemes_behind roles) (sym lexed)
 
 -- a line whose form stands where it may
-pub line-read : (roles : List Role) (line : List ℕ) (tokens : List Token) (lexemes : List code.Lexeme) (kept : Option Spelled × FormPlace) (spelled : Spelled) → tokens_of line ≡ Ok tokens → map plain_lexeme lexemes ≡ lexemes_of tokens → (length lexemes == 0) ≡ false → Some kept ≡ option_map unplaced_of (form_of (map plain_lexeme lexemes)) → ((form : Spelled) → kept ≡ unplaced_of form → (spelled ≡ form) × (cause_behind roles form ≡ None)) → line_behind roles line ≡ Ok (Some spelled)
+pub line-read : (roles : List Role) (line : List ℕ) (tokens : List Token) (lexemes : List code.Lexeme) (kept : Option Spelled × FormPlace) (spelled : Spelled)
+    → tokens_of line ≡ Ok tokens → map plain_lexeme lexemes ≡ lexemes_of tokens → (length lexemes == 0) ≡ false → Some kept
+    ≡ option_map unplaced_of (form_of (map plain_lexeme lexemes))
+    → ((form : Spelled) → kept ≡ unplaced_of form → (spelled ≡ form) × (cause_behind roles form ≡ None)) → line_behind roles line ≡ Ok (Some spelled)
 line-read roles line tokens lexemes kept spelled is lexed some read fits =
     let r = read_of kept (form_of (map plain_lexeme lexemes)) read in
     let f = fits r.spelled r.same in
@@ -89,14 +98,18 @@ line-read roles line tokens lexemes kept spelled is lexed some read fits =
     ∙ ap (λ form. Ok (Some form)) (sym f.0)
 
 -- a pass that stops at a line
-pub pass_stops : (forms : List (Numbered Spelled)) (all : Result (List (Numbered Spelled)) Fault) (number : ℕ) (roles : List Role) (line : List ℕ) (lines others : List (List ℕ)) (fault : LineFault) → all ≡ before_all forms (forms_from number roles lines) → lines ≡ line ∷ others → IsCauseOf fault (line_behind roles line) → IsFaultOf (at_line number fault) all
+pub pass_stops : (forms : List (Numbered Spelled)) (all : Result (List (Numbered Spelled)) Fault) (number : ℕ) (roles : List Role) (line : List ℕ)
+    (lines others : List (List ℕ)) (fault : LineFault) → all ≡ before_all forms (forms_from number roles lines) → lines ≡ line ∷ others
+    → IsCauseOf fault (line_behind roles line) → IsFaultOf (at_line number fault) all
 pass_stops forms all number roles line lines others (line_fault.Wrong cause) so_far split is =
     so_far ∙ ap (λ ls. before_all forms (forms_from number roles ls)) split
     ∙ ap (before_all forms) (forms_fail number roles line others cause is)
 pass_stops forms all number roles line lines others line_fault.Memory so_far split is = tt
 
 -- a pass that goes on
-pub pass_goes_on : (forms : List (Numbered Spelled)) (all : Result (List (Numbered Spelled)) Fault) (number : ℕ) (line : List ℕ) (lines others : List (List ℕ)) (form : Option Spelled) → all ≡ before_all forms (forms_from number (roles_of forms) lines) → lines ≡ line ∷ others → line_behind (roles_of forms) line ≡ Ok form → all ≡ before_all (with_next number form forms) (forms_from (number + 1) (roles_of (with_next number form forms)) others)
+pub pass_goes_on : (forms : List (Numbered Spelled)) (all : Result (List (Numbered Spelled)) Fault) (number : ℕ) (line : List ℕ) (lines others : List (List ℕ))
+    (form : Option Spelled) → all ≡ before_all forms (forms_from number (roles_of forms) lines) → lines ≡ line ∷ others → line_behind (roles_of forms) line
+    ≡ Ok form → all ≡ before_all (with_next number form forms) (forms_from (number + 1) (roles_of (with_next number form forms)) others)
 pass_goes_on forms all number line lines others None so_far split is =
     so_far ∙ ap (λ ls. before_all forms (forms_from number (roles_of forms) ls)) split
     ∙ ap (before_all forms) (forms_more number (roles_of forms) line others None is)
@@ -107,12 +120,14 @@ pass_goes_on forms all number line lines others (Some form) so_far split is =
     ∙ before_all-more forms numbered (forms_from (number + 1) (role_of form ∷ roles_of forms) others)
     ∙ ap (λ roles. before_all (forms ++ numbered ∷ []) (forms_from (number + 1) roles others)) (sym (roles_of-more forms numbered))
 
-pub roles_of-next : (number : ℕ) (form : Option Spelled) (forms : List (Numbered Spelled)) → roles_behind form (roles_of forms) ≡ roles_of (with_next number form forms)
+pub roles_of-next : (number : ℕ) (form : Option Spelled) (forms : List (Numbered Spelled)) → roles_behind form (roles_of forms)
+    ≡ roles_of (with_next number form forms)
 roles_of-next number None forms = refl
 roles_of-next number (Some form) forms = sym (roles_of-more forms (record { line = number; form = form }))
 
 -- a pass at the end of its text
-pub pass_ends : (forms : List (Numbered Spelled)) (all : Result (List (Numbered Spelled)) Fault) (number : ℕ) (roles : List Role) → all ≡ before_all forms (forms_from number roles []) → true ≡ is_outside (open_blocks roles) → all ≡ Ok forms
+pub pass_ends : (forms : List (Numbered Spelled)) (all : Result (List (Numbered Spelled)) Fault) (number : ℕ) (roles : List Role) → all
+    ≡ before_all forms (forms_from number roles []) → true ≡ is_outside (open_blocks roles) → all ≡ Ok forms
 pass_ends forms all number roles so_far outside =
     so_far ∙ ap (before_all forms) (forms_end number roles) ∙ by_blocks (open_blocks roles) outside
   where
@@ -120,10 +135,12 @@ pass_ends forms all number roles so_far outside =
     by_blocks [] e = ap Ok (append-nil forms)
     by_blocks (block ∷ blocks) e = cc
 
-pub pass_lacks : (forms : List (Numbered Spelled)) (all : Result (List (Numbered Spelled)) Fault) (number : ℕ) (roles : List Role) → all ≡ before_all forms (forms_from number roles []) → false ≡ is_outside (open_blocks roles) → all ≡ Err (record { line = number; cause = cause.Nesting })
+pub pass_lacks : (forms : List (Numbered Spelled)) (all : Result (List (Numbered Spelled)) Fault) (number : ℕ) (roles : List Role) → all
+    ≡ before_all forms (forms_from number roles []) → false ≡ is_outside (open_blocks roles) → all ≡ Err (record { line = number; cause = cause.Nesting })
 pass_lacks forms all number roles so_far outside =
     so_far ∙ ap (before_all forms) (forms_end number roles) ∙ by_blocks (open_blocks roles) outside
   where
-    by_blocks : (blocks : List OpenBlock) → false ≡ is_outside blocks → before_all forms (ended number blocks) ≡ Err (record { line = number; cause = cause.Nesting })
+    by_blocks : (blocks : List OpenBlock) → false ≡ is_outside blocks → before_all forms (ended number blocks)
+        ≡ Err (record { line = number; cause = cause.Nesting })
     by_blocks [] e = cc
     by_blocks (block ∷ blocks) e = refl

@@ -1,5 +1,6 @@
 -- The code's last open block is the definition's innermost.
-use Rattle.std.proofs.Common.{◌≡◌, ℕ, ◌+◌, ◌-◌, ◌<◌, Bool, true, false, not, ◌||◌, ◌&&◌, List, [], ◌∷◌, ◌++◌, Option, Some, None, IsSome, option_to_list, length, map, reverse, take, drop, get_or, set, refl, sym, ap, ◌∙◌, arith, append-nil}
+use Rattle.std.proofs.Common.{◌≡◌, ℕ, ◌+◌, ◌-◌, ◌<◌, Bool, true, false, not, ◌||◌, ◌&&◌, List, [], ◌∷◌, ◌++◌, Option, Some, None, IsSome, option_to_list}
+use Rattle.std.proofs.Common.{length, map, reverse, take, drop, get_or, set, refl, sym, ap, ◌∙◌, arith, append-nil}
 use Rattle.std.specs.List.{list_any, slice_get}
 use Rattle.std.proofs.lemmas.List.{take_more, take_all, reverse-append, map-append, length-take-le, set_at}
 use Rattle.std.proofs.lemmas.Option.{slice_get_within, slice_get-get_or}
@@ -45,14 +46,17 @@ pub kept-last : (front : List OpenBlock) (last : OpenBlock) → reverse (map pla
 kept-last front last =
     ap reverse (map-append plain_open front (last ∷ [])) ∙ reverse-append (map plain_open front) (plain_open last ∷ [])
 
-pub innermost_of : (front : List OpenBlock) (last : OpenBlock) (blocks : List plain.OpenBlock) → reverse (map plain_open (front ++ last ∷ [])) ≡ map kept blocks → Innermost front last blocks
+pub innermost_of : (front : List OpenBlock) (last : OpenBlock) (blocks : List plain.OpenBlock) → reverse (map plain_open (front ++ last ∷ [])) ≡ map kept blocks
+    → Innermost front last blocks
 innermost_of front last [] e = let e' = sym (kept-last front last) ∙ e in cc
 innermost_of front last (block ∷ others) e =
     let e' = sym (kept-last front last) ∙ e in
     record { innermost = block; others = others; split = refl; same = cc; rest = cc }
 
 -- A section begins in the innermost block.
-pub section_begins : (front : List OpenBlock) (last : OpenBlock) (section : Section) (roles : List plain.Role) → reverse (map plain_open (front ++ last ∷ [])) ≡ map kept (open_blocks roles) → reverse (map plain_open (front ++ record { block = last.block; latest = Some section } ∷ [])) ≡ map kept (open_blocks (plain.Begins (plain_section section) ∷ roles))
+pub section_begins : (front : List OpenBlock) (last : OpenBlock) (section : Section) (roles : List plain.Role) → reverse (map plain_open (front ++ last ∷ []))
+    ≡ map kept (open_blocks roles) → reverse (map plain_open (front ++ record { block = last.block; latest = Some section } ∷ []))
+    ≡ map kept (open_blocks (plain.Begins (plain_section section) ∷ roles))
 section_begins front last section roles e =
     let i = innermost_of front last (open_blocks roles) e in
     kept-last front (record { block = last.block; latest = Some section })
@@ -60,7 +64,8 @@ section_begins front last section roles e =
     ∙ sym (ap (map kept) (open_blocks-begins (plain_section section) roles ∙ ap (begun (plain_section section ∷ [])) i.split))
 
 -- It begins nowhere where no block is open.
-pub no_section_begins : (blocks : List OpenBlock) (section : plain.Section) (roles : List plain.Role) → length blocks ≡ 0 → reverse (map plain_open blocks) ≡ map kept (open_blocks roles) → reverse (map plain_open blocks) ≡ map kept (open_blocks (plain.Begins section ∷ roles))
+pub no_section_begins : (blocks : List OpenBlock) (section : plain.Section) (roles : List plain.Role) → length blocks ≡ 0 → reverse (map plain_open blocks)
+    ≡ map kept (open_blocks roles) → reverse (map plain_open blocks) ≡ map kept (open_blocks (plain.Begins section ∷ roles))
 no_section_begins (block ∷ blocks) section roles none e = absurd (omega arith)
 no_section_begins [] section roles none e =
     nothing (open_blocks roles) e ∙ sym (ap (map kept) (open_blocks-begins section roles))
@@ -70,7 +75,9 @@ no_section_begins [] section roles none e =
     nothing (block ∷ blocks) e = cc
 
 -- The innermost block closes.
-pub block_closes : (before after : List OpenBlock) (popped : Option OpenBlock) (roles : List plain.Role) → before ≡ after ++ option_to_list popped → (0 < length before → IsSome popped) → reverse (map plain_open before) ≡ map kept (open_blocks roles) → reverse (map plain_open after) ≡ map kept (open_blocks (plain.Closes ∷ roles))
+pub block_closes : (before after : List OpenBlock) (popped : Option OpenBlock) (roles : List plain.Role) → before ≡ after ++ option_to_list popped
+    → (0 < length before → IsSome popped) → reverse (map plain_open before) ≡ map kept (open_blocks roles) → reverse (map plain_open after)
+    ≡ map kept (open_blocks (plain.Closes ∷ roles))
 block_closes before after (Some last) roles split some e =
     let i = innermost_of after last (open_blocks roles) (sym (ap (λ blocks. reverse (map plain_open blocks)) split) ∙ e) in
     i.rest ∙ sym (ap (map kept) (open_blocks-closes roles ∙ ap (drop 1) i.split))
@@ -84,14 +91,20 @@ block_closes [] after None roles split some e =
 block_closes (block ∷ before) after None roles split some e = absurd (false≢true (some (omega arith)))
 
 -- Whether the innermost block takes a line.
-pub section_fits : (front : List OpenBlock) (last : OpenBlock) (answer : Bool) (section : plain.Section) (roles : List plain.Role) → reverse (map plain_open (front ++ last ∷ [])) ≡ map kept (open_blocks roles) → ((sections : List plain.Section) → (plain_open last).latest ≡ latest_of sections → answer ≡ begins section (plain_block last.block) sections) → answer ≡ fits (open_blocks roles) (plain.Begins section)
+pub section_fits : (front : List OpenBlock) (last : OpenBlock) (answer : Bool) (section : plain.Section) (roles : List plain.Role)
+    → reverse (map plain_open (front ++ last ∷ [])) ≡ map kept (open_blocks roles)
+    → ((sections : List plain.Section) → (plain_open last).latest ≡ latest_of sections → answer ≡ begins section (plain_block last.block) sections) → answer
+    ≡ fits (open_blocks roles) (plain.Begins section)
 section_fits front last answer section roles e by =
     let i = innermost_of front last (open_blocks roles) e in
     by i.innermost.sections (ap (λ k. k.latest) i.same)
     ∙ ap (λ block. begins section block i.innermost.sections) (ap (λ k. k.block) i.same)
     ∙ sym (ap (λ blocks. fits blocks (plain.Begins section)) i.split)
 
-pub end_fits : (front : List OpenBlock) (last : OpenBlock) (answer : Bool) (roles : List plain.Role) → reverse (map plain_open (front ++ last ∷ [])) ≡ map kept (open_blocks roles) → ((sections : List plain.Section) → (plain_open last).latest ≡ latest_of sections → answer ≡ closes (plain_block last.block) sections) → answer ≡ fits (open_blocks roles) plain.Closes
+pub end_fits : (front : List OpenBlock) (last : OpenBlock) (answer : Bool) (roles : List plain.Role) → reverse (map plain_open (front ++ last ∷ []))
+    ≡ map kept (open_blocks roles)
+    → ((sections : List plain.Section) → (plain_open last).latest ≡ latest_of sections → answer ≡ closes (plain_block last.block) sections) → answer
+    ≡ fits (open_blocks roles) plain.Closes
 end_fits front last answer roles e by =
     let i = innermost_of front last (open_blocks roles) e in
     by i.innermost.sections (ap (λ k. k.latest) i.same)
@@ -128,7 +141,8 @@ all_kept [] = refl
 all_kept (block ∷ blocks) = λ i. finally-kept block i || all_kept blocks i
 
 -- Whether some open block is in its `finally`.
-pub finally_inside : (blocks : List OpenBlock) (others : List plain.OpenBlock) → reverse (map plain_open blocks) ≡ map kept others → list_any (λ block. is_in_finally (plain_open block)) blocks ≡ list_any (λ block. is_finally block.sections) others
+pub finally_inside : (blocks : List OpenBlock) (others : List plain.OpenBlock) → reverse (map plain_open blocks) ≡ map kept others
+    → list_any (λ block. is_in_finally (plain_open block)) blocks ≡ list_any (λ block. is_finally block.sections) others
 finally_inside blocks others e =
     sym (list_any-map plain_open is_in_finally blocks) ∙ sym (list_any-reverse is_in_finally (map plain_open blocks))
     ∙ ap (list_any is_in_finally) e ∙ list_any-map kept is_in_finally others ∙ all_kept others
@@ -153,7 +167,9 @@ may_stand-by End is_first blocks = refl
 may_stand-by _ is_first blocks = refl
 
 -- A form that stands in no `finally`, inside a block.
-pub outside_finally : (blocks : List OpenBlock) (answer : Bool) (form : Spelled) (is_first : Bool) (others : List plain.OpenBlock) → standing.OutsideFinally ≡ standing_of form → false ≡ is_outside others → answer ≡ list_any (λ block. is_in_finally (plain_open block)) blocks → reverse (map plain_open blocks) ≡ map kept others → not answer ≡ may_stand is_first others form
+pub outside_finally : (blocks : List OpenBlock) (answer : Bool) (form : Spelled) (is_first : Bool) (others : List plain.OpenBlock) → standing.OutsideFinally
+    ≡ standing_of form → false ≡ is_outside others → answer ≡ list_any (λ block. is_in_finally (plain_open block)) blocks → reverse (map plain_open blocks)
+    ≡ map kept others → not answer ≡ may_stand is_first others form
 outside_finally blocks answer form is_first others same inside is e =
     ap not (is ∙ finally_inside blocks others e)
     ∙ ap (λ outside. not outside && not (list_any (λ block. is_finally block.sections) others)) inside

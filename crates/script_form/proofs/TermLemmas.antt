@@ -1,5 +1,6 @@
 -- One more expression or name of a row.
-use Rattle.std.proofs.Common.{◌≡◌, ℕ, ◌+◌, ◌<◌, max, Bool, true, false, ◌&&◌, cond, List, [], ◌∷◌, ◌++◌, Option, Some, None, option_map, option_and_then, length, get_or, take, drop, map, fold, nat_le, refl, sym, ap, ◌∙◌, arith}
+use Rattle.std.proofs.Common.{◌≡◌, ℕ, ◌+◌, ◌<◌, max, Bool, true, false, ◌&&◌, cond, List, [], ◌∷◌, ◌++◌, Option, Some, None, option_map, option_and_then}
+use Rattle.std.proofs.Common.{length, get_or, take, drop, map, fold, nat_le, refl, sym, ap, ◌∙◌, arith}
 use Rattle.std.proofs.lemmas.Bool.Decides.{nat_tests}
 use Rattle.std.proofs.lemmas.List.{take_more, take-append-drop, drop_more, map-append}
 use Rattle.std.proofs.lemmas.List.Sums.{fold_push}
@@ -33,7 +34,8 @@ begins_of {A} {B} f x xs ys e = by_first (f x) (all_of f xs) refl refl
         let all = sym e ∙ (λ i. option_and_then (λ z. option_map (λ zs. z ∷ zs) (at_rest i)) (at_first i)) in
         record { first = z; others = zs; is_first = at_first; are_others = at_rest; whole = cc }
 
-all_of-append : {A B : Type 0} (f : A → Option B) (xs : List A) (x : A) (ys : List B) (y : B) → all_of f xs ≡ Some ys → f x ≡ Some y → all_of f (xs ++ x ∷ []) ≡ Some (ys ++ y ∷ [])
+all_of-append : {A B : Type 0} (f : A → Option B) (xs : List A) (x : A) (ys : List B) (y : B) → all_of f xs ≡ Some ys → f x ≡ Some y → all_of f (xs ++ x ∷ [])
+    ≡ Some (ys ++ y ∷ [])
 all_of-append f [] x ys y e here =
     let none : [] ≡ ys = cc in
     ap (option_and_then (λ y. Some (y ∷ []))) here ∙ ap (λ zs. Some (zs ++ y ∷ [])) none
@@ -52,16 +54,20 @@ all_of-none {A} {B} f (first ∷ xs) x others here =
     by_first (Some y) = refl
 
 -- one more of a row is read
-pub read_more : {B : Type 0} (f : List plain.Lexeme → Option B) (parts : List (Bor (List Lexeme))) (i : ℕ) (part : Bor (List Lexeme)) (ys : List B) (y : B) → i < length parts → part ≡ get_or parts i part → all_of f (map plain_part (take i parts)) ≡ Some ys → f (plain_part part) ≡ Some y → all_of f (map plain_part (take (i + 1) parts)) ≡ Some (ys ++ y ∷ [])
+pub read_more : {B : Type 0} (f : List plain.Lexeme → Option B) (parts : List (Bor (List Lexeme))) (i : ℕ) (part : Bor (List Lexeme)) (ys : List B) (y : B)
+    → i < length parts → part ≡ get_or parts i part → all_of f (map plain_part (take i parts)) ≡ Some ys → f (plain_part part) ≡ Some y
+    → all_of f (map plain_part (take (i + 1) parts)) ≡ Some (ys ++ y ∷ [])
 read_more f parts i part ys y within is so_far here =
     ap (λ all. all_of f (map plain_part all)) (take_more parts i part within ∙ ap (λ x. take i parts ++ x ∷ []) (sym is))
     ∙ ap (all_of f) (map-append plain_part (take i parts) (part ∷ []))
     ∙ all_of-append f (map plain_part (take i parts)) (plain_part part) ys y so_far here
 
 -- one of a row isn't read
-pub read_stops : {B : Type 0} (f : List plain.Lexeme → Option B) (parts : List (Bor (List Lexeme))) (i : ℕ) (part : Bor (List Lexeme)) → i < length parts → part ≡ get_or parts i part → f (plain_part part) ≡ None → all_of f (map plain_part parts) ≡ None
+pub read_stops : {B : Type 0} (f : List plain.Lexeme → Option B) (parts : List (Bor (List Lexeme))) (i : ℕ) (part : Bor (List Lexeme)) → i < length parts → part
+    ≡ get_or parts i part → f (plain_part part) ≡ None → all_of f (map plain_part parts) ≡ None
 read_stops f parts i part within is here =
-    ap (λ all. all_of f (map plain_part all)) (sym (take-append-drop i parts) ∙ ap (λ rest. take i parts ++ rest) (drop_more parts i part within ∙ ap (λ x. x ∷ drop (i + 1) parts) (sym is)))
+    ap (λ all. all_of f (map plain_part all))
+    (sym (take-append-drop i parts) ∙ ap (λ rest. take i parts ++ rest) (drop_more parts i part within ∙ ap (λ x. x ∷ drop (i + 1) parts) (sym is)))
     ∙ ap (all_of f) (map-append plain_part (take i parts) (part ∷ drop (i + 1) parts))
     ∙ all_of-none f (map plain_part (take i parts)) (plain_part part) (map plain_part (drop (i + 1) parts)) here
 
@@ -71,13 +77,15 @@ nat_le-max a b n = grind (arith, nat_tests)
 heights-push : (ts : List Term) (t : Term) → heights (ts ++ t ∷ []) ≡ max (heights ts) (height t)
 heights-push ts t = ap (fold max 0) (map-append height ts (t ∷ [])) ∙ fold_push max 0 (map height ts) (height t)
 
-fitting-push : (ts : List Term) (t : Term) → fitting heights (ts ++ t ∷ []) ≡ option_and_then (λ terms. option_map (λ term. terms ++ term ∷ []) (fitting height t)) (fitting heights ts)
+fitting-push : (ts : List Term) (t : Term) → fitting heights (ts ++ t ∷ [])
+    ≡ option_and_then (λ terms. option_map (λ term. terms ++ term ∷ []) (fitting height t)) (fitting heights ts)
 fitting-push ts t =
     ap (λ n. cond (nat_le n most_height) (Some (ts ++ t ∷ [])) None) (heights-push ts t)
     ∙ ap (λ b. cond b (Some (ts ++ t ∷ [])) None) (nat_le-max (heights ts) (height t) most_height)
     ∙ by_tests (nat_le (heights ts) most_height) (nat_le (height t) most_height)
   where
-    by_tests : (a b : Bool) → cond (a && b) (Some (ts ++ t ∷ [])) None ≡ option_and_then (λ terms. option_map (λ term. terms ++ term ∷ []) (cond b (Some t) None)) (cond a (Some ts) None)
+    by_tests : (a b : Bool) → cond (a && b) (Some (ts ++ t ∷ [])) None
+        ≡ option_and_then (λ terms. option_map (λ term. terms ++ term ∷ []) (cond b (Some t) None)) (cond a (Some ts) None)
     by_tests true true = refl
     by_tests true false = refl
     by_tests false true = refl
@@ -103,7 +111,10 @@ kept_one None kept e = cc
 kept_one (Some term) kept e = record { term = term; is = refl; fits = cc }
 
 -- one more expression is read
-pub terms_more : (parts : List (Bor (List Lexeme))) (i : ℕ) (part : Bor (List Lexeme)) (before : Option (List Term)) (here : Option Term) → i < length parts → part ≡ get_or parts i part → option_map (fitting heights) (all_of term_of (map plain_part (take i parts))) ≡ Some before → Some here ≡ option_map (fitting height) (term_of (plain_part part)) → option_map (fitting heights) (all_of term_of (map plain_part (take (i + 1) parts))) ≡ Some (option_and_then (λ terms. option_map (λ term. terms ++ term ∷ []) here) before)
+pub terms_more : (parts : List (Bor (List Lexeme))) (i : ℕ) (part : Bor (List Lexeme)) (before : Option (List Term)) (here : Option Term) → i < length parts
+    → part ≡ get_or parts i part → option_map (fitting heights) (all_of term_of (map plain_part (take i parts))) ≡ Some before → Some here
+    ≡ option_map (fitting height) (term_of (plain_part part)) → option_map (fitting heights) (all_of term_of (map plain_part (take (i + 1) parts)))
+    ≡ Some (option_and_then (λ terms. option_map (λ term. terms ++ term ∷ []) here) before)
 terms_more parts i part before here within is so_far one =
     let b = kept_of (all_of term_of (map plain_part (take i parts))) before so_far in
     let h = kept_one (term_of (plain_part part)) here one in
@@ -112,7 +123,8 @@ terms_more parts i part before here within is so_far one =
     ∙ (λ k. Some (option_and_then (λ terms. option_map (λ term. terms ++ term ∷ []) (h.fits k)) (b.fit k)))
 
 -- one isn't read
-pub terms_stop : (parts : List (Bor (List Lexeme))) (i : ℕ) (part : Bor (List Lexeme)) → i < length parts → part ≡ get_or parts i part → None ≡ option_map (fitting height) (term_of (plain_part part)) → all_of term_of (map plain_part parts) ≡ None
+pub terms_stop : (parts : List (Bor (List Lexeme))) (i : ℕ) (part : Bor (List Lexeme)) → i < length parts → part ≡ get_or parts i part → None
+    ≡ option_map (fitting height) (term_of (plain_part part)) → all_of term_of (map plain_part parts) ≡ None
 terms_stop parts i part within is none =
     read_stops term_of parts i part within is (nothing (term_of (plain_part part)) none)
   where

@@ -1,5 +1,6 @@
 -- Names that stand once, and heads.
-use Rattle.std.proofs.Common.{◌≡◌, ℕ, zero, suc, ◌-◌, ◌<◌, ◌≤◌, Bool, true, false, ◌&&◌, ◌||◌, List, [], ◌∷◌, ◌++◌, length, drop, map, slice_index_or, Err, Global, refl, ap, ap₂, ◌∙◌}
+use Rattle.std.proofs.Common.{◌≡◌, ℕ, zero, suc, ◌-◌, ◌<◌, ◌≤◌, Bool, true, false, ◌&&◌, ◌||◌, List, [], ◌∷◌, ◌++◌, length, drop, map, slice_index_or, Err}
+use Rattle.std.proofs.Common.{Global, refl, ap, ap₂, ◌∙◌}
 use Rattle.std.specs.List.{list_any}
 use Rattle.std.specs.Rc.{rc_str_bytes}
 use Rattle.std.specs.declared.rc.RcStr.{RcStr}
@@ -35,12 +36,15 @@ stale-behind [] (suc at) stale = stale
 stale-behind (name ∷ names) (suc at) stale =
     ap (λ b. is_free (map rc_str_bytes names) (rc_str_bytes name) && b) (stale-behind names at stale) ∙ and-false _
 
-pub are_fresh-before : (names : List (RcStr Global)) (at : ℕ) (name : RcStr Global) → 0 < at → at ≤ length names → name ≡ slice_index_or names (at - 1) name → are_fresh (map rc_str_bytes (drop (at - 1) names)) ≡ (is_free (map rc_str_bytes (drop at names)) (rc_str_bytes name) && are_fresh (map rc_str_bytes (drop at names)))
+pub are_fresh-before : (names : List (RcStr Global)) (at : ℕ) (name : RcStr Global) → 0 < at → at ≤ length names → name ≡ slice_index_or names (at - 1) name
+    → are_fresh (map rc_str_bytes (drop (at - 1) names))
+    ≡ (is_free (map rc_str_bytes (drop at names)) (rc_str_bytes name) && are_fresh (map rc_str_bytes (drop at names)))
 are_fresh-before names at name some inside is =
     ap (λ l. are_fresh (map rc_str_bytes l)) (drop-before names at name some inside is)
 
 -- what is meant by a head, where its tests have these answers
-pub head-is : (known right is_known is_right : Bool) (name : Name) → known ≡ is_known → right ≡ is_right → both (λ n r. n) (if_known known name) (if_arity right name) ≡ both (λ n r. n) (if_known is_known name) (if_arity is_right name)
+pub head-is : (known right is_known is_right : Bool) (name : Name) → known ≡ is_known → right ≡ is_right
+    → both (λ n r. n) (if_known known name) (if_arity right name) ≡ both (λ n r. n) (if_known is_known name) (if_arity is_right name)
 head-is known right is_known is_right name known_is right_is =
     ap₂ (λ k r. both (λ (n other : Name). n) (if_known k name) (if_arity r name)) known_is right_is
 

@@ -1,5 +1,6 @@
 -- What a `yield from` hands over to, by what code finds of its parts.
-use Rattle.std.proofs.Common.{◌≡◌, ℕ, Bool, true, false, if◌then◌else◌, List, length, Option, Some, None, Result, Ok, Err, IfOk, IfErr, nat_eq, refl, ap, sym, ◌∙◌, subst}
+use Rattle.std.proofs.Common.{◌≡◌, ℕ, Bool, true, false, if◌then◌else◌, List, length, Option, Some, None, Result, Ok, Err, IfOk, IfErr, nat_eq, refl, ap, sym}
+use Rattle.std.proofs.Common.{◌∙◌, subst}
 use Rattle.std.specs.Str.{bytes_eq}
 use Rattle.model_tree.specs.Syntax.{Name, Expr, Exprs, exprs, Target, Call, CreateTask, ListenAt}
 use Rattle.model_tree.specs.Known.{spawn_text, create_text, listen_text}
@@ -9,15 +10,19 @@ use Rattle.script_naming.specs.Gives.{Fails, Gives, both_found}
 use Rattle.script_naming.specs.Scope.{with_arity}
 use Rattle.script_naming.proofs.Meanings.{gives-both, fails-along}
 
-pub callee-known : (scope : Scope) (spelled name : Name) (parameters : ℕ) → callee_of scope spelled ≡ Some (with_arity spelled parameters) → spelled ≡ name → callee_of scope name ≡ Some (with_arity name parameters)
+pub callee-known : (scope : Scope) (spelled name : Name) (parameters : ℕ) → callee_of scope spelled ≡ Some (with_arity spelled parameters) → spelled ≡ name
+    → callee_of scope name ≡ Some (with_arity name parameters)
 callee-known scope spelled name parameters is named =
     subst (λ n. callee_of scope n ≡ Some (with_arity n parameters)) named is
 
-pub gives-argument : (meant : Meant (List Expr)) (found : Result Expr MeaningFault) → IfOk found (λ argument. (call : Expr → Expr) → one_argument call meant ≡ Ok (call argument)) → IfErr found (λ fault. (call : Expr → Expr) → Fails (one_argument call meant) fault) → Gives (λ e. e) (one_argument (λ e. e) meant) found
+pub gives-argument : (meant : Meant (List Expr)) (found : Result Expr MeaningFault)
+    → IfOk found (λ argument. (call : Expr → Expr) → one_argument call meant ≡ Ok (call argument))
+    → IfErr found (λ fault. (call : Expr → Expr) → Fails (one_argument call meant) fault) → Gives (λ e. e) (one_argument (λ e. e) meant) found
 gives-argument meant (Ok argument) is fails = is (λ e. e)
 gives-argument meant (Err fault) is fails = fails (λ e. e)
 
-counted-map : {A : Type 0} (count : ℕ) (make : List Expr → A) (meant : Meant (List Expr)) → meant_map make (counted count (λ all. all) meant) ≡ counted count make meant
+counted-map : {A : Type 0} (count : ℕ) (make : List Expr → A) (meant : Meant (List Expr)) → meant_map make (counted count (λ all. all) meant)
+    ≡ counted count make meant
 counted-map count make (Err c) = refl
 counted-map {A} count make (Ok all) = by_test (nat_eq (length all) count)
   where
@@ -25,25 +30,41 @@ counted-map {A} count make (Ok all) = by_test (nat_eq (length all) count)
     by_test true = refl
     by_test false = refl
 
-pub passed-fails : (scope : Scope) (name : Name) (parameters : ℕ) (meant : Meant (List Expr)) (fault : MeaningFault) (target : Exprs → Target) → callee_of scope name ≡ Some (with_arity name parameters) → Fails (counted parameters (λ all. all) meant) fault → Fails (passed scope (callee_of scope name) target meant) fault
+pub passed-fails : (scope : Scope) (name : Name) (parameters : ℕ) (meant : Meant (List Expr)) (fault : MeaningFault) (target : Exprs → Target)
+    → callee_of scope name ≡ Some (with_arity name parameters) → Fails (counted parameters (λ all. all) meant) fault
+    → Fails (passed scope (callee_of scope name) target meant) fault
 passed-fails scope name parameters meant fault target is fails =
     subst (λ callee. Fails (passed scope callee target meant) fault) (sym is)
     (fails-along (counted parameters (λ all. all) meant) (counted parameters (λ all. target (exprs all)) meant) fault
     (λ c e. sym (counted-map parameters (λ all. target (exprs all)) meant) ∙ ap (λ m. meant_map (λ all. target (exprs all)) m) e) fails)
 
-pub create-gives : (scope : Scope) (name : Name) (parameters : ℕ) (before after : Meant (List Expr)) (group : Result Expr MeaningFault) (arguments : Result (List Expr) MeaningFault) → callee_of scope name ≡ Some (with_arity name parameters) → Gives (λ e. e) (one_argument (λ e. e) before) group → Gives (λ all. all) (counted parameters (λ all. all) after) arguments → Gives (λ (pair : Expr × List Expr). CreateTask pair.0 name (exprs pair.1)) (create_by scope (callee_of scope name) name before after) (both_found group arguments)
+pub create-gives : (scope : Scope) (name : Name) (parameters : ℕ) (before after : Meant (List Expr)) (group : Result Expr MeaningFault)
+    (arguments : Result (List Expr) MeaningFault) → callee_of scope name ≡ Some (with_arity name parameters)
+    → Gives (λ e. e) (one_argument (λ e. e) before) group → Gives (λ all. all) (counted parameters (λ all. all) after) arguments
+    → Gives (λ (pair : Expr × List Expr). CreateTask pair.0 name (exprs pair.1)) (create_by scope (callee_of scope name) name before after)
+    (both_found group arguments)
 create-gives scope name parameters before after group arguments is group_is arguments_are =
-    subst (λ callee. Gives (λ (pair : Expr × List Expr). CreateTask pair.0 name (exprs pair.1)) (create_by scope callee name before after) (both_found group arguments)) (sym is)
-    (gives-both (λ g all. CreateTask g name (exprs all)) (λ e. e) (λ all. all) (one_argument (λ e. e) before) (counted parameters (λ all. all) after) group arguments group_is arguments_are)
+    subst (λ callee. Gives (λ (pair : Expr × List Expr). CreateTask pair.0 name (exprs pair.1)) (create_by scope callee name before after)
+    (both_found group arguments)) (sym is)
+    (gives-both (λ g all. CreateTask g name (exprs all)) (λ e. e) (λ all. all) (one_argument (λ e. e) before)
+    (counted parameters (λ all. all) after) group arguments group_is arguments_are)
 
-pub listen-gives : {R : Type 0} (scope : Scope) (name : Name) (parameters : ℕ) (bytes : R → Name) (before after : Meant (List Expr)) (port : Result Expr MeaningFault) (handler : Result R MeaningFault) → callee_of scope name ≡ Some (with_arity name parameters) → Gives (λ e. e) (one_argument (λ e. e) before) port → Gives bytes (both (λ none h. h) (counted 0 (λ all. all) after) (if_arity (nat_eq parameters 1) name)) handler → Gives (λ (pair : Expr × R). ListenAt pair.0 (bytes pair.1)) (listen_by scope (callee_of scope name) name before after) (both_found port handler)
+pub listen-gives : {R : Type 0} (scope : Scope) (name : Name) (parameters : ℕ) (bytes : R → Name) (before after : Meant (List Expr))
+    (port : Result Expr MeaningFault) (handler : Result R MeaningFault) → callee_of scope name ≡ Some (with_arity name parameters)
+    → Gives (λ e. e) (one_argument (λ e. e) before) port
+    → Gives bytes (both (λ none h. h) (counted 0 (λ all. all) after) (if_arity (nat_eq parameters 1) name)) handler
+    → Gives (λ (pair : Expr × R). ListenAt pair.0 (bytes pair.1)) (listen_by scope (callee_of scope name) name before after)
+    (both_found port handler)
 listen-gives {R} scope name parameters bytes before after port handler is port_is handler_is =
     subst (λ callee. Gives (λ (pair : Expr × R). ListenAt pair.0 (bytes pair.1)) (listen_by scope callee name before after) (both_found port handler)) (sym is)
-    (gives-both ListenAt (λ e. e) bytes (one_argument (λ e. e) before) (both (λ none h. h) (counted 0 (λ all. all) after) (if_arity (nat_eq parameters 1) name)) port handler port_is handler_is)
+    (gives-both ListenAt (λ e. e) bytes (one_argument (λ e. e) before)
+    (both (λ none h. h) (counted 0 (λ all. all) after) (if_arity (nat_eq parameters 1) name)) port handler port_is handler_is)
 
 otherwise : {A : Type 0} (b : Bool) (x y : A) → b ≡ false → (if b then x else y) ≡ y
 otherwise b x y e = ap (λ t. if t then x else y) e
 
-pub called-other : (scope : Scope) (name : Name) (before : Meant (List Expr)) (bare : Option Name) (after : Meant (List Expr)) → bytes_eq name spawn_text ≡ false → bytes_eq name create_text ≡ false → bytes_eq name listen_text ≡ false → called_target scope name None before bare after ≡ passed scope (callee_of scope name) (Call name) before
+pub called-other : (scope : Scope) (name : Name) (before : Meant (List Expr)) (bare : Option Name) (after : Meant (List Expr)) → bytes_eq name spawn_text
+    ≡ false → bytes_eq name create_text ≡ false → bytes_eq name listen_text ≡ false → called_target scope name None before bare after
+    ≡ passed scope (callee_of scope name) (Call name) before
 called-other scope name before bare after spawn create listen =
     otherwise (bytes_eq name spawn_text) _ _ spawn ∙ otherwise (bytes_eq name create_text) _ _ create ∙ otherwise (bytes_eq name listen_text) _ _ listen

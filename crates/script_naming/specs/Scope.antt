@@ -27,4 +27,5 @@ with_arity name parameters = record { name = name; parameters = parameters }
 -- the map has, for each name, how many parameters the first coroutine of this name has
 abbrev pub FindsFirst : tree.BTreeMap (Bor (List ℕ)) ℕ → List Callee → Type 0
 FindsFirst arities callees =
-    (name : List ℕ) → find (λ callee. bytes_eq callee.name name) callees ≡ option_map (with_arity name) (tree.get_by (λ k. slice_cmp nat_cmp name k.now) arities)
+    (name : List ℕ) → find (λ callee. bytes_eq callee.name name) callees
+    ≡ option_map (with_arity name) (tree.get_by (λ k. slice_cmp nat_cmp name k.now) arities)

@@ -7,7 +7,8 @@ one : {B : Type 0} (last : Option B) → option_and_then (λ y. Some (y ∷ []))
 one None = refl
 one (Some y) = refl
 
-more : {B : Type 0} (first : Option B) (all : Option (List B)) (last : Option B) → option_and_then (λ y. option_map (λ ys. y ∷ ys) (with_last all last)) first ≡ with_last (option_and_then (λ y. option_map (λ ys. y ∷ ys) all) first) last
+more : {B : Type 0} (first : Option B) (all : Option (List B)) (last : Option B) → option_and_then (λ y. option_map (λ ys. y ∷ ys) (with_last all last)) first
+    ≡ with_last (option_and_then (λ y. option_map (λ ys. y ∷ ys) all) first) last
 more None all last = refl
 more (Some y) None last = refl
 more (Some y) (Some ys) None = refl

@@ -9,7 +9,8 @@ use Rattle.script_term.specs.declared.spelled.Arguments.{Arguments}
 use Rattle.script_term.specs.declared.spelled.Goal.{Goal}
 use Rattle.script_term.specs.declared.spelled.Goal.TheVariants.{Awaited, Asked}
 use Rattle.script_term.specs.declared.spelled.Spelled.{Spelled}
-use Rattle.script_term.specs.declared.spelled.Spelled.TheVariants.{Profile, Def, Assign, Yield, YieldFrom, Print, Raise, Return, Pass, If, Else, While, Try, Except, Finally, WithGroup, WithTimeout, End}
+use Rattle.script_term.specs.declared.spelled.Spelled.TheVariants.{Profile, Def, Assign, Yield, YieldFrom, Print, Raise, Return, Pass, If, Else, While, Try}
+use Rattle.script_term.specs.declared.spelled.Spelled.TheVariants.{Except, Finally, WithGroup, WithTimeout, End}
 use Rattle.script_term.specs.declared.spelled.NumberedForm.{NumberedForm}
 
 abbrev pub plain_arguments : Arguments → levels.Arguments

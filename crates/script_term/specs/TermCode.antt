@@ -32,7 +32,9 @@ abbrev mutual
   expr_of (Variable name) = syntax.Variable name
   expr_of (ListOf items) = syntax.ListOf (exprs_of items)
   expr_of (Called name before bare after) =
-      syntax.Apply function.Len (syntax.Index (syntax.Index (syntax.Variable name) (bare_expr bare)) (syntax.Index (syntax.ListOf (exprs_of before)) (syntax.ListOf (exprs_of after))))
+      syntax.Apply function.Len
+      (syntax.Index (syntax.Index (syntax.Variable name) (bare_expr bare))
+      (syntax.Index (syntax.ListOf (exprs_of before)) (syntax.ListOf (exprs_of after))))
 
   exprs_of : Terms → syntax.Exprs
   exprs_of no_terms = syntax.no_exprs

@@ -7,8 +7,10 @@ use Rattle.law_reading.specs.Pending.{with_nots, with_minuses}
 one_less : (count done : ℕ) → done < count → count - done ≡ suc (count - (done + 1))
 one_less count done below = omega arith
 
-pub with_nots-one_less : (count done : ℕ) (operand : Operand) → done < count → with_nots (count - done) operand ≡ with_nots (count - (done + 1)) (of_one Not operand)
+pub with_nots-one_less : (count done : ℕ) (operand : Operand) → done < count → with_nots (count - done) operand
+    ≡ with_nots (count - (done + 1)) (of_one Not operand)
 with_nots-one_less count done operand below = ap (λ left. with_nots left operand) (one_less count done below)
 
-pub with_minuses-one_less : (count done : ℕ) (operand : Operand) → done < count → with_minuses (count - done) operand ≡ with_minuses (count - (done + 1)) (of_one Negate operand)
+pub with_minuses-one_less : (count done : ℕ) (operand : Operand) → done < count → with_minuses (count - done) operand
+    ≡ with_minuses (count - (done + 1)) (of_one Negate operand)
 with_minuses-one_less count done operand below = ap (λ left. with_minuses left operand) (one_less count done below)

@@ -15,7 +15,8 @@ abbrev pub state_behind : ℕ → List Lexeme → ReaderState
 state_behind count xs = fold feed start (map plain_lexeme (take count xs))
 
 -- one lexeme more
-pub fed-more : (xs : List Lexeme) (i : ℕ) (x : Lexeme) (p : TermProgress) (opened : List Open) → i < length xs → reading p opened ≡ state_behind i xs → fed (record { progress = p; opened = opened }) (plain_lexeme (get_or xs i x)) ≡ state_behind (i + 1) xs
+pub fed-more : (xs : List Lexeme) (i : ℕ) (x : Lexeme) (p : TermProgress) (opened : List Open) → i < length xs → reading p opened ≡ state_behind i xs
+    → fed (record { progress = p; opened = opened }) (plain_lexeme (get_or xs i x)) ≡ state_behind (i + 1) xs
 fed-more xs i x p opened below so =
     ap (λ state. feed state (plain_lexeme (get_or xs i x))) so
     ∙ sym (fold-append feed start (map plain_lexeme (take i xs)) (plain_lexeme (get_or xs i x) ∷ []))
@@ -36,7 +37,8 @@ failed xs n so =
     ∙ read-is (map plain_lexeme xs)
 
 -- the end
-pub ended-read : (xs : List Lexeme) (n : ℕ) (p : TermProgress) (opened : List Open) → length xs ≤ n → reading p opened ≡ state_behind n xs → finished p opened ≡ option_map capped (term_of (map plain_lexeme xs))
+pub ended-read : (xs : List Lexeme) (n : ℕ) (p : TermProgress) (opened : List Open) → length xs ≤ n → reading p opened ≡ state_behind n xs → finished p opened
+    ≡ option_map capped (term_of (map plain_lexeme xs))
 ended-read xs n p opened all so =
     ap finish so
     ∙ ap (λ lexemes. finish (fold feed start (map plain_lexeme lexemes))) (take_all n xs all)

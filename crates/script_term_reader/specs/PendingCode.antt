@@ -26,7 +26,9 @@ coded_operator = code_by ℕ coded_ℕ (λ operator. tag_of operator_type operat
 
 abbrev comparison_from : ℕ → Comparison
 comparison_from tag =
-    slice_index_or (comparison.Equal ∷ comparison.NotEqual ∷ comparison.Less ∷ comparison.LessOrEqual ∷ comparison.Greater ∷ comparison.GreaterOrEqual ∷ []) tag comparison.Equal
+    slice_index_or
+    (comparison.Equal ∷ comparison.NotEqual ∷ comparison.Less ∷ comparison.LessOrEqual ∷ comparison.Greater ∷ comparison.GreaterOrEqual
+    ∷ []) tag comparison.Equal
 
 pub comparison_again : (c : Comparison) → comparison_from (tag_of comparison_type c) ≡ c
 comparison_again comparison.Equal = refl

@@ -5,7 +5,8 @@ use Rattle.std.specs.Coded.{Coded, code_by, coded_ℕ, coded×, coded_list, code
 use Rattle.model_tree.specs.Syntax.{Name}
 use Rattle.law_reading.specs.Operands.{Operand, TooHigh}
 use Rattle.law_reading.specs.Pending.{Loose, Tight, no_loose, no_tight}
-use Rattle.law_reading.specs.Reader.{Bracket, Group, Item, Items, Arguments, Open, TermProgress, Start, AtNot, AtOperand, BehindName, BehindOperand, AtKind, BehindKind, TermReader}
+use Rattle.law_reading.specs.Reader.{Bracket, Group, Item, Items, Arguments, Open, TermProgress, Start, AtNot, AtOperand, BehindName, BehindOperand, AtKind}
+use Rattle.law_reading.specs.Reader.{BehindKind, TermReader}
 use Rattle.script_term_reader.specs.PendingCode.{coded_operand, coded_loose, coded_tight}
 
 abbrev coded_name : Coded Name
@@ -33,7 +34,9 @@ bracket_again (Arguments name bare arguments) = refl
 
 abbrev coded_bracket : Coded Bracket
 coded_bracket =
-    code_by BracketParts (coded× coded_ℕ (coded× coded_operand (coded× (coded_list coded_operand) (coded× coded_name (coded_option coded_name))))) bracket_parts bracket_from bracket_again
+    code_by BracketParts
+    (coded× coded_ℕ
+    (coded× coded_operand (coded× (coded_list coded_operand) (coded× coded_name (coded_option coded_name))))) bracket_parts bracket_from bracket_again
 
 abbrev ProgressParts : Type 0
 ProgressParts = ℕ × (Loose × (Tight × (Operand × Name)))
@@ -63,7 +66,8 @@ progress_again (BehindKind kind) = refl
 
 abbrev pub coded_progress : Coded TermProgress
 coded_progress =
-    code_by ProgressParts (coded× coded_ℕ (coded× coded_loose (coded× coded_tight (coded× coded_operand coded_name)))) progress_parts progress_from progress_again
+    code_by ProgressParts
+    (coded× coded_ℕ (coded× coded_loose (coded× coded_tight (coded× coded_operand coded_name)))) progress_parts progress_from progress_again
 
 abbrev pub coded_open : Coded Open
 coded_open =

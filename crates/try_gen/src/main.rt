@@ -26,7 +26,10 @@ fn main(rt: HostRuntime) -> ExitCode {
 }
 
 /// Runs the tapes of each file that the words name, prints what came of them, and answers how many differed.
-fn run_files<R: Env + Files + Print + AllocGlobal>(rt: &R, alloc: Global) -> Result<u64, TapesStopped> {
+fn run_files<R: Env + Files + Print + AllocGlobal>(
+    rt: &R,
+    alloc: Global,
+) -> Result<u64, TapesStopped> {
     let mut tapes = Tapes::new(alloc);
     for path in env::args(rt)?.skip(1) {
         let text = fs::read(rt, path.as_str())?;

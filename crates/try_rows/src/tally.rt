@@ -15,7 +15,12 @@ impl Tally {
     }
 
     /// Runs a row, counts it, and prints a line where it came out otherwise.
-    pub fn run<R: Print>(&mut self, rt: &R, alloc: Global, mut row: Row) -> Result<(), RowsStopped> {
+    pub fn run<R: Print>(
+        &mut self,
+        rt: &R,
+        alloc: Global,
+        mut row: Row,
+    ) -> Result<(), RowsStopped> {
         self.rows = self.rows.saturating_add(1);
         match row.run(alloc) {
             Verdict::Right => return Ok(()),

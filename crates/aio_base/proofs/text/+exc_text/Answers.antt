@@ -23,13 +23,32 @@ pub push_exc-returns : goal.push_exc-returns
 push_exc-returns t c =
     let e = c.args.exc.now in
     let front : c.push_text_literal.new.out.items ≡ c.args.out.now.items ++ (kind_name (kind_of e) ++ codes "(" ++ text_literal (text_of e)) =
-    simp (c.in_ok-push_text_literal.ensures, c.in_ok-push.ensures.items, c.in_ok-extend_from_slice.ensures.items, c.as_bytes.ensures.value, c.name_of.ensures, c.kind.ensures, c.text.ensures, append_assoc) in
+    simp (
+      c.in_ok-push_text_literal.ensures,
+      c.in_ok-push.ensures.items,
+      c.in_ok-extend_from_slice.ensures.items,
+      c.as_bytes.ensures.value,
+      c.name_of.ensures,
+      c.kind.ensures,
+      c.text.ensures,
+      append_assoc,
+    ) in
     rw (shown_exc-parts e)
     (
     elim c.if-eq.branch [
       | push_exc-then-eq+in_ok-extend_from_slice-2+in_ok-push_members+in_ok-push-2 w ↦
           let group : is_group (kind_of e) ≡ true = ap is_group (sym c.kind-2.ensures) ∙ sym w.if-eq.ensures in
-          simp (c.in_ok-push-3.ensures.items, w.out-is, w.in_ok-push-2.ensures.items, w.in_ok-push_members.ensures, w.members.ensures, w.in_ok-extend_from_slice-2.ensures.items, front, group, append_assoc)
+          simp (
+            c.in_ok-push-3.ensures.items,
+            w.out-is,
+            w.in_ok-push-2.ensures.items,
+            w.in_ok-push_members.ensures,
+            w.members.ensures,
+            w.in_ok-extend_from_slice-2.ensures.items,
+            front,
+            group,
+            append_assoc,
+          )
       | push_exc-else-eq w ↦
           let other : is_group (kind_of e) ≡ false = ap is_group (sym c.kind-2.ensures) ∙ sym w.if-eq.ensures in
           simp (c.in_ok-push-3.ensures.items, w.out-is, front, other, append_assoc)

@@ -12,7 +12,9 @@ use Rattle.aio_future.specs.Settled.{called}
 use Rattle.aio_step.specs.Stepping.{Steps}
 use Rattle.aio_step.specs.declared.steps.Stepped.TheVariants as went
 use Rattle.aio_core.specs.Effects.{MayAct}
-use Rattle.aio_core.proofs.Acting.{Acts, HearsNews, StepsAs, circle_acts, extra_acts, extra_serves, item_acts, item_serves, circle_begins, fire_acts, fire_takes, group_acts, group_takes, main_acts, nothing_acts, sleep_acts, sleep_free, sleep_idle, step_acts, step_begins, wakeup_acts, wakeup_begins}
+use Rattle.aio_core.proofs.Acting.{Acts, HearsNews, StepsAs, circle_acts, extra_acts, extra_serves, item_acts, item_serves, circle_begins, fire_acts}
+use Rattle.aio_core.proofs.Acting.{fire_takes, group_acts, group_takes, main_acts, nothing_acts, sleep_acts, sleep_free, sleep_idle, step_acts, step_begins}
+use Rattle.aio_core.proofs.Acting.{wakeup_acts, wakeup_begins}
 use Rattle.aio_core.proofs.handles.act.Goals as goal
 
 pub step-requires-clause-called : goal.step-requires-clause-called

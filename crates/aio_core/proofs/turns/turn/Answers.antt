@@ -7,7 +7,8 @@ use Rattle.model_machine.specs.Turn.{is_stalled, turned_by, woken_by}
 use Rattle.aio_body.specs.Stands.{IsBetween, Setting}
 use Rattle.aio_core.specs.Turning.{AliveIfWent, IsAlive, StallsAs, Turned, all_below, at_bar, resting, said_by, stood_by}
 use Rattle.aio_core.specs.declared.went.Went.TheVariants as went
-use Rattle.aio_core.proofs.Asking.{alive_after, comes_so, failing_answered, failing_stopped, got_alive, got_so, stalls_after, stalls_so, stalls_stopped, still_after, still_stopped, stops_so}
+use Rattle.aio_core.proofs.Asking.{alive_after, comes_so, failing_answered, failing_stopped, got_alive, got_so, stalls_after, stalls_so, stalls_stopped}
+use Rattle.aio_core.proofs.Asking.{still_after, still_stopped, stops_so}
 use Rattle.aio_core.proofs.Waking.{fits_time}
 use Rattle.aio_core.proofs.turns.turn.Goals as goal
 

@@ -31,7 +31,8 @@ pub evaluate-returns-in_err-left-in-Calculate : goal.evaluate-returns-in_err-lef
 evaluate-returns-in_err-left-in-Calculate t c =
     let cause = c.in_err-left-in-Calculate.field-0.0 in
     gives-err (value_of c.args.expr.now c.args.env.now) c.from_residual-in_err-left-in-Calculate.result cause c.from_residual-in_err-left-in-Calculate.ensures.1
-    (subst (λ e. Fails (value_of e c.args.env.now) cause) c.in-Calculate.ensures (c.in_err-left-in-Calculate.ensures.fault (calculated c.in-Calculate.operator)))
+    (subst (λ e. Fails (value_of e c.args.env.now) cause) c.in-Calculate.ensures
+    (c.in_err-left-in-Calculate.ensures.fault (calculated c.in-Calculate.operator)))
 
 pub evaluate-returns-in_err-sequence-in-Index : goal.evaluate-returns-in_err-sequence-in-Index
 evaluate-returns-in_err-sequence-in-Index t c =

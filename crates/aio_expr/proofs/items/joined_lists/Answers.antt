@@ -15,4 +15,5 @@ pub returns : goal.returns
 returns c =
     let joined = Items (values (c.args.front.now ++ c.args.back.now)) in
     let list : c.in_ok-list_from.field-0 ≡ joined = search rules in
-    in_bounds joined (omega (arith, items_weight-append c.args.front.now c.args.back.now)) (omega (arith, items_depth-append c.args.front.now c.args.back.now)) ∙ ap Ok (sym list)
+    in_bounds joined (omega (arith, items_weight-append c.args.front.now c.args.back.now)) (omega (arith, items_depth-append c.args.front.now c.args.back.now))
+    ∙ ap Ok (sym list)

@@ -5,14 +5,16 @@ use Rattle.std.specs.Rc.{rc_str_bytes}
 use Rattle.std.proofs.lemmas.List.{take_more}
 use Rattle.std.proofs.lemmas.Result.{on_ok_weaker}
 use Rattle.model_tree.specs.Syntax.{statements, handlers}
-use Rattle.law_locals.specs.Numbered.{numbered_name, numbered_expr, numbered_manager, numbered_statement, numbered_statements, numbered_branch, numbered_handlers}
+use Rattle.law_locals.specs.Numbered.{numbered_name, numbered_expr, numbered_manager, numbered_statement, numbered_statements, numbered_branch}
+use Rattle.law_locals.specs.Numbered.{numbered_handlers}
 use Rattle.law_flat.specs.Laid.{LaidAll, LaidHandlers, enter_op}
 use Rattle.aio_program.specs.StatementSize.{statement_size, statement_list_size, handler_size, handler_list_size}
 use Rattle.aio_program.specs.Target.{plain_branch, plain_manager}
 use Rattle.aio_flat.specs.Built.{built, Lays}
 use Rattle.aio_flat.specs.Grows.{Grows}
 use Rattle.aio_flat.proofs.KnownLemmas.{statement_size-item, handler_size-item}
-use Rattle.aio_flat.proofs.Blocks.{single-lays, if-lays, while-lays, try-lays, with-lays, put-same, push-same, test-same, jump-same, guard-same, repeat-same, range-same, exit-same, all-grows, handlers-grow}
+use Rattle.aio_flat.proofs.Blocks.{single-lays, if-lays, while-lays, try-lays, with-lays, put-same, push-same, test-same, jump-same, guard-same, repeat-same}
+use Rattle.aio_flat.proofs.Blocks.{range-same, exit-same, all-grows, handlers-grow}
 use Rattle.aio_flat.proofs.laying.+lay.Goals as goal
 
 pub lay-returns-in-Some : goal.lay-returns-in-Some

@@ -8,7 +8,8 @@ use Rattle.model_text.specs.Tokens.{piece_tokens}
 use Rattle.aio_lex.proofs.SaidLemmas.{slice_rest}
 use Rattle.aio_lex.proofs.FrontLemmas.{first-space, first-hash, first-quote, first-b, first-digit, first-word, first-other}
 use Rattle.aio_lex.proofs.front.read_front.Goals as goal
-use Rattle.aio_lex.proofs.front.read_front.Goals.{in_default-via-in-98+else-opens_bytes, in_default-via-in_default+then-first-lt48, in_default-via-in_default+else-first-lt48+else-first-lt58}
+use Rattle.aio_lex.proofs.front.read_front.Goals.{in_default-via-in-98+else-opens_bytes, in_default-via-in_default+then-first-lt48}
+use Rattle.aio_lex.proofs.front.read_front.Goals.{in_default-via-in_default+else-first-lt48+else-first-lt58}
 
 pub returns-in-32 : goal.returns-in-32
 unfolding piece_tokens

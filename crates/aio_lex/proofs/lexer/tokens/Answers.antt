@@ -9,9 +9,12 @@ loop-at-init c =
     rw c.new-items.ensures.items (record { within = omega arith; tokens = tokens_start c.args.line.now })
 
 -- what the piece adds
-more : (c : goal.Joined-token) → TokensMore c.loop-at.at c.in_ok-token.field-0.len c.args.line.now c.loop-at.items.items (c.loop-at.items.items ++ option_to_list c.in_ok-token.field-0.token)
+more : (c : goal.Joined-token)
+    → TokensMore c.loop-at.at c.in_ok-token.field-0.len c.args.line.now c.loop-at.items.items
+    (c.loop-at.items.items ++ option_to_list c.in_ok-token.field-0.token)
 more c =
-    tokens_more c.loop-at.at c.in_ok-token.field-0.len c.args.line.now c.loop-at.items.items (option_to_list c.in_ok-token.field-0.token) c.loop-at-test.true c.in_ok-token.ensures.0 c.in_ok-token.ensures.1
+    tokens_more c.loop-at.at c.in_ok-token.field-0.len c.args.line.now c.loop-at.items.items
+    (option_to_list c.in_ok-token.field-0.token) c.loop-at-test.true c.in_ok-token.ensures.0 c.in_ok-token.ensures.1
 
 items : (c : goal.Joined-token) → c.match-token.items.items ≡ c.loop-at.items.items ++ option_to_list c.in_ok-token.field-0.token
 items c =

@@ -7,7 +7,8 @@ use Rattle.aio_lex.proofs.literal.literal_bytes.Given as goal
 abbrev pub invariant-loop-at : goal.invariant-loop-at
 invariant-loop-at l = record {
   within : l.at ≤ length l.inside;
-  parts : literal_bytes l.literal l.column (parts_of l.inside) ≡ both_or_fault (Ok l.said.items) (literal_bytes l.literal (l.column + l.at) (parts_of (drop l.at l.inside)));
+  parts : literal_bytes l.literal l.column (parts_of l.inside)
+      ≡ both_or_fault (Ok l.said.items) (literal_bytes l.literal (l.column + l.at) (parts_of (drop l.at l.inside)));
 }
 
 abbrev pub decreases-loop-at : goal.decreases-loop-at

@@ -11,13 +11,23 @@ loop-alloc-preserved g c = record {
       let read = rw c.in-Bytes.is at c.in_ok-bytes.ensures.bytes in
       let text = c.loop-alloc.text in
       subst (Begins held) (sym (c.in_ok-extend_from_slice-in-Bytes.ensures.items ∙ ap (λ (b : List ℕ). text.items ++ b) c.items.ensures))
-      (begins_more held text.items c.in-Bytes.bytes c.len-in-loop-alloc-2.result (omega (arith, text.ok.0, c.len-in-loop-alloc-2.ensures)) (c.loop-alloc.invariant.begins held told)
+      (begins_more held text.items c.in-Bytes.bytes c.len-in-loop-alloc-2.result (omega (arith, text.ok.0, c.len-in-loop-alloc-2.ensures))
+      (c.loop-alloc.invariant.begins held told)
       (read held (ap (λ (s : ShelfSeen). s.file c.args.name.now) c.loop-alloc.invariant.kept ∙ told)));
   within =
       let size = rw c.in-Bytes.is at c.in_ok-bytes.ensures.size in
       let text = c.loop-alloc.text in
       let grown = ap (λ (b : List ℕ). length b) (c.in_ok-extend_from_slice-in-Bytes.ensures.items ∙ ap (λ (b : List ℕ). text.items ++ b) c.items.ensures) ∙ length-append text.items c.in-Bytes.bytes in
-      omega (arith, size.1, grown, c.min-asked.ensures, text.ok.0, c.extend_from_slice.new.self.ok.0, c.len-in-loop-alloc.ensures, c.loop-alloc.invariant.within);
+      omega (
+        arith,
+        size.1,
+        grown,
+        c.min-asked.ensures,
+        text.ok.0,
+        c.extend_from_slice.new.self.ok.0,
+        c.len-in-loop-alloc.ensures,
+        c.loop-alloc.invariant.within,
+      );
 }
 
 pub returns-in-End-clause-text : goal.returns-in-End-clause-text

@@ -15,4 +15,11 @@ returns c =
     let all : List SectionBody = map plain_section c.args.sections.items in
     let passed : into_iter_items c.into_iter-section-iterator.result ≡ c.args.sections.items =
     c.into_iter-section-iterator.ensures.into_iter_gives.0 in
-    c.try_except.ensures ∙ (sym (try_with-nothing at.begun) ∙ (ap (λ (left : List FurtherSection). try_with at.begun (map plain_section left)) (sym empty) ∙ (at.invariant.0 ∙ (ap (λ (left : List FurtherSection). Try (statements c.args.body) (handlers_before c.new.result.items (handlers_in (map plain_section left))) (finally_in (map plain_section left))) passed ∙ ap (λ (hs : List Handler). Try (statements c.args.body) (handlers_before hs (handlers_in all)) (finally_in all)) c.new.ensures.items))))
+    c.try_except.ensures
+    ∙ (sym (try_with-nothing at.begun)
+    ∙ (ap (λ (left : List FurtherSection). try_with at.begun (map plain_section left)) (sym empty)
+    ∙ (at.invariant.0
+    ∙ (ap (λ (left : List FurtherSection). Try (statements c.args.body)
+    (handlers_before c.new.result.items (handlers_in (map plain_section left))) (finally_in (map plain_section left))) passed
+    ∙ ap (λ (hs : List Handler). Try (statements c.args.body) (handlers_before hs (handlers_in all))
+    (finally_in all)) c.new.ensures.items))))

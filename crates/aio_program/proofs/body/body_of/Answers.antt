@@ -20,7 +20,14 @@ returns-in-Over c =
     c.into_iter-line-iterator.ensures.into_iter_gives.0 in
     let steps : into_iter_items at.line-iterator ≡ c.in-Some.line ∷ into_iter_items c.next.new.self =
     c.in-Some.ensures.steps.0 in
-    ap statements c.of.ensures ∙ (sym (ap (λ (step : BodyStep). step_with step behind) c.in-Over.is) ∙ (c.in_ok-next.ensures behind ∙ (sym (ap (λ (ls : List Line). body_with at.begun (map plain_line ls)) steps) ∙ (at.invariant.0 ∙ (nothing_yet c.new.result.items c.new-2.result.items (map plain_line (into_iter_items c.into_iter-line-iterator.result)) c.new.ensures.items c.new-2.ensures.items ∙ ap (λ (ls : List Line). body_in (map plain_line ls)) passed)))))
+    ap statements c.of.ensures
+    ∙ (sym (ap (λ (step : BodyStep). step_with step behind) c.in-Over.is)
+    ∙ (c.in_ok-next.ensures behind
+    ∙ (sym (ap (λ (ls : List Line). body_with at.begun (map plain_line ls)) steps)
+    ∙ (at.invariant.0
+    ∙ (nothing_yet c.new.result.items c.new-2.result.items
+    (map plain_line (into_iter_items c.into_iter-line-iterator.result)) c.new.ensures.items c.new-2.ensures.items
+    ∙ ap (λ (ls : List Line). body_in (map plain_line ls)) passed)))))
 
 pub returns : goal.returns
 returns c =
@@ -30,5 +37,10 @@ returns c =
     let passed : into_iter_items c.into_iter-line-iterator.result ≡ c.args.lines.items =
     c.into_iter-line-iterator.ensures.into_iter_gives.0 in
     let start : body_with at.begun [] ≡ body_in (map plain_line c.args.lines.items) =
-    ap (λ (ls : List Line). body_with at.begun (map plain_line ls)) (sym empty) ∙ (at.invariant.0 ∙ (nothing_yet c.new.result.items c.new-2.result.items (map plain_line (into_iter_items c.into_iter-line-iterator.result)) c.new.ensures.items c.new-2.ensures.items ∙ ap (λ (ls : List Line). body_in (map plain_line ls)) passed)) in
-    IfOk-weaker c.ended.result (λ (body : List Statement). statements body ≡ body_with at.begun []) (λ (body : List Statement). statements body ≡ body_in (map plain_line c.args.lines.items)) (λ body made. made ∙ start) c.ended.ensures
+    ap (λ (ls : List Line). body_with at.begun (map plain_line ls)) (sym empty)
+    ∙ (at.invariant.0
+    ∙ (nothing_yet c.new.result.items c.new-2.result.items
+    (map plain_line (into_iter_items c.into_iter-line-iterator.result)) c.new.ensures.items c.new-2.ensures.items
+    ∙ ap (λ (ls : List Line). body_in (map plain_line ls)) passed)) in
+    IfOk-weaker c.ended.result (λ (body : List Statement). statements body ≡ body_with at.begun [])
+    (λ (body : List Statement). statements body ≡ body_in (map plain_line c.args.lines.items)) (λ body made. made ∙ start) c.ended.ensures

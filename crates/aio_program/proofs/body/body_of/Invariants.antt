@@ -5,5 +5,6 @@ use Rattle.aio_program.specs.Body.{body_with}
 use Rattle.aio_program.proofs.body.body_of.Given as goal
 
 abbrev pub invariant-loop-line : goal.invariant-loop-line
-invariant-loop-line l = (body_with l.begun (map plain_line (into_iter_items l.line-iterator)) ≡ body_with l.initial.begun (map plain_line (into_iter_items l.initial.line-iterator)))
+invariant-loop-line l = (body_with l.begun (map plain_line (into_iter_items l.line-iterator))
+    ≡ body_with l.initial.begun (map plain_line (into_iter_items l.initial.line-iterator)))
     × (into_iter_len l.line-iterator ≡ length (into_iter_items l.line-iterator))

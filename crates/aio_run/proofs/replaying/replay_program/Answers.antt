@@ -33,7 +33,8 @@ returns-else-is_served-clause-ok g c =
     let how = manner_of c.args.journal.now c.args.manner in
     let served = sym c.if-is_served.false ∙ c.is_served.ensures in
     let may = subst (λ (b : Bool). MayRunIf shelf shelf b c.args.program.now how not_run) served (refl, refl) in
-    IfOk-weaker c.say.result _ _ (λ status d. (not_run, may, d.1 ∙ ap (λ (t : List ℕ). took (g.K.Sink.seen c.args.out.now) t) (sym not_run_text), d.0)) c.say.ensures.ok
+    IfOk-weaker c.say.result _ _
+    (λ status d. (not_run, may, d.1 ∙ ap (λ (t : List ℕ). took (g.K.Sink.seen c.args.out.now) t) (sym not_run_text), d.0)) c.say.ensures.ok
 
 pub returns-else-is_served-clause-err : goal.returns-else-is_served-clause-err
 returns-else-is_served-clause-err g c =

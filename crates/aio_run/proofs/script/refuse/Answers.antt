@@ -21,7 +21,8 @@ returns-in_ok-text-in-Refused-clause-err g c =
     let output : ProgramOutput = record { text = line (refusal_text c.in-Refused.line c.in-Refused.cause); status = 3 } in
     let may = subst (λ (n : NoScript). Tells n output) (sym c.in-Refused.is) refl in
     let same = c.as_str.ensures.value ∙ c.in_ok-text-in-Refused.ensures in
-    IfErr-weaker c.say.result _ _ (λ halt d. line_early halt (Tells c.args.none) _ output _ (g.K.Sink.seen c.args.out.now) (g.K.Sink.seen c.say.new.out) may same d) c.say.ensures.err
+    IfErr-weaker c.say.result _ _
+    (λ halt d. line_early halt (Tells c.args.none) _ output _ (g.K.Sink.seen c.args.out.now) (g.K.Sink.seen c.say.new.out) may same d) c.say.ensures.err
 
 pub returns-in-Failed-clause-ok : goal.returns-in-Failed-clause-ok
 returns-in-Failed-clause-ok g c =
@@ -31,7 +32,9 @@ returns-in-Failed-clause-ok g c =
 pub returns-in-Failed-clause-err : goal.returns-in-Failed-clause-err
 returns-in-Failed-clause-err g c =
     let may = subst (λ (n : NoScript). Tells n script_failed) (sym c.in-Failed.is) refl in
-    IfErr-weaker c.say-in-Failed.result _ _ (λ halt d. line_early halt (Tells c.args.none) _ script_failed _ (g.K.Sink.seen c.args.out.now) (g.K.Sink.seen c.say-in-Failed.new.out) may refl d) c.say-in-Failed.ensures.err
+    IfErr-weaker c.say-in-Failed.result _ _
+    (λ halt d. line_early halt (Tells c.args.none) _ script_failed _ (g.K.Sink.seen c.args.out.now)
+    (g.K.Sink.seen c.say-in-Failed.new.out) may refl d) c.say-in-Failed.ensures.err
 
 pub returns-in_err-text-in-Refused-clause-err : goal.returns-in_err-text-in-Refused-clause-err
 returns-in_err-text-in-Refused-clause-err g c =

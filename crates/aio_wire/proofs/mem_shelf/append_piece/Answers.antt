@@ -16,15 +16,18 @@ pub returns-in-Some-clause-ok : goal.returns-in-Some-clause-ok
 returns-in-Some-clause-ok c =
     let wrote = (c.get_mut.follows.holds c.extend_from_slice.new.self).0 in
     on_ok c.extend_from_slice.result _ _ _ _ c.extend_from_slice.ensures.items
-    (λ grew. with_appended-there c.args.name.now c.args.piece.now c.args.files.now.entries _ c.in-Some.bytes.now c.extend_from_slice.new.self (sym c.in-Some.ensures.value) grew wrote)
+    (λ grew. with_appended-there c.args.name.now c.args.piece.now c.args.files.now.entries _ c.in-Some.bytes.now c.extend_from_slice.new.self
+    (sym c.in-Some.ensures.value) grew wrote)
 
 pub returns-in-Some-clause-err : goal.returns-in-Some-clause-err
 returns-in-Some-clause-err c =
     let wrote = (c.get_mut.follows.holds c.extend_from_slice.new.self).0 in
     on_err c.extend_from_slice.result _ _ _ _ c.extend_from_slice.ensures.items
-    (λ same. files_of-unchanged c.args.name.now c.args.piece.now c.args.files.now.entries _ c.in-Some.bytes.now c.extend_from_slice.new.self (sym c.in-Some.ensures.value) same wrote)
+    (λ same. files_of-unchanged c.args.name.now c.args.piece.now c.args.files.now.entries _ c.in-Some.bytes.now c.extend_from_slice.new.self
+    (sym c.in-Some.ensures.value) same wrote)
 
 pub returns-in_ok-insert-in-None-clause-ok : goal.returns-in_ok-insert-in-None-clause-ok
 returns-in_ok-insert-in-None-clause-ok c =
-    with_appended-made c.args.name.now c.args.piece.now c.args.files.now.entries _ c.in_ok-key-in-None.key c.in_ok-bytes-in-None.bytes (sym c.in-None.ensures.value) c.in_ok-key-in-None.ensures.ok c.in_ok-bytes-in-None.ensures.items
+    with_appended-made c.args.name.now c.args.piece.now c.args.files.now.entries _ c.in_ok-key-in-None.key c.in_ok-bytes-in-None.bytes
+    (sym c.in-None.ensures.value) c.in_ok-key-in-None.ensures.ok c.in_ok-bytes-in-None.ensures.items
     (let put = c.in_ok-insert-in-None.ensures.entries in rw c.get_mut.follows.holds-at-none at put)

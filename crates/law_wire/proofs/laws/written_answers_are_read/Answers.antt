@@ -1,4 +1,5 @@
-use Rattle.std.proofs.Common.{◌≡◌, ℕ, ◌≤◌, true, false, ◌&&◌, List, [], ◌∷◌, ◌++◌, length, map, sum, nat_lt, nat_le, Some, refl, sym, ap, subst, ◌∙◌, append-nil, arith}
+use Rattle.std.proofs.Common.{◌≡◌, ℕ, ◌≤◌, true, false, ◌&&◌, List, [], ◌∷◌, ◌++◌, length, map, sum, nat_lt, nat_le, Some, refl, sym, ap, subst, ◌∙◌}
+use Rattle.std.proofs.Common.{append-nil, arith}
 use Rattle.std.specs.Prelude.{codes, option_map}
 use Rattle.std.specs.List.{list_any, list_all, flat_map, AllByRecursion}
 use Rattle.std.specs.Fmt.{decimal}
@@ -19,7 +20,8 @@ use Rattle.model_wire.specs.declared.entry.EntryToken.TheVariants as token
 use Rattle.model_wire.specs.Call.{Call, Answer, Item, spaced_item, written}
 use Rattle.model_wire.specs.Fits.{fits, turn_fits, are_few, are_awaited, bytes_in, most_bytes, most_items}
 use Rattle.model_wire.specs.Journal.{Answered}
-use Rattle.model_wire.specs.JournalText.{EntryToken, tokens_of, entry_word_text, answer_of, exit_fits, item_exit_fits, exits_fit, is_too_wide, most_line, entry_of}
+use Rattle.model_wire.specs.JournalText.{EntryToken, tokens_of, entry_word_text, answer_of, exit_fits, item_exit_fits, exits_fit, is_too_wide, most_line}
+use Rattle.model_wire.specs.JournalText.{entry_of}
 use Rattle.law_wire.specs.InRange.{InRange, ItemInRange, NewsInRange, AreBytes}
 use Rattle.law_wire.proofs.Items.{items_tokens, items-follow, read-items, narrow-items}
 use Rattle.law_wire.proofs.Lengths.{decimal-short, literal-short, items-short}

@@ -1,4 +1,6 @@
-use Rattle.row_loop.proofs.GroupStates.{all_woken_stands, asked_body_stands, both_failed_stands, cancelled_body_stands, child_failed_stands, in_block_stands, last_was_told_stands, parent_with_child_stands, parent_woken_stands, three_children_stands, told_nothing_stands, told_one_stands, unentered_stands}
+use Rattle.row_loop.proofs.GroupStates.{all_woken_stands, asked_body_stands, both_failed_stands, cancelled_body_stands, child_failed_stands, in_block_stands}
+use Rattle.row_loop.proofs.GroupStates.{last_was_told_stands, parent_with_child_stands, parent_woken_stands, three_children_stands, told_nothing_stands}
+use Rattle.row_loop.proofs.GroupStates.{told_one_stands, unentered_stands}
 use Rattle.row_loop.proofs.sound.groups_begin_in_sound_states.Goals as goal
 
 pub returns-clause-unentered : goal.returns-clause-unentered

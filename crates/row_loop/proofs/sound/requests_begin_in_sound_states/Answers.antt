@@ -1,4 +1,6 @@
-use Rattle.row_loop.proofs.CancelStates.{all_done_stands, awaited_runs_stands, chain_cancelled_stands, chain_stands, free_task_stands, full_count_stands, member_refused_stands, member_runs_stands, one_of_two_cancelled_stands, one_of_two_stands, refused_stands, twice_to_one_stands, two_on_one_stands, two_ways_stands}
+use Rattle.row_loop.proofs.CancelStates.{all_done_stands, awaited_runs_stands, chain_cancelled_stands, chain_stands, free_task_stands, full_count_stands}
+use Rattle.row_loop.proofs.CancelStates.{member_refused_stands, member_runs_stands, one_of_two_cancelled_stands, one_of_two_stands, refused_stands}
+use Rattle.row_loop.proofs.CancelStates.{twice_to_one_stands, two_on_one_stands, two_ways_stands}
 use Rattle.row_loop.proofs.sound.requests_begin_in_sound_states.Goals as goal
 
 pub returns-clause-chain : goal.returns-clause-chain

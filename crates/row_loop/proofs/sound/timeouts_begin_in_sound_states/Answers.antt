@@ -1,4 +1,5 @@
-use Rattle.row_loop.proofs.TimeoutStates.{alone_due_stands, alone_left_stands, alone_waiting_stands, before_stands, both_due_stands, expiring_alone_stands, expiring_and_asked_stands, expiring_and_lowered_stands, inner_leaves_stands, outer_fired_stands, outer_leaves_stands}
+use Rattle.row_loop.proofs.TimeoutStates.{alone_due_stands, alone_left_stands, alone_waiting_stands, before_stands, both_due_stands, expiring_alone_stands}
+use Rattle.row_loop.proofs.TimeoutStates.{expiring_and_asked_stands, expiring_and_lowered_stands, inner_leaves_stands, outer_fired_stands, outer_leaves_stands}
 use Rattle.row_loop.proofs.sound.timeouts_begin_in_sound_states.Goals as goal
 
 pub returns-clause-before : goal.returns-clause-before

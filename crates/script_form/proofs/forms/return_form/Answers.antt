@@ -5,4 +5,5 @@ use Rattle.script_form.proofs.forms.return_form.Goals as goal
 
 pub returns : goal.returns
 returns c =
-    return-read c.args.rest.now c.in-Some.value (option_map plain_spelled c.returning.result) (sym c.is_empty.ensures ∙ c.if-is_empty.false) (sym c.in-Some.is ∙ c.in_ok-value.ensures) c.returning.ensures
+    return-read c.args.rest.now c.in-Some.value (option_map plain_spelled c.returning.result) (sym c.is_empty.ensures ∙ c.if-is_empty.false)
+    (sym c.in-Some.is ∙ c.in_ok-value.ensures) c.returning.ensures

@@ -6,7 +6,8 @@ use Rattle.script_form.proofs.forms.with_form.Goals as goal
 
 pub returns-in-Some : goal.returns-in-Some
 returns-in-Some c =
-    subst (λ form. Reads c.group_form.result form) (sym (with-group (map plain_lexeme c.args.rest.now) (map plain_lexeme c.in-Some.rest.now) c.in-Some.ensures)) c.group_form.ensures
+    subst (λ form. Reads c.group_form.result form)
+    (sym (with-group (map plain_lexeme c.args.rest.now) (map plain_lexeme c.in-Some.rest.now) c.in-Some.ensures)) c.group_form.ensures
 
 pub returns-in-None : goal.returns-in-None
 returns-in-None c =

@@ -7,4 +7,6 @@ use Rattle.script_form.proofs.forms.yield_from.Goals as goal
 
 pub returns : goal.returns
 returns c =
-    yield_from-read (option_map rc_str_bytes c.args.into) (map plain_lexeme c.args.rest.now) (map plain_lexeme c.in-Some.rest.now) (option_map plain_goal c.in-Some-2.goal) (option_map plain_spelled c.awaiting.result) c.in-Some.ensures (ap (option_map (option_map plain_goal)) (sym c.in-Some-2.is) ∙ c.in_ok-goal.ensures) c.awaiting.ensures
+    yield_from-read (option_map rc_str_bytes c.args.into) (map plain_lexeme c.args.rest.now) (map plain_lexeme c.in-Some.rest.now)
+    (option_map plain_goal c.in-Some-2.goal) (option_map plain_spelled c.awaiting.result) c.in-Some.ensures
+    (ap (option_map (option_map plain_goal)) (sym c.in-Some-2.is) ∙ c.in_ok-goal.ensures) c.awaiting.ensures

@@ -23,9 +23,11 @@ loop-at-preserved c =
             deep = deep;
             cut =
                 l.invariant.cut
-                ∙ ap (λ xs. map plain_part l.parts.items ++ xs) (part_ends all part l.at l.depth lexeme c.loop-at-test.true c.index-lexemes-at.is (sym c.is_cut.ensures ∙ w.if-is_cut.true))
+                ∙ ap (λ xs. map plain_part l.parts.items ++ xs)
+                (part_ends all part l.at l.depth lexeme c.loop-at-test.true c.index-lexemes-at.is (sym c.is_cut.ensures ∙ w.if-is_cut.true))
                 ∙ part_ended (map plain_part l.parts.items) part all (l.at + 1) depth rest
-                ∙ ap (λ done. done ++ fronted (map plain_lexeme (take (l.at + 1 - (l.at + 1)) (drop (l.at + 1) all))) (slots depth rest)) (sym (ap (map plain_part) w.in_ok-push.ensures.items ∙ map-append plain_part l.parts.items _));
+                ∙ ap (λ done. done ++ fronted (map plain_lexeme (take (l.at + 1 - (l.at + 1)) (drop (l.at + 1) all))) (slots depth rest))
+                (sym (ap (map plain_part) w.in_ok-push.ensures.items ∙ map-append plain_part l.parts.items _));
           })
       | else-is_cut w ↦
           rw (w.parts-is, w.start-is, c.depth_behind-depth.ensures) (record {
@@ -33,6 +35,8 @@ loop-at-preserved c =
             deep = deep;
             cut =
                 l.invariant.cut
-                ∙ ap (λ xs. map plain_part l.parts.items ++ xs) (part_goes_on all l.start l.at l.depth lexeme l.invariant.within c.loop-at-test.true c.index-lexemes-at.is (sym c.is_cut.ensures ∙ w.if-is_cut.false));
+                ∙ ap (λ xs. map plain_part l.parts.items ++ xs)
+                (part_goes_on all l.start l.at l.depth lexeme l.invariant.within c.loop-at-test.true c.index-lexemes-at.is
+                (sym c.is_cut.ensures ∙ w.if-is_cut.false));
           })
     ]

@@ -10,5 +10,6 @@ invariant-loop-at l = record {
   within : l.start ≤ l.at;
   deep : l.depth ≤ l.at;
   cut :
-      slots 0 (map plain_lexeme l.lexemes) ≡ map plain_part l.parts.items ++ fronted (map plain_lexeme (take (l.at - l.start) (drop l.start l.lexemes))) (slots l.depth (map plain_lexeme (drop l.at l.lexemes)));
+      slots 0 (map plain_lexeme l.lexemes) ≡ map plain_part l.parts.items
+      ++ fronted (map plain_lexeme (take (l.at - l.start) (drop l.start l.lexemes))) (slots l.depth (map plain_lexeme (drop l.at l.lexemes)));
 }

@@ -15,7 +15,8 @@ returns-in-Err-clause-fault c =
     let forms = map plain_numbered l.forms.items in
     let all = first_pass (text_lines c.args.text.now) in
     rw c.at.ensures
-    (pass_stops forms all l.line (roles_of forms) c.in-Some.first.now (text_lines l.rest.now) (text_lines c.in-Some.behind.now) c.in-Err.fault l.invariant.forms c.in-Some.ensures.line (c.in-Err.ensures.fault (roles_of forms) l.invariant.behind))
+    (pass_stops forms all l.line (roles_of forms) c.in-Some.first.now (text_lines l.rest.now)
+    (text_lines c.in-Some.behind.now) c.in-Err.fault l.invariant.forms c.in-Some.ensures.line (c.in-Err.ensures.fault (roles_of forms) l.invariant.behind))
 
 pub returns-then-is_outside-clause-forms : goal.returns-then-is_outside-clause-forms
 returns-then-is_outside-clause-forms c =
@@ -42,15 +43,18 @@ loop-first-preserved c =
     let next : with_next l.line form forms ≡ map plain_numbered c.match-form.forms.items =
     elim c.match-form.branch [
       | in-Some-form+in_ok-push w ↦
-          rw (w.in-Some-form.is, w.forms-is, w.in_ok-push.ensures.items) (sym (map-append plain_numbered l.forms.items (record { line = l.line; form = w.in-Some-form.form } ∷ [])))
+          rw (w.in-Some-form.is, w.forms-is, w.in_ok-push.ensures.items)
+          (sym (map-append plain_numbered l.forms.items (record { line = l.line; form = w.in-Some-form.form } ∷ [])))
       | in_default-form w ↦ rw (w.in_default-form.is, w.forms-is) refl
     ] in
     let few : l.line + 1 + length c.in-Some.behind.now ≤ length c.args.text.now + 1 =
     omega (arith, l.invariant.few, c.in-Some.ensures.shorter) in
     record {
       few = few;
-      behind = subst (λ all. IsBehind c.line_form.new.places (roles_of all)) next (subst (IsBehind c.line_form.new.places) (roles_of-next l.line form forms) (c.in-Ok.ensures.places (roles_of forms) l.invariant.behind));
+      behind = subst (λ all. IsBehind c.line_form.new.places (roles_of all)) next
+          (subst (IsBehind c.line_form.new.places) (roles_of-next l.line form forms) (c.in-Ok.ensures.places (roles_of forms) l.invariant.behind));
       forms =
-          pass_goes_on forms all l.line c.in-Some.first.now (text_lines l.rest.now) (text_lines c.in-Some.behind.now) form l.invariant.forms c.in-Some.ensures.line (c.in-Ok.ensures.form (roles_of forms) l.invariant.behind)
+          pass_goes_on forms all l.line c.in-Some.first.now (text_lines l.rest.now)
+          (text_lines c.in-Some.behind.now) form l.invariant.forms c.in-Some.ensures.line (c.in-Ok.ensures.form (roles_of forms) l.invariant.behind)
           ∙ ap (λ done. before_all done (forms_from (l.line + 1) (roles_of done) (text_lines c.in-Some.behind.now))) next;
     }

@@ -13,7 +13,8 @@ invariant-loop-first l = record {
   few : l.line + length l.rest ≤ length l.text + 1;
   behind : IsBehind l.places (roles_of (map plain_numbered l.forms.items));
   forms :
-      first_pass (text_lines l.text) ≡ before_all (map plain_numbered l.forms.items) (forms_from l.line (roles_of (map plain_numbered l.forms.items)) (text_lines l.rest));
+      first_pass (text_lines l.text)
+      ≡ before_all (map plain_numbered l.forms.items) (forms_from l.line (roles_of (map plain_numbered l.forms.items)) (text_lines l.rest));
 }
 
 abbrev pub decreases-loop-first : goal.decreases-loop-first

@@ -13,6 +13,7 @@ pub loop-part-preserved : goal.loop-part-preserved
 loop-part-preserved c =
     let name = rc_str_bytes c.in-Some.name.now in
     let names = c.loop-part.names.items in
-    read_more bare_name c.args.parts.now c.loop-part.part-index c.part-item.result (map rc_str_bytes names) name c.loop-part-test.true c.part-item.is c.loop-part.invariant (sym c.in-Some.ensures)
+    read_more bare_name c.args.parts.now c.loop-part.part-index c.part-item.result
+    (map rc_str_bytes names) name c.loop-part-test.true c.part-item.is c.loop-part.invariant (sym c.in-Some.ensures)
     ∙ ap (λ last. Some (map rc_str_bytes names ++ last ∷ [])) (sym c.in_ok-clone.ensures.cases)
     ∙ ap Some (sym (ap (map rc_str_bytes) c.in_ok-push.ensures.items ∙ map-append rc_str_bytes names _))

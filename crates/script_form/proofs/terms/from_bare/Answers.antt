@@ -11,4 +11,5 @@ nothing (x ∷ xs) e = absurd (omega arith)
 pub returns-in_default : goal.returns-in_default
 returns-in_default c = λ terms e.
     ap Some (c.joined.ensures terms [] e (ap Some c.new.ensures.items))
-    ∙ ap (λ parts. option_map (fitting height_of_arguments) (from_bare term_of terms (map plain_part parts))) (nothing c.args.parts.now c.in_default.ensures.cases)
+    ∙ ap (λ parts. option_map (fitting height_of_arguments) (from_bare term_of terms (map plain_part parts)))
+    (nothing c.args.parts.now c.in_default.ensures.cases)

@@ -15,5 +15,6 @@ loop-at-preserved c =
       finds =
           subst (FindsFirst c.insert.new.self)
           (callees-before parts at part c.as_str.result.now c.loop-at-test.true c.loop-at.invariant.in_range c.index-parts-at.is c.as_str.ensures.value)
-          (FindsFirst-insert c.loop-at.arities c.insert.new.self c.as_str.result (length part.parameters.now) (map callee (plain_parts (drop at parts))) c.in_ok-insert.ensures.updates c.loop-at.invariant.finds);
+          (FindsFirst-insert c.loop-at.arities c.insert.new.self c.as_str.result (length part.parameters.now)
+          (map callee (plain_parts (drop at parts))) c.in_ok-insert.ensures.updates c.loop-at.invariant.finds);
     }

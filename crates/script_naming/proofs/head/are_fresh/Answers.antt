@@ -30,5 +30,6 @@ loop-at-preserved c =
     record {
       in_range = omega (arith, c.loop-at.invariant.in_range);
       holds = subst (λ l. Holds c.adds.new.later (map rc_str_bytes l)) (sym more) (c.in_ok-adds.ensures.holds behind c.loop-at.invariant.holds);
-      fresh = are_fresh-before names at name c.loop-at-test.true c.loop-at.invariant.in_range c.index-names-at.is ∙ ap₂ (λ a b. a && b) (sym free ∙ known) c.loop-at.invariant.fresh;
+      fresh = are_fresh-before names at name c.loop-at-test.true c.loop-at.invariant.in_range c.index-names-at.is
+          ∙ ap₂ (λ a b. a && b) (sym free ∙ known) c.loop-at.invariant.fresh;
     }

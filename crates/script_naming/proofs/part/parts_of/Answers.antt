@@ -18,7 +18,8 @@ loop-at-preserved-in_default c =
     record {
       in_range = omega (arith, i.in_range);
       inside = i.inside;
-      front = ap (λ parts. parts.front) before ∙ ap (λ lines. plain_numbered head ∷ lines) i.front ∙ sym (ap (λ l. map plain_numbered l) (range-before forms at end head some i.in_range i.inside c.index-forms-at.is));
+      front = ap (λ parts. parts.front) before ∙ ap (λ lines. plain_numbered head ∷ lines) i.front
+          ∙ sym (ap (λ l. map plain_numbered l) (range-before forms at end head some i.in_range i.inside c.index-forms-at.is));
       coroutines = ap (λ parts. parts.coroutines) before ∙ i.coroutines;
     }
 

@@ -7,4 +7,5 @@ use Rattle.script_naming.proofs.pass.lines_judged.Given as goal
 
 abbrev pub invariant-loop-line : goal.invariant-loop-line
 invariant-loop-line l =
-    lines_judged l.scope (map plain_numbered l.lines) ≡ after (map plain_line l.meant.items) (lines_judged l.scope (map plain_numbered (drop l.line-index l.lines)))
+    lines_judged l.scope (map plain_numbered l.lines)
+    ≡ after (map plain_line l.meant.items) (lines_judged l.scope (map plain_numbered (drop l.line-index l.lines)))

@@ -15,7 +15,8 @@ returns-in_err-part_judged c =
     let fault = c.in_err-part_judged.field-0.0 in
     let whole = parts_judged callees [] (plain_parts parts) in
     judges-err (λ named. map plain_named_part named.items) whole c.from_residual.result fault c.from_residual.ensures.1
-    (parts-fail callees names parts c.loop-part.part-index c.part-item.result whole (map plain_named_part c.loop-part.named.items) fault c.loop-part-test.true c.part-item.is c.loop-part.invariant.2
+    (parts-fail callees names parts c.loop-part.part-index c.part-item.result whole
+    (map plain_named_part c.loop-part.named.items) fault c.loop-part-test.true c.part-item.is c.loop-part.invariant.2
     (c.in_err-part_judged.ensures names c.loop-part.invariant.1))
 
 pub loop-part-preserved : goal.loop-part-preserved

@@ -9,4 +9,5 @@ use Rattle.script_naming.proofs.pass.parts_judged.Given as goal
 
 abbrev pub invariant-loop-part : goal.invariant-loop-part
 invariant-loop-part l =
-    (names : List Name) × Holds l.earlier names × (parts_judged l.callees [] (plain_parts l.parts) ≡ after (map plain_part l.named.items) (parts_judged l.callees names (plain_parts (drop l.part-index l.parts))))
+    (names : List Name) × Holds l.earlier names × (parts_judged l.callees [] (plain_parts l.parts)
+    ≡ after (map plain_part l.named.items) (parts_judged l.callees names (plain_parts (drop l.part-index l.parts))))

@@ -15,7 +15,8 @@ returns-in_err-named c =
     let lent = ap plain_parts c.as_slice.ensures.value ∙ c.in_ok-parts.ensures in
     let lent_again = ap plain_parts c.as_slice-2.ensures.value ∙ c.in_ok-parts.ensures in
     let callees = c.in_ok-callees.ensures ∙ ap (λ ps. map callee ps) lent in
-    judges-err (λ named. map plain_named_part named.items) (second_pass c.args.last parts) c.from_residual-in_err-named.result fault c.from_residual-in_err-named.ensures.1
+    judges-err (λ named. map plain_named_part named.items)
+    (second_pass c.args.last parts) c.from_residual-in_err-named.result fault c.from_residual-in_err-named.ensures.1
     (pass-fails c.args.last parts fault
     (subst (λ judged. FailsAt judged fault) (ap₂ (λ cs ps. parts_judged cs [] ps) callees lent_again) c.in_err-named.ensures))
 

@@ -10,7 +10,9 @@ pub returns-in_err-name : goal.returns-in_err-name
 returns-in_err-name c =
     let scope = c.args.scope.now in
     let name = rc_str_bytes c.args.name.now in
-    gives-err plain_target (passed scope (callee_of scope name) (Call name) (all_meant scope c.args.arguments.now)) c.from_residual.result c.in_err-name.field-0.0 c.from_residual.ensures.1
+    gives-err plain_target
+    (passed scope (callee_of scope name) (Call name)
+    (all_meant scope c.args.arguments.now)) c.from_residual.result c.in_err-name.field-0.0 c.from_residual.ensures.1
     (c.in_err-name.ensures.fault (Call name))
 
 pub returns : goal.returns

@@ -20,5 +20,6 @@ returns-else-eq-3 c =
     let listen : bytes_eq name listen_text ≡ false = ap (λ n. bytes_eq n listen_text) (sym spelled) ∙ sym c.eq-else-eq-2.ensures ∙ c.if-eq-3.false in
     subst (λ meant. Gives plain_target meant c.call_target.result)
     (ap (λ l. passed scope (callee_of scope name) (Call name) (all_meant scope l)) c.as_slice-before.ensures.value
-    ∙ sym (called-other scope name (all_meant scope before) (option_map rc_str_bytes c.args.arguments.now.bare) (all_meant scope c.args.arguments.now.after.items) spawn create listen))
+    ∙ sym (called-other scope name (all_meant scope before) (option_map rc_str_bytes c.args.arguments.now.bare)
+    (all_meant scope c.args.arguments.now.after.items) spawn create listen))
     c.call_target.ensures

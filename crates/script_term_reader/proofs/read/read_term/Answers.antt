@@ -24,5 +24,7 @@ returns c =
     IfOk-weaker c.finished.result
     (λ read. option_map plain_operand read ≡ finished c.loop-lexeme.progress (reverse c.loop-lexeme.opened.items))
     (λ read. option_map plain_operand read ≡ option_map capped (term_of (map plain_lexeme c.args.lexemes.now)))
-    (λ read made. made ∙ ended-read c.args.lexemes.now c.loop-lexeme.lexeme-index c.loop-lexeme.progress (reverse c.loop-lexeme.opened.items) (omega (arith, c.loop-lexeme-test.false)) c.loop-lexeme.invariant)
+    (λ read made. made
+    ∙ ended-read c.args.lexemes.now c.loop-lexeme.lexeme-index c.loop-lexeme.progress (reverse c.loop-lexeme.opened.items)
+    (omega (arith, c.loop-lexeme-test.false)) c.loop-lexeme.invariant)
     c.finished.ensures

@@ -12,7 +12,9 @@ loop-block-preserved c =
     let at = c.loop-block in
     let block : UnendedBlock = c.in-Some.block in
     let left = c.pop.new.self.items in
-    ap (λ (s : List Statement). (around_all left (rest s [])).body) c.in_ok-so_far.ensures ∙ (ap (λ (r : SectionRest). (around_all left r).body) (sym (around-nothing block.outer.items (over block) (latest block) at.so_far.items)) ∙ (popped at.blocks.items left block (rest at.so_far.items []) c.in-Some.ensures.items ∙ at.invariant))
+    ap (λ (s : List Statement). (around_all left (rest s [])).body) c.in_ok-so_far.ensures
+    ∙ (ap (λ (r : SectionRest). (around_all left r).body) (sym (around-nothing block.outer.items (over block) (latest block) at.so_far.items))
+    ∙ (popped at.blocks.items left block (rest at.so_far.items []) c.in-Some.ensures.items ∙ at.invariant))
 
 pub returns : goal.returns
 returns c =

@@ -20,4 +20,6 @@ returns c = λ lines.
     let so_far = c.args.self.so_far.items in
     let block : UnendedBlock = c.in-Some.block in
     let left = c.pop.new.self.items in
-    ap (λ (s : List Statement). (around_all left (rest s lines)).body) c.in_ok-so_far.ensures ∙ (ap (λ (r : SectionRest). (around_all left r).body) (sym (around-closes End refl block.outer.items (over block) (latest block) so_far lines)) ∙ popped c.args.self.blocks.items left block (rest so_far (End ∷ lines)) c.in-Some.ensures.items)
+    ap (λ (s : List Statement). (around_all left (rest s lines)).body) c.in_ok-so_far.ensures
+    ∙ (ap (λ (r : SectionRest). (around_all left r).body) (sym (around-closes End refl block.outer.items (over block) (latest block) so_far lines))
+    ∙ popped c.args.self.blocks.items left block (rest so_far (End ∷ lines)) c.in-Some.ensures.items)

@@ -27,4 +27,6 @@ returns c = λ lines.
     let next : UnendedBlock = c.in_ok-with_section.field-0 in
     let left = c.pop.new.self.items in
     let sections : List SectionBody = over block ++ record { head = latest block; body = statements so_far } ∷ [] in
-    pushed left c.push.new.self.items next block.outer.items c.new-so_far.result.items sections begin lines (around block (rest so_far (begin ∷ lines))) c.in_ok-push.ensures.items (ap (λ outer. outer.items) c.in_ok-with_section.ensures.outer) c.in_ok-with_section.ensures.over c.in_ok-with_section.ensures.latest c.new-so_far.ensures.items (sym (around-begins begin role.0 role.1 block.outer.items (over block) (latest block) so_far lines)) ∙ popped c.args.self.blocks.items left block (rest so_far (begin ∷ lines)) c.in-Some.ensures.items
+    pushed left c.push.new.self.items next block.outer.items c.new-so_far.result.items sections begin lines
+    (around block (rest so_far (begin ∷ lines))) c.in_ok-push.ensures.items
+    (ap (λ outer. outer.items) c.in_ok-with_section.ensures.outer) c.in_ok-with_section.ensures.over c.in_ok-with_section.ensures.latest c.new-so_far.ensures.items (sym (around-begins begin role.0 role.1 block.outer.items (over block) (latest block) so_far lines)) ∙ popped c.args.self.blocks.items left block (rest so_far (begin ∷ lines)) c.in-Some.ensures.items

@@ -18,4 +18,7 @@ invariant_of-self c =
 
 pub returns-clause-spent : goal.returns-clause-spent
 returns-clause-spent c =
-    rw (← c.self.view_is) (c.cancel.ensures.answer ∙ with_answer_spent c.args.target [] (parts (view_of c.self.inside.time c.self.inside.profile c.self.inside.body c.self.inside.timers c.self.inside.running c.self.inside.called)))
+    rw (← c.self.view_is)
+    (c.cancel.ensures.answer
+    ∙ with_answer_spent c.args.target []
+    (parts (view_of c.self.inside.time c.self.inside.profile c.self.inside.body c.self.inside.timers c.self.inside.running c.self.inside.called)))

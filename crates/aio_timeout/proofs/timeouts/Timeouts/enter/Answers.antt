@@ -26,5 +26,6 @@ returns-clause-after c = λ t l keeps.
     (entered t l items v w c.args.task c.cancelling-stored.result c.args.delay handler
     (subst (λ (its : List Timeout). KeepsTimeouts t its v l) (sym c.self.view_is) keeps) c.cancelling-stored.ensures
     (λ u p k.
-    subst (λ (id : ℕ). Made u p handler w (fires_if id (option_map (deadline v.time) c.args.delay) p) (tag_if (option_map (deadline v.time) c.args.delay) p)) number
+    subst (λ (id : ℕ). Made u p handler w (fires_if id (option_map (deadline v.time) c.args.delay) p)
+    (tag_if (option_map (deadline v.time) c.args.delay) p)) number
     (subst (λ (o : Option ℕ). Made u p handler w (fires_if c.in-Ok.id o p) (tag_if o p)) when (c.in_ok-handler.ensures.after u p k))))

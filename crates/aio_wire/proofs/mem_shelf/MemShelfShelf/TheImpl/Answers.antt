@@ -35,7 +35,8 @@ read-tells c =
     record {
       size = from_given c.result given (FitsRead c.args.max) c.ensures.next (FitsRead-got_at file c.args.from c.args.max);
       bytes = from_given c.result given (λ got. (told : Option (List ℕ)) → Some file ≡ Some told → ReadsAt told c.args.from got) c.ensures.next
-          (λ told is. let same : file ≡ told = cc in subst (λ (f : Option (List ℕ)). ReadsAt f c.args.from given) same (ReadsAt-got_at file c.args.from c.args.max c.requires));
+          (λ told is. let same : file ≡ told = cc in subst (λ (f : Option (List ℕ)). ReadsAt f c.args.from given) same
+          (ReadsAt-got_at file c.args.from c.args.max c.requires));
       counted = from_given c.result given (ReadLeavesShelf c.args.name.now (seen_of before) (seen_of c.new.self.now)) c.ensures.next
           (ReadLeavesShelf-got_at before c.new.self.now c.args.name.now file c.args.from c.args.max c.ensures.after c.ensures.later);
       files = λ i name. Some (held (c.ensures.after i) name);

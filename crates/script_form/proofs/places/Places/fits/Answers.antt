@@ -10,7 +10,8 @@ returns-in-Begins-Some c = λ roles behind.
     let last = c.in-Begins-Some.innermost.now in
     let split : items ≡ take (length items - 1) items ++ last ∷ [] =
     rw c.deref.ensures.value at (last_read c.deref.result.now last c.in-Begins-Some.ensures.value) in
-    section_fits (take (length items - 1) items) last c.begins.result (plain_section c.in-Begins-Some.section) roles (sym (ap (λ all. reverse (map plain_open all)) split) ∙ behind.blocks) c.begins.ensures
+    section_fits (take (length items - 1) items) last c.begins.result (plain_section c.in-Begins-Some.section) roles
+    (sym (ap (λ all. reverse (map plain_open all)) split) ∙ behind.blocks) c.begins.ensures
     ∙ ap (λ role. fits (open_blocks roles) (plain_role role)) (sym c.in-Begins-Some.is-0)
 
 pub returns-in-Closes-Some : goal.returns-in-Closes-Some

@@ -5,4 +5,5 @@ use Rattle.script_form.proofs.places.Places.may_stand.Goals as goal
 
 pub returns-then-not-is_outside : goal.returns-then-not-is_outside
 returns-then-not-is_outside c = λ roles form behind same.
-    outside_finally c.args.self.now.blocks.items c.is_in_finally.result form (nat_eq (length roles) 0) (open_blocks roles) (sym c.in-OutsideFinally.is ∙ same) (sym c.if-not-is_outside.true ∙ c.is_outside-in-OutsideFinally.ensures roles behind) c.is_in_finally.ensures behind.blocks
+    outside_finally c.args.self.now.blocks.items c.is_in_finally.result form (nat_eq (length roles) 0) (open_blocks roles) (sym c.in-OutsideFinally.is ∙ same)
+    (sym c.if-not-is_outside.true ∙ c.is_outside-in-OutsideFinally.ensures roles behind) c.is_in_finally.ensures behind.blocks
