@@ -38,7 +38,8 @@ impl Model for Awaitables {
 
 impl Awaitables {
     pub fn new(alloc: Global) -> Result<Awaitables, Memory>
-        ensures { IfOk result (λ body. body ≡ record { queue = no_handles; futures = []; tasks = [] }) }
+        ensures { IfOk result
+            (λ body. body ≡ record { queue = no_handles; futures = []; tasks = [] }) }
     {
         let futures = Futures::new(alloc)?;
         Ok(Awaitables {
@@ -75,7 +76,8 @@ impl Awaitables {
 
     /// What a task waits for.
     pub fn waits(&self, task: u32) -> Option<Option<FutureId>>
-        ensures { result ≡ option_map (λ (task : plain.Task). task.waiter) (slice_get self.now.tasks task) }
+        ensures { result
+            ≡ option_map (λ (task : plain.Task). task.waiter) (slice_get self.now.tasks task) }
     {
         match self.tasks.get(task as usize) {
             Some(task) => Some(task.waiter()),
@@ -93,7 +95,8 @@ impl Awaitables {
 
     /// A future that stands for several keeps that its cancel was asked for, where a member answered true.
     pub fn ask_where(&mut self, any: bool, id: FutureId)
-        ensures after { parts self.new ≡ (if any then mark_asked id (parts self.old) else parts self.old) }
+        ensures after { parts self.new
+            ≡ (if any then mark_asked id (parts self.old) else parts self.old) }
         ensures queue { self.new.queue ≡ self.old.queue }
     {
         if any {

@@ -24,12 +24,15 @@ use law_parts::{FutureState, Go, WalkFrame};
 fn expand(id: FutureId, body: &Awaitables, seen: &mut Marks, notes: &mut Notes) -> Go
     requires { length body.now.tasks ≤ seen.old.tasks }
     ensures seeks { (from to : ℕ) (frames : List PlainFrame)
-        → CanSeek (parts body.now) from to seen.old.visited (noted notes.old) (go.Visit id) frames → (id ≡ to → ⊥)
+        → CanSeek (parts body.now) from to seen.old.visited (noted notes.old) (go.Visit id) frames
+        → (id ≡ to → ⊥)
         → CanSeek (parts body.now) from to seen.new.visited (noted notes.new) result frames }
     ensures walks { (room marks : ℕ) (frames : List PlainFrame)
-        → CanWalk room marks (go.Visit id) frames [] (parts body.now) → CanWalk room marks result frames [] (parts body.now) }
+        → CanWalk room marks (go.Visit id) frames [] (parts body.now)
+        → CanWalk room marks result frames [] (parts body.now) }
     ensures falls { (frames : List PlainFrame)
-        → weight result frames seen.new.visited (parts body.now) < weight (go.Visit id) frames seen.old.visited (parts body.now) }
+        → weight result frames seen.new.visited (parts body.now) < weight
+        (go.Visit id) frames seen.old.visited (parts body.now) }
     ensures marks { seen.new.tasks ≡ seen.old.tasks }
 {
     match body.stands(id) {
@@ -44,12 +47,15 @@ fn expand_task(id: FutureId, task: u32, body: &Awaitables, seen: &mut Marks) -> 
     requires marked { length body.now.tasks ≤ seen.old.tasks }
     requires task { stands.OfTask task ≡ stands_at (slice_get body.now.futures id) }
     ensures seeks { (from to : ℕ) (frames : List PlainFrame) (said : ℕ → Option Bool)
-        → CanSeek (parts body.now) from to seen.old.visited said (go.Visit id) frames → (id ≡ to → ⊥)
+        → CanSeek (parts body.now) from to seen.old.visited said (go.Visit id) frames
+        → (id ≡ to → ⊥)
         → CanSeek (parts body.now) from to seen.new.visited said result frames }
     ensures walks { (room marks : ℕ) (frames : List PlainFrame)
-        → CanWalk room marks (go.Visit id) frames [] (parts body.now) → CanWalk room marks result frames [] (parts body.now) }
+        → CanWalk room marks (go.Visit id) frames [] (parts body.now)
+        → CanWalk room marks result frames [] (parts body.now) }
     ensures falls { (frames : List PlainFrame)
-        → weight result frames seen.new.visited (parts body.now) < weight (go.Visit id) frames seen.old.visited (parts body.now) }
+        → weight result frames seen.new.visited (parts body.now) < weight
+        (go.Visit id) frames seen.old.visited (parts body.now) }
     ensures marks { seen.new.tasks ≡ seen.old.tasks }
 {
     if seen.has(task) {
@@ -72,7 +78,8 @@ fn expand_many(id: FutureId, notes: &mut Notes) -> Go
         → stands.Many ≡ stands_at (slice_get p.futures id)
         → CanSeek p from to seen (noted notes.old) (go.Visit id) frames → (id ≡ to → ⊥)
         → CanSeek p from to seen (noted notes.new) result frames }
-    ensures walks { (p : Parts) (room marks : ℕ) (frames : List PlainFrame) → stands.Many ≡ stands_at (slice_get p.futures id)
+    ensures walks { (p : Parts) (room marks : ℕ) (frames : List PlainFrame) → stands.Many
+        ≡ stands_at (slice_get p.futures id)
         → CanWalk room marks (go.Visit id) frames [] p → CanWalk room marks result frames [] p }
     ensures falls { (p : Parts) (seen : List ℕ) (frames : List PlainFrame)
         → weight result frames seen p < weight (go.Visit id) frames seen p }
@@ -98,9 +105,11 @@ fn seek_next(
     seen: &Marks,
     stack: &mut WalkStack,
 ) -> Go
-    requires { CanWalk stack.old.room seen.now.tasks (go.Next id place any) stack.old.frames [] (parts body.now) }
+    requires { CanWalk stack.old.room seen.now.tasks
+        (go.Next id place any) stack.old.frames [] (parts body.now) }
     ensures seeks { (from to : ℕ) (said : ℕ → Option Bool)
-        → CanSeek (parts body.now) from to seen.now.visited said (go.Next id place any) stack.old.frames
+        → CanSeek (parts body.now) from to seen.now.visited said
+        (go.Next id place any) stack.old.frames
         → CanSeek (parts body.now) from to seen.now.visited said result stack.new.frames }
     ensures walks { CanWalk stack.new.room seen.now.tasks result stack.new.frames [] (parts body.now) }
     ensures falls { weight result stack.new.frames seen.now.visited (parts body.now)
@@ -130,10 +139,13 @@ fn seek_next(
 
 // What is looked at after all that stood above a frame.
 fn after(frame: WalkFrame) -> Go
-    ensures seeks { (p : Parts) (from to : ℕ) (answer : Bool) (seen : List ℕ) (said : ℕ → Option Bool) (frames : List PlainFrame)
-        → CanSeek p from to seen said (go.Answer answer) (frames ++ frame ∷ []) → CanSeek p from to seen said result frames }
+    ensures seeks { (p : Parts) (from to : ℕ) (answer : Bool) (seen : List ℕ)
+        (said : ℕ → Option Bool) (frames : List PlainFrame)
+        → CanSeek p from to seen said (go.Answer answer) (frames ++ frame ∷ [])
+        → CanSeek p from to seen said result frames }
     ensures walks { (p : Parts) (room marks : ℕ) (answer : Bool) (frames : List PlainFrame)
-        → CanWalk room marks (go.Answer answer) (frames ++ frame ∷ []) [] p → CanWalk room marks result frames [] p }
+        → CanWalk room marks (go.Answer answer) (frames ++ frame ∷ []) [] p
+        → CanWalk room marks result frames [] p }
     ensures falls { (p : Parts) (answer : Bool) (seen : List ℕ) (frames : List PlainFrame)
         → weight result frames seen p < weight (go.Answer answer) (frames ++ frame ∷ []) seen p }
 {

@@ -59,7 +59,8 @@ impl Notes {
 
     /// A future that is let go needs no note.
     pub fn forget(&mut self, id: FutureId)
-        ensures { (other : ℕ) (again : Bool) → noted self.new other ≡ Some again → noted self.old other ≡ Some again }
+        ensures { (other : ℕ) (again : Bool) → noted self.new other ≡ Some again
+            → noted self.old other ≡ Some again }
     {
         let _note = self.held.swap_remove(&id);
     }

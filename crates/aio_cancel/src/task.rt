@@ -32,7 +32,8 @@ impl Model for Task {
 impl Task {
     /// A task that waits for nothing.
     pub fn new(future: FutureId) -> Task
-        ensures { result ≡ record { future = future; waiter = None; cancels = 0; must_cancel = false } }
+        ensures { result
+            ≡ record { future = future; waiter = None; cancels = 0; must_cancel = false } }
     {
         Task {
             future,

@@ -31,9 +31,11 @@ fn visit(
     stack: &mut WalkStack,
 ) -> Go
     requires sound { Sound seen.old.visited (parts body.old) (noted notes.now) }
-    requires can { CanWalk stack.old.room seen.old.tasks (go.Visit id) stack.old.frames seen.old.visited (parts body.old) }
+    requires can { CanWalk stack.old.room seen.old.tasks
+        (go.Visit id) stack.old.frames seen.old.visited (parts body.old) }
     ensures sound { Sound seen.new.visited (parts body.new) (noted notes.now) }
-    ensures walks { CanWalk stack.new.room seen.new.tasks result stack.new.frames seen.new.visited (parts body.new) }
+    ensures walks { CanWalk stack.new.room seen.new.tasks result stack.new.frames seen.new.visited
+        (parts body.new) }
     ensures same { run result stack.new.frames seen.new.visited (parts body.new)
         ≡ run (go.Visit id) stack.old.frames seen.old.visited (parts body.old) }
     ensures falls { weight result stack.new.frames seen.new.visited (parts body.new)
@@ -67,10 +69,12 @@ fn visit_task(
     seen: &mut Marks,
     stack: &mut WalkStack,
 ) -> Go
-    requires can { CanWalk stack.old.room seen.old.tasks (go.Visit id) stack.old.frames seen.old.visited (parts body.old) }
+    requires can { CanWalk stack.old.room seen.old.tasks
+        (go.Visit id) stack.old.frames seen.old.visited (parts body.old) }
     requires task { stands.OfTask task ≡ stands_at (slice_get body.old.futures id) }
     ensures later { Later seen.old.visited (parts body.old) seen.new.visited (parts body.new) }
-    ensures walks { CanWalk stack.new.room seen.new.tasks result stack.new.frames seen.new.visited (parts body.new) }
+    ensures walks { CanWalk stack.new.room seen.new.tasks result stack.new.frames seen.new.visited
+        (parts body.new) }
     ensures same { run result stack.new.frames seen.new.visited (parts body.new)
         ≡ run_task task stack.old.frames seen.old.visited (parts body.old) }
     ensures falls { weight result stack.new.frames seen.new.visited (parts body.new)
@@ -109,9 +113,11 @@ fn next(
     stack: &mut WalkStack,
 ) -> Go
     requires sound { Sound seen.now.visited (parts body.old) (noted notes.old) }
-    requires can { CanWalk stack.old.room seen.now.tasks (go.Next id place any) stack.old.frames seen.now.visited (parts body.old) }
+    requires can { CanWalk stack.old.room seen.now.tasks
+        (go.Next id place any) stack.old.frames seen.now.visited (parts body.old) }
     ensures sound { Sound seen.now.visited (parts body.new) (noted notes.new) }
-    ensures walks { CanWalk stack.new.room seen.now.tasks result stack.new.frames seen.now.visited (parts body.new) }
+    ensures walks { CanWalk stack.new.room seen.now.tasks result stack.new.frames seen.now.visited
+        (parts body.new) }
     ensures same { run result stack.new.frames seen.now.visited (parts body.new)
         ≡ run (go.Next id place any) stack.old.frames seen.now.visited (parts body.old) }
     ensures falls { weight result stack.new.frames seen.now.visited (parts body.new)
@@ -150,9 +156,11 @@ fn back(answer: bool, frame: WalkFrame, body: &mut Awaitables) -> Go
         → CanWalk room marks (go.Answer answer) (stack ++ frame ∷ []) seen (parts body.old)
         → CanWalk room marks result stack seen (parts body.new) }
     ensures falls { (seen : List ℕ) (stack : List PlainFrame)
-        → weight result stack seen (parts body.new) < weight (go.Answer answer) (stack ++ frame ∷ []) seen (parts body.old) }
+        → weight result stack seen (parts body.new) < weight (go.Answer answer)
+        (stack ++ frame ∷ []) seen (parts body.old) }
     ensures same { (seen : List ℕ) (stack : List PlainFrame)
-        → run result stack seen (parts body.new) ≡ run (go.Answer answer) (stack ++ frame ∷ []) seen (parts body.old) }
+        → run result stack seen (parts body.new)
+        ≡ run (go.Answer answer) (stack ++ frame ∷ []) seen (parts body.old) }
     ensures queue { body.new.queue ≡ body.old.queue }
 {
     match frame {

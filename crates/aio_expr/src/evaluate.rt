@@ -67,7 +67,9 @@ fn evaluate_two(
 ) -> Result<(Value, Value), OperationFault>
     ensures left { IfOk result (λ pair. value_of left.now env.now ≡ Ok pair.0) }
     ensures right { IfOk result (λ pair. value_of right.now env.now ≡ Ok pair.1) }
-    ensures fault { IfErr result (λ cause. (operation : Value → Value → ValueOrFault) → Fails (of_two operation (value_of left.now env.now) (value_of right.now env.now)) cause) }
+    ensures fault { IfErr result
+        (λ cause. (operation : Value → Value → ValueOrFault)
+        → Fails (of_two operation (value_of left.now env.now) (value_of right.now env.now)) cause) }
 {
     let left = evaluate(alloc, left, env)?;
     let right = evaluate(alloc, right, env)?;

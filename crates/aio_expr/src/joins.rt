@@ -60,7 +60,8 @@ pub fn repeated_bytes(alloc: Global, bytes: &[u8], count: i64) -> Result<Value, 
 /// How often so many bytes are repeated, unless that is too heavy.
 fn times(len: usize, count: i64) -> Result<usize, OperationFault>
     ensures light { IfOk result (λ n. (n ≡ times count) × (nat_le (1 + n * len) HEAVIEST ≡ true)) }
-    ensures heavy { IfErr result (λ cause. (cause ≡ OutOfRange) × (nat_le (1 + times count * len) HEAVIEST ≡ false)) }
+    ensures heavy { IfErr result
+        (λ cause. (cause ≡ OutOfRange) × (nat_le (1 + times count * len) HEAVIEST ≡ false)) }
 {
     let count = count.max(0) as usize;
     if count.saturating_mul(len) < HEAVIEST as usize {

@@ -139,7 +139,8 @@ pub fn compared(
 
 fn ordering_of(left: &Value, right: &Value) -> Result<Ordering, OperationFault>
     ensures ordered { IfOk result (λ ordering. order left.now right.now ≡ Some ordering) }
-    ensures none { IfErr result (λ cause. (cause ≡ BadOperand) × (order left.now right.now ≡ None)) }
+    ensures none { IfErr result
+        (λ cause. (cause ≡ BadOperand) × (order left.now right.now ≡ None)) }
 {
     match order(left, right) {
         Some(ordering) => Ok(ordering),

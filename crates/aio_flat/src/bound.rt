@@ -47,7 +47,9 @@ fn push_bound(names: &mut Vec<Name>, statement: &Statement) -> Result<(), Memory
 
 #[cycle(bound)]
 fn push_branch(names: &mut Vec<Name>, branch: Option<&StatementList>) -> Result<(), Memory>
-    ensures { OnOk result (names.new.items ≡ names.old.items ++ names_of_branch (plain_branch (option_copied branch.entry))) }
+    ensures { OnOk result
+        (names.new.items
+        ≡ names.old.items ++ names_of_branch (plain_branch (option_copied branch.entry))) }
 {
     match branch {
         Some(body) => push_all(names, body.items()),
@@ -57,7 +59,8 @@ fn push_branch(names: &mut Vec<Name>, branch: Option<&StatementList>) -> Result<
 
 #[cycle(bound)]
 fn push_handlers(names: &mut Vec<Name>, clauses: &[Handler]) -> Result<(), Memory>
-    ensures { OnOk result (names.new.items ≡ names.old.items ++ names_of_handlers (handlers clauses.now)) }
+    ensures { OnOk result
+        (names.new.items ≡ names.old.items ++ names_of_handlers (handlers clauses.now)) }
 {
     for clause in clauses {
         push_name(names, clause.name())?;
@@ -67,7 +70,9 @@ fn push_handlers(names: &mut Vec<Name>, clauses: &[Handler]) -> Result<(), Memor
 }
 
 fn push_name(names: &mut Vec<Name>, name: Option<&RcStr>) -> Result<(), Memory>
-    ensures { OnOk result (names.new.items ≡ names.old.items ++ option_to_list (plain_name (option_copied name.entry))) }
+    ensures { OnOk result
+        (names.new.items
+        ≡ names.old.items ++ option_to_list (plain_name (option_copied name.entry))) }
 {
     if let Some(name) = name {
         names.push(Name::of(name.clone()?))?;

@@ -35,7 +35,8 @@ fn add_parameter<'a>(
     name: &'a RcStr,
 ) -> Result<(), Memory>
     ensures names { OnOk result (names.new.items ≡ names.old.items ++ rc_str_bytes name.now ∷ []) }
-    ensures known { OnOk result (Knows known.old names.old.items → Knows known.new names.new.items) }
+    ensures known { OnOk result
+        (Knows known.old names.old.items → Knows known.new names.new.items) }
 {
     known.insert(name.as_str())?;
     names.push(Name::of(name.clone()?))?;
@@ -48,8 +49,10 @@ fn add_name<'a>(
     known: &mut BTreeSet<&'a str>,
     name: &'a Name,
 ) -> Result<(), Memory>
-    ensures names { OnOk result (Knows known.old names.old.items → names.new.items ≡ with_name names.old.items name.now) }
-    ensures known { OnOk result (Knows known.old names.old.items → Knows known.new names.new.items) }
+    ensures names { OnOk result
+        (Knows known.old names.old.items → names.new.items ≡ with_name names.old.items name.now) }
+    ensures known { OnOk result
+        (Knows known.old names.old.items → Knows known.new names.new.items) }
 {
     if known.contains(name.as_str()) {
         return Ok(());

@@ -30,7 +30,8 @@ impl Frames {
     ) -> Result<Move, Memory>
         requires { self.old.frame.place + 1 < 2 ^ 64 }
         ensures { IfOk result (λ moving. plain_move moving self.new
-            ≡ after_statement (codes_of code.now) (flat.Call into.now coroutine arguments.now) (plain_frames self.old)) }
+            ≡ after_statement (codes_of code.now) (flat.Call into.now coroutine arguments.now)
+            (plain_frames self.old)) }
     {
         match values_of(alloc, arguments.items(), &self.frame.env)? {
             Ok(values) => self.call_with(alloc, code, into, coroutine, values.items()),
@@ -49,7 +50,8 @@ impl Frames {
     ) -> Result<Move, Memory>
         requires { self.old.frame.place + 1 < 2 ^ 64 }
         ensures { IfOk result (λ moving. plain_move moving self.new
-            ≡ call (codes_of code.now) (plain_frames self.old).room into.now coroutine arguments.now (plain_frames self.old)) }
+            ≡ call (codes_of code.now) (plain_frames self.old).room into.now coroutine arguments.now
+            (plain_frames self.old)) }
     {
         if self.callers.len() >= MOST_CALLERS {
             let fault = exception(alloc, Kind::RecursionError, "too many frames")?;
@@ -72,7 +74,8 @@ pub fn new_frame(
     coroutine: u32,
     arguments: &[Value],
 ) -> Result<Frame, Memory>
-    ensures { IfOk result (λ frame. plain_frame frame ≡ new_frame (codes_of code.now) into coroutine arguments.now) }
+    ensures { IfOk result
+        (λ frame. plain_frame frame ≡ new_frame (codes_of code.now) into coroutine arguments.now) }
 {
     let env = match body_at(code, coroutine) {
         Some(body) => bound(alloc, body.variables, arguments)?,

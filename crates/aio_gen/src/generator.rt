@@ -79,14 +79,18 @@ impl Gen {
         fresh: bool,
     ) -> Result<GenOut, Memory>
         ensures said { IfOk result (λ out.
-            (program : Program) (coroutine : ℕ) (arguments : List PlainValue) (tape : Tape) → IsCodeOf program code.now →
+            (program : Program) (coroutine : ℕ) (arguments : List PlainValue) (tape : Tape)
+            → IsCodeOf program code.now →
             StandsFor program code.now coroutine arguments tape self.old →
-            says program coroutine arguments (tape ++ record { input = input; fresh = fresh } ∷ []) ≡ saying_of_out out) }
+            says program coroutine arguments (tape ++ record { input = input; fresh = fresh } ∷ [])
+            ≡ saying_of_out out) }
         ensures stands { IfOk result (λ out.
-            (program : Program) (coroutine : ℕ) (arguments : List PlainValue) (tape : Tape) → IsCodeOf program code.now →
+            (program : Program) (coroutine : ℕ) (arguments : List PlainValue) (tape : Tape)
+            → IsCodeOf program code.now →
             StandsFor program code.now coroutine arguments tape self.old →
             (request : PlainRequest) → out ≡ Asks request →
-            StandsFor program code.now coroutine arguments (tape ++ record { input = input; fresh = fresh } ∷ []) self.new) }
+            StandsFor program code.now coroutine arguments
+            (tape ++ record { input = input; fresh = fresh } ∷ []) self.new) }
         ensures over { IfErr result (λ _. IsOver self.new) }
         ensures spent { IsOver self.old → IsErr result }
     {
@@ -114,14 +118,18 @@ fn resumed(
     fresh: bool,
 ) -> Result<(GenOut, Option<Waiting>), Memory>
     ensures said { IfOk result (λ made.
-        (program : Program) (coroutine : ℕ) (arguments : List PlainValue) (tape : Tape) → IsCodeOf program code.now →
+        (program : Program) (coroutine : ℕ) (arguments : List PlainValue) (tape : Tape)
+        → IsCodeOf program code.now →
         StandsAt program code.now coroutine arguments tape (Some waiting) →
-        says program coroutine arguments (tape ++ record { input = input; fresh = fresh } ∷ []) ≡ saying_of_out made.0) }
+        says program coroutine arguments (tape ++ record { input = input; fresh = fresh } ∷ [])
+        ≡ saying_of_out made.0) }
     ensures stands { IfOk result (λ made.
-        (program : Program) (coroutine : ℕ) (arguments : List PlainValue) (tape : Tape) → IsCodeOf program code.now →
+        (program : Program) (coroutine : ℕ) (arguments : List PlainValue) (tape : Tape)
+        → IsCodeOf program code.now →
         StandsAt program code.now coroutine arguments tape (Some waiting) →
         (request : PlainRequest) → made.0 ≡ Asks request →
-        StandsAt program code.now coroutine arguments (tape ++ record { input = input; fresh = fresh } ∷ []) made.1) }
+        StandsAt program code.now coroutine arguments
+        (tape ++ record { input = input; fresh = fresh } ∷ []) made.1) }
 {
     let Waiting { mut frames, use_of } = waiting;
     frames.renew(fresh);

@@ -26,7 +26,8 @@ impl Frames {
     /// What is sent is the answer, and what is thrown is raised.
     pub fn take_input(&mut self, input: Input, use_of: AnswerUse) -> Result<Way, Memory>
         ensures way { IfOk result (λ way. way ≡ way_of input) }
-        ensures frames { OnOk result (plain_frames self.new ≡ after_input input use_of (plain_frames self.old)) }
+        ensures frames { OnOk result
+            (plain_frames self.new ≡ after_input input use_of (plain_frames self.old)) }
     {
         match input {
             Input::Send(value) => {
@@ -38,7 +39,8 @@ impl Frames {
     }
 
     fn take_answer(&mut self, use_of: AnswerUse, value: Value) -> Result<(), Memory>
-        ensures { OnOk result (plain_frames self.new ≡ after_answer use_of value (plain_frames self.old)) }
+        ensures { OnOk result
+            (plain_frames self.new ≡ after_answer use_of value (plain_frames self.old)) }
     {
         match use_of {
             AnswerUse::Ignored => Ok(()),

@@ -71,7 +71,8 @@ impl Frames {
     fn counted(&mut self, alloc: Global, code: &Code, op: &Op) -> Result<Move, Memory>
         requires { self.old.frame.place + 1 < 2 ^ 64 }
         ensures { IfOk result (λ moving. plain_move moving self.new
-            ≡ counted (plain_frames self.old).left (after_statement (codes_of code.now) op.now) (plain_frames self.old)) }
+            ≡ counted (plain_frames self.old).left (after_statement (codes_of code.now) op.now)
+            (plain_frames self.old)) }
     {
         if self.left == 0 {
             return Ok(Move::Runaway);
@@ -89,7 +90,8 @@ impl Frames {
     ) -> Result<Move, Memory>
         requires { self.old.frame.place + 1 < 2 ^ 64 }
         ensures { IfOk result (λ moving. plain_move moving self.new
-            ≡ after_op (codes_of code.now) (plain_body body.now) (Some op.now) (plain_frames self.old)) }
+            ≡ after_op (codes_of code.now) (plain_body body.now) (Some op.now)
+            (plain_frames self.old)) }
     {
         match op {
             Op::Jump(to) => {

@@ -20,7 +20,8 @@ use std::rc::RcStr;
 /// A move in the code of the frame's coroutine.
 fn step_in(alloc: Global, code: &Code, way: Way, frames: &mut Frames) -> Result<Move, Memory>
     ensures { IfOk result (λ moving. plain_move moving frames.new
-        ≡ move_of (codes_of code.now) (codes_of code.now frames.old.frame.coroutine) way (plain_frames frames.old)) }
+        ≡ move_of (codes_of code.now) (codes_of code.now frames.old.frame.coroutine) way
+        (plain_frames frames.old)) }
 {
     match body_at(code, frames.frame.coroutine) {
         Some(body) => frames.step(alloc, code, body, way),
@@ -30,7 +31,8 @@ fn step_in(alloc: Global, code: &Code, way: Way, frames: &mut Frames) -> Result<
 
 /// The code of a coroutine that there is not.
 fn nothing(alloc: Global) -> Result<FlatBody, Memory>
-    ensures { IfOk result (λ body. plain_body body ≡ record { ops = []; ranges = []; variables = [] }) }
+    ensures { IfOk result
+        (λ body. plain_body body ≡ record { ops = []; ranges = []; variables = [] }) }
 {
     Ok(FlatBody {
         name: Name::of(RcStr::from_str(alloc, "")?),
@@ -43,10 +45,13 @@ fn nothing(alloc: Global) -> Result<FlatBody, Memory>
 /// Runs until something is asked or said: what the coroutine does after each tape that the frames stand for.
 pub fn run(alloc: Global, code: &Code, entry: Way, frames: &mut Frames) -> Result<LastMove, Memory>
     ensures { IfOk result (λ stop.
-        (limit : ℕ) (program : Program) (coroutine : ℕ) (arguments : List PlainValue) (tape : Tape) →
+        (limit : ℕ) (program : Program) (coroutine : ℕ) (arguments : List PlainValue)
+        (tape : Tape) →
         AllLaidOut program (codes_of code.now) →
-        MovesFor limit program (codes_of code.now) coroutine arguments tape entry (plain_frames frames.old) →
-        ComesTo limit program (codes_of code.now) coroutine arguments tape (plain_stop stop frames.new)) }
+        MovesFor limit program (codes_of code.now) coroutine arguments tape entry
+        (plain_frames frames.old) →
+        ComesTo limit program (codes_of code.now) coroutine arguments tape
+        (plain_stop stop frames.new)) }
 {
     let mut way = entry;
     loop {

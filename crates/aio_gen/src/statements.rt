@@ -18,7 +18,8 @@ impl Frames {
     pub fn assign(&mut self, alloc: Global, name: &Local, value: &FlatExpr) -> Result<Move, Memory>
         requires { self.old.frame.place + 1 < 2 ^ 64 }
         ensures { IfOk result (λ moving. (codes : ℕ → CoroutineCode) →
-            plain_move moving self.new ≡ after_statement codes (flat.Assign name.now value.now) (plain_frames self.old)) }
+            plain_move moving self.new
+            ≡ after_statement codes (flat.Assign name.now value.now) (plain_frames self.old)) }
     {
         match value_of(alloc, value, &self.frame.env)? {
             Ok(value) => {
@@ -33,7 +34,8 @@ impl Frames {
     pub fn print(&mut self, alloc: Global, items: &FlatExprList) -> Result<Move, Memory>
         requires { self.old.frame.place + 1 < 2 ^ 64 }
         ensures { IfOk result (λ moving. (codes : ℕ → CoroutineCode) →
-            plain_move moving self.new ≡ after_statement codes (flat.Print items.now) (plain_frames self.old)) }
+            plain_move moving self.new
+            ≡ after_statement codes (flat.Print items.now) (plain_frames self.old)) }
     {
         match values_of(alloc, items.items(), &self.frame.env)? {
             Ok(values) => {
@@ -46,7 +48,8 @@ impl Frames {
 
     pub fn raise(&mut self, alloc: Global, fault: &FlatExpr) -> Result<Move, Memory>
         ensures { IfOk result (λ moving. (codes : ℕ → CoroutineCode) →
-            plain_move moving self.new ≡ after_statement codes (flat.Raise fault.now) (plain_frames self.old)) }
+            plain_move moving self.new
+            ≡ after_statement codes (flat.Raise fault.now) (plain_frames self.old)) }
     {
         match value_of(alloc, fault, &self.frame.env)? {
             Ok(value) => self.raise_value(alloc, &value),
@@ -56,7 +59,8 @@ impl Frames {
 
     /// An exception is raised, and in the place of any other value a bad operand.
     fn raise_value(&self, alloc: Global, value: &Value) -> Result<Move, Memory>
-        ensures { IfOk result (λ moving. plain_move moving self.now ≡ raise_value value.now (plain_frames self.now)) }
+        ensures { IfOk result
+            (λ moving. plain_move moving self.now ≡ raise_value value.now (plain_frames self.now)) }
     {
         match value.case() {
             ValueCase::Exc(fault) => Ok(Move::Goes(Way::Raising(fault.clone()?))),
@@ -66,7 +70,8 @@ impl Frames {
 
     pub fn return_value(&mut self, alloc: Global, value: &Option<FlatExpr>) -> Result<Move, Memory>
         ensures { IfOk result (λ moving. (codes : ℕ → CoroutineCode) →
-            plain_move moving self.new ≡ after_statement codes (flat.Return value.now) (plain_frames self.old)) }
+            plain_move moving self.new
+            ≡ after_statement codes (flat.Return value.now) (plain_frames self.old)) }
     {
         match value {
             Some(value) => match value_of(alloc, value, &self.frame.env)? {
@@ -80,7 +85,8 @@ impl Frames {
     pub fn test(&mut self, alloc: Global, test: &FlatExpr, otherwise: usize) -> Result<Move, Memory>
         requires { self.old.frame.place + 1 < 2 ^ 64 }
         ensures { IfOk result (λ moving. (codes : ℕ → CoroutineCode) →
-            plain_move moving self.new ≡ after_statement codes (flat.Test test.now otherwise) (plain_frames self.old)) }
+            plain_move moving self.new
+            ≡ after_statement codes (flat.Test test.now otherwise) (plain_frames self.old)) }
     {
         match value_of(alloc, test, &self.frame.env)? {
             Ok(value) => self.by_test(alloc, self.frame.place + 1, otherwise, &value),
@@ -91,7 +97,8 @@ impl Frames {
     pub fn repeat(&mut self, alloc: Global, test: &FlatExpr, body: usize) -> Result<Move, Memory>
         requires { self.old.frame.place + 1 < 2 ^ 64 }
         ensures { IfOk result (λ moving. (codes : ℕ → CoroutineCode) →
-            plain_move moving self.new ≡ after_statement codes (flat.Repeat test.now body) (plain_frames self.old)) }
+            plain_move moving self.new
+            ≡ after_statement codes (flat.Repeat test.now body) (plain_frames self.old)) }
     {
         match value_of(alloc, test, &self.frame.env)? {
             Ok(value) => self.by_test(alloc, body, self.frame.place + 1, &value),
@@ -107,7 +114,9 @@ impl Frames {
         off: usize,
         value: &Value,
     ) -> Result<Move, Memory>
-        ensures { IfOk result (λ moving. plain_move moving self.new ≡ by_test on off value.now (plain_frames self.old)) }
+        ensures { IfOk result
+            (λ moving. plain_move moving self.new
+            ≡ by_test on off value.now (plain_frames self.old)) }
     {
         match value.case() {
             ValueCase::Bool(true) => {
@@ -125,7 +134,8 @@ impl Frames {
     pub fn guard(&mut self, number: usize) -> Result<Move, Memory>
         requires { self.old.frame.place + 1 < 2 ^ 64 }
         ensures { IfOk result (λ moving. (codes : ℕ → CoroutineCode) →
-            plain_move moving self.new ≡ after_statement codes (flat.Guard number) (plain_frames self.old)) }
+            plain_move moving self.new
+            ≡ after_statement codes (flat.Guard number) (plain_frames self.old)) }
     {
         self.frame.handlers.push(OpenHandler::InTry(number))?;
         self.frame.place += 1;
@@ -135,7 +145,8 @@ impl Frames {
     pub fn enter_group(&mut self, name: &Local, range: usize) -> Result<Move, Memory>
         requires { self.old.frame.place + 1 < 2 ^ 64 }
         ensures { IfOk result (λ moving. (codes : ℕ → CoroutineCode) →
-            plain_move moving self.new ≡ after_statement codes (flat.EnterGroup name.now range) (plain_frames self.old)) }
+            plain_move moving self.new
+            ≡ after_statement codes (flat.EnterGroup name.now range) (plain_frames self.old)) }
     {
         let name = *name;
         self.frame.place += 1;
@@ -151,7 +162,8 @@ impl Frames {
     ) -> Result<Move, Memory>
         requires { self.old.frame.place + 1 < 2 ^ 64 }
         ensures { IfOk result (λ moving. (codes : ℕ → CoroutineCode) → plain_move moving self.new
-            ≡ after_statement codes (flat.EnterTimeout delay.now name.now range) (plain_frames self.old)) }
+            ≡ after_statement codes (flat.EnterTimeout delay.now name.now range)
+            (plain_frames self.old)) }
     {
         match value_of(alloc, delay, &self.frame.env)? {
             Ok(delay) => {
@@ -170,7 +182,8 @@ impl Frames {
     pub fn ask_exit(&mut self, of_group: bool) -> Result<Move, Memory>
         requires { self.old.frame.place + 1 < 2 ^ 64 }
         ensures { IfOk result (λ moving. plain_move moving self.new
-            ≡ ask_exit (exit_request of_group) (plain_frames self.old).frame.handlers (plain_frames self.old)) }
+            ≡ ask_exit (exit_request of_group) (plain_frames self.old).frame.handlers
+            (plain_frames self.old)) }
     {
         match self.frame.handlers.pop() {
             Some(OpenHandler::AtExit(entered, way)) => {

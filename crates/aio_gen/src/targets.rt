@@ -18,7 +18,9 @@ impl Frames {
     /// A request whose answer a variable holds, where there is one.
     fn ask_into(&mut self, into: &Option<Local>, request: Request) -> Result<Move, Memory>
         requires { self.old.frame.place + 1 < 2 ^ 64 }
-        ensures { IfOk result (λ moving. plain_move moving self.new ≡ ask_into into.now request (plain_frames self.old)) }
+        ensures { IfOk result
+            (λ moving. plain_move moving self.new
+            ≡ ask_into into.now request (plain_frames self.old)) }
     {
         let into = *into;
         self.frame.place += 1;
@@ -27,7 +29,8 @@ impl Frames {
 
     pub fn pause(&mut self) -> Move
         requires { self.old.frame.place + 1 < 2 ^ 64 }
-        ensures { (codes : ℕ → CoroutineCode) → plain_move result self.new ≡ after_statement codes flat.Pause (plain_frames self.old) }
+        ensures { (codes : ℕ → CoroutineCode) → plain_move result self.new
+            ≡ after_statement codes flat.Pause (plain_frames self.old) }
     {
         self.frame.place += 1;
         Move::Asks(Request::Pause, AnswerUse::Ignored)
@@ -37,7 +40,8 @@ impl Frames {
     pub fn await_name(&mut self, into: &Option<Local>, name: &Local) -> Result<Move, Memory>
         requires { self.old.frame.place + 1 < 2 ^ 64 }
         ensures { IfOk result (λ moving. (codes : ℕ → CoroutineCode) →
-            plain_move moving self.new ≡ after_statement codes (flat.Await into.now name.now) (plain_frames self.old)) }
+            plain_move moving self.new
+            ≡ after_statement codes (flat.Await into.now name.now) (plain_frames self.old)) }
     {
         let awaited = self.frame.env.held(*name)?;
         self.ask_into(into, Request::Await(awaited))
@@ -52,7 +56,8 @@ impl Frames {
     ) -> Result<Move, Memory>
         requires { self.old.frame.place + 1 < 2 ^ 64 }
         ensures { IfOk result (λ moving. (codes : ℕ → CoroutineCode) → plain_move moving self.new
-            ≡ after_statement codes (flat.Ask into.now request arguments.now) (plain_frames self.old)) }
+            ≡ after_statement codes (flat.Ask into.now request arguments.now)
+            (plain_frames self.old)) }
     {
         match values_of(alloc, arguments.items(), &self.frame.env)? {
             Ok(values) => match requested(alloc, request, values.items())? {
@@ -72,7 +77,8 @@ impl Frames {
     ) -> Result<Move, Memory>
         requires { self.old.frame.place + 1 < 2 ^ 64 }
         ensures { IfOk result (λ moving. (codes : ℕ → CoroutineCode) → plain_move moving self.new
-            ≡ after_statement codes (flat.Spawn into.now coroutine arguments.now) (plain_frames self.old)) }
+            ≡ after_statement codes (flat.Spawn into.now coroutine arguments.now)
+            (plain_frames self.old)) }
     {
         match values_of(alloc, arguments.items(), &self.frame.env)? {
             Ok(arguments) => self.ask_into(
@@ -96,7 +102,8 @@ impl Frames {
     ) -> Result<Move, Memory>
         requires { self.old.frame.place + 1 < 2 ^ 64 }
         ensures { IfOk result (λ moving. (codes : ℕ → CoroutineCode) → plain_move moving self.new
-            ≡ after_statement codes (flat.Create into.now group.now coroutine arguments.now) (plain_frames self.old)) }
+            ≡ after_statement codes (flat.Create into.now group.now coroutine arguments.now)
+            (plain_frames self.old)) }
     {
         match value_of(alloc, group, &self.frame.env)? {
             Ok(group) => match values_of(alloc, arguments.items(), &self.frame.env)? {
@@ -123,7 +130,8 @@ impl Frames {
     ) -> Result<Move, Memory>
         requires { self.old.frame.place + 1 < 2 ^ 64 }
         ensures { IfOk result (λ moving. (codes : ℕ → CoroutineCode) → plain_move moving self.new
-            ≡ after_statement codes (flat.Listen into.now port.now coroutine) (plain_frames self.old)) }
+            ≡ after_statement codes (flat.Listen into.now port.now coroutine)
+            (plain_frames self.old)) }
     {
         match value_of(alloc, port, &self.frame.env)? {
             Ok(port) => self.ask_into(into, Request::Listen { port, coroutine }),

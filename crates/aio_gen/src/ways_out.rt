@@ -51,7 +51,8 @@ impl Frames {
     /// Into the `finally` of a range, which keeps the way out.
     fn into_finally(&mut self, body: &FlatBody, way: Way, number: usize) -> Result<Move, Memory>
         ensures { IfOk result (λ moving. plain_move moving self.new
-            ≡ into_finally way (plain_frames self.old).frame.handlers (slice_get (plain_body body.now).ranges number) (plain_frames self.old)) }
+            ≡ into_finally way (plain_frames self.old).frame.handlers
+            (slice_get (plain_body body.now).ranges number) (plain_frames self.old)) }
     {
         match range_at(body.ranges.as_slice(), number) {
             Some(range) => {
@@ -72,7 +73,8 @@ impl Frames {
         number: usize,
     ) -> Result<Move, Memory>
         ensures { IfOk result (λ moving. plain_move moving self.new
-            ≡ to_exit way entered (plain_frames self.old).frame.handlers (slice_get (plain_body body.now).ranges number) (plain_frames self.old)) }
+            ≡ to_exit way entered (plain_frames self.old).frame.handlers
+            (slice_get (plain_body body.now).ranges number) (plain_frames self.old)) }
     {
         match range_at(body.ranges.as_slice(), number) {
             Some(range) => {
@@ -88,7 +90,8 @@ impl Frames {
     fn into_clause(&mut self, body: &FlatBody, fault: Exc, number: usize) -> Result<Move, Memory>
         ensures { IfOk result (λ moving. plain_move moving self.new
             ≡ into_clause fault number (plain_frames self.old).frame.handlers
-            (clause_for fault (clauses_in (slice_get (plain_body body.now).ranges number))) (plain_frames self.old)) }
+            (clause_for fault (clauses_in (slice_get (plain_body body.now).ranges number)))
+            (plain_frames self.old)) }
     {
         self.frame.handlers.push(OpenHandler::InClause(number))?;
         match clause_in(range_at(body.ranges.as_slice(), number), &fault) {
@@ -104,7 +107,8 @@ impl Frames {
     /// Out through the innermost open handler, or out of the frame.
     pub fn way_out(&mut self, body: &FlatBody, way: Way) -> Result<Move, Memory>
         ensures { IfOk result (λ moving. plain_move moving self.new
-            ≡ way_out (plain_body body.now) way (plain_frames self.old).frame.handlers (plain_frames self.old)) }
+            ≡ way_out (plain_body body.now) way (plain_frames self.old).frame.handlers
+            (plain_frames self.old)) }
     {
         match self.frame.handlers.pop() {
             None => Ok(self.out_of_frame(way)),
@@ -125,7 +129,8 @@ impl Frames {
     /// The way out that a `finally` kept.
     pub fn after_finally(&mut self) -> Move
         requires { self.old.frame.place + 1 < 2 ^ 64 }
-        ensures { plain_move result self.new ≡ after_finally (plain_frames self.old).frame.handlers (plain_frames self.old) }
+        ensures { plain_move result self.new
+            ≡ after_finally (plain_frames self.old).frame.handlers (plain_frames self.old) }
     {
         match self.frame.handlers.pop() {
             Some(OpenHandler::InFinally(way)) => {

@@ -88,7 +88,8 @@ fn blame(group: &mut Group, parts: &mut Parts)
     } }
     ensures moves { Moves parts.old parts.new }
     ensures steps { Steps group.old parts.old group.new parts.new
-        (λ id l. plain.abort_and_request_unless ((plain.group_of l id).aborting || (plain.group_of l id).requested) id l) }
+        (λ id l. plain.abort_and_request_unless
+        ((plain.group_of l id).aborting || (plain.group_of l id).requested) id l) }
 {
     if group.is_blamed() {
         return;
@@ -104,7 +105,8 @@ pub fn child_done(child: u32, group: &mut Group, parts: &mut Parts)
     requires child { has_seen group.old.children child ≡ true }
     ensures moves { Moves parts.old parts.new }
     ensures belongs { Belongs parts.new group.new }
-    ensures steps { Steps group.old parts.old group.new parts.new (λ id. plain.child_done id child) }
+    ensures steps { Steps group.old parts.old group.new parts.new
+        (λ id. plain.child_done id child) }
 {
     let failed = failure_of(child, parts).is_some();
     group.hear_of(child, failed);

@@ -33,7 +33,8 @@ fn next(
 ) -> Result<ExitStep, Memory>
     requires idle { parts.old.called ≡ None }
     ensures moves { Moves parts.old parts.new }
-    ensures next { IfOk result (λ next. IsNext group.now (option_copied body.entry) parts.old next parts.new) }
+    ensures next { IfOk result
+        (λ next. IsNext group.now (option_copied body.entry) parts.old next parts.new) }
     ensures err { OnErr result (parts.new ≡ parts.old) }
 {
     if group.is_empty() {
@@ -155,7 +156,8 @@ pub fn exit_begin(
     requires fresh { group.old.exiting ≡ false }
     ensures moves { Moves parts.old parts.new }
     ensures belongs { Belongs parts.new group.new }
-    ensures steps { IfOk result (λ exit. Exits group.old parts.old group.new parts.new (plain.exit_begin raised) exit) }
+    ensures steps { IfOk result
+        (λ exit. Exits group.old parts.old group.new parts.new (plain.exit_begin raised) exit) }
     ensures err { OnErr result ((group.new ≡ group.old) × (parts.new ≡ parts.old)) }
 {
     let next = next(alloc, group, failure_in(&raised), parts)?;
@@ -175,7 +177,8 @@ pub fn exit_woken(
     requires going { (group.old.exiting && not group.old.ended) ≡ true }
     ensures moves { Moves parts.old parts.new }
     ensures belongs { Belongs parts.new group.new }
-    ensures steps { IfOk result (λ exit. Exits group.old parts.old group.new parts.new (plain.exit_woken input) exit) }
+    ensures steps { IfOk result
+        (λ exit. Exits group.old parts.old group.new parts.new (plain.exit_woken input) exit) }
     ensures err { OnErr result ((group.new ≡ group.old) × (parts.new ≡ parts.old)) }
 {
     let next = next(alloc, group, group.body(), parts)?;

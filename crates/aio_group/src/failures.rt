@@ -91,7 +91,8 @@ pub fn fault_of(
     parts: &Parts,
 ) -> Result<Option<Exc>, Memory>
     ensures { IfOk result (λ fault. fault
-        ≡ fault_of (failures (parts_of parts.now) failed.now ++ listed (option_copied body.entry))) }
+        ≡ fault_of
+        (failures (parts_of parts.now) failed.now ++ listed (option_copied body.entry))) }
 {
     let members = members_of(alloc, failed, body, parts)?;
     if members.is_empty() {

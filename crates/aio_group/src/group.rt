@@ -166,7 +166,8 @@ impl Group {
     /// A child whose number is greater than all others, and the place of its failure.
     pub fn add(&mut self, task: u32) -> Result<(), Memory>
         requires { Each (λ child. child < task) self.old.children }
-        ensures after { OnOk result (self.new ≡ record self.old { children = self.old.children ++ task ∷ [] }) }
+        ensures after { OnOk result
+            (self.new ≡ record self.old { children = self.old.children ++ task ∷ [] }) }
         ensures err { OnErr result (self.new ≡ self.old) }
     {
         let wanted = self.children.len().saturating_add(1);
@@ -177,7 +178,11 @@ impl Group {
 
     /// A child is let go.
     pub fn remove(&mut self, task: u32)
-        ensures { self.new ≡ record self.old { children = filter (λ child. not (child == task)) self.old.children } }
+        ensures { self.new
+            ≡ record self.old {
+              children = filter
+                  (λ child. not (child == task)) self.old.children;
+            } }
     {
         let _was_there = self.children.remove(&task);
     }

@@ -94,7 +94,8 @@ impl Groups {
         requires belongs { AllBelong parts.old self.old }
         ensures belongs { AllBelong parts.new self.new }
         ensures moves { Moves parts.old parts.new }
-        ensures stands { IfOk result (λ created. (t : Ties) (l : Loop) → Stands t self.old parts.old l
+        ensures stands { IfOk result
+            (λ created. (t : Ties) (l : Loop) → Stands t self.old parts.old l
             → Came t l self.new parts.new (plain.create id l)
             × (created ≡ created_of (plain.refusal (plain.group_of l id)) (next_task l.parts))) }
         ensures err { OnErr result ((self.new ≡ self.old) × (parts.new ≡ parts.old)) }

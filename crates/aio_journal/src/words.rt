@@ -58,7 +58,8 @@ impl<'a> Words<'a> {
 
 /// The first word of a text, and what follows it; nothing where there is none.
 fn next_word(text: &[u8]) -> Option<(&[u8], &[u8])>
-    ensures { MatchOption result (words_of text.now ≡ []) (λ found. words_of text.now ≡ found.0.now ∷ words_of found.1.now) }
+    ensures { MatchOption result (words_of text.now ≡ [])
+        (λ found. words_of text.now ≡ found.0.now ∷ words_of found.1.now) }
 {
     let text = without_spaces(text);
     let len = word_len(text);

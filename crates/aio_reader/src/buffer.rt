@@ -86,7 +86,8 @@ impl Buffer {
     pub fn find(&mut self, separator: &[u8]) -> Result<Option<usize>, Memory>
         requires { 0 < length separator.now }
         ensures found { IfOk result (λ found. found ≡ first_at separator.now self.old) }
-        ensures small { IfOk result (λ found. IfSome found (λ at. at + length separator.now < 2 ^ 63)) }
+        ensures small { IfOk result
+            (λ found. IfSome found (λ at. at + length separator.now < 2 ^ 63)) }
         ensures unchanged { self.new ≡ self.old }
     {
         let found = first_unsearched(

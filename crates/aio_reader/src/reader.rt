@@ -100,7 +100,8 @@ impl Reader {
     /// nor an exception.
     pub fn take(&mut self, alloc: Global, op: &ReadOp) -> Result<Taken, Memory>
         ensures answer { IfOk result (λ taken. taken ≡ (reading.take_read op.now self.old).answer) }
-        ensures after { OnOk result (self.new ≡ after_take (reading.take_read op.now self.old) self.old) }
+        ensures after { OnOk result
+            (self.new ≡ after_take (reading.take_read op.now self.old) self.old) }
         ensures unchanged { OnErr result (self.new ≡ self.old) }
     {
         match op {
@@ -113,7 +114,8 @@ impl Reader {
 
     fn take_up_to(&mut self, alloc: Global, count: u64) -> Result<Taken, Memory>
         ensures answer { IfOk result (λ taken. taken ≡ (reading.take_up_to count self.old).answer) }
-        ensures after { OnOk result (self.new ≡ after_take (reading.take_up_to count self.old) self.old) }
+        ensures after { OnOk result
+            (self.new ≡ after_take (reading.take_up_to count self.old) self.old) }
         ensures unchanged { OnErr result (self.new ≡ self.old) }
     {
         if let Some(fault) = &self.failed {
@@ -126,8 +128,10 @@ impl Reader {
     }
 
     fn take_exactly(&mut self, alloc: Global, count: i64) -> Result<Taken, Memory>
-        ensures answer { IfOk result (λ taken. taken ≡ (reading.take_exactly count self.old).answer) }
-        ensures after { OnOk result (self.new ≡ after_take (reading.take_exactly count self.old) self.old) }
+        ensures answer { IfOk result
+            (λ taken. taken ≡ (reading.take_exactly count self.old).answer) }
+        ensures after { OnOk result
+            (self.new ≡ after_take (reading.take_exactly count self.old) self.old) }
         ensures unchanged { OnErr result (self.new ≡ self.old) }
     {
         if count < 0 {
@@ -149,8 +153,10 @@ impl Reader {
     }
 
     fn take_until(&mut self, alloc: Global, separator: &[u8]) -> Result<Taken, Memory>
-        ensures answer { IfOk result (λ taken. taken ≡ (reading.take_until separator.now self.old).answer) }
-        ensures after { OnOk result (self.new ≡ after_take (reading.take_until separator.now self.old) self.old) }
+        ensures answer { IfOk result
+            (λ taken. taken ≡ (reading.take_until separator.now self.old).answer) }
+        ensures after { OnOk result
+            (self.new ≡ after_take (reading.take_until separator.now self.old) self.old) }
         ensures unchanged { OnErr result (self.new ≡ self.old) }
     {
         if separator.is_empty() {
@@ -169,8 +175,10 @@ impl Reader {
     /// Takes up to and with a separator of that length.
     fn take_found(&mut self, alloc: Global, at: usize, separator: usize) -> Result<Taken, Memory>
         requires { at + separator < 2 ^ 63 }
-        ensures answer { IfOk result (λ taken. taken ≡ (reading.until_found at separator self.old).answer) }
-        ensures after { OnOk result (self.new ≡ after_take (reading.until_found at separator self.old) self.old) }
+        ensures answer { IfOk result
+            (λ taken. taken ≡ (reading.until_found at separator self.old).answer) }
+        ensures after { OnOk result
+            (self.new ≡ after_take (reading.until_found at separator self.old) self.old) }
         ensures unchanged { OnErr result (self.new ≡ self.old) }
     {
         if at > self.limit {
@@ -183,8 +191,10 @@ impl Reader {
     /// Looks for a separator of that length, which isn't held.
     fn take_unfound(&mut self, alloc: Global, separator: usize) -> Result<Taken, Memory>
         requires { 0 < separator }
-        ensures answer { IfOk result (λ taken. taken ≡ (reading.until_unfound separator self.old).answer) }
-        ensures after { OnOk result (self.new ≡ after_take (reading.until_unfound separator self.old) self.old) }
+        ensures answer { IfOk result
+            (λ taken. taken ≡ (reading.until_unfound separator self.old).answer) }
+        ensures after { OnOk result
+            (self.new ≡ after_take (reading.until_unfound separator self.old) self.old) }
         ensures unchanged { OnErr result (self.new ≡ self.old) }
     {
         if self.held.len().saturating_sub(separator - 1) > self.limit {
@@ -227,7 +237,8 @@ impl Reader {
     /// Takes a line whose newline isn't held.
     fn take_unended_line(&mut self, alloc: Global) -> Result<Taken, Memory>
         ensures answer { IfOk result (λ taken. taken ≡ (reading.unended_line self.old).answer) }
-        ensures after { OnOk result (self.new ≡ after_take (reading.unended_line self.old) self.old) }
+        ensures after { OnOk result
+            (self.new ≡ after_take (reading.unended_line self.old) self.old) }
         ensures unchanged { OnErr result (self.new ≡ self.old) }
     {
         let held = self.held.len();
@@ -243,7 +254,8 @@ impl Reader {
     /// Gives the first bytes held.
     fn give(&mut self, alloc: Global, count: usize) -> Result<Taken, Memory>
         ensures answer { IfOk result (λ taken. taken ≡ (reading.gives count self.old.held).answer) }
-        ensures after { OnOk result (self.new ≡ after_take (reading.gives count self.old.held) self.old) }
+        ensures after { OnOk result
+            (self.new ≡ after_take (reading.gives count self.old.held) self.old) }
         ensures unchanged { OnErr result (self.new ≡ self.old) }
     {
         let bytes = self.held.take_front(alloc, count)?;
@@ -253,8 +265,10 @@ impl Reader {
 
     /// Removes the first bytes held, of a line that is too long.
     fn remove(&mut self, alloc: Global, count: usize, text: &str) -> Result<Taken, Memory>
-        ensures answer { IfOk result (λ taken. taken ≡ (reading.removes text.now (drop count self.old.held)).answer) }
-        ensures after { OnOk result (self.new ≡ after_take (reading.removes text.now (drop count self.old.held)) self.old) }
+        ensures answer { IfOk result
+            (λ taken. taken ≡ (reading.removes text.now (drop count self.old.held)).answer) }
+        ensures after { OnOk result
+            (self.new ≡ after_take (reading.removes text.now (drop count self.old.held)) self.old) }
         ensures unchanged { OnErr result (self.new ≡ self.old) }
     {
         let fault = exception(alloc, Kind::ValueError, text)?;
@@ -265,8 +279,10 @@ impl Reader {
 
     /// The end came before enough did: all that is held goes into the exception.
     fn give_up(&mut self, alloc: Global, wanted: &str) -> Result<Taken, Memory>
-        ensures answer { IfOk result (λ taken. taken ≡ (reading.incomplete wanted.now self.old.held).answer) }
-        ensures after { OnOk result (self.new ≡ after_take (reading.incomplete wanted.now self.old.held) self.old) }
+        ensures answer { IfOk result
+            (λ taken. taken ≡ (reading.incomplete wanted.now self.old.held).answer) }
+        ensures after { OnOk result
+            (self.new ≡ after_take (reading.incomplete wanted.now self.old.held) self.old) }
         ensures unchanged { OnErr result (self.new ≡ self.old) }
     {
         let held = self.held.len();

@@ -20,7 +20,8 @@ pub fn first_unsearched(
 
 /// Where the search for a separator begins, after another was sought.
 fn start_of(sought: &[u8], clear: usize, separator: &[u8]) -> usize
-    ensures { (bytes : List ℕ) → Searched sought.now clear bytes → Searched separator.now result bytes }
+    ensures { (bytes : List ℕ) → Searched sought.now clear bytes
+        → Searched separator.now result bytes }
 {
     if sought == separator { clear } else { 0 }
 }

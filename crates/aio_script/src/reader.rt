@@ -37,15 +37,18 @@ pub fn read(alloc: Global, text: &[u8]) -> Result<Program, ScriptFault>
 
 /// The program of lines that have their forms. The line after the last has the number `last`.
 fn program_of(alloc: Global, forms: &[NumberedForm], last: u64) -> Result<Program, ScriptFault>
-    ensures program { IfOk result (λ program. script_of_parts last (parts_of (map plain_numbered forms.now)) ≡ Ok program) }
-    ensures fault { IfErr result (IsFaultOf (script_of_parts last (parts_of (map plain_numbered forms.now)))) }
+    ensures program { IfOk result
+        (λ program. script_of_parts last (parts_of (map plain_numbered forms.now)) ≡ Ok program) }
+    ensures fault { IfErr result
+        (IsFaultOf (script_of_parts last (parts_of (map plain_numbered forms.now)))) }
 {
     let parts = second_pass(alloc, forms, last)?;
     Ok(Program::new(profile_of(forms), coroutines_of(alloc, parts)?))
 }
 
 fn coroutines_of(alloc: Global, parts: Vec<NamedPart>) -> Result<Vec<Coroutine>, AllocError>
-    ensures { IfOk result (λ coroutines. coroutines.items ≡ map (λ part. coroutine (plain_part part)) parts.items) }
+    ensures { IfOk result
+        (λ coroutines. coroutines.items ≡ map (λ part. coroutine (plain_part part)) parts.items) }
 {
     let mut coroutines = Vec::new(alloc);
     for part in parts {

@@ -65,7 +65,8 @@ fn cancel_waiting(
     requires no_circle { HasNoCircle (parts body.old) }
     requires fits { room_of (parts body.old) ≤ stack.old.room }
     requires marked { length body.old.tasks ≤ seen.old.tasks }
-    ensures after { parts body.new ≡ (cancel_wait (is_marked_in (parts body.old) task) task on (parts body.old)).parts }
+    ensures after { parts body.new
+        ≡ (cancel_wait (is_marked_in (parts body.old) task) task on (parts body.old)).parts }
     ensures queue { Appended body.old.queue body.new.queue }
     ensures stack { stack.new ≡ stack.old }
     ensures seen { seen.new ≡ seen.old }

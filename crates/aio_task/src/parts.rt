@@ -100,10 +100,13 @@ impl Parts {
         ensures marks { self.now.called ≡ None → MarksWait self.now.running (parts self.now) }
         ensures no_circle { HasNoCircle (parts self.now) }
         ensures owns { self.now.called ≡ None → OwnsFutures (parts self.now) }
-        ensures waits { (task on : ℕ) → self.now.called ≡ None → tasks.waiter_of (parts self.now) task ≡ Some on
+        ensures waits { (task on : ℕ) → self.now.called ≡ None
+            → tasks.waiter_of (parts self.now) task ≡ Some on
             → on < length self.now.futures }
-        ensures runs { (task : ℕ) → self.now.called ≡ None → self.now.running ≡ Some task → tasks.lives (parts self.now) task ≡ true }
-        ensures called { (task : ℕ) → self.now.called ≡ Some task → self.now.running ≡ None → tasks.lives (parts self.now) task ≡ true }
+        ensures runs { (task : ℕ) → self.now.called ≡ None → self.now.running ≡ Some task
+            → tasks.lives (parts self.now) task ≡ true }
+        ensures called { (task : ℕ) → self.now.called ≡ Some task → self.now.running ≡ None
+            → tasks.lives (parts self.now) task ≡ true }
     {
         let _time = self.time;
     }
@@ -158,7 +161,8 @@ impl Parts {
     pub fn cancel_handle(&mut self, handle: HandleId)
         requires idle { self.old.called ≡ None }
         requires no_step { NamesNoStep handle.name self.old.queue }
-        ensures { self.new ≡ record self.old { queue = queue.cancelled handle.name self.old.queue } }
+        ensures { self.new
+            ≡ record self.old { queue = queue.cancelled handle.name self.old.queue } }
     {
         self.body.ready.cancel(handle);
     }
@@ -203,7 +207,8 @@ impl Parts {
     ) -> Result<TimerId, Unplaced>
         requires idle { self.old.called ≡ None }
         requires no_step { is_step action ≡ false }
-        ensures id { IfOk result (λ id. id ≡ record { number = self.old.schedule.next; when = when }) }
+        ensures id { IfOk result
+            (λ id. id ≡ record { number = self.old.schedule.next; when = when }) }
         ensures after { IfOk result (λ id. self.new ≡ record self.old {
           schedule = record {
             live = schedule.placed_after (schedule.timer id action) self.old.schedule.live;
@@ -230,7 +235,8 @@ impl Parts {
     /// The earliest deadline. `None` exactly where no timer lives.
     pub fn earliest(&self) -> Option<u64>
         ensures first { result ≡ schedule.first_when self.now.schedule.live }
-        ensures least { IfSome result (λ when. All (λ (timer : plain.Timer). when ≤ timer.when) self.now.schedule.live) }
+        ensures least { IfSome result
+            (λ when. All (λ (timer : plain.Timer). when ≤ timer.when) self.now.schedule.live) }
     {
         self.timers.earliest()
     }
@@ -252,7 +258,8 @@ impl Parts {
         requires idle { self.old.called ≡ None }
         ensures number { IfOk result (λ id. id ≡ length self.old.futures) }
         ensures after { OnOk result (self.new ≡ record self.old {
-          futures = self.old.futures ++ record { kind = plain.Plain; outcome = None; callbacks = [] } ∷ [];
+          futures = self.old.futures
+              ++ record { kind = plain.Plain; outcome = None; callbacks = [] } ∷ [];
         }) }
         ensures err { OnErr result (self.new ≡ self.old) }
     {
@@ -264,7 +271,8 @@ impl Parts {
         requires idle { self.old.called ≡ None }
         ensures number { IfOk result (λ id. id ≡ length self.old.futures) }
         ensures after { OnOk result (self.new ≡ record self.old {
-          futures = self.old.futures ++ record { kind = plain.Many members.items false; outcome = None; callbacks = [] } ∷ [];
+          futures = self.old.futures
+              ++ record { kind = plain.Many members.items false; outcome = None; callbacks = [] } ∷ [];
         }) }
         ensures err { OnErr result (self.new ≡ self.old) }
     {
@@ -320,9 +328,11 @@ impl Parts {
     pub fn release(&mut self, id: FutureId)
         requires idle { self.old.called ≡ None }
         requires no_task { owner_at (slice_get self.old.futures id) ≡ None }
-        requires over { (is_pending_at (slice_get self.old.futures id) ≡ false) ⊎ (callbacks_at (slice_get self.old.futures id) ≡ []) }
+        requires over { (is_pending_at (slice_get self.old.futures id)
+            ≡ false) ⊎ (callbacks_at (slice_get self.old.futures id) ≡ []) }
         ensures { self.new ≡ record self.old {
-          futures = (if nat_lt id (length self.old.futures) then slice_set self.old.futures id released else self.old.futures);
+          futures = (if nat_lt id
+              (length self.old.futures) then slice_set self.old.futures id released else self.old.futures);
         } }
     {
         self.body.futures.release(id);
@@ -349,7 +359,8 @@ impl Parts {
         requires idle { self.old.called ≡ None }
         ensures number { IfOk result (λ task. task ≡ length self.old.tasks) }
         ensures after { OnOk result (parts self.new ≡ tasks.spawn (parts self.old)) }
-        ensures queue { OnOk result (self.new.queue ≡ queue.soon (action.Step (length self.old.tasks)) self.old.queue) }
+        ensures queue { OnOk result
+            (self.new.queue ≡ queue.soon (action.Step (length self.old.tasks)) self.old.queue) }
         ensures beside { OnOk result (self.new ≡ record self.old {
           queue = self.new.queue;
           futures = self.new.futures;
@@ -369,7 +380,8 @@ impl Parts {
         requires alone { self.old.running ≡ None }
         ensures input { result ≡ (tasks.begin_step task input (parts self.old)).input }
         ensures after { parts self.new ≡ (tasks.begin_step task input (parts self.old)).parts }
-        ensures beside { self.new ≡ record self.old { tasks = self.new.tasks; running = Some task; called = None } }
+        ensures beside { self.new
+            ≡ record self.old { tasks = self.new.tasks; running = Some task; called = None } }
     {
         let marked = begin(&mut self.body, task);
         self.called = None;
@@ -382,7 +394,11 @@ impl Parts {
         requires idle { self.old.called ≡ None }
         requires running { self.old.running ≡ Some task }
         ensures after { parts self.new ≡ tasks.pause task (parts self.old) }
-        ensures beside { self.new ≡ record self.old { queue = queue.soon (action.Step task) self.old.queue; running = None } }
+        ensures beside { self.new
+            ≡ record self.old {
+              queue = queue.soon (action.Step task) self.old.queue;
+              running = None;
+            } }
     {
         let Some(step) = self.running.take() else {
             return;

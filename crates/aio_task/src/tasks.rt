@@ -102,7 +102,8 @@ pub fn call_soon(body: &mut Awaitables, ticket: Ticket, action: Action)
 pub fn add(body: &mut Awaitables, alloc: Global) -> Result<u32, Memory>
     ensures number { IfOk result (λ task. task ≡ length body.old.tasks) }
     ensures after { OnOk result (parts body.new ≡ tasks.spawn (parts body.old)) }
-    ensures queue { OnOk result (body.new.queue ≡ soon (action.Step (length body.old.tasks)) body.old.queue) }
+    ensures queue { OnOk result
+        (body.new.queue ≡ soon (action.Step (length body.old.tasks)) body.old.queue) }
     ensures err { OnErr result (body.new ≡ body.old) }
 {
     let Ok(task) = u32::try_from(body.tasks.len()) else {
@@ -120,7 +121,8 @@ pub fn add(body: &mut Awaitables, alloc: Global) -> Result<u32, Memory>
 /// A step begins: the task waits no more, and no cancel waits for its step. The answer is whether one did.
 pub fn begin(body: &mut Awaitables, task: u32) -> bool
     ensures marked { result ≡ tasks.is_marked (parts body.old) task }
-    ensures after { parts body.new ≡ tasks.unmark task (tasks.set_waiter task None (parts body.old)) }
+    ensures after { parts body.new
+        ≡ tasks.unmark task (tasks.set_waiter task None (parts body.old)) }
     ensures queue { body.new.queue ≡ body.old.queue }
     ensures futures { body.new.futures ≡ body.old.futures }
 {
@@ -200,7 +202,8 @@ fn returned(marked: bool, value: Value) -> Outcome
 
 // How a task ends that raised.
 fn raised(fault: Exc) -> Outcome
-    ensures { result ≡ (if tasks.is_cancelled fault then outcome.Cancelled else outcome.Failed fault) }
+    ensures { result
+        ≡ (if tasks.is_cancelled fault then outcome.Cancelled else outcome.Failed fault) }
 {
     if is_cancelled(&fault) {
         Outcome::Cancelled

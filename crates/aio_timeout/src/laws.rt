@@ -21,7 +21,8 @@ pub fn timeouts_go_on()
 
 /// Where each timeout of the machine has its tag to itself, the handles that are kept in code are no steps of tasks.
 pub fn handlers_step_no_task()
-    ensures { (t : Ties) (v : View) (l : Loop) (timeouts : List Timeout) → KeepsTimeouts t timeouts v l
+    ensures { (t : Ties) (v : View) (l : Loop) (timeouts : List Timeout)
+        → KeepsTimeouts t timeouts v l
         → ((id : ℕ) → HasTag l.parts id (timeout_of l id))
         → (id : ℕ) → StepsNone v.queue (handler_at id timeouts) }
 {}

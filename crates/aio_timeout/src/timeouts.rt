@@ -97,7 +97,8 @@ impl Timeouts {
         requires idle { parts.old.called ≡ None }
         requires live { id < length self.old }
         requires steps_none { StepsNone parts.old.queue (handler_at id self.old) }
-        ensures answer { IfOk result (λ answer. (t : Ties) (l : Loop) → AreTimeouts t l.parts self.old l.timeouts
+        ensures answer { IfOk result
+            (λ answer. (t : Ties) (l : Loop) → AreTimeouts t l.parts self.old l.timeouts
             → refused answer ≡ refusal (timeout_of l id).state) }
         ensures after { OnOk result ((t : Ties) (l : Loop) → KeepsTimeouts t self.old parts.old l
             → KeptTimeouts t l self.new parts.new (timeouts.reschedule id when l)) }

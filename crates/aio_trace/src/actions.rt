@@ -85,7 +85,8 @@ pub fn push_id(alloc: Global, front: &[u8], id: u32, out: &mut Vec<u8>) -> Resul
 }
 
 fn push_code(alloc: Global, code: i64, out: &mut Vec<u8>) -> Result<(), Memory>
-    ensures { OnOk result (out.new.items ≡ out.old.items ++ (codes "extra " ++ signed_decimal code)) }
+    ensures { OnOk result
+        (out.new.items ≡ out.old.items ++ (codes "extra " ++ signed_decimal code)) }
 {
     out.extend_from_slice(b"extra ")?;
     out.extend_from_slice(code.to_string(alloc)?.as_bytes())?;

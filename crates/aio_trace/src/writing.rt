@@ -12,7 +12,8 @@ use std::alloc::Global;
 /// Appends the lines of events, in order: those that tasks print, and with the trace each call, answer and handle. Want
 /// of memory appends nothing.
 pub fn lines(alloc: Global, events: &Events, trace: bool, out: &mut Vec<u8>) -> Result<(), Memory>
-    ensures ok { OnOk result (out.new.items ≡ out.old.items ++ lines_of_events trace events.now.events) }
+    ensures ok { OnOk result
+        (out.new.items ≡ out.old.items ++ lines_of_events trace events.now.events) }
     ensures err { OnErr result (out.new.items ≡ out.old.items) }
 {
     let text = lines_of(alloc, events.items(), trace)?;

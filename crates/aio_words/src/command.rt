@@ -25,7 +25,8 @@ pub enum Command<'a> {
 /// What the words ask for, where they ask for something: `check SCRIPT`, or `replay SCRIPT JOURNAL`, with `--trace` and
 /// `--turns N` among the names in any order. No name is empty or begins with a dash, and at least one turn is allowed.
 pub fn command_of(words: &[String]) -> Option<Command<'_>>
-    ensures command { option_map plain_command result ≡ plain_command_of (map string_bytes words.now) }
+    ensures command { option_map plain_command result
+        ≡ plain_command_of (map string_bytes words.now) }
     ensures some { IfSome result AllowsSome }
 {
     match words {
@@ -35,7 +36,8 @@ pub fn command_of(words: &[String]) -> Option<Command<'_>>
 }
 
 fn command_with<'a>(verb: &str, words: &'a [String]) -> Option<Command<'a>>
-    ensures command { option_map plain_command result ≡ plain_command_of (verb.now ∷ map string_bytes words.now) }
+    ensures command { option_map plain_command result
+        ≡ plain_command_of (verb.now ∷ map string_bytes words.now) }
     ensures some { IfSome result AllowsSome }
 {
     if verb == "check" {

@@ -42,7 +42,8 @@ impl<'a> Given<'a> {
     fn with_word(self, word: &'a str) -> Option<Given<'a>>
         ensures { MatchOption result
             ((words : List (List ℕ)) → gathered self.entry (word.now ∷ words) ≡ None)
-            (λ given. (words : List (List ℕ)) → gathered self.entry (word.now ∷ words) ≡ gathered given words) }
+            (λ given. (words : List (List ℕ)) → gathered self.entry (word.now ∷ words)
+            ≡ gathered given words) }
     {
         if is_name(word) {
             return self.with_name(word);
@@ -60,7 +61,8 @@ impl<'a> Given<'a> {
         requires { is_name name.now ≡ true }
         ensures { MatchOption result
             ((words : List (List ℕ)) → gathered self.entry (name.now ∷ words) ≡ None)
-            (λ given. (words : List (List ℕ)) → gathered self.entry (name.now ∷ words) ≡ gathered given words) }
+            (λ given. (words : List (List ℕ)) → gathered self.entry (name.now ∷ words)
+            ≡ gathered given words) }
     {
         let names = match self.names {
             Names::None => Names::Script(name),
@@ -76,7 +78,8 @@ impl<'a> Given<'a> {
     fn with_trace(self) -> Option<Given<'a>>
         ensures { MatchOption result
             ((words : List (List ℕ)) → gathered self.entry (codes "--trace" ∷ words) ≡ None)
-            (λ given. (words : List (List ℕ)) → gathered self.entry (codes "--trace" ∷ words) ≡ gathered given words) }
+            (λ given. (words : List (List ℕ)) → gathered self.entry (codes "--trace" ∷ words)
+            ≡ gathered given words) }
     {
         if self.trace {
             return None;
@@ -90,7 +93,8 @@ impl<'a> Given<'a> {
     fn with_turns(self, value: &'a [u8]) -> Option<Given<'a>>
         ensures { MatchOption result
             ((words : List (List ℕ)) → gathered self.entry (with_option value.now ∷ words) ≡ None)
-            (λ given. (words : List (List ℕ)) → gathered self.entry (with_option value.now ∷ words) ≡ gathered given words) }
+            (λ given. (words : List (List ℕ)) → gathered self.entry (with_option value.now ∷ words)
+            ≡ gathered given words) }
     {
         if self.turns.is_some() {
             return None;
@@ -120,7 +124,8 @@ fn replay<'a>(
     turns: Option<&[u8]>,
 ) -> Option<Command<'a>>
     ensures command { option_map plain_command result
-        ≡ replay_with (script.now ∷ journal.now ∷ []) (traces_of trace) (limits_of (option_copied turns.entry)) }
+        ≡ replay_with (script.now ∷ journal.now ∷ []) (traces_of trace)
+        (limits_of (option_copied turns.entry)) }
     ensures some { IfSome result AllowsSome }
 {
     let turns = limit_of(turns)?;
@@ -159,7 +164,8 @@ fn turns_of(value: &[u8]) -> Option<u64>
 
 /// What a replay's words ask for, of which some were taken. It goes on for as many words as may stand.
 pub fn command_from<'a>(given: Given<'a>, rest: &'a [String]) -> Option<Command<'a>>
-    ensures command { option_map plain_command result ≡ left given.entry (map string_bytes rest.now) }
+    ensures command { option_map plain_command result
+        ≡ left given.entry (map string_bytes rest.now) }
     ensures some { IfSome result AllowsSome }
 {
     if rest.is_empty() {

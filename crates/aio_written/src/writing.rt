@@ -107,7 +107,8 @@ fn push_signed(alloc: Global, front: &[u8], number: i64, out: &mut Vec<u8>) -> R
 
 /// Appends a space and a literal of bytes.
 fn push_spaced_bytes(bytes: &[u8], out: &mut Vec<u8>) -> Result<(), Memory>
-    ensures { OnOk result (out.new.items ≡ out.old.items ++ (codes " " ++ bytes_literal bytes.now)) }
+    ensures { OnOk result
+        (out.new.items ≡ out.old.items ++ (codes " " ++ bytes_literal bytes.now)) }
 {
     out.push(b' ')?;
     push_bytes_literal(bytes, out)
@@ -189,7 +190,8 @@ fn push_watched(
     letters: &[u8],
     out: &mut Vec<u8>,
 ) -> Result<(), Memory>
-    ensures { OnOk result (out.new.items ≡ out.old.items ++ watched_after (front.now ++ decimal id) letters.now) }
+    ensures { OnOk result
+        (out.new.items ≡ out.old.items ++ watched_after (front.now ++ decimal id) letters.now) }
 {
     if letters.is_empty() {
         return Ok(());
@@ -276,7 +278,9 @@ fn push_news(alloc: Global, item: &ChildItem, out: &mut Vec<u8>) -> Result<(), M
 }
 
 fn push_launch(alloc: Global, words: &WordList, out: &mut Vec<u8>) -> Result<(), Memory>
-    ensures { OnOk result (out.new.items ≡ out.old.items ++ (codes "launch " ++ shown (Items (values (map Text words.now))))) }
+    ensures { OnOk result
+        (out.new.items
+        ≡ out.old.items ++ (codes "launch " ++ shown (Items (values (map Text words.now))))) }
 {
     let mut texts = Vec::new(alloc);
     for word in words.items() {

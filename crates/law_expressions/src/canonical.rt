@@ -13,5 +13,6 @@ pub fn canonical_expressions_are_read()
 
 /// Where its names are known, what was read means the expression again.
 pub fn read_expressions_mean_themselves()
-    ensures { (scope : Scope) (expr : Expr) → Known scope expr → meaning_of scope (term_from expr) ≡ Ok expr }
+    ensures { (scope : Scope) (expr : Expr) → Known scope expr → meaning_of scope (term_from expr)
+        ≡ Ok expr }
 {}

@@ -17,18 +17,23 @@ ghost use Rattle.law_lines.specs.WellWritten.{WellWritten, WellWrittenExpr};
 /// The canonical text of what a text can spell has its tokens, behind any spaces.
 pub fn canonical_texts_have_their_tokens()
     ensures expression { (spaces : ℕ) (expr : Expr) → WellWrittenExpr expr →
-        (tokens : List Token) × (tokens_of (replicate spaces 32 ++ expr_text expr) ≡ Ok tokens) × (lexemes_of tokens ≡ expr_lexemes expr) }
+        (tokens : List Token) × (tokens_of (replicate spaces 32 ++ expr_text expr) ≡ Ok tokens)
+        × (lexemes_of tokens ≡ expr_lexemes expr) }
     ensures line { (spaces : ℕ) (line : Line) → WellWritten line →
-        (tokens : List Token) × (tokens_of (replicate spaces 32 ++ line_text line) ≡ Ok tokens) × (lexemes_of tokens ≡ line_lexemes line) }
+        (tokens : List Token) × (tokens_of (replicate spaces 32 ++ line_text line) ≡ Ok tokens)
+        × (lexemes_of tokens ≡ line_lexemes line) }
 {}
 
 /// The tokens of a line's canonical text spell the line, and behind other lines it stands as the line does.
 pub fn canonical_lines_are_read()
-    ensures form { (line : Line) → WellWritten line → form_of (line_lexemes line) ≡ Some (spelled line) }
+    ensures form { (line : Line) → WellWritten line → form_of (line_lexemes line)
+        ≡ Some (spelled line) }
     ensures inside { (before : List Role) (blocks : ℕ) (line : Line) → WellWritten line →
-        line_behind before (repeat blocks (codes "  ") ++ line_text line) ≡ form_behind_lines before (Some (spelled line)) }
+        line_behind before (repeat blocks (codes "  ") ++ line_text line)
+        ≡ form_behind_lines before (Some (spelled line)) }
     ensures behind { (before : List Role) (spaces : ℕ) (line : Line) → WellWritten line →
-        line_behind before (replicate spaces 32 ++ line_text line) ≡ form_behind_lines before (Some (spelled line)) }
+        line_behind before (replicate spaces 32 ++ line_text line)
+        ≡ form_behind_lines before (Some (spelled line)) }
 {}
 
 /// Each byte of a line that has tokens is allowed; so no canonical line has a newline or a carriage return inside.

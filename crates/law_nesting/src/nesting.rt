@@ -8,7 +8,8 @@ ghost use Rattle.law_nesting.specs.SpelledBodies.{SpellsBody};
 
 /// The lines of each coroutine that both passes accept are those that spell its body, and its `end`.
 pub fn accepted_lines_spell_their_statements()
-    ensures { (lines : List (List ℕ)) (forms : List (Numbered Spelled)) (last : ℕ) (parts : List (Part Line)) →
+    ensures { (lines : List (List ℕ)) (forms : List (Numbered Spelled)) (last : ℕ)
+        (parts : List (Part Line)) →
         first_pass lines ≡ Ok forms → second_pass last (parts_of forms).coroutines ≡ Ok parts →
         AllByRecursion (λ part. SpellsBody part.lines) parts }
 {}

@@ -8,7 +8,9 @@ ghost use Rattle.model_stream.specs.Senders.{Sender, Outlet, has_unsent, close_s
 /// A loss comes without an exception only where nothing is unsent: closing waits for what is unsent, a closing connection
 /// is lost in the callback of its last send, and a child's standard input that breaks before fails.
 pub fn losses_without_exception_drop_nothing()
-    ensures closes { (outlet : Outlet) (s : Sender) → has_unsent s ≡ true → close_sender outlet s ≡ Ends (record s { closing = true }) }
+    ensures closes { (outlet : Outlet) (s : Sender) → has_unsent s ≡ true → close_sender outlet s
+        ≡ Ends (record s { closing = true }) }
     ensures sends { (id : ℕ) (c : Connection) → has_unsent c.sender ≡ true → flushed id c ≡ Ends c }
-    ensures breaks { (id : ℕ) (p : Child) → has_unsent p.stdin ≡ true → break_stdin id p ≡ feeding (fail_sender (inlet id)) p }
+    ensures breaks { (id : ℕ) (p : Child) → has_unsent p.stdin ≡ true → break_stdin id p
+        ≡ feeding (fail_sender (inlet id)) p }
 {}

@@ -11,21 +11,25 @@ pub fn takes_are_fronts()
 /// What was held and what was fed since is what was taken and what is held now: a reader gives what it was fed, in order,
 /// once.
 pub fn readers_keep_order()
-    ensures { (steps : List ReaderStep) (r : Reading) → r.held ++ fed steps ≡ gone steps r ++ (all_after steps r).held }
+    ensures { (steps : List ReaderStep) (r : Reading) → r.held ++ fed steps
+        ≡ gone steps r ++ (all_after steps r).held }
 {}
 
 /// A reader that was fed pieces is as one that was fed them at once. So no cut of the input changes what an operation
 /// answers.
 pub fn cuts_do_not_matter()
-    ensures two { (piece other : List ℕ) (r : Reading) → feed other (feed piece r) ≡ feed (piece ++ other) r }
+    ensures two { (piece other : List ℕ) (r : Reading) → feed other (feed piece r)
+        ≡ feed (piece ++ other) r }
     ensures all { (pieces : List (List ℕ)) (piece : List ℕ) (r : Reading)
         → feed_all (piece ∷ pieces) r ≡ feed (piece ++ joined pieces) r }
 {}
 
 /// A line whose newline stands at the limit is given, however high the limit is; one that is longer is removed.
 pub fn lines_fit_up_to_the_limit()
-    ensures fits { (text rest : List ℕ) (r : Reading) → HoldsLine text rest r → length text ≤ r.limit
+    ensures fits { (text rest : List ℕ) (r : Reading) → HoldsLine text rest r
+        → length text ≤ r.limit
         → take_line r ≡ gives (length text + 1) r.held }
-    ensures is_too_long { (text rest : List ℕ) (r : Reading) → HoldsLine text rest r → r.limit < length text
+    ensures is_too_long { (text rest : List ℕ) (r : Reading) → HoldsLine text rest r
+        → r.limit < length text
         → take_line r ≡ removes found_too_far (drop (length text + 1) r.held) }
 {}

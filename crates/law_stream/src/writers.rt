@@ -8,11 +8,13 @@ ghost use Rattle.law_stream.specs.WriterSteps.{WriterStep, after_all, written, h
 /// unsent.
 pub fn writers_keep_order()
     ensures { (steps : List WriterStep) (w : Writer)
-        → w.unsent ++ written steps w ≡ handed steps w ++ (dropped steps w ++ (after_all steps w).unsent) }
+        → w.unsent ++ written steps w
+        ≡ handed steps w ++ (dropped steps w ++ (after_all steps w).unsent) }
 {}
 
 /// What is taken of an offer is a front of what is unsent. So what the outside was handed, which events tell by the pieces
 /// that it was offered, is what left the writer.
 pub fn offers_are_fronts()
-    ensures { (count : ℕ) (w : Writer) → count ≤ length (offer w) → take count (offer w) ≡ take count w.unsent }
+    ensures { (count : ℕ) (w : Writer) → count ≤ length (offer w) → take count (offer w)
+        ≡ take count w.unsent }
 {}

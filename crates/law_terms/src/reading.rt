@@ -15,16 +15,20 @@ pub fn expressions_are_read_from_left_to_right()
 
 /// The same of expressions between commas.
 pub fn items_are_read_between_commas()
-    ensures { (slots : List (List Lexeme)) → read_items slots ≡ option_map (map capped) (all_of term_of slots) }
+    ensures { (slots : List (List Lexeme)) → read_items slots
+        ≡ option_map (map capped) (all_of term_of slots) }
 {}
 
 /// The same of arguments, of which one may be a bare name.
 pub fn arguments_are_read_between_commas()
-    ensures { (place : Option ℕ) (slots : List (List Lexeme)) → read_arguments place slots ≡ option_map capped_arguments (arguments_of term_of place slots) }
+    ensures { (place : Option ℕ) (slots : List (List Lexeme)) → read_arguments place slots
+        ≡ option_map capped_arguments (arguments_of term_of place slots) }
 {}
 
 /// An expression is kept exactly where it is not too high, and expressions where none of them is.
 pub fn operands_fit_where_they_are_not_too_high()
-    ensures one { (term : Term) → that_fits (capped term) ≡ (if nat_le (height term) most_height then Some term else None) }
-    ensures all { (all : List Term) → all_of that_fits (map capped all) ≡ (if nat_le (heights all) most_height then Some all else None) }
+    ensures one { (term : Term) → that_fits (capped term)
+        ≡ (if nat_le (height term) most_height then Some term else None) }
+    ensures all { (all : List Term) → all_of that_fits (map capped all)
+        ≡ (if nat_le (heights all) most_height then Some all else None) }
 {}

@@ -12,7 +12,8 @@ ghost use Rattle.model_text.specs.Spells.{Spells};
 /// Lines that spell statements by cases are read as these statements, so they spell no others; so are the lines of a
 /// coroutine, with its `end`.
 pub fn lines_spell_their_statements()
-    ensures read { (lines : List Line) (statements : Statements) → Spells lines statements → statements_in lines ≡ statements }
+    ensures read { (lines : List Line) (statements : Statements) → Spells lines statements
+        → statements_in lines ≡ statements }
     ensures body { (lines : List Line) (statements : Statements) →
         Spells lines statements → body_in (lines ++ End ∷ []) ≡ statements }
 {}

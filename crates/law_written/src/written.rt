@@ -12,10 +12,16 @@ ghost use Rattle.law_lines.specs.WellWritten.{WellWritten};
 
 /// What the line of a text means is a line that a text can spell, and spells the same form.
 pub fn meant_lines_are_well_written()
-    ensures taken { (scope : Scope) (before : List Role) (text : List ℕ) (form : Spelled) (line : Line) →
-        line_behind before text ≡ Ok (Some form) → line_meant scope form ≡ Ok line → (spelled line ≡ form) × WellWritten line }
-    ensures written { (scope : Scope) (text : List ℕ) (tokens : List Token) (form : Spelled) (line : Line) →
-        tokens_of text ≡ Ok tokens → form_of (lexemes_of tokens) ≡ Some form → line_meant scope form ≡ Ok line → WellWritten line }
-    ensures same { (scope : Scope) (text : List ℕ) (tokens : List Token) (form : Spelled) (line : Line) →
-        tokens_of text ≡ Ok tokens → form_of (lexemes_of tokens) ≡ Some form → line_meant scope form ≡ Ok line → spelled line ≡ form }
+    ensures taken { (scope : Scope) (before : List Role) (text : List ℕ) (form : Spelled)
+        (line : Line) →
+        line_behind before text ≡ Ok (Some form) → line_meant scope form ≡ Ok line
+        → (spelled line ≡ form) × WellWritten line }
+    ensures written { (scope : Scope) (text : List ℕ) (tokens : List Token) (form : Spelled)
+        (line : Line) →
+        tokens_of text ≡ Ok tokens → form_of (lexemes_of tokens) ≡ Some form → line_meant scope form
+        ≡ Ok line → WellWritten line }
+    ensures same { (scope : Scope) (text : List ℕ) (tokens : List Token) (form : Spelled)
+        (line : Line) →
+        tokens_of text ≡ Ok tokens → form_of (lexemes_of tokens) ≡ Some form → line_meant scope form
+        ≡ Ok line → spelled line ≡ form }
 {}

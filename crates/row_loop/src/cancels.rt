@@ -14,7 +14,8 @@ ghost use Rattle.row_loop.specs.Cancels.{chain, chain_cancelled, chain_cancelled
 /// A request goes down a chain of three tasks, each of which counts it.
 pub fn down_a_chain()
     ensures first { cancel 0 chain ≡ answers true (0 ∷ 1 ∷ 2 ∷ []) chain_cancelled }
-    ensures second { cancel 0 chain_cancelled ≡ answers true (0 ∷ 1 ∷ 2 ∷ []) chain_cancelled_twice }
+    ensures second { cancel 0 chain_cancelled
+        ≡ answers true (0 ∷ 1 ∷ 2 ∷ []) chain_cancelled_twice }
     ensures at_its_end { cancel 3 chain ≡ answers true [] chain_cut }
     ensures leads { leads chain 0 3 ≡ true }
     ensures not_back { leads chain 3 0 ≡ false }
@@ -72,11 +73,13 @@ pub fn round_no_circle()
     ensures leads_back { leads awaited_runs 0 1 ≡ true }
     ensures refused { suspend 1 0 awaited_runs ≡ unbooked (refused 0 0) }
     ensures of_two { cancel 0 (refused 0 0) ≡ answers true (0 ∷ 1 ∷ []) (refused_marked 1 1) }
-    ensures from_the_other_side { cancel 1 (refused 0 0) ≡ answers true (1 ∷ []) (refused_marked 0 1) }
+    ensures from_the_other_side { cancel 1 (refused 0 0)
+        ≡ answers true (1 ∷ []) (refused_marked 0 1) }
     ensures leads_round { leads member_runs 2 1 ≡ true }
     ensures not_back { leads member_runs 2 0 ≡ false }
     ensures refused_many { suspend 1 2 member_runs ≡ unbooked member_refused }
-    ensures through_many { cancel 0 member_refused ≡ answers true (0 ∷ 1 ∷ []) member_refused_marked }
+    ensures through_many { cancel 0 member_refused
+        ≡ answers true (0 ∷ 1 ∷ []) member_refused_marked }
 {}
 
 /// A task that waits for nothing is marked, and a count at its greatest stays.

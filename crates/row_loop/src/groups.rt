@@ -10,16 +10,21 @@ ghost use Rattle.row_loop.specs.Family.{loop_of, a, b, c, group_error, unentered
 
 /// A group is made, entered and given a task.
 pub fn makes_tasks()
-    ensures made { make_group 0 (record (loop_of parent_alone unentered []) { groups = [] }) ≡ loop_of parent_alone unentered [] }
-    ensures entered { enter_group 0 (loop_of parent_alone unentered []) ≡ loop_of parent_alone (in_block []) [] }
-    ensures task { create 0 (loop_of parent_alone (in_block []) []) ≡ loop_of parent_with_child (in_block (1 ∷ [])) [] }
+    ensures made { make_group 0 (record (loop_of parent_alone unentered []) { groups = [] })
+        ≡ loop_of parent_alone unentered [] }
+    ensures entered { enter_group 0 (loop_of parent_alone unentered [])
+        ≡ loop_of parent_alone (in_block []) [] }
+    ensures task { create 0 (loop_of parent_alone (in_block []) [])
+        ≡ loop_of parent_with_child (in_block (1 ∷ [])) [] }
 {}
 
 /// When no task is made: the first cause that holds.
 pub fn refuses_tasks()
     ensures not_entered { refusal unentered ≡ Some NotEntered }
-    ensures finished { refusal (record (in_block []) { exiting = true; aborting = true }) ≡ Some IsFinished }
-    ensures shutting_down { refusal (record (in_block (1 ∷ [])) { exiting = true; aborting = true }) ≡ Some IsShuttingDown }
+    ensures finished { refusal (record (in_block []) { exiting = true; aborting = true })
+        ≡ Some IsFinished }
+    ensures shutting_down { refusal (record (in_block (1 ∷ [])) { exiting = true; aborting = true })
+        ≡ Some IsShuttingDown }
     ensures exiting { refusal (record (in_block (1 ∷ [])) { exiting = true }) ≡ None }
     ensures stays { create 0 last_was_told ≡ last_was_told }
     ensures text { refusal_text IsShuttingDown ≡ codes "TaskGroup is shutting down" }
@@ -36,7 +41,8 @@ pub fn child_fails_while_exit_waits()
 
 /// Two tasks and then the body fail: the body's failure comes last.
 pub fn children_and_body_fail()
-    ensures begins { exit_begin (Some c) 0 both_failed ≡ record { loop = body_failed; answer = Waits 3 } }
+    ensures begins { exit_begin (Some c) 0 both_failed
+        ≡ record { loop = body_failed; answer = Waits 3 } }
     ensures first { child_done 0 1 (in_parts (taken tells_second) told_nothing) ≡ told_one }
     ensures second { child_done 0 2 (in_parts (taken []) told_one) ≡ told_both }
     ensures ends { exit_woken (Send Nothing) 0 all_woken
@@ -49,17 +55,22 @@ pub fn takes_its_cancel_back()
     ensures own_alone { exit_begin (Some cancelled_error) 0 (cancelled_body 1 [])
         ≡ record { loop = cancelled_left 0 [] None; answer = Raises (group_error (a ∷ [])) } }
     ensures another_too { exit_begin (Some cancelled_error) 0 (cancelled_body 2 asked_before)
-        ≡ record { loop = cancelled_left 1 asked_before (Some cancelled_error); answer = Raises (group_error (a ∷ [])) } }
+        ≡ record {
+          loop = cancelled_left 1 asked_before (Some cancelled_error);
+          answer = Raises (group_error (a ∷ []));
+        } }
 {}
 
 /// A cancel of the parent while the exit waits aborts the group: each task that lives is cancelled.
 pub fn parent_cancelled_while_exit_waits()
-    ensures { exit_woken (Throw cancelled_error) 0 three_children ≡ record { loop = three_aborted; answer = Waits 6 } }
+    ensures { exit_woken (Throw cancelled_error) 0 three_children
+        ≡ record { loop = three_aborted; answer = Waits 6 } }
 {}
 
 /// How an exit ends without failures.
 pub fn ends_without_failures()
-    ensures passes { exit_begin None 0 (loop_of parent_alone (in_block []) []) ≡ record { loop = passed; answer = Passes } }
+    ensures passes { exit_begin None 0 (loop_of parent_alone (in_block []) [])
+        ≡ record { loop = passed; answer = Passes } }
     ensures kept { exit_begin (Some cancelled_error) 0 (loop_of parent_alone (in_block []) [])
         ≡ record { loop = passed_on; answer = Raises cancelled_error } }
     ensures waited { (exit_woken (Send Nothing) 0 last_was_told).answer ≡ Passes }

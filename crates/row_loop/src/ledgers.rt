@@ -10,9 +10,12 @@ ghost use Rattle.row_loop.specs.Ledgers.{main_done, all_cancelled, requested};
 pub fn books_requests()
     ensures chain { request (ByScript 7) 0 chain
         ≡ requested true chain_cancelled
-        (Asked (ByScript 7) ∷ Raised 0 (ByScript 7) ∷ Raised 1 (ByScript 7) ∷ Raised 2 (ByScript 7) ∷ []) }
-    ensures refused { request (ByScript 7) 4 all_done ≡ requested false all_done (Asked (ByScript 7) ∷ []) }
-    ensures at_the_greatest { request (ByGroup 0) 0 full_count ≡ requested true full_count_cancelled (Asked (ByGroup 0) ∷ []) }
+        (Asked (ByScript 7) ∷ Raised 0 (ByScript 7) ∷ Raised 1 (ByScript 7) ∷ Raised 2 (ByScript 7)
+        ∷ []) }
+    ensures refused { request (ByScript 7) 4 all_done
+        ≡ requested false all_done (Asked (ByScript 7) ∷ []) }
+    ensures at_the_greatest { request (ByGroup 0) 0 full_count
+        ≡ requested true full_count_cancelled (Asked (ByGroup 0) ∷ []) }
 {}
 
 /// An `uncancel` is booked, with whether the count fell.

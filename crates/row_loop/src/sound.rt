@@ -53,7 +53,8 @@ pub fn timeouts_begin_in_sound_states()
     ensures both_due { Stands None both_due }
     ensures outer_fired { Stands None outer_fired }
     ensures inner_leaves { Stands (Some 0) (stepping 2 Expiring Expiring both_asked) }
-    ensures outer_leaves { Stands (Some 0) (stepping 1 Expiring Expired (both_asked ++ inner_took)) }
+    ensures outer_leaves { Stands (Some 0)
+        (stepping 1 Expiring Expired (both_asked ++ inner_took)) }
     ensures due { Stands (Some 0) alone_due }
     ensures left { Stands (Some 0) alone_left }
     ensures waiting { Stands (Some 0) alone_waiting }

@@ -37,28 +37,37 @@ pub fn refuses_circles()
         ≡ unbooked (awaited (handle 3 3 (StepInCircle 0 ItsWaiter) ∷ []) 4) }
     ensures through_many { circle (awaited [] 3) 0 3 ≡ Some ItsWaiter }
     ensures elsewhere { circle (awaited [] 3) 0 2 ≡ None }
-    ensures itself_text { circle_fault Itself ≡ exception_of RuntimeError (codes "Task cannot await on itself") }
+    ensures itself_text { circle_fault Itself
+        ≡ exception_of RuntimeError (codes "Task cannot await on itself") }
 {}
 
 /// A step takes the mark away and throws CancelledError, but for an input that throws one already.
 pub fn begins_steps()
     ensures parts { (begin_step 0 (Send Nothing) (taken [] (woken_and_marked 2))).parts ≡ begun 2 }
-    ensures sent { (begin_step 0 (Send Nothing) (taken [] (woken_and_marked 2))).input ≡ Throw cancelled_error }
-    ensures thrown { (begin_step 0 (Throw (value_error (codes "a"))) (taken [] (woken_and_marked 2))).input
+    ensures sent { (begin_step 0 (Send Nothing) (taken [] (woken_and_marked 2))).input
         ≡ Throw cancelled_error }
-    ensures cancelled { (begin_step 0 (Throw (exception_of CancelledError (codes "a"))) (taken [] (woken_and_marked 2))).input
+    ensures thrown { (begin_step 0 (Throw (value_error (codes "a")))
+        (taken [] (woken_and_marked 2))).input
+        ≡ Throw cancelled_error }
+    ensures cancelled { (begin_step 0 (Throw (exception_of CancelledError (codes "a")))
+        (taken [] (woken_and_marked 2))).input
         ≡ Throw (exception_of CancelledError (codes "a")) }
-    ensures unmarked { (begin_step 0 (Send (Truth true)) (taken [] (paused (Step 0)))).input ≡ Send (Truth true) }
+    ensures unmarked { (begin_step 0 (Send (Truth true)) (taken [] (paused (Step 0)))).input
+        ≡ Send (Truth true) }
 {}
 
 /// What a step ends with.
 pub fn ends_steps()
     ensures pauses { pause 0 running ≡ paused (Step 0) }
     ensures returns { finish 0 (Ok (Truth true)) running ≡ ended_as (Returned (Truth true)) }
-    ensures returns_marked { finish 0 (Ok (Truth true)) (running_marked 1) ≡ ended_counted_as Cancelled }
-    ensures raises { finish 0 (Err (value_error (codes "a"))) running ≡ ended_as (Failed (value_error (codes "a"))) }
-    ensures raises_cancelled { finish 0 (Err (exception_of CancelledError (codes "a"))) running ≡ ended_as Cancelled }
-    ensures raises_marked { finish 0 (Err (value_error (codes "a"))) (running_marked 1) ≡ ended_marked_as (Failed (value_error (codes "a"))) }
+    ensures returns_marked { finish 0 (Ok (Truth true)) (running_marked 1)
+        ≡ ended_counted_as Cancelled }
+    ensures raises { finish 0 (Err (value_error (codes "a"))) running
+        ≡ ended_as (Failed (value_error (codes "a"))) }
+    ensures raises_cancelled { finish 0 (Err (exception_of CancelledError (codes "a"))) running
+        ≡ ended_as Cancelled }
+    ensures raises_marked { finish 0 (Err (value_error (codes "a"))) (running_marked 1)
+        ≡ ended_marked_as (Failed (value_error (codes "a"))) }
 {}
 
 /// `uncancel` lowers a positive count, and leaves the mark.

@@ -13,12 +13,16 @@ ghost use Rattle.row_loop.specs.Nested.{before, entered, both_due, outer_fired, 
 /// Both fire in one turn. The inner exit finds a second cancel and lets CancelledError pass, and the outer one raises
 /// TimeoutError.
 pub fn nested_with_one_deadline()
-    ensures entered { enter_timeout 0 (Some (pos 10)) (enter_timeout 0 (Some (pos 10)) before) ≡ entered }
+    ensures entered { enter_timeout 0 (Some (pos 10)) (enter_timeout 0 (Some (pos 10)) before)
+        ≡ entered }
     ensures outer_fires { fire 0 (in_parts (taken (fires_inner ∷ [])) both_due) ≡ outer_fired }
-    ensures inner_fires { fire 1 (in_parts (taken (handle 3 3 (Wakeup 0) ∷ [])) outer_fired) ≡ both_fired }
-    ensures inner_passes { exit_timeout (Some cancelled_error) 1 (stepping 2 Expiring Expiring both_asked)
+    ensures inner_fires { fire 1 (in_parts (taken (handle 3 3 (Wakeup 0) ∷ [])) outer_fired)
+        ≡ both_fired }
+    ensures inner_passes { exit_timeout (Some cancelled_error) 1
+        (stepping 2 Expiring Expiring both_asked)
         ≡ left false (stepping 1 Expiring Expired (both_asked ++ inner_took)) }
-    ensures outer_raises { exit_timeout (Some cancelled_error) 0 (stepping 1 Expiring Expired (both_asked ++ inner_took))
+    ensures outer_raises { exit_timeout (Some cancelled_error) 0
+        (stepping 1 Expiring Expired (both_asked ++ inner_took))
         ≡ left true (stepping 0 Expired Expired (both_asked ++ inner_took ++ outer_took)) }
 {}
 
@@ -29,7 +33,8 @@ pub fn reschedules()
     ensures before_the_start { reschedule 0 (Some (negsuc 0)) alone_due ≡ alone_soon }
     ensures never { reschedule 0 None alone_due ≡ alone_never }
     ensures refused { reschedule 0 (Some (pos 99)) alone_left ≡ alone_left }
-    ensures text { reschedule_fault Finished ≡ exception_of RuntimeError (codes "Cannot change state of finished Timeout") }
+    ensures text { reschedule_fault Finished
+        ≡ exception_of RuntimeError (codes "Cannot change state of finished Timeout") }
 {}
 
 /// What an exit makes of the exception with which its block ends.
@@ -38,9 +43,12 @@ pub fn exits()
     ensures in_time_with_timer { exit_timeout None 0 alone_waiting ≡ left false alone_waited }
     ensures raises { (exit_timeout (Some cancelled_error) 0 expiring_alone).timed_out ≡ true }
     ensures no_exception { (exit_timeout None 0 expiring_alone).timed_out ≡ false }
-    ensures other_exception { (exit_timeout (Some (value_error [])) 0 expiring_alone).timed_out ≡ false }
-    ensures other_cancel { (exit_timeout (Some cancelled_error) 0 expiring_and_asked).timed_out ≡ false }
-    ensures taken_back_by_the_script { (exit_timeout (Some cancelled_error) 0 expiring_and_lowered).timed_out ≡ true }
+    ensures other_exception { (exit_timeout (Some (value_error [])) 0 expiring_alone).timed_out
+        ≡ false }
+    ensures other_cancel { (exit_timeout (Some cancelled_error) 0 expiring_and_asked).timed_out
+        ≡ false }
+    ensures taken_back_by_the_script { (exit_timeout
+        (Some cancelled_error) 0 expiring_and_lowered).timed_out ≡ true }
     ensures expired { has_expired Expiring ≡ true }
     ensures expired_after { has_expired Expired ≡ true }
     ensures not_expired { has_expired Active ≡ false }

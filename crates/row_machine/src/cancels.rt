@@ -18,7 +18,8 @@ pub fn taken_back()
 
 /// Two cancels come before the task goes on: one ends its sleep, the other marks it, and one throw uses both up.
 pub fn two_before_one_step()
-    ensures { seen two_before_one_step_text (0 ∷ 0 ∷ 0 ∷ 0 ∷ 0 ∷ 0 ∷ []) ≡ two_before_one_step_seen }
+    ensures { seen two_before_one_step_text (0 ∷ 0 ∷ 0 ∷ 0 ∷ 0 ∷ 0 ∷ [])
+        ≡ two_before_one_step_seen }
 {}
 
 /// Two tasks would await each other: the second await is refused by a throw.

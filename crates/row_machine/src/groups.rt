@@ -14,12 +14,14 @@ pub fn child_fails_while_exit_waits()
 
 /// Two children and then the body fail: the body's failure comes last.
 pub fn children_and_body_fail()
-    ensures { seen children_and_body_fail_text (0 ∷ 0 ∷ 0 ∷ 0 ∷ 0 ∷ []) ≡ children_and_body_fail_seen }
+    ensures { seen children_and_body_fail_text (0 ∷ 0 ∷ 0 ∷ 0 ∷ 0 ∷ [])
+        ≡ children_and_body_fail_seen }
 {}
 
 /// The parent is cancelled from outside and a child fails in one turn: the failure is raised.
 pub fn outer_cancel_and_child_failure()
-    ensures { seen outer_cancel_and_child_failure_text (0 ∷ 0 ∷ 0 ∷ 10 ∷ 10 ∷ 10 ∷ 10 ∷ 10 ∷ 10 ∷ [])
+    ensures { seen outer_cancel_and_child_failure_text
+        (0 ∷ 0 ∷ 0 ∷ 10 ∷ 10 ∷ 10 ∷ 10 ∷ 10 ∷ 10 ∷ [])
         ≡ outer_cancel_and_child_failure_seen }
 {}
 
@@ -32,7 +34,8 @@ pub fn create_while_exiting()
 /// The parent is cancelled while the exit waits, which aborts the group; a second cancel is dropped, and the first
 /// is raised after the last child.
 pub fn second_cancel_while_aborting()
-    ensures { seen second_cancel_while_aborting_text (0 ∷ 0 ∷ 0 ∷ 0 ∷ 0 ∷ 0 ∷ 0 ∷ 0 ∷ 0 ∷ 0 ∷ 0 ∷ [])
+    ensures { seen second_cancel_while_aborting_text
+        (0 ∷ 0 ∷ 0 ∷ 0 ∷ 0 ∷ 0 ∷ 0 ∷ 0 ∷ 0 ∷ 0 ∷ 0 ∷ [])
         ≡ second_cancel_while_aborting_seen }
 {}
 
@@ -52,5 +55,6 @@ pub fn uncancel_before_the_group()
 /// The ledger of that run: the group asks, the script takes back, and the group finds nothing to take.
 pub fn ledger_of_uncancel_before_the_group()
     ensures { ledger_after 5 uncancel_before_the_group_text (0 ∷ 0 ∷ 0 ∷ 0 ∷ 0 ∷ [])
-        ≡ Asked (ByGroup 0) ∷ Raised 0 (ByGroup 0) ∷ Took 0 (ByScript 0) true ∷ Began 0 ∷ Took 0 (ByGroup 0) false ∷ [] }
+        ≡ Asked (ByGroup 0) ∷ Raised 0 (ByGroup 0) ∷ Took 0 (ByScript 0) true ∷ Began 0
+        ∷ Took 0 (ByGroup 0) false ∷ [] }
 {}

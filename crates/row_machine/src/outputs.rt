@@ -23,13 +23,20 @@ pub fn hello_over_journals()
 /// Statuses, and that without the trace only what was printed has a line.
 pub fn outputs()
     ensures whole { output_of true whole
-        ≡ record { text = lines_of_events true whole.events ++ line (codes "= returned None"); status = 0 } }
+        ≡ record {
+          text = lines_of_events true whole.events ++ line (codes "= returned None");
+          status = 0;
+        } }
     ensures refused { (output_of false at_refused).status ≡ 4 }
     ensures misfit { (output_of false misfit).status ≡ 5 }
     ensures over { (output_of false out_of_answers).status ≡ 6 }
     ensures turns { (output_of false out_of_turns).status ≡ 10 }
     ensures fault { faulted false out_of_answers
-        ≡ record { text = lines_of_events false out_of_answers.events ++ line (codes "! fault shelf"); status = 9 } }
+        ≡ record {
+          text = lines_of_events false out_of_answers.events
+              ++ line (codes "! fault shelf");
+          status = 9;
+        } }
 {}
 
 /// Requests on connections aren't served so far, however deep they stand.

@@ -29,9 +29,12 @@ pub fn stalled()
 
 /// A run without an answer left, one whose answer's line is none, and one that may make no further turn.
 pub fn short_runs()
-    ensures over { seen hello_text (0 ∷ []) ≡ hello_until (Over (select (Some 0) [])) (Some 0 ∷ Some 0 ∷ []) }
+    ensures over { seen hello_text (0 ∷ [])
+        ≡ hello_until (Over (select (Some 0) [])) (Some 0 ∷ Some 0 ∷ []) }
     ensures bad { seen_of (run (program_of hello_text) (at (0 ∷ []) ++ Refused 2 1 ∷ []) 1000)
         ≡ hello_until (JournalRefused 2 1) (Some 0 ∷ Some 0 ∷ []) }
-    ensures turns { seen_of (run (program_of hello_text) (at (0 ∷ 0 ∷ [])) 1) ≡ hello_until (Turns 1) (Some 0 ∷ []) }
-    ensures whole { seen hello_text (0 ∷ 0 ∷ []) ≡ hello_until (Returned Nothing) (Some 0 ∷ Some 0 ∷ []) }
+    ensures turns { seen_of (run (program_of hello_text) (at (0 ∷ 0 ∷ [])) 1)
+        ≡ hello_until (Turns 1) (Some 0 ∷ []) }
+    ensures whole { seen hello_text (0 ∷ 0 ∷ [])
+        ≡ hello_until (Returned Nothing) (Some 0 ∷ Some 0 ∷ []) }
 {}

@@ -13,30 +13,42 @@ ghost use Rattle.model_value.specs.Equality.{equal};
 pub fn texts_of_values()
     ensures nothing { shown Nothing ≡ codes "None" }
     ensures bare { shown (Text (codes "a\"\n\\")) ≡ codes "a\"\\n\\\\" }
-    ensures list { shown (Items (values (Nothing ∷ Text (codes "a\"") ∷ Truth true ∷ []))) ≡ codes "[None, \"a\\\"\", True]" }
-    ensures nested { shown (Items (values (Items no_values ∷ Items (values (Truth false ∷ [])) ∷ []))) ≡ codes "[[], [False]]" }
-    ensures bytes { shown (Bytes (97 ∷ 10 ∷ 34 ∷ 127 ∷ 255 ∷ [])) ≡ codes "b\"a\\n\\\"\\x7f\\xff\"" }
-    ensures high { shown (Items (values (Text (195 ∷ 169 ∷ []) ∷ []))) ≡ 91 ∷ 34 ∷ 195 ∷ 169 ∷ 34 ∷ 93 ∷ [] }
+    ensures list { shown (Items (values (Nothing ∷ Text (codes "a\"") ∷ Truth true ∷ [])))
+        ≡ codes "[None, \"a\\\"\", True]" }
+    ensures nested { shown (Items (values (Items no_values ∷ Items (values (Truth false ∷ [])) ∷ [])))
+        ≡ codes "[[], [False]]" }
+    ensures bytes { shown (Bytes (97 ∷ 10 ∷ 34 ∷ 127 ∷ 255 ∷ []))
+        ≡ codes "b\"a\\n\\\"\\x7f\\xff\"" }
+    ensures high { shown (Items (values (Text (195 ∷ 169 ∷ []) ∷ [])))
+        ≡ 91 ∷ 34 ∷ 195 ∷ 169 ∷ 34 ∷ 93 ∷ [] }
 {}
 
 /// An exception shows its kind and its text; a group its members too, and nothing shows an exception's bytes.
 pub fn texts_of_exceptions()
-    ensures plain { shown (Exception (exception_of ValueError (codes "a\tb"))) ≡ codes "ValueError(\"a\\tb\")" }
-    ensures bytes { shown_exc (exc IncompleteReadError (codes "x") (1 ∷ []) no_excs) ≡ codes "IncompleteReadError(\"x\")" }
+    ensures plain { shown (Exception (exception_of ValueError (codes "a\tb")))
+        ≡ codes "ValueError(\"a\\tb\")" }
+    ensures bytes { shown_exc (exc IncompleteReadError (codes "x") (1 ∷ []) no_excs)
+        ≡ codes "IncompleteReadError(\"x\")" }
     ensures empty { shown_exc (exception_of ExceptionGroup []) ≡ codes "ExceptionGroup(\"\", [])" }
-    ensures group { shown_exc (exc ExceptionGroup (codes "g") [] (excs (exception_of ExceptionGroup [] ∷ exception_of ValueError (codes "a") ∷ []))) ≡ codes "ExceptionGroup(\"g\", [ExceptionGroup(\"\", []), ValueError(\"a\")])" }
+    ensures group { shown_exc (exc ExceptionGroup (codes "g") [] (excs
+        (exception_of ExceptionGroup [] ∷ exception_of ValueError (codes "a") ∷ [])))
+        ≡ codes "ExceptionGroup(\"g\", [ExceptionGroup(\"\", []), ValueError(\"a\")])" }
 {}
 
 /// One for the value itself and what it holds; a list or an exception is one deeper than the deepest thing in it.
 pub fn weights_and_depths()
     ensures number_weighs { weight_of (Int (negsuc 41)) ≡ 1 }
     ensures text_weighs { weight_of (Text (codes "abc")) ≡ 4 }
-    ensures list_weighs { weight_of (Items (values (Nothing ∷ Text (codes "a") ∷ Items no_values ∷ []))) ≡ 5 }
-    ensures exception_weighs { weight_of (Exception (exc IncompleteReadError (codes "x") (1 ∷ 2 ∷ []) (excs (exception_of ValueError (codes "a") ∷ [])))) ≡ 6 }
+    ensures list_weighs { weight_of (Items (values (Nothing ∷ Text (codes "a") ∷ Items no_values ∷ [])))
+        ≡ 5 }
+    ensures exception_weighs { weight_of (Exception (exc IncompleteReadError (codes "x") (1 ∷ 2 ∷ [])
+        (excs (exception_of ValueError (codes "a") ∷ [])))) ≡ 6 }
     ensures number_deep { depth_of (Int (pos 5)) ≡ 0 }
     ensures empty_deep { depth_of (Items no_values) ≡ 1 }
-    ensures list_deep { depth_of (Items (values (Items (values (Nothing ∷ [])) ∷ Nothing ∷ []))) ≡ 2 }
-    ensures exception_deep { depth_of (Items (values (Exception (exception_of ValueError []) ∷ []))) ≡ 2 }
+    ensures list_deep { depth_of (Items (values (Items (values (Nothing ∷ [])) ∷ Nothing ∷ [])))
+        ≡ 2 }
+    ensures exception_deep { depth_of (Items (values (Exception (exception_of ValueError []) ∷ [])))
+        ≡ 2 }
 {}
 
 /// Values of different kinds are never equal, whatever they hold.
@@ -46,9 +58,12 @@ pub fn equal_values()
     ensures number_and_truth { equal (Int (pos 1)) (Truth true) ≡ false }
     ensures text_and_bytes { equal (Text (codes "a")) (Bytes (codes "a")) ≡ false }
     ensures ids { equal (Fut 3) (Task 3) ≡ false }
-    ensures lists { equal (Items (values (Nothing ∷ Text (codes "a") ∷ []))) (Items (values (Nothing ∷ Text (codes "a") ∷ []))) ≡ true }
-    ensures longer { equal (Items (values (Nothing ∷ []))) (Items (values (Nothing ∷ Nothing ∷ []))) ≡ false }
-    ensures kinds { equal (Exception (exception_of ValueError [])) (Exception (exception_of OSError [])) ≡ false }
+    ensures lists { equal (Items (values (Nothing ∷ Text (codes "a") ∷ [])))
+        (Items (values (Nothing ∷ Text (codes "a") ∷ []))) ≡ true }
+    ensures longer { equal (Items (values (Nothing ∷ []))) (Items (values (Nothing ∷ Nothing ∷ [])))
+        ≡ false }
+    ensures kinds { equal (Exception (exception_of ValueError []))
+        (Exception (exception_of OSError [])) ≡ false }
 {}
 
 /// A cancel is no `Exception`, so `except Exception` lets it pass.

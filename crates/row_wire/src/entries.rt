@@ -31,5 +31,6 @@ pub fn journals_are_read()
     ensures none { entries_of [] ≡ [] }
     ensures some { entries_of (codes "turn 0\nok") ≡ Answered (Turn 0 []) ∷ Answered Done ∷ [] }
     ensures bad { entries_of (codes "turn 0\nturm 0\n") ≡ Answered (Turn 0 []) ∷ Refused 2 1 ∷ [] }
-    ensures empty { entries_of (codes "ok\n\nok\n") ≡ Answered Done ∷ Refused 2 1 ∷ Answered Done ∷ [] }
+    ensures empty { entries_of (codes "ok\n\nok\n")
+        ≡ Answered Done ∷ Refused 2 1 ∷ Answered Done ∷ [] }
 {}

@@ -21,7 +21,8 @@ pub fn push_section(
     out: &mut Vec<u8>,
 ) -> Result<(), Memory>
     requires { blocks < length out.old.items }
-    ensures { OnOk result (out.new.items ≡ out.old.items ++ statements_text (statements section.now) (suc blocks)) }
+    ensures { OnOk result
+        (out.new.items ≡ out.old.items ++ statements_text (statements section.now) (suc blocks)) }
 {
     push_statements(alloc, section.items(), blocks + 1, out)
 }
@@ -34,7 +35,8 @@ fn push_statements(
     out: &mut Vec<u8>,
 ) -> Result<(), Memory>
     requires { blocks ≤ length out.old.items }
-    ensures { OnOk result (out.new.items ≡ out.old.items ++ statements_text (statements items.now) blocks) }
+    ensures { OnOk result
+        (out.new.items ≡ out.old.items ++ statements_text (statements items.now) blocks) }
 {
     for item in items {
         push_statement(alloc, item, blocks, out)?;
@@ -99,7 +101,10 @@ fn push_branch(
     out: &mut Vec<u8>,
 ) -> Result<(), Memory>
     requires { blocks ≤ length out.old.items }
-    ensures { OnOk result (out.new.items ≡ out.old.items ++ branch_text (plain_branch (option_copied branch.entry)) word.now blocks) }
+    ensures { OnOk result
+        (out.new.items
+        ≡ out.old.items
+        ++ branch_text (plain_branch (option_copied branch.entry)) word.now blocks) }
 {
     match branch {
         Some(section) => {
@@ -118,7 +123,8 @@ fn push_handlers(
     out: &mut Vec<u8>,
 ) -> Result<(), Memory>
     requires { blocks ≤ length out.old.items }
-    ensures { OnOk result (out.new.items ≡ out.old.items ++ handlers_text (handlers clauses.now) blocks) }
+    ensures { OnOk result
+        (out.new.items ≡ out.old.items ++ handlers_text (handlers clauses.now) blocks) }
 {
     for clause in clauses {
         push_handler(alloc, clause, blocks, out)?;
@@ -134,7 +140,8 @@ fn push_handler(
     out: &mut Vec<u8>,
 ) -> Result<(), Memory>
     requires { blocks ≤ length out.old.items }
-    ensures { OnOk result (out.new.items ≡ out.old.items ++ handlers_text (handlers (handler.now ∷ [])) blocks) }
+    ensures { OnOk result
+        (out.new.items ≡ out.old.items ++ handlers_text (handlers (handler.now ∷ [])) blocks) }
 {
     push_indentation(blocks, out)?;
     out.extend_from_slice(b"except ")?;

@@ -8,7 +8,8 @@ use aio_syntax::Constant;
 use std::alloc::Global;
 
 pub fn push_constant(alloc: Global, constant: &Constant, out: &mut Vec<u8>) -> Result<(), Memory>
-    ensures { OnOk result (out.new.items ≡ out.old.items ++ constant_text (constant_of constant.now)) }
+    ensures { OnOk result
+        (out.new.items ≡ out.old.items ++ constant_text (constant_of constant.now)) }
 {
     match constant {
         Constant::Nothing => out.extend_from_slice(b"None")?,

@@ -49,7 +49,8 @@ pub fn push_expr(alloc: Global, expr: &Expr, out: &mut Vec<u8>) -> Result<(), Me
 /// `error(KIND, t)`.
 #[cycle(expression)]
 fn push_error(alloc: Global, kind: Kind, message: &Expr, out: &mut Vec<u8>) -> Result<(), Memory>
-    ensures { OnOk result (out.new.items ≡ out.old.items ++ expr_text (MakeError kind message.now)) }
+    ensures { OnOk result
+        (out.new.items ≡ out.old.items ++ expr_text (MakeError kind message.now)) }
 {
     out.extend_from_slice(b"error(")?;
     out.extend_from_slice(name_of(kind).as_bytes())?;
@@ -67,7 +68,9 @@ fn push_prefixed(
     operand: &Expr,
     out: &mut Vec<u8>,
 ) -> Result<(), Memory>
-    ensures { OnOk result (out.new.items ≡ out.old.items ++ (operator.now ++ as_operand operand.now (expr_text operand.now))) }
+    ensures { OnOk result
+        (out.new.items
+        ≡ out.old.items ++ (operator.now ++ as_operand operand.now (expr_text operand.now))) }
 {
     out.extend_from_slice(operator.as_bytes())?;
     push_operand(alloc, operand, out)
@@ -82,7 +85,11 @@ fn push_operands(
     right: &Expr,
     out: &mut Vec<u8>,
 ) -> Result<(), Memory>
-    ensures { OnOk result (out.new.items ≡ out.old.items ++ (as_operand left.now (expr_text left.now) ++ operator.now ++ as_operand right.now (expr_text right.now))) }
+    ensures { OnOk result
+        (out.new.items
+        ≡ out.old.items
+        ++ (as_operand left.now (expr_text left.now) ++ operator.now
+        ++ as_operand right.now (expr_text right.now))) }
 {
     push_operand(alloc, left, out)?;
     out.extend_from_slice(operator.as_bytes())?;
@@ -92,7 +99,8 @@ fn push_operands(
 /// In parentheses, where it is an operation.
 #[cycle(expression)]
 fn push_operand(alloc: Global, expr: &Expr, out: &mut Vec<u8>) -> Result<(), Memory>
-    ensures { OnOk result (out.new.items ≡ out.old.items ++ as_operand expr.now (expr_text expr.now)) }
+    ensures { OnOk result
+        (out.new.items ≡ out.old.items ++ as_operand expr.now (expr_text expr.now)) }
 {
     if is_operation(expr) {
         push_in_parentheses(alloc, expr, out)
@@ -137,7 +145,8 @@ pub fn push_more(alloc: Global, items: &[Expr], out: &mut Vec<u8>) -> Result<(),
 }
 
 fn is_operation(expr: &Expr) -> bool
-    ensures { (text : List ℕ) → as_operand expr.now text ≡ (if result then in_parentheses text else text) }
+    ensures { (text : List ℕ) → as_operand expr.now text
+        ≡ (if result then in_parentheses text else text) }
 {
     matches!(
         expr.case(),

@@ -60,7 +60,8 @@ fn push_behind(alloc: Global, word: &str, expr: &Expr, out: &mut Vec<u8>) -> Res
 
 /// `NAME = `, or nothing.
 fn push_into(name: Option<&RcStr>, out: &mut Vec<u8>) -> Result<(), Memory>
-    ensures { OnOk result (out.new.items ≡ out.old.items ++ into_text (plain_name (option_copied name.entry))) }
+    ensures { OnOk result
+        (out.new.items ≡ out.old.items ++ into_text (plain_name (option_copied name.entry))) }
 {
     if let Some(name) = name {
         push_name(name, out)?;
@@ -71,7 +72,8 @@ fn push_into(name: Option<&RcStr>, out: &mut Vec<u8>) -> Result<(), Memory>
 
 /// The value behind a space, or nothing.
 fn push_returned(alloc: Global, value: Option<&Expr>, out: &mut Vec<u8>) -> Result<(), Memory>
-    ensures { OnOk result (out.new.items ≡ out.old.items ++ returned_text (option_copied value.entry)) }
+    ensures { OnOk result
+        (out.new.items ≡ out.old.items ++ returned_text (option_copied value.entry)) }
 {
     match value {
         Some(value) => push_behind(alloc, " ", value, out),
@@ -81,7 +83,8 @@ fn push_returned(alloc: Global, value: Option<&Expr>, out: &mut Vec<u8>) -> Resu
 
 /// ` as NAME`, or nothing.
 pub fn push_as(name: Option<&RcStr>, out: &mut Vec<u8>) -> Result<(), Memory>
-    ensures { OnOk result (out.new.items ≡ out.old.items ++ as_text (plain_name (option_copied name.entry))) }
+    ensures { OnOk result
+        (out.new.items ≡ out.old.items ++ as_text (plain_name (option_copied name.entry))) }
 {
     if let Some(name) = name {
         out.extend_from_slice(b" as ")?;

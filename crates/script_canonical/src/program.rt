@@ -67,7 +67,8 @@ fn push_coroutine(alloc: Global, coroutine: &Coroutine, out: &mut Vec<u8>) -> Re
 
 /// Names with `, ` between them.
 fn push_names(names: &[RcStr], out: &mut Vec<u8>) -> Result<(), Memory>
-    ensures { OnOk result (out.new.items ≡ out.old.items ++ names_text (map rc_str_bytes names.now)) }
+    ensures { OnOk result
+        (out.new.items ≡ out.old.items ++ names_text (map rc_str_bytes names.now)) }
 {
     let mut before: &[u8] = b"";
     for name in names {

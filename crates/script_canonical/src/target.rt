@@ -53,7 +53,9 @@ fn push_call(
     arguments: &ExprList,
     out: &mut Vec<u8>,
 ) -> Result<(), Memory>
-    ensures { OnOk result (out.new.items ≡ out.old.items ++ (name.now ++ in_parentheses (exprs_text (exprs arguments.now)))) }
+    ensures { OnOk result
+        (out.new.items
+        ≡ out.old.items ++ (name.now ++ in_parentheses (exprs_text (exprs arguments.now)))) }
 {
     out.extend_from_slice(name.as_bytes())?;
     out.push(b'(')?;
@@ -63,7 +65,8 @@ fn push_call(
 }
 
 pub fn push_manager(alloc: Global, manager: &Manager, out: &mut Vec<u8>) -> Result<(), Memory>
-    ensures { OnOk result (out.new.items ≡ out.old.items ++ manager_text (plain_manager manager.now)) }
+    ensures { OnOk result
+        (out.new.items ≡ out.old.items ++ manager_text (plain_manager manager.now)) }
 {
     match manager {
         Manager::Group => out.extend_from_slice(b"group")?,

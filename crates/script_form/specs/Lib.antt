@@ -3,6 +3,7 @@ pub mod Placed
 pub mod Fronts
 pub mod Parts
 pub mod Fitting
+pub mod Capped
 pub mod Unplaced
 pub mod Lines
 pub mod Faults

@@ -131,7 +131,7 @@ fn yield_from(
         return Ok(None);
     };
     Ok(Some(UnplacedForm {
-        form: awaiting(into, goal),
+        form: awaiting(into, goal.fits()),
         standing: FormPlace::Inside,
     }))
 }
@@ -184,7 +184,7 @@ fn assign_form(
         return Ok(None);
     };
     Ok(Some(UnplacedForm {
-        form: value.map(|value| Spelled::Assign(name, value)),
+        form: value.fits().map(|value| Spelled::Assign(name, value)),
         standing: FormPlace::Inside,
     }))
 }
@@ -201,7 +201,7 @@ fn print_form(alloc: Global, rest: &[Lexeme]) -> Result<Option<UnplacedForm>, Al
         return Ok(None);
     };
     Ok(Some(UnplacedForm {
-        form: items.map(Spelled::Print),
+        form: items.fits().map(Spelled::Print),
         standing: FormPlace::Inside,
     }))
 }
@@ -213,7 +213,7 @@ fn raise_form(alloc: Global, rest: &[Lexeme]) -> Result<Option<UnplacedForm>, Al
         return Ok(None);
     };
     Ok(Some(UnplacedForm {
-        form: fault.map(Spelled::Raise),
+        form: fault.fits().map(Spelled::Raise),
         standing: FormPlace::Inside,
     }))
 }
@@ -225,7 +225,7 @@ fn if_form(alloc: Global, rest: &[Lexeme]) -> Result<Option<UnplacedForm>, Alloc
         return Ok(None);
     };
     Ok(Some(UnplacedForm {
-        form: test.map(Spelled::If),
+        form: test.fits().map(Spelled::If),
         standing: FormPlace::Inside,
     }))
 }
@@ -237,7 +237,7 @@ fn while_form(alloc: Global, rest: &[Lexeme]) -> Result<Option<UnplacedForm>, Al
         return Ok(None);
     };
     Ok(Some(UnplacedForm {
-        form: test.map(Spelled::While),
+        form: test.fits().map(Spelled::While),
         standing: FormPlace::Inside,
     }))
 }
@@ -255,7 +255,7 @@ fn return_form(alloc: Global, rest: &[Lexeme]) -> Result<Option<UnplacedForm>, A
         return Ok(None);
     };
     Ok(Some(UnplacedForm {
-        form: returning(value),
+        form: returning(value.fits()),
         standing: FormPlace::OutsideFinally,
     }))
 }
@@ -319,7 +319,7 @@ fn timeout_form(alloc: Global, rest: &[Lexeme]) -> Result<Option<UnplacedForm>, 
     };
     let name = name.clone()?;
     Ok(Some(UnplacedForm {
-        form: delay.map(|delay| Spelled::WithTimeout(delay, name)),
+        form: delay.fits().map(|delay| Spelled::WithTimeout(delay, name)),
         standing: FormPlace::Inside,
     }))
 }

@@ -31,7 +31,8 @@ fn is_word(lexeme: &Lexeme, word: ReservedWord) -> bool
 }
 
 fn name_in(lexeme: &Lexeme) -> Option<&RcStr>
-    ensures { option_map (λ name. rc_str_bytes name.now) result ≡ name_in (plain_lexeme lexeme.now) }
+    ensures { option_map (λ name. rc_str_bytes name.now) result
+        ≡ name_in (plain_lexeme lexeme.now) }
 {
     match lexeme {
         Lexeme::Named(name) => Some(name),
@@ -76,7 +77,8 @@ pub fn behind_name(lexemes: &[Lexeme]) -> Option<(&RcStr, &[Lexeme])>
 
 /// One name alone.
 pub fn bare_name(lexemes: &[Lexeme]) -> Option<&RcStr>
-    ensures { option_map (λ name. rc_str_bytes name.now) result ≡ bare_name (map plain_lexeme lexemes.now) }
+    ensures { option_map (λ name. rc_str_bytes name.now) result
+        ≡ bare_name (map plain_lexeme lexemes.now) }
 {
     let (name, rest) = behind_name(lexemes)?;
     if rest.is_empty() { Some(name) } else { None }
@@ -108,14 +110,16 @@ pub fn in_parentheses(lexemes: &[Lexeme]) -> Option<&[Lexeme]>
 
 /// The name of `as NAME`.
 pub fn as_name(lexemes: &[Lexeme]) -> Option<&RcStr>
-    ensures { option_map (λ name. rc_str_bytes name.now) result ≡ as_name (map plain_lexeme lexemes.now) }
+    ensures { option_map (λ name. rc_str_bytes name.now) result
+        ≡ as_name (map plain_lexeme lexemes.now) }
 {
     bare_name(behind_word(lexemes, ReservedWord::As)?)
 }
 
 /// The name of `) as NAME`.
 fn closing_name(lexemes: &[Lexeme]) -> Option<&RcStr>
-    ensures { option_map (λ name. rc_str_bytes name.now) result ≡ closing_name (map plain_lexeme lexemes.now) }
+    ensures { option_map (λ name. rc_str_bytes name.now) result
+        ≡ closing_name (map plain_lexeme lexemes.now) }
 {
     as_name(behind_sign(lexemes, Symbol::RightParenthesis)?)
 }

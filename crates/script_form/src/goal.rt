@@ -5,8 +5,10 @@ ghost use Rattle.model_text.specs.Forms.{coroutine_place, goal_of};
 ghost use Rattle.model_text.specs.Places.{height_of_goal};
 ghost use Rattle.script_term.specs.Lexeme.{plain_lexeme};
 ghost use Rattle.script_term.specs.Spelled.{plain_goal};
+ghost use Rattle.script_form.specs.Capped.{plain_capped};
 ghost use Rattle.script_form.specs.Fitting.{fitting};
 
+use crate::capped::Capped;
 use crate::fronts::{behind_name, in_parentheses};
 use crate::parts::parts;
 use crate::terms::arguments_of;
@@ -25,16 +27,17 @@ fn coroutine_place(name: &RcStr) -> Option<usize>
     }
 }
 
-/// `NAME`, or `NAME(ARG, ..)`. In place of a call with an argument that is too high stands nothing.
-pub fn goal_of(alloc: Global, lexemes: &[Lexeme]) -> Result<Option<Option<Goal>>, AllocError>
-    ensures { IfOk result (λ read. option_map (option_map plain_goal) read
+/// `NAME`, or `NAME(ARG, ..)`. A call is too high where an argument is.
+pub fn goal_of(alloc: Global, lexemes: &[Lexeme]) -> Result<Option<Capped<Goal>>, AllocError>
+    ensures { IfOk result
+        (λ read. option_map (λ goal. option_map plain_goal (plain_capped goal)) read
         ≡ option_map (fitting height_of_goal) (goal_of (map plain_lexeme lexemes.now))) }
 {
     let Some((name, rest)) = behind_name(lexemes) else {
         return Ok(None);
     };
     if rest.is_empty() {
-        return Ok(Some(Some(Goal::Awaited(name.clone()?))));
+        return Ok(Some(Capped::Fits(Goal::Awaited(name.clone()?))));
     }
     let Some(inner) = in_parentheses(rest) else {
         return Ok(None);
@@ -43,8 +46,8 @@ pub fn goal_of(alloc: Global, lexemes: &[Lexeme]) -> Result<Option<Option<Goal>>
     let Some(arguments) = arguments_of(alloc, coroutine_place(name), parts.as_slice())? else {
         return Ok(None);
     };
-    let Some(arguments) = arguments else {
-        return Ok(Some(None));
+    let Capped::Fits(arguments) = arguments else {
+        return Ok(Some(Capped::TooHigh));
     };
-    Ok(Some(Some(Goal::Asked(name.clone()?, arguments))))
+    Ok(Some(Capped::Fits(Goal::Asked(name.clone()?, arguments))))
 }

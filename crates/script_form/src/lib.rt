@@ -2,6 +2,7 @@
 #![tactic(auto)]
 
 mod block;
+mod capped;
 mod fault;
 mod form_place;
 mod forms;

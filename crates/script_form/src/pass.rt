@@ -23,7 +23,8 @@ use std::alloc::Global;
 
 /// The forms of a text's lines, with their numbers, or the least faulty line.
 pub fn first_pass(alloc: Global, text: &[u8]) -> Result<Vec<NumberedForm>, FormFault>
-    ensures forms { IfOk result (λ forms. first_pass (text_lines text.now) ≡ Ok (map plain_numbered forms.items)) }
+    ensures forms { IfOk result
+        (λ forms. first_pass (text_lines text.now) ≡ Ok (map plain_numbered forms.items)) }
     ensures fault { IfErr result (λ fault. IsFaultOf fault (first_pass (text_lines text.now))) }
 {
     let mut places = Places::new(alloc);
@@ -53,7 +54,8 @@ fn line_form(alloc: Global, places: &mut Places, line: &[u8]) -> Result<Option<S
     ensures form { (roles : List PlainRole) → IsBehind places.old roles
         → IfOk result (λ form. line_behind roles line.now ≡ Ok (option_map plain_spelled form)) }
     ensures places { (roles : List PlainRole) → IsBehind places.old roles
-        → IfOk result (λ form. IsBehind places.new (roles_behind (option_map plain_spelled form) roles)) }
+        → IfOk result
+        (λ form. IsBehind places.new (roles_behind (option_map plain_spelled form) roles)) }
     ensures fault { (roles : List PlainRole) → IsBehind places.old roles
         → IfErr result (λ fault. IsCauseOf fault (line_behind roles line.now)) }
 {
@@ -70,7 +72,8 @@ fn line_form(alloc: Global, places: &mut Places, line: &[u8]) -> Result<Option<S
 
 fn line_tokens(alloc: Global, line: &[u8]) -> Result<TokenList, LineFault>
     ensures tokens { IfOk result (λ tokens. tokens_of line.now ≡ Ok tokens) }
-    ensures fault { (roles : List PlainRole) → IfErr result (λ fault. IsCauseOf fault (line_behind roles line.now)) }
+    ensures fault { (roles : List PlainRole)
+        → IfErr result (λ fault. IsCauseOf fault (line_behind roles line.now)) }
 {
     match tokens(alloc, line) {
         Ok(tokens) => Ok(tokens),
@@ -83,7 +86,8 @@ fn line_tokens(alloc: Global, line: &[u8]) -> Result<TokenList, LineFault>
 fn placed(places: &mut Places, unplaced: UnplacedForm) -> Result<Spelled, LineFault>
     ensures form { (roles : List PlainRole) (form : PlainSpelled) → IsBehind places.old roles
         → plain_unplaced unplaced ≡ unplaced_of form
-        → IfOk result (λ spelled. (plain_spelled spelled ≡ form) × (cause_behind roles form ≡ None)) }
+        → IfOk result
+        (λ spelled. (plain_spelled spelled ≡ form) × (cause_behind roles form ≡ None)) }
     ensures places { (roles : List PlainRole) (form : PlainSpelled) → IsBehind places.old roles
         → plain_unplaced unplaced ≡ unplaced_of form
         → IfOk result (λ spelled. IsBehind places.new (role_of form ∷ roles)) }

@@ -33,7 +33,8 @@ impl Places {
     }
 
     pub fn is_outside(&self) -> bool
-        ensures { (roles : List PlainRole) → IsBehind self.now roles → result ≡ is_outside (open_blocks roles) }
+        ensures { (roles : List PlainRole) → IsBehind self.now roles → result
+            ≡ is_outside (open_blocks roles) }
     {
         self.blocks.is_empty()
     }
@@ -54,7 +55,8 @@ impl Places {
     }
 
     fn is_in_finally(&self) -> bool
-        ensures { result ≡ list_any (λ open_block. is_in_finally (plain_open open_block)) self.now.blocks.items }
+        ensures { result
+            ≡ list_any (λ open_block. is_in_finally (plain_open open_block)) self.now.blocks.items }
     {
         self.blocks.iter().any(|open_block| open_block.is_finally())
     }

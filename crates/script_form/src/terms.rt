@@ -1,4 +1,4 @@
-//! The expressions of a line. In place of what is too high stands nothing.
+//! The expressions of a line.
 ghost use Rattle.std.specs.Prelude.{◌≡◌, List, [], ◌∷◌, ◌++◌, option_map, option_and_then, map, IfOk};
 ghost use Rattle.std.specs.Rc.{rc_str_bytes};
 ghost use Rattle.model_text.specs.Terms.{Term as PlainTerm, height};
@@ -8,9 +8,11 @@ ghost use Rattle.law_reading.specs.Operands.{that_fits};
 ghost use Rattle.script_term.specs.Lexeme.{plain_lexeme};
 ghost use Rattle.script_term.specs.Operand.{plain_operand};
 ghost use Rattle.script_term.specs.Spelled.{plain_arguments};
+ghost use Rattle.script_form.specs.Capped.{plain_capped};
 ghost use Rattle.script_form.specs.Fitting.{fitting, height_of_arguments};
 ghost use Rattle.script_form.specs.Parts.{plain_part};
 
+use crate::capped::Capped;
 use crate::fronts::bare_name;
 use script_term::{Arguments, Lexeme, Operand, Term};
 use script_term_reader::read_term;
@@ -18,8 +20,10 @@ use std::alloc::{AllocError, Global};
 use std::rc::RcStr;
 
 /// The expression that lexemes spell.
-pub fn one_term(alloc: Global, lexemes: &[Lexeme]) -> Result<Option<Option<Term>>, AllocError>
-    ensures { IfOk result (λ read. read ≡ option_map (fitting height) (term_of (map plain_lexeme lexemes.now))) }
+pub fn one_term(alloc: Global, lexemes: &[Lexeme]) -> Result<Option<Capped<Term>>, AllocError>
+    ensures { IfOk result
+        (λ read. option_map plain_capped read
+        ≡ option_map (fitting height) (term_of (map plain_lexeme lexemes.now))) }
 {
     let Some(operand) = read_term(alloc, lexemes)? else {
         return Ok(None);
@@ -27,12 +31,12 @@ pub fn one_term(alloc: Global, lexemes: &[Lexeme]) -> Result<Option<Option<Term>
     Ok(Some(that_fits(operand)))
 }
 
-fn that_fits(operand: Operand) -> Option<Term>
-    ensures { result ≡ that_fits (plain_operand operand) }
+fn that_fits(operand: Operand) -> Capped<Term>
+    ensures { plain_capped result ≡ that_fits (plain_operand operand) }
 {
     match operand {
-        Operand::Fits(term) => Some(term),
-        Operand::TooHigh => None,
+        Operand::Fits(term) => Capped::Fits(term),
+        Operand::TooHigh => Capped::TooHigh,
     }
 }
 
@@ -40,11 +44,12 @@ fn that_fits(operand: Operand) -> Option<Term>
 pub fn all_terms(
     alloc: Global,
     parts: &[&[Lexeme]],
-) -> Result<Option<Option<Vec<Term>>>, AllocError>
-    ensures { IfOk result (λ read. option_map (option_map (λ terms. terms.items)) read
+) -> Result<Option<Capped<Vec<Term>>>, AllocError>
+    ensures { IfOk result
+        (λ read. option_map (λ terms. option_map (λ terms. terms.items) (plain_capped terms)) read
         ≡ option_map (fitting heights) (all_of term_of (map plain_part parts.now))) }
 {
-    let mut terms = Some(Vec::new(alloc));
+    let mut terms = Capped::Fits(Vec::new(alloc));
     for part in parts {
         let Some(term) = one_term(alloc, part)? else {
             return Ok(None);
@@ -55,15 +60,16 @@ pub fn all_terms(
 }
 
 /// One term more, if none is too high.
-fn with_last(terms: Option<Vec<Term>>, term: Option<Term>) -> Result<Option<Vec<Term>>, AllocError>
-    ensures { IfOk result (λ all. option_map (λ terms. terms.items) all
-        ≡ option_and_then (λ before. option_map (λ last. before ++ last ∷ []) term) (option_map (λ terms. terms.items) terms)) }
+fn with_last(terms: Capped<Vec<Term>>, term: Capped<Term>) -> Result<Capped<Vec<Term>>, AllocError>
+    ensures { IfOk result (λ all. option_map (λ terms. terms.items) (plain_capped all)
+        ≡ option_and_then (λ before. option_map (λ last. before ++ last ∷ []) (plain_capped term))
+        (option_map (λ terms. terms.items) (plain_capped terms))) }
 {
-    let (Some(mut terms), Some(term)) = (terms, term) else {
-        return Ok(None);
+    let (Capped::Fits(mut terms), Capped::Fits(term)) = (terms, term) else {
+        return Ok(Capped::TooHigh);
     };
     terms.push(term)?;
-    Ok(Some(terms))
+    Ok(Capped::Fits(terms))
 }
 
 /// The names that parts are, if each is one.
@@ -86,9 +92,11 @@ pub fn arguments_of(
     alloc: Global,
     place: Option<usize>,
     parts: &[&[Lexeme]],
-) -> Result<Option<Option<Arguments>>, AllocError>
-    ensures { IfOk result (λ read. option_map (option_map plain_arguments) read
-        ≡ option_map (fitting height_of_arguments) (arguments_of term_of place (map plain_part parts.now))) }
+) -> Result<Option<Capped<Arguments>>, AllocError>
+    ensures { IfOk result
+        (λ read. option_map (λ all. option_map plain_arguments (plain_capped all)) read
+        ≡ option_map (fitting height_of_arguments)
+        (arguments_of term_of place (map plain_part parts.now))) }
 {
     let split = match place {
         Some(place) if place < parts.len() => place,
@@ -104,16 +112,18 @@ pub fn arguments_of(
 /// The arguments behind those before a bare name.
 fn from_bare(
     alloc: Global,
-    before: Option<Vec<Term>>,
+    before: Capped<Vec<Term>>,
     parts: &[&[Lexeme]],
-) -> Result<Option<Option<Arguments>>, AllocError>
+) -> Result<Option<Capped<Arguments>>, AllocError>
     ensures { (terms : List PlainTerm)
-        → option_map (λ terms. terms.items) before ≡ fitting heights terms
-        → IfOk result (λ read. option_map (option_map plain_arguments) read
-        ≡ option_map (fitting height_of_arguments) (from_bare term_of terms (map plain_part parts.now))) }
+        → option_map (λ terms. terms.items) (plain_capped before) ≡ fitting heights terms
+        → IfOk result
+        (λ read. option_map (λ all. option_map plain_arguments (plain_capped all)) read
+        ≡ option_map (fitting height_of_arguments)
+        (from_bare term_of terms (map plain_part parts.now))) }
 {
     let Some((part, others)) = parts.split_first() else {
-        return Ok(Some(joined(before, None, Some(Vec::new(alloc)))));
+        return Ok(Some(joined(before, None, Capped::Fits(Vec::new(alloc)))));
     };
     let Some(name) = bare_name(part) else {
         return Ok(None);
@@ -126,19 +136,23 @@ fn from_bare(
 
 /// Arguments, if none is too high.
 fn joined(
-    before: Option<Vec<Term>>,
+    before: Capped<Vec<Term>>,
     bare: Option<RcStr>,
-    after: Option<Vec<Term>>,
-) -> Option<Arguments>
+    after: Capped<Vec<Term>>,
+) -> Capped<Arguments>
     ensures { (first last : List PlainTerm)
-        → option_map (λ terms. terms.items) before ≡ fitting heights first
-        → option_map (λ terms. terms.items) after ≡ fitting heights last
-        → option_map plain_arguments result
-        ≡ fitting height_of_arguments (record { before = first; bare = option_map rc_str_bytes bare; after = last }) }
+        → option_map (λ terms. terms.items) (plain_capped before) ≡ fitting heights first
+        → option_map (λ terms. terms.items) (plain_capped after) ≡ fitting heights last
+        → option_map plain_arguments (plain_capped result)
+        ≡ fitting height_of_arguments
+        (record { before = first; bare = option_map rc_str_bytes bare; after = last }) }
 {
-    Some(Arguments {
-        before: before?,
-        bare,
-        after: after?,
-    })
+    match (before, after) {
+        (Capped::Fits(before), Capped::Fits(after)) => Capped::Fits(Arguments {
+            before,
+            bare,
+            after,
+        }),
+        _ => Capped::TooHigh,
+    }
 }

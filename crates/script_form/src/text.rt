@@ -9,7 +9,8 @@ use aio_text::next_line;
 /// where the text is empty. The last line may lack its newline.
 pub fn next_text_line(text: &[u8]) -> Option<(&[u8], &[u8])>
     ensures none { IsNone result ↔ (text.now ≡ []) }
-    ensures line { IfSome result (λ found. text_lines text.now ≡ found.0.now ∷ text_lines found.1.now) }
+    ensures line { IfSome result
+        (λ found. text_lines text.now ≡ found.0.now ∷ text_lines found.1.now) }
     ensures shorter { IfSome result (λ found. length found.1.now < length text.now) }
 {
     let (line, _) = next_line(text)?;

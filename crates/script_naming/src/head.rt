@@ -26,7 +26,8 @@ pub fn head_meant(
     part: &Part<'_>,
 ) -> Result<(), MeaningFault>
     ensures { (names : List Name) → Holds earlier.now names
-        → Gives (λ _. rc_str_bytes part.now.name.now) (head_meant names (plain_part part.now)) result }
+        → Gives (λ _. rc_str_bytes part.now.name.now)
+        (head_meant names (plain_part part.now)) result }
 {
     if !is_new(alloc, earlier, part)? {
         return Err(MeaningFault::Refused(Cause::Name));
@@ -47,7 +48,8 @@ fn is_new(alloc: Global, earlier: &BTreeSet<&str>, part: &Part<'_>) -> Result<bo
 }
 
 fn is_free(earlier: &BTreeSet<&str>, name: &RcStr) -> bool
-    ensures { (names : List Name) → Holds earlier.now names → result ≡ is_free names (rc_str_bytes name.now) }
+    ensures { (names : List Name) → Holds earlier.now names → result
+        ≡ is_free names (rc_str_bytes name.now) }
 {
     let is_earlier = earlier.contains(name.as_str());
     !is_taken(name.as_str()) && !is_earlier

@@ -118,7 +118,8 @@ fn yield_from(
     into: &Option<RcStr>,
     goal: &Goal,
 ) -> Result<Line, MeaningFault>
-    ensures { Gives plain_line (both form.YieldFrom (free_or_none (option_map rc_str_bytes into.now))
+    ensures { Gives plain_line
+        (both form.YieldFrom (free_or_none (option_map rc_str_bytes into.now))
         (target_of scope.now (plain_goal goal.now))) result }
 {
     let (into, target) = both(free_or_none(into), target_of(alloc, scope, goal))?;

@@ -79,7 +79,8 @@ fn two_meant(
     ensures left { IfOk result (λ pair. meaning_of scope.now left.now ≡ Ok pair.0.value) }
     ensures right { IfOk result (λ pair. meaning_of scope.now right.now ≡ Ok pair.1.value) }
     ensures fault { IfErr result (λ fault. (join : Expr → Expr → Expr)
-        → Fails (both join (meaning_of scope.now left.now) (meaning_of scope.now right.now)) fault) }
+        → Fails (both join (meaning_of scope.now left.now)
+        (meaning_of scope.now right.now)) fault) }
 {
     let left = meaning_of(alloc, scope, left);
     let right = meaning_of(alloc, scope, right);
@@ -205,7 +206,8 @@ fn error_of(
 
 fn variable(scope: &Scope<'_, '_>, name: &RcStr) -> Result<Expr, MeaningFault>
     ensures { Gives (λ meaning. meaning)
-        (if_known (is_variable scope.now (rc_str_bytes name.now)) (Variable (rc_str_bytes name.now)))
+        (if_known (is_variable scope.now (rc_str_bytes name.now))
+        (Variable (rc_str_bytes name.now)))
         result }
 {
     if scope.is_variable(name.as_str()) {

@@ -52,7 +52,8 @@ fn called_target(
 ) -> Result<Target, MeaningFault>
     ensures { Gives plain_target (called_target scope.now (rc_str_bytes name.now)
         (request_of (rc_str_bytes name.now)) (all_meant scope.now arguments.now.before.items)
-        (option_map rc_str_bytes arguments.now.bare) (all_meant scope.now arguments.now.after.items))
+        (option_map rc_str_bytes arguments.now.bare)
+        (all_meant scope.now arguments.now.after.items))
         result }
 {
     match request_of(name.as_str()) {
@@ -68,7 +69,8 @@ fn coroutine_target(
     arguments: &Arguments,
 ) -> Result<Target, MeaningFault>
     ensures { Gives plain_target (called_target scope.now (rc_str_bytes name.now) None
-        (all_meant scope.now arguments.now.before.items) (option_map rc_str_bytes arguments.now.bare)
+        (all_meant scope.now arguments.now.before.items)
+        (option_map rc_str_bytes arguments.now.bare)
         (all_meant scope.now arguments.now.after.items)) result }
 {
     let before = arguments.before.as_slice();
@@ -92,7 +94,8 @@ fn counted(
     arguments: &[Term],
     count: usize,
 ) -> Result<ExprList, MeaningFault>
-    ensures { Gives (λ all. all) (counted count (λ all. all) (all_meant scope.now arguments.now)) result }
+    ensures { Gives (λ all. all)
+        (counted count (λ all. all) (all_meant scope.now arguments.now)) result }
 {
     let all = all_meant(alloc, scope, arguments)?;
     if_arity(all.len() == count, ExprList::of(all))
@@ -104,7 +107,8 @@ fn request_target(
     request: RequestName,
     arguments: &[Term],
 ) -> Result<Target, MeaningFault>
-    ensures { Gives plain_target (request_target scope.now request (all_meant scope.now arguments.now))
+    ensures { Gives plain_target
+        (request_target scope.now request (all_meant scope.now arguments.now))
         result }
 {
     let arguments = counted(alloc, scope, arguments, request_arity(request))?;

@@ -52,7 +52,9 @@ fn ended_by(
     tight: Tight,
     operand: Operand,
 ) -> Result<Option<Operand>, AllocError>
-    ensures { IfOk result (λ made. option_map plain_operand made ≡ Some (disjunction_of loose tight (plain_operand operand))) }
+    ensures { IfOk result
+        (λ made. option_map plain_operand made
+        ≡ Some (disjunction_of loose tight (plain_operand operand))) }
 {
     let made = disjunction_of(alloc, loose, tight, operand)?;
     Ok(Some(made))
@@ -66,7 +68,8 @@ fn parted(
     bracket: Bracket,
     progress: TermProgress,
 ) -> Result<Option<Bracket>, AllocError>
-    ensures { IfOk result (λ behind. option_map plain_bracket behind ≡ parted (plain_bracket bracket) progress) }
+    ensures { IfOk result
+        (λ behind. option_map plain_bracket behind ≡ parted (plain_bracket bracket) progress) }
 {
     match bracket {
         Bracket::Group => Ok(None),
@@ -83,7 +86,9 @@ fn parted_items(
     items: Vec<Operand>,
     progress: TermProgress,
 ) -> Result<Option<Bracket>, AllocError>
-    ensures { IfOk result (λ behind. option_map plain_bracket behind ≡ parted (Items (map plain_operand items.items)) progress) }
+    ensures { IfOk result
+        (λ behind. option_map plain_bracket behind
+        ≡ parted (Items (map plain_operand items.items)) progress) }
 {
     let item = ended(alloc, progress)?;
     match item {
@@ -93,7 +98,9 @@ fn parted_items(
 }
 
 fn with_last_item(items: Vec<Operand>, item: Operand) -> Result<Option<Bracket>, AllocError>
-    ensures { IfOk result (λ behind. option_map plain_bracket behind ≡ Some (Items (map plain_operand items.items ++ plain_operand item ∷ []))) }
+    ensures { IfOk result
+        (λ behind. option_map plain_bracket behind
+        ≡ Some (Items (map plain_operand items.items ++ plain_operand item ∷ []))) }
 {
     let items = with_last(items, item)?;
     Ok(Some(Bracket::Items(items)))
@@ -106,7 +113,10 @@ fn parted_arguments(
     arguments: Vec<Operand>,
     progress: TermProgress,
 ) -> Result<Option<Bracket>, AllocError>
-    ensures { IfOk result (λ behind. option_map plain_bracket behind ≡ parted (Arguments (rc_str_bytes name) (option_map rc_str_bytes bare) (map plain_operand arguments.items)) progress) }
+    ensures { IfOk result
+        (λ behind. option_map plain_bracket behind
+        ≡ parted (Arguments (rc_str_bytes name) (option_map rc_str_bytes bare)
+        (map plain_operand arguments.items)) progress) }
 {
     match progress.place() {
         Position::Start => Ok(None),
@@ -148,7 +158,11 @@ fn with_argument(
     tight: Tight,
     argument: Operand,
 ) -> Result<Option<Bracket>, AllocError>
-    ensures { IfOk result (λ behind. option_map plain_bracket behind ≡ Some (Arguments (rc_str_bytes name) (option_map rc_str_bytes bare) (map plain_operand arguments.items ++ disjunction_of loose tight (plain_operand argument) ∷ []))) }
+    ensures { IfOk result
+        (λ behind. option_map plain_bracket behind
+        ≡ Some (Arguments (rc_str_bytes name) (option_map rc_str_bytes bare)
+        (map plain_operand arguments.items ++ disjunction_of loose tight (plain_operand argument)
+        ∷ []))) }
 {
     let argument = disjunction_of(alloc, loose, tight, argument)?;
     let arguments = with_last(arguments, argument)?;
@@ -156,7 +170,9 @@ fn with_argument(
 }
 
 fn with_last(items: Vec<Operand>, last: Operand) -> Result<Vec<Operand>, AllocError>
-    ensures { IfOk result (λ more. map plain_operand more.items ≡ map plain_operand items.items ++ plain_operand last ∷ []) }
+    ensures { IfOk result
+        (λ more. map plain_operand more.items
+        ≡ map plain_operand items.items ++ plain_operand last ∷ []) }
 {
     let mut items = items;
     items.push(last)?;
@@ -169,7 +185,8 @@ pub fn at_comma(
     progress: TermProgress,
     opened: &mut Vec<Open>,
 ) -> Result<Option<TermProgress>, AllocError>
-    ensures { IfOk result (λ reached. come reached opened.new.items ≡ at_comma progress (reverse opened.old.items)) }
+    ensures { IfOk result
+        (λ reached. come reached opened.new.items ≡ at_comma progress (reverse opened.old.items)) }
 {
     match opened.pop() {
         None => Ok(None),
@@ -183,7 +200,9 @@ fn comma_within(
     progress: TermProgress,
     opened: &mut Vec<Open>,
 ) -> Result<Option<TermProgress>, AllocError>
-    ensures { IfOk result (λ reached. come reached opened.new.items ≡ at_comma progress (innermost ∷ reverse opened.old.items)) }
+    ensures { IfOk result
+        (λ reached. come reached opened.new.items
+        ≡ at_comma progress (innermost ∷ reverse opened.old.items)) }
 {
     match parted_open(alloc, innermost, progress)? {
         Some(innermost) => {
@@ -219,7 +238,8 @@ fn parted_open(
 
 /// `[a, b]`.
 fn list_of(alloc: Global, items: Vec<Operand>) -> Result<Operand, AllocError>
-    ensures { IfOk result (λ operand. plain_operand operand ≡ list_of (map plain_operand items.items)) }
+    ensures { IfOk result
+        (λ operand. plain_operand operand ≡ list_of (map plain_operand items.items)) }
 {
     match all_that_fit(alloc, items)? {
         Some(items) => Ok(capped(Term::list(TermList::of(items)))),
@@ -234,7 +254,10 @@ fn call_of(
     bare: Option<RcStr>,
     arguments: Vec<Operand>,
 ) -> Result<Operand, AllocError>
-    ensures { IfOk result (λ operand. plain_operand operand ≡ call_of (rc_str_bytes name) (option_map rc_str_bytes bare) (map plain_operand arguments.items)) }
+    ensures { IfOk result
+        (λ operand. plain_operand operand
+        ≡ call_of (rc_str_bytes name) (option_map rc_str_bytes bare)
+        (map plain_operand arguments.items)) }
 {
     match all_that_fit(alloc, arguments)? {
         Some(arguments) => Ok(capped(call(alloc, name, bare, arguments))),
@@ -255,7 +278,8 @@ fn call(alloc: Global, name: RcStr, bare: Option<RcStr>, arguments: Vec<Term>) -
 
 /// The operand that a bracket makes with the last expression in it.
 fn filled(alloc: Global, bracket: Bracket, operand: Operand) -> Result<Operand, AllocError>
-    ensures { IfOk result (λ made. plain_operand made ≡ filled (plain_bracket bracket) (plain_operand operand)) }
+    ensures { IfOk result
+        (λ made. plain_operand made ≡ filled (plain_bracket bracket) (plain_operand operand)) }
 {
     match bracket {
         Bracket::Group => Ok(operand),
@@ -268,7 +292,9 @@ fn filled(alloc: Global, bracket: Bracket, operand: Operand) -> Result<Operand, 
 }
 
 fn list_with(alloc: Global, items: Vec<Operand>, last: Operand) -> Result<Operand, AllocError>
-    ensures { IfOk result (λ made. plain_operand made ≡ list_of (map plain_operand items.items ++ plain_operand last ∷ [])) }
+    ensures { IfOk result
+        (λ made. plain_operand made
+        ≡ list_of (map plain_operand items.items ++ plain_operand last ∷ [])) }
 {
     let items = with_last(items, last)?;
     let made = list_of(alloc, items)?;
@@ -282,7 +308,10 @@ fn call_with(
     arguments: Vec<Operand>,
     last: Operand,
 ) -> Result<Operand, AllocError>
-    ensures { IfOk result (λ made. plain_operand made ≡ call_of (rc_str_bytes name) (option_map rc_str_bytes bare) (map plain_operand arguments.items ++ plain_operand last ∷ [])) }
+    ensures { IfOk result
+        (λ made. plain_operand made
+        ≡ call_of (rc_str_bytes name) (option_map rc_str_bytes bare)
+        (map plain_operand arguments.items ++ plain_operand last ∷ [])) }
 {
     let arguments = with_last(arguments, last)?;
     let made = call_of(alloc, name, bare, arguments)?;
@@ -291,7 +320,8 @@ fn call_with(
 
 /// The operand that a bracket makes with nothing in it.
 fn empty(alloc: Global, bracket: Bracket) -> Result<Option<Operand>, AllocError>
-    ensures { IfOk result (λ operand. option_map plain_operand operand ≡ empty (plain_bracket bracket)) }
+    ensures { IfOk result
+        (λ operand. option_map plain_operand operand ≡ empty (plain_bracket bracket)) }
 {
     match bracket {
         Bracket::Group => Ok(None),
@@ -302,7 +332,8 @@ fn empty(alloc: Global, bracket: Bracket) -> Result<Option<Operand>, AllocError>
 }
 
 fn closed_list(alloc: Global, items: Vec<Operand>) -> Result<Option<Operand>, AllocError>
-    ensures { IfOk result (λ made. option_map plain_operand made ≡ Some (list_of (map plain_operand items.items))) }
+    ensures { IfOk result
+        (λ made. option_map plain_operand made ≡ Some (list_of (map plain_operand items.items))) }
 {
     let made = list_of(alloc, items)?;
     Ok(Some(made))
@@ -314,7 +345,10 @@ fn closed_call(
     bare: Option<RcStr>,
     arguments: Vec<Operand>,
 ) -> Result<Option<Operand>, AllocError>
-    ensures { IfOk result (λ made. option_map plain_operand made ≡ Some (call_of (rc_str_bytes name) (option_map rc_str_bytes bare) (map plain_operand arguments.items))) }
+    ensures { IfOk result
+        (λ made. option_map plain_operand made
+        ≡ Some (call_of (rc_str_bytes name) (option_map rc_str_bytes bare)
+        (map plain_operand arguments.items))) }
 {
     let made = call_of(alloc, name, bare, arguments)?;
     Ok(Some(made))
@@ -326,7 +360,9 @@ fn with_kind(
     kind: Option<RcStr>,
     bracket: Bracket,
 ) -> Result<Option<Operand>, AllocError>
-    ensures { IfOk result (λ operand. option_map plain_operand operand ≡ with_kind (option_map rc_str_bytes kind) (plain_bracket bracket)) }
+    ensures { IfOk result
+        (λ operand. option_map plain_operand operand
+        ≡ with_kind (option_map rc_str_bytes kind) (plain_bracket bracket)) }
 {
     match bracket {
         Bracket::Group => Ok(None),
@@ -347,7 +383,8 @@ fn whole(
     bracket: Bracket,
     progress: TermProgress,
 ) -> Result<Option<Operand>, AllocError>
-    ensures { IfOk result (λ operand. option_map plain_operand operand ≡ whole (plain_bracket bracket) progress) }
+    ensures { IfOk result
+        (λ operand. option_map plain_operand operand ≡ whole (plain_bracket bracket) progress) }
 {
     match progress.place() {
         Position::Start => empty(alloc, bracket),
@@ -388,7 +425,10 @@ fn filled_by(
     tight: Tight,
     operand: Operand,
 ) -> Result<Option<Operand>, AllocError>
-    ensures { IfOk result (λ made. option_map plain_operand made ≡ Some (filled (plain_bracket bracket) (disjunction_of loose tight (plain_operand operand)))) }
+    ensures { IfOk result
+        (λ made. option_map plain_operand made
+        ≡ Some (filled (plain_bracket bracket)
+        (disjunction_of loose tight (plain_operand operand)))) }
 {
     let operand = disjunction_of(alloc, loose, tight, operand)?;
     let made = filled(alloc, bracket, operand)?;
@@ -411,7 +451,9 @@ pub fn at_closing(
     progress: TermProgress,
     opened: &mut Vec<Open>,
 ) -> Result<Option<TermProgress>, AllocError>
-    ensures { IfOk result (λ reached. come reached opened.new.items ≡ at_closing (Sign symbol) progress (reverse opened.old.items)) }
+    ensures { IfOk result
+        (λ reached. come reached opened.new.items
+        ≡ at_closing (Sign symbol) progress (reverse opened.old.items)) }
 {
     match opened.pop() {
         None => Ok(None),
@@ -438,7 +480,10 @@ fn closed_by(
     innermost: Open,
     progress: TermProgress,
 ) -> Result<Option<TermProgress>, AllocError>
-    ensures { IfOk result (λ reached. reached ≡ option_map (λ operand. BehindOperand innermost.loose innermost.tight operand) (whole innermost.bracket progress)) }
+    ensures { IfOk result
+        (λ reached. reached
+        ≡ option_map (λ operand. BehindOperand innermost.loose innermost.tight operand)
+        (whole innermost.bracket progress)) }
 {
     let (bracket, loose, tight) = innermost.parts();
     match whole(alloc, bracket, progress) {

@@ -58,7 +58,9 @@ fn at_operand(
     tight: Tight,
     lexeme: &Lexeme,
 ) -> Result<AfterLexeme, AllocError>
-    ensures { IfOk result (λ next. (opened : List OpenBracket) → applied next opened ≡ at_operand loose tight opened (plain_lexeme lexeme.now)) }
+    ensures { IfOk result
+        (λ next. (opened : List OpenBracket) → applied next opened
+        ≡ at_operand loose tight opened (plain_lexeme lexeme.now)) }
 {
     match lexeme {
         Lexeme::Reserved(_) | Lexeme::Number(_) | Lexeme::Texts(_) | Lexeme::Octets(_) =>
@@ -69,7 +71,9 @@ fn at_operand(
 }
 
 fn behind_new_name(loose: Loose, tight: Tight, name: &RcStr) -> Result<AfterLexeme, AllocError>
-    ensures { IfOk result (λ next. (opened : List OpenBracket) → applied next opened ≡ reading (BehindName loose tight (rc_str_bytes name.now)) opened) }
+    ensures { IfOk result
+        (λ next. (opened : List OpenBracket) → applied next opened
+        ≡ reading (BehindName loose tight (rc_str_bytes name.now)) opened) }
 {
     match name.clone() {
         Ok(name) => Ok(goes(Position::BehindName(loose, tight, name))),
@@ -81,7 +85,10 @@ fn behind_new_name(loose: Loose, tight: Tight, name: &RcStr) -> Result<AfterLexe
 }
 
 fn behind_atom(loose: Loose, tight: Tight, lexeme: &Lexeme) -> Result<AfterLexeme, AllocError>
-    ensures { IfOk result (λ next. (opened : List OpenBracket) → applied next opened ≡ option_and_then (λ term. reading (BehindOperand loose tight (Fits term)) opened) (atom (plain_lexeme lexeme.now))) }
+    ensures { IfOk result
+        (λ next. (opened : List OpenBracket) → applied next opened
+        ≡ option_and_then (λ term. reading (BehindOperand loose tight (Fits term)) opened)
+        (atom (plain_lexeme lexeme.now))) }
 {
     match atom(lexeme) {
         Ok(Some(term)) => Ok(goes(Position::BehindOperand(loose, tight, Operand::Fits(term)))),
@@ -102,7 +109,9 @@ fn at_operand_sign(
     tight: Tight,
     symbol: Symbol,
 ) -> Result<AfterLexeme, AllocError>
-    ensures { IfOk result (λ next. (opened : List OpenBracket) → applied next opened ≡ at_operand loose tight opened (Sign symbol)) }
+    ensures { IfOk result
+        (λ next. (opened : List OpenBracket) → applied next opened
+        ≡ at_operand loose tight opened (Sign symbol)) }
 {
     match symbol {
         Symbol::Minus => minus(loose, tight),
@@ -121,7 +130,9 @@ fn at_operand_sign(
 }
 
 fn minus(loose: Loose, tight: Tight) -> Result<AfterLexeme, AllocError>
-    ensures { IfOk result (λ next. (opened : List OpenBracket) → applied next opened ≡ reading (AtOperand loose (record tight { minuses = suc tight.minuses })) opened) }
+    ensures { IfOk result
+        (λ next. (opened : List OpenBracket) → applied next opened
+        ≡ reading (AtOperand loose (record tight { minuses = suc tight.minuses })) opened) }
 {
     match behind_minus(tight) {
         Ok(tight) => Ok(goes(Position::AtOperand(loose, tight))),
@@ -134,7 +145,9 @@ fn minus(loose: Loose, tight: Tight) -> Result<AfterLexeme, AllocError>
 
 /// Where `not` may stand too.
 fn at_not(alloc: Global, loose: Loose, lexeme: &Lexeme) -> Result<AfterLexeme, AllocError>
-    ensures { IfOk result (λ next. (opened : List OpenBracket) → applied next opened ≡ at_not loose opened (plain_lexeme lexeme.now)) }
+    ensures { IfOk result
+        (λ next. (opened : List OpenBracket) → applied next opened
+        ≡ at_not loose opened (plain_lexeme lexeme.now)) }
 {
     match lexeme {
         Lexeme::Reserved(ReservedWord::Not) => denial(loose),
@@ -143,7 +156,9 @@ fn at_not(alloc: Global, loose: Loose, lexeme: &Lexeme) -> Result<AfterLexeme, A
 }
 
 fn denial(loose: Loose) -> Result<AfterLexeme, AllocError>
-    ensures { IfOk result (λ next. (opened : List OpenBracket) → applied next opened ≡ reading (AtNot (record loose { nots = suc loose.nots })) opened) }
+    ensures { IfOk result
+        (λ next. (opened : List OpenBracket) → applied next opened
+        ≡ reading (AtNot (record loose { nots = suc loose.nots })) opened) }
 {
     let loose = behind_not(loose)?;
     Ok(goes(Position::AtNot(loose)))
@@ -193,7 +208,8 @@ fn behind_infix(
     operand: Operand,
     operator: Infix,
 ) -> Result<Option<Tight>, AllocError>
-    ensures { IfOk result (λ pending. pending ≡ behind_infix tight (plain_operand operand) (plain_infix operator)) }
+    ensures { IfOk result
+        (λ pending. pending ≡ behind_infix tight (plain_operand operand) (plain_infix operator)) }
 {
     match operator {
         Infix::Compares(comparison) => behind_compared(alloc, tight, comparison, operand),
@@ -209,7 +225,10 @@ fn infixed(
     operand: Operand,
     operator: Infix,
 ) -> Result<AfterLexeme, AllocError>
-    ensures { IfOk result (λ next. (opened : List OpenBracket) → applied next opened ≡ option_and_then (λ pending. reading (AtOperand loose pending) opened) (behind_infix tight (plain_operand operand) (plain_infix operator))) }
+    ensures { IfOk result
+        (λ next. (opened : List OpenBracket) → applied next opened
+        ≡ option_and_then (λ pending. reading (AtOperand loose pending) opened)
+        (behind_infix tight (plain_operand operand) (plain_infix operator))) }
 {
     match behind_infix(alloc, tight, operand, operator) {
         Ok(Some(pending)) => Ok(goes(Position::AtOperand(loose, pending))),
@@ -231,7 +250,10 @@ fn infixed_by(
     operand: Operand,
     symbol: Symbol,
 ) -> Result<AfterLexeme, AllocError>
-    ensures { IfOk result (λ next. (opened : List OpenBracket) → applied next opened ≡ option_and_then (λ pending. reading (AtOperand loose pending) opened) (option_and_then (behind_infix tight (plain_operand operand)) (infix_of symbol))) }
+    ensures { IfOk result
+        (λ next. (opened : List OpenBracket) → applied next opened
+        ≡ option_and_then (λ pending. reading (AtOperand loose pending) opened)
+        (option_and_then (behind_infix tight (plain_operand operand)) (infix_of symbol))) }
 {
     match infix_of(symbol) {
         None => Ok(fails(loose, tight, operand)),
@@ -246,7 +268,9 @@ fn at_symbol(
     operand: Operand,
     symbol: Symbol,
 ) -> Result<AfterLexeme, AllocError>
-    ensures { IfOk result (λ next. (opened : List OpenBracket) → applied next opened ≡ at_symbol loose tight (plain_operand operand) opened symbol) }
+    ensures { IfOk result
+        (λ next. (opened : List OpenBracket) → applied next opened
+        ≡ at_symbol loose tight (plain_operand operand) opened symbol) }
 {
     match symbol {
         Symbol::LeftBracket => Ok(opens(Bracket::Item(operand), loose, tight, at(Position::Start))),
@@ -261,7 +285,9 @@ fn behind_operand(
     operand: Operand,
     lexeme: &Lexeme,
 ) -> Result<AfterLexeme, AllocError>
-    ensures { IfOk result (λ next. (opened : List OpenBracket) → applied next opened ≡ behind_operand loose tight (plain_operand operand) opened (plain_lexeme lexeme.now)) }
+    ensures { IfOk result
+        (λ next. (opened : List OpenBracket) → applied next opened
+        ≡ behind_operand loose tight (plain_operand operand) opened (plain_lexeme lexeme.now)) }
 {
     match lexeme {
         Lexeme::Reserved(word) => at_word(alloc, loose, tight, operand, *word),
@@ -279,7 +305,9 @@ fn at_word(
     operand: Operand,
     word: ReservedWord,
 ) -> Result<AfterLexeme, AllocError>
-    ensures { IfOk result (λ next. (opened : List OpenBracket) → applied next opened ≡ behind_operand loose tight (plain_operand operand) opened (Reserved word)) }
+    ensures { IfOk result
+        (λ next. (opened : List OpenBracket) → applied next opened
+        ≡ behind_operand loose tight (plain_operand operand) opened (Reserved word)) }
 {
     match word {
         ReservedWord::Or => disjunction(alloc, loose, tight, operand),
@@ -294,7 +322,9 @@ fn disjunction(
     tight: Tight,
     operand: Operand,
 ) -> Result<AfterLexeme, AllocError>
-    ensures { IfOk result (λ next. (opened : List OpenBracket) → applied next opened ≡ reading (AtNot (behind_or loose tight (plain_operand operand))) opened) }
+    ensures { IfOk result
+        (λ next. (opened : List OpenBracket) → applied next opened
+        ≡ reading (AtNot (behind_or loose tight (plain_operand operand))) opened) }
 {
     let loose = behind_or(alloc, loose, tight, operand)?;
     Ok(goes(Position::AtNot(loose)))
@@ -306,7 +336,9 @@ fn conjunction(
     tight: Tight,
     operand: Operand,
 ) -> Result<AfterLexeme, AllocError>
-    ensures { IfOk result (λ next. (opened : List OpenBracket) → applied next opened ≡ reading (AtNot (behind_and loose tight (plain_operand operand))) opened) }
+    ensures { IfOk result
+        (λ next. (opened : List OpenBracket) → applied next opened
+        ≡ reading (AtNot (behind_and loose tight (plain_operand operand))) opened) }
 {
     let loose = behind_and(alloc, loose, tight, operand)?;
     Ok(goes(Position::AtNot(loose)))
@@ -330,7 +362,9 @@ fn behind_name(
     name: RcStr,
     lexeme: &Lexeme,
 ) -> Result<AfterLexeme, AllocError>
-    ensures { IfOk result (λ next. (opened : List OpenBracket) → applied next opened ≡ behind_name loose tight (rc_str_bytes name) opened (plain_lexeme lexeme.now)) }
+    ensures { IfOk result
+        (λ next. (opened : List OpenBracket) → applied next opened
+        ≡ behind_name loose tight (rc_str_bytes name) opened (plain_lexeme lexeme.now)) }
 {
     match lexeme {
         Lexeme::Sign(Symbol::LeftParenthesis) => Ok(called(alloc, loose, tight, name)),
@@ -339,7 +373,9 @@ fn behind_name(
 }
 
 fn called(alloc: Global, loose: Loose, tight: Tight, name: RcStr) -> AfterLexeme
-    ensures { (opened : List OpenBracket) → applied result opened ≡ opening (Arguments (rc_str_bytes name) None []) loose tight (first_argument (rc_str_bytes name)) opened }
+    ensures { (opened : List OpenBracket) → applied result opened
+        ≡ opening (Arguments (rc_str_bytes name) None []) loose tight
+        (first_argument (rc_str_bytes name)) opened }
 {
     let progress = first_argument(name.as_str());
     opens(
@@ -351,7 +387,9 @@ fn called(alloc: Global, loose: Loose, tight: Tight, name: RcStr) -> AfterLexeme
 }
 
 fn at_kind(lexeme: &Lexeme) -> Result<AfterLexeme, AllocError>
-    ensures { IfOk result (λ next. (opened : List OpenBracket) → applied next opened ≡ at_kind opened (plain_lexeme lexeme.now)) }
+    ensures { IfOk result
+        (λ next. (opened : List OpenBracket) → applied next opened
+        ≡ at_kind opened (plain_lexeme lexeme.now)) }
 {
     match lexeme {
         Lexeme::Named(kind) => {
@@ -369,7 +407,9 @@ fn fed_within(
     progress: TermProgress,
     lexeme: &Lexeme,
 ) -> Result<AfterLexeme, AllocError>
-    ensures { IfOk result (λ next. (opened : List OpenBracket) → applied next opened ≡ fed_within progress opened (plain_lexeme lexeme.now)) }
+    ensures { IfOk result
+        (λ next. (opened : List OpenBracket) → applied next opened
+        ≡ fed_within progress opened (plain_lexeme lexeme.now)) }
 {
     match progress.place() {
         Position::Start => at_not(alloc, no_loose(), lexeme),
@@ -386,7 +426,8 @@ fn fed_within(
 
 /// The brackets that are open are changed in place.
 fn apply(next: AfterLexeme, opened: &mut Vec<Open>) -> Result<Option<TermProgress>, AllocError>
-    ensures { IfOk result (λ reached. come reached opened.new.items ≡ applied next (reverse opened.old.items)) }
+    ensures { IfOk result
+        (λ reached. come reached opened.new.items ≡ applied next (reverse opened.old.items)) }
 {
     match next {
         AfterLexeme::Goes(progress) => Ok(Some(progress)),
@@ -404,7 +445,9 @@ fn within(
     opened: &mut Vec<Open>,
     lexeme: &Lexeme,
 ) -> Result<Option<TermProgress>, AllocError>
-    ensures { IfOk result (λ reached. come reached opened.new.items ≡ fed_within progress (reverse opened.old.items) (plain_lexeme lexeme.now)) }
+    ensures { IfOk result
+        (λ reached. come reached opened.new.items
+        ≡ fed_within progress (reverse opened.old.items) (plain_lexeme lexeme.now)) }
 {
     let next = fed_within(alloc, progress, lexeme)?;
     apply(next, opened)
@@ -417,7 +460,10 @@ pub fn fed(
     opened: &mut Vec<Open>,
     lexeme: &Lexeme,
 ) -> Result<Option<TermProgress>, AllocError>
-    ensures { IfOk result (λ reached. come reached opened.new.items ≡ fed (record { progress = progress; opened = reverse opened.old.items }) (plain_lexeme lexeme.now)) }
+    ensures { IfOk result
+        (λ reached. come reached opened.new.items
+        ≡ fed (record { progress = progress; opened = reverse opened.old.items })
+        (plain_lexeme lexeme.now)) }
 {
     match lexeme {
         Lexeme::Sign(Symbol::Comma) => at_comma(alloc, progress, opened),

@@ -88,7 +88,8 @@ fn with_nots(alloc: Global, nots: usize, operand: Operand) -> Result<Operand, Al
 }
 
 fn with_minuses(alloc: Global, minuses: usize, operand: Operand) -> Result<Operand, AllocError>
-    ensures { IfOk result (λ made. plain_operand made ≡ with_minuses minuses (plain_operand operand)) }
+    ensures { IfOk result
+        (λ made. plain_operand made ≡ with_minuses minuses (plain_operand operand)) }
 {
     let mut made = operand;
     for _count in 0..minuses {
@@ -102,7 +103,8 @@ fn calculated(
     left: Option<(Operator, Operand)>,
     right: Operand,
 ) -> Result<Operand, AllocError>
-    ensures { IfOk result (λ made. plain_operand made ≡ calculated (plain_left left) (plain_operand right)) }
+    ensures { IfOk result
+        (λ made. plain_operand made ≡ calculated (plain_left left) (plain_operand right)) }
 {
     match left {
         None => Ok(right),
@@ -115,7 +117,8 @@ fn compared(
     left: Option<(Comparison, Operand)>,
     right: Operand,
 ) -> Result<Operand, AllocError>
-    ensures { IfOk result (λ made. plain_operand made ≡ compared (plain_left left) (plain_operand right)) }
+    ensures { IfOk result
+        (λ made. plain_operand made ≡ compared (plain_left left) (plain_operand right)) }
 {
     match left {
         None => Ok(right),
@@ -124,7 +127,9 @@ fn compared(
 }
 
 fn and_of(alloc: Global, left: Option<Operand>, right: Operand) -> Result<Operand, AllocError>
-    ensures { IfOk result (λ made. plain_operand made ≡ and_of (option_map plain_operand left) (plain_operand right)) }
+    ensures { IfOk result
+        (λ made. plain_operand made
+        ≡ and_of (option_map plain_operand left) (plain_operand right)) }
 {
     match left {
         None => Ok(right),
@@ -133,7 +138,8 @@ fn and_of(alloc: Global, left: Option<Operand>, right: Operand) -> Result<Operan
 }
 
 fn or_of(alloc: Global, left: Option<Operand>, right: Operand) -> Result<Operand, AllocError>
-    ensures { IfOk result (λ made. plain_operand made ≡ or_of (option_map plain_operand left) (plain_operand right)) }
+    ensures { IfOk result
+        (λ made. plain_operand made ≡ or_of (option_map plain_operand left) (plain_operand right)) }
 {
     match left {
         None => Ok(right),
@@ -149,7 +155,9 @@ fn product_of(
     minuses: usize,
     operand: Operand,
 ) -> Result<Operand, AllocError>
-    ensures { IfOk result (λ made. plain_operand made ≡ calculated (plain_left left) (with_minuses minuses (plain_operand operand))) }
+    ensures { IfOk result
+        (λ made. plain_operand made
+        ≡ calculated (plain_left left) (with_minuses minuses (plain_operand operand))) }
 {
     let right = with_minuses(alloc, minuses, operand)?;
     calculated(alloc, left, right)
@@ -164,7 +172,8 @@ fn sum_of(alloc: Global, tight: Tight, operand: Operand) -> Result<Operand, Allo
 }
 
 fn comparison_of(alloc: Global, tight: Tight, operand: Operand) -> Result<Operand, AllocError>
-    ensures { IfOk result (λ made. plain_operand made ≡ comparison_of tight (plain_operand operand)) }
+    ensures { IfOk result
+        (λ made. plain_operand made ≡ comparison_of tight (plain_operand operand)) }
 {
     let Tight {
         compare_left,
@@ -184,7 +193,10 @@ fn conjunction_of(
     tight: Tight,
     operand: Operand,
 ) -> Result<Operand, AllocError>
-    ensures { IfOk result (λ made. plain_operand made ≡ and_of (option_map plain_operand left) (with_nots nots (comparison_of tight (plain_operand operand)))) }
+    ensures { IfOk result
+        (λ made. plain_operand made
+        ≡ and_of (option_map plain_operand left)
+        (with_nots nots (comparison_of tight (plain_operand operand)))) }
 {
     let comparison = comparison_of(alloc, tight, operand)?;
     let right = with_nots(alloc, nots, comparison)?;
@@ -198,7 +210,8 @@ pub fn disjunction_of(
     tight: Tight,
     operand: Operand,
 ) -> Result<Operand, AllocError>
-    ensures { IfOk result (λ made. plain_operand made ≡ disjunction_of loose tight (plain_operand operand)) }
+    ensures { IfOk result
+        (λ made. plain_operand made ≡ disjunction_of loose tight (plain_operand operand)) }
 {
     let Loose {
         or_left,
@@ -217,7 +230,8 @@ pub fn behind_product(
     operator: Operator,
     operand: Operand,
 ) -> Result<Tight, AllocError>
-    ensures { IfOk result (λ pending. pending ≡ behind_product tight operator (plain_operand operand)) }
+    ensures { IfOk result
+        (λ pending. pending ≡ behind_product tight operator (plain_operand operand)) }
 {
     let Tight {
         compare_left,
@@ -265,7 +279,9 @@ pub fn behind_compared(
     comparison: Comparison,
     operand: Operand,
 ) -> Result<Option<Tight>, AllocError>
-    ensures { IfOk result (λ pending. pending ≡ behind_compared tight.compare_left tight comparison (plain_operand operand)) }
+    ensures { IfOk result
+        (λ pending. pending
+        ≡ behind_compared tight.compare_left tight comparison (plain_operand operand)) }
 {
     match &tight.compare_left {
         Some(_) => Ok(None),
@@ -279,7 +295,8 @@ fn behind_comparison(
     comparison: Comparison,
     operand: Operand,
 ) -> Result<Tight, AllocError>
-    ensures { IfOk result (λ pending. pending ≡ behind_comparison tight comparison (plain_operand operand)) }
+    ensures { IfOk result
+        (λ pending. pending ≡ behind_comparison tight comparison (plain_operand operand)) }
 {
     let left = sum_of(alloc, tight, operand)?;
     Ok(Tight {

@@ -15,7 +15,9 @@ use std::alloc::{AllocError, Global};
 /// The expression that the lexemes spell, or that it is too high; `None` where they spell none. Each lexeme is looked at
 /// once, and brackets within brackets take memory and no stack.
 pub fn read_term(alloc: Global, lexemes: &[Lexeme]) -> Result<Option<Operand>, AllocError>
-    ensures { IfOk result (λ read. option_map plain_operand read ≡ option_map capped (term_of (map plain_lexeme lexemes.now))) }
+    ensures { IfOk result
+        (λ read. option_map plain_operand read
+        ≡ option_map capped (term_of (map plain_lexeme lexemes.now))) }
 {
     let mut progress = at(Position::Start);
     let mut opened = Vec::new(alloc);
@@ -34,7 +36,8 @@ fn finished(
     progress: TermProgress,
     opened: Vec<Open>,
 ) -> Result<Option<Operand>, AllocError>
-    ensures { IfOk result (λ operand. option_map plain_operand operand ≡ finished progress (reverse opened.items)) }
+    ensures { IfOk result
+        (λ operand. option_map plain_operand operand ≡ finished progress (reverse opened.items)) }
 {
     if opened.is_empty() {
         ended(alloc, progress)

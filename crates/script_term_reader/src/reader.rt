@@ -98,14 +98,16 @@ pub fn at(place: Position) -> TermProgress
 
 /// The expression goes on.
 pub fn goes(place: Position) -> AfterLexeme
-    ensures { (opened : List OpenBracket) → applied result opened ≡ reading (plain_progress place) opened }
+    ensures { (opened : List OpenBracket) → applied result opened
+        ≡ reading (plain_progress place) opened }
 {
     AfterLexeme::Goes(at(place))
 }
 
 /// A bracket opens before what is pending.
 pub fn opens(bracket: Bracket, loose: Loose, tight: Tight, progress: TermProgress) -> AfterLexeme
-    ensures { (opened : List OpenBracket) → applied result opened ≡ opening (plain_bracket bracket) loose tight progress opened }
+    ensures { (opened : List OpenBracket) → applied result opened
+        ≡ opening (plain_bracket bracket) loose tight progress opened }
 {
     AfterLexeme::Opens(before(bracket, loose, tight), progress)
 }
@@ -155,7 +157,8 @@ impl Drop for TermProgress {
 
 impl Open {
     pub fn parts(self) -> (Bracket, Loose, Tight)
-        ensures { self ≡ record { bracket = plain_bracket result.0; loose = result.1; tight = result.2 } }
+        ensures { self
+            ≡ record { bracket = plain_bracket result.0; loose = result.1; tight = result.2 } }
     {
         let Open {
             bracket,
