@@ -64,6 +64,7 @@ use Rattle.law_body.proofs.Left.{leaves_settle}
 use Rattle.law_body.proofs.May.{same_prop}
 use Rattle.law_body.proofs.Noting.{stands_noted}
 use Rattle.law_body.proofs.Rooms.{below_soon_all}
+use Rattle.law_body.proofs.Sound.{extra_sound}
 use Rattle.aio_core.specs.declared.effect.Effect.{Effect}
 use Rattle.aio_core.specs.declared.effect.Effect.TheVariants as code
 use Rattle.aio_core.specs.Effects.{effect_of, MayAct}
@@ -215,7 +216,7 @@ module _ {X : Type 0} {a : Added X} (it : Action) (c : Setting a) (body : Body X
     live = h.live;
     steps = ap (steps task) h.runs ∙ mine;
     sound = h.sound;
-    after = h.after ∙ ap (λ a. noted (event.Ran a) out) (sym h.runs);
+    after = h.after ∙ ap (λ k. noted (event.Ran k) out) (sym h.runs);
     stands = h.stands;
     called = h.called ∙ one;
     running = h.running;
@@ -224,9 +225,9 @@ module _ {X : Type 0} {a : Added X} (it : Action) (c : Setting a) (body : Body X
   -- after a call that steps no task
   pub after_so : (new : Body X) (now : State a.Kept) → effect step_limit a.meaning it s ≡ Goes now → IsAfterCallback c new now
       → Steps c new went.Goes (effect step_limit a.meaning it s)
-  after_so new now is a =
+  after_so new now is after =
       subst (Steps c new went.Goes) (sym is)
-      (record { stands = a.stands; called = a.called; running = a.running; sound = subst (LeavesStateSound a.meaning) is sound_then })
+      (record { stands = after.stands; called = after.called; running = after.running; sound = subst (LeavesStateSound a.meaning) is sound_then })
 
 -- what a step comes to, of a task that was called
 abbrev pub StepsAs : {X : Type 0} → (a : Added X) → ℕ → (input : State a.Kept → Input) → (old new : Body X) → Stepped → Type 0

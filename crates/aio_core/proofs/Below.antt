@@ -28,7 +28,7 @@ use Rattle.law_handles.proofs.Skipping.{keeps_next}
 use Rattle.law_body.proofs.Lasting.{spares_none, stands_left}
 use Rattle.law_body.proofs.Leaving.{Leaves}
 use Rattle.law_body.proofs.Left.{leaves_handles}
-use Rattle.law_body.proofs.Sound.{dead_sound}
+use Rattle.law_body.proofs.Sound.{dead_sound, extra_sound}
 
 -- the state with these handles pending
 abbrev pub with_pending : {S : Type 0} → List Handle → State S → State S
@@ -82,11 +82,12 @@ none_left added bar (suc m) s past = at s.loop.parts.pending past
     at [] past = refl
     at (handle ∷ rest) past = ap (λ b. run_if step_limit added b handle rest (run_below step_limit added bar m) s) (le-ltb handle.stamp bar past)
 
-pub deads_sound : {S : Type 0} (added : Extra S) (bar : ℕ) (dead left : List Handle) (s : State S) → s.loop.parts.pending ≡ dead ++ left → AreDead bar dead
-    → IsStateSound added s → IsStateSound added (with_pending left s)
-deads_sound added bar [] left s pending are sound = subst (λ xs. IsStateSound added (with_pending xs s)) pending sound
-deads_sound added bar (handle ∷ dead) left s pending are sound =
-    deads_sound added bar dead left (with_pending (dead ++ left) s) refl are.1 (dead_sound added keeps s handle (dead ++ left) sound pending are.0.0)
+pub deads_sound : {X : Type 0} (a : Added X) (bar : ℕ) (dead left : List Handle) (s : State a.Kept) → s.loop.parts.pending ≡ dead ++ left
+    → AreDead bar dead → IsStateSound a.meaning s → IsStateSound a.meaning (with_pending left s)
+deads_sound a bar [] left s pending are sound = subst (λ xs. IsStateSound a.meaning (with_pending xs s)) pending sound
+deads_sound a bar (handle ∷ dead) left s pending are sound =
+    deads_sound a bar dead left (with_pending (dead ++ left) s) refl are.1
+    (dead_sound a.meaning (extra_sound a) s handle (dead ++ left) sound pending are.0.0)
 
 -- ---- counts
 early : ℕ → Handle → Bool
@@ -148,7 +149,7 @@ module _ {X : Type 0} {a : Added X} where
           pending = refl;
           live = runs.1;
           runs = runs.2;
-          sound = deads_sound a.meaning t.bar skips.dead (handle ∷ handles) s pending skips.are_dead h.sound;
+          sound = deads_sound a t.bar skips.dead (handle ∷ handles) s pending skips.are_dead h.sound;
           after = refl;
           stands =
               stands_left None None c body s w (in_parts (λ q. record q { pending = handles })) h.stands (pending_kept t w p handles runs.3)
@@ -197,7 +198,7 @@ module _ {X : Type 0} {a : Added X} where
           (pending_leaves p skips.left) (spares_none p (named_in a s)) (refl, refl);
       called = ap (λ (x : View). x.called) is ∙ ap stepped_at next;
       running = ap (λ (x : View). x.running) is ∙ h.running;
-      sound = deads_sound a.meaning t.bar skips.dead skips.left s skips.pending skips.are_dead h.sound;
+      sound = deads_sound a t.bar skips.dead skips.left s skips.pending skips.are_dead h.sound;
     };
     goes =
         subst (λ b. run_below step_limit a.meaning b c.left s ≡ Goes (with_pending skips.left s)) h.stands.bar

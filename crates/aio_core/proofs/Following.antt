@@ -30,8 +30,6 @@ abbrev pub RunsBelow : {X : Type 0} → (a : Added X) → (mid ran : Body X) →
 RunsBelow a mid ran said =
     (c : Setting a) (s : State a.Kept) → IsBetween c mid s → Steps (at_bar c) ran said (run_below step_limit a.meaning c.bar c.left s)
 
-module _ {X : Type 0} {a : Added X} where
-
 module _ {X : Type 0} {a : Added X} (answer : Answer) (old mid ran : Body X)
     (woken : (c : Setting a) (s : State a.Kept) → IsBetween c old s → IsBetween (all_below c (woken_to answer s)) mid (woken_to answer s)) where
   pub alive_ran : IsAlive a mid → RunsBelow a mid ran stepped.Goes → IsAlive a ran

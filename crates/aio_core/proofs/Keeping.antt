@@ -108,6 +108,7 @@ module _ {X : Type 0} {a : Added X} where
       → IsAtRest a past answers body s → IsAtRest a (past ++ body.events.events) answers (record body { events = events }) s
   events_taken past answers body events s e h = (h.0, between_taken (resting a past answers h.0) body events s e h.1)
 
+module _ {X : Type 0} (a : Added X) where
   pub alive_taken : (kept : Option code.Went) (body : Body X) (events : EventList) → events ≡ record body.events { events = [] }
       → ∥ AliveUnless a kept body ∥₁ → ∥ AliveUnless a kept (record body { events = events }) ∥₁
   alive_taken kept body events e alive = ∥∥₁_map alive (at kept)
@@ -127,12 +128,12 @@ kept_end went.Stalled kept e = e
 kept_end (went.Runaway task) kept e = e
 kept_end (went.Stopped why) kept e = e
 
-module _ {X : Type 0} {a : Added X} where
+module _ {X : Type 0} (a : Added X) where
   pub alive_ended : (kept : Option code.Went) (result : code.Went) (body : Body X) → kept ≡ Some result → ∥ AliveUnless a kept body ∥₁
   alive_ended kept result body e = subst (λ o. ∥ AliveUnless a o body ∥₁) (sym e) ∣ tt ∣₁
 
 -- a turn was made, and what it said is kept
-module _ {X : Type 0} {a : Added X} (said result : code.Went) (kept now : Option code.Went) (none : kept ≡ None) (is : IsKept said kept now result) where
+module _ (said result : code.Went) (kept now : Option code.Went) (none : kept ≡ None) (is : IsKept said kept now result) where
   pub kept_goes : said ≡ went.Went → now ≡ None
   kept_goes e = let it = subst (λ w. IsKept w kept now result) e is in it.0 ∙ none
 
@@ -156,15 +157,15 @@ module _ {X : Type 0} {a : Added X} (said result : code.Went) (kept now : Option
       at (went.Runaway task) k = kept_end result now k.1
       at (went.Stopped why) k = kept_end result now k.1
 
-  pub kept_alive : (body : Body X) → AliveIfWent a said body → ∥ AliveUnless a now body ∥₁
-  kept_alive body alive = at said is alive
+  pub kept_alive : {X : Type 0} (a : Added X) (body : Body X) → AliveIfWent a said body → ∥ AliveUnless a now body ∥₁
+  kept_alive a body alive = at said is alive
     where
       at : (it : code.Went) → IsKept it kept now result → AliveIfWent a it body → ∥ AliveUnless a now body ∥₁
-      at went.Went k a = subst (λ o. ∥ AliveUnless a o body ∥₁) (sym (k.0 ∙ none)) ∣ a ∣₁
-      at (went.Finished outcome) k a = alive_ended now result body k.1
-      at went.Stalled k a = alive_ended now result body k.1
-      at (went.Runaway task) k a = alive_ended now result body k.1
-      at (went.Stopped why) k a = alive_ended now result body k.1
+      at went.Went k it = subst (λ o. ∥ AliveUnless a o body ∥₁) (sym (k.0 ∙ none)) ∣ it ∣₁
+      at (went.Finished outcome) k it = alive_ended a now result body k.1
+      at went.Stalled k it = alive_ended a now result body k.1
+      at (went.Runaway task) k it = alive_ended a now result body k.1
+      at (went.Stopped why) k it = alive_ended a now result body k.1
 
 pub if_none : (o : Option code.Went) (P : code.Went → Type 0) → o ≡ None → IfSome o P
 if_none o P e = subst (λ x. IfSome x P) (sym e) tt

@@ -21,10 +21,6 @@ use Rattle.aio_body.specs.Taken.{IsNext, MayRun}
 use Rattle.aio_core.specs.Turning.{IsAlive, at_bar}
 use Rattle.aio_core.proofs.Below.{IsRunning, left_by, next_none, next_runs, skipped}
 
--- from wherever it began
-abbrev pub HasReached : {X : Type 0} → (a : Added X) → (first body : Body X) → Type 0
-HasReached a first body = (c : Setting a) (s : State a.Kept) → IsBetween c first s → Reached c body s
-
 module _ {X : Type 0} {a : Added X} where
   -- as many are left as stand before the bar
   abbrev pub with_left : Body X → Setting a → Setting a
@@ -36,6 +32,11 @@ module _ {X : Type 0} {a : Added X} where
     pub between : IsBetween (with_left body c) body now
     pub same : run_below step_limit a.meaning c.bar c.left s ≡ run_below step_limit a.meaning c.bar (length body.parts.queue.below) now
 
+-- from wherever it began
+abbrev pub HasReached : {X : Type 0} → (a : Added X) → (first body : Body X) → Type 0
+HasReached a first body = (c : Setting a) (s : State a.Kept) → IsBetween c first s → Reached c body s
+
+module _ {X : Type 0} {a : Added X} where
   pub reached_first : (body : Body X) → HasReached a body body
   reached_first body c s h =
       record {
@@ -50,13 +51,10 @@ module _ {X : Type 0} {a : Added X} where
 -- ---- a handle was taken
 module _ {X : Type 0} {a : Added X} (body : Body X) (w : View) (action : Action) (is : w ≡ left_by body.parts)
     (next : queue.next_action body.parts.queue ≡ Some action) where
-  abbrev taken : Body X
-  taken = record body { parts = w }
-
   pub running_of : (c : Setting a) (s : State a.Kept) → IsBetween c body s → IsRunning action c body w s
   running_of c s h = next_runs c body s w action h (skipped c body s w (Some action) h is next) is next
 
-  pub may_run : IsAlive a body → MayRun a action taken
+  pub may_run : IsAlive a body → MayRun a action (record body { parts = w })
   may_run alive = ∥∥₁_map alive (λ x. let r = running_of x.0 x.1.0 x.1.1 in (record x.0 { left = length w.queue.below }, (r.now, r.next)))
 
 -- what running it comes to
@@ -142,7 +140,7 @@ module _ {X : Type 0} {a : Added X} where
   at_bar_so first body w is next reached c s h =
       let here = reached c s h in
       let last = next_none (with_left body c) body here.now w here.between (skipped (with_left body c) body here.now w None here.between is next) is next in
-      let none = none_left a.meaning body.parts.queue next in
+      let none = none_left body.parts.queue next in
       let same = ap (λ (x : View). length x.queue.below) is ∙ none in
       subst (Steps (at_bar c) (record body { parts = w }) went.Goes) (sym (here.same ∙ last.goes))
       (subst (λ n. IsBetween (record c { left = n }) (record body { parts = w }) last.now) same last.between)
@@ -155,4 +153,4 @@ module _ {X : Type 0} {a : Added X} where
           at (handle ∷ rest) e = absurd (cc)
 
       none_left : (q : queue.Queue) → queue.next_action q ≡ None → length (queue.taken q).below ≡ 0
-      none_left a.meaning q e = none_live q.below e
+      none_left q e = none_live q.below e

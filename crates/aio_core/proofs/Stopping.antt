@@ -28,7 +28,7 @@ use Rattle.law_kept.proofs.Requesting.{each_one}
 use Rattle.law_kept.proofs.Telling.{future_of_kept, outcome_kept, pending_kept}
 use Rattle.aio_cancel.specs.Awaitables.{Appended}
 use Rattle.aio_task.specs.View.{View, parts}
-use Rattle.aio_extra.specs.Added.{Added}
+use Rattle.aio_extra.specs.Added.{Added, named_in}
 use Rattle.aio_body.specs.declared.body.Body.{Body}
 use Rattle.aio_body.specs.Stands.{Setting, Stands, IsBetween}
 use Rattle.aio_body.specs.Taken.{IsAfterCallback}
@@ -153,7 +153,7 @@ module _ {X : Type 0} {a : Added X} where
               time = ap (λ (x : View). x.time) beside;
               schedule = ap (λ (x : View). x.schedule) beside;
             }))
-            (leaves_request ByEnd own p) (spares_none p t.futures) (refl, refl) (below_appended body.parts.queue v.queue appended);
+            (leaves_request ByEnd own p) (spares_none p (named_in a t)) (refl, refl) (below_appended body.parts.queue v.queue appended);
         called = ap (λ (x : View). x.called) beside ∙ so.called;
         running = ap (λ (x : View). x.running) beside ∙ so.running;
       })

@@ -22,7 +22,8 @@ use std::alloc::Global;
 /// A run begins at time 0, with main's task, whose first step is pending, and what is called when it is done.
 pub fn begin<X: Extra + Drop>(alloc: Global, program: &Program, extra: X) -> Result<Body<X>, Memory>
     ensures { IfOk result (λ body. (kept : X.added.Kept) → KeepsNothing X.added extra kept
-        → (answers : List Entry) → IsAtRest X.added [] answers body (start kept program.now answers)) }
+        → (answers : List Entry)
+        → IsAtRest X.added [] answers body (start kept program.now answers)) }
 {
     let mut body = empty(alloc, program, extra)?;
     make_main(alloc, program, &mut body)?;

@@ -26,8 +26,10 @@ use std::alloc::Global;
 /// The handles before the bar run, in order.
 pub fn run_below<X: Extra>(body: &mut Body<X>, alloc: Global) -> Result<Stepped, Memory>
     requires { IsAlive X.added body.old }
-    ensures { IfOk result (λ went. (c : Setting X.added) (s : State X.added.Kept) → IsBetween c body.old s
-        → Steps (at_bar c) body.new went (plain_run_below step_limit X.added.meaning c.bar c.left s)) }
+    ensures { IfOk result
+        (λ went. (c : Setting X.added) (s : State X.added.Kept) → IsBetween c body.old s
+        → Steps (at_bar c) body.new went
+        (plain_run_below step_limit X.added.meaning c.bar c.left s)) }
 {
     while let Some((action, ticket)) = body.parts.next_below() {
         match run(body, alloc, action, ticket)? {
@@ -46,8 +48,10 @@ fn run<X: Extra>(
     ticket: Ticket,
 ) -> Result<Stepped, Memory>
     requires { MayRun X.added action body.old }
-    ensures { IfOk result (λ went. (c : Setting X.added) (s : State X.added.Kept) → IsNext action c body.old s
-        → Steps c body.new went (plain_effect step_limit X.added.meaning action (noted (event.Ran action) s))) }
+    ensures { IfOk result
+        (λ went. (c : Setting X.added) (s : State X.added.Kept) → IsNext action c body.old s
+        → Steps c body.new went
+        (plain_effect step_limit X.added.meaning action (noted (event.Ran action) s))) }
 {
     let what = effect_of(alloc, &action)?;
     body.events.push(Event::Ran(action))?;
@@ -62,8 +66,11 @@ fn act<X: Extra>(
     ticket: Ticket,
 ) -> Result<Stepped, Memory>
     requires { MayAct X.added what body.old }
-    ensures { IfOk result (λ went. (c : Setting X.added) (s : State X.added.Kept) (it : AnyAction) → what ≡ plain_effect_of it
-        → IsTaken it c body.old s → Steps c body.new went (plain_effect step_limit X.added.meaning it s)) }
+    ensures { IfOk result
+        (λ went. (c : Setting X.added) (s : State X.added.Kept) (it : AnyAction)
+        → what ≡ plain_effect_of it
+        → IsTaken it c body.old s
+        → Steps c body.new went (plain_effect step_limit X.added.meaning it s)) }
 {
     match what {
         Effect::Step(task) => step(body, alloc, task, ticket, Input::Send(Value::nothing())),
@@ -110,7 +117,8 @@ fn act<X: Extra>(
 // What a task is woken with: how that ended for which it waits.
 fn woken_with<X: Extra>(body: &Body<X>, task: u32) -> Result<Input, Memory>
     requires { MayBegin X.added task body.now }
-    ensures input { IfOk result (λ input. (c : Setting X.added) (s : State X.added.Kept) → IsCalled task c body.now s
+    ensures input { IfOk result
+        (λ input. (c : Setting X.added) (s : State X.added.Kept) → IsCalled task c body.now s
         → input ≡ plain_woken_with s.loop.parts task) }
     ensures made { IfOk result (λ input. HearsMade input body.now) }
 {

@@ -52,7 +52,8 @@ impl<X: Extra + Drop> Kernel<X> {
 
     /// A turn. After any answer but `Went` it answers that again, or that memory was refused, and asks nothing.
     pub fn turn<W: Wire>(&mut self, alloc: Global, wire: &mut W) -> Went
-        ensures turned { ended self.old ≡ None → (said : AnyWent) × TurnedBy X.added (W.fails wire.old) (W.quiet wire.old wire.new)
+        ensures turned { ended self.old ≡ None
+            → (said : AnyWent) × TurnedBy X.added (W.fails wire.old) (W.quiet wire.old wire.new)
             (W.seen wire.old) (W.seen wire.new) self.old self.new result said }
         ensures sound { (past : List Event) (answers : List Entry) (s : State X.added.Kept)
             → StandsFor X.added past answers self.old s → IsTurnSound X.added s }
@@ -77,7 +78,8 @@ impl<X: Extra + Drop> Kernel<X> {
         ensures left { untaken self.new ≡ [] }
         ensures ended { ended self.new ≡ ended self.old }
         ensures stands { (past : List Event) (answers : List Entry) (s : State X.added.Kept)
-            → StandsFor X.added past answers self.old s → StandsFor X.added (past ++ untaken self.old) answers self.new s }
+            → StandsFor X.added past answers self.old s
+            → StandsFor X.added (past ++ untaken self.old) answers self.new s }
     {
         self.body.events.take()
     }

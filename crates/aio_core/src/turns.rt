@@ -36,10 +36,13 @@ pub fn turn<W: Wire, X: Extra>(
     seen: &mut u32,
 ) -> Result<Went, Stop>
     requires { IsAlive X.added body.old }
-    ensures comes { ComesTo X.added.meaning (W.seen wire.old).left (W.seen wire.new).left (W.seen wire.old).faults (W.seen wire.new).faults
-        (stood_by X.added body.old) (stood_by X.added body.new) body.new.events.events (said_by result) }
+    ensures comes { ComesTo X.added.meaning (W.seen wire.old).left (W.seen wire.new).left
+        (W.seen wire.old).faults (W.seen wire.new).faults
+        (stood_by X.added body.old) (stood_by X.added body.new) body.new.events.events
+        (said_by result) }
     ensures stalls { (past : List Event) (answers : List Entry) (s : State X.added.Kept)
-        → IsAtRest X.added past answers body.old s → StallsAs (plain_is_stalled X.added.meaning s) (said_by result) }
+        → IsAtRest X.added past answers body.old s
+        → StallsAs (plain_is_stalled X.added.meaning s) (said_by result) }
     ensures alive { AliveIfWent X.added (said_by result) body.new }
     ensures fails { W.fails wire.old → OfFailing (said_by result) }
     ensures keeps { W.keeps wire.old wire.new }
@@ -56,14 +59,16 @@ pub fn turn<W: Wire, X: Extra>(
 
 // Nothing is pending, and nothing can come.
 fn is_stalled<X: Extra>(body: &Body<X>) -> bool
-    ensures { (c : Setting X.added) (s : State X.added.Kept) → IsBetween c body.now s → result ≡ plain_is_stalled X.added.meaning s }
+    ensures { (c : Setting X.added) (s : State X.added.Kept) → IsBetween c body.now s
+        → result ≡ plain_is_stalled X.added.meaning s }
 {
     body.parts.is_empty() && body.parts.earliest().is_none()
 }
 
 // What a turn asks first. Nothing is watched.
 fn first_call<X: Extra>(body: &Body<X>, alloc: Global) -> Call
-    ensures call { (c : Setting X.added) (s : State X.added.Kept) → IsBetween c body.now s → result ≡ call_of X.added.meaning s }
+    ensures call { (c : Setting X.added) (s : State X.added.Kept) → IsBetween c body.now s
+        → result ≡ call_of X.added.meaning s }
     ensures shape { IsSelect result }
 {
     select(alloc, wait(body))
@@ -79,7 +84,8 @@ fn select(alloc: Global, wait: Option<u64>) -> Call
 // How long a turn waits: not at all where something is pending, else until the next deadline, and without a bound where
 // there is none.
 fn wait<X: Extra>(body: &Body<X>) -> Option<u64>
-    ensures { (c : Setting X.added) (s : State X.added.Kept) → IsBetween c body.now s → plain_select result [] ≡ call_of X.added.meaning s }
+    ensures { (c : Setting X.added) (s : State X.added.Kept) → IsBetween c body.now s
+        → plain_select result [] ≡ call_of X.added.meaning s }
 {
     if !body.parts.is_empty() {
         return Some(0);
@@ -120,7 +126,8 @@ fn after<X: Extra>(
 ) -> Result<Went, Memory>
     requires alive { IsAlive X.added body.old }
     requires time { IsTime answer.now }
-    ensures { IfOk result (λ went. (c : Setting X.added) (s : State X.added.Kept) → IsBetween c body.old s
+    ensures { IfOk result
+        (λ went. (c : Setting X.added) (s : State X.added.Kept) → IsBetween c body.old s
         → Turned (at_bar (all_below c (unbooked_in (woken_by answer.now) s))) body.new went
         (turned_by step_limit X.added.meaning answer.now s)) }
 {
@@ -138,7 +145,8 @@ fn wake<X: Extra>(body: &mut Body<X>, answer: &Answer)
     requires alive { IsAlive X.added body.old }
     requires time { IsTime answer.now }
     ensures { (c : Setting X.added) (s : State X.added.Kept) → IsBetween c body.old s
-        → IsBetween (all_below c (unbooked_in (woken_by answer.now) s)) body.new (unbooked_in (woken_by answer.now) s) }
+        → IsBetween (all_below c (unbooked_in (woken_by answer.now) s)) body.new
+        (unbooked_in (woken_by answer.now) s) }
 {
     let now = body.parts.now().max(time_of(answer));
     body.parts.set_now(now);
@@ -150,7 +158,8 @@ fn wake<X: Extra>(body: &mut Body<X>, answer: &Answer)
 // that one on, after which none lives.
 fn end_turn<X: Extra>(body: &mut Body<X>, done_before: bool, seen: &mut u32) -> Result<Went, Memory>
     requires { IsAlive X.added body.old }
-    ensures { IfOk result (λ went. (c : Setting X.added) (s : State X.added.Kept) → IsBetween c body.old s
+    ensures { IfOk result
+        (λ went. (c : Setting X.added) (s : State X.added.Kept) → IsBetween c body.old s
         → Turned c body.new went (turn_over done_before s)) }
 {
     cancel_after_main(body, done_before);
@@ -170,7 +179,8 @@ fn cancel_after_main<X: Extra>(body: &mut Body<X>, done_before: bool)
 // The run ends where main's callback ran and no task lives.
 fn finish<X: Extra>(body: &Body<X>, seen: &mut u32) -> Result<Went, Memory>
     requires { IsAlive X.added body.now }
-    ensures { IfOk result (λ went. (c : Setting X.added) (s : State X.added.Kept) → IsBetween c body.now s
+    ensures { IfOk result
+        (λ went. (c : Setting X.added) (s : State X.added.Kept) → IsBetween c body.now s
         → Turned c body.now went (finished_if (finished_as s) s)) }
 {
     if !body.main_done || some_task_lives(body, seen) {
@@ -185,7 +195,8 @@ fn finish<X: Extra>(body: &Body<X>, seen: &mut u32) -> Result<Went, Memory>
 // Each task that lives is cancelled, in order of making.
 fn cancel_everything<X: Extra>(body: &mut Body<X>)
     requires { IsAlive X.added body.old }
-    ensures { (c : Setting X.added) (s : State X.added.Kept) → IsBetween c body.old s → IsBetween c body.new (in_loop plain_cancel_everything s) }
+    ensures { (c : Setting X.added) (s : State X.added.Kept) → IsBetween c body.old s
+        → IsBetween c body.new (in_loop plain_cancel_everything s) }
 {
     for task in 0..tasks(body) {
         let own = body.parts.future_of(task);
@@ -199,7 +210,8 @@ fn cancel_everything<X: Extra>(body: &mut Body<X>)
 // greater numbers, so all turns together look at each task about once.
 fn some_task_lives<X: Extra>(body: &Body<X>, seen: &mut u32) -> bool
     requires { IsAlive X.added body.now }
-    ensures { (c : Setting X.added) (s : State X.added.Kept) → IsBetween c body.now s → result ≡ not (no_task_lives s.loop.parts) }
+    ensures { (c : Setting X.added) (s : State X.added.Kept) → IsBetween c body.now s
+        → result ≡ not (no_task_lives s.loop.parts) }
 {
     lives_from(body, seen) || any_lives(body)
 }
@@ -207,7 +219,8 @@ fn some_task_lives<X: Extra>(body: &Body<X>, seen: &mut u32) -> bool
 // Whether a task lives from this one on, which is then that task.
 fn lives_from<X: Extra>(body: &Body<X>, seen: &mut u32) -> bool
     requires { IsAlive X.added body.now }
-    ensures { result ≡ true → (c : Setting X.added) (s : State X.added.Kept) → IsBetween c body.now s
+    ensures { result ≡ true → (c : Setting X.added) (s : State X.added.Kept)
+        → IsBetween c body.now s
         → true ≡ not (no_task_lives s.loop.parts) }
 {
     for task in *seen..tasks(body) {
@@ -221,7 +234,8 @@ fn lives_from<X: Extra>(body: &Body<X>, seen: &mut u32) -> bool
 
 fn any_lives<X: Extra>(body: &Body<X>) -> bool
     requires { IsAlive X.added body.now }
-    ensures { (c : Setting X.added) (s : State X.added.Kept) → IsBetween c body.now s → result ≡ not (no_task_lives s.loop.parts) }
+    ensures { (c : Setting X.added) (s : State X.added.Kept) → IsBetween c body.now s
+        → result ≡ not (no_task_lives s.loop.parts) }
 {
     for task in 0..tasks(body) {
         if body.parts.is_pending(body.parts.future_of(task)) {

@@ -1,5 +1,5 @@
 -- A run under way: what was written, what is left, and each way out.
-use Rattle.std.proofs.Common.{◌≡◌, ℕ, zero, suc, ◌+◌, ◌-◌, ◌^◌, ◌<◌, ◌≤◌, Bool, true, false, List, [], ◌∷◌, ◌++◌, Option, Some, None, map, min, ◌⊎◌, inl, inr}
+use Rattle.std.proofs.Common.{◌≡◌, ℕ, suc, ◌+◌, ◌-◌, ◌^◌, ◌≤◌, List, [], ◌∷◌, ◌++◌, Option, Some, None, map, min, inl, inr}
 use Rattle.std.proofs.Common.{refl, ap, sym, ◌∙◌, subst, append_assoc, arith}
 use Rattle.model_tree.specs.Syntax.{Program}
 use Rattle.model_says.specs.Says.{step_limit}
@@ -24,7 +24,7 @@ use Rattle.aio_wire.specs.declared.stop.Stop.TheVariants as stop
 use Rattle.aio_extra.specs.Nothing.{nothing_added}
 use Rattle.aio_extra.specs.declared.nothing.NoExtra.{NoExtra}
 use Rattle.aio_core.specs.Turned.{Begins, Ends, EndsAs, GoesOn, StandsFor, TurnsTo, untaken}
-use Rattle.aio_core.specs.Turning.{AnyLeft, Is, IsMismatch, NextIs, NoneLeft, Takes}
+use Rattle.aio_core.specs.Turning.{AnyLeft, Is, IsMismatch, Takes}
 use Rattle.aio_core.specs.declared.kernel.Kernel.{Kernel}
 use Rattle.aio_core.specs.declared.went.Went as code
 use Rattle.aio_core.specs.declared.went.Went.TheVariants as went

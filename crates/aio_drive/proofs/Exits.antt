@@ -1,13 +1,13 @@
 -- What is known of a turn by what comes next.
-use Rattle.std.proofs.Common.{◌≡◌, ℕ, zero, suc, ◌+◌, Bool, List, [], ◌∷◌, ◌++◌, Option, ◌⊎◌, inl, inr, refl, ap, sym, ◌∙◌, subst, arith}
+use Rattle.std.proofs.Common.{◌≡◌, ℕ, zero, suc, Bool, List, [], Option, ◌⊎◌, inl, inr, refl, ap, sym, ◌∙◌, subst}
 use Rattle.model_tree.specs.Syntax.{Program}
 use Rattle.model_says.specs.Says.{step_limit}
 use Rattle.model_wire.specs.declared.event.End.TheVariants as ends
 use Rattle.model_wire.specs.Call.{Call}
 use Rattle.model_wire.specs.Event.{Event}
 use Rattle.model_wire.specs.Journal.{Entry}
-use Rattle.model_wire.specs.Told.{Rose, SinkSeen, WireSeen, took}
-use Rattle.model_wire.specs.Trace.{End, end_text, line, lines_of_events}
+use Rattle.model_wire.specs.Told.{Rose, SinkSeen, WireSeen}
+use Rattle.model_wire.specs.Trace.{End, lines_of_events}
 use Rattle.model_machine.specs.Extra.{no_extra}
 use Rattle.model_machine.specs.Run.{turns_over}
 use Rattle.model_machine.specs.State.{State, start}

@@ -35,10 +35,12 @@ pub fn drive<W: Wire, K: Sink>(
 ) -> Result<u8, Halt>
     requires some { 1 ≤ manner.turns }
     ensures ok { IfOk result (WritesWhole
-        (MayDrive program.now manner fault.now (W.seen wire.old) (W.seen wire.new) (Undisturbed (W.fails wire.old) (W.quiet wire.old wire.new)))
+        (MayDrive program.now manner fault.now (W.seen wire.old) (W.seen wire.new)
+        (Undisturbed (W.fails wire.old) (W.quiet wire.old wire.new)))
         (K.seen out.old) (K.seen out.new)) }
     ensures err { IfErr result (EndsEarly
-        (MayDrive program.now manner fault.now (W.seen wire.old) (W.seen wire.new) (Undisturbed (W.fails wire.old) (W.quiet wire.old wire.new)))
+        (MayDrive program.now manner fault.now (W.seen wire.old) (W.seen wire.new)
+        (Undisturbed (W.fails wire.old) (W.quiet wire.old wire.new)))
         (W.quiet wire.old wire.new) (K.seen out.old) (K.seen out.new)) }
     ensures keeps { W.keeps wire.old wire.new }
 {

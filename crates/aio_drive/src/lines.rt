@@ -19,8 +19,10 @@ pub fn write_events<K: Sink>(
     trace: bool,
     out: &mut K,
 ) -> Result<(), Halt>
-    ensures ok { OnOk result (K.seen out.new ≡ took (K.seen out.old) (lines_of_events trace events.now.events)) }
-    ensures err { IfErr result (StopsWriting (lines_of_events trace events.now.events) (K.seen out.old) (K.seen out.new)) }
+    ensures ok { OnOk result
+        (K.seen out.new ≡ took (K.seen out.old) (lines_of_events trace events.now.events)) }
+    ensures err { IfErr result
+        (StopsWriting (lines_of_events trace events.now.events) (K.seen out.old) (K.seen out.new)) }
 {
     let mut text = Vec::new(alloc);
     lines(alloc, events, trace, &mut text)?;
@@ -36,8 +38,11 @@ pub fn write_end<K: Sink>(
     out: &mut K,
 ) -> Result<u8, Halt>
     ensures ok { IfOk result (λ status. (status ≡ status_of end.now)
-        × (K.seen out.new ≡ took (K.seen out.old) (lines_of_events trace events.now.events ++ line (end_text end.now)))) }
-    ensures err { IfErr result (StopsWriting (lines_of_events trace events.now.events ++ line (end_text end.now))
+        × (K.seen out.new
+        ≡ took (K.seen out.old)
+        (lines_of_events trace events.now.events ++ line (end_text end.now)))) }
+    ensures err { IfErr result
+        (StopsWriting (lines_of_events trace events.now.events ++ line (end_text end.now))
         (K.seen out.old) (K.seen out.new)) }
 {
     let mut text = Vec::new(alloc);

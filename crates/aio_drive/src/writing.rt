@@ -24,7 +24,8 @@ pub fn write_all<K: Sink>(alloc: Global, out: &mut K, text: &[u8]) -> Result<(),
 
 /// Writes a text, and answers this status.
 pub fn tell<K: Sink>(alloc: Global, text: &[u8], status: u8, out: &mut K) -> Result<u8, Halt>
-    ensures ok { IfOk result (λ told. (told ≡ status) × (K.seen out.new ≡ took (K.seen out.old) text.now)) }
+    ensures ok { IfOk result
+        (λ told. (told ≡ status) × (K.seen out.new ≡ took (K.seen out.old) text.now)) }
     ensures err { IfErr result (StopsWriting text.now (K.seen out.old) (K.seen out.new)) }
 {
     write_all(alloc, out, text)?;
@@ -33,7 +34,8 @@ pub fn tell<K: Sink>(alloc: Global, text: &[u8], status: u8, out: &mut K) -> Res
 
 /// The same of a line.
 pub fn say<K: Sink>(alloc: Global, line: &str, status: u8, out: &mut K) -> Result<u8, Halt>
-    ensures ok { IfOk result (λ told. (told ≡ status) × (K.seen out.new ≡ took (K.seen out.old) line.now)) }
+    ensures ok { IfOk result
+        (λ told. (told ≡ status) × (K.seen out.new ≡ took (K.seen out.old) line.now)) }
     ensures err { IfErr result (StopsWriting line.now (K.seen out.old) (K.seen out.new)) }
 {
     tell(alloc, line.as_bytes(), status, out)

@@ -33,7 +33,8 @@ pub trait Extra {
         requires serves { MayServe added (Some task) self.old parts.old }
         ensures { IfOk result (λ asked. (t : Ties) (s : State added.Kept) (items : List AnyValue)
             → as_list arguments.now ≡ Some items → IsServed added (Some task) t s self.old parts.old
-            → SaysAs added t s parts.old parts.new self.new asked (added.meaning.ask task code items s)) };
+            → SaysAs added t s parts.old parts.new self.new asked
+            (added.meaning.ask task code items s)) };
 
     /// What the wait of the request under this key came to, as the task goes on.
     fn wake(
@@ -47,7 +48,8 @@ pub trait Extra {
         requires serves { MayServe added parts.old.running self.old parts.old }
         ensures { IfOk result (λ asked. (t : Ties) (s : State added.Kept)
             → IsServed added parts.old.running t s self.old parts.old
-            → SaysAs added t s parts.old parts.new self.new asked (added.meaning.wake key input s)) };
+            → SaysAs added t s parts.old parts.new self.new asked
+            (added.meaning.wake key input s)) };
 
     /// A handle of its own runs, that of this key.
     fn act(&mut self, alloc: Global, key: u64, parts: &mut Parts) -> Result<(), Memory>
@@ -67,7 +69,8 @@ pub trait Extra {
         requires serves { MayServe added None self.old parts.old }
         ensures { OnOk result ((t : Ties) (s : State added.Kept)
             → IsServed added None t s self.old parts.old
-            → CallsAs added t s parts.old parts.new self.new (added.meaning.item code bytes.now s)) };
+            → CallsAs added t s parts.old parts.new self.new
+            (added.meaning.item code bytes.now s)) };
 
     /// Whether it waits for news of the outside.
     fn watches(&self) -> bool

@@ -2,7 +2,7 @@
 use Rattle.std.specs.Prelude.{codes}
 use Rattle.std.specs.Fmt.{decimal}
 use Rattle.std.proofs.lemmas.Fmt.{decimal_digit}
-use Rattle.std.proofs.Common.{◌≡◌, ℕ, Bool, true, List, [], ◌∷◌, ◌++◌, Option, Some, None, ◌⊎◌, refl, ap, sym, ◌∙◌, subst, inl, inr, arith}
+use Rattle.std.proofs.Common.{◌≡◌, ℕ, List, [], ◌∷◌, ◌++◌, Option, Some, None, refl, ap, sym, ◌∙◌, subst, inl, inr, arith}
 use Rattle.model_tree.specs.Syntax.{Program}
 use Rattle.model_text.specs.declared.cause.Cause.{Cause}
 use Rattle.model_text.specs.Canonical.{canonical}
@@ -13,9 +13,9 @@ use Rattle.model_text.specs.SecondPass.{Judged}
 use Rattle.model_wire.specs.declared.event.End.TheVariants as end
 use Rattle.model_wire.specs.Journal.{Entry}
 use Rattle.model_wire.specs.JournalText.{entries_of}
-use Rattle.model_wire.specs.Told.{Agrees, FileFailed, Rose, ShelfSeen, SinkSeen, WireSeen, NoneFailed, took}
+use Rattle.model_wire.specs.Told.{Agrees, FileFailed, Rose, ShelfSeen, SinkSeen, WireSeen, NoneFailed}
 use Rattle.model_wire.specs.Trace.{line}
-use Rattle.model_machine.specs.Program.{Manner, script_refused, script_failed, FileSays, JournalSays, JournalBegins, MayRun, MayRunIf, MayRunScript, MayReplay}
+use Rattle.model_machine.specs.Program.{Manner, script_refused, FileSays, JournalSays, JournalBegins, MayRun, MayRunIf, MayRunScript, MayReplay}
 use Rattle.model_machine.specs.Program.{MayCheck, checked, not_run}
 use Rattle.model_machine.specs.Served.{is_served}
 use Rattle.model_machine.specs.Theorem.{ProgramOutput, MayBegin, WritesWhole}

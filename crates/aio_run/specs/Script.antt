@@ -1,5 +1,5 @@
 -- What was read of a script, or why there is none, by what the shelf tells of its file.
-use Rattle.std.specs.Prelude.{◌≡◌, ℕ, List, [], ◌++◌, Option, Ok, codes}
+use Rattle.std.specs.Prelude.{◌≡◌, ℕ, List, ◌++◌, Option, Ok, codes}
 use Rattle.std.specs.Fmt.{decimal}
 use Rattle.model_tree.specs.Syntax.{Program}
 use Rattle.model_text.specs.declared.cause.Cause.{Cause}

@@ -18,9 +18,11 @@ pub fn check<F: Shelf, K: Sink>(
     shelf: &mut F,
     out: &mut K,
 ) -> Result<u8, Halt>
-    ensures ok { IfOk result (WritesWhole (MayCheck (F.seen shelf.old) (F.seen shelf.new) script.now)
+    ensures ok { IfOk result
+        (WritesWhole (MayCheck (F.seen shelf.old) (F.seen shelf.new) script.now)
         (K.seen out.old) (K.seen out.new)) }
-    ensures err { IfErr result (EndsEarly (MayCheck (F.seen shelf.old) (F.seen shelf.new) script.now)
+    ensures err { IfErr result
+        (EndsEarly (MayCheck (F.seen shelf.old) (F.seen shelf.new) script.now)
         (NoneFailed (F.seen shelf.old) (F.seen shelf.new)) (K.seen out.old) (K.seen out.new)) }
     ensures files { (F.seen shelf.new).file ≡ (F.seen shelf.old).file }
 {

@@ -30,8 +30,18 @@ pub fn aio_main<F: Shelf, W: Wire, K: Sink>(
     out: &mut K,
 ) -> u8
     ensures { Behaves MayWrite (map string_bytes words.now.items)
-        (record { shelf = shelf.old; files = F.seen shelf.old; wire = wire.old; sink = K.seen out.old })
-        (record { shelf = shelf.new; files = F.seen shelf.new; wire = wire.new; sink = K.seen out.new })
+        (record {
+          shelf = shelf.old;
+          files = F.seen shelf.old;
+          wire = wire.old;
+          sink = K.seen out.old;
+        })
+        (record {
+          shelf = shelf.new;
+          files = F.seen shelf.new;
+          wire = wire.new;
+          sink = K.seen out.new;
+        })
         result }
 {
     let _ = wire;
@@ -50,10 +60,12 @@ fn serve<F: Shelf, K: Sink>(
     out: &mut K,
 ) -> Result<u8, Halt>
     ensures ok { IfOk result (WritesWhole
-        (MayWrite (F.seen shelf.old) (F.seen shelf.new) (plain_command_of (map string_bytes words.now)))
+        (MayWrite (F.seen shelf.old) (F.seen shelf.new)
+        (plain_command_of (map string_bytes words.now)))
         (K.seen out.old) (K.seen out.new)) }
     ensures err { IfErr result (EndsEarly
-        (MayWrite (F.seen shelf.old) (F.seen shelf.new) (plain_command_of (map string_bytes words.now)))
+        (MayWrite (F.seen shelf.old) (F.seen shelf.new)
+        (plain_command_of (map string_bytes words.now)))
         (NoneFailed (F.seen shelf.old) (F.seen shelf.new)) (K.seen out.old) (K.seen out.new)) }
     ensures files { (F.seen shelf.new).file ≡ (F.seen shelf.old).file }
     ensures words { plain_command_of (map string_bytes words.now) ≡ None → shelf.new ≡ shelf.old }

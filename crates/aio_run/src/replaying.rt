@@ -51,10 +51,12 @@ fn replay_program<F: Shelf, K: Sink>(
 ) -> Result<u8, Halt>
     requires some { 1 ≤ manner.turns }
     ensures ok { IfOk result (WritesWhole
-        (MayRunIf (F.seen shelf.old) (F.seen shelf.new) (is_served program.now) program.now (manner_of journal.now manner))
+        (MayRunIf (F.seen shelf.old) (F.seen shelf.new) (is_served program.now) program.now
+        (manner_of journal.now manner))
         (K.seen out.old) (K.seen out.new)) }
     ensures err { IfErr result (EndsEarly
-        (MayRunIf (F.seen shelf.old) (F.seen shelf.new) (is_served program.now) program.now (manner_of journal.now manner))
+        (MayRunIf (F.seen shelf.old) (F.seen shelf.new) (is_served program.now) program.now
+        (manner_of journal.now manner))
         (NoneFailed (F.seen shelf.old) (F.seen shelf.new)) (K.seen out.old) (K.seen out.new)) }
     ensures files { (F.seen shelf.new).file ≡ (F.seen shelf.old).file }
 {

@@ -45,7 +45,8 @@ pub fn read_script<F: Shelf>(alloc: Global, name: &str, shelf: &mut F) -> Result
 /// Writes why there is no script.
 pub fn refuse<K: Sink>(alloc: Global, none: NoScript, out: &mut K) -> Result<u8, Halt>
     ensures ok { IfOk result (WritesWhole (Tells none) (K.seen out.old) (K.seen out.new)) }
-    ensures err { IfErr result (EndsEarly (Tells none) (none ≡ NoScript.Memory) (K.seen out.old) (K.seen out.new)) }
+    ensures err { IfErr result
+        (EndsEarly (Tells none) (none ≡ NoScript.Memory) (K.seen out.old) (K.seen out.new)) }
 {
     match none {
         NoScript::Refused { line, cause } => {

@@ -35,7 +35,8 @@ pub fn set<X: Extra>(
     value: Value,
 ) -> Result<RequestReply, Memory>
     requires { SomeGoes X.added body.old }
-    ensures { (task : ℕ) → Serves X.added task (request.Set future.now value) body.old body.new result }
+    ensures { (task : ℕ)
+        → Serves X.added task (request.Set future.now value) body.old body.new result }
 {
     settle(body, alloc, future, Some(Outcome::Value(value)))
 }
@@ -47,7 +48,8 @@ pub fn fail<X: Extra>(
     fault: &Value,
 ) -> Result<RequestReply, Memory>
     requires { SomeGoes X.added body.old }
-    ensures { (task : ℕ) → Serves X.added task (request.Fail future.now fault.now) body.old body.new result }
+    ensures { (task : ℕ)
+        → Serves X.added task (request.Fail future.now fault.now) body.old body.new result }
 {
     let outcome = failed_with(as_failure(fault)?);
     settle(body, alloc, future, outcome)
@@ -68,7 +70,8 @@ fn settle<X: Extra>(
 ) -> Result<RequestReply, Memory>
     requires { SomeGoes X.added body.old }
     ensures { (task : ℕ) → Replies X.added task
-        (λ s. given (as_future s future.now) (λ on. given outcome (settles on)) s) body.old body.new result }
+        (λ s. given (as_future s future.now)
+        (λ on. given outcome (settles on)) s) body.old body.new result }
 {
     let Some(on) = body.as_future(future) else {
         return bad_argument(alloc);
@@ -97,7 +100,8 @@ pub fn is_cancelled<X: Extra>(
     alloc: Global,
     x: &Value,
 ) -> Result<RequestReply, Memory>
-    ensures { (task : ℕ) → Serves X.added task (request.IsCancelled x.now) body.now body.now result }
+    ensures { (task : ℕ)
+        → Serves X.added task (request.IsCancelled x.now) body.now body.now result }
 {
     match body.as_awaited(x) {
         Some(on) => Ok(RequestReply::Answers(Value::bool(ended_cancelled(body.parts.outcome(on))))),

@@ -80,7 +80,9 @@ pub fn create<X: Extra>(
     arguments: &ValueList,
 ) -> Result<RequestReply, Memory>
     requires { SomeGoes X.added body.old }
-    ensures { (task : ℕ) → Serves X.added task (request.Create group.now coroutine arguments.now) body.old body.new result }
+    ensures { (task : ℕ)
+        → Serves X.added task
+        (request.Create group.now coroutine arguments.now) body.old body.new result }
 {
     let Some(id) = as_group(group) else {
         return bad_argument(alloc);
@@ -106,7 +108,9 @@ pub fn leave_group<X: Extra>(
     input: Input,
 ) -> Result<RequestReply, Memory>
     requires { MayDecide X.added task (Leaving group) body.old }
-    ensures { IfOk result (λ said. (c : Setting X.added) (s : State X.added.Kept) → IsDeciding task (Leaving group) c body.old s
+    ensures { IfOk result
+        (λ said. (c : Setting X.added) (s : State X.added.Kept)
+        → IsDeciding task (Leaving group) c body.old s
         → Says task c body.new said (decides X.added.meaning (Leaving group) task input s)) }
 {
     let exit = body
@@ -118,7 +122,8 @@ pub fn leave_group<X: Extra>(
 /// A task of a group is done.
 pub fn child_done<X: Extra>(body: &mut Body<X>, group: u32, task: u32)
     requires { MayTake X.added (GroupDone group task) body.old }
-    ensures { (c : Setting X.added) (s : State X.added.Kept) → IsTaken (GroupDone group task) c body.old s
+    ensures { (c : Setting X.added) (s : State X.added.Kept)
+        → IsTaken (GroupDone group task) c body.old s
         → IsAfterCallback c body.new (in_loop (child_done group task) s) }
 {
     body.groups.child_done(group, task, &mut body.parts);

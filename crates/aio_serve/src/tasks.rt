@@ -60,7 +60,8 @@ pub fn spawn<X: Extra>(
     arguments: &ValueList,
 ) -> Result<RequestReply, Memory>
     requires { SomeGoes X.added body.old }
-    ensures { (task : ℕ) → Serves X.added task (request.Spawn coroutine arguments.now) body.old body.new result }
+    ensures { (task : ℕ)
+        → Serves X.added task (request.Spawn coroutine arguments.now) body.old body.new result }
 {
     if body.slots.len() >= MOST_IDS {
         return out_of_range(alloc);

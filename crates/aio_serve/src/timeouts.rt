@@ -74,7 +74,8 @@ pub fn reschedule<X: Extra>(
     when: &Value,
 ) -> Result<RequestReply, Memory>
     requires { SomeGoes X.added body.old }
-    ensures { (task : ℕ) → Serves X.added task (request.Reschedule timeout.now when.now) body.old body.new result }
+    ensures { (task : ℕ)
+        → Serves X.added task (request.Reschedule timeout.now when.now) body.old body.new result }
 {
     let Some(id) = as_timeout(timeout) else {
         return bad_argument(alloc);
@@ -102,7 +103,8 @@ pub fn expired<X: Extra>(
     alloc: Global,
     timeout: &Value,
 ) -> Result<RequestReply, Memory>
-    ensures { (task : ℕ) → Serves X.added task (request.Expired timeout.now) body.now body.now result }
+    ensures { (task : ℕ)
+        → Serves X.added task (request.Expired timeout.now) body.now body.now result }
 {
     match as_timeout(timeout) {
         Some(id) => Ok(RequestReply::Answers(Value::bool(has_expired(body, id)))),

@@ -54,7 +54,8 @@ pub fn step<X: Extra>(
 ) -> Result<Stepped, Memory>
     requires called { MayBegin X.added task body.old }
     requires made { HearsMade input body.old }
-    ensures { IfOk result (λ went. (c : Setting X.added) (s : State X.added.Kept) → IsCalled task c body.old s
+    ensures { IfOk result
+        (λ went. (c : Setting X.added) (s : State X.added.Kept) → IsCalled task c body.old s
         → Steps c body.new went (step step_limit X.added.meaning task input s)) }
 {
     let Started {
@@ -103,7 +104,8 @@ fn decide<X: Extra>(
     input: Input,
 ) -> Result<RequestReply, Memory>
     requires { MayDecideAs X.added task standing body.old }
-    ensures { IfOk result (λ said. (c : Setting X.added) (s : State X.added.Kept) (stood : plain.Standing)
+    ensures { IfOk result
+        (λ said. (c : Setting X.added) (s : State X.added.Kept) (stood : plain.Standing)
         → IsDeciding task stood c body.old s → DecidesAs standing stood
         → Says task c body.new said (decides X.added.meaning stood task input s)) }
 {
@@ -129,7 +131,8 @@ fn serve<X: Extra>(
     requires { MayServe X.added task true input body.old coroutine }
     ensures { IfOk result (λ went. (c : Setting X.added) (s : State X.added.Kept)
         → IsServing task true input c body.old coroutine s
-        → Steps c body.new went (serve_all step_limit X.added.meaning task (resumed true task input s))) }
+        → Steps c body.new went
+        (serve_all step_limit X.added.meaning task (resumed true task input s))) }
 {
     let mut coroutine = coroutine;
     let mut input = input;

@@ -11,7 +11,8 @@ use aio_extra::Extra;
 
 /// An event that is pushed is one event more of the state.
 pub fn an_event_more_is_noted<X: Extra>()
-    ensures { (out : Option ℕ) (c : Setting X.added) (body : Body X) (s : State X.added.Kept) (it : Event) (events : EventList)
+    ensures { (out : Option ℕ) (c : Setting X.added) (body : Body X) (s : State X.added.Kept)
+        (it : Event) (events : EventList)
         → events ≡ pushed body.events it → Stands out c body s
         → Stands out c (record body { events = events }) (noted it s) }
 {}

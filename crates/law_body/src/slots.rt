@@ -16,23 +16,32 @@ use aio_extra::Extra;
 
 /// What a task stands at changes in code as in the machine, while its coroutine is taken out.
 pub fn a_task_stands_at_another_request<X: Extra>()
-    ensures { (c : Setting X.added) (old new : Body X) (s : State X.added.Kept) (task : ℕ) (code : Standing) (standing : plain.Standing)
-        → (h : Stands (Some task) c old s) → StandsAt h.ties s.loop.parts (named_in X.added s) task code standing
-        → new ≡ record old { slots = new.slots } → new.slots.items ≡ standing_at task code old.slots.items
+    ensures { (c : Setting X.added) (old new : Body X) (s : State X.added.Kept) (task : ℕ)
+        (code : Standing) (standing : plain.Standing)
+        → (h : Stands (Some task) c old s)
+        → StandsAt h.ties s.loop.parts (named_in X.added s) task code standing
+        → new ≡ record old { slots = new.slots }
+        → new.slots.items ≡ standing_at task code old.slots.items
         → task < next_task s.loop.parts → Stands (Some task) c new (stands standing task s) }
 {}
 
 /// The coroutine that is taken out is resumed, and put back; that of a task that is done is let go.
 pub fn a_coroutine_goes_on<X: Extra>()
-    ensures resumed { (c : Setting X.added) (body : Body X) (s : State X.added.Kept) (task : ℕ) (fresh : Bool) (input : Input) (before now : Gen)
+    ensures resumed { (c : Setting X.added) (body : Body X) (s : State X.added.Kept) (task : ℕ)
+        (fresh : Bool) (input : Input) (before now : Gen)
         → Stands (Some task) (holding before c) body s → task < next_task s.loop.parts
-        → (StandsFor s.program body.code (generator_of task s).coroutine (generator_of task s).arguments (generator_of task s).tape before
-        → StandsFor s.program body.code (generator_of task s).coroutine (generator_of task s).arguments
+        → (StandsFor s.program body.code (generator_of task s).coroutine
+        (generator_of task s).arguments (generator_of task s).tape before
+        → StandsFor s.program body.code (generator_of task s).coroutine
+        (generator_of task s).arguments
         ((generator_of task s).tape ++ record { input = input; fresh = fresh } ∷ []) now)
         → Stands (Some task) (holding now c) body (resumed fresh task input s) }
-    ensures back { (c : Setting X.added) (old new : Body X) (s : State X.added.Kept) (task : ℕ) (coroutine : Gen)
+    ensures back { (c : Setting X.added) (old new : Body X) (s : State X.added.Kept) (task : ℕ)
+        (coroutine : Gen)
         → Stands (Some task) (holding coroutine c) old s → new ≡ record old { slots = new.slots }
         → new.slots.items ≡ put_back task coroutine old.slots.items → Stands None c new s }
-    ensures over { (c : Setting X.added) (body : Body X) (s : State X.added.Kept) (task : ℕ) (coroutine : Gen)
-        → Stands (Some task) (holding coroutine c) body s → lives s.loop.parts task ≡ false → Stands None c body s }
+    ensures over { (c : Setting X.added) (body : Body X) (s : State X.added.Kept) (task : ℕ)
+        (coroutine : Gen)
+        → Stands (Some task) (holding coroutine c) body s → lives s.loop.parts task ≡ false
+        → Stands None c body s }
 {}

@@ -23,30 +23,47 @@ use aio_extra::Extra;
 
 /// A pause ends the step.
 pub fn a_pause_rests<X: Extra>()
-    ensures { (task : ℕ) (c : Setting X.added) (old : Body X) (s : State X.added.Kept) (v : View) → IsInStep task c old s
+    ensures { (task : ℕ) (c : Setting X.added) (old : Body X) (s : State X.added.Kept) (v : View)
+        → IsInStep task c old s
         → parts v ≡ pause task (parts old.parts)
-        → v ≡ record old.parts { queue = queue.soon (action.Step task) old.parts.queue; running = None }
+        → v ≡ record old.parts {
+          queue = queue.soon (action.Step task) old.parts.queue;
+          running = None;
+        }
         → HasRested task c (record old { parts = v }) (unbooked_in (pause task) s) }
 {}
 
 /// A cancel is asked for, whoever asks.
 pub fn a_cancel_is_asked_for<X: Extra>()
-    ensures { (by : Origin) (task id : ℕ) (c : Setting X.added) (old : Body X) (s : State X.added.Kept) (v : View) → IsInStep task c old s
+    ensures { (by : Origin) (task id : ℕ) (c : Setting X.added) (old : Body X)
+        (s : State X.added.Kept) (v : View) → IsInStep task c old s
         → parts v ≡ (cancel id (parts old.parts)).parts → Appended old.parts.queue v.queue
         → v ≡ record old.parts { queue = v.queue; futures = v.futures; tasks = v.tasks }
-        → IsInStep task c (record old { parts = v }) (in_loop (book (λ p. (request by id p).booked)) s) }
+        → IsInStep task c (record old { parts = v })
+        (in_loop (book (λ p. (request by id p).booked)) s) }
 {}
 
 /// A future is made that the script names, and one that is no task's gets its outcome.
 pub fn futures_are_made_and_settled<X: Extra>()
-    ensures made { (task : ℕ) (c : Setting X.added) (old new : Body X) (s : State X.added.Kept) (v : View) → IsInStep task c old s
+    ensures made { (task : ℕ) (c : Setting X.added) (old new : Body X) (s : State X.added.Kept)
+        (v : View) → IsInStep task c old s
         → OwnsFutures s.loop.parts
-        → v ≡ record old.parts { futures = old.parts.futures ++ record { kind = Plain; outcome = None; callbacks = [] } ∷ [] }
+        → v ≡ record old.parts {
+          futures = old.parts.futures
+              ++ record { kind = Plain; outcome = None; callbacks = [] } ∷ [];
+        }
         → new ≡ record old { parts = v; futures = new.futures }
-        → new.futures.items ≡ old.futures.items ++ next_future s.loop.parts ∷ [] → length s.futures + 1 < 2 ^ 32
-        → IsInStep task c new (unbooked_in new_plain (record s { futures = s.futures ++ next_future s.loop.parts ∷ [] })) }
-    ensures settled { (task id : ℕ) (outcome : Outcome) (c : Setting X.added) (old : Body X) (s : State X.added.Kept) (v : View) → IsInStep task c old s
+        → new.futures.items ≡ old.futures.items ++ next_future s.loop.parts ∷ []
+        → length s.futures + 1 < 2 ^ 32
+        → IsInStep task c new
+        (unbooked_in new_plain
+        (record s { futures = s.futures ++ next_future s.loop.parts ∷ [] })) }
+    ensures settled { (task id : ℕ) (outcome : Outcome) (c : Setting X.added) (old : Body X)
+        (s : State X.added.Kept) (v : View) → IsInStep task c old s
         → owner_of s.loop.parts id ≡ None
-        → v ≡ record old.parts { futures = settled id outcome old.parts.futures; queue = soon_all (called id old.parts.futures) old.parts.queue }
+        → v ≡ record old.parts {
+          futures = settled id outcome old.parts.futures;
+          queue = soon_all (called id old.parts.futures) old.parts.queue;
+        }
         → IsInStep task c (record old { parts = v }) (unbooked_in (settle id outcome) s) }
 {}

@@ -13,10 +13,14 @@ use aio_extra::Extra;
 
 /// A value names the same future in code as in the machine, and one that wasn't let go.
 pub fn values_name_the_same<X: Extra>()
-    ensures future { (out : Option ℕ) (c : Setting X.added) (body : Body X) (s : State X.added.Kept) → Stands out c body s
+    ensures future { (out : Option ℕ) (c : Setting X.added) (body : Body X) (s : State X.added.Kept)
+        → Stands out c body s
         → (x : Value) → future_in body.futures.items x ≡ as_future s x }
-    ensures awaited { (out : Option ℕ) (c : Setting X.added) (body : Body X) (s : State X.added.Kept) → Stands out c body s
+    ensures awaited { (out : Option ℕ) (c : Setting X.added) (body : Body X)
+        (s : State X.added.Kept) → Stands out c body s
         → (x : Value) → awaited_in body.futures.items (parts body.parts) x ≡ as_awaited s x }
-    ensures there { (out : Option ℕ) (c : Setting X.added) (body : Body X) (s : State X.added.Kept) → (h : Stands out c body s)
-        → OwnsFutures s.loop.parts → (x : Value) (on : ℕ) → as_awaited s x ≡ Some on → h.ties.gone on ≡ false }
+    ensures there { (out : Option ℕ) (c : Setting X.added) (body : Body X) (s : State X.added.Kept)
+        → (h : Stands out c body s)
+        → OwnsFutures s.loop.parts → (x : Value) (on : ℕ) → as_awaited s x ≡ Some on
+        → h.ties.gone on ≡ false }
 {}

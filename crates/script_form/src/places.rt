@@ -33,8 +33,8 @@ impl Places {
     }
 
     pub fn is_outside(&self) -> bool
-        ensures { (roles : List PlainRole) → IsBehind self.now roles → result
-            ≡ is_outside (open_blocks roles) }
+        ensures { (roles : List PlainRole) → IsBehind self.now roles
+            → result ≡ is_outside (open_blocks roles) }
     {
         self.blocks.is_empty()
     }

@@ -1,8 +1,11 @@
 use Rattle.std.proofs.Common.{◌∙◌, sym, ap}
 use Rattle.std.specs.Option.{option_map}
-use Rattle.aio_core.proofs.Running.{alive_on, at_bar_so, fewer, may_run, reached_next, runs_away}
+use Rattle.aio_core.proofs.Running.{alive_on, at_bar_so, fewer, may_run, reached_first, reached_next, runs_away}
 use Rattle.aio_core.proofs.Waking.{idle_alive}
 use Rattle.aio_core.proofs.handles.run_below.Goals as goal
+
+pub loop-action-init : goal.loop-action-init
+loop-action-init g c = reached_first c.args.body.now
 
 pub next_below-requires : goal.next_below-requires
 next_below-requires g c =

@@ -1,4 +1,4 @@
-use Rattle.std.proofs.Common.{◌≡◌, ◌-◌, ◌^◌, ◌≤◌, [], ap, refl, sym, subst, arith}
+use Rattle.std.proofs.Common.{◌-◌, ◌^◌, ◌≤◌, [], ap, refl, sym, subst, arith}
 use Rattle.std.proofs.lemmas.Result.{err_from_is_err_and, IfOk-weaker, IfErr-weaker}
 use Rattle.aio_wire.specs.EventList.{EventList}
 use Rattle.aio_drive.specs.Drive.{MayDrive, Undisturbed}
@@ -19,8 +19,8 @@ returns-in_err-kernel-clause-err g c =
     (g.K.Sink.seen c.args.out.now) (g.K.Sink.seen c.args.out.now) [] (sym (took-nil (g.K.Sink.seen c.args.out.now))) refl
     (g.met.W.Wire.quiet_same c.args.wire.now))
 
-pub new-kernel-requires : goal.new-kernel-requires
-new-kernel-requires g c = ∣ (tt, λ t p. tt) ∣₁
+pub new-requires : goal.new-requires
+new-requires g c = record { fresh = ∣ (tt, λ t p. tt) ∣₁ }
 
 pub loop-made-init : goal.loop-made-init
 loop-made-init g c = record {

@@ -1,6 +1,5 @@
-use Rattle.std.proofs.Common.{◌++◌, [], take, ◌∙◌, sym, ap, append-nil}
-use Rattle.std.proofs.lemmas.Result.{err_from_is_err_and}
-use Rattle.aio_drive.proofs.Fronts.{wrote_more, wrote_none, failed_on}
+use Rattle.std.proofs.Common.{◌++◌, take}
+use Rattle.aio_drive.proofs.Fronts.{wrote_more}
 use Rattle.aio_drive.proofs.writing.write_all.Goals as goal
 
 pub loop-rest-preserved : goal.loop-rest-preserved

@@ -1,4 +1,4 @@
-use Rattle.std.proofs.Common.{◌≡◌, ℕ, ◌∙◌, Bool, IfErr, IfOk, List, ap, refl, subst, sym}
+use Rattle.std.proofs.Common.{ℕ, ◌∙◌, Bool, IfErr, IfOk, List, ap, refl, subst, sym}
 use Rattle.std.proofs.lemmas.Result.{IfOk-weaker, IfErr-weaker}
 use Rattle.model_wire.specs.Told.{NoneFailed, took}
 use Rattle.model_machine.specs.Program.{MayRunIf, not_run}

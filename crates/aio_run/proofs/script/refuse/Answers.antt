@@ -1,4 +1,4 @@
-use Rattle.std.proofs.Common.{ap, sym, ◌∙◌, refl, subst, List, [], ℕ}
+use Rattle.std.proofs.Common.{ap, sym, ◌∙◌, refl, subst, List, ℕ}
 use Rattle.std.proofs.lemmas.Result.{IfOk-weaker, IfErr-weaker, err_from_is_err_and}
 use Rattle.model_wire.specs.Told.{took}
 use Rattle.model_machine.specs.Theorem.{ProgramOutput}

@@ -5,7 +5,7 @@ use Rattle.aio_core.proofs.kernel.Kernel.events.Goals as goal
 
 pub invariant_of-self : goal.invariant_of-self
 invariant_of-self g c = record {
-  alive = alive_taken c.args.self.now.ended c.args.self.now.body c.take.new.self c.take.ensures.left c.args.self.now.alive;
+  alive = alive_taken g.X.Extra.added c.args.self.now.ended c.args.self.now.body c.take.new.self c.take.ensures.left c.args.self.now.alive;
 }
 
 pub returns-clause-taken : goal.returns-clause-taken

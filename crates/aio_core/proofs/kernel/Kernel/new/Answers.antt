@@ -7,7 +7,7 @@ use Rattle.aio_core.proofs.kernel.Kernel.new.Goals as goal
 
 pub invariant_of-result : goal.invariant_of-result
 invariant_of-result g c = record {
-  alive = ∥∥₁_map c.requires (λ w.
+  alive = ∥∥₁_map c.requires.fresh (λ w.
       let begun = c.in_ok-body.ensures w.0 w.1 [] in
       ∣ (resting g.X.Extra.added [] [] begun.0, (start w.0 c.args.program.now [], begun.1)) ∣₁);
 }

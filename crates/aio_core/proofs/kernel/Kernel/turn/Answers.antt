@@ -7,7 +7,7 @@ use Rattle.aio_core.proofs.kernel.Kernel.turn.Goals as goal
 
 -- ---- the run had ended
 pub invariant_of-self : goal.invariant_of-self
-invariant_of-self g c = record { alive = alive_ended c.end.new.kept c.end.result c.args.self.now.body c.end.ensures.kept }
+invariant_of-self g c = record { alive = alive_ended g.X.Extra.added c.end.new.kept c.end.result c.args.self.now.body c.end.ensures.kept }
 
 pub returns-in-Some-clause-turned : goal.returns-in-Some-clause-turned
 returns-in-Some-clause-turned g c = λ none. not_both c.args.self.now.ended c.in-Some.ended none (sym c.take.ensures.value ∙ c.in-Some.is)
@@ -35,17 +35,18 @@ returns-in-Some-clause-still g c =
 -- ---- it had not
 pub turn-requires : goal.turn-requires
 turn-requires g c =
-    alive_of c.args.self.now.ended c.args.self.now.body (sym c.take.ensures.value ∙ c.in_default.is) c.args.self.now.alive
+    alive_of g.X.Extra.added c.args.self.now.ended c.args.self.now.body (sym c.take.ensures.value ∙ c.in_default.is) c.args.self.now.alive
 
 pub invariant_of-self-in-Ok : goal.invariant_of-self-in-Ok
 invariant_of-self-in-Ok g c = record {
-  alive = kept_alive c.in-Ok.went c.keep.result c.take.new.self c.keep.new.kept c.take.ensures.after c.keep.ensures c.turn.new.body c.in-Ok.ensures.alive;
+  alive = kept_alive c.in-Ok.went c.keep.result c.take.new.self c.keep.new.kept c.take.ensures.after c.keep.ensures
+      g.X.Extra.added c.turn.new.body c.in-Ok.ensures.alive;
 }
 
 pub invariant_of-self-in-Err : goal.invariant_of-self-in-Err
 invariant_of-self-in-Err g c = record {
   alive = kept_alive (went.Stopped c.in-Err.stop) c.keep-in-Err.result c.take.new.self c.keep-in-Err.new.kept c.take.ensures.after c.keep-in-Err.ensures
-      c.turn.new.body tt;
+      g.X.Extra.added c.turn.new.body tt;
 }
 
 pub returns-in-Ok : goal.returns-in-Ok
