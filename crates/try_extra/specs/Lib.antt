@@ -1,0 +1,2 @@
+pub mod NextTurn
+pub mod Wanted

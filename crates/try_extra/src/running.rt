@@ -1,0 +1,54 @@
+//! A script's run, over answers that take no time.
+use crate::next_turn::NextTurn;
+use crate::stopped::RunStopped;
+use aio_base::Outcome;
+use aio_core::{Kernel, Went};
+use aio_memwire::JournalWire;
+use aio_program::Program;
+use aio_script::read;
+use aio_trace::{End, last_line, lines};
+use aio_wire::{MemShelf, Shelf, Stop, Wire};
+use std::alloc::Global;
+
+/// The answers of the outside: the time stays at 0.
+const ANSWERS: &str = "turn 0\nturn 0\nturn 0\nturn 0\nturn 0\nturn 0\nturn 0\nturn 0\n";
+
+/// More turns than there are answers.
+const TURNS: u64 = 10;
+
+/// The transcript of a script, with the trace.
+pub fn transcript(alloc: Global, script: &str) -> Result<Vec<u8>, RunStopped> {
+    let program = read(alloc, script.as_bytes())?;
+    let mut shelf = MemShelf::new(alloc);
+    let _took = shelf.append(alloc, "answers", ANSWERS.as_bytes())?;
+    let mut wire = JournalWire::new(alloc, &mut shelf, "answers");
+    drive(alloc, &program, &mut wire)
+}
+
+fn drive<W: Wire>(alloc: Global, program: &Program, wire: &mut W) -> Result<Vec<u8>, RunStopped> {
+    let mut kernel = Kernel::new(alloc, program, NextTurn::new(alloc))?;
+    let mut text = Vec::new(alloc);
+    for _turn in 0..TURNS {
+        let went = kernel.turn(alloc, wire);
+        lines(alloc, &kernel.events(), true, &mut text)?;
+        if let Some(end) = end_of(went)? {
+            last_line(alloc, &end, &mut text)?;
+            return Ok(text);
+        }
+    }
+    Err(RunStopped)
+}
+
+/// How a run ended by this turn, if it did.
+fn end_of(went: Went) -> Result<Option<End>, RunStopped> {
+    match went {
+        Went::Went => Ok(None),
+        Went::Finished(Outcome::Value(value)) => Ok(Some(End::Returned(value))),
+        Went::Finished(Outcome::Failed(fault)) => Ok(Some(End::Raised(fault))),
+        Went::Finished(Outcome::Cancelled) => Ok(Some(End::Cancelled)),
+        Went::Stalled => Ok(Some(End::Stalled)),
+        Went::Runaway(task) => Ok(Some(End::Runaway(task))),
+        Went::Stopped(Stop::Over(call)) => Ok(Some(End::Over(call))),
+        Went::Stopped(_) => Err(RunStopped),
+    }
+}

@@ -1,0 +1,78 @@
+//! The scripts that are run.
+
+/// Code 1 is answered in the same step.
+pub const ANSWERED: &str = "
+def main()
+  a = yield from extra(1, [])
+  b = yield from extra(1, [5, 6])
+  return a + b
+end
+";
+
+/// Code 2 is waited for: its handle runs in the next turn, behind another task, and the task goes on in the turn after.
+pub const WAITED: &str = "
+def other()
+  print \"between\"
+end
+def main()
+  yield from spawn(other)
+  a = yield from extra(2, [])
+  print a
+  b = yield from extra(2, [])
+  print b
+end
+";
+
+/// Two tasks wait at a time, and each is answered by its own wait.
+pub const TWO_AT_A_TIME: &str = "
+def work()
+  a = yield from extra(2, [])
+  print a
+end
+def main()
+  t = yield from spawn(work)
+  u = yield from spawn(work)
+  yield from u
+end
+";
+
+/// No other code is known.
+pub const UNKNOWN: &str = "
+def main()
+  try
+    yield from extra(3, [])
+  except NameError as e
+    print e
+  end
+  yield from extra(-1, [])
+end
+";
+
+/// A task is cancelled while it waits. Its handle runs all the same.
+pub const CANCELLED: &str = "
+def work()
+  try
+    yield from extra(2, [])
+  except CancelledError as e
+    print \"cancelled\"
+  end
+end
+def main()
+  t = yield from spawn(work)
+  yield
+  c = yield from cancel(t)
+  print c
+end
+";
+
+/// A code is an Int, and what follows it a list.
+pub const BAD_ARGUMENTS: &str = "
+def main()
+  try
+    yield from extra(1, 5)
+  except TypeError as e
+    print e
+  end
+  yield from extra(\"1\", [])
+end
+";
