@@ -1,6 +1,7 @@
 //! What the arguments of requests name, where they are of the kind that is wanted.
 ghost use Rattle.std.specs.Prelude.{◌≡◌, IfOk, is_some};
-ghost use Rattle.model_machine.specs.Arguments.{as_task as task_of, as_timeout as timeout_of, as_group as group_of, as_int as int_of, as_delay as delay_of, as_failure as failure_of, as_list};
+ghost use Rattle.model_machine.specs.Arguments.{as_task as task_of, as_timeout as timeout_of, as_group as group_of, as_int as int_of};
+ghost use Rattle.model_machine.specs.Arguments.{as_delay as delay_of, as_failure as failure_of, as_list};
 ghost use Rattle.model_value.specs.Value.{Exception};
 ghost use Rattle.aio_task.specs.View.{parts};
 ghost use Rattle.aio_body.specs.Named.{future_in, awaited_in};

@@ -6,8 +6,8 @@ use aio_task::{FutureId, Parts};
 use aio_timeout::Timeouts;
 use aio_wire::Events;
 
-/// What the kernel keeps of a run that goes on. Coroutines are numbered as the tasks are. `X` is what is added to the loop's
-/// own requests.
+/// What the kernel keeps of a run that goes on. Coroutines are numbered as the tasks are. `X` is
+/// what is added to the loop's own requests.
 #[derive(Drop)]
 pub struct Body<X> {
     pub code: Code,

@@ -1,5 +1,5 @@
 //! What a task's request comes to.
-ghost use Rattle.std.specs.Prelude.{◌≡◌, codes, IfOk};
+ghost use Rattle.std.specs.Prelude.{◌≡◌, IfOk};
 ghost use Rattle.model_value.specs.Value.{exception_of};
 ghost use Rattle.model_says.specs.Operations.{out_of_range as plain_out_of_range};
 ghost use Rattle.model_says.specs.Requests.{bad_argument as plain_bad_argument};
@@ -11,8 +11,8 @@ ghost use Rattle.aio_body.specs.Outcomes.{RepliesAs, reply_of as plain_reply_of}
 use aio_base::{Exc, Input, Kind, Memory, Outcome, Value, exception};
 use std::alloc::Global;
 
-/// What a request comes to: the coroutine goes on with a value, or with an exception that is raised in it, or the task's
-/// step ends.
+/// What a request comes to: the coroutine goes on with a value, or with an exception that is raised
+/// in it, or the task's step ends.
 #[derive(Drop)]
 pub enum RequestReply {
     Answers(Value),

@@ -15,8 +15,8 @@ pub enum Standing {
     Serving(u64),
 }
 
-/// The coroutine of a task, and the request at which it stands. While its step goes on the coroutine is taken out, and
-/// once the task is done there is none.
+/// The coroutine of a task, and the request at which it stands. While its step goes on the
+/// coroutine is taken out, and once the task is done there is none.
 #[derive(Drop)]
 pub struct Slot {
     pub coroutine: Option<Gen>,

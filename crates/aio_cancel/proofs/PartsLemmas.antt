@@ -75,6 +75,10 @@ nothing_appended q r e = ([], e)
 pub appended_on : (q r s : Queue) → Appended q r → Appended r s → Appended q s
 appended_on q r s a b = (a.0 ++ b.0, b.1 ∙ ap (queue.soon_all b.0) a.1 ∙ sym (soon_all-append a.0 b.0 q))
 
+pub waits_for : {o : Option Task} {waiter : Option ℕ} (found : Task) → Some found ≡ o → waiter ≡ found.waiter
+    → Some waiter ≡ option_map (λ (it : Task). it.waiter) o
+waits_for found h e = ap Some e ∙ ap (option_map (λ (it : Task). it.waiter)) h
+
 pub task_within : (ts : List Task) (task : ℕ) (waiter : Option ℕ)
     → Some waiter ≡ option_map (λ (it : Task). it.waiter) (slice_get ts task) → task < length ts
 task_within ts task waiter h = at (slice_get ts task) refl h

@@ -1,7 +1,6 @@
 //! The queue, the futures and the tasks.
 ghost use Rattle.std.specs.Prelude.{◌≡◌, ◌+◌, ◌<◌, ◌^◌, [], ◌∷◌, ◌++◌, IfOk, OnOk, OnErr, IfSome, None, Some, length, slice_get, if◌then◌else◌};
-ghost use Rattle.std.specs.Option.{option_map};
-ghost use Rattle.model_loop.specs.Parts as plain;
+ghost use Rattle.std.specs.Option.{option_copied};
 ghost use Rattle.model_loop.specs.Futures.{settle, mark_asked};
 ghost use Rattle.model_loop.specs.Tasks.{raise_count, mark as mark_task};
 ghost use Rattle.law_parts.specs.Shape.{stands_at, members_at};
@@ -74,15 +73,10 @@ impl Awaitables {
         self.futures.member(id, place)
     }
 
-    /// What a task waits for.
-    pub fn waits(&self, task: u32) -> Option<Option<FutureId>>
-        ensures { result
-            ≡ option_map (λ (task : plain.Task). task.waiter) (slice_get self.now.tasks task) }
+    pub fn task(&self, task: u32) -> Option<&Task>
+        ensures { option_copied result ≡ slice_get self.now.tasks task }
     {
-        match self.tasks.get(task as usize) {
-            Some(task) => Some(task.waiter()),
-            None => None,
-        }
+        self.tasks.get(task as usize)
     }
 
     /// A pending future gets its outcome, and its callbacks are called soon.
@@ -93,7 +87,8 @@ impl Awaitables {
         let _was_pending = self.futures.resolve(id, outcome, &mut self.ready);
     }
 
-    /// A future that stands for several keeps that its cancel was asked for, where a member answered true.
+    /// A future that stands for several keeps that its cancel was asked for, where a member
+    /// answered true.
     pub fn ask_where(&mut self, any: bool, id: FutureId)
         ensures after { parts self.new
             ≡ (if any then mark_asked id (parts self.old) else parts self.old) }

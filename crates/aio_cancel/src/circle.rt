@@ -61,9 +61,10 @@ fn expand_task(id: FutureId, task: u32, body: &Awaitables, seen: &mut Marks) -> 
     if seen.has(task) {
         return Go::Answer(false);
     }
-    let Some(waiter) = body.waits(task) else {
+    let Some(found) = body.task(task) else {
         return Go::Answer(false);
     };
+    let waiter = found.waiter();
     match waiter {
         Some(waiter) => {
             seen.add(task);
@@ -111,7 +112,8 @@ fn seek_next(
         → CanSeek (parts body.now) from to seen.now.visited said
         (go.Next id place any) stack.old.frames
         → CanSeek (parts body.now) from to seen.now.visited said result stack.new.frames }
-    ensures walks { CanWalk stack.new.room seen.now.tasks result stack.new.frames [] (parts body.now) }
+    ensures walks { CanWalk stack.new.room seen.now.tasks
+        result stack.new.frames [] (parts body.now) }
     ensures falls { weight result stack.new.frames seen.now.visited (parts body.now)
         < weight (go.Next id place any) stack.old.frames seen.now.visited (parts body.now) }
     ensures room { stack.new.room ≡ stack.old.room }

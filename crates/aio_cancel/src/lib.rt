@@ -1,5 +1,5 @@
-//! Cancel requests and the search for a circle over the queue, the futures and the tasks, without recursion and without
-//! asking for memory.
+//! Cancel requests and the search for a circle over the queue, the futures and the tasks, without
+//! recursion and without asking for memory.
 #![tactic(auto)]
 
 mod awaitables;

@@ -6,8 +6,8 @@ use aio_base::Memory;
 use std::alloc::Global;
 use std::marker::Model;
 
-/// A mark for each task that was announced, with room for a visit of each. Contracts see for how many there are marks,
-/// and those that were visited, in order.
+/// A mark for each task that was announced, with room for a visit of each. Contracts see for how
+/// many there are marks, and those that were visited, in order.
 #[derive(Drop)]
 pub struct Marks {
     marks: Vec<bool>,

@@ -8,8 +8,8 @@ use std::marker::Model;
 // A count of cancels stays at the greatest number of a script.
 const MOST: u64 = 0x7FFF_FFFF_FFFF_FFFF;
 
-/// A task: its future, what it waits for, how often its cancel was asked for, and whether a cancel waits for its next
-/// step.
+/// A task: its future, what it waits for, how often its cancel was asked for, and whether a cancel
+/// waits for its next step.
 #[derive(Drop)]
 pub struct Task {
     future: FutureId,
@@ -26,7 +26,12 @@ impl Model for Task {
 
     ghost coded = { coded_task };
 
-    ghost view = { λ a. record { future = a.future; waiter = a.waiter; cancels = a.cancels; must_cancel = a.must_cancel } };
+    ghost view = { λ a. record {
+      future = a.future;
+      waiter = a.waiter;
+      cancels = a.cancels;
+      must_cancel = a.must_cancel;
+    } };
 }
 
 impl Task {

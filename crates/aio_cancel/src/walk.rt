@@ -86,9 +86,10 @@ fn visit_task(
     if seen.has(task) {
         return Go::Answer(true);
     }
-    let Some(waiter) = body.waits(task) else {
+    let Some(found) = body.task(task) else {
         return Go::Answer(true);
     };
+    let waiter = found.waiter();
     seen.add(task);
     body.raise(task);
     match waiter {

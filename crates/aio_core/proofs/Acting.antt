@@ -1,40 +1,35 @@
 -- What a handle does, where it was taken from the queue and it was noted that it runs.
-use Rattle.std.proofs.Common.{◌≡◌, ℕ, ℤ, Bool, true, false, ◌&&◌, not, cond, List, [], ◌∷◌, ◌++◌, Option, Some, None, length, slice_get, ◌∙◌, refl, sym, ap}
-use Rattle.std.proofs.Common.{subst, arith}
+use Rattle.std.proofs.Common.{◌≡◌, ℕ, ℤ, Bool, true, false, ◌&&◌, not, cond, List, [], ◌∷◌, ◌++◌, Some, None, length, slice_get, ◌∙◌, refl, sym, ap, subst}
+use Rattle.std.proofs.Common.{arith}
 use Rattle.std.proofs.Math.Logic.{∥∥₁_elim, ∥∥₁_map}
-use Rattle.std.proofs.Props.{props}
-use Rattle.std.proofs.lemmas.Bool.{eq-eqb, false_from_ne_true}
-use Rattle.std.specs.Option.{option_map_or, option_and_then}
+use Rattle.std.proofs.lemmas.Bool.{eq-eqb}
 use Rattle.model_value.specs.Action.{Action, Circle}
 use Rattle.model_value.specs.Input.{Input}
 use Rattle.model_value.specs.declared.action.Action.TheVariants as action
 use Rattle.model_value.specs.declared.input.Input.TheVariants.{Send, Throw}
 use Rattle.model_value.specs.declared.outcome.Outcome.TheVariants.{Value as Returned}
-use Rattle.model_value.specs.Value.{Nothing, Outcome}
+use Rattle.model_value.specs.Value.{Nothing}
 use Rattle.model_says.specs.Says.{step_limit}
 use Rattle.model_wire.specs.declared.event.Event.TheVariants as event
 use Rattle.model_loop.specs.Circles.{circle_fault}
 use Rattle.model_loop.specs.Entries.{ends_sleep_on}
-use Rattle.model_loop.specs.Futures.{future_outcome, outcome_at, settle}
+use Rattle.model_loop.specs.Futures.{settle}
 use Rattle.model_loop.specs.Groups.{child_done}
 use Rattle.model_loop.specs.Loop.{in_parts}
 use Rattle.model_loop.specs.Owning.{is_plain, owner_at}
-use Rattle.model_loop.specs.Parts.{Task}
-use Rattle.model_loop.specs.Tasks.{next_task, waiter_of}
 use Rattle.model_loop.specs.Timeouts.{fire}
 use Rattle.model_loop.specs.Ways.{steps}
-use Rattle.model_machine.specs.Outcomes.{input_of, woken_with}
-use Rattle.model_machine.specs.Sound.{sends_made}
+use Rattle.model_machine.specs.Outcomes.{woken_with}
 use Rattle.model_machine.specs.State.{State, in_loop, noted, unbooked_in}
 use Rattle.model_machine.specs.Step.{step}
 use Rattle.model_machine.specs.Turn.{effect, ran}
 use Rattle.model_machine.specs.Went.{Goes}
 use Rattle.law_inside.specs.InStep.{LeavesStateSound}
-use Rattle.law_runs.proofs.Callbacks.{callback_in, woken_made}
+use Rattle.law_runs.proofs.Callbacks.{callback_in}
 use Rattle.law_settling.proofs.CancelSound.{plain_within}
 use Rattle.law_timeouts.proofs.Quiet.{handles-first}
 use Rattle.law_kept.proofs.Calls.{kept_settle}
-use Rattle.law_kept.proofs.Telling.{outcome_kept, owner_kept}
+use Rattle.law_kept.proofs.Telling.{owner_kept}
 use Rattle.aio_ready.specs.Queue.{soon_all}
 use Rattle.aio_future.specs.Settled as settled
 use Rattle.aio_future.specs.Settled.{called}
@@ -68,6 +63,7 @@ use Rattle.law_body.proofs.Sound.{extra_sound}
 use Rattle.aio_core.specs.declared.effect.Effect.{Effect}
 use Rattle.aio_core.specs.declared.effect.Effect.TheVariants as code
 use Rattle.aio_core.specs.Effects.{effect_of, MayAct}
+use Rattle.aio_core.proofs.Actions.{is_step, is_circle, is_wakeup, is_sleep, is_group, is_firing, is_main, is_extra, is_item}
 
 module _ {X : Type 0} {a : Added X} where
   -- ---- it is noted that it runs
@@ -86,99 +82,6 @@ module _ {X : Type 0} {a : Added X} where
     called = h.called;
     running = h.running;
   }
-
--- ---- which action it was
-is_step : (task : ℕ) (it : Action) → code.Step task ≡ effect_of it → it ≡ action.Step task
-is_step task (action.Step other) e = cc
-is_step task (action.StepInCircle other circle) e = absurd (cc)
-is_step task (action.Wakeup other) e = absurd (cc)
-is_step task (action.SleepDone other future) e = absurd (cc)
-is_step task (action.GroupDone group other) e = absurd (cc)
-is_step task (action.Fires timeout) e = absurd (cc)
-is_step task action.MainDone e = absurd (cc)
-is_step task _ e = absurd (cc)
-
-is_circle : (task : ℕ) (circle : Circle) (it : Action) → code.StepInCircle task circle ≡ effect_of it → it ≡ action.StepInCircle task circle
-is_circle task circle (action.Step other) e = absurd (cc)
-is_circle task circle (action.StepInCircle other why) e = cc
-is_circle task circle (action.Wakeup other) e = absurd (cc)
-is_circle task circle (action.SleepDone other future) e = absurd (cc)
-is_circle task circle (action.GroupDone group other) e = absurd (cc)
-is_circle task circle (action.Fires timeout) e = absurd (cc)
-is_circle task circle action.MainDone e = absurd (cc)
-is_circle task circle _ e = absurd (cc)
-
-is_wakeup : (task : ℕ) (it : Action) → code.Wakeup task ≡ effect_of it → it ≡ action.Wakeup task
-is_wakeup task (action.Step other) e = absurd (cc)
-is_wakeup task (action.StepInCircle other circle) e = absurd (cc)
-is_wakeup task (action.Wakeup other) e = cc
-is_wakeup task (action.SleepDone other future) e = absurd (cc)
-is_wakeup task (action.GroupDone group other) e = absurd (cc)
-is_wakeup task (action.Fires timeout) e = absurd (cc)
-is_wakeup task action.MainDone e = absurd (cc)
-is_wakeup task _ e = absurd (cc)
-
-is_sleep : (task future : ℕ) (it : Action) → code.SleepDone task future ≡ effect_of it → it ≡ action.SleepDone task future
-is_sleep task future (action.Step other) e = absurd (cc)
-is_sleep task future (action.StepInCircle other circle) e = absurd (cc)
-is_sleep task future (action.Wakeup other) e = absurd (cc)
-is_sleep task future (action.SleepDone other id) e = cc
-is_sleep task future (action.GroupDone group other) e = absurd (cc)
-is_sleep task future (action.Fires timeout) e = absurd (cc)
-is_sleep task future action.MainDone e = absurd (cc)
-is_sleep task future _ e = absurd (cc)
-
-is_group : (group task : ℕ) (it : Action) → code.GroupDone group task ≡ effect_of it → it ≡ action.GroupDone group task
-is_group group task (action.Step other) e = absurd (cc)
-is_group group task (action.StepInCircle other circle) e = absurd (cc)
-is_group group task (action.Wakeup other) e = absurd (cc)
-is_group group task (action.SleepDone other future) e = absurd (cc)
-is_group group task (action.GroupDone id other) e = cc
-is_group group task (action.Fires timeout) e = absurd (cc)
-is_group group task action.MainDone e = absurd (cc)
-is_group group task _ e = absurd (cc)
-
-is_firing : (timeout : ℕ) (it : Action) → code.Fires timeout ≡ effect_of it → it ≡ action.Fires timeout
-is_firing timeout (action.Step other) e = absurd (cc)
-is_firing timeout (action.StepInCircle other circle) e = absurd (cc)
-is_firing timeout (action.Wakeup other) e = absurd (cc)
-is_firing timeout (action.SleepDone other future) e = absurd (cc)
-is_firing timeout (action.GroupDone group other) e = absurd (cc)
-is_firing timeout (action.Fires id) e = cc
-is_firing timeout action.MainDone e = absurd (cc)
-is_firing timeout _ e = absurd (cc)
-
-is_main : (it : Action) → code.MainDone ≡ effect_of it → it ≡ action.MainDone
-is_main (action.Step other) e = absurd (cc)
-is_main (action.StepInCircle other circle) e = absurd (cc)
-is_main (action.Wakeup other) e = absurd (cc)
-is_main (action.SleepDone other future) e = absurd (cc)
-is_main (action.GroupDone group other) e = absurd (cc)
-is_main (action.Fires id) e = absurd (cc)
-is_main action.MainDone e = refl
-is_main _ e = absurd (cc)
-
-is_extra : (key : ℕ) (it : Action) → code.Extra key ≡ effect_of it → it ≡ action.Extra key
-is_extra key (action.Step other) e = absurd (cc)
-is_extra key (action.StepInCircle other circle) e = absurd (cc)
-is_extra key (action.Wakeup other) e = absurd (cc)
-is_extra key (action.SleepDone other future) e = absurd (cc)
-is_extra key (action.GroupDone group other) e = absurd (cc)
-is_extra key (action.Fires id) e = absurd (cc)
-is_extra key action.MainDone e = absurd (cc)
-is_extra key (action.Extra other) e = cc
-is_extra key _ e = absurd (cc)
-
-is_item : (number : ℤ) (bytes : List ℕ) (it : Action) → code.ExtraItem number bytes ≡ effect_of it → it ≡ action.ExtraItem number bytes
-is_item number bytes (action.Step other) e = absurd (cc)
-is_item number bytes (action.StepInCircle other circle) e = absurd (cc)
-is_item number bytes (action.Wakeup other) e = absurd (cc)
-is_item number bytes (action.SleepDone other future) e = absurd (cc)
-is_item number bytes (action.GroupDone group other) e = absurd (cc)
-is_item number bytes (action.Fires id) e = absurd (cc)
-is_item number bytes action.MainDone e = absurd (cc)
-is_item number bytes (action.ExtraItem other news) e = cc
-is_item number bytes _ e = absurd (cc)
 
 -- ---- what it leaves is sound
 off : (b : Bool) → (b && false) ≡ false
@@ -302,55 +205,6 @@ module _ {X : Type 0} {a : Added X} (old new : Body X) (said : Stepped) where
   wakeup_acts task does c s it is h =
       subst (λ k. Steps c new said (effect step_limit a.meaning k s)) (sym (is_wakeup task it is))
       (does c s (wakeup_called task c old s (subst (λ k. IsTaken k c old s) (is_wakeup task it is) h)))
-
--- ---- what a task is woken with
-module _ {X : Type 0} {a : Added X} (task : ℕ) (c : Setting a) (body : Body X) (s : State a.Kept) (h : IsCalled task c body s) where
-  woken_there : (on : ℕ) → waiter_of s.loop.parts task ≡ Some on → h.stands.ties.gone on ≡ false
-  woken_there on waits = false_from_ne_true (h.stands.ties.gone on) (λ e. absurd (none_some ((h.stands.gone on e).alone task waits)))
-    where
-      none_some : None ≡ Some task → ⊥
-      none_some e = absurd (cc)
-
-  waits_same : waiter_of (parts body.parts) task ≡ waiter_of s.loop.parts task
-  waits_same = ap (λ (ts : List Task). option_map_or (λ (t : Task). t.waiter) (slice_get ts task) None) h.stands.keeps.tasks
-
-  -- it waits for nothing
-  pub woken_none : waiter_of (parts body.parts) task ≡ None → Send Nothing ≡ woken_with s.loop.parts task
-  woken_none none = sym (ap (λ o. option_map_or input_of (option_and_then (future_outcome s.loop.parts) o) (Send Nothing)) (sym waits_same ∙ none))
-
-  pub woken_on : (on : ℕ) (outcome : Option Outcome) → waiter_of (parts body.parts) task ≡ Some on
-      → outcome_at (slice_get body.parts.futures on) ≡ outcome
-      → option_map_or input_of outcome (Send Nothing) ≡ woken_with s.loop.parts task
-  woken_on on outcome waits ended =
-      let there = sym waits_same ∙ waits in
-      ap (λ o. option_map_or input_of o (Send Nothing))
-      (sym ended ∙ outcome_kept h.stands.ties body.parts s.loop.parts h.stands.keeps on (woken_there on there))
-      ∙ sym (ap (λ o. option_map_or input_of (option_and_then (future_outcome s.loop.parts) o) (Send Nothing)) there)
-
-  pub woken_sends : sends_made (length body.slots.items) (woken_with s.loop.parts task) ≡ true
-  woken_sends = sends
-    where
-      at : (t : State a.Kept) → s ≡ t → sends_made (next_task t.loop.parts) (woken_with t.loop.parts task) ≡ true
-          → sends_made (length body.slots.items) (woken_with s.loop.parts task) ≡ true
-      at t e m =
-          ap (λ n. sends_made n (woken_with s.loop.parts task)) (h.stands.made ∙ ap (λ (x : State a.Kept). next_task x.loop.parts) e)
-          ∙ ap (λ (x : State a.Kept). sends_made (next_task t.loop.parts) (woken_with x.loop.parts task)) e ∙ m
-
-      sends : sends_made (length body.slots.items) (woken_with s.loop.parts task) ≡ true
-      sends =
-          at (noted (event.Ran h.handle.action) (unbooked_in (λ p. record p { pending = h.rest }) h.before)) h.after
-          (woken_made a.meaning h.before h.sound task)
-
-module _ {X : Type 0} {a : Added X} where
-  pub woken_sends_may : (task : ℕ) (body : Body X) (input : Input) → MayBegin a task body
-      → ((c : Setting a) (s : State a.Kept) → IsCalled task c body s → input ≡ woken_with s.loop.parts task)
-      → sends_made (length body.slots.items) input ≡ true
-  woken_sends_may task body input m is =
-      ∥∥₁_elim m (bool_prop (sends_made (length body.slots.items) input) true)
-      (λ w. ap (sends_made (length body.slots.items)) (is w.0 w.1.0 w.1.1) ∙ woken_sends task w.0 body w.1.0 w.1.1)
-    where
-      bool_prop : (a b : Bool) → IsProp (a ≡ b)
-      bool_prop a b = hlevel props
 
 -- ---- the end of a sleep
 module _ {X : Type 0} {a : Added X} (task future : ℕ) (c : Setting a) (body : Body X) (s : State a.Kept)

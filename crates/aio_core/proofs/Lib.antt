@@ -1,5 +1,7 @@
 pub mod Below
 pub mod Running
+pub mod Actions
+pub mod Inputs
 pub mod Acting
 pub mod Waking
 pub mod Stopping

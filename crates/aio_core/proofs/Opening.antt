@@ -14,11 +14,11 @@ use Rattle.model_loop.specs.Parts.{OfTask, Future, Parts, Task}
 use Rattle.model_loop.specs.Start.{first_parts, no_parts}
 use Rattle.model_loop.specs.Tasks.{cancelling, future_of, lives, spawn}
 use Rattle.model_machine.specs.State as machine
-use Rattle.model_machine.specs.State.{State, generator, generator_of, start}
+use Rattle.model_machine.specs.State.{generator, start}
 use Rattle.law_kept.proofs.Calls.{kept_register, kept_spawn}
 use Rattle.law_machine.proofs.Beginning.{begins_sound}
 use Rattle.aio_ready.specs.Queue as queue
-use Rattle.aio_ready.specs.Queue.{Queue, no_handles}
+use Rattle.aio_ready.specs.Queue.{no_handles}
 use Rattle.aio_future.specs.Settled.{registered, soon_if_done}
 use Rattle.aio_task.specs.View.{View, empty, parts}
 use Rattle.aio_task.specs.Keeps.{Ties, Keeps, Kept, ByHandle}

@@ -19,7 +19,8 @@ use aio_timeout::Timeouts;
 use aio_wire::Events;
 use std::alloc::Global;
 
-/// A run begins at time 0, with main's task, whose first step is pending, and what is called when it is done.
+/// A run begins at time 0, with main's task, whose first step is pending, and what is called when
+/// it is done.
 pub fn begin<X: Extra + Drop>(alloc: Global, program: &Program, extra: X) -> Result<Body<X>, Memory>
     ensures { IfOk result (λ body. (kept : X.added.Kept) → KeepsNothing X.added extra kept
         → (answers : List Entry)

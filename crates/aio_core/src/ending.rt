@@ -7,7 +7,8 @@ use aio_base::Memory;
 use aio_wire::Stop;
 use std::alloc::Global;
 
-/// The end of a run is kept and answered. Where its copy is refused memory, that is kept and answered.
+/// The end of a run is kept and answered. Where its copy is refused memory, that is kept and
+/// answered.
 pub fn end(alloc: Global, kept: &mut Option<Went>, went: Went) -> Went
     ensures answer { Again went result }
     ensures kept { kept.new ≡ Some result }

@@ -12,8 +12,8 @@ use aio_program::Program;
 use aio_wire::{Events, Wire};
 use std::alloc::Global;
 
-/// A run of a program, between two turns, over what is added to the loop's own requests. After any answer of a turn but `Went`
-/// the run has ended.
+/// A run of a program, between two turns, over what is added to the loop's own requests. After any
+/// answer of a turn but `Went` the run has ended.
 #[derive(Drop)]
 pub struct Kernel<X: Extra> {
     body: Body<X>,
@@ -36,7 +36,8 @@ impl<X: Extra + Drop> Kernel<X> {
     ghost use Rattle.aio_core.specs.Again.{Again};
     ghost use Rattle.aio_core.specs.Sound.{IsTurnSound};
 
-    /// A run begins at time 0, with main's task, whose first step is pending. What is added keeps nothing so far.
+    /// A run begins at time 0, with main's task, whose first step is pending. What is added keeps
+    /// nothing so far.
     pub fn new(alloc: Global, program: &Program, extra: X) -> Result<Kernel<X>, Memory>
         requires fresh { ∥ ((kept : X.added.Kept) × KeepsNothing X.added extra kept) ∥₁ }
         ensures { IfOk result (λ kernel. (kept : X.added.Kept) → KeepsNothing X.added extra kept
@@ -50,7 +51,8 @@ impl<X: Extra + Drop> Kernel<X> {
         })
     }
 
-    /// A turn. After any answer but `Went` it answers that again, or that memory was refused, and asks nothing.
+    /// A turn. After any answer but `Went` it answers that again, or that memory was refused, and
+    /// asks nothing.
     pub fn turn<W: Wire>(&mut self, alloc: Global, wire: &mut W) -> Went
         ensures turned { ended self.old ≡ None
             → (said : AnyWent) × TurnedBy X.added (W.fails wire.old) (W.quiet wire.old wire.new)

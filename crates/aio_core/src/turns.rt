@@ -1,7 +1,6 @@
 //! A turn of the loop.
 ghost use Rattle.std.specs.Prelude.{◌≡◌, ◌≤◌, ◌⊎◌, ◌&&◌, true, not, length, List, [], IfOk};
 ghost use Rattle.model_wire.specs.Event.{Event};
-ghost use Rattle.model_wire.specs.Fits.{fits};
 ghost use Rattle.model_wire.specs.Journal.{Entry};
 ghost use Rattle.model_loop.specs.Ending.{cancel_everything as plain_cancel_everything};
 ghost use Rattle.model_machine.specs.Outcomes.{finished_as, no_task_lives};
@@ -13,7 +12,8 @@ ghost use Rattle.aio_wire.specs.Port.{Exchanges, StopsShort, AlwaysFails, Unless
 ghost use Rattle.aio_wire.specs.Replied.{Replied, MayHaveReplied, Stays};
 ghost use Rattle.aio_wire.specs.declared.wire.Reply.{Reply as AnyReply};
 ghost use Rattle.aio_body.specs.Stands.{Setting, IsBetween};
-ghost use Rattle.aio_core.specs.Turning.{IsAlive, IsAtRest, IsSelect, IsTime, Turned, AliveIfWent, ComesTo, OfFailing, StallsAs, UnlessFailed, all_below, at_bar, said_by, stood_by};
+ghost use Rattle.aio_core.specs.Turning.{IsAlive, IsAtRest, IsSelect, IsTime, Turned, AliveIfWent, ComesTo, OfFailing, StallsAs, UnlessFailed};
+ghost use Rattle.aio_core.specs.Turning.{all_below, at_bar, said_by, stood_by};
 
 use crate::handles::run_below;
 use crate::went::{Went, copy_of_outcome};
@@ -27,8 +27,8 @@ use std::alloc::Global;
 /// The longest wait that is asked for, in milliseconds: a day.
 const LONGEST_WAIT: u64 = 86_400_000;
 
-/// A turn: the outside is asked for the time and what came, and then the handles that are pending run. Once main is done,
-/// `seen` is the task that was seen last to live.
+/// A turn: the outside is asked for the time and what came, and then the handles that are pending
+/// run. Once main is done, `seen` is the task that was seen last to live.
 pub fn turn<W: Wire, X: Extra>(
     body: &mut Body<X>,
     alloc: Global,
@@ -81,8 +81,8 @@ fn select(alloc: Global, wait: Option<u64>) -> Call
     Call::Select { wait, watch }
 }
 
-// How long a turn waits: not at all where something is pending, else until the next deadline, and without a bound where
-// there is none.
+// How long a turn waits: not at all where something is pending, else until the next deadline, and
+// without a bound where there is none.
 fn wait<X: Extra>(body: &Body<X>) -> Option<u64>
     ensures { (c : Setting X.added) (s : State X.added.Kept) → IsBetween c body.now s
         → plain_select result [] ≡ call_of X.added.meaning s }
@@ -139,8 +139,8 @@ fn after<X: Extra>(
     }
 }
 
-// The time goes on, and never back, and timers fall due. All that is pending then stands before the bar. Nothing is
-// watched, so nothing else came.
+// The time goes on, and never back, and timers fall due. All that is pending then stands before the
+// bar. Nothing is watched, so nothing else came.
 fn wake<X: Extra>(body: &mut Body<X>, answer: &Answer)
     requires alive { IsAlive X.added body.old }
     requires time { IsTime answer.now }
@@ -154,8 +154,8 @@ fn wake<X: Extra>(body: &mut Body<X>, answer: &Answer)
     body.parts.set_bar();
 }
 
-// After the turn in which main's callback ran, each task that lives is cancelled. The run ends with the first turn, from
-// that one on, after which none lives.
+// After the turn in which main's callback ran, each task that lives is cancelled. The run ends with
+// the first turn, from that one on, after which none lives.
 fn end_turn<X: Extra>(body: &mut Body<X>, done_before: bool, seen: &mut u32) -> Result<Went, Memory>
     requires { IsAlive X.added body.old }
     ensures { IfOk result
@@ -206,8 +206,8 @@ fn cancel_everything<X: Extra>(body: &mut Body<X>)
     }
 }
 
-// From the task on that was seen last to live, and then from the first on. Tasks that are done stay done, and new ones have
-// greater numbers, so all turns together look at each task about once.
+// From the task on that was seen last to live, and then from the first on. Tasks that are done stay
+// done, and new ones have greater numbers, so all turns together look at each task about once.
 fn some_task_lives<X: Extra>(body: &Body<X>, seen: &mut u32) -> bool
     requires { IsAlive X.added body.now }
     ensures { (c : Setting X.added) (s : State X.added.Kept) → IsBetween c body.now s

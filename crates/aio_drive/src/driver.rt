@@ -1,5 +1,5 @@
 //! The one loop that holds kernel, wire and sink.
-ghost use Rattle.std.specs.Prelude.{◌≡◌, ◌≤◌, IfOk, IfErr};
+ghost use Rattle.std.specs.Prelude.{◌≤◌, IfOk, IfErr};
 ghost use Rattle.model_machine.specs.Theorem.{WritesWhole};
 ghost use Rattle.aio_drive.specs.Drive.{LastOf, MayDrive, Undisturbed};
 ghost use Rattle.aio_drive.specs.Outcome.{EndsEarly};
@@ -23,8 +23,8 @@ pub struct Manner {
     pub turns: u64,
 }
 
-/// Runs a program over a wire's answers, and writes its transcript to a sink. Where the wire fails, `fault` is the last
-/// line. It answers the exit status.
+/// Runs a program over a wire's answers, and writes its transcript to a sink. Where the wire fails,
+/// `fault` is the last line. It answers the exit status.
 pub fn drive<W: Wire, K: Sink>(
     alloc: Global,
     program: &Program,
@@ -59,8 +59,8 @@ pub fn drive<W: Wire, K: Sink>(
     write_end(alloc, &Events::new(alloc), manner.trace, &end, out)
 }
 
-/// How a run ends that may make no further turn, of which so many were allowed: a turn more is asked for over a wire that
-/// has no answers, and it stalls or it is over.
+/// How a run ends that may make no further turn, of which so many were allowed: a turn more is
+/// asked for over a wire that has no answers, and it stalls or it is over.
 fn last_of(alloc: Global, kernel: &mut Kernel<NoExtra>, turns: u64) -> Result<End, Memory>
     ensures { IfOk result (LastOf kernel.old turns) }
 {

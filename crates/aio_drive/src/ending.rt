@@ -60,7 +60,8 @@ fn end_of(outcome: Outcome) -> End
     }
 }
 
-/// How a run ends that may make no further turn, of which so many were allowed, by what came of a turn more.
+/// How a run ends that may make no further turn, of which so many were allowed, by what came of a
+/// turn more.
 pub fn last_says(went: Went, turns: u64) -> Result<End, Memory>
     ensures { IfOk result (LastSays went turns) }
 {

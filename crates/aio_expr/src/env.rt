@@ -9,8 +9,8 @@ use aio_base::Value;
 use std::alloc::AllocError;
 use std::marker::Model;
 
-/// The variables of a coroutine with their values, by their numbers. One that nothing was assigned to yet holds None.
-/// Contracts see them as a list.
+/// The variables of a coroutine with their values, by their numbers. One that nothing was assigned
+/// to yet holds None. Contracts see them as a list.
 #[derive(Drop)]
 pub struct Env {
     values: Vec<Value>,

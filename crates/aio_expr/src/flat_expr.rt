@@ -8,8 +8,8 @@ use crate::local::Local;
 use aio_syntax::{Comparison, Constant, Function, Kind, Operator};
 use std::marker::Model;
 
-/// An expression of flat code. It is not the script's, whose variables have names: here they go by their numbers, so
-/// that none is looked up as code runs. Contracts see it as plain data.
+/// An expression of flat code. It is not the script's, whose variables have names: here they go by
+/// their numbers, so that none is looked up as code runs. Contracts see it as plain data.
 #[cycle(flat_expr)]
 #[derive(Drop)]
 pub struct FlatExpr {

@@ -5,8 +5,8 @@ ghost use Rattle.model_tree.specs.declared.function.Function.TheVariants as func
 ghost use Rattle.model_says.specs.Operations.{quotient, remainder, applied};
 ghost use Rattle.aio_expr.specs.Ordered.{IsOrdered};
 
-/// `(a // b) * b + a % b` is a, where both are defined. What is left has the divisor's sign, or is 0, and is nearer to 0
-/// than the divisor: so the quotient is rounded down.
+/// `(a // b) * b + a % b` is a, where both are defined. What is left has the divisor's sign, or is
+/// 0, and is nearer to 0 than the divisor: so the quotient is rounded down.
 pub fn quotients_are_rounded_down()
     ensures whole { (a b q r : ℤ) → quotient (Int a) (Int b) ≡ Ok (Int q)
         → remainder (Int a) (Int b) ≡ Ok (Int r) → (q *ℤ b) +ℤ r ≡ a }

@@ -4,8 +4,8 @@ ghost use Rattle.law_locals.specs.Numbered.{local};
 
 use std::marker::Model;
 
-/// A variable of a coroutine, by its number: its place among them, from 0. Contracts see a name, which is that number
-/// alone.
+/// A variable of a coroutine, by its number: its place among them, from 0. Contracts see a name,
+/// which is that number alone.
 #[derive(Clone, Copy)]
 pub struct Local {
     number: usize,

@@ -19,7 +19,8 @@ pub enum ExprFault {
     Memory,
 }
 
-/// The value of an expression, or the first exception from the left. A value that would be too heavy is not built.
+/// The value of an expression, or the first exception from the left. A value that would be too
+/// heavy is not built.
 /// Source: the language reference, "Expressions".
 pub fn value_of(alloc: Global, expr: &FlatExpr, env: &Env) -> Result<Value, ExprFault>
     ensures value { IfOk result (λ value. value_of expr.now env.now ≡ Ok value) }

@@ -1,5 +1,5 @@
 -- What is added to the loop's own requests, in code and in the machine.
-use Rattle.std.specs.Prelude.{◌≡◌, ℕ, ◌<◌, ◌≤◌, ◌⊎◌, Bool, true, false, List, Some, slice_get}
+use Rattle.std.specs.Prelude.{◌≡◌, ℕ, ◌<◌, ◌≤◌, ◌⊎◌, true, false, List, Some, slice_get}
 use Rattle.model_loop.specs.Futures.{next_future}
 use Rattle.model_loop.specs.Owning.{is_plain, owner_of}
 use Rattle.model_loop.specs.Parts.{Parts}

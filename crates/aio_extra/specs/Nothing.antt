@@ -1,5 +1,5 @@
 -- Nothing is added.
-use Rattle.std.specs.Prelude.{◌≡◌, refl}
+use Rattle.std.specs.Prelude.{refl}
 use Rattle.std.proofs.Common.{subst}
 use Rattle.model_machine.specs.Extra as extra
 use Rattle.model_machine.specs.Extra.{ExtraAnswer, WakesFall, no_extra}

@@ -13,11 +13,12 @@ use aio_base::{Input, Memory, Value};
 use aio_task::Parts;
 use std::alloc::Global;
 
-/// What serves requests that are added to the loop's own: `extra(code, list)`. It changes the loop's parts by the steps alone
-/// that its meaning says, and keeps what it made of them by number and by name. After want of memory the loop makes no call.
+/// What serves requests that are added to the loop's own: `extra(code, list)`. It changes the
+/// loop's parts by the steps alone that its meaning says, and keeps what it made of them by number
+/// and by name. After want of memory the loop makes no call.
 pub trait Extra {
-    /// What the machine keeps of it, what its calls mean, which futures are its own, when it stands for what the machine
-    /// keeps, and what holds of these.
+    /// What the machine keeps of it, what its calls mean, which futures are its own, when it stands
+    /// for what the machine keeps, and what holds of these.
     ghost added: { Added Self };
 
     /// A task's request, with a list of arguments.

@@ -1,4 +1,5 @@
-//! What is added to the loop's own requests: the trait of what serves further ones, and what serves none.
+//! What is added to the loop's own requests: the trait of what serves further ones, and what serves
+//! none.
 #![tactic(auto)]
 
 mod asked;

@@ -13,7 +13,8 @@ pub struct FlatBody {
     pub variables: usize,
     pub ops: Vec<Op>,
     pub ranges: Vec<Range>,
-    ghost forward: { JumpsForward (record { ops = ops.items; ranges = ranges.items; variables = locals 0 variables }) },
+    ghost forward: { JumpsForward
+        (record { ops = ops.items; ranges = ranges.items; variables = locals 0 variables }) },
 }
 
 /// The code of a program: that of each coroutine, in their order.

@@ -1,4 +1,5 @@
-//! Expressions, whose variables get their numbers. Texts are shared with the program, and not copied.
+//! Expressions, whose variables get their numbers. Texts are shared with the program, and not
+//! copied.
 ghost use Rattle.std.specs.Prelude.{◌≡◌, IfOk, map};
 ghost use Rattle.law_locals.specs.Numbered.{numbered_expr};
 ghost use Rattle.aio_syntax.specs.Constant.{constant_of};

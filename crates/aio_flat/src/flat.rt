@@ -13,8 +13,8 @@ use aio_base::Memory;
 use aio_program::{Coroutine, Program};
 use std::alloc::Global;
 
-/// The flat code of a program. Expressions are copied once, variables get their numbers, and texts are shared with the
-/// program.
+/// The flat code of a program. Expressions are copied once, variables get their numbers, and texts
+/// are shared with the program.
 ///
 /// A program with more than 4,294,967,295 coroutines has none: the answer is `Memory`.
 pub fn flatten(alloc: Global, program: &Program) -> Result<Code, Memory>

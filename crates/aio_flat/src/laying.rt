@@ -1,4 +1,5 @@
-//! Statements as flat code. Each call lays it at the end of what was laid; on `Memory` a front of it may stand there.
+//! Statements as flat code. Each call lays it at the end of what was laid; on `Memory` a front of
+//! it may stand there.
 ghost use Rattle.std.specs.Prelude.{◌≡◌, IfOk, OnOk, option_copied};
 ghost use Rattle.model_tree.specs.Syntax.{If, While, Try, With, statements, handlers};
 ghost use Rattle.law_flat.specs.Laid.{Laid, LaidAll, LaidBranch, LaidHandlers};

@@ -32,7 +32,8 @@ impl<'v> Model for Numbers<'v> {
 
     ghost view = { λ a. a.names.now };
 
-    ghost invariant = { λ a. HasNumbers a.numbers a.count 0 a.names.now × (a.count ≡ length a.names.now) };
+    ghost invariant = { λ a. HasNumbers a.numbers a.count 0 a.names.now
+        × (a.count ≡ length a.names.now) };
 }
 
 impl<'v> Numbers<'v> {

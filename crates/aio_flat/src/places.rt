@@ -10,7 +10,8 @@ use std::alloc::{AllocError, Global};
 use std::collections::BTreeMap;
 use std::marker::Model;
 
-/// The places of a program's coroutines. Contracts see the program, whose variables go by their numbers.
+/// The places of a program's coroutines. Contracts see the program, whose variables go by their
+/// numbers.
 #[derive(Drop)]
 pub struct CoroutinePlaces<'p> {
     program: &'p Program,
@@ -33,11 +34,13 @@ impl<'p> Model for CoroutinePlaces<'p> {
 
     ghost view = { λ a. numbered_program a.program.now };
 
-    ghost invariant = { λ a. HasPlaces a.places a.count 0 a.program.now.coroutines × (a.count ≡ length a.program.now.coroutines) };
+    ghost invariant = { λ a. HasPlaces a.places a.count 0 a.program.now.coroutines
+        × (a.count ≡ length a.program.now.coroutines) };
 }
 
 impl<'p> CoroutinePlaces<'p> {
-    /// It answers `Memory` for a program with more than 4,294,967,295 coroutines, which no place could number.
+    /// It answers `Memory` for a program with more than 4,294,967,295 coroutines, which no place
+    /// could number.
     pub fn new(alloc: Global, program: &'p Program) -> Result<CoroutinePlaces<'p>, Memory>
         ensures { IfOk result (λ places. places ≡ numbered_program program.now) }
     {

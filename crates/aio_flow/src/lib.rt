@@ -6,6 +6,3 @@ mod marks;
 
 pub use flow::Flow;
 pub use model_stream::{Limited, Put};
-
-#[cfg(test)]
-mod tests;

@@ -21,7 +21,8 @@ pub enum FutureKind {
     Plain,
     /// A task's own future.
     OfTask(u32),
-    /// Several futures, its members. `asked` says that its cancel was asked for, and one of them answered true.
+    /// Several futures, its members. `asked` says that its cancel was asked for, and one of them
+    /// answered true.
     Many { members: Vec<FutureId>, asked: bool },
 }
 
@@ -43,7 +44,8 @@ impl Model for Future {
 
     ghost use Rattle.aio_future.specs.Kinds.{kind_of};
 
-    ghost view = { λ a. record { kind = kind_of a.kind; outcome = a.outcome; callbacks = a.callbacks } };
+    ghost view = { λ a.
+        record { kind = kind_of a.kind; outcome = a.outcome; callbacks = a.callbacks } };
 }
 
 impl Future {

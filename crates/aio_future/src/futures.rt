@@ -18,8 +18,8 @@ use law_parts::FutureState;
 use std::alloc::Global;
 use std::marker::Model;
 
-/// The futures. Contracts see the list of all that were made, by number, in which a released one stands as a done one
-/// without callbacks.
+/// The futures. Contracts see the list of all that were made, by number, in which a released one
+/// stands as a done one without callbacks.
 #[derive(Drop)]
 pub struct Futures {
     held: IndexMap<FutureId, Future>,
@@ -73,8 +73,9 @@ impl Futures {
     /// A pending future that stands for several, its members, and its number.
     pub fn new_many(&mut self, alloc: Global, members: Vec<FutureId>) -> Result<FutureId, Memory>
         ensures number { IfOk result (λ id. id ≡ length self.old) }
-        ensures after { OnOk result (self.new ≡
-            self.old ++ record { kind = plain.Many members.items false; outcome = None; callbacks = [] } ∷ []) }
+        ensures after { OnOk result (self.new ≡ self.old
+            ++ record { kind = plain.Many members.items false; outcome = None; callbacks = [] }
+            ∷ []) }
         ensures err { OnErr result (self.new ≡ self.old) }
     {
         let asked = false;
@@ -104,8 +105,8 @@ impl Futures {
         self.next
     }
 
-    /// `set_result` and its kin: a pending future gets its outcome, and its callbacks are called soon, in order of
-    /// registration. A done one stays as it is: false.
+    /// `set_result` and its kin: a pending future gets its outcome, and its callbacks are called
+    /// soon, in order of registration. A done one stays as it is: false.
     pub fn resolve(&mut self, id: FutureId, outcome: Outcome, ready: &mut Ready) -> bool
         ensures answer { result ≡ is_pending_at (slice_get self.old id) }
         ensures after { self.new ≡ settled id outcome self.old }
@@ -140,14 +141,17 @@ impl Futures {
         }
     }
 
-    /// A future is let go. From then on it stands as a done one without callbacks, and its memory is free.
+    /// A future is let go. From then on it stands as a done one without callbacks, and its memory
+    /// is free.
     pub fn release(&mut self, id: FutureId)
-        ensures { self.new ≡ (if nat_lt id (length self.old) then slice_set self.old id released else self.old) }
+        ensures { self.new ≡ (if nat_lt id (length self.old)
+            then slice_set self.old id released else self.old) }
     {
         let _future = self.held.swap_remove(&id);
     }
 
-    /// A future that stands for several keeps that its cancel was asked for. Others stay as they are.
+    /// A future that stands for several keeps that its cancel was asked for. Others stay as they
+    /// are.
     pub fn mark_asked(&mut self, id: FutureId)
         ensures { self.new ≡ asked id self.old }
     {
@@ -207,7 +211,8 @@ impl Futures {
     }
 
     fn released_at(&self, id: FutureId) -> Option<&Future>
-        ensures { option_copied result ≡ (if nat_lt id (length self.now) then Some released else None) }
+        ensures { option_copied result
+            ≡ (if nat_lt id (length self.now) then Some released else None) }
     {
         if id < self.next {
             Some(&self.over)
@@ -230,7 +235,8 @@ impl Futures {
     fn add(&mut self, id: FutureId, ticket: Ticket, action: Action)
         requires { is_pending_at (slice_get self.old id) ≡ true }
         ensures { (future : plain.Future) → slice_get self.old id ≡ Some future
-            → self.new ≡ slice_set self.old id (record future { callbacks = future.callbacks ++ action ∷ [] }) }
+            → self.new ≡ slice_set self.old id
+            (record future { callbacks = future.callbacks ++ action ∷ [] }) }
     {
         let future = self.held.get_mut(&id).unwrap();
         future.add(ticket, action);

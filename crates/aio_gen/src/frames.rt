@@ -17,7 +17,8 @@ pub struct Frame {
     pub into: Option<Local>,
 }
 
-/// The frame that runs, and those that wait for it, the innermost at the end. Frames are let go as they are left.
+/// The frame that runs, and those that wait for it, the innermost at the end. Frames are let go as
+/// they are left.
 #[derive(Drop)]
 pub struct Frames {
     pub frame: Frame,

@@ -42,8 +42,8 @@ pub struct Gen {
 }
 
 impl Gen {
-    /// A coroutine of the code, by its place, for these arguments. It waits as after a bare `yield`: its first input
-    /// begins the body, or is raised.
+    /// A coroutine of the code, by its place, for these arguments. It waits as after a bare
+    /// `yield`: its first input begins the body, or is raised.
     pub fn start(
         alloc: Global,
         code: &Code,
@@ -66,11 +66,11 @@ impl Gen {
         Ok(Gen { waiting })
     }
 
-    /// What the coroutine says after one input more, which is `fresh` where it begins a step of its task. The code is
-    /// the one that it was started with.
+    /// What the coroutine says after one input more, which is `fresh` where it begins a step of its
+    /// task. The code is the one that it was started with.
     ///
-    /// After `Memory` it answers `Memory` again. After what isn't a request it has nothing more to say: it answers
-    /// `Memory` then, too.
+    /// After `Memory` it answers `Memory` again. After what isn't a request it has nothing more to
+    /// say: it answers `Memory` then, too.
     pub fn resume(
         &mut self,
         alloc: Global,

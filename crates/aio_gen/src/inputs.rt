@@ -16,7 +16,9 @@ impl Frames {
     /// The first input of a step gives it as many statements as it may have.
     pub fn renew(&mut self, fresh: bool)
         ensures { plain_frames self.new
-            ≡ record (plain_frames self.old) { left = (if fresh then step_limit else self.old.left) } }
+            ≡ record (plain_frames self.old) {
+              left = (if fresh then step_limit else self.old.left);
+            } }
     {
         if fresh {
             self.left = STEP_LIMIT;

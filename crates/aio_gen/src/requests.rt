@@ -7,7 +7,8 @@ use aio_base::{Exc, Kind, Memory, Request, Value, exception};
 use aio_syntax::RequestName;
 use std::alloc::Global;
 
-/// The request of this name with these arguments. Any other number of arguments than it takes is a bad argument.
+/// The request of this name with these arguments. Any other number of arguments than it takes is a
+/// bad argument.
 pub fn requested(
     alloc: Global,
     name: RequestName,

@@ -42,7 +42,8 @@ fn nothing(alloc: Global) -> Result<FlatBody, Memory>
     })
 }
 
-/// Runs until something is asked or said: what the coroutine does after each tape that the frames stand for.
+/// Runs until something is asked or said: what the coroutine does after each tape that the frames
+/// stand for.
 pub fn run(alloc: Global, code: &Code, entry: Way, frames: &mut Frames) -> Result<LastMove, Memory>
     ensures { IfOk result (λ stop.
         (limit : ℕ) (program : Program) (coroutine : ℕ) (arguments : List PlainValue)

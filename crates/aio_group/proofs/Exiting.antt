@@ -23,11 +23,12 @@ use Rattle.aio_group.specs.GoesOn.{GoesOn, Moves}
 use Rattle.aio_group.specs.Held.{Held, listed}
 use Rattle.aio_group.specs.Stands.{IsOwn, Belongs, IsLive, KeepsFaults, KeepsGroup, Stands, Came, Steps}
 use Rattle.aio_group.proofs.Belonging.{own_on, belongs_on, belongs_as}
+use Rattle.aio_group.proofs.Flags.{children_same}
 use Rattle.aio_group.proofs.Going.{new_plain_on, then_on}
 use Rattle.aio_group.proofs.Laws.{kept_new_plain, futures_made}
 use Rattle.aio_group.proofs.Listing.{set-set, all_to, some_each}
 use Rattle.aio_group.proofs.Standing.{same_extends, then_extends, errors_on, groups_on, there, set_stands}
-use Rattle.aio_group.proofs.Stepping.{children_same, failure_same}
+use Rattle.aio_group.proofs.Stepping.{failure_same}
 use Rattle.aio_group.proofs.Waiting.{Passes, IsMade}
 
 -- ---- the exception of all failures

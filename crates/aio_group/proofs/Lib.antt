@@ -2,7 +2,10 @@ pub mod Laws
 pub mod Going
 pub mod Listing
 pub mod Standing
+pub mod Asking
+pub mod Flags
 pub mod Stepping
+pub mod Leaving
 pub mod Waiting
 pub mod Exiting
 pub mod Belonging

@@ -15,12 +15,12 @@ use Rattle.aio_group.specs.declared.created.Created.TheVariants as created
 use Rattle.aio_group.specs.Answers.{created_of}
 use Rattle.aio_group.specs.Held.{Held, new_held, shown}
 use Rattle.aio_group.specs.Stands.{IsLive, KeepsGroup, KeepsAt, StandForGroups, Stands, Came}
+use Rattle.aio_group.proofs.Flags.{enters}
 use Rattle.aio_group.proofs.Going.{with_child_on, register_on}
 use Rattle.aio_group.proofs.Laws.{tasks_made}
 use Rattle.aio_group.proofs.Listing.{set_past, all_push}
 use Rattle.aio_group.proofs.Spawning.{own_future_of}
 use Rattle.aio_group.proofs.Standing.{there, parts_came, set_stands, stays}
-use Rattle.aio_group.proofs.Stepping.{enters}
 
 -- ---- a group more
 new_keeps : (t : Ties) (p : Parts) (parent : ℕ) → KeepsGroup t p (new_held parent) (new_group parent)

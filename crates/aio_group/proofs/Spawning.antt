@@ -18,12 +18,12 @@ use Rattle.aio_task.specs.Keeps.{Ties, Keeps, Kept}
 use Rattle.aio_group.specs.GoesOn.{Moves}
 use Rattle.aio_group.specs.Held.{Held}
 use Rattle.aio_group.specs.Stands.{Belongs}
+use Rattle.aio_group.proofs.Asking.{becomes, moves_by}
 use Rattle.aio_group.proofs.Belonging.{belongs_on}
 use Rattle.aio_group.proofs.Going.{new_plain_on, register_on, settle_on, spawn_on, then_moves}
 use Rattle.aio_group.proofs.Laws.{kept_spawn, kept_register, kept_future_of, tasks_made}
 use Rattle.aio_group.proofs.Listing.{all_push}
 use Rattle.aio_group.proofs.Standing.{then_extends}
-use Rattle.aio_group.proofs.Stepping.{becomes, moves_by}
 
 -- a new task's own future is the next one
 pub own_future_of : (p : Parts) (task : ℕ) → task ≡ next_task p → future_of (spawn p) task ≡ next_future p

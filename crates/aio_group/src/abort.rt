@@ -1,5 +1,5 @@
 //! A group cancels its tasks and its parent.
-ghost use Rattle.std.specs.Prelude.{◌≡◌, ℕ, true, None};
+ghost use Rattle.std.specs.Prelude.{◌≡◌, true, None};
 ghost use Rattle.model_loop.specs.Parts.{Parts as PlainParts};
 ghost use Rattle.model_loop.specs.Groups as plain;
 ghost use Rattle.model_loop.specs.Ledger.{Origin, request_each};

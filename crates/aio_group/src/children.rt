@@ -1,12 +1,9 @@
 //! Tasks of a group: they are made, and done.
-ghost use Rattle.std.specs.Prelude.{◌≡◌, ◌<◌, ◌++◌, ◌||◌, ◌∷◌, [], ℕ, true, false, None, Some, Option, IfOk, OnOk, OnErr, is_some, length, if◌then◌else◌};
+ghost use Rattle.std.specs.Prelude.{◌≡◌, ◌<◌, ◌++◌, ◌||◌, ◌∷◌, [], true, None, Some, IfOk, OnOk, OnErr, is_some, length};
 ghost use Rattle.model_loop.specs.Cancel.{has_seen};
-ghost use Rattle.model_loop.specs.Loop.{Loop};
 ghost use Rattle.model_loop.specs.Parts.{Parts as PlainParts};
 ghost use Rattle.model_loop.specs.Groups as plain;
-ghost use Rattle.model_loop.specs.Tasks.{next_task};
 ghost use Rattle.aio_task.specs.Keeps.{Ties, Keeps, Kept};
-ghost use Rattle.aio_task.specs.View.{parts as parts_of};
 ghost use Rattle.aio_group.specs.GoesOn.{Moves};
 ghost use Rattle.aio_group.specs.Stands.{Belongs, Steps};
 
@@ -79,7 +76,8 @@ fn wake_exit(group: &Group, parts: &mut Parts)
     }
 }
 
-// The first failure aborts the group and asks for its parent's cancel, unless the group aborts already.
+// The first failure aborts the group and asks for its parent's cancel, unless the group aborts
+// already.
 fn blame(group: &mut Group, parts: &mut Parts)
     requires idle { parts.old.called ≡ None }
     ensures same { group.new ≡ record group.old {

@@ -12,8 +12,8 @@ pub enum GroupExit {
     Raises(Exc),
 }
 
-/// How an exit goes on, with the memory that it takes: it waits for this future, or it ends, with this exception of all
-/// failures.
+/// How an exit goes on, with the memory that it takes: it waits for this future, or it ends, with
+/// this exception of all failures.
 #[derive(Drop)]
 pub enum ExitStep {
     Waits(FutureId),

@@ -1,15 +1,12 @@
 //! A group's exit.
-ghost use Rattle.std.specs.Prelude.{◌≡◌, ◌++◌, ◌&&◌, not, is_some, ◌∷◌, [], ℕ, true, false, None, Some, Option, IfOk, OnOk, OnErr, length};
+ghost use Rattle.std.specs.Prelude.{◌≡◌, ◌&&◌, not, is_some, true, false, None, Some, Option, IfOk, OnErr};
 ghost use Rattle.std.specs.Option.{option_copied};
 ghost use Rattle.model_value.specs.Value.{Exc as PlainExc};
 ghost use Rattle.model_value.specs.declared.input.Input.TheVariants as input;
 ghost use Rattle.model_loop.specs.Children.{failures};
 ghost use Rattle.model_loop.specs.Groups as plain;
-ghost use Rattle.model_loop.specs.Parts.{Plain};
-ghost use Rattle.model_loop.specs.Tasks.{waiter_of};
-ghost use Rattle.aio_task.specs.View.{parts as parts_of};
-ghost use Rattle.aio_group.specs.Held.{listed, failing};
-ghost use Rattle.aio_group.specs.Answers.{fault_of, exit_of};
+ghost use Rattle.aio_group.specs.Held.{failing};
+ghost use Rattle.aio_group.specs.Answers.{fault_of};
 ghost use Rattle.aio_group.specs.GoesOn.{Moves};
 ghost use Rattle.aio_group.specs.Exits.{begun, heard, IsNext, Exits};
 ghost use Rattle.aio_group.specs.Stands.{Belongs, Steps};
@@ -23,8 +20,8 @@ use aio_base::{Exc, Input, Memory};
 use aio_task::Parts;
 use std::alloc::Global;
 
-// How the exit goes on, with all the memory that it takes. What comes before it cancels tasks and makes none, so the
-// future that is made here has the number of one made last.
+// How the exit goes on, with all the memory that it takes. What comes before it cancels tasks and
+// makes none, so the future that is made here has the number of one made last.
 fn next(
     alloc: Global,
     group: &Group,
@@ -57,7 +54,8 @@ fn failure_in(raised: &Option<Exc>) -> Option<&Exc>
     }
 }
 
-// The group's own request is taken back. Where no other cancel of the parent is left, nothing is kept.
+// The group's own request is taken back. Where no other cancel of the parent is left, nothing is
+// kept.
 fn take_back(group: &mut Group, parts: &mut Parts)
     requires idle { parts.old.called ≡ None }
     ensures same { group.new ≡ record group.old { kept = group.new.kept } }

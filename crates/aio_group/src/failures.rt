@@ -1,7 +1,6 @@
 //! What a group's tasks raised.
-ghost use Rattle.std.specs.Prelude.{◌≡◌, ◌++◌, ℕ, List, IfOk, OnOk};
+ghost use Rattle.std.specs.Prelude.{◌≡◌, ◌++◌, IfOk, OnOk};
 ghost use Rattle.std.specs.Option.{option_copied};
-ghost use Rattle.model_value.specs.Value.{Exc as PlainExc};
 ghost use Rattle.model_loop.specs.Children.{failures};
 ghost use Rattle.model_loop.specs.Groups.{failure_of, exception_group, is_bearable};
 ghost use Rattle.model_loop.specs.Tasks.{is_cancelled};
@@ -83,7 +82,8 @@ fn grouped(alloc: Global, members: Vec<Exc>) -> Result<Exc, Memory>
     }
 }
 
-/// The exception of all failures: those of these tasks, in order, and the body's last. `None` where there are none.
+/// The exception of all failures: those of these tasks, in order, and the body's last. `None` where
+/// there are none.
 pub fn fault_of(
     alloc: Global,
     failed: &[u32],

@@ -1,5 +1,5 @@
 //! One task group.
-ghost use Rattle.std.specs.Prelude.{◌≡◌, ◌+◌, ◌||◌, ◌<◌, ◌==◌, ◌++◌, ◌∷◌, [], ℕ, true, false, not, Option, Some, None, OnOk, OnErr, filter, is_some, if◌then◌else◌};
+ghost use Rattle.std.specs.Prelude.{◌≡◌, ◌+◌, ◌||◌, ◌<◌, ◌==◌, ◌++◌, ◌∷◌, [], ℕ, true, false, not, Some, None, OnOk, OnErr, filter, if◌then◌else◌};
 ghost use Rattle.std.specs.List.{AllByRecursion as Each};
 ghost use Rattle.std.specs.Option.{option_copied, unwrap_or};
 ghost use Rattle.model_loop.specs.Cancel.{has_seen};
@@ -17,7 +17,8 @@ use std::alloc::Global;
 use std::collections::BTreeSet;
 use std::marker::Model;
 
-/// A task group. Contracts see it as `Held`. The place of a child's number among those that failed is made with the child.
+/// A task group. Contracts see it as `Held`. The place of a child's number among those that failed
+/// is made with the child.
 #[derive(Drop)]
 pub struct Group {
     parent: u32,
@@ -59,7 +60,8 @@ impl Model for Group {
       exit_future = a.exit_future;
     } };
 
-    ghost invariant = { λ a. (length a.children.keys + length a.failed.items ≤ vec_capacity a.failed)
+    ghost invariant = { λ a.
+        (length a.children.keys + length a.failed.items ≤ vec_capacity a.failed)
         × IsStrictlySortedBy nat_cmp a.children.keys };
 }
 

@@ -1,5 +1,5 @@
 //! The groups by number.
-ghost use Rattle.std.specs.Prelude.{◌≡◌, ◌++◌, ◌∷◌, ◌&&◌, not, [], ℕ, true, false, None, IfOk, OnOk, OnErr, length};
+ghost use Rattle.std.specs.Prelude.{◌≡◌, ◌++◌, ◌∷◌, ◌&&◌, not, [], true, false, None, IfOk, OnOk, OnErr, length};
 ghost use Rattle.model_loop.specs.Cancel.{has_seen};
 ghost use Rattle.model_loop.specs.Loop.{Loop};
 ghost use Rattle.model_loop.specs.Groups as plain;
@@ -20,9 +20,9 @@ use aio_task::Parts;
 use std::alloc::Global;
 use std::marker::Model;
 
-/// The task groups, which are numbered from 0 in order of making. They belong to one `Parts`: the tasks and futures that a
-/// group keeps are live there. Contracts see the list of groups. A call that answers `Memory` leaves them, and the parts,
-/// as they were.
+/// The task groups, which are numbered from 0 in order of making. They belong to one `Parts`: the
+/// tasks and futures that a group keeps are live there. Contracts see the list of groups. A call
+/// that answers `Memory` leaves them, and the parts, as they were.
 #[derive(Drop)]
 pub struct Groups {
     held: Vec<Group>,
@@ -87,8 +87,8 @@ impl Groups {
         group.enter();
     }
 
-    /// `create_task`: a new task, whose group is told when it is done. A group that isn't entered, is finished or is
-    /// shutting down refuses it, by the first of these that holds.
+    /// `create_task`: a new task, whose group is told when it is done. A group that isn't entered,
+    /// is finished or is shutting down refuses it, by the first of these that holds.
     pub fn create(&mut self, alloc: Global, id: u32, parts: &mut Parts) -> Result<Created, Memory>
         requires idle { parts.old.called ≡ None }
         requires belongs { AllBelong parts.old self.old }
@@ -126,8 +126,8 @@ impl Groups {
         children::child_done(child, group, parts);
     }
 
-    /// The block of an entered group ends, by an exception or by none. Where children are left the exit waits for the
-    /// future of the answer.
+    /// The block of an entered group ends, by an exception or by none. Where children are left the
+    /// exit waits for the future of the answer.
     pub fn exit_begin(
         &mut self,
         alloc: Global,
@@ -152,8 +152,8 @@ impl Groups {
         exits::exit_begin(alloc, raised, group, parts)
     }
 
-    /// The exit, which has begun and hasn't ended, goes on after its wait, with a value or a CancelledError: it waits for another
-    /// future, or it ends.
+    /// The exit, which has begun and hasn't ended, goes on after its wait, with a value or a
+    /// CancelledError: it waits for another future, or it ends.
     pub fn exit_woken(
         &mut self,
         alloc: Global,

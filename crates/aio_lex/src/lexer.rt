@@ -7,8 +7,8 @@ use crate::front::{Front, read_front};
 use crate::list::TokenList;
 use std::alloc::Global;
 
-/// The tokens of a line, or its first fault. The line has no newline; a carriage return before the newline is dropped
-/// by who cuts a text into lines, and any other one is a bad byte.
+/// The tokens of a line, or its first fault. The line has no newline; a carriage return before the
+/// newline is dropped by who cuts a text into lines, and any other one is a bad byte.
 pub fn tokens(alloc: Global, line: &[u8]) -> Result<TokenList, LexFault>
     ensures tokens { IfOk result (λ list. tokens_of line.now ≡ Ok list) }
     ensures fault { IfErr result (λ fault. IsFaultOf fault (tokens_of line.now)) }

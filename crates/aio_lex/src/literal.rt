@@ -14,7 +14,8 @@ use std::alloc::Global;
 /// Where the closing quote stands, by the bytes behind the opening one.
 pub fn closing(bytes: &[u8]) -> Option<usize>
     ensures { MatchOption result (inside_of false bytes.now ≡ None)
-        (λ place. (place < length bytes.now) × (inside_of false bytes.now ≡ Some (take place bytes.now))) }
+        (λ place. (place < length bytes.now)
+        × (inside_of false bytes.now ≡ Some (take place bytes.now))) }
 {
     let mut unpaired = false;
     for (place, byte) in bytes.iter().enumerate() {
@@ -65,7 +66,8 @@ fn hexadecimal_value(literal: Literal, high: u8, low: u8) -> Option<u8>
 /// What the part at the front of an inside says, and how many bytes it has.
 fn part(literal: Literal, inside: &[u8]) -> Option<(u8, usize)>
     requires { 0 < length inside.now }
-    ensures { let part = first_part inside.now in MatchOption result (part_value literal part ≡ None)
+    ensures { let part = first_part inside.now in
+        MatchOption result (part_value literal part ≡ None)
         (λ found. (part_value literal part ≡ Some found.0) × (length part ≡ found.1)) }
 {
     match inside {
@@ -84,7 +86,8 @@ pub fn literal_bytes(
     column: usize,
 ) -> Result<Vec<u8>, LexFault>
     requires { column + length inside.now < 2 ^ 64 }
-    ensures { Gives (λ bytes. bytes.items) result (literal_bytes literal column (parts_of inside.now)) }
+    ensures { Gives (λ bytes. bytes.items) result
+        (literal_bytes literal column (parts_of inside.now)) }
 {
     let mut said = Vec::new(alloc);
     let mut at = 0;

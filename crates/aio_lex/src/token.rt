@@ -15,7 +15,8 @@ pub enum TokenClass<'a> {
     Symbol(Symbol),
 }
 
-/// Where a token stands in its line: the column of its first byte, from 1, and the column behind its last.
+/// Where a token stands in its line: the column of its first byte, from 1, and the
+/// column behind its last.
 #[derive(Clone, Copy, Debug, PartialEq, Eq)]
 pub struct Span {
     pub start: usize,
@@ -54,7 +55,11 @@ impl Token {
     ghost use Rattle.aio_lex.specs.Token.{plain_class, plain_content};
 
     pub(crate) fn new(content: Content, span: Span) -> Self
-        ensures { result ≡ record { class = plain_content content; start = span.start; end = span.end } }
+        ensures { result ≡ record {
+          class = plain_content content;
+          start = span.start;
+          end = span.end;
+        } }
     {
         Token { content, span }
     }

@@ -3,9 +3,9 @@ ghost use Rattle.std.specs.Prelude.{◌≡◌, ◌==◌, ◌+◌, ◌-◌, ◌^�
 ghost use Rattle.model_wire.specs.Told.{Rose};
 ghost use Rattle.std.specs.List.{list_any};
 
-/// A wire, a shelf, a source or a sink of which the calls with the listed numbers fail, counted from 1 over all calls. A
-/// call that fails isn't passed on; its count of failures rises by one and nothing else changes. It counts 2^64 - 1 calls
-/// and failures at most.
+/// A wire, a shelf, a source or a sink of which the calls with the listed numbers fail, counted
+/// from 1 over all calls. A call that fails isn't passed on; its count of failures rises by one and
+/// nothing else changes. It counts 2^64 - 1 calls and failures at most.
 #[derive(Drop)]
 pub struct FailAt<I> {
     pub inner: I,

@@ -10,8 +10,8 @@ use aio_wire::Reply;
 use std::alloc::Global;
 use std::marker::Model;
 
-/// A journal that was read: its text, where the next line begins, and that line's number. Contracts see the entries
-/// that are left.
+/// A journal that was read: its text, where the next line begins, and that line's number. Contracts
+/// see the entries that are left.
 #[derive(Drop)]
 pub struct Journal {
     text: Vec<u8>,

@@ -14,9 +14,9 @@ use aio_wire::{Call, Reply, Shelf, Wire, copy_of_call};
 use model_wire::Handed;
 use std::alloc::Global;
 
-/// A wire whose answers are the lines of a shelf's file. The file is read whole at the first ask, so it fails in that
-/// call or not at all. It keeps the calls that it was asked and the bytes that it handed on, and after a want of memory
-/// it answers nothing more.
+/// A wire whose answers are the lines of a shelf's file. The file is read whole at the first ask,
+/// so it fails in that call or not at all. It keeps the calls that it was asked and the bytes that
+/// it handed on, and after a want of memory it answers nothing more.
 pub struct JournalWire<'a, F, B = Buffers> {
     pub shelf: &'a mut F,
     pub name: &'a str,

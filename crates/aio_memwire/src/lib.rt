@@ -11,8 +11,6 @@ mod journal_wire;
 mod reading;
 mod sinks;
 mod sources;
-#[cfg(test)]
-mod tests;
 mod wires;
 
 pub use buffers::Buffers;

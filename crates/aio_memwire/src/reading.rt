@@ -53,8 +53,8 @@ pub fn read_file<F: Shelf>(alloc: Global, shelf: &mut F, name: &str) -> Result<V
     }
 }
 
-/// A file's first bytes, at most `limit`, and all of them where it has no more. A missing file is a failure.
-/// No file changes.
+/// A file's first bytes, at most `limit`, and all of them where it has no more. A missing file is a
+/// failure. No file changes.
 pub fn read_front<F: Shelf>(
     alloc: Global,
     shelf: &mut F,

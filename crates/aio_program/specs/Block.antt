@@ -31,6 +31,13 @@ over block = over_at block.head block.place
 abbrev pub latest : UnendedBlock → Line
 latest block = latest_at block.head block.place
 
+-- all sections of a block, of which the last has these statements
+abbrev pub sections_at : Head → Reached → List Statement → List SectionBody
+sections_at head reached last = over_at head reached ++ record { head = latest_at head reached; body = statements last } ∷ []
+
+abbrev pub sections : UnendedBlock → List Statement → List SectionBody
+sections block last = sections_at block.head block.place last
+
 -- the block that sections are, of which the first has the block's head
 abbrev pub block_of : List SectionBody → Option Statement
 block_of [] = None

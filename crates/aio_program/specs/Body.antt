@@ -1,5 +1,5 @@
 -- What was read of a body: blocks that are open, with what stands in them, and what the lines behind make of these.
-use Rattle.std.specs.Prelude.{List, [], ◌∷◌, ◌++◌}
+use Rattle.std.specs.Prelude.{◌≡◌, List, [], ◌∷◌, ◌++◌}
 use Rattle.model_tree.specs.Syntax.{Statement, Statements, statement_then, statements}
 use Rattle.model_text.specs.SecondPass.{Line}
 use Rattle.model_text.specs.Bodies.{SectionBody, BlockLines, cut_from, bodies, statements_in}
@@ -48,3 +48,7 @@ body_with begun lines = (around_all begun.blocks.items (rest begun.so_far.items 
 abbrev pub step_with : BodyStep → List Line → Statements
 step_with (step.More begun) lines = body_with begun lines
 step_with (step.Over body) lines = statements body.items
+
+-- a step is what a line makes of a body
+abbrev pub IsStep : OpenBody → Line → BodyStep → Type 0
+IsStep begun line step = (lines : List Line) → step_with step lines ≡ body_with begun (line ∷ lines)

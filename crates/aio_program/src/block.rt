@@ -1,10 +1,11 @@
 //! Blocks that are read, and the statements that they make.
-ghost use Rattle.std.specs.Prelude.{◌≡◌, IfOk, List, [], ◌∷◌, ◌++◌, map};
+ghost use Rattle.std.specs.Prelude.{◌≡◌, IfOk, List, [], ◌∷◌, map};
 ghost use Rattle.model_tree.specs.Syntax.{Try, statements};
 ghost use Rattle.model_text.specs.Bodies.{SectionBody, block, branch_in, handlers_in, finally_in};
 ghost use Rattle.aio_program.specs.Sorted.{plain_head, plain_begin};
 ghost use Rattle.aio_program.specs.Target.{plain_branch};
-ghost use Rattle.aio_program.specs.Block.{plain_section, over, over_at, latest, latest_at, with_block, first_list, try_with, try_with_handler};
+ghost use Rattle.aio_program.specs.Block.{plain_section, over, over_at, latest, latest_at, sections, sections_at, with_block};
+ghost use Rattle.aio_program.specs.Block.{first_list, try_with, try_with_handler};
 ghost use Rattle.aio_program.specs.declared.sorted.Head.{Head};
 
 use crate::sorted::{Begin, Head};
@@ -67,7 +68,7 @@ impl UnendedBlock {
         so_far: Vec<Statement>,
     ) -> Result<UnendedBlock, AllocError>
         ensures outer { IfOk result (λ next. next.outer ≡ self.outer) }
-        ensures over { IfOk result (λ next. over next ≡ over self ++ record { head = latest self; body = statements so_far.items } ∷ []) }
+        ensures over { IfOk result (λ next. over next ≡ sections self so_far.items) }
         ensures latest { IfOk result (λ next. latest next ≡ plain_begin begin) }
     {
         let UnendedBlock { outer, head, place } = self;
@@ -75,10 +76,11 @@ impl UnendedBlock {
         Ok(UnendedBlock { outer, head, place })
     }
 
-    /// The statements of the section around the block, which are the block and those in front of it. These statements
-    /// are those of its last section.
+    /// The statements of the section around the block, which are the block and those in front of
+    /// it. These statements are those of its last section.
     pub fn ended(self, alloc: Global, so_far: Vec<Statement>) -> Result<Vec<Statement>, AllocError>
-        ensures { IfOk result (λ outer. outer.items ≡ with_block self.outer.items (over self ++ record { head = latest self; body = statements so_far.items } ∷ [])) }
+        ensures { IfOk result (λ outer. outer.items
+            ≡ with_block self.outer.items (sections self so_far.items)) }
     {
         let UnendedBlock {
             mut outer,
@@ -94,27 +96,34 @@ impl UnendedBlock {
 }
 
 impl Reached {
-    /// How far a block was read behind the line of a further section. The list is the section before it.
+    /// How far a block was read behind the line of a further section. The list is
+    /// the section before it.
     fn with_section(
         self,
         alloc: Global,
         begin: Begin,
         list: StatementList,
     ) -> Result<Reached, AllocError>
-        ensures over { IfOk result (λ next. (head : Head) → over_at head next ≡ over_at head self ++ record { head = latest_at head self; body = statements list } ∷ []) }
-        ensures latest { IfOk result (λ next. (head : Head) → latest_at head next ≡ plain_begin begin) }
+        ensures over { IfOk result (λ next. (head : Head) → over_at head next
+            ≡ sections_at head self list) }
+        ensures latest { IfOk result (λ next. (head : Head) → latest_at head next
+            ≡ plain_begin begin) }
     {
         let (body, sections) = self.ended(alloc, list)?;
         Ok(Reached::Further(body, sections, begin))
     }
 
-    /// The statements right behind the head, and the further sections, of which the list is the last.
+    /// The statements right behind the head, and the further sections, of which the
+    /// list is the last.
     fn ended(
         self,
         alloc: Global,
         list: StatementList,
     ) -> Result<(StatementList, Vec<FurtherSection>), AllocError>
-        ensures { IfOk result (λ made. (head : Head) → record { head = plain_head head; body = statements made.0 } ∷ map plain_section made.1.items ≡ over_at head self ++ record { head = latest_at head self; body = statements list } ∷ []) }
+        ensures { IfOk result (λ made. (head : Head)
+            → record { head = plain_head head; body = statements made.0 }
+            ∷ map plain_section made.1.items
+            ≡ sections_at head self list) }
     {
         match self {
             Reached::First => Ok((list, Vec::new(alloc))),
@@ -133,7 +142,8 @@ fn block_of(
     body: StatementList,
     sections: Vec<FurtherSection>,
 ) -> Result<Option<Statement>, AllocError>
-    ensures { IfOk result (λ made. made ≡ block (plain_head head) (statements body) (map plain_section sections.items)) }
+    ensures { IfOk result (λ made. made
+        ≡ block (plain_head head) (statements body) (map plain_section sections.items)) }
 {
     Ok(match head {
         Head::Def(_name, _parameters) => None,
@@ -164,7 +174,9 @@ fn try_of(
     body: StatementList,
     sections: Vec<FurtherSection>,
 ) -> Result<Statement, AllocError>
-    ensures { IfOk result (λ made. made ≡ Try (statements body) (handlers_in (map plain_section sections.items)) (finally_in (map plain_section sections.items))) }
+    ensures { let further = map plain_section sections.items in
+        IfOk result (λ made. made
+        ≡ Try (statements body) (handlers_in further) (finally_in further)) }
 {
     let mut begun = OpenTry {
         body,
@@ -185,7 +197,8 @@ fn try_of(
 impl OpenTry {
     /// The same with one section more. A second `finally` would be none.
     fn with_section(self, section: FurtherSection) -> Result<OpenTry, AllocError>
-        ensures { IfOk result (λ next. (others : List SectionBody) → try_with next others ≡ try_with self (plain_section section ∷ others)) }
+        ensures { IfOk result (λ next. (others : List SectionBody) → try_with next others
+            ≡ try_with self (plain_section section ∷ others)) }
     {
         let FurtherSection { begin, body } = section;
         match begin {
@@ -196,7 +209,8 @@ impl OpenTry {
     }
 
     fn with_handler(self, handler: Handler) -> Result<OpenTry, AllocError>
-        ensures { IfOk result (λ next. (others : List SectionBody) → try_with next others ≡ try_with_handler self handler others) }
+        ensures { IfOk result (λ next. (others : List SectionBody) → try_with next others
+            ≡ try_with_handler self handler others) }
     {
         let OpenTry {
             body,

@@ -7,7 +7,7 @@ ghost use Rattle.model_text.specs.Places.{role_of, Stands};
 ghost use Rattle.model_text.specs.Bodies.{body_in, simple};
 ghost use Rattle.aio_program.specs.Line.{plain_line};
 ghost use Rattle.aio_program.specs.Sorted.{plain_head, plain_begin};
-ghost use Rattle.aio_program.specs.Body.{body_with, step_with};
+ghost use Rattle.aio_program.specs.Body.{body_with, step_with, IsStep};
 
 use crate::block::UnendedBlock;
 use crate::line::Line;
@@ -32,7 +32,8 @@ enum BodyStep {
     Over(Vec<Statement>),
 }
 
-/// The statements of a coroutine, by the lines behind its head. What stands behind its `end` is nothing.
+/// The statements of a coroutine, by the lines behind its head. What stands behind
+/// its `end` is nothing.
 pub fn body_of(alloc: Global, lines: Vec<Line>) -> Result<StatementList, AllocError>
     ensures { IfOk result (λ body. statements body ≡ body_in (map plain_line lines.items)) }
 {
@@ -52,7 +53,7 @@ pub fn body_of(alloc: Global, lines: Vec<Line>) -> Result<StatementList, AllocEr
 impl OpenBody {
     /// What a line makes of it.
     fn with(self, alloc: Global, line: Line) -> Result<BodyStep, AllocError>
-        ensures { IfOk result (λ step. (lines : List plain.Line) → step_with step lines ≡ body_with self (plain_line line ∷ lines)) }
+        ensures { IfOk result (IsStep self (plain_line line)) }
     {
         match sort_out(line) {
             Sorted::Opens(head) => self.with_head(alloc, head),
@@ -63,7 +64,7 @@ impl OpenBody {
     }
 
     fn with_head(self, alloc: Global, head: Head) -> Result<BodyStep, AllocError>
-        ensures { IfOk result (λ step. (lines : List plain.Line) → step_with step lines ≡ body_with self (plain_head head ∷ lines)) }
+        ensures { IfOk result (IsStep self (plain_head head)) }
     {
         let OpenBody { mut blocks, so_far } = self;
         blocks.push(UnendedBlock::new(so_far, head))?;
@@ -72,7 +73,7 @@ impl OpenBody {
     }
 
     fn with_section(self, alloc: Global, begin: Begin) -> Result<BodyStep, AllocError>
-        ensures { IfOk result (λ step. (lines : List plain.Line) → step_with step lines ≡ body_with self (plain_begin begin ∷ lines)) }
+        ensures { IfOk result (IsStep self (plain_begin begin)) }
     {
         let OpenBody { mut blocks, so_far } = self;
         let Some(block) = blocks.pop() else {
@@ -84,7 +85,7 @@ impl OpenBody {
     }
 
     fn with_end(self, alloc: Global) -> Result<BodyStep, AllocError>
-        ensures { IfOk result (λ step. (lines : List plain.Line) → step_with step lines ≡ body_with self (End ∷ lines)) }
+        ensures { IfOk result (IsStep self End) }
     {
         let OpenBody { mut blocks, so_far } = self;
         let Some(block) = blocks.pop() else {
@@ -96,7 +97,9 @@ impl OpenBody {
 
     /// What a line makes of it that opens, begins and closes nothing.
     fn with_statement(self, statement: Option<Statement>) -> Result<BodyStep, AllocError>
-        ensures { IfOk result (λ step. (line : plain.Line) (lines : List plain.Line) → role_of line ≡ Stands → simple line ≡ statement → step_with step lines ≡ body_with self (line ∷ lines)) }
+        ensures { IfOk result (λ step. (line : plain.Line) (lines : List plain.Line)
+            → role_of line ≡ Stands → simple line ≡ statement
+            → step_with step lines ≡ body_with self (line ∷ lines)) }
     {
         let OpenBody { blocks, mut so_far } = self;
         if let Some(statement) = statement {

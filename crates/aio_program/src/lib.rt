@@ -1,4 +1,5 @@
-//! Programs as code holds them, and the statements that lines spell. Contracts see them as plain data.
+//! Programs as code holds them, and the statements that lines spell. Contracts see
+//! them as plain data.
 #![tactic(auto)]
 
 mod block;

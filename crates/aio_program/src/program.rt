@@ -48,7 +48,11 @@ impl Model for Program {
 
 impl Coroutine {
     pub fn new(name: RcStr, parameters: Vec<RcStr>, body: StatementList) -> Coroutine
-        ensures { result ≡ record { name = rc_str_bytes name; parameters = map rc_str_bytes parameters.items; body = statements body } }
+        ensures { result ≡ record {
+          name = rc_str_bytes name;
+          parameters = map rc_str_bytes parameters.items;
+          body = statements body;
+        } }
     {
         Coroutine {
             name,

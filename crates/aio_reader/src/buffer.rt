@@ -10,8 +10,8 @@ use std::marker::Model;
 
 /// Bytes that came and were not taken yet. Contracts see them as a list.
 ///
-/// It keeps the separator that was sought last, and the place before which that doesn't begin, so that each byte is
-/// searched once as pieces come.
+/// It keeps the separator that was sought last, and the place before which that doesn't begin, so
+/// that each byte is searched once as pieces come.
 #[derive(Drop)]
 pub struct Buffer {
     bytes: BytesMut,

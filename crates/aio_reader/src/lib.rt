@@ -6,6 +6,3 @@ mod reader;
 mod search;
 
 pub use reader::{ReadOp, Reader, Taken};
-
-#[cfg(test)]
-mod tests;

@@ -16,8 +16,8 @@ use std::marker::Model;
 // No more numbers are given than so many.
 const MOST_GIVEN: u64 = 1 << 62;
 
-/// The handles that wait to run. Contracts see those before the bar and those after it, in the order in which they were
-/// appended, and how many numbers were given.
+/// The handles that wait to run. Contracts see those before the bar and those after it, in the
+/// order in which they were appended, and how many numbers were given.
 #[derive(Drop)]
 pub struct Ready {
     // the first is on top
@@ -40,7 +40,8 @@ impl Model for Ready {
     ghost view = { λ a. record { below = a.below; after = reverse a.late; given = a.given } };
 
     ghost invariant = { λ a. (a.given ≤ most_given)
-        × ((a.falls_below ≡ false → are_untimed a.below ≡ true) × (a.falls_late ≡ false → are_untimed a.late ≡ true)) };
+        × ((a.falls_below ≡ false → are_untimed a.below ≡ true)
+        × (a.falls_late ≡ false → are_untimed a.late ≡ true)) };
 }
 
 // A timer's handle is dead, where some handle of a timer may be among them.
@@ -74,7 +75,8 @@ impl Ready {
         Ticket::new(alloc)
     }
 
-    /// `call_soon`. Where no number is left, the answer names no handle, and a cancel of it does nothing.
+    /// `call_soon`. Where no number is left, the answer names no handle, and a cancel of it does
+    /// nothing.
     pub fn soon(&mut self, ticket: Ticket, action: Action) -> HandleId
         ensures after { self.new ≡ soon action self.old }
         ensures name { result.name ≡ next_name self.old }
@@ -117,7 +119,8 @@ impl Ready {
         self.append(ticket, HandleName::Timer(timer), action);
     }
 
-    /// As `cancel`, of what `soon_due` appended under this number. It looks through no handles where none of a timer waits.
+    /// As `cancel`, of what `soon_due` appended under this number. It looks through no handles
+    /// where none of a timer waits.
     pub fn cancel_due(&mut self, timer: u64)
         ensures { self.new ≡ cancelled (HandleName.Timer timer) self.old }
     {

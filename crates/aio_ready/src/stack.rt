@@ -74,7 +74,8 @@ impl Stack {
     }
 
     pub fn pop(&mut self) -> Option<(Handle, Ticket)>
-        ensures { MatchOption result ((self.old ≡ []) × (self.new ≡ [])) (λ taken. self.old ≡ taken.0 ∷ self.new) }
+        ensures { MatchOption result ((self.old ≡ []) × (self.new ≡ []))
+            (λ taken. self.old ≡ taken.0 ∷ self.new) }
     {
         match std::mem::replace(&mut self.top, Link::End) {
             Link::End => None,

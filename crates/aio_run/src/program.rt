@@ -15,13 +15,15 @@ use std::alloc::Global;
 
 /// Does all that the program does for the words behind its name, and answers the exit status.
 ///
-/// `check SCRIPT` writes the canonical text of a script of the shelf to the sink. `replay SCRIPT JOURNAL` runs a script of
-/// the shelf over the answers of a journal of the shelf, and writes the transcript; `--trace` adds a line for each call,
-/// answer and handle, and `--turns N` allows so many turns. The statuses: 0, the script was checked, or main returned; 1,
-/// main raised or was cancelled; 2, the words are refused; 3, the script is, or it doesn't run so far; 4, a line of the
-/// journal that is needed is refused; 5, an answer doesn't fit its call; 6, no answer is left; 7, nothing is pending and
-/// nothing can come; 8, a step has too many statements; 9, the shelf or the sink failed; 10, as many turns were made as
-/// are allowed; 11, memory was refused. The wire is not asked.
+/// `check SCRIPT` writes the canonical text of a script of the shelf to the sink.
+/// `replay SCRIPT JOURNAL` runs a script of the shelf over the answers of a journal of the shelf,
+/// and writes the transcript; `--trace` adds a line for each call, answer and handle, and
+/// `--turns N` allows so many turns. The statuses: 0, the script was checked, or main returned; 1,
+/// main raised or was cancelled; 2, the words are refused; 3, the script is, or it doesn't run so
+/// far; 4, a line of the journal that is needed is refused; 5, an answer doesn't fit its call; 6,
+/// no answer is left; 7, nothing is pending and nothing can come; 8, a step has too many
+/// statements; 9, the shelf or the sink failed; 10, as many turns were made as are allowed; 11,
+/// memory was refused. The wire is not asked.
 pub fn aio_main<F: Shelf, W: Wire, K: Sink>(
     alloc: Global,
     words: &Vec<String>,

@@ -24,7 +24,8 @@ pub enum NoScript {
     Memory,
 }
 
-/// Reads a script of the shelf. Of a text that is too long it holds a byte more than the longest has.
+/// Reads a script of the shelf. Of a text that is too long it holds a byte more than the longest
+/// has.
 pub fn read_script<F: Shelf>(alloc: Global, name: &str, shelf: &mut F) -> Result<Program, NoScript>
     ensures script { IfOk result (SpellsScript ((F.seen shelf.old).file name.now)) }
     ensures kept { OnOk result (F.seen shelf.new ≡ F.seen shelf.old) }

@@ -1,4 +1,5 @@
-//! The reader of scripts, from a text to its program or its first fault, and the printer, back to the canonical text.
+//! The reader of scripts, from a text to its program or its first fault, and the printer, back to
+//! the canonical text.
 #![tactic(auto)]
 
 mod fault;

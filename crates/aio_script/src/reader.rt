@@ -19,8 +19,9 @@ use std::alloc::{AllocError, Global};
 const LONGEST: usize = 1_048_576;
 
 #[tactic(auto, unfolding(model_text::specs::Scripts::script_of))]
-/// The program that a text spells, or the text's first fault. A first pass reads the form of each line and where it
-/// stands, a second what names mean; docs/LANGUAGE.md tells both. Source: the language reference, "Top-level components".
+/// The program that a text spells, or the text's first fault. A first pass reads the form of each
+/// line and where it stands, a second what names mean; docs/LANGUAGE.md tells both. Source: the
+/// language reference, "Top-level components".
 pub fn read(alloc: Global, text: &[u8]) -> Result<Program, ScriptFault>
     ensures program { IfOk result (λ program. script_of text.now ≡ Ok program) }
     ensures fault { IfErr result (IsFaultOf (script_of text.now)) }

@@ -1,5 +1,5 @@
 -- What is added serves a request, in code as in the machine.
-use Rattle.std.proofs.Common.{◌≡◌, ℕ, ℤ, suc, ◌+◌, ◌-◌, ◌<◌, true, List, Option, Some, None, length, slice_get, ◌∙◌, refl, sym, ap, subst, inl, inr, arith}
+use Rattle.std.proofs.Common.{◌≡◌, ℕ, ℤ, suc, ◌+◌, ◌-◌, ◌<◌, true, List, Option, Some, None, length, slice_get, ◌∙◌, refl, sym, ap, subst, arith}
 use Rattle.std.specs.Prelude.{is_none}
 use Rattle.std.proofs.Math.Logic.{∥∥₁_elim, ∥∥₁_map}
 use Rattle.std.proofs.Props.{props}
@@ -7,12 +7,10 @@ use Rattle.std.proofs.lemmas.Bool.{eq-eqb}
 use Rattle.model_value.specs.Input.{Input}
 use Rattle.model_value.specs.Value.{Exc, Outcome, Value}
 use Rattle.model_value.specs.declared.request.Request.TheVariants as request
-use Rattle.model_loop.specs.Futures.{future_outcome, is_pending, is_pending_at, next_future, outcome_at}
-use Rattle.model_loop.specs.Owning.{is_plain}
-use Rattle.model_loop.specs.Parts.{Future}
+use Rattle.model_loop.specs.Futures.{future_outcome, is_pending_at, outcome_at}
 use Rattle.model_loop.specs.Sound.{IsSound}
 use Rattle.model_loop.specs.Suspend.{suspend}
-use Rattle.model_loop.specs.Tasks.{lives, next_task}
+use Rattle.model_loop.specs.Tasks.{next_task}
 use Rattle.model_machine.specs.Arguments.{as_int, as_list}
 use Rattle.model_machine.specs.Extra as extra
 use Rattle.model_machine.specs.Extra.{Extra, ExtraAnswer, ExtraSaid, WakesFall, called}
@@ -24,7 +22,7 @@ use Rattle.model_machine.specs.State.{State, stands}
 use Rattle.model_machine.specs.Told.{told_in}
 use Rattle.law_extras.specs.Allowed.{IsSaidAllowed}
 use Rattle.law_inside.proofs.Counts.{get_there, lives_within}
-use Rattle.law_kept.proofs.Telling.{next_kept, outcome_kept, pending_kept}
+use Rattle.law_kept.proofs.Telling.{outcome_kept, pending_kept}
 use Rattle.law_machine.proofs.Waking.{woken_ends}
 use Rattle.law_turns.specs.Replied.{RunsSound}
 use Rattle.aio_cancel.specs.Awaitables.{Appended}

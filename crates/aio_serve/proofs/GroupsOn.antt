@@ -13,7 +13,7 @@ use Rattle.model_loop.specs.Groups.{abort, abort_and_request_unless, abort_if_ra
 use Rattle.model_loop.specs.Groups.{exit_woken, failure_of, group_of, hear, keep_and_abort_unless, new_group, request_parent, set_group, take_back}
 use Rattle.model_loop.specs.Groups.{take_back_where, wait_for_children, wait_or_end, wait_or_end_with, wake_exit, wake_if_last, without_child}
 use Rattle.model_loop.specs.Ledger.{ByAbort, ByGroup, Origin, request, request_each, request_where, uncancel_by}
-use Rattle.model_loop.specs.Loop.{Group, Loop, book, in_parts}
+use Rattle.model_loop.specs.Loop.{Group, Loop, book}
 use Rattle.model_loop.specs.Loop as loop
 use Rattle.model_loop.specs.Owning.{is_plain}
 use Rattle.model_loop.specs.Parts.{Parts, Plain}

@@ -1,5 +1,5 @@
 //! Requests that are added to the loop's own.
-ghost use Rattle.std.specs.Prelude.{◌≡◌, IfOk};
+ghost use Rattle.std.specs.Prelude.{IfOk};
 ghost use Rattle.model_value.specs.declared.request.Request.TheVariants as request;
 ghost use Rattle.model_machine.specs.Extra.{ExtraAnswer};
 ghost use Rattle.model_machine.specs.Replies.{decides};
@@ -15,7 +15,8 @@ use aio_extra::{Asked, Extra};
 use aio_task::FutureId;
 use std::alloc::Global;
 
-/// What comes of an answer of what is added: a reply to the task, or another answer, of a request that was woken at once.
+/// What comes of an answer of what is added: a reply to the task, or another answer, of a request
+/// that was woken at once.
 #[derive(Drop)]
 pub enum Answered {
     Replies(RequestReply),

@@ -1,10 +1,9 @@
 //! Requests that may end a task's step: a pause, an await, a sleep.
-ghost use Rattle.std.specs.Prelude.{◌≡◌, ℕ, pos, ◌<◌, Ok, IfOk, OnOk, length, slice_get, slice_set};
+ghost use Rattle.std.specs.Prelude.{pos, Ok, IfOk};
 ghost use Rattle.model_value.specs.declared.request.Request.TheVariants as request;
 ghost use Rattle.model_machine.specs.Replies.{pauses, sleeps_for};
 ghost use Rattle.aio_body.specs.Asked.{MayGo, MayAsk, Replies, Serves};
 ghost use Rattle.aio_serve.specs.Alarm.{IsAlarmed};
-ghost use Rattle.aio_body.specs.Slots.{standing_at};
 
 use aio_base::{Action, Memory, Value};
 use aio_body::{Body, RequestReply, Standing, as_int, bad_argument, replied};

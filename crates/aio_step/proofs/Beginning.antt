@@ -10,7 +10,7 @@ use Rattle.model_loop.specs.Parts.{Task, Parts}
 use Rattle.model_loop.specs.Tasks.{change_task, lives, next_task, waiter_of}
 use Rattle.model_loop.specs.Ways.{is_running}
 use Rattle.model_machine.specs.State as plain
-use Rattle.model_machine.specs.State.{Generator, State, generator_of, stands, unbooked_in}
+use Rattle.model_machine.specs.State.{Generator, State, generator_of, stands}
 use Rattle.law_cancel.proofs.Lookups.{get-set_same, get-set_other}
 use Rattle.law_settling.proofs.CancelSound.{plain_within}
 use Rattle.aio_task.specs.Keeps.{let_go}

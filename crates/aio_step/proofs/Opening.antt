@@ -14,7 +14,7 @@ use Rattle.model_machine.specs.Step.{given_up}
 use Rattle.aio_timer.specs.Schedule as schedule
 use Rattle.aio_ready.specs.declared.handle.HandleName.TheVariants as name
 use Rattle.model_machine.specs.State as plain
-use Rattle.model_machine.specs.State.{State, generator_of, stands, unbooked_in}
+use Rattle.model_machine.specs.State.{State, unbooked_in}
 use Rattle.aio_ready.specs.Queue as queue
 use Rattle.aio_ready.specs.Queue.{Queue}
 use Rattle.aio_ready.specs.Names.{marked}

@@ -6,7 +6,6 @@ use Rattle.model_value.specs.Request.{Request}
 use Rattle.model_value.specs.Value.{Value, Exc}
 use Rattle.model_tree.specs.Syntax.{Program}
 use Rattle.model_says.specs.Endings as endings
-use Rattle.model_says.specs.Endings.{Saying}
 use Rattle.model_says.specs.Says.{says, step_limit}
 use Rattle.model_says.specs.Tape.{Tape}
 use Rattle.model_loop.specs.Tasks.{finish}

@@ -1,18 +1,18 @@
 -- The steps of tasks commute with seeing the parts bare.
-use Rattle.std.proofs.Common.{◌≡◌, ℕ, zero, suc, ◌+◌, Bool, true, false, ◌||◌, List, [], ◌∷◌, ◌++◌, Option, Some, None, length, map, slice_get, refl, ap, sym}
-use Rattle.std.proofs.Common.{◌∙◌, arith, if◌then◌else◌, Result, Ok, Err}
+use Rattle.std.proofs.Common.{◌≡◌, ℕ, zero, suc, Bool, true, false, ◌||◌, List, [], ◌∷◌, Option, Some, None, length, slice_get, refl, ap}
+use Rattle.std.proofs.Common.{◌∙◌, if◌then◌else◌, Result, Ok, Err}
 use Rattle.std.proofs.lemmas.List.{length-map}
 use Rattle.std.specs.Prelude.{◌==◌}
 use Rattle.std.specs.List.{list_any}
 use Rattle.std.specs.Option.{option_map, option_map_or}
-use Rattle.model_value.specs.Action.{Action, Circle}
+use Rattle.model_value.specs.Action.{Circle}
 use Rattle.model_value.specs.Input.{Input}
 use Rattle.model_value.specs.declared.action.Action.TheVariants.{Step, StepInCircle, Wakeup}
 use Rattle.model_value.specs.declared.outcome.Outcome.TheVariants.{Cancelled, Value as Returned, Failed}
 use Rattle.model_value.specs.Value.{Outcome, Value, Exc}
 use Rattle.model_loop.specs.Parts.{FutureKind, Plain, OfTask, Many, Future, Task, Parts}
 use Rattle.model_loop.specs.Futures.{settle, register}
-use Rattle.model_loop.specs.Tasks.{change_task, future_of, set_waiter, unmark, is_marked, is_cancelled, finish, begin_step, pause}
+use Rattle.model_loop.specs.Tasks.{future_of, set_waiter, unmark, is_marked, is_cancelled, finish, begin_step, pause}
 use Rattle.model_loop.specs.Cancel.{cancel}
 use Rattle.model_loop.specs.Circles.{passes, passes_at, passes_until, leads_within, leads, circle}
 use Rattle.model_loop.specs.Suspend.{wait_on, cancel_wait, suspend_unless, suspend}

@@ -1,15 +1,13 @@
 -- Each call keeps what the type keeps.
-use Rattle.std.proofs.Common.{◌≡◌, ℕ, suc, ◌+◌, ◌<◌, ◌≤◌, ◌⊎◌, Bool, true, false, List, [], ◌∷◌, ◌++◌, Option, Some, None, length, map, filter, cond, slice_get}
-use Rattle.std.proofs.Common.{slice_set, nat_lt, nat_le, refl, ap, sym, subst, ◌∙◌, arith, inl, inr, Result, Ok, Err, IfOk, OnErr, if◌then◌else◌}
+use Rattle.std.proofs.Common.{◌≡◌, ℕ, ◌+◌, ◌≤◌, Bool, true, false, List, [], ◌∷◌, ◌++◌, Option, None, length, filter, cond}
+use Rattle.std.proofs.Common.{nat_lt, nat_le, refl, ap, sym, subst, ◌∙◌, Result, Ok, Err, IfOk, OnErr, if◌then◌else◌}
 use Rattle.std.specs.Prelude.{◌==◌, ◌&&◌, not}
 use Rattle.std.specs.List.{list_any}
-use Rattle.std.specs.Option.{option_map_or}
 use Rattle.model_value.specs.Action.{Action}
-use Rattle.model_loop.specs.Parts.{FutureKind, Future, Task, Timer, Parts}
+use Rattle.model_loop.specs.Parts.{FutureKind, Timer, Parts}
 use Rattle.model_loop.specs.Futures.{make_future}
 use Rattle.model_loop.specs.Owning.{owner_in}
 use Rattle.model_loop.specs.Sound.{HasNoCircle, ArePartsSound}
-use Rattle.model_loop.specs.Tasks.{is_marked}
 use Rattle.law_cancel.proofs.Circling.{no_circle_kept}
 use Rattle.law_made.proofs.Making.{make_sound}
 use Rattle.law_made.proofs.Passing.{make_no_circle, same_tasks_no_circle}
@@ -28,7 +26,7 @@ use Rattle.law_parts.specs.Open.{room_of}
 use Rattle.aio_cancel.specs.Noted.{Noted}
 use Rattle.aio_cancel.specs.Seen.{Marked, Stacked}
 use Rattle.aio_cancel.specs.Awaitables.{waiting}
-use Rattle.aio_task.specs.Bare.{bare_future, bare}
+use Rattle.aio_task.specs.Bare.{bare}
 use Rattle.aio_task.specs.View.{View, parts, is_step, steps_as, NamesNoStep}
 use Rattle.aio_task.specs.Kept.{AreSound, IsKept, HasRoom, is_timer, steps_as_timer, steps_later}
 use Rattle.aio_task.proofs.BareLemmas.{make-bare}

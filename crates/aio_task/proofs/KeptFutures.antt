@@ -1,17 +1,16 @@
 -- What is done to futures keeps what the type keeps.
-use Rattle.std.proofs.Common.{◌≡◌, ℕ, zero, suc, ◌+◌, ◌<◌, ◌≤◌, ◌⊎◌, Bool, true, false, cond, List, [], ◌∷◌, ◌++◌, Option, Some, None, length, map, slice_get}
+use Rattle.std.proofs.Common.{◌≡◌, ℕ, zero, suc, ◌+◌, ◌≤◌, ◌⊎◌, Bool, true, false, cond, List, [], ◌∷◌, ◌++◌, Option, Some, None, length, map, slice_get}
 use Rattle.std.proofs.Common.{slice_set, nat_lt, refl, ap, sym, subst, ◌∙◌, arith, inl, inr, Result, Ok, Err, OnOk, OnErr, if◌then◌else◌}
-use Rattle.std.specs.List.{list_any, count_by}
+use Rattle.std.specs.List.{list_any}
 use Rattle.std.specs.Option.{option_map, option_map_or}
 use Rattle.model_value.specs.Action.{Action}
-use Rattle.model_value.specs.declared.action.Action.TheVariants.{Step, StepInCircle, Wakeup, MainDone}
+use Rattle.model_value.specs.declared.action.Action.TheVariants.{MainDone}
 use Rattle.model_value.specs.Value.{Outcome}
 use Rattle.model_loop.specs.Parts.{FutureKind, Future, Task, Parts}
 use Rattle.model_loop.specs.Handles.{soon}
-use Rattle.model_loop.specs.Futures.{is_pending, is_pending_at, with_future, settle, settled, register, registered, registered_on, mark_asked}
-use Rattle.model_loop.specs.Tasks.{is_marked, waiter_of}
-use Rattle.model_loop.specs.Circles.{passes_at, passes_until}
-use Rattle.model_loop.specs.Totals.{callbacks_of, callbacks_at, pending_where}
+use Rattle.model_loop.specs.Futures.{is_pending_at, with_future, settle, settled, register, registered, registered_on, mark_asked}
+use Rattle.model_loop.specs.Circles.{passes_at}
+use Rattle.model_loop.specs.Totals.{callbacks_of, callbacks_at}
 use Rattle.model_loop.specs.Owning.{owner_of, owner_at, owner_in, OwnsFutures}
 use Rattle.model_loop.specs.Ways.{steps}
 use Rattle.model_loop.specs.Sound.{HasNoCircle, ArePartsSound}
@@ -24,9 +23,8 @@ use Rattle.law_parts.specs.Forgotten.{released}
 use Rattle.law_parts.specs.Open.{room_of, is_inner_kind}
 use Rattle.law_parts.proofs.RoomsKept.{settle-room, register-room, ask-room, make-room, release-room}
 use Rattle.law_settling.proofs.CancelSound.{is_no_task, same_sound, settle_sound}
-use Rattle.law_settling.proofs.Looks.{LooksSame, asked_looks_same, handles_look_same, same_no_circle}
+use Rattle.law_settling.proofs.Looks.{asked_looks_same, handles_look_same, same_no_circle}
 use Rattle.law_settling.proofs.Settling.{soon-where}
-use Rattle.law_settling.specs.Frames.{Follows}
 use Rattle.aio_base.specs.declared.memory.Memory.{Memory}
 use Rattle.aio_ready.specs.Queue as queue
 use Rattle.aio_ready.specs.Queue.{Queue}
@@ -38,7 +36,7 @@ use Rattle.aio_cancel.specs.Seen.{Marked, Stacked}
 use Rattle.aio_cancel.proofs.PartsLemmas.{settle-parts}
 use Rattle.aio_task.specs.Bare.{bare_action, bare_future, bare}
 use Rattle.aio_task.specs.View.{View, parts, body, is_step}
-use Rattle.aio_task.specs.Kept.{AreSound, IsKept, HasRoom, steps_as_timer}
+use Rattle.aio_task.specs.Kept.{IsKept, HasRoom, steps_as_timer}
 use Rattle.aio_task.proofs.BareLemmas.{bare_at, with-bare, settle-bare, register-bare, ask-bare}
 use Rattle.aio_task.proofs.PartsLemmas.{register-parts, callback_appends}
 use Rattle.aio_task.proofs.Queues.{any-soon_all, bare_other}

@@ -1,5 +1,5 @@
 -- The calls of tasks keep what the type keeps.
-use Rattle.std.proofs.Common.{◌≡◌, ℕ, ◌+◌, ◌==◌, Bool, true, false, not, ◌&&◌, cond, List, [], ◌∷◌, ◌++◌, Option, Some, None, length, map, drop, slice_get}
+use Rattle.std.proofs.Common.{◌≡◌, ℕ, ◌+◌, ◌==◌, Bool, true, false, not, ◌&&◌, cond, List, [], ◌∷◌, Option, Some, None, length, map, slice_get}
 use Rattle.std.proofs.Common.{refl, ap, sym, subst, ◌∙◌, arith, length-append, Result, Ok, Err, OnOk, OnErr}
 use Rattle.std.specs.List.{list_any}
 use Rattle.std.specs.Option.{option_map, option_map_or}
@@ -7,7 +7,7 @@ use Rattle.std.proofs.lemmas.List.Sums.{sum_by-cons}
 use Rattle.model_value.specs.Action.{Action}
 use Rattle.model_value.specs.Input.{Input}
 use Rattle.model_value.specs.Value.{Value, Exc}
-use Rattle.model_value.specs.declared.action.Action.TheVariants.{Step, StepInCircle, Wakeup, MainDone}
+use Rattle.model_value.specs.declared.action.Action.TheVariants.{Step, StepInCircle, Wakeup}
 use Rattle.model_loop.specs.Parts.{OfTask, Handle, Future, Task, Parts}
 use Rattle.model_loop.specs.Futures.{is_pending, is_pending_at}
 use Rattle.model_loop.specs.Tasks.{spawn, begin_step, pause, finish, uncancel}
@@ -25,7 +25,6 @@ use Rattle.law_settling.specs.Frames.{Follows}
 use Rattle.law_steps.proofs.Ending.{pause_sound, finish_sound}
 use Rattle.law_steps.proofs.Stepping.{begin_sound, uncancel_looks_same, uncancel_fewer}
 use Rattle.law_steps.proofs.Waiting.{suspend_sound}
-use Rattle.std.proofs.lemmas.Bool.{false≢true}
 use Rattle.law_parts.specs.Open.{room_of}
 use Rattle.law_parts.proofs.RoomsKept.{make-room}
 use Rattle.aio_base.specs.declared.memory.Memory.{Memory}

@@ -1,11 +1,11 @@
 -- Where nothing has happened, the type keeps what it keeps.
-use Rattle.std.proofs.Common.{◌≡◌, ℕ, ◌<◌, ◌≤◌, true, false, [], Some, None, refl, sym, arith}
+use Rattle.std.proofs.Common.{ℕ, ◌≤◌, None, refl, arith}
 use Rattle.std.proofs.lemmas.Bool.{false≢true}
 use Rattle.model_loop.specs.Circles.{Leads, at_once, through}
 use Rattle.model_loop.specs.Sound.{ArePartsSound}
 use Rattle.law_parts.specs.Open.{room_of}
 use Rattle.aio_task.specs.Bare.{bare}
-use Rattle.aio_task.specs.View.{View, parts, empty}
+use Rattle.aio_task.specs.View.{parts, empty}
 use Rattle.aio_task.specs.Kept.{IsKept}
 
 module _ (profile : ℕ) where

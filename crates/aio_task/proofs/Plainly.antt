@@ -1,26 +1,25 @@
 -- What holds of the bare parts, of the parts themselves.
-use Rattle.std.proofs.Common.{◌≡◌, ℕ, zero, suc, ◌+◌, ◌<◌, ◌⊎◌, Bool, true, false, not, ◌&&◌, cond, List, [], ◌∷◌, Option, Some, None, length, map, slice_get}
+use Rattle.std.proofs.Common.{◌≡◌, ℕ, suc, ◌+◌, ◌<◌, ◌⊎◌, Bool, true, false, not, ◌&&◌, cond, List, [], ◌∷◌, Option, Some, None, length, map, slice_get}
 use Rattle.std.proofs.Common.{refl, ap, sym, subst, ◌∙◌, arith, inl, inr}
-use Rattle.std.proofs.lemmas.Bool.{false≢true, cases_Bool}
+use Rattle.std.proofs.lemmas.Bool.{cases_Bool}
 use Rattle.std.proofs.lemmas.List.Sums.{sum_by-cons}
 use Rattle.std.proofs.lemmas.List.{length-map}
 use Rattle.std.specs.List.{count_by}
 use Rattle.std.specs.Option.{option_map}
 use Rattle.model_value.specs.Action.{Action}
-use Rattle.model_value.specs.Value.{Outcome}
 use Rattle.model_value.specs.declared.action.Action.TheVariants.{Step, StepInCircle, Wakeup}
-use Rattle.model_loop.specs.Parts.{Handle, FutureKind, Plain, OfTask, Many, Future, Parts}
-use Rattle.model_loop.specs.Futures.{is_pending, is_pending_at}
+use Rattle.model_loop.specs.Parts.{Handle, Future, Parts}
+use Rattle.model_loop.specs.Futures.{is_pending}
 use Rattle.model_loop.specs.Tasks.{future_of, lives, waiter_of}
 use Rattle.model_loop.specs.Totals.{callbacks_of, callbacks_at, registered_at, pending_where}
 use Rattle.model_loop.specs.Ways.{steps, resumes, wakes, is_running, one_if, ways, wakeups_on, HasOneWay, IsReady}
 use Rattle.model_loop.specs.Marks.{MayBeMarked, MarksWait}
-use Rattle.model_loop.specs.Spent.{spent_by, spent_until, spent_kind}
+use Rattle.model_loop.specs.Spent.{spent_by}
 use Rattle.model_loop.specs.Sound.{ArePartsSound}
 use Rattle.law_settling.proofs.Looks.{spent_grows_below}
 use Rattle.law_steps.proofs.Stepping.{taken-where}
 use Rattle.aio_task.specs.Bare.{bare_action, bare_handle, bare_future, bare}
-use Rattle.aio_task.specs.View.{View, parts, stepped}
+use Rattle.aio_task.specs.View.{View, parts}
 use Rattle.aio_task.specs.Kept.{AreSound, IsKept, with_first}
 use Rattle.aio_task.proofs.BareLemmas.{bare_at}
 use Rattle.aio_task.proofs.BareSteps.{future_of-bare}

@@ -1,20 +1,20 @@
 -- How much room a request needs, and how many tasks there are, after what happens to the parts.
-use Rattle.std.proofs.Common.{◌≡◌, ℕ, ◌+◌, ◌≤◌, Bool, true, false, cond, List, [], ◌∷◌, ◌++◌, Option, Some, None, length, slice_get, slice_set, nat_lt, refl}
-use Rattle.std.proofs.Common.{ap, sym, subst, ◌∙◌, arith, Result, Ok, Err, OnOk, OnErr, if◌then◌else◌}
+use Rattle.std.proofs.Common.{◌≡◌, ℕ, ◌+◌, ◌≤◌, Bool, true, false, List, [], Option, Some, None, length, slice_get, refl}
+use Rattle.std.proofs.Common.{ap, sym, subst, ◌∙◌, arith, Result, Ok, Err, if◌then◌else◌}
 use Rattle.std.specs.Option.{option_map_or}
 use Rattle.model_value.specs.Action.{Action, Circle}
 use Rattle.model_value.specs.Input.{Input}
 use Rattle.model_value.specs.declared.action.Action.TheVariants.{Wakeup}
 use Rattle.model_value.specs.declared.outcome.Outcome.TheVariants.{Cancelled, Value as Returned, Failed}
 use Rattle.model_value.specs.Value.{Value, Exc, Outcome}
-use Rattle.model_loop.specs.Parts.{FutureKind, Future, Task, Parts}
-use Rattle.model_loop.specs.Futures.{settle, register, with_future, make_future, mark_asked}
-use Rattle.model_loop.specs.Tasks.{change_task, set_waiter, unmark, is_marked, is_cancelled, future_of, begin_step, finish, spawn}
+use Rattle.model_loop.specs.Parts.{Task, Parts}
+use Rattle.model_loop.specs.Futures.{settle, register}
+use Rattle.model_loop.specs.Tasks.{change_task, set_waiter, unmark, is_marked, is_cancelled, future_of, begin_step, finish}
 use Rattle.model_loop.specs.Circles.{circle}
 use Rattle.model_loop.specs.Suspend.{wait_on, cancel_wait, suspend_unless, suspend}
 use Rattle.model_loop.specs.Cancel.{cancel}
 use Rattle.law_cancel.proofs.Counting.{change_task-kept}
-use Rattle.law_cancel.proofs.Effects.{settle-tasks, register-tasks, length-change_task, mark_asked-tasks}
+use Rattle.law_cancel.proofs.Effects.{settle-tasks, register-tasks, length-change_task}
 use Rattle.law_cancel.proofs.Trace.{goes-tasks}
 use Rattle.law_parts.specs.Open.{room_of}
 use Rattle.law_parts.proofs.RoomsKept.{settle-room, register-room, change-room, cancel-room}

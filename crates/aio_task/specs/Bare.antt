@@ -1,5 +1,5 @@
 -- The parts as tasks see them: what steps no task might as well be anything else.
-use Rattle.std.specs.Prelude.{List, map}
+use Rattle.std.specs.Prelude.{map}
 use Rattle.model_value.specs.Action.{Action}
 use Rattle.model_value.specs.declared.action.Action.TheVariants.{Step, StepInCircle, Wakeup, MainDone}
 use Rattle.model_loop.specs.Parts.{Handle, Future, Parts}

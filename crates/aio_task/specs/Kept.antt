@@ -1,6 +1,6 @@
 -- What the type of the parts keeps: one way on for each task, no circle of waits, marks only where they may stand; steps
 -- and wakeups are out of reach of whoever cancels handles and timers; and a request has the room that it needs.
-use Rattle.std.specs.Prelude.{◌≡◌, ℕ, ◌≤◌, Bool, true, false, ◌&&◌, List, [], ◌∷◌, Option, Some, None, length}
+use Rattle.std.specs.Prelude.{◌≡◌, ℕ, ◌≤◌, Bool, true, false, ◌&&◌, [], ◌∷◌, Option, Some, None, length}
 use Rattle.std.specs.List.{list_any}
 use Rattle.std.specs.Option.{option_map}
 use Rattle.model_value.specs.Action.{Action}

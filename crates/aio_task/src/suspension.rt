@@ -4,6 +4,7 @@
 #[derive(Clone, Copy, Debug, PartialEq, Eq)]
 pub enum Suspension {
     Suspended,
-    /// The future is the task's own or leads to it. RuntimeError is thrown into the task's next step.
+    /// The future is the task's own or leads to it.
+    /// RuntimeError is thrown into the task's next step.
     Cycle,
 }

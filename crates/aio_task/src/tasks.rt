@@ -118,7 +118,8 @@ pub fn add(body: &mut Awaitables, alloc: Global) -> Result<u32, Memory>
     Ok(task)
 }
 
-/// A step begins: the task waits no more, and no cancel waits for its step. The answer is whether one did.
+/// A step begins: the task waits no more, and no cancel waits for its step.
+/// The answer is whether one did.
 pub fn begin(body: &mut Awaitables, task: u32) -> bool
     ensures marked { result ≡ tasks.is_marked (parts body.old) task }
     ensures after { parts body.new

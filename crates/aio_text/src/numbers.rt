@@ -9,8 +9,8 @@ const MOST: u64 = 0x7FFF_FFFF_FFFF_FFFF;
 /// One more than that.
 const OVER: u64 = MOST + 1;
 
-/// The number that digits alone stand for, leading zeros included; nothing for no digits, for another byte, and for a
-/// number over 9,223,372,036,854,775,807.
+/// The number that digits alone stand for, leading zeros included; nothing for no digits, for
+/// another byte, and for a number over 9,223,372,036,854,775,807.
 /// Source: the language reference, "Integer literals".
 pub fn number(digits: &[u8]) -> Option<u64>
     ensures { result ≡ number_of digits.now }

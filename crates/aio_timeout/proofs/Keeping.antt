@@ -148,7 +148,8 @@ module _ (t : Ties) (l : Loop) (timeouts : List Timeout) (v : View) (id : ℕ) (
       let made = making t l.parts keeps.parts in
       let u : Ties = made.kept.ties in
       let q : Parts = fires_if id (option_map moment when) l.parts in
-      let old : IsHandler u q timeout.handler it.tag = handler_on t u l.parts q timeout.handler it.tag made.kept.extends.known made.kept.extends.tags is.handler in
+      let old : IsHandler u q timeout.handler it.tag =
+      handler_on t u l.parts q timeout.handler it.tag made.kept.extends.known made.kept.extends.tags is.handler in
       let after : give_up it.tag q ≡ fires_if id (option_map moment when) (give_up it.tag l.parts) =
       give_up_after id (option_map moment when) l.parts it.tag (handler_given t l.parts timeout.handler it.tag is.handler) in
       let kept : Kept t l.parts x (give_up it.tag q) = record {

@@ -7,7 +7,8 @@ ghost use Rattle.model_loop.specs.Timeouts.{moment};
 // The greatest number of a script.
 const MOST: u64 = 0x7FFF_FFFF_FFFF_FFFF;
 
-/// When a delay is over, which may be negative. It is no later than the greatest number of a script.
+/// When a delay is over, which may be negative. It is no later than the greatest number of a
+/// script.
 pub fn deadline(now: u64, delay: i64) -> u64
     ensures { result ≡ deadline now delay }
 {

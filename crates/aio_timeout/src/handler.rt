@@ -24,7 +24,8 @@ pub enum TimeoutHandler {
     At(TimerId),
 }
 
-/// A handle of a timeout for a deadline, if there is one. One that isn't later than the time is over soon.
+/// A handle of a timeout for a deadline, if there is one. One that isn't later than the time is
+/// over soon.
 pub fn schedule(
     alloc: Global,
     id: u32,

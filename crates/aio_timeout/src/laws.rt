@@ -10,7 +10,8 @@ ghost use Rattle.aio_task.specs.Keeps.{Ties};
 ghost use Rattle.aio_timeout.specs.declared.timeout.Timeout.{Timeout};
 ghost use Rattle.aio_timeout.specs.Kept.{AreTimeouts, KeepsTimeouts, StepsNone, handler_at};
 
-/// Timeouts are numbered as the machine's are, and stay the machine's while tags that were given are known as before.
+/// Timeouts are numbered as the machine's are, and stay the machine's while tags that were given
+/// are known as before.
 pub fn timeouts_go_on()
     ensures count { (t : Ties) (p : Parts) (timeouts : List Timeout) (them : List loop.Timeout)
         → AreTimeouts t p timeouts them → length timeouts ≡ length them }
@@ -19,7 +20,8 @@ pub fn timeouts_go_on()
         → AreTimeouts t p timeouts them → AreTimeouts u q timeouts them }
 {}
 
-/// Where each timeout of the machine has its tag to itself, the handles that are kept in code are no steps of tasks.
+/// Where each timeout of the machine has its tag to itself, the handles that are kept in code are
+/// no steps of tasks.
 pub fn handlers_step_no_task()
     ensures { (t : Ties) (v : View) (l : Loop) (timeouts : List Timeout)
         → KeepsTimeouts t timeouts v l

@@ -9,7 +9,8 @@ use std::alloc::Global;
 /// How far a timeout has come.
 #[derive(Clone, Copy, Debug, PartialEq, Eq)]
 pub enum TimeoutState {
-    /// Its block wasn't entered. No timeout that has a number stands so, since it is made as its block is entered.
+    /// Its block wasn't entered. No timeout that has a number stands so, since it is made as its
+    /// block is entered.
     Created,
     /// Its block was entered.
     Active,

@@ -19,7 +19,8 @@ use aio_task::Parts;
 use std::alloc::Global;
 use std::marker::Model;
 
-/// The timeouts of one `Parts`, by number. A call that answers `Memory` leaves them and the parts as they were.
+/// The timeouts of one `Parts`, by number. A call that answers `Memory` leaves them and the parts
+/// as they were.
 #[derive(Drop)]
 pub struct Timeouts {
     items: Vec<Timeout>,
@@ -51,8 +52,8 @@ impl Timeouts {
         self.items.len()
     }
 
-    /// A task enters a block whose time is over after a delay in milliseconds, which may be negative, or never. The answer
-    /// is the timeout's number.
+    /// A task enters a block whose time is over after a delay in milliseconds, which may be
+    /// negative, or never. The answer is the timeout's number.
     pub fn enter(
         &mut self,
         alloc: Global,
@@ -117,7 +118,8 @@ impl Timeouts {
         Ok(Rescheduled::Set)
     }
 
-    /// The deadline has come: the handle that waited for it was taken from the queue. The cancel of the task is asked for.
+    /// The deadline has come: the handle that waited for it was taken from the queue. The cancel of
+    /// the task is asked for.
     pub fn fire(&mut self, id: u32, parts: &mut Parts)
         requires idle { parts.old.called ≡ None }
         requires live { id < length self.old }
@@ -137,8 +139,9 @@ impl Timeouts {
         let _answer = parts.cancel(parts.future_of(timeout.task));
     }
 
-    /// The block is left, by an exception or by none. A timeout whose time was over takes its cancel back, and TimeoutError
-    /// is raised in place of a CancelledError that nobody else asked for.
+    /// The block is left, by an exception or by none. A timeout whose time was over takes its
+    /// cancel back, and TimeoutError is raised in place of a CancelledError that nobody else asked
+    /// for.
     pub fn exit(&mut self, id: u32, raised: Option<Exc>, parts: &mut Parts) -> TimeoutExit
         requires idle { parts.old.called ≡ None }
         requires live { id < length self.old }

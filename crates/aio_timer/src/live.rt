@@ -82,7 +82,8 @@ impl Live {
     /// The earliest deadline.
     pub fn first_when(&self) -> Option<u64>
         ensures first { result ≡ first_when self.now }
-        ensures least { IfSome result (λ when. All (λ (timer : plain.Timer). when ≤ timer.when) self.now) }
+        ensures least { IfSome result (λ when.
+            All (λ (timer : plain.Timer). when ≤ timer.when) self.now) }
     {
         match self.entries.first_key_value() {
             Some((key, _)) => Some(key.0),
@@ -93,7 +94,8 @@ impl Live {
     // Whether the time of the first timer has come.
     fn is_due(&self, now: u64) -> bool
         ensures come { result ≡ true → IfSome (first_when self.now) (λ when. when ≤ now) }
-        ensures none { result ≡ false → (due_at now self.now ≡ []) × (later_than now self.now ≡ self.now) }
+        ensures none { result ≡ false
+            → (due_at now self.now ≡ []) × (later_than now self.now ≡ self.now) }
     {
         match self.entries.first_key_value() {
             Some((key, _)) => key.0 <= now,
@@ -105,7 +107,8 @@ impl Live {
     pub fn pop_due(&mut self, now: u64) -> Option<(TimerId, TimerHandle)>
         ensures first { IfSome result (λ due. self.old ≡ timer due.0 due.1.action ∷ self.new) }
         ensures come { IfSome result (λ due. due.0.when ≤ now) }
-        ensures none { IfNone result ((due_at now self.old ≡ []) × (later_than now self.old ≡ self.old) × (self.new ≡ self.old)) }
+        ensures none { IfNone result ((due_at now self.old ≡ [])
+            × (later_than now self.old ≡ self.old) × (self.new ≡ self.old)) }
     {
         if !self.is_due(now) {
             return None;

@@ -26,7 +26,8 @@ impl Unplaced {
     }
 }
 
-/// The timers that live. Contracts see them by deadline, equal ones in order of scheduling, and the next number.
+/// The timers that live. Contracts see them by deadline, equal ones in order of scheduling, and the
+/// next number.
 #[derive(Drop)]
 pub struct Timers {
     live: Live,
@@ -81,10 +82,13 @@ impl Timers {
         }
     }
 
-    /// `TimerHandle.cancel`: a timer that lives is taken out; of one that fell due, the handle is cancelled.
+    /// `TimerHandle.cancel`: a timer that lives is taken out; of one that fell due, the handle is
+    /// cancelled.
     pub fn cancel(&mut self, id: TimerId, ready: &mut Ready)
         ensures timers { self.new ≡ record self.old { live = without id self.old.live } }
-        ensures handle { ready.new ≡ (if lives id self.old.live then ready.old else cancelled (name.Timer id.number) ready.old) }
+        ensures handle { ready.new
+            ≡ (if lives id self.old.live then ready.old
+            else cancelled (name.Timer id.number) ready.old) }
     {
         if !self.live.take(id) {
             ready.cancel_due(id.number);
@@ -94,13 +98,14 @@ impl Timers {
     /// The earliest deadline. `None` exactly where no timer lives.
     pub fn earliest(&self) -> Option<u64>
         ensures first { result ≡ first_when self.now.live }
-        ensures least { IfSome result (λ when. All (λ (timer : plain.Timer). when ≤ timer.when) self.now.live) }
+        ensures least { IfSome result (λ when.
+            All (λ (timer : plain.Timer). when ≤ timer.when) self.now.live) }
     {
         self.live.first_when()
     }
 
-    /// The timers whose time has come leave, and their handles are appended under their numbers, by deadline, and equal
-    /// deadlines in order of scheduling.
+    /// The timers whose time has come leave, and their handles are appended under their numbers, by
+    /// deadline, and equal deadlines in order of scheduling.
     pub fn due(&mut self, now: u64, ready: &mut Ready)
         ensures timers { self.new ≡ record self.old { live = later_than now self.old.live } }
         ensures handles { ready.new ≡ fallen (due_at now self.old.live) ready.old }

@@ -10,8 +10,8 @@ use std::marker::Model;
 /// What happens in a run: a call, an answer, a handle that ran, or a text that a task printed.
 pub type Event = model_wire::Event<Call, Answer, Action, Blob>;
 
-/// The events of a run that weren't taken out yet, in order, and how many answers the run has had so far. Contracts see
-/// them as the list and the number.
+/// The events of a run that weren't taken out yet, in order, and how many answers the run has had
+/// so far. Contracts see them as the list and the number.
 #[derive(Debug, Drop)]
 pub struct Events {
     list: Vec<Event>,

@@ -20,9 +20,10 @@ const MOST_ITEMS: usize = 4_096;
 /// The greatest time, in milliseconds.
 const MOST_TIME: u64 = 0x7FFF_FFFF_FFFF_FFFF;
 
-/// Whether an answer fits a call. A turn fits where its time is in range, each item is watched, no listener, connection
-/// or letter of a child stands twice, and there are not too many items and bytes. It takes no memory, and as many steps
-/// as there are pairs of items, and of items with watch entries.
+/// Whether an answer fits a call. A turn fits where its time is in range, each item is watched, no
+/// listener, connection or letter of a child stands twice, and there are not too many items and
+/// bytes. It takes no memory, and as many steps as there are pairs of items, and of items with
+/// watch entries.
 pub fn fits(call: &Call, answer: &Answer) -> bool
     ensures { result ≡ fits call.now answer.now }
 {

@@ -15,8 +15,6 @@ mod shelf;
 mod sink;
 mod source;
 mod stop;
-#[cfg(test)]
-mod tests;
 mod window;
 mod wire;
 

@@ -12,9 +12,9 @@ use indexmap::IndexMap;
 use std::alloc::{AllocError, Global};
 use std::marker::Model;
 
-/// A shelf that keeps its files in memory. It gives at each read as many bytes as are asked for and are left, and takes
-/// all of each piece. Its count of faults is the number of its reads of a missing file; it never fails otherwise.
-/// Contracts see its files by name and that count.
+/// A shelf that keeps its files in memory. It gives at each read as many bytes as are asked for and
+/// are left, and takes all of each piece. Its count of faults is the number of its reads of a
+/// missing file; it never fails otherwise. Contracts see its files by name and that count.
 #[derive(Drop)]
 pub struct MemShelf {
     files: IndexMap<String, Vec<u8>>,
@@ -26,7 +26,8 @@ impl Model for MemShelf {
 
     ghost Value = { Shelved };
 
-    ghost view = { λ shelf. record { files = files_of shelf.files.entries; missed = shelf.missed } };
+    ghost view = { λ shelf.
+        record { files = files_of shelf.files.entries; missed = shelf.missed } };
 }
 
 impl MemShelf {
@@ -60,7 +61,8 @@ impl Shelf for MemShelf {
         max: usize,
     ) -> Result<SourceGot, Memory>
         ensures next { IfOk result (λ got. got ≡ got_at (held self.old name.now) from max) }
-        ensures after { self.new ≡ record self.old { missed = missed_by (held self.old name.now) self.old.missed } }
+        ensures after { self.new
+            ≡ record self.old { missed = missed_by (held self.old name.now) self.old.missed } }
         ensures unchanged { OnErr result (self.new ≡ self.old) }
         ensures later { self.old.missed ≤ self.new.missed }
     {
@@ -75,7 +77,8 @@ impl Shelf for MemShelf {
 
     fn append(&mut self, alloc: Global, name: &str, piece: &[u8]) -> Result<SinkTook, Memory>
         ensures whole { IfOk result (λ took. took ≡ SinkTook.Took (length piece.now)) }
-        ensures after { OnOk result (self.new ≡ record self.old { files = with_appended self.old.files name.now piece.now }) }
+        ensures after { OnOk result (self.new
+            ≡ record self.old { files = with_appended self.old.files name.now piece.now }) }
         ensures unchanged { OnErr result (self.new ≡ self.old) }
         ensures later { self.old.missed ≤ self.new.missed }
     {
@@ -91,7 +94,8 @@ fn append_piece(
     name: &str,
     piece: &[u8],
 ) -> Result<(), AllocError>
-    ensures ok { OnOk result (files_of files.new.entries ≡ with_appended (files_of files.old.entries) name.now piece.now) }
+    ensures ok { OnOk result (files_of files.new.entries
+        ≡ with_appended (files_of files.old.entries) name.now piece.now) }
     ensures err { OnErr result (files_of files.new.entries ≡ files_of files.old.entries) }
 {
     match files.get_mut(name) {

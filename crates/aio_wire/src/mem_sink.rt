@@ -6,7 +6,8 @@ use aio_base::Memory;
 use std::alloc::Global;
 use std::marker::Model;
 
-/// A sink that keeps what it took, all of each piece. It never fails. Contracts see the bytes that it took.
+/// A sink that keeps what it took, all of each piece. It never fails. Contracts see the bytes that
+/// it took.
 #[derive(Drop)]
 pub struct MemSink {
     bytes: Vec<u8>,

@@ -41,7 +41,8 @@ impl<'a, W: Wire> Port<'a, W> {
     pub fn ask(&mut self, alloc: Global, call: Call) -> Result<Answer, Stop>
         ensures wire_name { self.new.wire.ghost_name ≡ self.old.wire.ghost_name }
         ensures events_name { self.new.events.ghost_name ≡ self.old.events.ghost_name }
-        ensures asks { ((said : AnyReply) × Exchanges call self.old.events.now self.new.events.now result said
+        ensures asks { ((said : AnyReply)
+            × Exchanges call self.old.events.now self.new.events.now result said
             × Replied call (W.seen self.old.wire.now) (W.seen self.new.wire.now) said)
             ⊎ (StopsShort self.old.events.now self.new.events.now result
             × MayHaveReplied call (W.seen self.old.wire.now) (W.seen self.new.wire.now)) }

@@ -15,8 +15,8 @@ pub trait Shelf {
     /// What its files hold, where that is told, and how often a call on each of them failed.
     ghost seen: { Self → ShelfSeen };
 
-    /// The bytes of a file from a place on, at most so many. A missing file is a failure. Where it failed, the file's
-    /// count rose. No file changes. Want of memory is no failure.
+    /// The bytes of a file from a place on, at most so many. A missing file is a failure. Where it
+    /// failed, the file's count rose. No file changes. Want of memory is no failure.
     fn read(
         &mut self,
         alloc: Global,
@@ -32,8 +32,8 @@ pub trait Shelf {
         ensures files { (seen self.new).file ≡ (seen self.old).file }
         ensures err { OnErr result (seen self.new ≡ seen self.old) };
 
-    /// Takes a front of the piece behind a file's end. A missing file is made. Where it failed, the file's count rose.
-    /// Want of memory changes nothing, and is no failure.
+    /// Takes a front of the piece behind a file's end. A missing file is made. Where it failed, the
+    /// file's count rose. Want of memory changes nothing, and is no failure.
     fn append(&mut self, alloc: Global, name: &str, piece: &[u8]) -> Result<SinkTook, Memory>
         ensures size { IfOk result (FitsWrite piece.now) }
         ensures written { IfOk result (Appends name.now piece.now (seen self.old) (seen self.new)) }

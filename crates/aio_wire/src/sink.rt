@@ -20,7 +20,8 @@ pub trait Sink {
     /// What it took, where that is told, and how often it failed.
     ghost seen: { Self → SinkSeen };
 
-    /// Takes a front of the piece. Where it failed, its count rose. Want of memory changes nothing, and is no failure.
+    /// Takes a front of the piece. Where it failed, its count rose. Want of memory changes nothing,
+    /// and is no failure.
     fn write(&mut self, alloc: Global, piece: &[u8]) -> Result<SinkTook, Memory>
         ensures size { IfOk result (FitsWrite piece.now) }
         ensures took { IfOk result (WriteLeaves piece.now (seen self.old) (seen self.new)) }

@@ -22,8 +22,8 @@ pub trait Source {
     /// What is left, where that is told, and how often it failed.
     ghost seen: { Self → SourceSeen };
 
-    /// The next bytes, at most so many. Where it failed, its count rose; the count never falls. Want of memory changes
-    /// nothing, and is no failure.
+    /// The next bytes, at most so many. Where it failed, its count rose; the count never falls.
+    /// Want of memory changes nothing, and is no failure.
     fn read(&mut self, alloc: Global, max: usize) -> Result<SourceGot, Memory>
         requires { 1 ≤ max }
         ensures size { IfOk result (FitsRead max) }

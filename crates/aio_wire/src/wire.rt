@@ -28,8 +28,8 @@ pub enum Reply {
 
 /// What answers the loop's calls: the real outside, or a journal of what it answered.
 pub trait Wire {
-    /// What is left to answer, what it was asked and what it handed on, where that is told; how it ended, whether its
-    /// answers fit, and how often it failed.
+    /// What is left to answer, what it was asked and what it handed on, where that is told; how it
+    /// ended, whether its answers fit, and how often it failed.
     ghost seen: { Self → WireSeen };
 
     /// That each call fails, where that is told.
@@ -51,15 +51,18 @@ pub trait Wire {
         ensures quiet { IfOk result (UnlessFailed (quiet self.old self.new)) }
         ensures err { OnErr result (quiet self.old self.new) };
 
-    /// A wire is out of answers only where none is left, and stands at a refused line only where that comes next.
+    /// A wire is out of answers only where none is left, and stands at a refused line only where
+    /// that comes next.
     ghost end_agrees: { (wire : Self) → EndAgrees (seen wire).end (seen wire).left };
 
     /// Nothing is lost where nothing is asked, and what two calls keep one after another both keep.
     ghost keeps_same: { (wire : Self) → keeps wire wire };
 
-    ghost keeps_on: { (before between after : Self) → keeps before between → keeps between after → keeps before after };
+    ghost keeps_on: { (before between after : Self)
+        → keeps before between → keeps between after → keeps before after };
 
     ghost quiet_same: { (wire : Self) → quiet wire wire };
 
-    ghost quiet_on: { (before between after : Self) → quiet before between → quiet between after → quiet before after };
+    ghost quiet_on: { (before between after : Self)
+        → quiet before between → quiet between after → quiet before after };
 }

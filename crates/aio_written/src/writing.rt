@@ -1,4 +1,5 @@
-//! How calls and answers are written. Each function appends; on `Memory` a front of its text may stand there.
+//! How calls and answers are written. Each function appends; on `Memory` a front of
+//! its text may stand there.
 ghost use Rattle.std.specs.Prelude.{◌≡◌, ◌++◌, OnOk, map, codes};
 ghost use Rattle.std.specs.List.{flat_map};
 ghost use Rattle.std.specs.Fmt.{decimal, signed_decimal};

@@ -10,8 +10,8 @@ ghost use Rattle.model_says.specs.Tape.{Resumed, Tape};
 ghost use Rattle.law_blocks.specs.Given.{AllOf, IsIn, IsClosed, InTape, InSaying};
 ghost use Rattle.law_blocks.specs.Opened.{entered_as, opened_with, answered, opened, Leaves};
 
-/// An exit is asked only of the block that is open innermost, with what its entry was answered, and it is the exit that
-/// belongs to that entry.
+/// An exit is asked only of the block that is open innermost, with what its entry was answered, and
+/// it is the exit that belongs to that entry.
 pub fn exits_are_of_the_innermost_block()
     ensures { (limit : ℕ) (program : Program) (place : ℕ) (arguments : List Value) (tape : Tape)
         (asked : Request)
@@ -19,15 +19,17 @@ pub fn exits_are_of_the_innermost_block()
         → Leaves asked (opened limit program place arguments tape) }
 {}
 
-/// An input answers the request that waited. So a block is open from the value that its entry is answered until its exit is
-/// answered, in whatever way, and no other answer opens or closes one. These are the open blocks of the definitions.
+/// An input answers the request that waited. So a block is open from the value that its entry is
+/// answered until its exit is answered, in whatever way, and no other answer opens or closes one.
+/// These are the open blocks of the definitions.
 pub fn answers_open_and_close_blocks()
     ensures answers { (limit : ℕ) (program : Program) (place : ℕ) (arguments : List Value)
         (tape : Tape) (asked : Request)
         (entry : Resumed)
         → saying_of (course limit program place arguments tape) ≡ Asks asked
         → answered limit program place arguments (tape ++ entry ∷ [])
-        ≡ answered limit program place arguments tape ++ record { request = asked; answer = entry.input } ∷ [] }
+        ≡ answered limit program place arguments tape
+        ++ record { request = asked; answer = entry.input } ∷ [] }
     ensures blocks { (limit : ℕ) (program : Program) (place : ℕ) (arguments : List Value)
         (tape : Tape) (asked : Request)
         (entry : Resumed)
@@ -35,7 +37,8 @@ pub fn answers_open_and_close_blocks()
         → opened limit program place arguments (tape ++ entry ∷ [])
         ≡ opened_with (opened limit program place arguments tape) asked entry.input }
     ensures defined { (program : Program) (place : ℕ) (arguments : List Value) (tape : Tape)
-        → map entered_as (opened step_limit program place arguments tape) ≡ open_blocks program place arguments tape }
+        → map entered_as (opened step_limit program place arguments tape)
+        ≡ open_blocks program place arguments tape }
 {}
 
 /// A coroutine that returned or raised has left all its blocks.
@@ -50,8 +53,8 @@ pub fn what_is_over_left_its_blocks()
         → opened limit program place arguments tape ≡ [] }
 {}
 
-/// What a coroutine hands on was given to it. Where its arguments and all that was sent to it are in a closed kind, so is what it
-/// asks with, and what it returns.
+/// What a coroutine hands on was given to it. Where its arguments and all that was sent to it are
+/// in a closed kind, so is what it asks with, and what it returns.
 pub fn what_is_handed_on_was_given()
     ensures { (test : Value → Bool) → IsClosed (IsIn test)
         → (limit : ℕ) (program : Program) (place : ℕ) (arguments : List Value) (tape : Tape)

@@ -1,5 +1,5 @@
 -- What is stood for goes on: through operations of the loop, and changes of what a task stands at.
-use Rattle.std.proofs.Common.{◌≡◌, ℕ, ◌≤◌, ◌⊎◌, true, List, Option, Some, None, length, ◌∙◌, refl, sym, ap, subst, inl, inr, arith}
+use Rattle.std.proofs.Common.{◌≡◌, ℕ, ◌≤◌, ◌⊎◌, true, Option, Some, None, length, ◌∙◌, refl, sym, ap, subst, inl, inr, arith}
 use Rattle.model_value.specs.Number.{most}
 use Rattle.model_loop.specs.Loop.{Loop}
 use Rattle.model_loop.specs.Owning.{is_plain}

@@ -1,5 +1,5 @@
 -- What is stood for goes on through calls of timeouts.
-use Rattle.std.proofs.Common.{◌≡◌, ℕ, ℤ, ◌<◌, ◌≤◌, Bool, true, false, List, Option, Some, None, length, nat_le, option_map, slice_get, if◌then◌else◌, ◌∙◌, refl}
+use Rattle.std.proofs.Common.{◌≡◌, ℕ, ℤ, ◌≤◌, Bool, true, false, List, Option, Some, None, length, nat_le, option_map, slice_get, if◌then◌else◌, ◌∙◌, refl}
 use Rattle.std.proofs.Common.{sym, ap, subst, inl, arith}
 use Rattle.model_value.specs.Action.{Action}
 use Rattle.model_value.specs.declared.action.Action.TheVariants.{Fires}
@@ -14,7 +14,6 @@ use Rattle.model_loop.specs.Timeouts.{enter_timeout, exit_timeout, fire, fires_a
 use Rattle.model_loop.specs.Timeouts.{reschedule_where, schedule, timeout_of, without_handle}
 use Rattle.model_machine.specs.State.{State, generator_of, with_loop}
 use Rattle.aio_task.specs.View.{View}
-use Rattle.aio_task.specs.Keeps.{Kept}
 use Rattle.aio_timeout.specs.declared.timeout.Timeout.{Timeout}
 use Rattle.aio_timeout.specs.Kept.{IsSameStep, KeepsTimeouts, KeptTimeouts}
 use Rattle.aio_group.proofs.Standing.{groups_on}

@@ -3,7 +3,7 @@ ghost use Rattle.std.specs.Prelude.{◌≡◌, ℕ, ◌<◌, ◌++◌, [], ◌�
 ghost use Rattle.model_value.specs.Input.{Input};
 ghost use Rattle.model_loop.specs.Tasks.{lives, next_task};
 ghost use Rattle.model_machine.specs.State as plain;
-ghost use Rattle.model_machine.specs.State.{Generator, State, generator_of, resumed, stands, with_generator};
+ghost use Rattle.model_machine.specs.State.{State, generator_of, resumed, stands};
 ghost use Rattle.aio_gen.specs.Gens.{StandsFor};
 ghost use Rattle.aio_gen.specs.declared.generator.Gen.{Gen};
 ghost use Rattle.aio_extra.specs.Added.{named_in};

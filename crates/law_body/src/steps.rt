@@ -1,5 +1,5 @@
 //! Laws of a task's step that goes on. Each function has no body: its clauses are the laws.
-ghost use Rattle.std.specs.Prelude.{◌≡◌, ℕ, ◌+◌, ◌^◌, ◌<◌, ◌++◌, [], ◌∷◌, Some, None, length};
+ghost use Rattle.std.specs.Prelude.{◌≡◌, ℕ, ◌+◌, ◌^◌, ◌<◌, ◌++◌, [], ◌∷◌, None, length};
 ghost use Rattle.model_value.specs.Value.{Outcome};
 ghost use Rattle.model_value.specs.declared.action.Action.TheVariants as action;
 ghost use Rattle.model_loop.specs.Cancel.{cancel};

@@ -279,7 +279,10 @@ suspend_makes_none task on p owns none = at (circle p task on) refl
     marked true h =
         let asked = cancel on (wait_on task on p) in
         let k = cancel_makes_none on (wait_on task on p) h in
-        elim asked.answer as (λ b. HasNoCircle (cond b (unmark task asked.parts) asked.parts)) [ true ↦ no_circle_kept asked.parts (unmark task asked.parts) (unmark-passes task asked.parts) k | false ↦ k ]
+        elim asked.answer as (λ b. HasNoCircle (cond b (unmark task asked.parts) asked.parts)) [
+          | true ↦ no_circle_kept asked.parts (unmark task asked.parts) (unmark-passes task asked.parts) k
+          | false ↦ k
+        ]
 
     at : (o : Option Circle) → circle p task on ≡ o → HasNoCircle (suspend_unless o task on p).parts
     at (Some why) e = no_circle_kept p (soon (StepInCircle task why) p)

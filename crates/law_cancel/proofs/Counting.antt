@@ -133,7 +133,8 @@ goes-outcomes {s} {p} (settles {q = q} g id future e o k) j =
         → OnlyCancelled (future_outcome p j) (outcome_at (slice_get (slice_set q.futures id (done_as Cancelled future)) j))
     go (inl same) ih =
         let live : future_outcome q j ≡ None = rw (← same, e) o in
-        let now : outcome_at (slice_get (slice_set q.futures id (done_as Cancelled future)) j) ≡ Some Cancelled = rw (← same) (ap outcome_at (get-set_same q.futures id future (done_as Cancelled future) e)) in
+        let now : outcome_at (slice_get (slice_set q.futures id (done_as Cancelled future)) j) ≡ Some Cancelled =
+        rw (← same) (ap outcome_at (get-set_same q.futures id future (done_as Cancelled future) e)) in
         inr (was ih live, now)
       where
         was : OnlyCancelled (future_outcome p j) (future_outcome q j) → future_outcome q j ≡ None → future_outcome p j ≡ None

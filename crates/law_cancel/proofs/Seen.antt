@@ -6,7 +6,11 @@ use Rattle.model_loop.specs.Cancel.{has_seen}
 
 pub has_seen-append : (s t : List ℕ) (u : ℕ) → has_seen (s ++ t) u ≡ (has_seen s u || has_seen t u)
 has_seen-append [] t u = refl
-has_seen-append (x ∷ s) t u = elim (nat_eq u x) as (λ b. (b || has_seen (s ++ t) u) ≡ ((b || has_seen s u) || has_seen t u)) [ true ↦ refl | false ↦ has_seen-append s t u ]
+has_seen-append (x ∷ s) t u =
+    elim (nat_eq u x) as (λ b. (b || has_seen (s ++ t) u) ≡ ((b || has_seen s u) || has_seen t u)) [
+      | true ↦ refl
+      | false ↦ has_seen-append s t u
+    ]
 
 -- how many tasks below a number were not visited
 abbrev pub left : ℕ → List ℕ → ℕ
@@ -62,7 +66,11 @@ pub left_falls : (n : ℕ) (s t : List ℕ) → left n (s ++ t) ≤ left n s
 left_falls zero s t = omega arith
 left_falls (suc n) s t =
     let h = left_falls n s t in
-    rw has_seen-append (elim (has_seen s n) as (λ b. cond (b || has_seen t n) 0 1 + left n (s ++ t) ≤ cond b 0 1 + left n s) [ true ↦ omega arith | false ↦ elim (has_seen t n) as (λ c. cond c 0 1 + left n (s ++ t) ≤ 1 + left n s) [ true ↦ omega arith | false ↦ omega arith ] ])
+    rw has_seen-append (elim (has_seen s n) as (λ b. cond (b || has_seen t n) 0 1 + left n (s ++ t) ≤ cond b 0 1 + left n s) [
+      | true ↦ omega arith
+      | false ↦
+          elim (has_seen t n) as (λ c. cond c 0 1 + left n (s ++ t) ≤ 1 + left n s) [ true ↦ omega arith | false ↦ omega arith ]
+    ])
 
 -- the same for a task in front
 pub left-cons : (n : ℕ) (s : List ℕ) (t : ℕ) → t < n → has_seen s t ≡ false → left n (t ∷ s) + 1 ≡ left n s

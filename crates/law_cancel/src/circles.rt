@@ -7,7 +7,8 @@ ghost use Rattle.model_loop.specs.Suspend.{suspend};
 ghost use Rattle.model_loop.specs.Owning.{OwnsFutures};
 ghost use Rattle.model_loop.specs.Sound.{HasNoCircle};
 
-/// The test tells exactly whether one future leads to another: as many passes as there are futures are enough.
+/// The test tells exactly whether one future leads to another: as many passes as there are futures
+/// are enough.
 pub fn test_decides()
     ensures { (p : Parts) (from to : ℕ) → (leads p from to ≡ true) ↔ Leads p from to }
 {}

@@ -11,8 +11,8 @@ pub fn canonical_texts_are_lines()
         ≡ flat_map indented_text (program_lines program) }
 {}
 
-/// The canonical text of a program that some text spells, spells it, unless it is over the greatest length of a text. So
-/// no two of these programs have one canonical text.
+/// The canonical text of a program that some text spells, spells it, unless it is over the greatest
+/// length of a text. So no two of these programs have one canonical text.
 pub fn canonical_texts_spell_their_programs()
     ensures spells { (text : List ℕ) (program : Program) →
         script_of text ≡ Ok program → length (canonical program) ≤ most_bytes

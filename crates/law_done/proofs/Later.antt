@@ -13,7 +13,7 @@ use Rattle.model_loop.specs.Cancel.{cancel}
 use Rattle.model_loop.specs.Ending.{cancel_everything}
 use Rattle.model_loop.specs.Futures.{is_pending, is_pending_at, next_future, new_plain, settle}
 use Rattle.model_loop.specs.Groups.{child_done, create, exit_begin, exit_woken}
-use Rattle.model_loop.specs.Handles.{due, fall_due, by_deadline, later, soon, soon_all}
+use Rattle.model_loop.specs.Handles.{due, by_deadline, later, soon, soon_all}
 use Rattle.model_loop.specs.Ledger.{ByEnd}
 use Rattle.model_loop.specs.Loop.{TimeoutState, Created, Active, Expiring, Expired, Finished, Loop}
 use Rattle.model_loop.specs.Owning.{OwnsFutures}
@@ -33,6 +33,8 @@ use Rattle.law_after.proofs.Parts.{change_after, settle_after}
 use Rattle.law_after.proofs.Requests.{begin_after, cancel_after, each_after, finish_after, suspend_after}
 use Rattle.law_inside.proofs.Counts.{own_there}
 use Rattle.law_done.specs.Done.{IsDone}
+use Rattle.law_numbers.proofs.Falling.{fall_due-futures}
+use Rattle.law_timeouts.proofs.Due.{due-tasks}
 
 -- tasks and futures stay, and what is done stays so
 pub record IsLater (p q : Parts) : Type 0 where
@@ -117,19 +119,11 @@ later_spawn p = later_of true None p (spawn p) (spawn_after any None p)
 pub later_uncancel : (task : ℕ) (p : Parts) → IsLater p (uncancel task p)
 later_uncancel task p = later_of false None p (uncancel task p) (change_after any false None task _ p (λ t. refl))
 
-fall_due-futures : (timers : List Timer) (p : Parts) → (fall_due timers p).futures ≡ p.futures
-fall_due-futures [] p = refl
-fall_due-futures (timer ∷ timers) p = fall_due-futures timers _
-
-fall_due-tasks : (timers : List Timer) (p : Parts) → (fall_due timers p).tasks ≡ p.tasks
-fall_due-tasks [] p = refl
-fall_due-tasks (timer ∷ timers) p = fall_due-tasks timers _
-
 pub later_due : (p : Parts) → IsLater p (due p)
 later_due p =
     let ready = by_deadline (filter (λ (timer : Timer). nat_le timer.when p.time) p.timers) in
     let rest = record p { timers = filter (λ (timer : Timer). nat_lt p.time timer.when) p.timers } in
-    later_same p (due p) (fall_due-futures ready rest) (fall_due-tasks ready rest)
+    later_same p (due p) (fall_due-futures ready rest) (due-tasks p)
 
 pub later_soon_all : (actions : List Action) (p : Parts) → IsLater p (soon_all actions p)
 later_soon_all actions p = later_same p (soon_all actions p) (soon_all-futures actions p) (soon_all-tasks actions p)

@@ -1,5 +1,5 @@
-//! Laws of what happens after a task is done. Each function has no body: its clauses are the laws. `S` is the state of what is
-//! added to the loop's own requests.
+//! Laws of what happens after a task is done. Each function has no body: its clauses are the laws.
+//! `S` is the state of what is added to the loop's own requests.
 ghost use Rattle.std.specs.Prelude.{◌≡◌, ℕ, List, ◌∷◌};
 ghost use Rattle.model_says.specs.Says.{step_limit};
 ghost use Rattle.model_loop.specs.Parts.{Handle};
@@ -12,8 +12,9 @@ ghost use Rattle.model_machine.specs.Went.{state_of};
 ghost use Rattle.law_replies.specs.Added.{KeepsSound};
 ghost use Rattle.law_done.specs.Done.{GoesOnWithout, IsDone, LeavesDone};
 
-/// Once a task is done, nothing happens of it any more: it says nothing, and none of its steps and wakeups runs. So it is for
-/// one callback, for a turn, and for a run from any sound state on, and every state of a run is sound.
+/// Once a task is done, nothing happens of it any more: it says nothing, and none of its steps and
+/// wakeups runs. So it is for one callback, for a turn, and for a run from any sound state on, and
+/// every state of a run is sound.
 pub fn no_event_of_a_done_task<S>()
     ensures callback { (added : Extra S) (s : State S) (handle : Handle) (rest : List Handle)
         → s.loop.parts.pending ≡ handle ∷ rest → IsStateSound added s

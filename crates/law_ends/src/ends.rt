@@ -1,5 +1,5 @@
-//! Laws of the ends of turns and runs. Each function has no body: its clauses are the laws. `S` is the state of what is added to
-//! the loop's own requests.
+//! Laws of the ends of turns and runs. Each function has no body: its clauses are the laws. `S` is
+//! the state of what is added to the loop's own requests.
 ghost use Rattle.std.specs.Prelude.{ℕ, List};
 ghost use Rattle.model_tree.specs.Syntax.{Program};
 ghost use Rattle.model_says.specs.Says.{step_limit};
@@ -21,14 +21,15 @@ pub fn callbacks_end_a_run_by_running_away<S>()
         → OnlyRunsAway (run_pending limit added s) }
 {}
 
-/// A turn from a sound state leaves one, unless a task runs away in it: where the run goes on, where it finishes, where it is
-/// stalled, and where the outside has no answer that fits.
+/// A turn from a sound state leaves one, unless a task runs away in it: where the run goes on,
+/// where it finishes, where it is stalled, and where the outside has no answer that fits.
 pub fn a_turn_leaves_a_sound_state<S>()
     ensures { (added : Extra S) → KeepsSound added
         → (s : State S) → IsStateSound added s → IsLeftSound added (turn step_limit added s) }
 {}
 
-/// So the state in which a run ends is sound, for every program and whatever the outside answers, unless a task runs away.
+/// So the state in which a run ends is sound, for every program and whatever the outside answers,
+/// unless a task runs away.
 pub fn every_run_ends_sound<S>()
     ensures nothing_added { (program : Program) (answers : List Entry) (turns : ℕ)
         → EndsSound no_extra turns (start tt program answers) }

@@ -57,6 +57,10 @@ exprs-row (expr_then first others) = ap (expr_then first) (exprs-row others)
 two-meant : {A B C : Type 0} (f : A → B → C) (x : Meant A) (y : Meant B) (a : A) (b : B) → x ≡ Ok a → y ≡ Ok b → both f x y ≡ Ok (f a b)
 two-meant f x y a b e g = ap (λ m. both f m y) e ∙ ap (both f (Ok a)) g
 
+-- the row of one argument
+abbrev alone : Meant Expr → Meant (List Expr)
+alone m = both (λ (x : Expr) (xs : List Expr). x ∷ xs) m (Ok [])
+
 module _ (scope : Scope) where
   mutual
     pub meant : (e : Expr) → Known scope e → meaning_of scope (term_from e) ≡ Ok e
@@ -73,11 +77,14 @@ module _ (scope : Scope) where
         ap (meant_map (λ (all : List Expr). ListOf (exprs all))) (all-meant row k)
         ∙ ap (λ (items : Exprs). let m : Meant Expr = Ok (ListOf items) in m) (exprs-row row)
     meant (Apply f argument) k =
-        ap (λ found. function_call (function_text f) found (both (λ (x : Expr) (xs : List Expr). x ∷ xs) (meaning_of scope (term_from argument)) (Ok [])) None
-        (Ok [])) (function-named f) ∙ ap (λ m. one_argument (Apply f) (both (λ (x : Expr) (xs : List Expr). x ∷ xs) m (Ok []))) (meant argument k)
+        ap (λ found. function_call (function_text f) found (alone (meaning_of scope (term_from argument))) None (Ok [])) (function-named f)
+        ∙ ap (λ m. one_argument (Apply f) (alone m)) (meant argument k)
     meant (MakeError kind message) k =
-        ap (λ found. error_of found (both (λ (x : Expr) (xs : List Expr). x ∷ xs) (meaning_of scope (term_from message)) (Ok []))) (kind-named kind)
-        ∙ (ap (λ (made : Bool). let m : Meant Expr = if made then one_argument (MakeError kind) (both (λ (x : Expr) (xs : List Expr). x ∷ xs) (meaning_of scope (term_from message)) (Ok [])) else Err cause.Name in m) k.0 ∙ ap (λ m. one_argument (MakeError kind) (both (λ (x : Expr) (xs : List Expr). x ∷ xs) m (Ok []))) (meant message k.1))
+        let made-of : Meant Expr → Meant Expr = λ m. one_argument (MakeError kind) (alone m) in
+        let inside : Meant Expr = meaning_of scope (term_from message) in
+        ap (λ found. error_of found (alone inside)) (kind-named kind)
+        ∙ (ap (λ (made : Bool). let m : Meant Expr = if made then made-of inside else Err cause.Name in m) k.0
+        ∙ ap made-of (meant message k.1))
 
     all-meant : (row : Exprs) → AllKnown scope row → meanings_of scope (terms_from row) ≡ Ok (exprs_of row)
     all-meant no_exprs k = refl

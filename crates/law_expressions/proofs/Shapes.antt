@@ -134,10 +134,14 @@ module _ (inside : Parser Term) (sequence index : List Lexeme) (s i : Term) (o :
   index-index rest =
       let q : Pieces Symbol = pieces_from at_index 0 false sequence in
       let r : Pieces Symbol = pieces_from at_index 1 false rest in
+      let last : List (Symbol × List Lexeme) = (symbol.LeftBracket, r.first) ∷ r.others in
+      let with_others : List (Symbol × List Lexeme) → Pieces Symbol = λ others. record { first = q.first; others = others } in
       ap (pieces_from at_index 0 false) (append_assoc sequence (within_brackets index) (Sign symbol.LeftBracket ∷ rest))
       ∙ (o.index (closed index ++ Sign symbol.LeftBracket ∷ rest)
       ∙ (ap (item_behind q) (closed-passes at_index 0 index p (Sign symbol.LeftBracket ∷ rest))
-      ∙ (ap (λ (l : List Lexeme). let c : Pieces Symbol = record { first = q.first; others = q.others ++ (symbol.LeftBracket, l) ∷ (symbol.LeftBracket, r.first) ∷ r.others } in c) (append-nil (closed index)) ∙ (ap (λ (l : List (Symbol × List Lexeme)). let c : Pieces Symbol = record { first = q.first; others = l } in c) (sym (append_assoc q.others ((symbol.LeftBracket, closed index) ∷ []) ((symbol.LeftBracket, r.first) ∷ r.others))) ∙ sym (ap (λ c. item_behind c r) once)))))
+      ∙ (ap (λ (l : List Lexeme). with_others (q.others ++ (symbol.LeftBracket, l) ∷ last)) (append-nil (closed index))
+      ∙ (ap with_others (sym (append_assoc q.others ((symbol.LeftBracket, closed index) ∷ []) last))
+      ∙ sym (ap (λ c. item_behind c r) once)))))
 
   pub index-operand : StandsAsOperand inside (sequence ++ within_brackets index) (term.Index s i)
   index-operand = record {

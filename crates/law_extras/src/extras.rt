@@ -1,4 +1,5 @@
-//! Laws of what is added to the loop's own requests. Each function has no body: its clauses are the laws.
+//! Laws of what is added to the loop's own requests. Each function has no body: its clauses are the
+//! laws.
 ghost use Rattle.std.specs.Prelude.{◌≡◌, ℕ, ◌<◌, Bool, true, false, List, Option};
 ghost use Rattle.std.specs.List.{All};
 ghost use Rattle.model_value.specs.Value.{Outcome};
@@ -15,8 +16,8 @@ ghost use Rattle.law_replies.specs.Added.{KeepsSound};
 ghost use Rattle.law_inside.specs.InStep.{IsRunSound};
 ghost use Rattle.law_extras.specs.Allowed.{AreAllowed, MakesAllowedSteps, no_extra_as};
 
-/// Each step that is allowed keeps the loop sound, between two callbacks and inside a task's step; and so do several, one after
-/// another.
+/// Each step that is allowed keeps the loop sound, between two callbacks and inside a task's step;
+/// and so do several, one after another.
 pub fn each_step_keeps_the_loop_sound()
     ensures plain { (running : Option ℕ) (told : ℕ → List ℕ) (l : Loop) → IsSound running told l
         → IsSound running told (made_by MakesPlain l) }
@@ -44,7 +45,8 @@ pub fn each_step_keeps_the_loop_sound()
         → IsSound running told (made_by_all steps l) }
 {}
 
-/// So whatever is added keeps states sound where it makes allowed steps alone, and each state of each run with it is sound.
+/// So whatever is added keeps states sound where it makes allowed steps alone, and each state of
+/// each run with it is sound.
 pub fn allowed_extras_keep_states_sound<S>()
     ensures keeps { (added : Extra S) → MakesAllowedSteps added → KeepsSound added }
     ensures runs { (added : Extra S) → MakesAllowedSteps added

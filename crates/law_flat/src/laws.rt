@@ -15,14 +15,17 @@ ghost use Rattle.law_flat.specs.Nearer.{JumpsForward, distance};
 
 /// Before any input the frames wait as the coroutine does: as after a bare `yield`.
 pub fn frames_begin_as_the_coroutine()
-    ensures { (limit : ℕ) (program : Program) (codes : ℕ → CoroutineCode) (coroutine : ℕ) (arguments : List Value) →
+    ensures { (limit : ℕ) (program : Program) (codes : ℕ → CoroutineCode) (coroutine : ℕ)
+        (arguments : List Value) →
         AllLaidOut program codes →
-        WaitsFor limit program codes coroutine arguments [] Pause (unbegun_waiting limit codes coroutine arguments) }
+        WaitsFor limit program codes coroutine arguments [] Pause
+        (unbegun_waiting limit codes coroutine arguments) }
 {}
 
 /// What frames wait for is what the coroutine asks.
 pub fn what_waits_is_asked()
-    ensures { (limit : ℕ) (program : Program) (codes : ℕ → CoroutineCode) (coroutine : ℕ) (arguments : List Value) →
+    ensures { (limit : ℕ) (program : Program) (codes : ℕ → CoroutineCode) (coroutine : ℕ)
+        (arguments : List Value) →
         (tape : Tape) (request : Request) (waiting : Waiting) →
         WaitsFor limit program codes coroutine arguments tape request waiting →
         said limit program codes coroutine arguments tape ≡ Asks request }
@@ -30,7 +33,8 @@ pub fn what_waits_is_asked()
 
 /// Frames that waited go on after an input as the coroutine does after the longer tape.
 pub fn an_input_lengthens_the_tape()
-    ensures { (limit : ℕ) (program : Program) (codes : ℕ → CoroutineCode) (coroutine : ℕ) (arguments : List Value) →
+    ensures { (limit : ℕ) (program : Program) (codes : ℕ → CoroutineCode) (coroutine : ℕ)
+        (arguments : List Value) →
         (tape : Tape) (request : Request) (waiting : Waiting) (entry : Resumed) →
         WaitsFor limit program codes coroutine arguments tape request waiting →
         MovesFor limit program codes coroutine arguments (tape ++ entry ∷ []) (way_of entry.input)
@@ -39,7 +43,8 @@ pub fn an_input_lengthens_the_tape()
 
 /// A move comes to what the coroutine does: it goes on, asks the same, or says the same.
 pub fn a_move_comes_to_what_the_coroutine_does()
-    ensures { (limit : ℕ) (program : Program) (codes : ℕ → CoroutineCode) (coroutine : ℕ) (arguments : List Value) →
+    ensures { (limit : ℕ) (program : Program) (codes : ℕ → CoroutineCode) (coroutine : ℕ)
+        (arguments : List Value) →
         AllLaidOut program codes →
         (tape : Tape) (way : Way) (frames : Frames) →
         MovesFor limit program codes coroutine arguments tape way frames →

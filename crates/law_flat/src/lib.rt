@@ -1,5 +1,6 @@
-//! Flat code: a coroutine's body as operations in order, what a place in it has left to do, and how it moves. The laws
-//! say that flat code does what the body does, input by input, and that it comes to an end.
+//! Flat code: a coroutine's body as operations in order, what a place in it has left to do, and how
+//! it moves. The laws say that flat code does what the body does, input by input, and that it comes
+//! to an end.
 #![tactic(auto)]
 
 mod answer_use;

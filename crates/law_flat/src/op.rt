@@ -1,10 +1,10 @@
 use model_tree::RequestName;
 
-/// An operation of flat code. `N` is the type of names, `E` that of expressions and `L` that of lists of expressions:
-/// plain data in definitions, and types that own their content in code.
+/// An operation of flat code. `N` is the type of names, `E` that of expressions and `L` that of
+/// lists of expressions: plain data in definitions, and types that own their content in code.
 ///
-/// Places are those of operations in the same body, ranges those of its table, and coroutines those of the script, each
-/// from 0.
+/// Places are those of operations in the same body, ranges those of its table, and coroutines those
+/// of the script, each from 0.
 #[derive(Drop)]
 pub enum Op<N, E, L> {
     /// `NAME = EXPR`.

@@ -16,7 +16,7 @@ use Rattle.model_loop.specs.Tasks.{lives, future_of}
 use Rattle.model_loop.specs.Ledger.{ByAbort}
 use Rattle.model_loop.specs.Groups.{new_group, group_of, set_group, failure_in, failure_of, without_child, wake_if_last, wake_exit, abort, request_parent}
 use Rattle.model_loop.specs.Groups.{abort_and_request_unless, blame, child_done}
-use Rattle.model_loop.specs.Children.{failures, tells, IsTold, IsKeptGroup, HasErrors, body_at_end, told_more}
+use Rattle.model_loop.specs.Children.{failures, tells, IsTold, IsKeptGroup, HasErrors, HasPlainExit, body_at_end, told_more}
 use Rattle.model_loop.specs.Numbered.{occurrences}
 use Rattle.model_loop.specs.Totals.{pending_where, registered_at}
 use Rattle.model_loop.specs.Owning.{own_future}
@@ -30,15 +30,15 @@ use Rattle.law_steps.proofs.Taking.{taken_sound}
 use Rattle.law_settling.proofs.CancelSound.{plain_no_task}
 
 -- ---- a group whose flags change
-pub flags_told : (p : Parts) (id : ℕ) (told : List ℕ) (it new : Group) → new.children ≡ it.children → new.made ≡ it.made → new.entered ≡ it.entered
-    → new.ended ≡ it.ended → new.parent ≡ it.parent → IsTold p id told it → IsTold p id told new
-flags_told p id told it new c m e d r is = record {
+told_again : (p : Parts) (id : ℕ) (told : List ℕ) (it new : Group) → new.children ≡ it.children → new.made ≡ it.made
+    → (new.entered ≡ true → new.ended ≡ false → lives p new.parent ≡ true) → IsTold p id told it → IsTold p id told new
+told_again p id told it new c m parent_lives is = record {
   tellings = λ task. is.tellings task ∙ ap (occurrences task) (sym c);
   at_home = is.at_home;
   not_yet = is.not_yet;
   told_done = is.told_done;
   made_below = λ task h. is.made_below task (subst (λ l. 1 ≤ occurrences task l) m h);
-  parent_lives = λ x y. ap (lives p) r ∙ is.parent_lives (sym e ∙ x) (sym d ∙ y);
+  parent_lives = parent_lives;
 }
 
 -- a group that has a child is there
@@ -274,22 +274,31 @@ wake_failure id task l done = at (group_of l id).children (group_of l id).exit_f
     at (child ∷ children) exit = refl
 
 -- ---- the failure
--- a flag of a group that isn't seen by the facts
-pub flag_fits : (p : Parts) (id : ℕ) (told heard : List ℕ) (it new : Group) → new.children ≡ it.children → new.made ≡ it.made → new.entered ≡ it.entered
-    → new.ended ≡ it.ended → new.parent ≡ it.parent → new.exiting ≡ it.exiting → new.exit_future ≡ it.exit_future → HasErrors p heard new
+-- its children stay, and what was made in it
+pub fits_again : (p : Parts) (id : ℕ) (told heard : List ℕ) (it new : Group) → new.children ≡ it.children → new.made ≡ it.made
+    → (new.entered ≡ true → new.ended ≡ false → lives p new.parent ≡ true) → HasErrors p heard new
+    → (new.ended ≡ true → new.children ≡ []) → (new.ended ≡ true → new.exiting ≡ true) → HasPlainExit p new
     → Fits p id told heard it → Fits p id told heard new
-flag_fits p id told heard it new c m e d r x f errors fits = record {
-  tellings = flags_told p id told it new c m e d r fits.tellings;
+fits_again p id told heard it new c m parent_lives errors none_left ended_exiting exits fits = record {
+  tellings = told_again p id told it new c m parent_lives fits.tellings;
   heards = λ task h. let y = fits.heards task h in (y.0, subst (λ l. 1 ≤ occurrences task l) (sym m) y.1);
   errors = errors;
   kept = record {
     made_once = λ task. subst (λ l. occurrences task l ≤ 1) (sym m) (fits.kept.made_once task);
     child_or_told = λ task. ap (λ l. occurrences task l + occurrences task told) c ∙ fits.kept.child_or_told task ∙ ap (occurrences task) (sym m);
-    none_left = λ h. c ∙ fits.kept.none_left (sym d ∙ h);
-    ended_exiting = λ h. x ∙ fits.kept.ended_exiting (sym d ∙ h);
+    none_left = none_left;
+    ended_exiting = ended_exiting;
   };
-  exits = λ future h. fits.exits future (sym f ∙ h);
+  exits = exits;
 }
+
+-- a flag of a group that isn't seen by the facts
+pub flag_fits : (p : Parts) (id : ℕ) (told heard : List ℕ) (it new : Group) → new.children ≡ it.children → new.made ≡ it.made → new.entered ≡ it.entered
+    → new.ended ≡ it.ended → new.parent ≡ it.parent → new.exiting ≡ it.exiting → new.exit_future ≡ it.exit_future → HasErrors p heard new
+    → Fits p id told heard it → Fits p id told heard new
+flag_fits p id told heard it new c m e d r x f errors fits =
+    fits_again p id told heard it new c m (λ a b. ap (lives p) r ∙ fits.tellings.parent_lives (sym e ∙ a) (sym d ∙ b)) errors
+    (λ h. c ∙ fits.kept.none_left (sym d ∙ h)) (λ h. x ∙ fits.kept.ended_exiting (sym d ∙ h)) (λ future h. fits.exits future (sym f ∙ h)) fits
 
 -- a flag is set, and requests follow
 flag_sound : (told heard : ℕ → List ℕ) (id : ℕ) (new : Group) (l : Loop) → id < length l.groups → Fits l.parts id (told id) (heard id) new
@@ -395,8 +404,8 @@ module _ (told : ℕ → List ℕ) (id task : ℕ) (l : Loop) (within : id < len
       base =
           let o = old_fits h in
           heard_sound (record (group_of l id) { errors = (group_of l id).errors ++ fault ∷ [] }) (record {
-            tellings = flags_told l.parts id (told id ++ task ∷ []) (group_of l id)
-                (record (group_of l id) { errors = (group_of l id).errors ++ fault ∷ [] }) refl refl refl refl refl o.tellings;
+            tellings = told_again l.parts id (told id ++ task ∷ []) (group_of l id)
+                (record (group_of l id) { errors = (group_of l id).errors ++ fault ∷ [] }) refl refl o.tellings.parent_lives o.tellings;
             heards = more_heard l.parts (group_of l id) o.tellings o.heards (made_it h);
             errors = errors;
             kept = record {

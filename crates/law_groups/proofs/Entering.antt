@@ -9,6 +9,7 @@ use Rattle.std.proofs.lemmas.List.{get_or_past}
 use Rattle.std.proofs.lemmas.Option.{none-some}
 use Rattle.law_told.specs.Holds.{Holds}
 use Rattle.model_loop.specs.Loop.{Group, Loop}
+use Rattle.law_groups.proofs.ChildDone.{fits_again}
 use Rattle.law_groups.proofs.Exits.{AllOrderly, orderly_set}
 use Rattle.std.proofs.lemmas.Bool.{false≢true}
 
@@ -29,25 +30,9 @@ pushed_at (y ∷ ys) x d (suc j) = go (pushed_at ys x d j)
 -- a new group is as one that isn't there, but for its parent
 new_fits : (parent : ℕ) (p : Parts) (id : ℕ) (told heard : List ℕ) → Fits p id told heard (new_group 0)
     → Fits p id told heard (new_group parent)
-new_fits parent p id told heard f = record {
-  tellings = record {
-    tellings = f.tellings.tellings;
-    at_home = f.tellings.at_home;
-    not_yet = f.tellings.not_yet;
-    told_done = f.tellings.told_done;
-    made_below = f.tellings.made_below;
-    parent_lives = λ e n. absurd (false≢true e);
-  };
-  heards = f.heards;
-  errors = f.errors;
-  kept = record {
-    made_once = f.kept.made_once;
-    child_or_told = f.kept.child_or_told;
-    none_left = λ e. refl;
-    ended_exiting = λ e. absurd (false≢true e);
-  };
-  exits = λ future e. absurd (none-some future e);
-}
+new_fits parent p id told heard f =
+    fits_again p id told heard (new_group 0) (new_group parent) refl refl (λ e n. absurd (false≢true e)) f.errors (λ e. refl)
+    (λ e. absurd (false≢true e)) (λ future e. absurd (none-some future e)) f
 
 new_orderly : (parent : ℕ) → IsOrderly (new_group parent)
 new_orderly parent = record {
@@ -92,28 +77,10 @@ module _ (id : ℕ) (l : Loop) (within : id < length l.groups) where
       → Holds running excused told told (group_of l) l.parts
       → Holds running excused told told (group_of (enter_group id l)) l.parts
   entered_holds running excused told living h =
-      set_holds running excused told told told told id new l within (λ j n. refl) (λ j n. refl) (record {
-        tellings = record {
-          tellings = f.tellings.tellings;
-          at_home = f.tellings.at_home;
-          not_yet = f.tellings.not_yet;
-          told_done = f.tellings.told_done;
-          made_below = f.tellings.made_below;
-          parent_lives = λ e n. living;
-        };
-        heards = f.heards;
-        errors = f.errors;
-        kept = record {
-          made_once = f.kept.made_once;
-          child_or_told = f.kept.child_or_told;
-          none_left = f.kept.none_left;
-          ended_exiting = f.kept.ended_exiting;
-        };
-        exits = f.exits;
-      }) h
-    where
-      f : Fits l.parts id (told id) (told id) (group_of l id)
-      f = fits_at running excused told told (group_of l) l.parts h id
+      let f = fits_at running excused told told (group_of l) l.parts h id in
+      set_holds running excused told told told told id new l within (λ j n. refl) (λ j n. refl)
+      (fits_again l.parts id (told id) (told id) (group_of l id) new refl refl (λ e n. living) f.errors
+      f.kept.none_left f.kept.ended_exiting f.exits f) h
 
   pub entered_orderly : AllOrderly l → AllOrderly (enter_group id l)
   entered_orderly all = orderly_set id new l within (record {

@@ -1,7 +1,7 @@
 -- The exit of a group begins: the whole stays sound.
 use Rattle.std.proofs.Common.{◌≡◌, ℕ, Bool, List, None, Option, Some, [], ap, cond, false, inl, inr, is_some, length, not, refl, subst, sym, true, ◌&&◌, ◌++◌}
 use Rattle.std.proofs.Common.{◌<◌, ◌==◌, ◌∙◌, ◌∷◌, ◌⊎◌}
-use Rattle.law_groups.proofs.ChildDone.{flag_fits, flags_told}
+use Rattle.law_groups.proofs.ChildDone.{fits_again, flag_fits}
 use Rattle.model_loop.specs.Groups.{abort_if_raised, abort_where, begin_exit, body_failure, exit_begin, group_of, only_cancelled, set_group, take_back}
 use Rattle.model_loop.specs.Groups.{take_back_where}
 use Rattle.law_groups.proofs.Exits.{AllOrderly, OthersOrderly, abort_open, wait_or_end_well, IsOpen, IsWell, open_orderly}
@@ -81,17 +81,12 @@ module _ (running excused : Option ℕ) (covers : Covers running excused) (told 
           go (inl x) = absurd (false≢true (sym outside ∙ f.kept.ended_exiting x))
           go (inr x) = x
 
-      fits : Fits l.parts id (told id) (told id) (record (group_of l id) { exiting = true; body = raised; kept = only_cancelled raised })
-      fits = record {
-        tellings = flags_told l.parts id (told id) (group_of l id)
-            (record (group_of l id) { exiting = true; body = raised; kept = only_cancelled raised }) refl refl refl refl refl f.tellings;
-        heards = f.heards;
-        errors =
-            f.errors ∙ ap (λ b. failures l.parts (told id) ++ body_at_end b (group_of l id).body) open_
-            ∙ sym (ap (λ b. failures l.parts (told id) ++ body_at_end b raised) open_);
-        kept = record { made_once = f.kept.made_once; child_or_told = f.kept.child_or_told; none_left = f.kept.none_left; ended_exiting = λ e. refl };
-        exits = f.exits;
-      }
+      fits : Fits l.parts id (told id) (told id) new
+      fits =
+          fits_again l.parts id (told id) (told id) (group_of l id) new refl refl f.tellings.parent_lives
+          (f.errors ∙ ap (λ b. failures l.parts (told id) ++ body_at_end b (group_of l id).body) open_
+          ∙ sym (ap (λ b. failures l.parts (told id) ++ body_at_end b raised) open_))
+          f.kept.none_left (λ e. refl) f.exits f
 
   -- ---- its own request is taken back
   taken_begun : (raised : Option Exc) (l : Loop) → IsBegun raised l

@@ -15,22 +15,15 @@ use Rattle.model_loop.specs.Groups.{group_of, set_group, abort, body_failure, en
 use Rattle.model_loop.specs.Groups.{hear, exit_woken}
 use Rattle.law_settling.specs.Frames.{Covers}
 use Rattle.law_told.specs.Holds.{Holds}
-use Rattle.model_loop.specs.Children.{IsOrderly, body_at_end, failures}
+use Rattle.model_loop.specs.Children.{HasPlainExit, IsOrderly, body_at_end, failures}
 use Rattle.law_told.proofs.Holding.{request_each_holds, group_same, group_other, Fits, fits_at, set_holds}
-use Rattle.law_groups.proofs.ChildDone.{flag_fits}
+use Rattle.law_groups.proofs.ChildDone.{fits_again, flag_fits}
 use Rattle.law_made.proofs.Making.{made_new}
 use Rattle.model_loop.specs.Owning.{is_plain, is_plain_at}
 use Rattle.law_told.proofs.MakingHolds.{make_holds}
 
 abbrev pub AllOrderly : Loop → Type 0
 AllOrderly l = (id : ℕ) → IsOrderly (group_of l id)
-
-pub orderly_set : (id : ℕ) (new : Group) (l : Loop) → id < length l.groups → IsOrderly new → AllOrderly l → AllOrderly (set_group id new l)
-orderly_set id new l within is all j = go (cases_eq id j)
-  where
-    go : (id ≡ j) ⊎ (id ≡ j → ⊥) → IsOrderly (group_of (set_group id new l) j)
-    go (inl same) = subst (λ i. IsOrderly (group_of (set_group id new l) i)) same (subst IsOrderly (sym (group_same id new l within)) is)
-    go (inr n) = subst IsOrderly (sym (group_other id j new l n)) (all j)
 
 -- the flags of a group whose exit has begun
 pub open_orderly : (it : Group) → it.exiting ≡ true → it.entered ≡ true
@@ -58,6 +51,9 @@ orderly_set_others id new l within is others j = go (cases_eq id j)
     go (inl same) =
         subst (λ i. IsOrderly (group_of (set_group id new l) i)) same (subst IsOrderly (sym (group_same id new l within)) is)
     go (inr n) = subst IsOrderly (sym (group_other id j new l n)) (others j n)
+
+pub orderly_set : (id : ℕ) (new : Group) (l : Loop) → id < length l.groups → IsOrderly new → AllOrderly l → AllOrderly (set_group id new l)
+orderly_set id new l within is all = orderly_set_others id new l within is (λ j n. all j)
 
 module _ (running excused : Option ℕ) (covers : Covers running excused) (told : ℕ → List ℕ) (id : ℕ) where
   abbrev pub SoundAt : Loop → Type 0
@@ -89,25 +85,18 @@ module _ (running excused : Option ℕ) (covers : Covers running excused) (told 
   ends : (errors : List Exc) (l : Loop) → IsOpen l → (group_of l id).children ≡ [] → errors ≡ (group_of l id).errors ++ body_failure (group_of l id).body
       → IsWell (set_group id (record (group_of l id) { ended = true; errors = errors }) l)
   ends errors l o none all = record {
-    sound = set_at (record (group_of l id) { ended = true; errors = errors }) l o.within (record {
-      tellings = record {
-        tellings = f.tellings.tellings;
-        at_home = f.tellings.at_home;
-        not_yet = f.tellings.not_yet;
-        told_done = f.tellings.told_done;
-        made_below = f.tellings.made_below;
-        parent_lives = λ e n. absurd (false≢true (sym n));
-      };
-      heards = f.heards;
-      errors = all ∙ ap (λ x. x ++ body_failure (group_of l id).body)
-          (f.errors ∙ ap (λ b. failures l.parts (told id) ++ body_at_end b (group_of l id).body) o.not_ended ∙ append-nil (failures l.parts (told id)));
-      kept = record { made_once = f.kept.made_once; child_or_told = f.kept.child_or_told; none_left = λ e. none; ended_exiting = λ e. o.exiting };
-      exits = f.exits;
-    }) o.sound;
-    orderly = orderly_set id (record (group_of l id) { ended = true; errors = errors }) l o.within
+    sound = set_at new l o.within
+        (fits_again l.parts id (told id) (told id) (group_of l id) new refl refl (λ e n. absurd (false≢true (sym n)))
+        (all ∙ ap (λ x. x ++ body_failure (group_of l id).body)
+        (f.errors ∙ ap (λ b. failures l.parts (told id) ++ body_at_end b (group_of l id).body) o.not_ended ∙ append-nil (failures l.parts (told id))))
+        (λ e. none) (λ e. o.exiting) f.exits f) o.sound;
+    orderly = orderly_set id new l o.within
         (open_orderly _ o.exiting (entered l o) (o.orderly id).kept_clean (o.orderly id).body_aborts (λ e. o.idle)) o.orderly;
   }
     where
+      new : Group
+      new = record (group_of l id) { ended = true; errors = errors }
+
       f : Fits l.parts id (told id) (told id) (group_of l id)
       f = here l o.sound
 
@@ -121,38 +110,25 @@ module _ (running excused : Option ℕ) (covers : Covers running excused) (told 
       (sym (ap (λ x. (group_of l id).errors ++ x) ((o.orderly id).kept_clean fault k) ∙ append-nil (group_of l id).errors))
 
   -- ---- the exit waits
+  waits_at : (future : Option ℕ) (l : Loop) → id < length l.groups → HasPlainExit l.parts (record (group_of l id) { exit_future = future })
+      → SoundAt l → SoundAt (set_group id (record (group_of l id) { exit_future = future }) l)
+  waits_at future l within exits h =
+      let new = record (group_of l id) { exit_future = future } in
+      let f = here l h in
+      set_at new l within
+      (fits_again l.parts id (told id) (told id) (group_of l id) new refl refl f.tellings.parent_lives f.errors
+      f.kept.none_left f.kept.ended_exiting exits f) h
+
   wait_well : (l : Loop) → IsOpen l → IsWell (wait_for_children id l).loop
   wait_well l o = record {
-    sound = set_at (record (group_of l id) { exit_future = Some (next_future l.parts) }) (in_parts new_plain l) o.within (record {
-      tellings = record {
-        tellings = f.tellings.tellings;
-        at_home = f.tellings.at_home;
-        not_yet = f.tellings.not_yet;
-        told_done = f.tellings.told_done;
-        made_below = f.tellings.made_below;
-        parent_lives = f.tellings.parent_lives;
-      };
-      heards = f.heards;
-      errors = f.errors;
-      kept = record {
-        made_once = f.kept.made_once;
-        child_or_told = f.kept.child_or_told;
-        none_left = f.kept.none_left;
-        ended_exiting = f.kept.ended_exiting;
-      };
-      exits = λ future e. subst (λ f. is_plain (new_plain l.parts) f ≡ true) (same_Some (next_future l.parts) future e)
-          (ap is_plain_at (made_new Plain refl running excused l.parts o.sound.parts));
-    }) made;
+    sound = waits_at (Some (next_future l.parts)) (in_parts new_plain l) o.within
+        (λ future e. subst (λ f. is_plain (new_plain l.parts) f ≡ true) (same_Some (next_future l.parts) future e)
+        (ap is_plain_at (made_new Plain refl running excused l.parts o.sound.parts)))
+        (make_holds Plain refl running excused l.parts o.sound.parts told told (group_of l) o.sound);
     orderly = orderly_set id (record (group_of l id) { exit_future = Some (next_future l.parts) }) (in_parts new_plain l) o.within
         (open_orderly _ o.exiting (entered l o) (o.orderly id).kept_clean (o.orderly id).body_aborts
         (λ e. absurd (false≢true (sym o.not_ended ∙ e)))) o.orderly;
   }
-    where
-      made : SoundAt (in_parts new_plain l)
-      made = make_holds Plain refl running excused l.parts o.sound.parts told told (group_of l) o.sound
-
-      f : Fits (new_plain l.parts) id (told id) (told id) (group_of l id)
-      f = here (in_parts new_plain l) (make_holds Plain refl running excused l.parts o.sound.parts told told (group_of l) o.sound)
 
   pub wait_or_end_well : (l : Loop) → IsOpen l → IsWell (wait_or_end id l).loop
   wait_or_end_well l o = at (group_of l id).children refl
@@ -212,27 +188,8 @@ module _ (running excused : Option ℕ) (covers : Covers running excused) (told 
       open_ =
           let new = record (group_of l id) { exit_future = None } in
           let g : group_of (set_group id new l) id ≡ new = group_same id new l within in
-          let f = here l h in
           record {
-            sound = set_at new l within (record {
-              tellings = record {
-                tellings = f.tellings.tellings;
-                at_home = f.tellings.at_home;
-                not_yet = f.tellings.not_yet;
-                told_done = f.tellings.told_done;
-                made_below = f.tellings.made_below;
-                parent_lives = f.tellings.parent_lives;
-              };
-              heards = f.heards;
-              errors = f.errors;
-              kept = record {
-                made_once = f.kept.made_once;
-                child_or_told = f.kept.child_or_told;
-                none_left = f.kept.none_left;
-                ended_exiting = f.kept.ended_exiting;
-              };
-              exits = λ future e. absurd (none-some future e);
-            }) h;
+            sound = waits_at None l within (λ future e. absurd (none-some future e)) h;
             orderly = orderly_set id new l within
                 (open_orderly new exiting ((all id).exiting_entered exiting) (all id).kept_clean (all id).body_aborts (λ e. refl)) all;
             within = subst (λ (n : ℕ). id < n) (sym (length-set l.groups id new)) within;

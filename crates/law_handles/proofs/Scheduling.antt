@@ -107,36 +107,31 @@ module _ (t : Ties) (v : View) (p : Parts) (k : Keeps t v p) (when : ℕ) (actio
   )
 
 -- ---- a timer is cancelled
-cancelled_none : (tag : ℕ) (handles : List plain.Handle) → occurrences tag (map tag_of handles) ≡ 0 → map (cancelled_if tag) handles ≡ handles
-cancelled_none tag [] none = refl
-cancelled_none tag (h ∷ handles) none =
-    let c = occurrences-cons tag h.tag (map tag_of handles) in
-    let more = cancelled_none tag handles (omega (arith, none, c)) in
-    go (cases_eq h.tag tag) c more
+-- what changes those of a tag alone leaves a list without it as it is
+others_stay : {A : Type 0} (number : A → ℕ) (tag : ℕ) (change : List A → List A) → change [] ≡ []
+    → ((x : A) (xs : List A) → (number x ≡ tag → ⊥) → change (x ∷ xs) ≡ x ∷ change xs)
+    → (xs : List A) → occurrences tag (map number xs) ≡ 0 → change xs ≡ xs
+others_stay number tag change ends passes [] none = ends
+others_stay {A} number tag change ends passes (x ∷ xs) none = go (cases_eq (number x) tag) (others_stay number tag change ends passes xs)
   where
-    go : (h.tag ≡ tag) ⊎ (h.tag ≡ tag → ⊥)
-        → occurrences tag (h.tag ∷ map tag_of handles) ≡ cond (nat_eq tag h.tag) 1 0 + occurrences tag (map tag_of handles)
-        → map (cancelled_if tag) handles ≡ handles → map (cancelled_if tag) (h ∷ handles) ≡ h ∷ handles
-    go (inl e) c more =
-        let one : ◌≡◌ {A = ℕ} (cond (nat_eq tag h.tag) 1 0) 1 = rw (eq-eqb tag h.tag (sym e)) refl in absurd (omega (arith, none, c, one))
-    go (inr n) c more = rw (ne_eqb h.tag tag n, more) refl
+    c : occurrences tag (number x ∷ map number xs) ≡ cond (nat_eq tag (number x)) 1 0 + occurrences tag (map number xs)
+    c = occurrences-cons tag (number x) (map number xs)
+
+    go : (number x ≡ tag) ⊎ (number x ≡ tag → ⊥) → (occurrences tag (map number xs) ≡ 0 → change xs ≡ xs) → change (x ∷ xs) ≡ x ∷ xs
+    go (inl e) more =
+        let one : ◌≡◌ {A = ℕ} (cond (nat_eq tag (number x)) 1 0) 1 = rw (eq-eqb tag (number x) (sym e)) refl in
+        absurd (omega (arith, none, c, one))
+    go (inr n) more = passes x xs n ∙ ap (λ (ys : List A). x ∷ ys) (more (omega (arith, none, c)))
+
+cancelled_none : (tag : ℕ) (handles : List plain.Handle) → occurrences tag (map tag_of handles) ≡ 0 → map (cancelled_if tag) handles ≡ handles
+cancelled_none tag = others_stay tag_of tag (map (cancelled_if tag)) refl (λ h hs n. rw (ne_eqb h.tag tag n) refl)
 
 abbrev Counted : ℕ → Timer → List Timer → Type 0
 Counted tag x timers = occurrences tag (x.tag ∷ map timer_tag timers) ≡ cond (nat_eq tag x.tag) 1 0 + occurrences tag (map timer_tag timers)
 
 filter_none : (tag : ℕ) (timers : List Timer) → occurrences tag (map timer_tag timers) ≡ 0
     → filter (λ (x : Timer). not (x.tag == tag)) timers ≡ timers
-filter_none tag [] none = refl
-filter_none tag (x ∷ timers) none =
-    let c = occurrences-cons tag x.tag (map timer_tag timers) in
-    let more = filter_none tag timers (omega (arith, none, c)) in
-    go (cases_eq x.tag tag) c more
-  where
-    go : (x.tag ≡ tag) ⊎ (x.tag ≡ tag → ⊥) → Counted tag x timers
-        → filter (λ (x : Timer). not (x.tag == tag)) timers ≡ timers → filter (λ (x : Timer). not (x.tag == tag)) (x ∷ timers) ≡ x ∷ timers
-    go (inl e) c more =
-        let one : ◌≡◌ {A = ℕ} (cond (nat_eq tag x.tag) 1 0) 1 = rw (eq-eqb tag x.tag (sym e)) refl in absurd (omega (arith, none, c, one))
-    go (inr n) c more = rw (ne_eqb x.tag tag n, more) refl
+filter_none tag = others_stay timer_tag tag (filter (λ (x : Timer). not (x.tag == tag))) refl (λ x xs n. rw (ne_eqb x.tag tag n) refl)
 
 -- a timer of these has this id exactly where it has this tag
 module _ (t : Ties) (v : View) (p : Parts) (k : Keeps t v p) (tag : ℕ) (id : TimerId) (knows : Knows t p tag (ByTimer id)) where

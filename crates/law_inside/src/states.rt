@@ -11,7 +11,8 @@ ghost use Rattle.law_turns.specs.SoundState.{HasSoundLoop};
 ghost use Rattle.law_after.specs.After.{IsLoopAfter};
 ghost use Rattle.law_inside.specs.InStep.{SameTapes};
 
-/// A step of the loop that no coroutine hears, and that enters and leaves no block, keeps a sound state sound.
+/// A step of the loop that no coroutine hears, and that enters and leaves no block, keeps a sound
+/// state sound.
 pub fn what_resumes_nobody_keeps_it_sound<S>()
     ensures { (added : Extra S) (s : State S) → IsStateSound added s
         → (t : State S) → SameTapes s t → t.futures ≡ s.futures

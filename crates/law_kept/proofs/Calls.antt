@@ -37,33 +37,29 @@ use Rattle.law_kept.proofs.Becoming.{parts_kept, kept_becomes, keeps_becomes}
 pub new_stays : (t : Ties) (v : View) (p : Parts) → Keeps t v p → t.gone (next_future p) ≡ false
 new_stays t v p k = false_from_ne_true (t.gone (next_future p)) (λ g. let h = k.made (next_future p) g in omega arith)
 
--- an operation that appends alone, and commutes with placing and with forgetting
+-- an operation that commutes with placing and with forgetting
+becomes_by : (t : Ties) (v w : View) (p : Parts) → Keeps t v p → (call : Parts → Parts) → ((x : Parts) → call (placed x) ≡ placed (call x))
+    → call (forgotten t.gone p) ≡ forgotten t.gone (call p) → Becomes v w (call (parts v)) → Becomes v w (placed (forgotten t.gone (call p)))
+becomes_by t v w p k call place forget became = record {
+  parts = became.parts ∙ ap call (parts_kept t v p k) ∙ place (forgotten t.gone p) ∙ ap placed forget;
+  queue = became.queue;
+  time = became.time;
+  schedule = became.schedule;
+}
+
+-- such a one that appends alone
 kept_by : (t : Ties) (v w : View) (p : Parts) → Keeps t v p → (call : Parts → Parts) → OnlyAppends p (call p) → IsNumbered (call p)
     → ((x : Parts) → call (placed x) ≡ placed (call x)) → call (forgotten t.gone p) ≡ forgotten t.gone (call p)
     → Becomes v w (call (parts v)) → Kept t p w (call p)
 kept_by t v w p k call only numbered place forget became =
-    kept_becomes t v w p (call p) k only
-    (record {
-      parts = became.parts ∙ ap call (parts_kept t v p k) ∙ place (forgotten t.gone p) ∙ ap placed forget;
-      queue = became.queue;
-      time = became.time;
-      schedule = became.schedule;
-    })
-    numbered
+    kept_becomes t v w p (call p) k only (becomes_by t v w p k call place forget became) numbered
 
--- the same of one that appends nothing
+-- and one that appends nothing
 keeps_by : (t : Ties) (v w : View) (p : Parts) → Keeps t v p → (call : Parts → Parts) → OnlyChanges p (call p) → IsNumbered (call p)
     → ((x : Parts) → call (placed x) ≡ placed (call x)) → call (forgotten t.gone p) ≡ forgotten t.gone (call p)
     → Becomes v w (call (parts v)) → Keeps t w (call p)
 keeps_by t v w p k call only numbered place forget became =
-    keeps_becomes t v w p (call p) k only
-    (record {
-      parts = became.parts ∙ ap call (parts_kept t v p k) ∙ place (forgotten t.gone p) ∙ ap placed forget;
-      queue = became.queue;
-      time = became.time;
-      schedule = became.schedule;
-    })
-    numbered
+    keeps_becomes t v w p (call p) k only (becomes_by t v w p k call place forget became) numbered
 
 module _ (t : Ties) (v w : View) (p : Parts) (k : Keeps t v p) where
   pub keeps_uncancel : (task : ℕ) → Becomes v w (uncancel task (parts v)) → Keeps t w (uncancel task p)

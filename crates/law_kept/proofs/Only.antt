@@ -1,7 +1,7 @@
 -- What happens to the machine's futures and tasks appends handles, and changes nothing else: the time and the timers stay, and
 -- stamps and tags are given one after the other.
 use Rattle.std.proofs.Common.{◌≡◌, ℕ, ◌+◌, ◌<◌, ◌≤◌, ◌⊎◌, Bool, true, false, List, [], ◌∷◌, ◌++◌, Option, Some, None, Result, Ok, Err, length, slice_get}
-use Rattle.std.proofs.Common.{slice_set, refl, ap, sym, ◌∙◌, inl, inr, arith, length-append, if◌then◌else◌}
+use Rattle.std.proofs.Common.{slice_set, refl, ap, sym, subst, ◌∙◌, inl, inr, arith, length-append, if◌then◌else◌}
 use Rattle.std.proofs.Math.ListN.{length-set}
 use Rattle.std.specs.Option.{option_map_or}
 use Rattle.std.proofs.lemmas.Bool.{cases_eq}
@@ -76,15 +76,18 @@ changes_same p = record {
 only_same : (p : Parts) → OnlyAppends p p
 only_same p = appends (changes_same p)
 
+-- one after the other
+stays_on : (before between after : List Future) → length before ≤ length between → StaysDone before between → StaysDone between after
+    → StaysDone before after
+stays_on before between after more first then_ = λ id h e. then_ id (omega (arith, more, h)) (first id h e)
+
 changes_on : (p q r : Parts) → OnlyChanges p q → OnlyChanges q r → OnlyChanges p r
 changes_on p q r a b = record {
   futures = b.futures;
   tasks = b.tasks;
   is = b.is ∙ ap (λ (x : Parts). record x { futures = b.futures; tasks = b.tasks }) a.is;
   more = let x = a.more in let y = b.more in let z = ap length here in omega arith;
-  done = λ id h e.
-      let x = a.more in
-      b.done id (let z = ap length here in omega arith) (ap (λ fs. stage (slice_get fs id)) here ∙ a.done id h e);
+  done = stays_on p.futures a.futures b.futures a.more a.done (subst (λ fs. StaysDone fs b.futures) here b.done);
 }
   where
     here : q.futures ≡ a.futures
@@ -101,9 +104,7 @@ only_on p q r a b = record {
       ∙ ap (λ (x : Parts). record x { futures = b.futures; tasks = b.tasks }) (soon_all-beside b.actions (soon_all a.actions p) a.futures a.tasks)
       ∙ ap (λ (x : Parts). record x { futures = b.futures; tasks = b.tasks }) (sym (soon_all-append a.actions b.actions p));
   more = let x = a.more in let y = b.more in let z = ap length here in omega arith;
-  done = λ id h e.
-      let x = a.more in
-      b.done id (let z = ap length here in omega arith) (ap (λ fs. stage (slice_get fs id)) here ∙ a.done id h e);
+  done = stays_on p.futures a.futures b.futures a.more a.done (subst (λ fs. StaysDone fs b.futures) here b.done);
 }
   where
     here : q.futures ≡ a.futures

@@ -1,18 +1,12 @@
 -- The ledger of a group through its steps.
-use Rattle.std.proofs.Common.{◌≡◌, ℕ, ◌+◌, Bool, true, false, cond, ◌||◌, List, [], ◌∷◌, ◌++◌, nat_eq, refl, ap, ◌∙◌, arith}
+use Rattle.std.proofs.Common.{◌≡◌, ℕ, Bool, true, false, cond, ◌||◌, List, [], ◌∷◌, ◌++◌, nat_eq, refl, ap, ◌∙◌, arith}
 use Rattle.std.proofs.lemmas.Bool.{false≢true, eq-eqb}
-use Rattle.std.proofs.lemmas.List.Sums.{sum_by-cons, sum_by-append}
 use Rattle.std.specs.List.{count_by, list_any}
 use Rattle.model_loop.specs.Ledger.{LedgerEntry, Asked, Took, Began, ByGroup}
 use Rattle.model_loop.specs.Balance.{is_by_group, takes, asked_before_exit, GroupBalances, asks, begins}
 use Rattle.model_loop.specs.Ways.{one_if}
 use Rattle.law_ledger.specs.Telling.{taken_back}
-
-count-append : (f : LedgerEntry → Bool) (xs ys : List LedgerEntry) → count_by f (xs ++ ys) ≡ count_by f xs + count_by f ys
-count-append f xs ys = sum_by-append (λ e. cond (f e) 1 0) xs ys
-
-count-cons : (f : LedgerEntry → Bool) (x : LedgerEntry) (xs : List LedgerEntry) → count_by f (x ∷ xs) ≡ cond (f x) 1 0 + count_by f xs
-count-cons f x xs = sum_by-cons (λ e. cond (f e) 1 0) x xs
+use Rattle.law_ledger.proofs.Counting.{count-append, count-cons, count-no, count-yes}
 
 -- none is in the list
 none_any : (f : LedgerEntry → Bool) (xs : List LedgerEntry) → count_by f xs ≡ 0 → list_any f xs ≡ false
@@ -20,8 +14,8 @@ none_any f [] h = refl
 none_any f (x ∷ xs) h = go (f x) refl (none_any f xs)
   where
     go : (b : Bool) → f x ≡ b → (count_by f xs ≡ 0 → list_any f xs ≡ false) → list_any f (x ∷ xs) ≡ false
-    go true e ih = let c : count_by f (x ∷ xs) ≡ 1 + count_by f xs = count-cons f x xs ∙ rw e refl in absurd (omega (arith, c, h))
-    go false e ih = let c : count_by f (x ∷ xs) ≡ 0 + count_by f xs = count-cons f x xs ∙ rw e refl in rw e (ih (omega (arith, c, h)))
+    go true e ih = let c = count-yes f x xs e in absurd (omega (arith, c, h))
+    go false e ih = let c = count-no f x xs e in rw e (ih (omega (arith, c, h)))
 
 any-append : (f : LedgerEntry → Bool) (xs ys : List LedgerEntry) → list_any f ys ≡ false → list_any f (xs ++ ys) ≡ list_any f xs
 any-append f [] ys h = h
@@ -33,7 +27,7 @@ some_any f (x ∷ xs) h = go (f x) refl (some_any f xs)
   where
     go : (b : Bool) → f x ≡ b → (count_by f xs ≡ 1 → list_any f xs ≡ true) → (b || list_any f xs) ≡ true
     go true e ih = refl
-    go false e ih = let c : count_by f (x ∷ xs) ≡ 0 + count_by f xs = count-cons f x xs ∙ rw e refl in ih (omega (arith, c, h))
+    go false e ih = let c = count-no f x xs e in ih (omega (arith, c, h))
 
 abbrev my_ask : ℕ → LedgerEntry → Bool
 my_ask id = asks (is_by_group id)
@@ -45,11 +39,9 @@ still_before id (x ∷ xs) h = go (my_ask id x) (begins id x) refl (still_before
   where
     go : (a b : Bool) → my_ask id x ≡ a → (count_by (my_ask id) xs ≡ 0 → asked_before_exit id xs ≡ false)
         → cond a (list_any (begins id) xs) (cond b false (asked_before_exit id xs)) ≡ false
-    go true b e ih = let c : count_by (my_ask id) (x ∷ xs) ≡ 1 + count_by (my_ask id) xs = count-cons (my_ask id) x xs
-        ∙ rw e refl in absurd (omega (arith, c, h))
+    go true b e ih = let c = count-yes (my_ask id) x xs e in absurd (omega (arith, c, h))
     go false true e ih = refl
-    go false false e ih = let c : count_by (my_ask id) (x ∷ xs) ≡ 0 + count_by (my_ask id) xs = count-cons (my_ask id) x xs
-        ∙ rw e refl in ih (omega (arith, c, h))
+    go false false e ih = let c = count-no (my_ask id) x xs e in ih (omega (arith, c, h))
 
 not_begun : (id : ℕ) (xs : List LedgerEntry) → count_by (begins id) xs ≡ 0 → asked_before_exit id xs ≡ false
 not_begun id [] h = refl
@@ -57,12 +49,9 @@ not_begun id (x ∷ xs) h = go (my_ask id x) (begins id x) refl (not_begun id xs
   where
     go : (a b : Bool) → begins id x ≡ b → (count_by (begins id) xs ≡ 0 → asked_before_exit id xs ≡ false)
         → cond a (list_any (begins id) xs) (cond b false (asked_before_exit id xs)) ≡ false
-    go a true e ih = let c : count_by (begins id) (x ∷ xs) ≡ 1 + count_by (begins id) xs = count-cons (begins id) x xs
-        ∙ rw e refl in absurd (omega (arith, c, h))
-    go true false e ih = let c : count_by (begins id) (x ∷ xs) ≡ 0 + count_by (begins id) xs = count-cons (begins id) x xs
-        ∙ rw e refl in none_any (begins id) xs (omega (arith, c, h))
-    go false false e ih = let c : count_by (begins id) (x ∷ xs) ≡ 0 + count_by (begins id) xs = count-cons (begins id) x xs
-        ∙ rw e refl in ih (omega (arith, c, h))
+    go a true e ih = let c = count-yes (begins id) x xs e in absurd (omega (arith, c, h))
+    go true false e ih = let c = count-no (begins id) x xs e in none_any (begins id) xs (omega (arith, c, h))
+    go false false e ih = let c = count-no (begins id) x xs e in ih (omega (arith, c, h))
 
 -- entries that don't begin the exit, after which it asked only if it hadn't
 before-append : (id : ℕ) (xs ys : List LedgerEntry) → list_any (begins id) ys ≡ false → asked_before_exit id ys ≡ false
@@ -93,11 +82,9 @@ before-began id (x ∷ xs) ys none starts before = go (my_ask id x) (begins id x
 
     go : (a b : Bool) → begins id x ≡ b → (count_by (begins id) xs ≡ 0 → asked_before_exit id (xs ++ ys) ≡ list_any (my_ask id) xs)
         → cond a (list_any (begins id) (xs ++ ys)) (cond b false (asked_before_exit id (xs ++ ys))) ≡ (a || list_any (my_ask id) xs)
-    go a true e ih = let c : count_by (begins id) (x ∷ xs) ≡ 1 + count_by (begins id) xs = count-cons (begins id) x xs
-        ∙ rw e refl in absurd (omega (arith, c, none))
+    go a true e ih = let c = count-yes (begins id) x xs e in absurd (omega (arith, c, none))
     go true false e ih = any xs
-    go false false e ih = let c : count_by (begins id) (x ∷ xs) ≡ 0 + count_by (begins id) xs = count-cons (begins id) x xs
-        ∙ rw e refl in ih (omega (arith, c, none))
+    go false false e ih = let c = count-no (begins id) x xs e in ih (omega (arith, c, none))
 
 -- ---- what others book
 pub quiet_asked : (id : ℕ) (ledger more : List LedgerEntry) (requested exiting : Bool) → count_by (my_ask id) more ≡ 0 → count_by (begins id) more ≡ 0

@@ -1,10 +1,10 @@
 -- What the ledger books of a step is what the counts change by.
-use Rattle.std.proofs.Common.{◌≡◌, ◌≢◌, ℕ, ◌+◌, ◌-◌, ◌≤◌, ◌⊎◌, Bool, true, false, cond, ◌||◌, List, [], ◌∷◌, ◌++◌, Option, Some, None, map, filter, nat_eq}
+use Rattle.std.proofs.Common.{◌≡◌, ◌≢◌, ℕ, ◌+◌, ◌-◌, ◌≤◌, ◌⊎◌, Bool, true, false, cond, ◌||◌, List, [], ◌∷◌, Option, Some, None, map, filter, nat_eq}
 use Rattle.std.proofs.Common.{nat_lt, slice_get, slice_set, refl, ap, sym, ◌∙◌, inl, inr, arith}
 use Rattle.std.specs.Option.{option_map_or}
 use Rattle.std.specs.List.{count_by}
 use Rattle.std.proofs.lemmas.Bool.{cases_eq, cases_Bool, eq-eqb, ne_eqb, ltb-false, ltb-true}
-use Rattle.std.proofs.lemmas.List.Sums.{sum_by-cons, sum_by-append}
+use Rattle.std.proofs.lemmas.List.Sums.{sum_by-cons}
 use Rattle.model_value.specs.Number.{most}
 use Rattle.model_value.specs.Action.{Circle}
 use Rattle.model_value.specs.declared.action.Action.TheVariants.{Wakeup}
@@ -21,15 +21,9 @@ use Rattle.law_cancel.proofs.Counting.{goes-counts, goes-once, occurrences-unsee
 use Rattle.law_cancel.proofs.Effects.{register-tasks}
 use Rattle.law_cancel.proofs.Lookups.{get-set_same, get-set_other}
 use Rattle.law_cancel.proofs.Trace.{with_row}
+use Rattle.law_ledger.proofs.Counting.{count-append, count-cons}
 
 -- ---- entries of raised counts
-count_cons : (p : LedgerEntry → Bool) (entry : LedgerEntry) (entries : List LedgerEntry)
-    → count_by p (entry ∷ entries) ≡ cond (p entry) 1 0 + count_by p entries
-count_cons p entry entries = sum_by-cons (λ e. cond (p e) 1 0) entry entries
-
-pub count-append : (p : LedgerEntry → Bool) (xs ys : List LedgerEntry) → count_by p (xs ++ ys) ≡ count_by p xs + count_by p ys
-count-append p xs ys = sum_by-append (λ e. cond (p e) 1 0) xs ys
-
 occurrences-cons : (k x : ℕ) (xs : List ℕ) → occurrences k (x ∷ xs) ≡ cond (nat_eq k x) 1 0 + occurrences k xs
 occurrences-cons k x xs = sum_by-cons (λ y. cond (nat_eq k y) 1 0) x xs
 
@@ -43,13 +37,13 @@ turned a b = go (cases_eq a b)
 raises-raised : (task : ℕ) (by : Origin) (xs : List ℕ) → count_by (raises task) (map (λ t. Raised t by) xs) ≡ occurrences task xs
 raises-raised task by [] = refl
 raises-raised task by (x ∷ xs) =
-    count_cons (raises task) (Raised x by) (map (λ t. Raised t by) xs)
+    count-cons (raises task) (Raised x by) (map (λ t. Raised t by) xs)
     ∙ rw (turned x task, raises-raised task by xs) (sym (occurrences-cons task x xs))
 
 lowers-raised : (task : ℕ) (by : Origin) (xs : List ℕ) → count_by (lowers task) (map (λ t. Raised t by) xs) ≡ 0
 lowers-raised task by [] = refl
 lowers-raised task by (x ∷ xs) =
-    count_cons (lowers task) (Raised x by) (map (λ t. Raised t by) xs) ∙ rw (lowers-raised task by xs) (omega arith)
+    count-cons (lowers task) (Raised x by) (map (λ t. Raised t by) xs) ∙ rw (lowers-raised task by xs) (omega arith)
 
 occurrences-filter : (task : ℕ) (test : ℕ → Bool) (xs : List ℕ) → occurrences task (filter test xs) ≡ cond (test task) (occurrences task xs) 0
 occurrences-filter task test [] = at (test task)
@@ -111,11 +105,11 @@ request_balances by id p task =
     once = goes-once (with_row id [] p) (λ u. omega arith) task
 
     lowers_none : count_by (lowers task) (Asked by ∷ entries) ≡ 0
-    lowers_none = count_cons (lowers task) (Asked by) entries ∙ rw (lowers-raised task by (raised_among p seen)) (omega arith)
+    lowers_none = count-cons (lowers task) (Asked by) entries ∙ rw (lowers-raised task by (raised_among p seen)) (omega arith)
 
     raises_some : count_by (raises task) (Asked by ∷ entries) ≡ cond (nat_lt (cancelling p task) most) (occurrences task seen) 0
     raises_some =
-        let a = count_cons (raises task) (Asked by) entries in
+        let a = count-cons (raises task) (Asked by) entries in
         let b = raises-raised task by (raised_among p seen) in
         let c = occurrences-filter task (λ t. nat_lt (cancelling p t) most) seen in
         omega arith

@@ -5,7 +5,8 @@ use Rattle.model_loop.specs.Ledger.{Asked, Began, ByGroup, ByTimeout, LedgerEntr
 use Rattle.model_loop.specs.Timeouts.{exit_timeout, fire, has_expired, is_active, leave_from, no_timeout, set_timeout, timeout_of, without_handle}
 use Rattle.std.proofs.lemmas.Bool.{cases_eq, eq-eqb, false≢true, ne_eqb}
 use Rattle.model_loop.specs.Cancel.{cancel}
-use Rattle.law_ledger.proofs.Quietly.{abort_quietly, count-append, count-cons, group_quietly, quietly_tells, raised_entries, raised_none, timeout_quietly}
+use Rattle.law_ledger.proofs.Quietly.{abort_quietly, group_quietly, quietly_tells, raised_entries, raised_none, timeout_quietly}
+use Rattle.law_ledger.proofs.Counting.{count-append, count-cons}
 use Rattle.law_ledger.proofs.Quietly.{wait_or_end_quietly, wake_quietly, without_quietly}
 use Rattle.std.proofs.lemmas.List.{get_or-set_other, get_or-set_same}
 use Rattle.model_loop.specs.Tasks.{cancelling, future_of}

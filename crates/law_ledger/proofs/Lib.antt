@@ -1,3 +1,4 @@
+pub mod Counting
 pub mod Balancing
 pub mod LoopBalance
 pub mod Asked

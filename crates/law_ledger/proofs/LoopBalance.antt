@@ -24,7 +24,8 @@ use Rattle.model_loop.specs.Ending.{cancel_everything}
 use Rattle.model_loop.specs.Balance.{raises, lowers, Balances, TasksBalance}
 use Rattle.law_cancel.proofs.Lookups.{get-push_last, get-push_other}
 use Rattle.law_cancel.proofs.Effects.{settle-tasks, register-tasks}
-use Rattle.law_ledger.proofs.Balancing.{count_at, count-append, request_balances, request_each_balances, uncancel_balances}
+use Rattle.law_ledger.proofs.Counting.{count-append}
+use Rattle.law_ledger.proofs.Balancing.{count_at, request_balances, request_each_balances, uncancel_balances}
 
 -- ---- a change that is booked, and one that no count sees
 pub book_keeps : (change : Parts → Booked) (l : Loop) → Balances l.parts (change l.parts) → TasksBalance l → TasksBalance (book change l)

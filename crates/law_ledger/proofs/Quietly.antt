@@ -1,6 +1,6 @@
 -- Steps that are no timeout's and no group's book nothing of them.
-use Rattle.std.proofs.Common.{◌≡◌, ℕ, Bool, List, None, Option, Some, [], ap, append-nil, append_assoc, arith, cond, false, map, option_map, refl}
-use Rattle.std.proofs.Common.{slice_index_or, slice_set, subst, suc, sym, true, zero, ℤ, ◌++◌, ◌+◌, ◌∙◌, ◌∷◌, nat_lt}
+use Rattle.std.proofs.Common.{◌≡◌, ℕ, Bool, List, None, Option, Some, [], ap, append-nil, append_assoc, arith, false, map, option_map, refl}
+use Rattle.std.proofs.Common.{slice_index_or, slice_set, subst, suc, sym, true, zero, ℤ, ◌++◌, ◌∙◌, ◌∷◌, nat_lt}
 use Rattle.model_loop.specs.Handles.{deadline}
 use Rattle.model_loop.specs.Groups.{Refusal, abort, create, create_unless, end_exit, exit_woken, group_of, hear, keep_and_abort_unless, make_group, new_group}
 use Rattle.model_loop.specs.Groups.{refusal, set_group, wait_or_end, wait_or_end_with, wake_exit, wake_if_last, with_child}
@@ -22,16 +22,9 @@ use Rattle.model_loop.specs.Cancel.{cancel}
 use Rattle.model_loop.specs.Parts.{Parts}
 use Rattle.model_loop.specs.Balance.{GroupBalances, is_by_timeout, is_expired, takes, asks, begins, is_by_group}
 use Rattle.law_ledger.proofs.Asked.{quiet_asked}
+use Rattle.law_ledger.proofs.Counting.{count-append, count-no}
 use Rattle.model_value.specs.Input.{Input}
-use Rattle.std.proofs.lemmas.List.Sums.{sum_by-append, sum_by-cons}
 use Rattle.model_value.specs.Value.{Exc}
-
-pub count-append : (f : LedgerEntry → Bool) (xs ys : List LedgerEntry) → count_by f (xs ++ ys) ≡ count_by f xs + count_by f ys
-count-append f xs ys = sum_by-append (λ e. cond (f e) 1 0) xs ys
-
-pub count-cons : (f : LedgerEntry → Bool) (x : LedgerEntry) (xs : List LedgerEntry)
-    → count_by f (x ∷ xs) ≡ cond (f x) 1 0 + count_by f xs
-count-cons f x xs = sum_by-cons (λ e. cond (f e) 1 0) x xs
 
 pub none_nil : BooksNone []
 none_nil = record {
@@ -55,14 +48,15 @@ none_on xs ys a b = record {
 }
 
 -- ---- requests
+-- an entry in front that isn't counted
+behind_zero : (f : LedgerEntry → Bool) (x : LedgerEntry) (xs : List LedgerEntry) → f x ≡ false → count_by f xs ≡ 0
+    → count_by f (x ∷ xs) ≡ 0
+behind_zero f x xs e z = count-no f x xs e ∙ z
+
 raised_zero : (f : LedgerEntry → Bool) (by : Origin) → ((task : ℕ) → f (Raised task by) ≡ false) → (tasks : List ℕ)
     → count_by f (map (λ task. Raised task by) tasks) ≡ 0
 raised_zero f by none [] = refl
-raised_zero f by none (t ∷ ts) =
-    let ih = raised_zero f by none ts in
-    let c : count_by f (Raised t by ∷ map (λ task. Raised task by) ts) ≡ 0 + count_by f (map (λ task. Raised task by) ts) =
-    count-cons f (Raised t by) (map (λ task. Raised task by) ts) ∙ rw (none t) refl in
-    omega (arith, ih, c)
+raised_zero f by none (t ∷ ts) = behind_zero f (Raised t by) (map (λ task. Raised task by) ts) (none t) (raised_zero f by none ts)
 
 pub raised_none : (by : Origin) (tasks : List ℕ) → BooksNone (map (λ task. Raised task by) tasks)
 raised_none by tasks = record {
@@ -72,13 +66,6 @@ raised_none by tasks = record {
   groups_take = λ id. raised_zero _ by (λ t. refl) tasks;
   groups_begin = λ id. raised_zero _ by (λ t. refl) tasks;
 }
-
--- an entry in front that isn't counted
-behind_zero : (f : LedgerEntry → Bool) (x : LedgerEntry) (xs : List LedgerEntry) → f x ≡ false → count_by f xs ≡ 0
-    → count_by f (x ∷ xs) ≡ 0
-behind_zero f x xs e z =
-    let c : count_by f (x ∷ xs) ≡ 0 + count_by f xs = count-cons f x xs ∙ rw e refl in
-    omega (arith, c, z)
 
 abbrev pub raised_entries : Origin → ℕ → Parts → List LedgerEntry
 raised_entries by id p = map (λ task. Raised task by) (raised_among p (cancel id p).seen)
@@ -131,25 +118,19 @@ suspend_none task on p = at (circle p task on)
     at None = marked (is_marked p task)
 
 -- ---- such steps keep what the ledger tells
+told_on : (f : LedgerEntry → Bool) (l q : Loop) (b : BooksQuietly l q) → count_by f b.more ≡ 0 → (was now : Bool) → now ≡ was
+    → count_by f l.ledger ≡ one_if was → count_by f q.ledger ≡ one_if now
+told_on f l q b none was now same told =
+    let c = count-append f l.ledger b.more in
+    let e : count_by f q.ledger ≡ count_by f (l.ledger ++ b.more) = ap (count_by f) b.ledger in
+    let s : one_if now ≡ one_if was = ap one_if same in
+    omega (arith, c, none, told, e, s)
+
 pub quietly_tells : (l q : Loop) → BooksQuietly l q → Tells l → Tells q
 quietly_tells l q b is = record {
   timeouts = λ id. record {
-    asked =
-        let c = count-append (asks (is_by_timeout id)) l.ledger b.more in
-        let z = b.none.timeouts_ask id in
-        let a = (is.timeouts id).asked in
-        let e : count_by (asks (is_by_timeout id)) q.ledger ≡ count_by (asks (is_by_timeout id)) (l.ledger ++ b.more) =
-        ap (count_by (asks (is_by_timeout id))) b.ledger in
-        let s : one_if (has_expired (timeout_of q id).state) ≡ one_if (has_expired (timeout_of l id).state) = ap one_if (b.expired id) in
-        omega (arith, c, z, a, e, s);
-    took =
-        let c = count-append (takes (is_by_timeout id)) l.ledger b.more in
-        let z = b.none.timeouts_take id in
-        let a = (is.timeouts id).took in
-        let e : count_by (takes (is_by_timeout id)) q.ledger ≡ count_by (takes (is_by_timeout id)) (l.ledger ++ b.more) =
-        ap (count_by (takes (is_by_timeout id))) b.ledger in
-        let s : one_if (is_expired (timeout_of q id).state) ≡ one_if (is_expired (timeout_of l id).state) = ap one_if (b.over id) in
-        omega (arith, c, z, a, e, s);
+    asked = told_on (asks (is_by_timeout id)) l q b (b.none.timeouts_ask id) _ _ (b.expired id) (is.timeouts id).asked;
+    took = told_on (takes (is_by_timeout id)) l q b (b.none.timeouts_take id) _ _ (b.over id) (is.timeouts id).took;
   };
   groups = λ id.
       subst (λ ledger. GroupBalances id ledger (group_of q id).requested (group_of q id).exiting) (sym b.ledger)
@@ -170,27 +151,26 @@ quietly_on l q r b a = record {
   over = λ id. b.over id ∙ a.over id;
 }
 
-pub parts_quietly : (l : Loop) (p : Parts) → BooksQuietly l (record l { parts = p })
-parts_quietly l p = record {
+-- one that books nothing, whatever it does to the parts
+unbooked_quietly : (l q : Loop) → q.ledger ≡ l.ledger → ((id : ℕ) → (group_of q id).requested ≡ (group_of l id).requested)
+    → ((id : ℕ) → (group_of q id).exiting ≡ (group_of l id).exiting)
+    → ((id : ℕ) → has_expired (timeout_of q id).state ≡ has_expired (timeout_of l id).state)
+    → ((id : ℕ) → is_expired (timeout_of q id).state ≡ is_expired (timeout_of l id).state) → BooksQuietly l q
+unbooked_quietly l q same requested exiting expired over = record {
   more = [];
-  ledger = sym (append-nil l.ledger);
+  ledger = same ∙ sym (append-nil l.ledger);
   none = none_nil;
-  requested = λ id. refl;
-  exiting = λ id. refl;
-  expired = λ id. refl;
-  over = λ id. refl;
+  requested = requested;
+  exiting = exiting;
+  expired = expired;
+  over = over;
 }
 
+pub parts_quietly : (l : Loop) (p : Parts) → BooksQuietly l (record l { parts = p })
+parts_quietly l p = unbooked_quietly l (record l { parts = p }) refl (λ id. refl) (λ id. refl) (λ id. refl) (λ id. refl)
+
 pub refl_quietly : (l : Loop) → BooksQuietly l l
-refl_quietly l = record {
-  more = [];
-  ledger = sym (append-nil l.ledger);
-  none = none_nil;
-  requested = λ id. refl;
-  exiting = λ id. refl;
-  expired = λ id. refl;
-  over = λ id. refl;
-}
+refl_quietly l = parts_quietly l l.parts
 
 pub book_quietly : (change : Parts → Booked) (l : Loop) → BooksNone (change l.parts).entries → BooksQuietly l (book change l)
 book_quietly change l none = record {
@@ -221,49 +201,27 @@ seen-push f (x ∷ xs) new d same (suc j) = seen-push f xs new d same j
 
 pub group_quietly : (id : ℕ) (new : Group) (l : Loop) → new.requested ≡ (group_of l id).requested
     → new.exiting ≡ (group_of l id).exiting → BooksQuietly l (set_group id new l)
-group_quietly id new l requested exiting = record {
-  more = [];
-  ledger = sym (append-nil l.ledger);
-  none = none_nil;
-  requested = seen-set (λ (g : Group). g.requested) l.groups id new (new_group 0) requested;
-  exiting = seen-set (λ (g : Group). g.exiting) l.groups id new (new_group 0) exiting;
-  expired = λ j. refl;
-  over = λ j. refl;
-}
+group_quietly id new l requested exiting =
+    unbooked_quietly l (set_group id new l) refl (seen-set (λ (g : Group). g.requested) l.groups id new (new_group 0) requested)
+    (seen-set (λ (g : Group). g.exiting) l.groups id new (new_group 0) exiting) (λ j. refl) (λ j. refl)
 
 pub make_group_quietly : (parent : ℕ) (l : Loop) → BooksQuietly l (make_group parent l)
-make_group_quietly parent l = record {
-  more = [];
-  ledger = sym (append-nil l.ledger);
-  none = none_nil;
-  requested = seen-push (λ (g : Group). g.requested) l.groups (new_group parent) (new_group 0) refl;
-  exiting = seen-push (λ (g : Group). g.exiting) l.groups (new_group parent) (new_group 0) refl;
-  expired = λ j. refl;
-  over = λ j. refl;
-}
+make_group_quietly parent l =
+    unbooked_quietly l (make_group parent l) refl (seen-push (λ (g : Group). g.requested) l.groups (new_group parent) (new_group 0) refl)
+    (seen-push (λ (g : Group). g.exiting) l.groups (new_group parent) (new_group 0) refl) (λ j. refl) (λ j. refl)
 
 pub timeout_quietly : (id : ℕ) (new : Timeout) (l : Loop) → has_expired new.state ≡ has_expired (timeout_of l id).state
     → is_expired new.state ≡ is_expired (timeout_of l id).state → BooksQuietly l (set_timeout id new l)
-timeout_quietly id new l expired over = record {
-  more = [];
-  ledger = sym (append-nil l.ledger);
-  none = none_nil;
-  requested = λ j. refl;
-  exiting = λ j. refl;
-  expired = seen-set (λ (t : Timeout). has_expired t.state) l.timeouts id new no_timeout expired;
-  over = seen-set (λ (t : Timeout). is_expired t.state) l.timeouts id new no_timeout over;
-}
+timeout_quietly id new l expired over =
+    unbooked_quietly l (set_timeout id new l) refl (λ j. refl) (λ j. refl)
+    (seen-set (λ (t : Timeout). has_expired t.state) l.timeouts id new no_timeout expired)
+    (seen-set (λ (t : Timeout). is_expired t.state) l.timeouts id new no_timeout over)
 
 pub make_timeout_quietly : (task : ℕ) (l : Loop) → BooksQuietly l (make_timeout task l)
-make_timeout_quietly task l = record {
-  more = [];
-  ledger = sym (append-nil l.ledger);
-  none = none_nil;
-  requested = λ j. refl;
-  exiting = λ j. refl;
-  expired = seen-push (λ (t : Timeout). has_expired t.state) l.timeouts _ no_timeout refl;
-  over = seen-push (λ (t : Timeout). is_expired t.state) l.timeouts _ no_timeout refl;
-}
+make_timeout_quietly task l =
+    unbooked_quietly l (make_timeout task l) refl (λ j. refl) (λ j. refl)
+    (seen-push (λ (t : Timeout). has_expired t.state) l.timeouts _ no_timeout refl)
+    (seen-push (λ (t : Timeout). is_expired t.state) l.timeouts _ no_timeout refl)
 
 -- ---- timeouts
 pub without_quietly : (id : ℕ) (l : Loop) → BooksQuietly l (without_handle id l)

@@ -1,4 +1,5 @@
-//! Laws of the ledger: a task's count is how often it was raised less how often it was lowered. Each function has no body.
+//! Laws of the ledger: a task's count is how often it was raised less how often it was lowered.
+//! Each function has no body.
 ghost use Rattle.std.specs.Prelude.{ℕ, ℤ, List, Option};
 ghost use Rattle.model_value.specs.Input.{Input};
 ghost use Rattle.model_value.specs.Value.{Exc};

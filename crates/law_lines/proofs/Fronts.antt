@@ -111,8 +111,10 @@ token-fronts class text spelled ended rest others r h = one-token class text res
 -- the symbol that is found is the longest
 longest : (symbol : AnySymbol) (rest : List ℕ) → symbol_at (symbol_text symbol ++ rest) ≡ Some symbol → IsLongest symbol rest
 longest symbol rest e =
-    let found : SymbolIs (symbol_text symbol ++ rest) (Some symbol) = subst (SymbolIs (symbol_text symbol ++ rest)) e (symbol_is (symbol_text symbol ++ rest)) in
-    let same : rest ≡ found.0 = sym (drop-append_seam (symbol_text symbol) rest) ∙ (ap (drop (length (symbol_text symbol))) found.1 ∙ drop-append_seam (symbol_text symbol) found.0) in
+    let text = symbol_text symbol in
+    let found : SymbolIs (text ++ rest) (Some symbol) = subst (SymbolIs (text ++ rest)) e (symbol_is (text ++ rest)) in
+    let same : rest ≡ found.0 =
+    sym (drop-append_seam text rest) ∙ (ap (drop (length text)) found.1 ∙ drop-append_seam text found.0) in
     subst (IsLongest symbol) (sym same) found.2
 
 pub sign-leads : (symbol : AnySymbol) → ((rest : List ℕ) → symbol_at (symbol_text symbol ++ rest) ≡ Some symbol) → Leads (symbol_text symbol) (Sign symbol ∷ [])

@@ -24,7 +24,8 @@ pub fn canonical_texts_have_their_tokens()
         × (lexemes_of tokens ≡ line_lexemes line) }
 {}
 
-/// The tokens of a line's canonical text spell the line, and behind other lines it stands as the line does.
+/// The tokens of a line's canonical text spell the line, and behind other lines it
+/// stands as the line does.
 pub fn canonical_lines_are_read()
     ensures form { (line : Line) → WellWritten line → form_of (line_lexemes line)
         ≡ Some (spelled line) }
@@ -36,7 +37,8 @@ pub fn canonical_lines_are_read()
         ≡ form_behind_lines before (Some (spelled line)) }
 {}
 
-/// Each byte of a line that has tokens is allowed; so no canonical line has a newline or a carriage return inside.
+/// Each byte of a line that has tokens is allowed; so no canonical line has a
+/// newline or a carriage return inside.
 pub fn lines_with_tokens_are_printable()
     ensures allowed { (text : List ℕ) (tokens : List Token) → tokens_of text ≡ Ok tokens →
         AllByRecursion (λ byte. is_allowed byte ≡ true) text }

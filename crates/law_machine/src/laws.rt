@@ -1,4 +1,5 @@
-//! Laws of steps, turns and runs. `S` is the state of what is added to the loop's own requests, whatever that is.
+//! Laws of steps, turns and runs. `S` is the state of what is added to the loop's own requests,
+//! whatever that is.
 ghost use Rattle.std.specs.Prelude.{◌≡◌, ℕ, suc, ◌+◌, ◌<◌, ◌≤◌, false, List, length};
 ghost use Rattle.model_value.specs.Input.{Input};
 ghost use Rattle.model_tree.specs.Syntax.{Program};
@@ -15,35 +16,40 @@ ghost use Rattle.law_machine.specs.Growth.{GoesOn, turns_in};
 
 /// What happened stays: a turn and a run only add events.
 pub fn what_happened_stays<S>()
-    ensures turn { (limit : ℕ) (added : Extra S) (s : State S) → GoesOn s.events (state_of (turn limit added s)).events }
+    ensures turn { (limit : ℕ) (added : Extra S) (s : State S)
+        → GoesOn s.events (state_of (turn limit added s)).events }
     ensures run { (limit : ℕ) (added : Extra S) (allowed left : ℕ) (s : State S)
         → GoesOn s.events (run_on limit added allowed left s).events }
 {}
 
-/// A turn asks the outside once, unless nothing can come, and so it has one answer at most. A run begins at most one turn more than the outside
-/// answers: the one that finds no answer.
+/// A turn asks the outside once, unless nothing can come, and so it has one answer at most. A run
+/// begins at most one turn more than the outside answers: the one that finds no answer.
 pub fn turns_are_bounded<S>()
     ensures one { (limit : ℕ) (added : Extra S) (s : State S) → is_stalled added s ≡ false
         → turns_in (state_of (turn limit added s)).events ≡ turns_in s.events + 1 }
     ensures answers { (limit : ℕ) (added : Extra S) (s : State S)
         → answers_in (state_of (turn limit added s)).events ≤ answers_in s.events + 1 }
     ensures most { (limit : ℕ) (added : Extra S) (allowed left : ℕ) (s : State S)
-        → turns_in (run_on limit added allowed left s).events ≤ turns_in s.events + length s.answers + 1 }
+        → turns_in (run_on limit added allowed left s).events
+        ≤ turns_in s.events + length s.answers + 1 }
 {}
 
 /// A step ends before its bound: if a coroutine might be answered more often, nothing would change.
 pub fn a_step_ends_by_itself<S>()
-    ensures { (limit : ℕ) (added : Extra S) (task more : ℕ) (s : State S) → task < length s.generators →
+    ensures { (limit : ℕ) (added : Extra S) (task more : ℕ) (s : State S) →
+        task < length s.generators →
         let most = most_answers limit (generator_of task s).tape in
         serve limit added (most + more) task s ≡ serve limit added most task s }
 {}
 
-/// What is added is woken no more often in a step than it says, where that number falls each time; it does where
-/// nothing is added.
+/// What is added is woken no more often in a step than it says, where that number falls each time;
+/// it does where nothing is added.
 pub fn wakes_end_by_themselves<S>()
-    ensures within { (added : Extra S) (task more key : ℕ) (input : Input) (s : State S) → WakesFall added →
+    ensures within { (added : Extra S) (task more key : ℕ) (input : Input) (s : State S) →
+        WakesFall added →
         let most = suc (added.wakes_left key s.extra) in
-        woken_within added (most + more) task key input s ≡ woken_within added most task key input s }
+        woken_within added (most + more) task key input s
+        ≡ woken_within added most task key input s }
     ensures nothing { WakesFall no_extra }
 {}
 

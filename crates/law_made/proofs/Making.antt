@@ -2,7 +2,7 @@
 use Rattle.std.proofs.Common.{◌≡◌, ℕ, suc, ◌+◌, ◌<◌, ◌⊎◌, Bool, false, not, ◌&&◌, [], ◌∷◌, Option, Some, None, length, slice_get, refl, ap, sym, subst, ◌∙◌}
 use Rattle.std.proofs.Common.{inl, inr, arith, length-append, true}
 use Rattle.std.proofs.lemmas.Bool.{cases_eq}
-use Rattle.std.proofs.lemmas.Option.{none-some, slice_get_within, slice_get_past}
+use Rattle.std.proofs.lemmas.Option.{slice_get_past}
 use Rattle.std.specs.List.{count_by}
 use Rattle.std.specs.Option.{option_map_or}
 use Rattle.model_value.specs.Action.{Action}
@@ -16,7 +16,7 @@ use Rattle.law_cancel.proofs.Lookups.{get-push_last, get-push_other}
 use Rattle.model_loop.specs.Owning.{owner_in, owner_at, owner_of, own_future, is_no_callback, is_plain, is_plain_at}
 use Rattle.model_loop.specs.Sound.{ArePartsSound}
 use Rattle.law_settling.proofs.Looks.{future_of-owned}
-use Rattle.law_made.proofs.Spawning.{spent_same}
+use Rattle.law_made.proofs.Spawning.{live_in, spent_same}
 use Rattle.law_settling.proofs.CancelSound.{plain_within}
 
 module _ (kind : FutureKind) (free : owner_in kind ≡ None) (running excused : Option ℕ) (p : Parts) (is : ArePartsSound running excused p) where
@@ -34,16 +34,6 @@ module _ (kind : FutureKind) (free : owner_in kind ≡ None) (running excused : 
 
   pub made_more : length (make_future kind p).futures ≡ length p.futures + 1
   made_more = length-append p.futures (future ∷ [])
-
-  live_in : (t on : ℕ) → own_future p t ≡ Some on → on < length p.futures
-  live_in t on e = go (slice_get p.futures on) refl
-    where
-      owner : owner_of p on ≡ Some t
-      owner = (is.owns on t).1 e
-
-      go : (o : Option Future) → slice_get p.futures on ≡ o → on < length p.futures
-      go None x = absurd (none-some t (sym (ap owner_at x) ∙ owner))
-      go (Some f) x = slice_get_within p.futures on f x
 
   -- what is seen of a task's own future, where a future that isn't there is seen like one that isn't
   pub own_seen : {Y : Type 0} (f : Option Future → Y) (t : ℕ)
@@ -63,7 +53,7 @@ module _ (kind : FutureKind) (free : owner_in kind ≡ None) (running excused : 
           let a : future_of (make_future kind p) t ≡ on = future_of-owned (make_future kind p) t
           ∙ ap (λ o. option_map_or (λ (i : ℕ). i) o (length (make_future kind p).futures)) e in
           let b : future_of p t ≡ on = future_of-owned p t ∙ ap (λ o. option_map_or (λ (i : ℕ). i) o (length p.futures)) e in
-          let x = live_in t on e in
+          let x = live_in running excused p is t on e in
           ap (λ i. f (slice_get (make_future kind p).futures i)) a ∙ ap f (made_old on (λ y. absurd (omega (arith, x, y))))
           ∙ sym (ap (λ i. f (slice_get p.futures i)) b)
 

@@ -8,7 +8,8 @@ ghost use Rattle.model_loop.specs.Tasks.{begin_step, finish, spawn};
 ghost use Rattle.model_loop.specs.Owning.{owner_in};
 ghost use Rattle.model_loop.specs.Sound.{HasNoCircle, ArePartsSound};
 
-/// No outcome and no part of a step makes a circle of waits. That a wait makes none is a law of circles.
+/// No outcome and no part of a step makes a circle of waits. That a wait makes none is a law of
+/// circles.
 pub fn steps_make_no_circle()
     ensures settle { (id : ℕ) (outcome : Outcome) (p : Parts) → HasNoCircle p
         → HasNoCircle (settle id outcome p) }

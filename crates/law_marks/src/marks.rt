@@ -1,5 +1,6 @@
-//! Laws of marks, by which a cancel waits for its task's next step. Each function has no body: its clauses are the laws, of every
-//! state. `S` is the state of what is added to the loop's own requests.
+//! Laws of marks, by which a cancel waits for its task's next step. Each function has no body: its
+//! clauses are the laws, of every state. `S` is the state of what is added to the loop's own
+//! requests.
 ghost use Rattle.std.specs.Prelude.{◌≡◌, ℕ, Bool, false, List};
 ghost use Rattle.model_value.specs.Input.{Input};
 ghost use Rattle.model_wire.specs.Call.{Answer};
@@ -13,8 +14,8 @@ ghost use Rattle.model_machine.specs.Turn.{run_first, turn_over, woken_by};
 ghost use Rattle.model_machine.specs.Went.{state_of};
 ghost use Rattle.law_marks.specs.Marked.{IsMarkedIn, ThrowsCancel};
 
-/// A mark stays while callbacks run that don't step its task, whatever they do; and so it does at the beginning and at the end of
-/// a turn.
+/// A mark stays while callbacks run that don't step its task, whatever they do; and so it does at
+/// the beginning and at the end of a turn.
 pub fn a_mark_waits_for_its_tasks_step<S>()
     ensures callback { (limit : ℕ) (added : Extra S) (s : State S) (handle : Handle)
         (rest : List Handle) (task : ℕ)

@@ -55,7 +55,8 @@ lines-mean scope [] meant r e =
     let g : [] ≡ meant = cc in
     subst (LinesMean scope []) g tt
 lines-mean scope (line ∷ lines) meant r e =
-    let p = in-turn (λ (first : Line) (others : List Line). first ∷ others) (judged_at line.line (line_meant scope line.form)) (lines_judged scope lines) meant e in
+    let p = in-turn (λ (first : Line) (others : List Line). first ∷ others) (judged_at line.line (line_meant scope line.form))
+    (lines_judged scope lines) meant e in
     subst (LinesMean scope (line ∷ lines)) (sym p.4)
     (line-means scope line.form p.0 r.0 (judged-meant line.line (line_meant scope line.form) p.0 p.2), lines-mean scope lines p.1 r.1 p.3)
 
@@ -98,7 +99,8 @@ PartsMean callees earlier _ _ = ⊥
 part-means : (callees : List Callee) (earlier : List Name) (part : Part (Numbered Spelled)) (meant : Part Line) → PartFits part
     → part_judged callees earlier part ≡ Ok meant → PartMeans callees earlier part meant
 part-means callees earlier part meant f e =
-    let p = in-turn (λ (name : Name) (lines : List Line). named_part part lines) (judged_at part.line (head_meant earlier part)) (lines_judged (scope_of callees part) part.lines) meant e in
+    let p = in-turn (λ (name : Name) (lines : List Line). named_part part lines) (judged_at part.line (head_meant earlier part))
+    (lines_judged (scope_of callees part) part.lines) meant e in
     subst (PartMeans callees earlier part) (sym p.4) (record {
       found = p.0;
       head = judged-meant part.line (head_meant earlier part) p.0 p.2;
@@ -114,7 +116,8 @@ parts-mean callees earlier [] meant f e =
     let g : [] ≡ meant = cc in
     subst (PartsMean callees earlier []) g tt
 parts-mean callees earlier (part ∷ parts) meant f e =
-    let p = in-turn (λ (first : Part Line) (others : List (Part Line)). first ∷ others) (part_judged callees earlier part) (parts_judged callees (part.name ∷ earlier) parts) meant e in
+    let p = in-turn (λ (first : Part Line) (others : List (Part Line)). first ∷ others) (part_judged callees earlier part)
+    (parts_judged callees (part.name ∷ earlier) parts) meant e in
     subst (PartsMean callees earlier (part ∷ parts)) (sym p.4)
     (part-means callees earlier part p.0 f.0 p.2, parts-mean callees (part.name ∷ earlier) parts p.1 f.1 p.3)
 

@@ -86,7 +86,8 @@ not-first role roles = ne_eqb (length (role ∷ roles)) 0 (omega arith)
 fits-behind : (role : Role) (roles : List Role) (form : Spelled) → cause_behind (role ∷ roles) form ≡ None → Fits (open_blocks (role ∷ roles)) form
 fits-behind role roles form e =
     let blocks : List OpenBlock = open_blocks (role ∷ roles) in
-    let all = no_cause (may_stand (nat_eq (length (role ∷ roles)) 0) blocks form) (fits blocks (role_of form)) (nat_le (height_of_form form) most_height) (is_profile form) e in
+    let all = no_cause (may_stand (nat_eq (length (role ∷ roles)) 0) blocks form) (fits blocks (role_of form))
+    (nat_le (height_of_form form) most_height) (is_profile form) e in
     record {
       stands = subst (λ first. may_stand first blocks form ≡ true) (not-first role roles) all.0;
       nests = all.1;

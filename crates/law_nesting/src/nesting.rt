@@ -6,7 +6,8 @@ ghost use Rattle.model_text.specs.Forms.{Spelled};
 ghost use Rattle.model_text.specs.SecondPass.{Line, Part, parts_of, second_pass};
 ghost use Rattle.law_nesting.specs.SpelledBodies.{SpellsBody};
 
-/// The lines of each coroutine that both passes accept are those that spell its body, and its `end`.
+/// The lines of each coroutine that both passes accept are those that spell its
+/// body, and its `end`.
 pub fn accepted_lines_spell_their_statements()
     ensures { (lines : List (List ℕ)) (forms : List (Numbered Spelled)) (last : ℕ)
         (parts : List (Part Line)) →

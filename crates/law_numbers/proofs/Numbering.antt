@@ -140,7 +140,8 @@ revoke_numbers tag p is = record {
     tags_fewer k =
         let a = tagged k (revoke tag p) in
         let b = tagged k p in
-        let c : occurrences k (map tag_of (map (cancelled_if tag) p.pending)) ≡ occurrences k (map tag_of p.pending) = ap (occurrences k) (cancelled-tags tag p.pending) in
+        let c : occurrences k (map tag_of (map (cancelled_if tag) p.pending)) ≡ occurrences k (map tag_of p.pending) =
+        ap (occurrences k) (cancelled-tags tag p.pending) in
         let d = occurrences-filter k timer_tag (λ (timer : Timer). not (timer.tag == tag)) p.timers in
         omega arith
 

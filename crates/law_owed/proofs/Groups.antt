@@ -1,6 +1,6 @@
 -- Steps of groups: what each of them owes, and what it takes back.
 use Rattle.std.proofs.Common.{◌≡◌, ℕ, ◌+◌, ◌≤◌, ◌<◌, Bool, true, false, cond, not, ◌&&◌, ◌||◌, ◌==◌, List, [], ◌∷◌, ◌++◌, Option, Some, None, filter, is_some}
-use Rattle.std.proofs.Common.{length, slice_index_or, refl, sym, ap, subst, ◌∙◌, le_refl, append_assoc, length-append, length-set, arith}
+use Rattle.std.proofs.Common.{length, refl, sym, ap, subst, ◌∙◌, le_refl, append_assoc, length-append, length-set, arith}
 use Rattle.std.specs.List.{count_by}
 use Rattle.std.proofs.lemmas.Bool.{eq-eqb, false≢true}
 use Rattle.std.proofs.lemmas.List.Sums.{sum_by_push}
@@ -32,6 +32,7 @@ use Rattle.law_after.proofs.Exits.{exit_begin_loop, exit_woken_loop}
 use Rattle.law_after.proofs.Requests.{each_after}
 use Rattle.law_done.proofs.Later.{IsLater, any, later_create, later_exit_begin, later_exit_woken, later_of, later_plain, later_refl, later_settle}
 use Rattle.law_done.proofs.Later.{later_uncancel}
+use Rattle.law_inside.proofs.Tapes.{push_last}
 use Rattle.law_owed.proofs.Asking.{ask_covers, each_took, take_covers}
 use Rattle.law_owed.proofs.Owed.{IsEasy, covers, easy_book, easy_group, easy_parts, easy_refl, easy_then, group_owed, right_on, same_counts}
 use Rattle.law_owed.specs.Owed.{IsCovered, IsRight, owed, owes_group}
@@ -109,10 +110,6 @@ easy_create id l = at (refusal (group_of l id)) refl
         (easy_group id new made (λ task. le_refl _))
 
 -- ---- a group is made and entered
-last_is : {X : Type 0} (xs : List X) (x d : X) → slice_index_or (xs ++ x ∷ []) (length xs) d ≡ x
-last_is [] x d = refl
-last_is (y ∷ xs) x d = last_is xs x d
-
 new_owed : (parent : ℕ) (l : Loop) (other : ℕ) → owed (make_group parent l) other ≡ owed l other
 new_owed parent l other =
     let a : count_by (owes_group other) (l.groups ++ new_group parent ∷ []) ≡ count_by (owes_group other) l.groups + 0 =
@@ -124,7 +121,7 @@ pub enter_group_covers : (parent : ℕ) (l : Loop) → next_group l < most_ids �
 enter_group_covers parent l few right is =
     let made = make_group parent l in
     let id = next_group l in
-    let g = last_is l.groups (new_group parent) (new_group 0) in
+    let g = push_last l.groups (new_group parent) (new_group 0) in
     covers made (enter_group id made)
     (easy_group id (record (group_of made id) { entered = true }) made (λ task.
     let a : ◌≡◌ {A = ℕ} (cond (owes_group task (record (group_of made id) { entered = true })) 1 0) 0 =

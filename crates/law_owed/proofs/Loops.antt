@@ -177,19 +177,12 @@ fire_covers id l owns right is =
     (length-set l.timeouts id (record it { state = Expiring; tag = None })) refl owns right is
 
 -- its block is left: it takes its cancel back
-kept_state : (xs : List Timeout) (i : ℕ)
-    → (slice_index_or (slice_set xs i (record (slice_index_or xs i no_timeout) { tag = None })) i no_timeout).state
-    ≡ (slice_index_or xs i no_timeout).state
-kept_state [] i = refl
-kept_state (x ∷ xs) zero = refl
-kept_state (x ∷ xs) (suc i) = kept_state xs i
-
-kept_task : (xs : List Timeout) (i : ℕ)
-    → (slice_index_or (slice_set xs i (record (slice_index_or xs i no_timeout) { tag = None })) i no_timeout).task
-    ≡ (slice_index_or xs i no_timeout).task
-kept_task [] i = refl
-kept_task (x ∷ xs) zero = refl
-kept_task (x ∷ xs) (suc i) = kept_task xs i
+kept_untagged : {X : Type 0} (f : Timeout → X) → ((t : Timeout) → f (record t { tag = None }) ≡ f t) → (xs : List Timeout) (i : ℕ)
+    → f (slice_index_or (slice_set xs i (record (slice_index_or xs i no_timeout) { tag = None })) i no_timeout)
+    ≡ f (slice_index_or xs i no_timeout)
+kept_untagged f same [] i = refl
+kept_untagged f same (x ∷ xs) zero = same x
+kept_untagged f same (x ∷ xs) (suc i) = kept_untagged f same xs i
 
 given_up_lives : (tag : Option ℕ) (p : Parts) (task : ℕ) → lives (give_up tag p) task ≡ lives p task
 given_up_lives None p task = refl
@@ -238,6 +231,6 @@ exit_covers raised id l living right is = at (timeout_of l id).state refl
     at Expired e = over (record (timeout_of (without_handle id l) id) { state = Finished }) (λ task. refl)
     at Finished e = over (record (timeout_of (without_handle id l) id) { state = Finished }) (λ task. refl)
     at Expiring e =
-        left_covers id (without_handle id l) (kept_state l.timeouts id ∙ e)
+        left_covers id (without_handle id l) (kept_untagged (λ (t : Timeout). t.state) (λ t. refl) l.timeouts id ∙ e)
         (given_up_lives (timeout_of l id).tag l.parts (timeout_of (without_handle id l) id).task
-        ∙ ap (lives l.parts) (kept_task l.timeouts id) ∙ living) m_right m_covered
+        ∙ ap (lives l.parts) (kept_untagged (λ (t : Timeout). t.task) (λ t. refl) l.timeouts id) ∙ living) m_right m_covered

@@ -5,7 +5,6 @@ use Rattle.std.specs.List.{count_by, list_any}
 use Rattle.std.specs.Option.{option_map_or}
 use Rattle.std.proofs.lemmas.Bool.{cases_lt, or_parts, false≢true}
 use Rattle.std.proofs.lemmas.List.Folds.{list_any-append}
-use Rattle.std.proofs.lemmas.List.Sums.{sum_by-cons}
 use Rattle.model_loop.specs.Balance.{Balances, lowers}
 use Rattle.model_loop.specs.Futures.{is_pending}
 use Rattle.model_loop.specs.Groups.{group_of, new_group, set_group}
@@ -14,6 +13,7 @@ use Rattle.model_loop.specs.Loop.{Timeout, Group, Loop, book}
 use Rattle.model_loop.specs.Parts.{Parts, Task}
 use Rattle.model_loop.specs.Tasks.{cancelling, future_of, lives, next_task}
 use Rattle.model_loop.specs.Timeouts.{no_timeout, set_timeout, timeout_of}
+pub use Rattle.law_ledger.proofs.Counting.{count-cons as count_cons}
 use Rattle.law_done.proofs.Later.{IsLater, later_refl, later_then}
 use Rattle.law_owed.specs.Owed.{AreFound, IsCovered, IsRight, owed, owes_group, owes_timeout, uncancels}
 use Rattle.law_owed.proofs.Found.{found_on, is_took, none_found}
@@ -29,17 +29,27 @@ pub record IsEasy (l q : Loop) : Type 0 where
   pub timeouts_made : length q.timeouts ≡ length l.timeouts
   pub groups_made : length q.groups ≡ length l.groups
 
-pub easy_refl : (l : Loop) → IsEasy l l
-easy_refl l = record {
-  later = later_refl l.parts;
-  counts = λ task. le_refl _;
-  owes = λ task. le_refl _;
+-- one that books nothing
+easy_unbooked : (l q : Loop) → IsLater l.parts q.parts → ((task : ℕ) → cancelling l.parts task ≤ cancelling q.parts task)
+    → ((task : ℕ) → owed q task ≤ owed l task) → q.ledger ≡ l.ledger → length q.timeouts ≡ length l.timeouts
+    → length q.groups ≡ length l.groups → IsEasy l q
+easy_unbooked l q later counts owes same timeouts_made groups_made = record {
+  later = later;
+  counts = counts;
+  owes = owes;
   more = [];
-  ledger = sym (append-nil l.ledger);
+  ledger = same ∙ sym (append-nil l.ledger);
   none = refl;
-  timeouts_made = refl;
-  groups_made = refl;
+  timeouts_made = timeouts_made;
+  groups_made = groups_made;
 }
+
+pub easy_parts : (l : Loop) (p : Parts) → IsLater l.parts p → ((task : ℕ) → cancelling l.parts task ≤ cancelling p task)
+    → IsEasy l (record l { parts = p })
+easy_parts l p later counts = easy_unbooked l (record l { parts = p }) later counts (λ task. le_refl _) refl refl refl
+
+pub easy_refl : (l : Loop) → IsEasy l l
+easy_refl l = easy_parts l l.parts (later_refl l.parts) (λ task. le_refl _)
 
 pub easy_then : (l m q : Loop) → IsEasy l m → IsEasy m q → IsEasy l q
 easy_then l m q a b = record {
@@ -53,27 +63,11 @@ easy_then l m q a b = record {
   groups_made = b.groups_made ∙ a.groups_made;
 }
 
-pub easy_parts : (l : Loop) (p : Parts) → IsLater l.parts p → ((task : ℕ) → cancelling l.parts task ≤ cancelling p task)
-    → IsEasy l (record l { parts = p })
-easy_parts l p later counts = record {
-  later = later;
-  counts = counts;
-  owes = λ task. le_refl _;
-  more = [];
-  ledger = sym (append-nil l.ledger);
-  none = refl;
-  timeouts_made = refl;
-  groups_made = refl;
-}
-
 pub same_counts : (p q : Parts) → q.tasks ≡ p.tasks → (task : ℕ) → cancelling p task ≤ cancelling q task
 same_counts p q e task =
     let x : cancelling q task ≡ cancelling p task =
     ap (λ (ts : List Task). option_map_or (λ (t : Task). t.cancels) (slice_get ts task) 0) e in
     omega (arith, x)
-
-pub count_cons : {X : Type 0} (f : X → Bool) (x : X) (xs : List X) → count_by f (x ∷ xs) ≡ cond (f x) 1 0 + count_by f xs
-count_cons f x xs = sum_by-cons (λ y. cond (f y) 1 0) x xs
 
 pub no_lowers : (task : ℕ) (es : List LedgerEntry) → list_any is_took es ≡ false → count_by (lowers task) es ≡ 0
 no_lowers task [] h = refl
@@ -119,29 +113,15 @@ group_owed id new l task = let a = count_set (owes_group task) l.groups id new (
 
 pub easy_timeout : (id : ℕ) (new : Timeout) (l : Loop)
     → ((task : ℕ) → cond (owes_timeout task new) 1 0 ≤ cond (owes_timeout task (timeout_of l id)) 1 0) → IsEasy l (set_timeout id new l)
-easy_timeout id new l fewer = record {
-  later = later_refl l.parts;
-  counts = λ task. le_refl _;
-  owes = λ task. let a = timeout_owed id new l task in let b = fewer task in omega (arith, a, b);
-  more = [];
-  ledger = sym (append-nil l.ledger);
-  none = refl;
-  timeouts_made = length-set l.timeouts id new;
-  groups_made = refl;
-}
+easy_timeout id new l fewer =
+    easy_unbooked l (set_timeout id new l) (later_refl l.parts) (λ task. le_refl _)
+    (λ task. let a = timeout_owed id new l task in let b = fewer task in omega (arith, a, b)) refl (length-set l.timeouts id new) refl
 
 pub easy_group : (id : ℕ) (new : Group) (l : Loop)
     → ((task : ℕ) → cond (owes_group task new) 1 0 ≤ cond (owes_group task (group_of l id)) 1 0) → IsEasy l (set_group id new l)
-easy_group id new l fewer = record {
-  later = later_refl l.parts;
-  counts = λ task. le_refl _;
-  owes = λ task. let a = group_owed id new l task in let b = fewer task in omega (arith, a, b);
-  more = [];
-  ledger = sym (append-nil l.ledger);
-  none = refl;
-  timeouts_made = refl;
-  groups_made = length-set l.groups id new;
-}
+easy_group id new l fewer =
+    easy_unbooked l (set_group id new l) (later_refl l.parts) (λ task. le_refl _)
+    (λ task. let a = group_owed id new l task in let b = fewer task in omega (arith, a, b)) refl refl (length-set l.groups id new)
 
 -- ---- what is right stays so, and what is covered
 pub right_on : (l q : Loop) → IsLater l.parts q.parts → next_task q.parts ≡ next_task l.parts → ((task : ℕ) → owed q task ≤ owed l task) → IsRight l

@@ -1,4 +1,5 @@
-//! Laws of counts: what timeouts and groups will take back of them is there. Each function has no body: its clauses are the laws.
+//! Laws of counts: what timeouts and groups will take back of them is there. Each function has no
+//! body: its clauses are the laws.
 ghost use Rattle.std.specs.Prelude.{◌≡◌, ℕ, ◌<◌, Bool, true, false, List, length, Option};
 ghost use Rattle.model_value.specs.Value.{Exc};
 ghost use Rattle.model_loop.specs.Cancel.{cancel};
@@ -17,8 +18,8 @@ pub fn a_request_raises_its_task()
         → cancelling (cancel (future_of p task) p).parts task ≡ one_more (cancelling p task) }
 {}
 
-/// What is owed stays covered: as a timeout fires and is left, as a group is told of a task and its exit begins, and by what is
-/// added.
+/// What is owed stays covered: as a timeout fires and is left, as a group is told of a task and its
+/// exit begins, and by what is added.
 pub fn what_is_owed_stays_covered()
     ensures fires { (id : ℕ) (l : Loop) → OwnsFutures l.parts → IsRight l → IsCovered l
         → IsCovered (fire id l) }

@@ -10,7 +10,8 @@ ghost use Rattle.model_value.specs.Action.{Action};
 ghost use Rattle.model_value.specs.Value.{Outcome, Value, Exc};
 ghost use Rattle.law_parts.specs.Forgotten.{forgotten, forgotten_of, AreDone};
 
-/// Forgetting futures that are done commutes with what happens to the parts. A new future is not forgotten.
+/// Forgetting futures that are done commutes with what happens to the parts. A new future is not
+/// forgotten.
 pub fn commutes()
     ensures cancel { (gone : ℕ → Bool) (id : ℕ) (p : Parts) → AreDone gone p
         → cancel id (forgotten gone p) ≡ forgotten_of gone (cancel id p) }
@@ -30,7 +31,11 @@ pub fn commutes()
         → circle (forgotten gone p) task on ≡ circle p task on }
     ensures suspend { (gone : ℕ → Bool) (task on : ℕ) (p : Parts) → AreDone gone p
         → suspend task on (forgotten gone p)
-        ≡ record { parts = forgotten gone (suspend task on p).parts; entries = (suspend task on p).entries } }
-    ensures finish { (gone : ℕ → Bool) (task : ℕ) (end : Result Value Exc) (p : Parts) → AreDone gone p
+        ≡ record {
+          parts = forgotten gone (suspend task on p).parts;
+          entries = (suspend task on p).entries;
+        } }
+    ensures finish { (gone : ℕ → Bool) (task : ℕ) (end : Result Value Exc) (p : Parts)
+        → AreDone gone p
         → finish task end (forgotten gone p) ≡ forgotten gone (finish task end p) }
 {}

@@ -1,5 +1,5 @@
-//! Laws of walks over futures: of a cancel request and of the search for a circle, both with what is left to do on a
-//! stack; and of futures that were forgotten.
+//! Laws of walks over futures: of a cancel request and of the search for a circle, both with what
+//! is left to do on a stack; and of futures that were forgotten.
 #![tactic(auto)]
 
 pub mod forgetting;

@@ -9,13 +9,16 @@ ghost use Rattle.model_value.specs.Action.{Action};
 ghost use Rattle.model_value.specs.Value.{Outcome};
 ghost use Rattle.law_parts.specs.Placed.{placed, placed_of};
 
-/// What happens to the parts does not depend on the numbers that handles have: it commutes with numbering them by their
-/// places.
+/// What happens to the parts does not depend on the numbers that handles have: it commutes with
+/// numbering them by their places.
 pub fn commutes()
     ensures soon { (action : Action) (p : Parts) → soon action (placed p) ≡ placed (soon action p) }
-    ensures settle { (id : ℕ) (outcome : Outcome) (p : Parts) → settle id outcome (placed p) ≡ placed (settle id outcome p) }
-    ensures register { (id : ℕ) (action : Action) (p : Parts) → register id action (placed p) ≡ placed (register id action p) }
-    ensures make { (kind : FutureKind) (p : Parts) → make_future kind (placed p) ≡ placed (make_future kind p) }
+    ensures settle { (id : ℕ) (outcome : Outcome) (p : Parts)
+        → settle id outcome (placed p) ≡ placed (settle id outcome p) }
+    ensures register { (id : ℕ) (action : Action) (p : Parts)
+        → register id action (placed p) ≡ placed (register id action p) }
+    ensures make { (kind : FutureKind) (p : Parts)
+        → make_future kind (placed p) ≡ placed (make_future kind p) }
     ensures ask { (id : ℕ) (p : Parts) → mark_asked id (placed p) ≡ placed (mark_asked id p) }
     ensures spawn { (p : Parts) → spawn (placed p) ≡ placed (spawn p) }
     ensures change { (id : ℕ) (change : Task → Task) (p : Parts)

@@ -1,5 +1,5 @@
-//! A cancel goes on. Each function has no body: its clauses are the laws, of every state in which each task has its own
-//! future.
+//! A cancel goes on. Each function has no body: its clauses are the laws, of every state in which
+//! each task has its own future.
 ghost use Rattle.std.specs.Prelude.{◌≡◌, ℕ, true};
 ghost use Rattle.model_loop.specs.Parts.{Parts};
 ghost use Rattle.model_loop.specs.Tasks.{is_marked};
@@ -7,8 +7,9 @@ ghost use Rattle.model_loop.specs.Cancel.{has_seen, cancel};
 ghost use Rattle.model_loop.specs.Owning.{OwnsFutures};
 ghost use Rattle.law_promises.specs.Reached.{WasReached, GoesOn};
 
-/// Each task that a request comes to is afterwards marked, or the request went on to what it waits for, which was cancelled,
-/// keeps that it was asked, or is the future of a task that the request came to.
+/// Each task that a request comes to is afterwards marked, or the request went on to what it waits
+/// for, which was cancelled, keeps that it was asked, or is the future of a task that the request
+/// came to.
 pub fn a_cancel_goes_on()
     ensures { (id : ℕ) (p : Parts) → OwnsFutures p → (task : ℕ)
         → has_seen (cancel id p).seen task ≡ true

@@ -7,8 +7,9 @@ ghost use Rattle.model_loop.specs.Groups.{exit_begin, exit_woken, group_of};
 ghost use Rattle.model_loop.specs.Sound.{IsSound};
 ghost use Rattle.law_promises.specs.Raised.{RaisesWhatFailed};
 
-/// Where the exit of a group ends, as it begins or after a wait, it raises together the failures of the group's tasks, in the
-/// order in which it was told of them, and last the body's; where nothing failed, the cancel that it kept, or nothing.
+/// Where the exit of a group ends, as it begins or after a wait, it raises together the failures of
+/// the group's tasks, in the order in which it was told of them, and last the body's; where nothing
+/// failed, the cancel that it kept, or nothing.
 pub fn an_exit_raises_what_failed()
     ensures begins { (running : Option ℕ) (told : ℕ → List ℕ) (raised : Option Exc) (id : ℕ)
         (l : Loop)

@@ -11,8 +11,9 @@ ghost use Rattle.model_loop.specs.Totals.{callbacks_of};
 ghost use Rattle.model_loop.specs.Children.{failures, tells};
 ghost use Rattle.model_loop.specs.Sound.{IsSound};
 
-/// Once its exit has ended all tasks that were made in it are done, it was told of each of them once, and its errors are the
-/// failures of those that failed, in the order in which it was told, and last the body's.
+/// Once its exit has ended all tasks that were made in it are done, it was told of each of them
+/// once, and its errors are the failures of those that failed, in the order in which it was told,
+/// and last the body's.
 pub fn a_group_ends_after_its_children()
     ensures done { (running : Option ℕ) (told : ℕ → List ℕ) (l : Loop) → IsSound running told l
         → (id : ℕ)
@@ -28,8 +29,8 @@ pub fn a_group_ends_after_its_children()
         → (group_of l id).errors ≡ failures l.parts (told id) ++ body_failure (group_of l id).body }
 {}
 
-/// Before that its errors are the failures of those that it was told of, each once, and it will be told once of each child
-/// that lives.
+/// Before that its errors are the failures of those that it was told of, each once, and it will be
+/// told once of each child that lives.
 pub fn a_group_is_told_once()
     ensures once { (running : Option ℕ) (told : ℕ → List ℕ) (l : Loop) → IsSound running told l
         → (id task : ℕ)
@@ -43,8 +44,8 @@ pub fn a_group_is_told_once()
         → count_by (tells id task) (callbacks_of l.parts (future_of l.parts task)) ≡ 1 }
 {}
 
-/// An exit that ends where something failed raises the errors and the body's failure as one group, whose members they are,
-/// unless it would be too deep or too heavy.
+/// An exit that ends where something failed raises the errors and the body's failure as one group,
+/// whose members they are, unless it would be too deep or too heavy.
 pub fn an_exit_raises_its_errors()
     ensures answer { (errors : List Exc) (id : ℕ) (l : Loop) (kept : Option Exc)
         → (errors ≡ [] → kept ≡ None)

@@ -1,5 +1,5 @@
-//! Where a mark falls, by which a cancel waits for its task's next step. Each function has no body: its clauses are the
-//! laws, of every state.
+//! Where a mark falls, by which a cancel waits for its task's next step. Each function has no body:
+//! its clauses are the laws, of every state.
 ghost use Rattle.std.specs.Prelude.{◌≡◌, ℕ, true, false, Some, Result, Err};
 ghost use Rattle.model_value.specs.declared.input.Input.TheVariants.{Throw};
 ghost use Rattle.model_value.specs.declared.outcome.Outcome.TheVariants.{Failed, Cancelled};
@@ -13,8 +13,8 @@ ghost use Rattle.model_loop.specs.Cancel.{cancel};
 ghost use Rattle.model_loop.specs.Suspend.{wait_on, suspend};
 ghost use Rattle.model_loop.specs.Owning.{OwnsFutures};
 
-/// At the beginning of its task's step, which is then resumed with a CancelledError; at its task's return, which then ends
-/// cancelled; and at a wait for a future whose cancel answered true.
+/// At the beginning of its task's step, which is then resumed with a CancelledError; at its task's
+/// return, which then ends cancelled; and at a wait for a future whose cancel answered true.
 pub fn a_mark_falls()
     ensures begins { (id : ℕ) (input : Input) (p : Parts) (task : ℕ) → is_marked p task ≡ true
         → is_marked (begin_step id input p).parts task ≡ false

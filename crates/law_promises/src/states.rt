@@ -1,4 +1,5 @@
-//! What a sound state says of tasks and timeouts. Each function has no body: its clauses are the laws.
+//! What a sound state says of tasks and timeouts. Each function has no body: its clauses are the
+//! laws.
 ghost use Rattle.std.specs.Prelude.{ℕ, ◌≤◌, List, Option};
 ghost use Rattle.model_loop.specs.Loop.{Loop};
 ghost use Rattle.model_loop.specs.Timeouts.{is_active, timeout_of};

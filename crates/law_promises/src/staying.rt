@@ -1,5 +1,5 @@
-//! What takes no mark away, but for the three places where one falls. Each function has no body: its clauses are the laws, of
-//! every state.
+//! What takes no mark away, but for the three places where one falls. Each function has no body:
+//! its clauses are the laws, of every state.
 ghost use Rattle.std.specs.Prelude.{ℕ, ℤ, List, Option};
 ghost use Rattle.model_value.specs.Action.{Action};
 ghost use Rattle.model_value.specs.Input.{Input};

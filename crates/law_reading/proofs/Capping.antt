@@ -66,7 +66,10 @@ then_fits operand found = option_and_then (λ y. option_map (λ ys. y ∷ ys) fo
 
 row-low : (t : Term) (ts : List Term) (found : Option (List Term)) → height t ≤ most_height → CappedRow ts found → CappedRow (t ∷ ts) (then_fits (Fits t) found)
 row-low t ts found h row =
-    elim row.is [ inl low ↦ record { is = inl (omega (arith, low.0), ap (then_fits (Fits t)) low.1) } | inr high ↦ record { is = inr (omega (arith, high.0), ap (then_fits (Fits t)) high.1) } ]
+    elim row.is [
+      | inl low ↦ record { is = inl (omega (arith, low.0), ap (then_fits (Fits t)) low.1) }
+      | inr high ↦ record { is = inr (omega (arith, high.0), ap (then_fits (Fits t)) high.1) }
+    ]
 
 row-at : (t : Term) (ts : List Term) (found : Option (List Term)) → (most_height < height t) ⊎ (height t ≤ most_height) → CappedRow ts found
     → CappedRow (t ∷ ts) (then_fits (capped t) found)
@@ -81,7 +84,10 @@ row (t ∷ ts) = row-at t ts (all_of that_fits (map capped ts)) (cases_lt most_h
 all-at : (build : List Term → Term) (all : List Term) (found : Option (List Term)) → height_of_all (terms all) ≤ height (build all) → CappedRow all found
     → capped (build all) ≡ of_fitting build found
 all-at build all found h row =
-    elim row.is [ inl low ↦ sym (ap (of_fitting build) low.1) | inr high ↦ capped-high (build all) (omega (arith, high.0)) ∙ sym (ap (of_fitting build) high.1) ]
+    elim row.is [
+      | inl low ↦ sym (ap (of_fitting build) low.1)
+      | inr high ↦ capped-high (build all) (omega (arith, high.0)) ∙ sym (ap (of_fitting build) high.1)
+    ]
 
 pub all-capped : (build : List Term → Term) (all : List Term) → height_of_all (terms all) ≤ height (build all) → capped (build all)
     ≡ of_all build (map capped all)

@@ -132,17 +132,19 @@ module _ {S : Type 0} (added : Extra S) (task : ℕ) (s : State S) (asked : Requ
         (spawn_after (names_made (next_task s.loop.parts)) (Some task) s.loop.parts))
         (length-append s.loop.parts.tasks _) (count_unbegun (spawn s.loop.parts) (next_task s.loop.parts) (spawned_step s.loop.parts)) h
 
+    child_after : (id : ℕ) → IsAfter (names_made (next_task s.loop.parts)) false None (spawn s.loop.parts) (with_child id s.loop.parts)
+    child_after id =
+        register_after (names_made (next_task s.loop.parts)) false None (next_future s.loop.parts) (GroupDone id (next_task s.loop.parts))
+        (spawn s.loop.parts) refl
+
     child_step : (id : ℕ) → 0 < pending_where (is_step (next_task s.loop.parts)) (with_child id s.loop.parts).pending
     child_step id =
-        let a = register_after (names_made (next_task s.loop.parts)) false None (next_future s.loop.parts) (GroupDone id (next_task s.loop.parts)) (spawn s.loop.parts) refl in
-        let b = a.steps (next_task s.loop.parts) refl in
-        let c = spawned_step s.loop.parts in
-        omega (arith, b, c)
+        let a = (child_after id).steps (next_task s.loop.parts) refl in
+        let b = spawned_step s.loop.parts in
+        omega (arith, a, b)
 
     child_count : (id : ℕ) → next_task (with_child id s.loop.parts) ≡ next_task s.loop.parts + 1
-    child_count id =
-        let a = register_after (names_made (next_task s.loop.parts)) false None (next_future s.loop.parts) (GroupDone id (next_task s.loop.parts)) (spawn s.loop.parts) refl in
-        a.same refl ∙ length-append s.loop.parts.tasks _
+    child_count id = (child_after id).same refl ∙ length-append s.loop.parts.tasks _
 
     pub creates_in : (id : ℕ) → RepliesSound task (creates id coroutine arguments s) → RepliesInStep added false task (creates id coroutine arguments s)
     creates_in id h = at (refusal (group_of s.loop id)) refl h

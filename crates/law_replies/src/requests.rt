@@ -11,8 +11,8 @@ ghost use Rattle.law_turns.specs.Replied.{HasPlainFutures, IsFit};
 ghost use Rattle.law_inside.specs.InStep.{IsStepSound, RepliesInStep, is_added};
 ghost use Rattle.law_replies.specs.Added.{KeepsSound};
 
-/// Each request that a task makes in its step is fit, and what it comes to is sound: inside the step once it was answered, and
-/// whole where it ends the step.
+/// Each request that a task makes in its step is fit, and what it comes to is sound: inside the
+/// step once it was answered, and whole where it ends the step.
 pub fn requests_are_fit<S>()
     ensures fit { (added : Extra S) (task : ℕ) (s : State S) → IsStepSound added task s
         → (asked : Request) → says_of step_limit added task s ≡ Asks asked → is_added asked ≡ false

@@ -1,38 +1,30 @@
 -- A step begins by a handle that steps its task: what the task stands at says what the input means, and the answer is sound.
-use Rattle.std.proofs.Common.{◌≡◌, ℕ, zero, suc, ◌<◌, ◌≤◌, ◌+◌, ◌⊎◌, inl, inr, Bool, true, false, cond, not, ◌&&◌, ◌==◌, List, [], ◌∷◌, ◌++◌, Option, Some}
-use Rattle.std.proofs.Common.{None, length, slice_get, if◌then◌else◌, refl, sym, ap, subst, ◌∙◌, arith}
-use mathlib.Core.List.{nil≢cons}
-use Rattle.std.specs.List.{count_by}
-use Rattle.std.specs.Option.{option_and_then, option_map_or}
-use Rattle.std.proofs.lemmas.Bool.{cases_eq, cases_lt, eq-eqb, ne_eqb, eqb-true, false≢true}
+use Rattle.std.proofs.Common.{◌≡◌, ℕ, ◌<◌, ◌≤◌, ◌⊎◌, inl, inr, Bool, true, false, cond, not, ◌&&◌, ◌==◌, List, [], ◌∷◌, Option, Some}
+use Rattle.std.proofs.Common.{None, length, if◌then◌else◌, refl, sym, ap, subst, ◌∙◌, arith}
+use Rattle.std.proofs.lemmas.Bool.{cases_lt, eq-eqb, eqb-true, false_from_ne_true, false≢true}
 use Rattle.model_value.specs.Action.{Action}
 use Rattle.model_value.specs.declared.action.Action.TheVariants.{Step, SleepDone}
 use Rattle.model_value.specs.Input.{Input}
 use Rattle.model_value.specs.declared.input.Input.TheVariants.{Send, Throw}
 use Rattle.model_value.specs.declared.request.Request.TheVariants as request
 use Rattle.model_value.specs.Request.{Request}
-use Rattle.model_value.specs.Value.{Value, Exc, Group, Outcome}
+use Rattle.model_value.specs.Value.{Value, Exc, Group}
 use Rattle.model_says.specs.Blocks.{open_with}
 use Rattle.model_says.specs.Endings.{Asks, saying_of}
 use Rattle.model_says.specs.Says.{course, step_limit}
 use Rattle.model_wire.specs.declared.event.Event.TheVariants as event
-use Rattle.model_loop.specs.Entries.{entries, is_sleep_end, no_sleep_as}
-use Rattle.model_loop.specs.Futures.{future_outcome}
+use Rattle.model_loop.specs.Entries.{entries, is_sleep_end}
 use Rattle.model_loop.specs.Groups.{exit_woken, group_of, new_group}
-use Rattle.model_loop.specs.Handles.{revoke}
-use Rattle.model_loop.specs.Loop.{Group as GroupFields, in_parts}
+use Rattle.model_loop.specs.Loop.{Group as GroupFields}
 use Rattle.model_loop.specs.Parts.{Handle, Parts}
-use Rattle.model_loop.specs.Tasks.{begin_step, cancelled_error, cancelling_input, is_cancelled, is_marked, lives, next_task, waiter_of}
-use Rattle.model_loop.specs.Totals.{pending_where}
+use Rattle.model_loop.specs.Tasks.{begin_step, cancelled_error, cancelling_input, is_cancelled, is_marked, lives, next_task}
 use Rattle.model_loop.specs.Ways.{is_running, one_if, steps, wanted}
 use Rattle.model_machine.specs.Extra.{Extra}
-use Rattle.model_machine.specs.Outcomes.{input_of, woken_with}
-use Rattle.model_machine.specs.Replies.{RequestReply, decides, exits_as, replied}
-use Rattle.model_machine.specs.Sound.{IsStateSound, NamesItsSleep, ends_sleep_of, blocks_of, names_block, names_made, sends_made, stands_at}
-use Rattle.model_machine.specs.State.{Standing, Asked, Sleeping, Leaving, Serving, Generator, State, generator_of, noted, resumed, stands, unbooked_in}
+use Rattle.model_machine.specs.Replies.{decides, exits_as, replied}
+use Rattle.model_machine.specs.Sound.{IsStateSound, ends_sleep_of, blocks_of, names_block, names_made, sends_made, stands_at}
+use Rattle.model_machine.specs.State.{Standing, Asked, Sleeping, Leaving, Serving, State, generator_of, noted, resumed, stands, unbooked_in}
 use Rattle.model_machine.specs.State.{with_loop}
 use Rattle.model_machine.specs.Step.{given_up, says_of}
-use Rattle.model_machine.specs.Told.{told_in}
 use Rattle.law_settling.specs.Frames.{taken}
 use Rattle.law_steps.proofs.Stepping.{taken-where}
 use Rattle.law_timeouts.proofs.Entries.{entries-fewer, of_tag}
@@ -45,15 +37,15 @@ use Rattle.law_after.proofs.Requests.{begin_after}
 use Rattle.law_after.proofs.Loops.{parts_loop, refl_loop}
 use Rattle.law_after.proofs.Exits.{exit_woken_loop, exit_woken_leaves}
 use Rattle.law_replies.specs.Added.{KeepsSound}
-use Rattle.law_inside.specs.InStep.{IsLeft, IsStepSound, IsAsked, RepliesInStep, SameTapes}
-use Rattle.law_replies.proofs.Answering.{half, left_before, step_to}
+use Rattle.law_inside.specs.InStep.{IsStepSound, IsAsked, RepliesInStep}
+use Rattle.law_replies.proofs.Answering.{left_before, step_to}
 use Rattle.law_inside.proofs.Blocks.{open_kept}
-use Rattle.law_inside.proofs.Counts.{and_first, and_second, and_both, not_true, lives_before, lives_within, no_sleep_of, sleep_none}
+use Rattle.law_inside.proofs.Counts.{and_first, and_second, not_true, lives_before, lives_within, no_sleep_of, sleep_none}
 use Rattle.law_replies.proofs.Exiting.{group_there, exits_in, leaving_is}
 use Rattle.law_inside.proofs.Given.{asked_leaves}
 use Rattle.law_replies.proofs.Innermost.{innermost_group}
-use Rattle.law_inside.proofs.Keeping.{IsApart, apart_of, but_none, open_of, with_open, says_same, tapes_blocks, futures_kept, loop_keeps, stays_stood}
-use Rattle.law_inside.proofs.Keeping.{leaves_none, stood_standing, stood_tape, stood_says, stood_blocks, stands_keeps}
+use Rattle.law_inside.proofs.Keeping.{IsApart, apart_of, but_none, open_of, with_open, futures_kept, loop_keeps, stays_stood}
+use Rattle.law_inside.proofs.Keeping.{leaves_none, stood_standing, stood_says, stood_blocks, stands_keeps}
 use Rattle.law_replies.proofs.Table.{same_tapes, sleeps_leaves}
 use Rattle.law_inside.proofs.Tapes.{past_default}
 
@@ -74,7 +66,7 @@ both_true : (a b c : Bool) → (b ≡ true → c ≡ true) → (a && b) ≡ true
 both_true true b c f h = f h
 both_true false b c f h = h
 
-serving_leaves : (key id : ℕ) → Serving key ≡ Leaving id → ⊥
+pub serving_leaves : (key id : ℕ) → Serving key ≡ Leaving id → ⊥
 serving_leaves key id e = absurd (cc)
 
 sleeping_serves : (tag key : ℕ) → Sleeping tag ≡ Serving key → ⊥
@@ -261,13 +253,9 @@ module _ {S : Type 0} (added : Extra S) (s : State S) (task : ℕ) (input : Inpu
 
   -- ---- its coroutine asks as before
   over : s.main_done ≡ true → lives t.loop.parts 0 ≡ false
-  over done = at (lives t.loop.parts 0) refl
-    where
-      at : (b : Bool) → lives t.loop.parts 0 ≡ b → lives t.loop.parts 0 ≡ false
-      at false e = e
-      at true e =
-          absurd (false≢true (sym (sound.tasks.main_over done)
-          ∙ lives_before _ _ (Some task) s.loop.parts t.loop.parts moved_after.parts sound.loop.parts.owns 0 sound.tasks.main_told.made e))
+  over done =
+      false_from_ne_true (lives t.loop.parts 0) (λ e. false≢true (sym (sound.tasks.main_over done)
+      ∙ lives_before _ _ (Some task) s.loop.parts t.loop.parts moved_after.parts sound.loop.parts.owns 0 sound.tasks.main_told.made e))
 
   t_half : IsApart (Some task) (Some task) added t
   t_half =

@@ -1,11 +1,11 @@
 -- Each callback of a turn leaves a sound state.
-use Rattle.std.proofs.Common.{◌≡◌, ℕ, zero, suc, ◌<◌, ◌+◌, ◌⊎◌, inl, inr, Bool, true, false, cond, not, ◌&&◌, List, [], ◌∷◌, ◌++◌, Option, Some, None, length}
+use Rattle.std.proofs.Common.{◌≡◌, ℕ, zero, suc, Bool, true, false, cond, not, ◌&&◌, List, [], ◌∷◌, ◌++◌, Option, Some, None}
 use Rattle.std.proofs.Common.{refl, sym, ap, subst, ◌∙◌, arith}
 use Rattle.std.specs.Option.{option_and_then, option_map_or}
 use Rattle.std.proofs.lemmas.Bool.{eq-eqb, false≢true}
 use Rattle.model_value.specs.Action.{Action}
 use Rattle.model_value.specs.Input.{Input}
-use Rattle.model_value.specs.Value.{Nothing, Outcome, Value}
+use Rattle.model_value.specs.Value.{Nothing, Outcome}
 use Rattle.model_value.specs.declared.action.Action.TheVariants as action
 use Rattle.model_value.specs.declared.input.Input.TheVariants.{Send, Throw}
 use Rattle.model_value.specs.declared.outcome.Outcome.TheVariants.{Value as Returned}
@@ -16,39 +16,35 @@ use Rattle.model_loop.specs.Circles.{circle_fault}
 use Rattle.model_loop.specs.Deadlines.{fires}
 use Rattle.model_loop.specs.Futures.{future_outcome, settle}
 use Rattle.model_loop.specs.Groups.{child_done}
-use Rattle.model_loop.specs.Loop.{TimeoutState, Created, Active, Expiring, Expired, Finished, Loop, in_parts}
-use Rattle.model_loop.specs.Parts.{Handle, Parts}
-use Rattle.model_loop.specs.Sound.{IsSound}
-use Rattle.model_loop.specs.Tasks.{lives, next_task, waiter_of}
+use Rattle.model_loop.specs.Loop.{TimeoutState, Created, Active, Expiring, Expired, Finished, in_parts}
+use Rattle.model_loop.specs.Parts.{Handle}
+use Rattle.model_loop.specs.Tasks.{next_task, waiter_of}
 use Rattle.model_loop.specs.Timeouts.{fire, is_active, timeout_of}
-use Rattle.model_loop.specs.Totals.{pending_where}
-use Rattle.model_loop.specs.Ways.{is_running, steps}
-use Rattle.model_machine.specs.Extra.{Extra, called}
+use Rattle.model_loop.specs.Ways.{steps}
+use Rattle.model_machine.specs.Extra.{Extra}
 use Rattle.model_machine.specs.Outcomes.{input_of, woken_with}
 use Rattle.model_machine.specs.Replies.{RequestReply, Answers, Raises, Rests, Halts, reply}
-use Rattle.model_machine.specs.Sound.{IsStateSound, blocks_of, is_main_done, is_open, names_made, sends_made}
-use Rattle.model_machine.specs.State.{State, generator_of, in_loop, noted, resumed, unbooked_in}
+use Rattle.model_machine.specs.Sound.{IsStateSound, is_main_done, is_open, names_made, sends_made}
+use Rattle.model_machine.specs.State.{State, generator_of, noted, unbooked_in}
 use Rattle.model_machine.specs.Step.{most_answers, says_of, serve, serve_all, served, step, taken_as}
 use Rattle.model_machine.specs.Told.{told_by, told_in}
 use Rattle.model_machine.specs.Turn.{effect, ran, run_first}
-use Rattle.model_machine.specs.Went.{Went, Goes, Stops}
+use Rattle.model_machine.specs.Went.{Went}
 use Rattle.law_settling.specs.Frames.{taken, is_followed}
-use Rattle.law_sound.proofs.Steps.{dead_sound, idle_sound, tags_of_sound}
+use Rattle.law_sound.proofs.Steps.{dead_sound, idle_sound, off, tags_of_sound}
 use Rattle.law_steps.proofs.Stepping.{taken-where}
 use Rattle.law_timeouts.proofs.Firing.{was_active}
 use Rattle.law_turns.specs.FitsTurn.{FitsAction, FitsLive}
 use Rattle.law_turns.specs.SoundState.{HasSoundLoop, LeavesSoundLoop}
 use Rattle.law_turns.proofs.Running.{first_sound}
 use Rattle.law_turns.proofs.Turning.{as_told, tells_none}
-use Rattle.law_after.specs.After.{is_step, IsAfter, IsLoopAfter}
+use Rattle.law_after.specs.After.{is_step, IsLoopAfter}
 use Rattle.law_after.proofs.Deadlines.{fire_loop}
-use Rattle.law_after.proofs.Loops.{child_done_loop, loop_on, parts_loop, refl_loop}
+use Rattle.law_after.proofs.Loops.{child_done_loop, loop_on, parts_loop}
 use Rattle.law_after.proofs.Parts.{settle_after, taken_after}
 use Rattle.law_replies.specs.Added.{KeepsSound}
 use Rattle.law_inside.specs.InStep.{IsStepSound, LeavesStateSound, RepliesInStep}
 use Rattle.law_runs.proofs.Beginning.{begins_in}
-use Rattle.law_inside.proofs.Blocks.{open_kept}
-use Rattle.law_inside.proofs.Counts.{lives_before}
 use Rattle.law_runs.proofs.Finishing.{returns_sound, raises_sound}
 use Rattle.law_inside.proofs.Given.{ended_made}
 use Rattle.law_inside.proofs.Keeping.{apart_of, but_none}
@@ -107,10 +103,6 @@ active_open Created h = absurd (false≢true h)
 active_open Expiring h = absurd (false≢true h)
 active_open Expired h = absurd (false≢true h)
 active_open Finished h = absurd (false≢true h)
-
-off : (b : Bool) → (b && false) ≡ false
-off true = refl
-off false = refl
 
 -- ---- callbacks
 module _ {S : Type 0} (added : Extra S) (keeps : KeepsSound added) (s : State S) (handle : Handle) (rest : List Handle)

@@ -1,19 +1,18 @@
 -- A task that returned or raised has left its blocks, and its end leaves a sound state.
-use Rattle.std.proofs.Common.{◌≡◌, ℕ, ◌<◌, ◌≤◌, ◌⊎◌, inl, inr, Bool, true, false, not, ◌&&◌, List, [], ◌∷◌, Option, Some, None, Result, Ok, Err, length, map}
-use Rattle.std.proofs.Common.{is_none, slice_get, if◌then◌else◌, refl, sym, ap, subst, ◌∙◌, arith}
+use Rattle.std.proofs.Common.{◌≡◌, ℕ, ◌<◌, ◌≤◌, ◌⊎◌, inl, inr, true, false, not, ◌&&◌, [], Option, Some, None, Result, Ok, Err, length, map}
+use Rattle.std.proofs.Common.{is_none, slice_get, if◌then◌else◌, refl, sym, ap, subst, ◌∙◌}
 use Rattle.std.specs.List.{list_any}
-use Rattle.std.proofs.lemmas.Bool.{cases_eq, cases_lt, eq-eqb, ne_eqb, false≢true}
+use Rattle.std.proofs.lemmas.Bool.{cases_lt, eq-eqb, false_from_ne_true, false≢true}
 use Rattle.model_value.specs.Equality.{equal}
 use Rattle.model_value.specs.declared.outcome.Outcome.TheVariants.{Value as Returned, Failed, Cancelled}
-use Rattle.model_value.specs.Value.{Value, Nothing, Exc, Group, Outcome}
-use Rattle.model_says.specs.Endings.{Saying, Asks, Returns, Raises, saying_of}
-use Rattle.model_says.specs.Says.{course, step_limit}
+use Rattle.model_value.specs.Value.{Value, Exc, Group, Outcome}
+use Rattle.model_says.specs.Endings.{Returns, Raises}
+use Rattle.model_says.specs.Says.{step_limit}
 use Rattle.model_loop.specs.Futures.{is_pending, is_pending_at, settle, settled, settled_as}
 use Rattle.model_loop.specs.Groups.{group_of, new_group}
-use Rattle.model_loop.specs.Loop.{Group as GroupFields, in_parts}
+use Rattle.model_loop.specs.Loop.{Group as GroupFields}
 use Rattle.model_loop.specs.Parts.{Future, Parts}
 use Rattle.model_loop.specs.Tasks.{finish, future_of, is_cancelled, is_marked, lives, next_task, unmark}
-use Rattle.model_loop.specs.Ways.{is_running}
 use Rattle.model_machine.specs.Extra.{Extra}
 use Rattle.model_machine.specs.Sound.{IsStateSound, blocks_of, exchanges_of, names_made}
 use Rattle.model_machine.specs.State.{State, generator_of, unbooked_in}
@@ -26,10 +25,10 @@ use Rattle.law_cancel.proofs.Effects.{settle-pending}
 use Rattle.law_settling.proofs.Settling.{settle_effect}
 use Rattle.law_sound.proofs.Steps.{finish_step_sound}
 use Rattle.law_turns.specs.Fits.{HasNoOpenGroup}
-use Rattle.law_after.specs.After.{IsAfter, IsLoopAfter, ResultIn}
+use Rattle.law_after.specs.After.{IsLoopAfter, ResultIn}
 use Rattle.law_after.proofs.Loops.{parts_loop}
 use Rattle.law_after.proofs.Requests.{finish_after}
-use Rattle.law_inside.specs.InStep.{IsLeft, IsSoundBut, IsStepSound}
+use Rattle.law_inside.specs.InStep.{IsStepSound}
 use Rattle.law_replies.proofs.Answering.{left_before}
 use Rattle.law_inside.proofs.Blocks.{open_kept}
 use Rattle.law_inside.proofs.Counts.{lives_before, lives_within}
@@ -98,13 +97,9 @@ module _ {S : Type 0} (added : Extra S) (task : ℕ) (s : State S) (step : IsSte
         (step.others.loop.parts.runs task (eq-eqb task task refl)))) ∙ finish_done task end s.loop.parts) ∙ l)
 
     over : s.main_done ≡ true → lives t.loop.parts 0 ≡ false
-    over done = at (lives t.loop.parts 0) refl
-      where
-        at : (b : Bool) → lives t.loop.parts 0 ≡ b → lives t.loop.parts 0 ≡ false
-        at false e = e
-        at true e =
-            absurd (false≢true (sym (step.others.main_over done)
-            ∙ lives_before _ _ (Some task) s.loop.parts t.loop.parts after.parts step.others.loop.parts.owns 0 step.others.main_told.made e))
+    over done =
+        false_from_ne_true (lives t.loop.parts 0) (λ e. false≢true (sym (step.others.main_over done)
+        ∙ lives_before _ _ (Some task) s.loop.parts t.loop.parts after.parts step.others.loop.parts.owns 0 step.others.main_told.made e))
 
     pub ends : IsStateSound added t
     ends =

@@ -1,5 +1,5 @@
 -- Where nothing is added, that keeps states sound: each request that is added raises, and changes nothing.
-use Rattle.std.proofs.Common.{◌≡◌, ℕ, ℤ, pos, Bool, true, false, List, [], Option, Some, None, refl}
+use Rattle.std.proofs.Common.{ℕ, ℤ, pos, true, false, List, Option, Some, None, refl}
 use Rattle.model_value.specs.Input.{Input}
 use Rattle.model_value.specs.declared.input.Input.TheVariants.{Throw}
 use Rattle.model_value.specs.declared.request.Request.TheVariants as request
@@ -7,18 +7,16 @@ use Rattle.model_value.specs.Value.{Value, Exc}
 use Rattle.model_says.specs.Requests.{bad_argument}
 use Rattle.model_loop.specs.Tasks.{next_task}
 use Rattle.model_machine.specs.Arguments.{as_int, as_list}
-use Rattle.model_machine.specs.Extra.{Extra, no_extra, unknown_code}
-use Rattle.model_machine.specs.Replies.{RequestReply, given, reply, serves, woken}
-use Rattle.model_machine.specs.Sound.{IsStateSound, names_made}
-use Rattle.model_machine.specs.State.{Standing, Asked, Leaving, Serving, State, resumed}
+use Rattle.model_machine.specs.Extra.{no_extra, unknown_code}
+use Rattle.model_machine.specs.Replies.{given, reply, serves, woken}
+use Rattle.model_machine.specs.Sound.{names_made}
+use Rattle.model_machine.specs.State.{Asked, Serving, State, resumed}
 use Rattle.law_after.proofs.Loops.{refl_loop}
 use Rattle.law_replies.specs.Added.{KeepsSound}
 use Rattle.law_inside.specs.InStep.{IsAsked, IsStepSound, RepliesInStep}
 use Rattle.law_replies.proofs.Answering.{step_to}
 use Rattle.law_replies.proofs.Table.{same_tapes, thrown}
-
-serving_leaves : (key id : ℕ) → Serving key ≡ Leaving id → ⊥
-serving_leaves key id e = absurd (cc)
+use Rattle.law_runs.proofs.Beginning.{serving_leaves}
 
 module _ (task : ℕ) (code arguments : Value) (s : State (Unit {0})) (is : IsAsked no_extra task Asked (request.Extra code arguments) s) where
   raised : (fault : Exc) → IsStepSound no_extra task (resumed false task (Throw fault) s)

@@ -1,13 +1,10 @@
 -- A turn leaves a sound state, and so does each callback in it; so every state of a run is sound.
-use Rattle.std.proofs.Common.{◌≡◌, ℕ, zero, suc, ◌+◌, ◌⊎◌, inl, inr, Bool, true, false, not, ◌&&◌, List, [], ◌∷◌, ◌++◌, Option, Some, None, length, max, nat_lt}
-use Rattle.std.proofs.Common.{refl, sym, ap, subst, ◌∙◌, le_refl, arith}
+use Rattle.std.proofs.Common.{◌≡◌, ℕ, zero, suc, Bool, true, false, not, ◌&&◌, List, [], ◌∷◌, ◌++◌, Option, Some, None, length, nat_lt}
+use Rattle.std.proofs.Common.{refl, sym, ap, subst, ◌∙◌, le_refl}
 use Rattle.std.specs.List.{flat_map}
 use Rattle.model_value.specs.Action.{Action}
-use Rattle.model_value.specs.Value.{Value, Nothing, Outcome}
+use Rattle.model_value.specs.Value.{Outcome}
 use Rattle.model_value.specs.declared.action.Action.TheVariants as action
-use Rattle.model_value.specs.declared.input.Input.TheVariants.{Send, Throw}
-use Rattle.model_value.specs.declared.request.Request.TheVariants as request
-use Rattle.model_value.specs.Input.{Input}
 use Rattle.model_says.specs.Says.{step_limit}
 use Rattle.model_wire.specs.declared.event.Event.TheVariants as event
 use Rattle.model_wire.specs.declared.item.Item.TheVariants as item
@@ -17,28 +14,26 @@ use Rattle.model_wire.specs.Call.{Answer, Call, Item}
 use Rattle.model_wire.specs.Event.{Event}
 use Rattle.model_wire.specs.Fits.{fits}
 use Rattle.model_wire.specs.Journal.{Entry, Answered, Refused}
+use Rattle.model_wire.specs.Trace.{End}
 use Rattle.model_loop.specs.Ending.{cancel_everything}
 use Rattle.model_loop.specs.Handles.{due, soon, soon_all}
 use Rattle.model_loop.specs.Ledger.{ByEnd, request_each}
-use Rattle.model_loop.specs.Loop.{Loop, in_parts}
+use Rattle.model_loop.specs.Loop.{in_parts}
 use Rattle.model_loop.specs.Parts.{Handle, Parts}
 use Rattle.model_loop.specs.Sound.{IsSound}
 use Rattle.model_loop.specs.Tasks.{next_task}
-use Rattle.model_loop.specs.Ways.{is_running}
 use Rattle.std.specs.List.{range_with_len}
-use Rattle.model_machine.specs.Arguments.{as_int, as_list}
-use Rattle.model_machine.specs.Extra.{Extra, called, no_extra, unknown_code}
-use Rattle.model_machine.specs.Mids.{mids, mids_below, mids_by, mids_fitted, mids_from, mids_if, mids_unless, next_mids, then_mids}
+use Rattle.model_machine.specs.Extra.{Extra}
+use Rattle.model_machine.specs.Mids.{mids, mids_below, mids_by, mids_fitted, mids_if, mids_unless, next_mids, then_mids}
 use Rattle.model_machine.specs.Outcomes.{finished_as}
 use Rattle.model_machine.specs.Outside.{actions_of, items_of, news_of, ready_actions, time_of}
 use Rattle.model_machine.specs.Sound.{IsStateSound, is_main_done, names_made}
-use Rattle.model_machine.specs.State.{State, Asked, Serving, in_loop, noted, unbooked_in}
+use Rattle.model_machine.specs.State.{State, in_loop, noted, unbooked_in}
 use Rattle.model_machine.specs.Told.{told_by, told_in}
 use Rattle.model_machine.specs.Turn.{at_time, call_of, cancelled_if, finished_if, is_stalled, next_below, run_below, run_first, run_if, run_pending, turn}
 use Rattle.model_machine.specs.Turn.{turn_over, turn_unless, turned_by, woken_by}
 use Rattle.model_machine.specs.Went.{Went, Goes, Stops, answered_by, fitted, went_on}
 use Rattle.law_sound.proofs.Steps.{end_of_run_sound}
-use Rattle.law_turns.specs.SoundState.{HasSoundLoop}
 use Rattle.law_turns.proofs.Turning.{as_told, at_time_sound, items_sound, soon_all-append, woken_sound}
 use Rattle.law_after.specs.After.{IsAfter, IsLoopAfter}
 use Rattle.law_after.proofs.Loops.{book_loop, parts_loop, refl_loop}
@@ -46,7 +41,7 @@ use Rattle.law_after.proofs.Made.{due_after}
 use Rattle.law_after.proofs.Parts.{refl_after, after_on, same_after, soon_after}
 use Rattle.law_after.proofs.Requests.{each_after}
 use Rattle.law_replies.specs.Added.{KeepsSound}
-use Rattle.law_inside.specs.InStep.{AreStatesSound, Afterwards, IsAsked, IsRunSound, IsStepSound, LeavesStateSound, RepliesInStep}
+use Rattle.law_inside.specs.InStep.{AreStatesSound, Afterwards, IsRunSound, LeavesStateSound}
 use Rattle.law_inside.proofs.Nobody.{nobody, over_as}
 use Rattle.law_runs.proofs.Callbacks.{callback_in}
 
@@ -127,8 +122,11 @@ module _ {S : Type 0} (added : Extra S) where
           (after_on (names_made n) false None s.loop.parts p q (items_after n (items_of answer) p) (timed_after n (time_of answer) s.loop.parts)))
 
   -- ---- the end of a turn
-  pub ended_in : (done_before : Bool) (s : State S) → IsStateSound added s → LeavesStateSound added (turn_over done_before s)
-  ended_in done_before s sound = at (s.main_done && not done_before)
+  cancelled_in : (b : Bool) (s : State S) → IsStateSound added s → IsStateSound added (cancelled_if b s)
+  cancelled_in false s sound = sound
+  cancelled_in true s sound =
+      nobody added s sound (in_loop cancel_everything s) (record { program = refl; generators = refl }) refl
+      (over_as added s sound (cancel_everything s.loop) all) all (end_of_run_sound None (told_in s.events) s.loop sound.loop)
     where
       all : IsLoopAfter (names_made (next_task s.loop.parts)) false None None None None s.loop (cancel_everything s.loop)
       all =
@@ -136,18 +134,48 @@ module _ {S : Type 0} (added : Extra S) where
           (request_each ByEnd (range_with_len 0 (next_task s.loop.parts))) s.loop
           (each_after (names_made (next_task s.loop.parts)) false None ByEnd (range_with_len 0 (next_task s.loop.parts)) s.loop.parts)
 
-      cancelled : (b : Bool) → IsStateSound added (cancelled_if b s)
-      cancelled true =
-          nobody added s sound (in_loop cancel_everything s) (record { program = refl; generators = refl }) refl
-          (over_as added s sound (cancel_everything s.loop) all) all (end_of_run_sound None (told_in s.events) s.loop sound.loop)
-      cancelled false = sound
+  -- ---- what a turn leaves: something that holds of a sound state, whether the run goes on from there or stops outside a step
+  module _ (Left : Went S → Type 0) (goes : (now : State S) → IsStateSound added now → Left (Goes now))
+      (stops : (how : End) (last : State S) → IsStateSound added last → Left (Stops how last)) where
+    pub over_left : (done_before : Bool) (s : State S) → IsStateSound added s → Left (turn_over done_before s)
+    over_left done_before s sound =
+        let left = cancelled_if (s.main_done && not done_before) s in
+        finished (finished_as left) left (cancelled_in (s.main_done && not done_before) s sound)
+      where
+        finished : (o : Option Outcome) (left : State S) → IsStateSound added left → Left (finished_if o left)
+        finished None left sound = goes left sound
+        finished (Some outcome) left sound = stops _ left sound
 
-      finished : (o : Option Outcome) (b : Bool) → LeavesStateSound added (finished_if o (cancelled_if b s))
-      finished None b = cancelled b
-      finished (Some outcome) b = tt
+    pub turn_left : ((answer : Answer) (t : State S) → IsStateSound added t → Left (turned_by step_limit added answer t))
+        → (s : State S) → IsStateSound added s → Left (turn step_limit added s)
+    unfolding turn
+    turn_left turned s sound = unless (is_stalled added s)
+      where
+        asked : IsStateSound added (noted (event.Called (call_of added s)) s)
+        asked =
+            nobody added s sound (noted (event.Called (call_of added s)) s) (record { program = refl; generators = refl }) refl
+            sound.tasks.main_over (refl_loop (names_made (next_task s.loop.parts)) refl false None None None None s.loop)
+            (as_told None (told_in s.events) (told_in (s.events ++ event.Called (call_of added s) ∷ [])) s.loop
+            (λ g. told_call s.events (call_of added s) g) sound.loop)
 
-      at : (b : Bool) → LeavesStateSound added (finished_if (finished_as (cancelled_if b s)) (cancelled_if b s))
-      at b = finished (finished_as (cancelled_if b s)) b
+        fit : (b : Bool) (entries : List Entry) (answer : Answer)
+            → Left (fitted b (call_of added s) answer (turned_by step_limit added)
+            (noted (event.Got answer) (record (noted (event.Called (call_of added s)) s) { answers = entries })))
+        fit true entries answer = turned answer _ (noted_in s entries (call_of added s) answer sound)
+        fit false entries answer = stops _ _ (noted_in s entries (call_of added s) answer sound)
+
+        by : (entries : List Entry)
+            → Left (answered_by entries (call_of added s) (turned_by step_limit added) (noted (event.Called (call_of added s)) s))
+        by [] = stops _ _ asked
+        by (Refused line cause ∷ entries) = stops _ _ asked
+        by (Answered answer ∷ entries) = fit (fits (call_of added s) answer) entries answer
+
+        unless : (b : Bool) → Left (turn_unless step_limit added b s)
+        unless true = stops _ s sound
+        unless false = by s.answers
+
+  pub ended_in : (done_before : Bool) (s : State S) → IsStateSound added s → LeavesStateSound added (turn_over done_before s)
+  ended_in = over_left (LeavesStateSound added) (λ now h. h) (λ how last h. tt)
 
   -- ---- all callbacks before the bar
   module _ (keeps : KeepsSound added) where
@@ -204,24 +232,7 @@ module _ {S : Type 0} (added : Extra S) where
         (pending_in (unbooked_in (woken_by answer) s) (woken_in s answer sound))
 
     pub turn_in : (s : State S) → IsStateSound added s → LeavesStateSound added (turn step_limit added s)
-    unfolding turn
-    turn_in s sound = unless (is_stalled added s)
-      where
-        fit : (b : Bool) (entries : List Entry) (answer : Answer)
-            → LeavesStateSound added (fitted b (call_of added s) answer (turned_by step_limit added)
-            (noted (event.Got answer) (record (noted (event.Called (call_of added s)) s) { answers = entries })))
-        fit true entries answer = turned_in answer _ (noted_in s entries (call_of added s) answer sound)
-        fit false entries answer = tt
-
-        by : (entries : List Entry)
-            → LeavesStateSound added (answered_by entries (call_of added s) (turned_by step_limit added) (noted (event.Called (call_of added s)) s))
-        by [] = tt
-        by (Refused line cause ∷ entries) = tt
-        by (Answered answer ∷ entries) = fit (fits (call_of added s) answer) entries answer
-
-        unless : (b : Bool) → LeavesStateSound added (turn_unless step_limit added b s)
-        unless true = tt
-        unless false = by s.answers
+    turn_in = turn_left (LeavesStateSound added) (λ now h. h) (λ how last h. tt) turned_in
 
     pub mids_in : (s : State S) → IsStateSound added s → AreStatesSound added (mids step_limit added s)
     mids_in s sound = unless (is_stalled added s)

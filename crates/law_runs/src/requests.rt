@@ -1,5 +1,5 @@
-//! Laws of a task's step in a sound state: how it begins, each request, and the end of the task. Each function has no body: its
-//! clauses are the laws.
+//! Laws of a task's step in a sound state: how it begins, each request, and the end of the task.
+//! Each function has no body: its clauses are the laws.
 ghost use Rattle.std.specs.Prelude.{◌≡◌, ℕ, true, false, List, ◌∷◌, Ok, Err};
 ghost use Rattle.model_value.specs.Input.{Input};
 ghost use Rattle.model_value.specs.Request.{Request};
@@ -21,8 +21,9 @@ ghost use Rattle.law_turns.specs.Replied.{HasPlainFutures, IsFit, IsStanding};
 ghost use Rattle.law_replies.specs.Added.{KeepsSound};
 ghost use Rattle.law_inside.specs.InStep.{IsAsked, IsStepSound, LeavesStateSound, RepliesInStep, is_added};
 
-/// A step begins by a handle that steps its task, with an input that names tasks that were made. The task lives, and stands as
-/// the loop needs it; the coroutine asks what it asked before; and what the input means is sound.
+/// A step begins by a handle that steps its task, with an input that names tasks that were made.
+/// The task lives, and stands as the loop needs it; the coroutine asks what it asked before; and
+/// what the input means is sound.
 pub fn a_step_begins_sound<S>()
     ensures lives { (added : Extra S) (s : State S) (task : ℕ) (handle : Handle)
         (rest : List Handle)
@@ -60,7 +61,8 @@ pub fn a_step_begins_sound<S>()
         → sends_made (next_task s.loop.parts) (woken_with s.loop.parts task) ≡ true }
 {}
 
-/// A task that returns or raises is the parent of no group whose block is open, and its end leaves a sound state.
+/// A task that returns or raises is the parent of no group whose block is open, and its end leaves
+/// a sound state.
 pub fn a_task_ends_sound<S>()
     ensures returned { (added : Extra S) (task : ℕ) (s : State S) → IsStepSound added task s
         → (value : Value) → says_of step_limit added task s ≡ Returns value

@@ -1,5 +1,5 @@
-//! Laws of turns and runs. Each function has no body: its clauses are the laws. `S` is the state of what is added to the loop's
-//! own requests.
+//! Laws of turns and runs. Each function has no body: its clauses are the laws. `S` is the state of
+//! what is added to the loop's own requests.
 ghost use Rattle.std.specs.Prelude.{◌≡◌, ℕ, Bool, List, ◌∷◌};
 ghost use Rattle.model_tree.specs.Syntax.{Program};
 ghost use Rattle.model_says.specs.Says.{step_limit};
@@ -20,8 +20,8 @@ pub fn nothing_added_keeps_it_sound()
     ensures { KeepsSound no_extra }
 {}
 
-/// Each state of each run of every program, over whatever the outside answers, is sound: between two turns, and between any
-/// two callbacks of a turn.
+/// Each state of each run of every program, over whatever the outside answers, is sound: between
+/// two turns, and between any two callbacks of a turn.
 pub fn every_state_of_a_run_is_sound<S>()
     ensures nothing_added { (program : Program) (answers : List Entry) (turns : ℕ)
         → IsRunSound no_extra turns (start tt program answers) }
@@ -38,8 +38,8 @@ pub fn a_turn_keeps_it_sound<S>()
         → (s : State S) → IsStateSound added s → AreStatesSound added (mids step_limit added s) }
 {}
 
-/// Piece by piece: the call and its answer are noted, the time goes on and timers fall due, a callback runs, all before the bar
-/// run, and the turn ends.
+/// Piece by piece: the call and its answer are noted, the time goes on and timers fall due, a
+/// callback runs, all before the bar run, and the turn ends.
 pub fn the_pieces_of_a_turn_keep_it_sound<S>()
     ensures noted { (added : Extra S) (s : State S) (left : List Entry) (call : Call)
         (answer : Answer)

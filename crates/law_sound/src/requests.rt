@@ -1,5 +1,5 @@
-//! Requests to cancel, and counts that are taken back, by whoever is neither a timeout nor a group. Each function has no
-//! body: its clauses are the laws.
+//! Requests to cancel, and counts that are taken back, by whoever is neither a timeout nor a group.
+//! Each function has no body: its clauses are the laws.
 ghost use Rattle.std.specs.Prelude.{ℕ, List, Option};
 ghost use Rattle.model_loop.specs.Ledger.{Origin, ask_cancel, uncancel_by};
 ghost use Rattle.model_loop.specs.Loop.{Loop, book};

@@ -1,5 +1,5 @@
-//! What is appended and taken out between two callbacks keeps a state sound. Each function has no body: its clauses are
-//! the laws.
+//! What is appended and taken out between two callbacks keeps a state sound. Each function has no
+//! body: its clauses are the laws.
 ghost use Rattle.std.specs.Prelude.{◌≡◌, ℕ, true, false, List, ◌∷◌, Option, None};
 ghost use Rattle.model_value.specs.declared.action.Action.TheVariants.{SleepDone, MainDone};
 ghost use Rattle.model_value.specs.Value.{Outcome};

@@ -1,4 +1,5 @@
-//! What a task does in its step keeps a state sound. Each function has no body: its clauses are the laws.
+//! What a task does in its step keeps a state sound. Each function has no body: its clauses are the
+//! laws.
 ghost use Rattle.std.specs.Prelude.{◌≡◌, ℕ, ◌<◌, true, false, List, ◌∷◌, Option, Some, None, Result};
 ghost use Rattle.std.specs.List.{All};
 ghost use Rattle.model_value.specs.Input.{Input};
@@ -24,8 +25,8 @@ pub fn a_step_begins()
         (record l { parts = (begin_step task input (taken rest l.parts)).parts }) }
 {}
 
-/// It ends: the next one is called soon, or the task waits for a future that isn't done, or it is done. A task ends only
-/// once the blocks of its groups were left.
+/// It ends: the next one is called soon, or the task waits for a future that isn't done, or it is
+/// done. A task ends only once the blocks of its groups were left.
 pub fn a_step_ends()
     ensures pauses { (told : ℕ → List ℕ) (task : ℕ) (l : Loop)
         → IsSound (Some task) told l → IsSound None told (in_parts (pause task) l) }

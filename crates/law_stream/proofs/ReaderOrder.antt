@@ -69,7 +69,8 @@ front_until : (separator : List ℕ) (r : Reading) → TakesFront (take_until se
 front_until separator r =
     front_if (is_nothing separator) _ _ r.held (front_kept _ r.held)
     (front_unless r _
-    (elim (first_at separator r.held) as (λ found. TakesFront (elim found [ Some at ↦ until_found at (length separator) r | None ↦ until_unfound (length separator) r ]) r.held)
+    (elim (first_at separator r.held) as (λ found.
+    TakesFront (elim found [ Some at ↦ until_found at (length separator) r | None ↦ until_unfound (length separator) r ]) r.held)
     [ Some at ↦ front_found at (length separator) r | None ↦ front_unfound (length separator) r ]))
 
 front_line_at : (at : ℕ) (r : Reading) → TakesFront (line_at at r) r.held

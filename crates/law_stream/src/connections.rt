@@ -5,8 +5,9 @@ ghost use Rattle.model_stream.specs.Connections.{Connection, flushed};
 ghost use Rattle.model_stream.specs.Doing.{Ends};
 ghost use Rattle.model_stream.specs.Senders.{Sender, Outlet, has_unsent, close_sender, fail_sender};
 
-/// A loss comes without an exception only where nothing is unsent: closing waits for what is unsent, a closing connection
-/// is lost in the callback of its last send, and a child's standard input that breaks before fails.
+/// A loss comes without an exception only where nothing is unsent: closing waits for what is
+/// unsent, a closing connection is lost in the callback of its last send, and a child's standard
+/// input that breaks before fails.
 pub fn losses_without_exception_drop_nothing()
     ensures closes { (outlet : Outlet) (s : Sender) → has_unsent s ≡ true → close_sender outlet s
         ≡ Ends (record s { closing = true }) }

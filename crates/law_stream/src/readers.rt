@@ -3,20 +3,21 @@ ghost use Rattle.std.specs.Prelude.{◌≡◌, ◌+◌, ◌<◌, ◌≤◌, ◌+
 ghost use Rattle.model_stream.specs.Reading.{Reading, ReadOp, take_read, take_line, gives, removes, found_too_far, feed};
 ghost use Rattle.law_stream.specs.ReaderSteps.{ReaderStep, TakesFront, HoldsLine, all_after, fed, gone, feed_all, joined};
 
-/// An operation takes a front of what is held, perhaps none of it, and the bytes that it gives are that front.
+/// An operation takes a front of what is held, perhaps none of it, and the bytes that it gives are
+/// that front.
 pub fn takes_are_fronts()
     ensures { (op : ReadOp) (r : Reading) → TakesFront (take_read op r) r.held }
 {}
 
-/// What was held and what was fed since is what was taken and what is held now: a reader gives what it was fed, in order,
-/// once.
+/// What was held and what was fed since is what was taken and what is held now: a reader gives what
+/// it was fed, in order, once.
 pub fn readers_keep_order()
     ensures { (steps : List ReaderStep) (r : Reading) → r.held ++ fed steps
         ≡ gone steps r ++ (all_after steps r).held }
 {}
 
-/// A reader that was fed pieces is as one that was fed them at once. So no cut of the input changes what an operation
-/// answers.
+/// A reader that was fed pieces is as one that was fed them at once. So no cut of the input changes
+/// what an operation answers.
 pub fn cuts_do_not_matter()
     ensures two { (piece other : List ℕ) (r : Reading) → feed other (feed piece r)
         ≡ feed (piece ++ other) r }
@@ -24,7 +25,8 @@ pub fn cuts_do_not_matter()
         → feed_all (piece ∷ pieces) r ≡ feed (piece ++ joined pieces) r }
 {}
 
-/// A line whose newline stands at the limit is given, however high the limit is; one that is longer is removed.
+/// A line whose newline stands at the limit is given, however high the limit is; one that is longer
+/// is removed.
 pub fn lines_fit_up_to_the_limit()
     ensures fits { (text rest : List ℕ) (r : Reading) → HoldsLine text rest r
         → length text ≤ r.limit

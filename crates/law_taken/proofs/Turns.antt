@@ -99,7 +99,9 @@ module _ {S : Type 0} (added : Extra S) (keeps : KeepsSound added) (task : ℕ) 
       let gone = record l.parts { pending = rest } in
       let up = given_up st gone in
       let q = (begin_step task input up).parts in
-      let later = later_then l.parts up q (later_then l.parts gone up (later_same l.parts gone refl refl) (later_given_up st gone)) (later_begin task input up) in
+      let later =
+      later_then l.parts up q (later_then l.parts gone up (later_same l.parts gone refl refl) (later_given_up st gone))
+      (later_begin task input up) in
       let a = easy_parts l q later (λ other.
       let x = given_counts st gone other in let y = begin_counts task input up other in omega (arith, x, y)) in
       record {

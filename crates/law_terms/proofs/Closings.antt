@@ -84,7 +84,9 @@ module _ (x : Lexeme) (c : Closer x) where
         let b : Bool = is_behind p in
         let first : Parser Operand = around (term_within (suc (suc k))) o 1 b content in
         let next : Parser Operand = primary_level (term_within (suc (suc k))) o.loose o.tight (depth_behind 1 x) (ends_operand x) (ends found) in
-        let step : MovesPast x first next = primary-moves 1 b x (term_within (suc (suc k))) (uncut-inside 0 b x) o.loose o.tight (closed o.bracket content) (ends found) refl m in
+        let step : MovesPast x first next =
+        primary-moves 1 b x (term_within (suc (suc k))) (uncut-inside 0 b x) o.loose o.tight
+        (closed o.bracket content) (ends found) refl m in
         subst (MovesPast x (unwound (suc (suc k)) 1 b os first))
         (ap (λ d. outside d (ends_operand x) found) c.depth ∙ ap (λ behind. outside 0 behind found) c.behind)
         (lift x os (suc (suc k)) 0 b first next refl step)
@@ -107,7 +109,9 @@ module _ (x : Lexeme) (c : Closer x) where
         let test : Bool = is_sign (closing o.bracket) x in
         let found : Option Operand = if test then whole o.bracket p else None in
         let whole-is : content [] ≡ whole o.bracket p = contents-whole (term_within (suc k)) o.bracket p in
-        let closed-is : MovesPast x (closed o.bracket content) (ends found) = record { at = closes o.bracket content (whole o.bracket p) whole-is (over (term_within (suc k)) o.bracket p) } in
+        let closed-is : MovesPast x (closed o.bracket content) (ends found) = record {
+          at = closes o.bracket content (whole o.bracket p) whole-is (over (term_within (suc k)) o.bracket p);
+        } in
         record {
           fuel = suc (suc k);
           enough = omega arith;

@@ -91,11 +91,14 @@ lift x (o ∷ os) k d b f g e m =
     let inner : Parser Operand = contents (term_within k) o.bracket (suc d) b f in
     let behind : Parser Operand = contents (term_within k) o.bracket (depth_behind (suc d) x) (ends_operand x) g in
     let moved : MovesPast x inner behind = contents-moves (term_within k) o.bracket (suc d) b x f g refl m in
-    let step : MovesPast x (around (term_within (suc k)) o (suc (suc d)) b inner) (around (term_within (suc k)) o (depth_behind (suc (suc d)) x) (ends_operand x) behind) = around-moves (term_within (suc k)) o (suc d) b x inner behind (closed-inside x inner behind o.bracket (contents-nothing (term_within k) o.bracket (suc d) b f e) moved) in
-    subst (λ n. MovesPast x (unwound (suc k) (suc (suc d)) b os (around (term_within (suc k)) o (suc (suc d)) b inner))
+    let first : Parser Operand = around (term_within (suc k)) o (suc (suc d)) b inner in
+    let next : Parser Operand = around (term_within (suc k)) o (depth_behind (suc (suc d)) x) (ends_operand x) behind in
+    let step : MovesPast x first next =
+    around-moves (term_within (suc k)) o (suc d) b x inner behind
+    (closed-inside x inner behind o.bracket (contents-nothing (term_within k) o.bracket (suc d) b f e) moved) in
+    subst (λ n. MovesPast x (unwound (suc k) (suc (suc d)) b os first)
     (unwound (suc k) n (ends_operand x) os (around (term_within (suc k)) o n (ends_operand x) behind))) (deeper d x)
-    (lift x os (suc k) (suc d) b (around (term_within (suc k)) o (suc (suc d)) b inner)
-    (around (term_within (suc k)) o (depth_behind (suc (suc d)) x) (ends_operand x) behind) refl step)
+    (lift x os (suc k) (suc d) b first next refl step)
 
 pub unwound-none : (opened : List Open) (k d : ℕ) (b : Bool) → unwound k d b opened (λ rest. None) ≡ (λ rest. None)
 unwound-none [] k d b = refl

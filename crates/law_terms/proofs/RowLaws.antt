@@ -1,5 +1,5 @@
 -- What stands between commas is read as the definitions read it.
-use Rattle.std.proofs.Common.{◌≡◌, ◌⊎◌, inl, inr, ℕ, max, ◌≤◌, ◌<◌, List, [], ◌∷◌, Option, Some, None, map, take, drop, fold, refl, ap, ◌∙◌, sym, nat_le}
+use Rattle.std.proofs.Common.{◌≡◌, Bool, ◌⊎◌, inl, inr, ℕ, max, ◌≤◌, ◌<◌, List, [], ◌∷◌, Option, Some, None, map, take, drop, fold, refl, ap, ◌∙◌, sym, nat_le}
 use Rattle.std.proofs.Common.{le-leb, arith}
 use Rattle.std.proofs.Math.Path.{fun_ext}
 use Rattle.std.proofs.lemmas.Bool.{lt-leb, cases_lt}
@@ -72,9 +72,14 @@ heights-from n (t ∷ ts) = heights-from (max n (height t)) ts ∙ omega arith
 heights-are : (all : List Term) → heights all ≡ height_of_all (terms all)
 heights-are all = heights-from 0 all ∙ omega arith
 
-all-fit-at : (all : List Term) (found : Option (List Term)) → CappedRow all found → found ≡ (if nat_le (heights all) most_height then Some all else None)
+all-fit-at : (all : List Term) (found : Option (List Term)) → CappedRow all found
+    → found ≡ (if nat_le (heights all) most_height then Some all else None)
 all-fit-at all found row =
-    elim row.is [ inl low ↦ low.1 ∙ sym (ap (λ test. if test then Some all else None) (le-leb (heights all) most_height (omega (arith, low.0, heights-are all)))) | inr high ↦ high.1 ∙ sym (ap (λ test. if test then Some all else None) (lt-leb (heights all) most_height (omega (arith, high.0, heights-are all)))) ]
+    let by : Bool → Option (List Term) = λ test. if test then Some all else None in
+    elim row.is [
+      | inl low ↦ low.1 ∙ sym (ap by (le-leb (heights all) most_height (omega (arith, low.0, heights-are all))))
+      | inr high ↦ high.1 ∙ sym (ap by (lt-leb (heights all) most_height (omega (arith, high.0, heights-are all))))
+    ]
 
 pub terms-fit : (all : List Term) → all_of that_fits (map capped all) ≡ (if nat_le (heights all) most_height then Some all else None)
 terms-fit all = all-fit-at all (all_of that_fits (map capped all)) (row all)

@@ -43,8 +43,11 @@ pub content-step : (x : Lexeme) (i : Inner x) (p : TermProgress) (k : ℕ) (o : 
 content-step x i p k o os g m =
     let b : Bool = is_behind p in
     let first : Parser Operand = contents_at (term_within k) o.bracket p in
-    let step : MovesPast x (around (term_within (suc k)) o 1 b first) (around (term_within (suc k)) o (depth_behind 1 x) (ends_operand x) g) = around-moves (term_within (suc k)) o 0 b x first g (closed-other x first g o.bracket (not_closing x i o.bracket) m) in
-    lift x os (suc k) 0 b (around (term_within (suc k)) o 1 b first) (around (term_within (suc k)) o (depth_behind 1 x) (ends_operand x) g) refl step
+    let inner : Parser Operand = around (term_within (suc k)) o 1 b first in
+    let behind : Parser Operand = around (term_within (suc k)) o (depth_behind 1 x) (ends_operand x) g in
+    let step : MovesPast x inner behind =
+    around-moves (term_within (suc k)) o 0 b x first g (closed-other x first g o.bracket (not_closing x i o.bracket) m) in
+    lift x os (suc k) 0 b inner behind refl step
 
 -- an expression stands in the bracket, and no bare name
 pub record Regular (p : TermProgress) : Type 0 where
@@ -65,7 +68,11 @@ module _ (x : Lexeme) (i : Inner x) (p : TermProgress) (r : Regular p) where
       let b : Bool = is_behind p in
       let first : Parser Operand = contents_at (term_within k) o.bracket p in
       let next : Parser Operand = contents (term_within k) o.bracket (depth_behind 0 x) (ends_operand x) g in
-      let moved : MovesPast x first next = record { at = λ rest. r.contains (term_within k) o.bracket x rest ∙ (contents-moves (term_within k) o.bracket 0 b x (expression (term_within k) p) g (uncut b) m).at rest } in
+      let moved : MovesPast x first next = record {
+        at = λ rest.
+            r.contains (term_within k) o.bracket x rest
+            ∙ (contents-moves (term_within k) o.bracket 0 b x (expression (term_within k) p) g (uncut b) m).at rest;
+      } in
       subst (λ n. MovesPast x (unwound (suc k) 1 b os (around (term_within (suc k)) o 1 b first))
       (unwound (suc k) n (ends_operand x) os (around (term_within (suc k)) o n (ends_operand x) next))) i.deeper (content-step x i p k o os next moved)
 

@@ -1,4 +1,5 @@
-//! What is read from left to right is what the levels of operators give, with what is too high left out.
+//! What is read from left to right is what the levels of operators give, with what
+//! is too high left out.
 ghost use Rattle.std.specs.Prelude.{◌≡◌, ℕ, List, Option, Some, None, map, nat_le, option_map, if◌then◌else◌};
 ghost use Rattle.model_text.specs.Words.{Lexeme};
 ghost use Rattle.model_text.specs.Terms.{Term, height};
@@ -8,7 +9,8 @@ ghost use Rattle.law_reading.specs.Operands.{capped, that_fits};
 ghost use Rattle.law_reading.specs.Feeding.{read};
 ghost use Rattle.law_reading.specs.Rows.{capped_arguments, read_arguments, read_items};
 
-/// What is read of lexemes from left to right is the expression that they spell, or that it is too high.
+/// What is read of lexemes from left to right is the expression that they spell, or
+/// that it is too high.
 pub fn expressions_are_read_from_left_to_right()
     ensures { (lexemes : List Lexeme) → read lexemes ≡ option_map capped (term_of lexemes) }
 {}

@@ -265,8 +265,8 @@ mutual
       ≡ no_handlers → ClausesRead count (cut_from 0 (lines ++ rest)) behind handlers
   reads_clauses no_clauses count h rest behind e empty none =
       subst (λ (c : BlockLines). ClausesRead count c behind no_handlers) (sym e) (record { body = empty; rest = refl; clauses = none; last = refl })
-  reads_clauses
-      (clause_then {kind = kind} {name = name} {lines = lines} {others = others} {body = body} {handlers = handlers} inner more) count h rest behind e empty none =
+  reads_clauses (clause_then {kind = kind} {name = name} {lines = lines} {others = others} {body = body} {handlers = handlers} inner more)
+      count h rest behind e empty none =
       let within : length (lines ++ others) ≤ count = tail-le_more (Except kind name) (lines ++ others) count h in
       let here : cut_from 0 ((lines ++ others) ++ rest) ≡ behind_lines lines (cut_from 0 (others ++ rest)) =
       ap (cut_from 0) (append_assoc lines others rest) ∙ leads inner 0 (others ++ rest) in

@@ -9,8 +9,8 @@ ghost use Rattle.model_text.specs.Scripts.{most_bytes, script_of};
 ghost use Rattle.model_text.specs.SecondPass.{Line};
 ghost use Rattle.model_text.specs.Spells.{Spells};
 
-/// Lines that spell statements by cases are read as these statements, so they spell no others; so are the lines of a
-/// coroutine, with its `end`.
+/// Lines that spell statements by cases are read as these statements, so they spell no others; so
+/// are the lines of a coroutine, with its `end`.
 pub fn lines_spell_their_statements()
     ensures read { (lines : List Line) (statements : Statements) → Spells lines statements
         → statements_in lines ≡ statements }

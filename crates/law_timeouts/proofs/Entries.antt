@@ -27,15 +27,15 @@ entries-later test when action p =
 abbrev pub of_tag : ℕ → (ℕ → Action → Bool) → ℕ → Action → Bool
 of_tag tag test other action = (other == tag) && test other action
 
-none : (b : Bool) → ◌≡◌ {A = ℕ} (cond (b && false) 1 0) 0
-none true = refl
-none false = refl
+pub off : (b : Bool) → ◌≡◌ {A = ℕ} (cond (b && false) 1 0) 0
+off true = refl
+off false = refl
 
 revoked_one : (test : ℕ → Action → Bool) (h : Handle) (b : Bool)
     → cond (not (cond b (record h { dead = true }) h).dead && test (cond b (record h { dead = true }) h).tag
     (cond b (record h { dead = true }) h).action) 1 0 + cond (not h.dead && (b && test h.tag h.action)) 1 0 ≡ cond (not h.dead && test h.tag h.action) 1 0
 revoked_one test h true = omega arith
-revoked_one test h false = let z = none (not h.dead) in omega (arith, z)
+revoked_one test h false = let z = off (not h.dead) in omega (arith, z)
 
 pub revoked_pending : (test : ℕ → Action → Bool) (tag : ℕ) (handles : List Handle)
     → handles_where test (map (cancelled_if tag) handles) + handles_where (of_tag tag test) handles ≡ handles_where test handles
@@ -108,7 +108,7 @@ tag_pending test tag (h ∷ hs) =
         most : (b : Bool) → cond b 1 0 ≤ 1
         most true = omega arith
         most false = omega arith
-    one (inr n) live t = rw (ne_eqb h.tag tag n) (let z = none live in omega (arith, z))
+    one (inr n) live t = rw (ne_eqb h.tag tag n) (let z = off live in omega (arith, z))
 
 tag_timers : (test : ℕ → Action → Bool) (tag : ℕ) (ts : List Timer) → timers_where (of_tag tag test) ts ≤ occurrences tag (map timer_tag ts)
 tag_timers test tag [] = omega arith

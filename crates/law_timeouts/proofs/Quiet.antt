@@ -7,7 +7,7 @@ use Rattle.model_loop.specs.Futures.{with_future}
 use Rattle.model_loop.specs.Loop.{Timeout}
 use Rattle.law_steps.proofs.Waiting.{task_there, wait_effect, waiting_sound}
 use Rattle.model_loop.specs.Handles.{soon, soon_all}
-use Rattle.law_timeouts.proofs.Entries.{entries-soon}
+use Rattle.law_timeouts.proofs.Entries.{entries-soon, off}
 use Rattle.model_loop.specs.Suspend.{cancel_wait, suspend, suspend_unless, wait_on}
 use Rattle.model_loop.specs.Entries.{AreTimed, ends_sleep_on, entries, handles_where, timers_where, untimed}
 use Rattle.model_value.specs.Value.{Exc, Outcome, Value}
@@ -38,10 +38,6 @@ use Rattle.std.specs.List.{count_by}
 
 abbrev one : Bool → ℕ
 one b = cond b 1 0
-
-off : (b : Bool) → ◌≡◌ {A = ℕ} (cond (b && false) 1 0) 0
-off true = refl
-off false = refl
 
 other_fires : (action : Action) → is_deadline action ≡ false → (id : ℕ) → fires id action ≡ false
 other_fires (Fires other) h id = absurd (false≢true (sym h))

@@ -18,7 +18,8 @@ pub fn a_timeout_has_one_handle_at_most()
         → entries (fires_any id) l.parts ≤ one_if (is_active (timeout_of l id).state) }
 {}
 
-/// Each timeout goes on having its tag, where one is entered, gets another deadline, fires, or its block is left.
+/// Each timeout goes on having its tag, where one is entered, gets another deadline, fires, or its
+/// block is left.
 pub fn timeouts_keep_tags()
     ensures enter { (task : ℕ) (delay : Option ℤ) (l : Loop) → HaveTags l
         → HaveTags (enter_timeout task delay l) }

@@ -286,7 +286,9 @@ tokens_in-Reads column bytes (token ∷ tokens) r =
     let t = token_piece token.class text rest r.1.spelled r.1.ended in
     let end : token.end ≡ start + length (piece_text t.0) = omega (arith, ap length t.1.same, r.1.end, r.1.start) in
     let behind = rw end at (tokens_in-Reads token.end rest tokens r.2) in
-    let found = at_piece start (text ++ rest) t.0 rest (token_of start text token.class ∷ []) tokens t.1.fits (ap (λ front. front ++ rest) (sym t.1.same)) (t.1.one start) behind in
+    let found =
+    at_piece start (text ++ rest) t.0 rest (token_of start text token.class ∷ []) tokens t.1.fits
+    (ap (λ front. front ++ rest) (sym t.1.same)) (t.1.one start) behind in
     let whole = found ∙ ap (λ first. Ok (first ∷ tokens)) (token-is token start text r.1.start r.1.end) in
     rw r.1.whole (at_blanks r.1.spaces column (text ++ rest) (token ∷ tokens) whole)
 

@@ -74,7 +74,10 @@ says_within zero literal column (byte ∷ inside) bytes small e = absurd (omega 
 says_within (suc n) literal column (byte ∷ inside) bytes small e =
     let s = part_at-splits byte inside in
     let parts = parts_of-front byte inside s.0 s.1 s.2 s.3 in
-    let both = both_ok (part_bytes column (part_value literal (byte ∷ s.0))) (literal_bytes literal (column + length (byte ∷ s.0)) (parts_of s.1)) bytes (ap (literal_bytes literal column) (sym parts) ∙ e) in
+    let both =
+    both_ok (part_bytes column (part_value literal (byte ∷ s.0)))
+    (literal_bytes literal (column + length (byte ∷ s.0)) (parts_of s.1)) bytes
+    (ap (literal_bytes literal column) (sym parts) ∙ e) in
     let one = part_bytes_ok column (part_value literal (byte ∷ s.0)) both.0 both.2 in
     let shorter : length s.1 ≤ n = omega (arith, ap length s.3, length-append s.0 s.1) in
     let all : bytes ≡ one.0 ∷ both.1 = both.4 ∙ ap (λ xs. xs ++ both.1) one.2 in

@@ -1,4 +1,5 @@
-//! Laws of the tokens of a line: what the definition computes is what is told without a way to find it.
+//! Laws of the tokens of a line: what the definition computes is what is told
+//! without a way to find it.
 #![tactic(auto)]
 
 mod laws;

@@ -33,7 +33,8 @@ pub fn requests_keep_groups()
         → Holds running excused told heard groups (settle id outcome p) }
 {}
 
-/// So does each part of a task's step; a task that ends is the parent of no group whose block is open.
+/// So does each part of a task's step; a task that ends is the parent of no group whose block is
+/// open.
 pub fn steps_keep_groups()
     ensures begins { (told heard : ℕ → List ℕ) (groups : ℕ → Group) (task : ℕ) (input : Input)
         (handle : Handle)

@@ -1,5 +1,5 @@
-//! Laws of turns. Each function has no body: its clauses are the laws. `S` is the state of what is added to the loop's own
-//! requests, whatever that is.
+//! Laws of turns. Each function has no body: its clauses are the laws. `S` is the state of what is
+//! added to the loop's own requests, whatever that is.
 ghost use Rattle.std.specs.Prelude.{◌≡◌, ℕ, Bool, true, false, List, ◌∷◌};
 ghost use Rattle.model_value.specs.declared.action.Action.TheVariants.{SleepDone, GroupDone, Fires, MainDone};
 ghost use Rattle.model_tree.specs.Syntax.{Program};
@@ -25,8 +25,9 @@ pub fn a_turn_begins_sound<S>()
         → HasSoundLoop (unbooked_in (woken_by answer) s) }
 {}
 
-/// So does each callback that steps no task: a handle that is dead, one that notes that main is done, the end of a sleep, a
-/// timeout's firing, and what tells a group of its task, which the events then say.
+/// So does each callback that steps no task: a handle that is dead, one that notes that main is
+/// done, the end of a sleep, a timeout's firing, and what tells a group of its task, which the
+/// events then say.
 pub fn callbacks_keep_it_sound<S>()
     ensures dead { (limit : ℕ) (added : Extra S) (s : State S) (handle : Handle)
         (rest : List Handle)
@@ -61,7 +62,8 @@ pub fn a_turn_ends_sound<S>()
         → LeavesSoundLoop (turn_over done_before s) }
 {}
 
-/// All callbacks of a turn keep it, where each step among them is fit; so each state between two of them is sound.
+/// All callbacks of a turn keep it, where each step among them is fit; so each state between two of
+/// them is sound.
 pub fn states_between_callbacks_are_sound<S>()
     ensures after { (limit : ℕ) (added : Extra S) (s : State S) → HasSoundLoop s
         → FitsPending limit added s

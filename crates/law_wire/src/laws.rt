@@ -6,7 +6,8 @@ ghost use Rattle.model_wire.specs.Journal.{Answered};
 ghost use Rattle.model_wire.specs.JournalText.{entry_of};
 ghost use Rattle.law_wire.specs.InRange.{InRange};
 
-/// The entry of a written answer is that answer, where it fits some call and its numbers are in range.
+/// The entry of a written answer is that answer, where it fits some call and its numbers are in
+/// range.
 pub fn written_answers_are_read()
     ensures { (number : ℕ) (call : Call) (answer : Answer) → fits call answer ≡ true
         → InRange answer

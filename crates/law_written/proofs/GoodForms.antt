@@ -52,7 +52,8 @@ call-good : (test : Bool) (name : Name) (lexemes : List Lexeme) (goal : Goal) �
     → (if test then option_and_then (λ inner. option_map (Asked name) (arguments_of term_of (coroutine_place name) (parts inner)))
     (before_last symbol.RightParenthesis lexemes) else None) ≡ Some goal → GoodGoal goal
 call-good true name lexemes goal n g e =
-    let i = then-some (λ inner. option_map (Asked name) (arguments_of term_of (coroutine_place name) (parts inner))) (before_last symbol.RightParenthesis lexemes) goal e in
+    let i = then-some (λ inner. option_map (Asked name) (arguments_of term_of (coroutine_place name) (parts inner)))
+    (before_last symbol.RightParenthesis lexemes) goal e in
     let a = map-some (Asked name) (arguments_of term_of (coroutine_place name) (parts i.0)) goal i.2 in
     subst GoodGoal a.2 (
       n,
@@ -85,7 +86,8 @@ profile-good (Number number ∷ []) form g e =
 profile-good _ form g e = cc
 
 parameters-good : (test : Bool) (name : Name) (lexemes : List Lexeme) (form : Spelled) → WellNamed name → AllGood lexemes
-    → (let found : Option Spelled = if test then option_and_then (λ inner. option_map (Def name) (all_of bare_name (parts inner))) (before_last symbol.RightParenthesis lexemes) else None in found) ≡ Some form → GoodForm form
+    → (let found : Option Spelled = if test then option_and_then (λ inner. option_map (Def name) (all_of bare_name (parts inner)))
+    (before_last symbol.RightParenthesis lexemes) else None in found) ≡ Some form → GoodForm form
 parameters-good true name lexemes form n g e =
     let i = then-some (λ inner. let found : Option Spelled = option_map (Def name) (all_of bare_name (parts inner)) in found)
     (before_last symbol.RightParenthesis lexemes) form e in

@@ -162,7 +162,8 @@ module _ (inside : Parser Term) (reads : ReadsGood inside) where
   -- ---- operands
   called-good : (name : Name) (lexemes : List Lexeme) (t : Term) → AllGood lexemes → called inside name lexemes ≡ Some t → GoodTerm t
   called-good name lexemes t g e =
-      let a = map-some (λ (arguments : Arguments). Called name (terms arguments.before) arguments.bare (terms arguments.after)) (arguments_of inside (kind_place name) (parts lexemes)) t e in
+      let a = map-some (λ (arguments : Arguments). Called name (terms arguments.before) arguments.bare (terms arguments.after))
+      (arguments_of inside (kind_place name) (parts lexemes)) t e in
       let p = arguments-good (kind_place name) (parts lexemes) a.0 (parts-good lexemes g) a.1 in
       subst GoodTerm a.2 (called-as (bytes_eq name error_text) a.0 p.0, good-row a.0.before p.1, good-row a.0.after p.3)
 

@@ -101,7 +101,10 @@ module _ (scope : Scope) (name : Name) (before after : List Term) (gb : AllGoodT
       → create_by scope found n (all_meant scope before) (all_meant scope after) ≡ Ok t → GoalBack (Asked name (arguments_from before (Some n) after)) t
   create-by n None t w same h = cc
   create-by n (Some callee) t w same h =
-      let b = both-ok (λ group arguments. plain.CreateTask group n (exprs arguments)) (one_argument (λ group. group) (all_meant scope before)) (counted callee.parameters (λ all. all) (all_meant scope after)) t h in
+      let b =
+      both-ok (λ group arguments. plain.CreateTask group n (exprs arguments))
+      (one_argument (λ group. group) (all_meant scope before))
+      (counted callee.parameters (λ all. all) (all_meant scope after)) t h in
       let g = one-before b.0 b.2 in
       let c = counted-ok callee.parameters (λ all. all) (all_meant scope after) b.1 b.3 in
       let a = rows-after b.1 (c.1 ∙ ap Ok c.3) in
@@ -116,10 +119,12 @@ module _ (scope : Scope) (name : Name) (before after : List Term) (gb : AllGoodT
       → listen_by scope found n (all_meant scope before) (all_meant scope after) ≡ Ok t → GoalBack (Asked name (arguments_from before (Some n) after)) t
   listen-by n None t w same h = cc
   listen-by n (Some callee) t w same h =
-      let handler = both {A = List Expr} (λ none handler. handler) (counted 0 (λ all. all) (all_meant scope after)) (if_arity (nat_eq callee.parameters 1) n) in
+      let no-arguments = counted 0 (λ all. all) (all_meant scope after) in
+      let named = if_arity (nat_eq callee.parameters 1) n in
+      let handler = both {A = List Expr} (λ none handler. handler) no-arguments named in
       let b = both-ok plain.ListenAt (one_argument (λ port. port) (all_meant scope before)) handler t h in
       let p = one-before b.0 b.2 in
-      let k = both-ok {A = List Expr} (λ none handler. handler) (counted 0 (λ all. all) (all_meant scope after)) (if_arity (nat_eq callee.parameters 1) n) b.1 b.3 in
+      let k = both-ok {A = List Expr} (λ none handler. handler) no-arguments named b.1 b.3 in
       let c = counted-ok 0 (λ all. all) (all_meant scope after) k.0 k.2 in
       let none : [] ≡ after = ap (map term_from) (sym (none-counted c.0 c.2)) ∙ (all-back scope after c.0 ga c.1).0 in
       let kept : n ≡ b.1 = (arity-ok (nat_eq callee.parameters 1) n k.1 k.3).1 ∙ k.4 in

@@ -1,5 +1,5 @@
-/// What the outside answers. `B` is the type of bytes and `I` that of lists of items: lists in definitions, and types of
-/// their own in code.
+/// What the outside answers. `B` is the type of bytes and `I` that of lists of items: lists in
+/// definitions, and types of their own in code.
 /// Source: `selectors.py`, `select`; the library reference, `socket` and `subprocess`.
 #[derive(Debug, Drop)]
 pub enum Answer<B, I> {

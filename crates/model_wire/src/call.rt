@@ -1,5 +1,5 @@
-/// What the loop asks of the outside. `B` is the type of bytes, `W` that of watch lists and `L` that of lists of words:
-/// lists in definitions, and types of their own in code.
+/// What the loop asks of the outside. `B` is the type of bytes, `W` that of watch lists and `L`
+/// that of lists of words: lists in definitions, and types of their own in code.
 /// Source: `selectors.py`, `select`; the library reference, `socket` and `subprocess`.
 #[derive(Debug, Drop)]
 pub enum Call<B, W, L> {

@@ -34,8 +34,8 @@ pub enum IdLetter {
     Child,
 }
 
-/// What stands in an entry between spaces. `B` is the type of bytes: a list in definitions, and a type of its own in
-/// code.
+/// What stands in an entry between spaces. `B` is the type of bytes: a list in definitions, and a
+/// type of its own in code.
 #[derive(Debug, Drop)]
 pub enum EntryToken<B> {
     Word(EntryWord),

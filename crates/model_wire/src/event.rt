@@ -1,5 +1,5 @@
-/// What happens in a run, in order. `C` is the type of calls, `A` that of answers, `R` that of actions and `B` that of
-/// bytes: plain data in definitions, and types of their own in code.
+/// What happens in a run, in order. `C` is the type of calls, `A` that of answers, `R` that of
+/// actions and `B` that of bytes: plain data in definitions, and types of their own in code.
 #[derive(Debug, Drop)]
 pub enum Event<C, A, R, B> {
     /// The loop asked the outside.
@@ -19,7 +19,8 @@ pub enum Handed {
     Child(u32),
 }
 
-/// What the last line of a transcript tells. `V` is the type of values, `E` that of exceptions and `C` that of calls.
+/// What the last line of a transcript tells. `V` is the type of values, `E` that of exceptions and
+/// `C` that of calls.
 #[derive(Debug, Drop)]
 pub enum End<V, E, C> {
     /// Main returned this value.

@@ -8,8 +8,10 @@ pub enum Readiness {
     Both,
 }
 
-/// What came while a select waited. `B` is the type of bytes: a list in definitions, and a type of its own in code.
-/// Source: `base_events.py`, `_process_events`; `base_subprocess.py`, `_pipe_data_received` and `_process_exited`.
+/// What came while a select waited. `B` is the type of bytes: a list in definitions, and a type of
+/// its own in code.
+/// Source: `base_events.py`, `_process_events`; `base_subprocess.py`, `_pipe_data_received` and
+/// `_process_exited`.
 #[derive(Debug, Drop)]
 pub enum Item<B> {
     /// A listener may accept.
@@ -28,7 +30,8 @@ pub enum Item<B> {
     Extra { code: i64, bytes: B },
 }
 
-/// What an item takes up. No two items of one turn take up the same of one listener, connection or child.
+/// What an item takes up. No two items of one turn take up the same of one listener, connection or
+/// child.
 #[derive(Clone, Copy, Debug, PartialEq, Eq)]
 pub enum Interest {
     Server,

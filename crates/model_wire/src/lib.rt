@@ -1,5 +1,6 @@
-//! What passes between the loop and the outside: calls, answers, a journal's entries, a run's events and how they are
-//! written, and what the outside tells of itself. Definitions, and the enumerations that definitions and code share.
+//! What passes between the loop and the outside: calls, answers, a journal's entries, a run's
+//! events and how they are written, and what the outside tells of itself. Definitions, and the
+//! enumerations that definitions and code share.
 #![tactic(auto)]
 
 mod answer;

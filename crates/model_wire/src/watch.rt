@@ -1,4 +1,5 @@
-/// What a select waits for on one listener, connection or child, or for the requests that are added to the loop's own.
+/// What a select waits for on one listener, connection or child, or for the requests that are added
+/// to the loop's own.
 /// Source: `selectors.py`, `SelectorKey`; `selector_events.py`, `_add_reader` and `_add_writer`.
 #[derive(Clone, Copy, Debug, PartialEq, Eq)]
 pub enum Watch {
@@ -12,8 +13,8 @@ pub enum Watch {
         reads: bool,
         writes: bool,
     },
-    /// A child: whether there are bytes to feed it, whether its standard input isn't lost, whether its standard output
-    /// and its standard error are read, and whether its exit is still to come.
+    /// A child: whether there are bytes to feed it, whether its standard input isn't lost, whether
+    /// its standard output and its standard error are read, and whether its exit is still to come.
     Child {
         child: u32,
         feeds: bool,

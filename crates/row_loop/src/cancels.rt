@@ -29,7 +29,8 @@ pub fn one_member_done()
     ensures spent { is_spent one_of_two_cancelled 2 ≡ true }
 {}
 
-/// A future that stands for no other that can be cancelled is spent, whether it stands for some or none.
+/// A future that stands for no other that can be cancelled is spent, whether it stands for some or
+/// none.
 pub fn no_member_left()
     ensures all_done { cancel 2 all_done ≡ answers false [] all_done }
     ensures none { cancel 3 all_done ≡ answers false [] all_done }
@@ -39,8 +40,8 @@ pub fn no_member_left()
     ensures spent { is_spent all_done 4 ≡ true }
 {}
 
-/// Two requests come before the task's step: the first ends what it waits for, the second marks it, and one throw of
-/// CancelledError uses both up.
+/// Two requests come before the task's step: the first ends what it waits for, the second marks it,
+/// and one throw of CancelledError uses both up.
 pub fn two_before_one_step()
     ensures first { cancel 0 sleeping ≡ answers true (0 ∷ []) (woken_at_once 1) }
     ensures second { cancel 0 (woken_at_once 1) ≡ answers true (0 ∷ []) (woken_and_marked 2) }
@@ -58,8 +59,8 @@ pub fn a_task_reached_twice()
     ensures { cancel 3 twice_to_one ≡ answers true (0 ∷ []) twice_to_one_cancelled }
 {}
 
-/// A request that comes to a task by two ways goes on from it once: the second way is told that it can be cancelled, so nobody
-/// on it is marked.
+/// A request that comes to a task by two ways goes on from it once: the second way is told that it
+/// can be cancelled, so nobody on it is marked.
 pub fn by_two_ways()
     ensures request { cancel 0 two_ways ≡ answers true (0 ∷ 1 ∷ 3 ∷ 2 ∷ []) two_ways_cancelled }
     ensures already_seen { cancel_with 0 (0 ∷ []) two_ways ≡ answers true (0 ∷ []) two_ways }
@@ -68,7 +69,8 @@ pub fn by_two_ways()
     ensures not_round { leads two_ways 3 3 ≡ false }
 {}
 
-/// No circle is closed: the wait that would is refused. So a request to either task ends where the refused one will be stepped.
+/// No circle is closed: the wait that would is refused. So a request to either task ends where the
+/// refused one will be stepped.
 pub fn round_no_circle()
     ensures leads_back { leads awaited_runs 0 1 ≡ true }
     ensures refused { suspend 1 0 awaited_runs ≡ unbooked (refused 0 0) }

@@ -49,8 +49,8 @@ pub fn children_and_body_fail()
         ≡ record { loop = all_left; answer = Raises (group_error (a ∷ b ∷ c ∷ [])) } }
 {}
 
-/// A task failed and the parent was cancelled in the body: the group takes its own cancel back, and raises the failure
-/// even where another cancel of the parent is left.
+/// A task failed and the parent was cancelled in the body: the group takes its own cancel back, and
+/// raises the failure even where another cancel of the parent is left.
 pub fn takes_its_cancel_back()
     ensures own_alone { exit_begin (Some cancelled_error) 0 (cancelled_body 1 [])
         ≡ record { loop = cancelled_left 0 [] None; answer = Raises (group_error (a ∷ [])) } }

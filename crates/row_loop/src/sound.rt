@@ -1,5 +1,6 @@
-//! Each state in which rows begin is sound: the loop's own operations make it of one in which nothing was made. Only the count
-//! at its greatest is written with as many entries of the ledger beside it.
+//! Each state in which rows begin is sound: the loop's own operations make it of one in which
+//! nothing was made. Only the count at its greatest is written with as many entries of the ledger
+//! beside it.
 ghost use Rattle.std.specs.Prelude.{◌++◌, [], ◌∷◌, Some, None};
 ghost use Rattle.model_value.specs.declared.action.Action.TheVariants.{Step};
 ghost use Rattle.model_loop.specs.Loop.{Expired, Expiring};

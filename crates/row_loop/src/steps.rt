@@ -21,7 +21,8 @@ pub fn makes_tasks()
     ensures two { spawn one_task ≡ two_tasks }
 {}
 
-/// A task that isn't marked waits; one that is marked cancels what it waits for, and keeps its mark where it can't.
+/// A task that isn't marked waits; one that is marked cancels what it waits for, and keeps its mark
+/// where it can't.
 pub fn suspends()
     ensures unmarked { suspend 0 1 running ≡ unbooked sleeping }
     ensures marked { suspend 0 1 (running_marked 1)
@@ -77,7 +78,8 @@ pub fn uncancels()
     ensures count { cancelling (running_marked 2) 0 ≡ 2 }
 {}
 
-/// Timers fall due by deadline; a timer that is revoked is gone, and a pending handle keeps its place.
+/// Timers fall due by deadline; a timer that is revoked is gone, and a pending handle keeps its
+/// place.
 pub fn timers_fall_due()
     ensures due { due three_timers ≡ two_due }
     ensures revoked { revoke 1 (revoke 2 two_due) ≡ two_revoked }

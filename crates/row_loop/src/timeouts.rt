@@ -10,8 +10,8 @@ ghost use Rattle.law_settling.specs.Frames.{taken};
 ghost use Rattle.row_loop.specs.Made.{handle, value_error};
 ghost use Rattle.row_loop.specs.Nested.{before, entered, both_due, outer_fired, both_fired, stepping, both_asked, inner_took, outer_took, alone_due, alone_later, alone_soon, alone_never, alone_left, alone_waiting, alone_waited, expiring_alone, expiring_and_asked, expiring_and_lowered, fires_inner, left};
 
-/// Both fire in one turn. The inner exit finds a second cancel and lets CancelledError pass, and the outer one raises
-/// TimeoutError.
+/// Both fire in one turn. The inner exit finds a second cancel and lets CancelledError pass, and
+/// the outer one raises TimeoutError.
 pub fn nested_with_one_deadline()
     ensures entered { enter_timeout 0 (Some (pos 10)) (enter_timeout 0 (Some (pos 10)) before)
         ≡ entered }

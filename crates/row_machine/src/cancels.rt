@@ -16,7 +16,8 @@ pub fn taken_back()
     ensures { seen taken_back_text (0 ∷ 0 ∷ 0 ∷ []) ≡ taken_back_seen }
 {}
 
-/// Two cancels come before the task goes on: one ends its sleep, the other marks it, and one throw uses both up.
+/// Two cancels come before the task goes on: one ends its sleep, the other marks it, and one throw
+/// uses both up.
 pub fn two_before_one_step()
     ensures { seen two_before_one_step_text (0 ∷ 0 ∷ 0 ∷ 0 ∷ 0 ∷ 0 ∷ [])
         ≡ two_before_one_step_seen }
@@ -27,13 +28,14 @@ pub fn await_each_other()
     ensures { seen await_each_other_text (0 ∷ 0 ∷ 0 ∷ 0 ∷ 0 ∷ 0 ∷ []) ≡ await_each_other_seen }
 {}
 
-/// Main ends while another task sleeps: that is cancelled after the turn in which main's callback ran, and the run
-/// ends with its end.
+/// Main ends while another task sleeps: that is cancelled after the turn in which main's callback
+/// ran, and the run ends with its end.
 pub fn left_behind()
     ensures { seen left_behind_text (0 ∷ 0 ∷ 0 ∷ 0 ∷ 0 ∷ []) ≡ left_behind_seen }
 {}
 
-/// What is done is awaited at once, whatever the mark says: the mark is used up at the next `yield`.
+/// What is done is awaited at once, whatever the mark says: the mark is used up at the next
+/// `yield`.
 pub fn done_is_awaited_at_once()
     ensures { seen done_text (0 ∷ 0 ∷ 0 ∷ []) ≡ done_seen }
 {}

@@ -15,7 +15,8 @@ pub fn finally_on_the_way_out()
     ensures { seen finally_on_the_way_out_text (0 ∷ 0 ∷ 0 ∷ []) ≡ finally_on_the_way_out_seen }
 {}
 
-/// Nothing is added to the loop's own requests, so no code is known. Kinds of arguments are tested before that.
+/// Nothing is added to the loop's own requests, so no code is known. Kinds of arguments are tested
+/// before that.
 pub fn extra_unknown()
     ensures { seen extra_unknown_text (0 ∷ 0 ∷ []) ≡ extra_unknown_seen }
 {}
@@ -25,7 +26,8 @@ pub fn futures()
     ensures { seen futures_text (0 ∷ 0 ∷ []) ≡ futures_seen }
 {}
 
-/// A step that begins as many statements as it may, and one that would begin one more; here a step may begin 6.
+/// A step that begins as many statements as it may, and one that would begin one more; here a step
+/// may begin 6.
 pub fn long_step()
     ensures at_the_limit { seen_within 6 (counting (codes "  print i" ∷ [])) (0 ∷ 0 ∷ [])
         ≡ counted_to_the_limit }

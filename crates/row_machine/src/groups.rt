@@ -25,34 +25,36 @@ pub fn outer_cancel_and_child_failure()
         ≡ outer_cancel_and_child_failure_seen }
 {}
 
-/// While the exit waits, a child makes another one, for which the exit waits too. After that the group is finished.
+/// While the exit waits, a child makes another one, for which the exit waits too. After that the
+/// group is finished.
 pub fn create_while_exiting()
     ensures { seen create_while_exiting_text (0 ∷ 0 ∷ 0 ∷ 0 ∷ 0 ∷ 0 ∷ 0 ∷ [])
         ≡ create_while_exiting_seen }
 {}
 
-/// The parent is cancelled while the exit waits, which aborts the group; a second cancel is dropped, and the first
-/// is raised after the last child.
+/// The parent is cancelled while the exit waits, which aborts the group; a second cancel is
+/// dropped, and the first is raised after the last child.
 pub fn second_cancel_while_aborting()
     ensures { seen second_cancel_while_aborting_text
         (0 ∷ 0 ∷ 0 ∷ 0 ∷ 0 ∷ 0 ∷ 0 ∷ 0 ∷ 0 ∷ 0 ∷ 0 ∷ [])
         ≡ second_cancel_while_aborting_seen }
 {}
 
-/// An inner group raises its failure in the body of an outer one, which cancels its own child and raises a group of
-/// a group. Neither leaves the parent's count raised.
+/// An inner group raises its failure in the body of an outer one, which cancels its own child and
+/// raises a group of a group. Neither leaves the parent's count raised.
 pub fn nested()
     ensures { seen nested_text (0 ∷ 0 ∷ 0 ∷ 0 ∷ 0 ∷ 0 ∷ 0 ∷ 0 ∷ []) ≡ nested_seen }
 {}
 
-/// The script takes the group's cancel back before the group does: the group finds no count to lower, and raises
-/// the failure.
+/// The script takes the group's cancel back before the group does: the group finds no count to
+/// lower, and raises the failure.
 pub fn uncancel_before_the_group()
     ensures { seen uncancel_before_the_group_text (0 ∷ 0 ∷ 0 ∷ 0 ∷ 0 ∷ [])
         ≡ uncancel_before_the_group_seen }
 {}
 
-/// The ledger of that run: the group asks, the script takes back, and the group finds nothing to take.
+/// The ledger of that run: the group asks, the script takes back, and the group finds nothing to
+/// take.
 pub fn ledger_of_uncancel_before_the_group()
     ensures { ledger_after 5 uncancel_before_the_group_text (0 ∷ 0 ∷ 0 ∷ 0 ∷ 0 ∷ [])
         ≡ Asked (ByGroup 0) ∷ Raised 0 (ByGroup 0) ∷ Took 0 (ByScript 0) true ∷ Began 0

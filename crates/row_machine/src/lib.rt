@@ -1,5 +1,5 @@
-//! Runs of scripts that were written by hand, with what the reference machine must make of them. Each function has
-//! no body: its clauses are the equations, and the check computes them.
+//! Runs of scripts that were written by hand, with what the reference machine must make of them.
+//! Each function has no body: its clauses are the equations, and the check computes them.
 #![tactic(auto)]
 
 pub mod added;

@@ -10,8 +10,8 @@ ghost use Rattle.row_machine.specs.Reading.{program_of};
 ghost use Rattle.row_machine.specs.Turns.{hello_text};
 ghost use Rattle.row_machine.specs.Outputs.{asks_deep_inside, at_refused, hello_over, listens, misfit, out_of_answers, out_of_turns, whole};
 
-/// All events of a run: to its end, of one turn, over a journal that ends, with a line that is none, and with an answer
-/// that doesn't fit.
+/// All events of a run: to its end, of one turn, over a journal that ends, with a line that is
+/// none, and with an answer that doesn't fit.
 pub fn hello_over_journals()
     ensures whole { hello_over (codes "turn 0" ∷ codes "turn 0" ∷ []) most_turns ≡ whole }
     ensures turns { hello_over (codes "turn 0" ∷ codes "turn 0" ∷ []) 1 ≡ out_of_turns }

@@ -6,8 +6,8 @@ ghost use Rattle.model_value.specs.Number.{most};
 ghost use Rattle.row_machine.specs.Reading.{seen};
 ghost use Rattle.row_machine.specs.Timeouts.{two_in_one_turn_text, two_in_one_turn_seen, greatest_deadline_text, greatest_deadline_seen, reschedule_finished_text, reschedule_finished_seen, reschedule_while_firing_is_pending_text, reschedule_while_firing_is_pending_seen, swallowed_cancel_text, swallowed_cancel_seen};
 
-/// Two nested timeouts are over in one turn: the inner one lets CancelledError pass, and the outer one raises
-/// TimeoutError.
+/// Two nested timeouts are over in one turn: the inner one lets CancelledError pass, and the outer
+/// one raises TimeoutError.
 pub fn two_in_one_turn()
     ensures { seen two_in_one_turn_text (0 ∷ 10 ∷ 10 ∷ 10 ∷ []) ≡ two_in_one_turn_seen }
 {}
@@ -22,13 +22,15 @@ pub fn reschedule_finished()
     ensures { seen reschedule_finished_text (0 ∷ 0 ∷ []) ≡ reschedule_finished_seen }
 {}
 
-/// The timeout's handle is pending already as another task gives it a later deadline: the handle does nothing.
+/// The timeout's handle is pending already as another task gives it a later deadline: the handle
+/// does nothing.
 pub fn reschedule_while_firing_is_pending()
     ensures { seen reschedule_while_firing_is_pending_text (0 ∷ 0 ∷ 9 ∷ 10 ∷ 20 ∷ 20 ∷ 20 ∷ [])
         ≡ reschedule_while_firing_is_pending_seen }
 {}
 
-/// The block swallows the cancel: the timeout has expired, takes its cancel back and raises nothing.
+/// The block swallows the cancel: the timeout has expired, takes its cancel back and raises
+/// nothing.
 pub fn swallowed_cancel()
     ensures { seen swallowed_cancel_text (0 ∷ 10 ∷ 10 ∷ 10 ∷ []) ≡ swallowed_cancel_seen }
 {}

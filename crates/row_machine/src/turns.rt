@@ -27,7 +27,8 @@ pub fn stalled()
     ensures { seen stalled_text (0 ∷ []) ≡ stalled_seen }
 {}
 
-/// A run without an answer left, one whose answer's line is none, and one that may make no further turn.
+/// A run without an answer left, one whose answer's line is none, and one that may make no further
+/// turn.
 pub fn short_runs()
     ensures over { seen hello_text (0 ∷ [])
         ≡ hello_until (Over (select (Some 0) [])) (Some 0 ∷ Some 0 ∷ []) }

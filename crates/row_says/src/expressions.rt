@@ -1,4 +1,5 @@
-//! The values of expressions. Each function has no body: its clause is the equation of a table's two columns.
+//! The values of expressions. Each function has no body: its clause is the equation of a table's
+//! two columns.
 ghost use Rattle.std.specs.Prelude.{◌≡◌, map};
 ghost use Rattle.row_says.specs.ExpressionRows.{found, expected, arithmetic, joining, comparisons, truths, items, functions};
 

@@ -44,7 +44,8 @@ pub fn a_throw_through_nested_calls()
         ≡ Raises timed_out }
 {}
 
-/// `except` clauses in order: one that binds and replaces the exception, and one that raises it again.
+/// `except` clauses in order: one that binds and replaces the exception, and one that raises it
+/// again.
 #[tactic(auto, unfolding(model_says::specs::Says::course))]
 pub fn an_exception_that_is_handled()
     ensures bound { says handling 0 [] (first ∷ [])
@@ -55,7 +56,8 @@ pub fn an_exception_that_is_handled()
         ≡ Raises (exception_of RuntimeError (codes "first")) }
 {}
 
-/// `finally` on the way of a `return`: where it passes the value is returned, and an exception out of it replaces that.
+/// `finally` on the way of a `return`: where it passes the value is returned, and an exception out
+/// of it replaces that.
 #[tactic(auto, unfolding(model_says::specs::Says::course))]
 pub fn a_return_through_finally()
     ensures leaves { says leaving 0 (Truth true ∷ []) (first ∷ [])
@@ -111,7 +113,8 @@ pub fn recursion_to_the_limit()
         ≡ Returns (Int (pos 64)) }
 {}
 
-/// A `with timeout` is entered, and left by an exception that its exit replaces, or by reaching its end.
+/// A `with timeout` is entered, and left by an exception that its exit replaces, or by reaching its
+/// end.
 #[tactic(auto, unfolding(model_says::specs::Says::course))]
 pub fn a_timeout_block()
     ensures enters { says timing 0 [] (first ∷ []) ≡ Asks (TimeoutEnter (Int (pos 10))) }
@@ -132,7 +135,8 @@ pub fn a_timeout_block()
     ensures not_entered { says timing 0 [] (first ∷ refused bad_operand ∷ []) ≡ Raises bad_operand }
 {}
 
-/// A `return` out of two blocks exits both, the inner one first. A block is open until its exit is answered.
+/// A `return` out of two blocks exits both, the inner one first. A block is open until its exit is
+/// answered.
 #[tactic(auto, unfolding(model_says::specs::Says::course))]
 pub fn a_return_through_blocks()
     ensures outer { says grouping 0 [] (first ∷ []) ≡ Asks GroupEnter }
@@ -156,8 +160,8 @@ pub fn a_return_through_blocks()
         ∷ done ∷ first ∷ []) ≡ [] }
 {}
 
-/// As many statements as a step may begin, and one more. Each line that counts is counted once; a fresh input begins the
-/// count anew, and another one does not.
+/// As many statements as a step may begin, and one more. Each line that counts is counted once; a
+/// fresh input begins the count anew, and another one does not.
 #[tactic(auto, unfolding(model_says::specs::Says::course))]
 pub fn statements_of_a_step()
     ensures enough { saying_of
@@ -183,7 +187,8 @@ pub fn statements_of_a_step()
         ≡ Runaway }
 {}
 
-/// A loop that ends with the last statement that a step may begin, and one that would begin a further one.
+/// A loop that ends with the last statement that a step may begin, and one that would begin a
+/// further one.
 #[tactic(auto, unfolding(model_says::specs::Says::course))]
 pub fn a_thousand_statements()
     ensures enough { saying_of (course 1000 spinning 0 (Int (pos 499) ∷ []) (first ∷ []))

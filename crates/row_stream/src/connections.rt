@@ -113,7 +113,8 @@ pub fn fails()
         (exception_of ConnectionResetError (codes "Connection lost"))))) []
         ≡ played [] (
           dead true
-              (reader.failed (codes "a\n") (exception_of ConnectionResetError (codes "Connection lost"))),
+              (reader.failed (codes "a\n")
+              (exception_of ConnectionResetError (codes "Connection lost"))),
           got.Raises (exception_of ConnectionResetError (codes "Connection lost")),
         ) }
     ensures drains_raise { play (drain_of true 9 (dead false (reader.ended []))) []
@@ -145,7 +146,8 @@ pub fn reads()
     ensures another { give_up_reading 6 (reading [] (Some 7)) ≡ reading [] (Some 7) }
 {}
 
-/// A connection that is being made: the closed future is future 3, and the connect waits on future 4.
+/// A connection that is being made: the closed future is future 3, and the connect waits on future
+/// 4.
 pub fn connects()
     ensures stands { play (up 0 (connecting 3 4)) []
         ≡ played (Changed (CallSoon (Made 0)) ∷ Changed (CallSoon (StartRead 0))

@@ -1,5 +1,6 @@
-//! Writers, readers, connections, listeners and children that are written by hand, with what the definitions give on them.
-//! Each function has no body: its clauses are the equations, and the check computes them.
+//! Writers, readers, connections, listeners and children that are written by hand, with what the
+//! definitions give on them. Each function has no body: its clauses are the equations, and the
+//! check computes them.
 #![tactic(auto)]
 
 pub mod children;

@@ -17,14 +17,16 @@ pub fn line_at_the_limit()
     ensures over { take_read Line (reader (codes "abcde\nz"))
         ≡ record {
           answer = Raises
-              (exception_of ValueError (codes "Separator is found, but chunk is longer than limit"));
+              (exception_of ValueError
+              (codes "Separator is found, but chunk is longer than limit"));
           rest = codes "z";
           resumes = true;
         } }
     ensures unended { take_read Line (reader (codes "abcde"))
         ≡ record {
           answer = Raises
-              (exception_of ValueError (codes "Separator is not found, and chunk exceed the limit"));
+              (exception_of ValueError
+              (codes "Separator is not found, and chunk exceed the limit"));
           rest = [];
           resumes = true;
         } }

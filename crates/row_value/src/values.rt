@@ -1,4 +1,5 @@
-//! What the definitions give on worked values. Each function has no body: its clauses are the equations.
+//! What the definitions give on worked values. Each function has no body: its
+//! clauses are the equations.
 ghost use Rattle.std.specs.Prelude.{◌≡◌, [], ◌∷◌, true, false, pos, negsuc};
 ghost use lib.Chars.{codes};
 ghost use Rattle.model_value.specs.declared.kind.Kind.TheVariants.{BaseException, Exception as AnyException, CancelledError, OSError, EOFError, RuntimeError, ValueError, TimeoutError, ConnectionError, RecursionError, BrokenPipeError, IncompleteReadError, ExceptionGroup};
@@ -15,7 +16,8 @@ pub fn texts_of_values()
     ensures bare { shown (Text (codes "a\"\n\\")) ≡ codes "a\"\\n\\\\" }
     ensures list { shown (Items (values (Nothing ∷ Text (codes "a\"") ∷ Truth true ∷ [])))
         ≡ codes "[None, \"a\\\"\", True]" }
-    ensures nested { shown (Items (values (Items no_values ∷ Items (values (Truth false ∷ [])) ∷ [])))
+    ensures nested { shown (Items (values
+        (Items no_values ∷ Items (values (Truth false ∷ [])) ∷ [])))
         ≡ codes "[[], [False]]" }
     ensures bytes { shown (Bytes (97 ∷ 10 ∷ 34 ∷ 127 ∷ 255 ∷ []))
         ≡ codes "b\"a\\n\\\"\\x7f\\xff\"" }
@@ -23,7 +25,8 @@ pub fn texts_of_values()
         ≡ 91 ∷ 34 ∷ 195 ∷ 169 ∷ 34 ∷ 93 ∷ [] }
 {}
 
-/// An exception shows its kind and its text; a group its members too, and nothing shows an exception's bytes.
+/// An exception shows its kind and its text; a group its members too, and nothing shows an
+/// exception's bytes.
 pub fn texts_of_exceptions()
     ensures plain { shown (Exception (exception_of ValueError (codes "a\tb")))
         ≡ codes "ValueError(\"a\\tb\")" }
@@ -35,13 +38,15 @@ pub fn texts_of_exceptions()
         ≡ codes "ExceptionGroup(\"g\", [ExceptionGroup(\"\", []), ValueError(\"a\")])" }
 {}
 
-/// One for the value itself and what it holds; a list or an exception is one deeper than the deepest thing in it.
+/// One for the value itself and what it holds; a list or an exception is one deeper than the
+/// deepest thing in it.
 pub fn weights_and_depths()
     ensures number_weighs { weight_of (Int (negsuc 41)) ≡ 1 }
     ensures text_weighs { weight_of (Text (codes "abc")) ≡ 4 }
-    ensures list_weighs { weight_of (Items (values (Nothing ∷ Text (codes "a") ∷ Items no_values ∷ [])))
-        ≡ 5 }
-    ensures exception_weighs { weight_of (Exception (exc IncompleteReadError (codes "x") (1 ∷ 2 ∷ [])
+    ensures list_weighs { weight_of (Items
+        (values (Nothing ∷ Text (codes "a") ∷ Items no_values ∷ []))) ≡ 5 }
+    ensures exception_weighs { weight_of (Exception
+        (exc IncompleteReadError (codes "x") (1 ∷ 2 ∷ [])
         (excs (exception_of ValueError (codes "a") ∷ [])))) ≡ 6 }
     ensures number_deep { depth_of (Int (pos 5)) ≡ 0 }
     ensures empty_deep { depth_of (Items no_values) ≡ 1 }

@@ -1,4 +1,5 @@
-//! The text of statements inside so many blocks. Each call appends it, and on `Memory` leaves a front of it.
+//! The text of statements inside so many blocks. Each call appends it, and on
+//! `Memory` leaves a front of it.
 ghost use Rattle.std.specs.Prelude.{◌≡◌, ◌<◌, ◌≤◌, suc, [], ◌∷◌, ◌++◌, length, OnOk, option_copied, codes};
 ghost use Rattle.std.specs.List.{repeat};
 ghost use Rattle.model_tree.specs.Syntax.{statements, handlers};
@@ -11,8 +12,8 @@ use aio_base::{Memory, name_of};
 use aio_program::{Handler, Statement, StatementCase, StatementList};
 use std::alloc::Global;
 
-/// The statements of a section, which stand inside one block more. The text so far has more bytes than blocks are open, so
-/// one more can be counted.
+/// The statements of a section, which stand inside one block more. The text so far has more bytes
+/// than blocks are open, so one more can be counted.
 #[cycle(block)]
 pub fn push_section(
     alloc: Global,

@@ -1,4 +1,5 @@
-//! The text of a statement's first line. Each call appends it, and on `Memory` leaves a front of it.
+//! The text of a statement's first line. Each call appends it, and on `Memory`
+//! leaves a front of it.
 ghost use Rattle.std.specs.Prelude.{◌≡◌, ◌++◌, OnOk, option_copied};
 ghost use Rattle.model_text.specs.Canonical.{expr_text, into_text, returned_text, as_text};
 ghost use Rattle.aio_program.specs.Target.{plain_name};

@@ -123,7 +123,9 @@ first_cut (byte ∷ next ∷ rest) line others e =
     by_test true newline l ls e' c =
         subst (Cut (byte ∷ next ∷ rest)) (newline-line byte (next ∷ rest) line others newline e) (cut-newline byte (next ∷ rest) newline)
     by_test false other l ls e' c =
-        let whole : (byte ∷ l) ∷ ls ≡ line ∷ others = ap (fronted byte) (sym e') ∙ sym (ap (λ b. cond b ([] ∷ lines_of (next ∷ rest)) (fronted byte (lines_of (next ∷ rest)))) other) ∙ e in
+        let whole : (byte ∷ l) ∷ ls ≡ line ∷ others =
+        ap (fronted byte) (sym e')
+        ∙ sym (ap (λ b. cond b ([] ∷ lines_of (next ∷ rest)) (fronted byte (lines_of (next ∷ rest)))) other) ∙ e in
         let same : byte ∷ l ≡ line = cc in
         subst (Cut (byte ∷ next ∷ rest)) same (by_return l ls e' other c (eqb byte 13) (eqb next 10) refl refl)
 

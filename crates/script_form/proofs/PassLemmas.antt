@@ -39,20 +39,33 @@ pub forms_end : (number : ℕ) (roles : List Role) → forms_from number roles [
 unfolding forms_from
 forms_end number roles = refl
 
+-- what a pass gives from a line on, by the line's form
+abbrev after_form : ℕ → List Role → List (List ℕ) → Option Spelled → Result (List (Numbered Spelled)) Fault
+after_form number roles lines form =
+    elim form [
+      | None ↦ forms_from (number + 1) roles lines
+      | Some form ↦ form_before number form (forms_from (number + 1) (role_of form ∷ roles) lines)
+    ]
+
+-- the same, by what was found of the line
+abbrev after_line : ℕ → List Role → List (List ℕ) → Result (Option Spelled) Cause → Result (List (Numbered Spelled)) Fault
+after_line number roles lines found =
+    elim found [ Err cause ↦ fault_at number cause | Ok form ↦ after_form number roles lines form ]
+
 pub forms_fail : (number : ℕ) (roles : List Role) (line : List ℕ) (lines : List (List ℕ)) (cause : Cause) → line_behind roles line ≡ Err cause
     → forms_from number roles (line ∷ lines) ≡ fault_at number cause
 unfolding forms_from
 forms_fail number roles line lines cause e =
-    ap (λ (found : Result (Option Spelled) Cause). elim found [ Err cause ↦ fault_at number cause | Ok form ↦ elim form [ None ↦ forms_from (number + 1) roles lines | Some form ↦ form_before number form (forms_from (number + 1) (role_of form ∷ roles) lines) ] ]) e
+    ap (after_line number roles lines) e
 
 pub forms_more : (number : ℕ) (roles : List Role) (line : List ℕ) (lines : List (List ℕ)) (form : Option Spelled) → line_behind roles line ≡ Ok form
     → forms_from number roles (line ∷ lines) ≡ with_first number form (forms_from (number + 1) (roles_behind form roles) lines)
 unfolding forms_from
 forms_more number roles line lines form e =
-    ap (λ (found : Result (Option Spelled) Cause). elim found [ Err cause ↦ fault_at number cause | Ok form ↦ elim form [ None ↦ forms_from (number + 1) roles lines | Some form ↦ form_before number form (forms_from (number + 1) (role_of form ∷ roles) lines) ] ]) e
-    ∙ by_form form
+    ap (after_line number roles lines) e ∙ by_form form
   where
-    by_form : (form : Option Spelled) → elim form [ None ↦ forms_from (number + 1) roles lines | Some form ↦ form_before number form (forms_from (number + 1) (role_of form ∷ roles) lines) ] ≡ with_first number form (forms_from (number + 1) (roles_behind form roles) lines)
+    by_form : (form : Option Spelled) → after_form number roles lines form
+        ≡ with_first number form (forms_from (number + 1) (roles_behind form roles) lines)
     by_form None = refl
     by_form (Some form) = refl
 

@@ -64,8 +64,8 @@ impl OpenBlock {
         matches!(self.latest, Some(Section::Finally))
     }
 
-    /// Whether a section may begin here: `else` once in an `if`; `except` and `finally` in a `try`, and nothing behind
-    /// its `finally`.
+    /// Whether a section may begin here: `else` once in an `if`; `except` and `finally` in a `try`,
+    /// and nothing behind its `finally`.
     pub fn begins(&self, section: Section) -> bool
         ensures { (sections : List PlainSection)
             → (plain_open self.now).latest ≡ latest_of sections

@@ -6,8 +6,8 @@ use thiserror::Error;
 /// Why a text is no script, by its forms and places.
 #[derive(Debug, Drop, Error)]
 pub enum FormFault {
-    /// The least faulty line, counted from 1, and its cause. What is missing at the end is missed in the line after the
-    /// last.
+    /// The least faulty line, counted from 1, and its cause. What is missing at the end is missed
+    /// in the line after the last.
     #[error("line {line}: {cause:?}")]
     Refused { line: u64, cause: Cause },
     #[error("out of memory")]

@@ -1,4 +1,5 @@
-//! The forms of lines, and the first pass over the text of a script: each line has a form, and stands where it may.
+//! The forms of lines, and the first pass over the text of a script: each line has a form, and
+//! stands where it may.
 #![tactic(auto)]
 
 mod block;

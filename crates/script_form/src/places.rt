@@ -13,8 +13,8 @@ use std::alloc::{AllocError, Global};
 /// The greatest number of open blocks.
 const MOST_BLOCKS: usize = 32;
 
-/// What the places of later lines depend on: whether a line stands before, and the blocks that are open, the innermost
-/// last.
+/// What the places of later lines depend on: whether a line stands before, and the blocks that are
+/// open, the innermost last.
 #[derive(Drop)]
 pub struct Places {
     is_first: bool,

@@ -5,8 +5,8 @@ ghost use Rattle.script_form.specs.Lines.{without_return};
 
 use aio_text::next_line;
 
-/// The first line of a text without its newline and a carriage return right before that, and what follows it; nothing
-/// where the text is empty. The last line may lack its newline.
+/// The first line of a text without its newline and a carriage return right before that, and what
+/// follows it; nothing where the text is empty. The last line may lack its newline.
 pub fn next_text_line(text: &[u8]) -> Option<(&[u8], &[u8])>
     ensures none { IsNone result ↔ (text.now ≡ []) }
     ensures line { IfSome result

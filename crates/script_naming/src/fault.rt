@@ -18,8 +18,8 @@ pub enum MeaningFault {
 /// Why a text is no script, by what its names mean.
 #[derive(Clone, Copy, Debug, PartialEq, Eq, Error)]
 pub enum NameFault {
-    /// The least faulty line, counted from 1, and its least cause. That there is no `main` is missed in the line after
-    /// the last.
+    /// The least faulty line, counted from 1, and its least cause. That there is no `main` is
+    /// missed in the line after the last.
     #[error("line {line}: {cause:?}")]
     Refused { line: u64, cause: Cause },
     #[error("out of memory")]

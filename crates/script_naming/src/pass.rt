@@ -21,8 +21,8 @@ use script_term::NumberedForm;
 use std::alloc::Global;
 use std::collections::BTreeSet;
 
-/// The coroutines of a script with the meanings of their lines, or the first fault. The line after the last has the
-/// number `last`.
+/// The coroutines of a script with the meanings of their lines, or the first fault. The line after
+/// the last has the number `last`.
 pub fn second_pass(
     alloc: Global,
     forms: &[NumberedForm],

@@ -1,4 +1,5 @@
-//! Expressions and lines of scripts before any name is looked up, as code holds them, and the lexemes that spell them.
+//! Expressions and lines of scripts before any name is looked up, as code holds them, and the
+//! lexemes that spell them.
 #![tactic(auto)]
 
 mod lexeme;

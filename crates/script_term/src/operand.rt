@@ -45,7 +45,8 @@ pub fn joined(
     left: Operand,
     right: Operand,
 ) -> Result<Operand, AllocError>
-    ensures { IfOk result (λ operand. plain_operand operand ≡ of_two (build_of join) (plain_operand left) (plain_operand right)) }
+    ensures { IfOk result (λ operand. plain_operand operand
+        ≡ of_two (build_of join) (plain_operand left) (plain_operand right)) }
 {
     match left {
         Operand::Fits(left) => joined_to(alloc, join, left, right),
@@ -54,7 +55,8 @@ pub fn joined(
 }
 
 fn joined_to(alloc: Global, join: Join, left: Term, right: Operand) -> Result<Operand, AllocError>
-    ensures { IfOk result (λ operand. plain_operand operand ≡ of_one (build_of join left) (plain_operand right)) }
+    ensures { IfOk result (λ operand. plain_operand operand
+        ≡ of_one (build_of join left) (plain_operand right)) }
 {
     match right {
         Operand::Fits(right) => {
@@ -90,7 +92,8 @@ pub fn denied(alloc: Global, operand: Operand) -> Result<Operand, AllocError>
 
 /// Unary `-`.
 pub fn negated(alloc: Global, operand: Operand) -> Result<Operand, AllocError>
-    ensures { IfOk result (λ negated. plain_operand negated ≡ of_one Negate (plain_operand operand)) }
+    ensures { IfOk result (λ negated. plain_operand negated
+        ≡ of_one Negate (plain_operand operand)) }
 {
     match operand {
         Operand::Fits(term) => Ok(capped(Term::negate(Box::new(alloc, term)?))),
@@ -100,7 +103,8 @@ pub fn negated(alloc: Global, operand: Operand) -> Result<Operand, AllocError>
 
 /// All expressions, where each fits.
 pub fn all_that_fit(alloc: Global, operands: Vec<Operand>) -> Result<Option<Vec<Term>>, AllocError>
-    ensures { IfOk result (λ terms. option_map (λ all. all.items) terms ≡ all_of that_fits (map plain_operand operands.items)) }
+    ensures { IfOk result (λ terms. option_map (λ all. all.items) terms
+        ≡ all_of that_fits (map plain_operand operands.items)) }
 {
     let mut terms = Some(Vec::new(alloc));
     for operand in operands {
@@ -110,7 +114,8 @@ pub fn all_that_fit(alloc: Global, operands: Vec<Operand>) -> Result<Option<Vec<
 }
 
 fn with_fitting(terms: Option<Vec<Term>>, operand: Operand) -> Result<Option<Vec<Term>>, AllocError>
-    ensures { IfOk result (λ more. option_map (λ all. all.items) more ≡ with_last (option_map (λ all. all.items) terms) (that_fits (plain_operand operand))) }
+    ensures { IfOk result (λ more. option_map (λ all. all.items) more
+        ≡ with_last (option_map (λ all. all.items) terms) (that_fits (plain_operand operand))) }
 {
     let Some(mut terms) = terms else {
         return Ok(None);

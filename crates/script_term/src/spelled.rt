@@ -2,7 +2,8 @@
 use crate::term::Term;
 use std::rc::RcStr;
 
-/// Arguments in order. Where the call takes a kind or a coroutine by its name, that argument is a bare name.
+/// Arguments in order. Where the call takes a kind or a coroutine by its name, that
+/// argument is a bare name.
 #[derive(Drop)]
 pub struct Arguments {
     pub before: Vec<Term>,

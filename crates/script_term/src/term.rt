@@ -10,7 +10,8 @@ use model_tree::{Comparison, Operator};
 use std::marker::Model;
 use std::rc::RcStr;
 
-/// An expression whose names are not looked up. Contracts see it as plain data. It knows its height, up to 255.
+/// An expression whose names are not looked up. Contracts see it as plain data. It knows its
+/// height, up to 255.
 #[cycle(term)]
 #[derive(Drop)]
 pub struct Term {
@@ -201,7 +202,9 @@ impl Term {
 
     /// `NAME(a, BARE, b)`.
     pub fn called(name: RcStr, before: TermList, bare: Option<RcStr>, after: TermList) -> Term
-        ensures { result ≡ Called (rc_str_bytes name) (terms before) (option_map rc_str_bytes bare) (terms after) }
+        ensures { result
+            ≡ Called (rc_str_bytes name) (terms before) (option_map rc_str_bytes bare)
+            (terms after) }
     {
         Term {
             known_height: above(before.height(), after.height()),

@@ -453,7 +453,8 @@ fn within(
     apply(next, opened)
 }
 
-/// How far the expression has come behind the lexeme, if it still is one; the brackets that are open are changed in place.
+/// How far the expression has come behind the lexeme, if it still is one; the brackets that are
+/// open are changed in place.
 pub fn fed(
     alloc: Global,
     progress: TermProgress,

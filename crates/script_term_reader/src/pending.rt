@@ -9,8 +9,8 @@ use script_term::{Comparison, Join, Operand, Operator, denied, joined, negated};
 use std::alloc::{AllocError, Global};
 use std::marker::Model;
 
-/// The loose operators: what stands left of `or`, what stands left of `and` behind it, and how many `not` stand behind
-/// that.
+/// The loose operators: what stands left of `or`, what stands left of `and` behind it, and how many
+/// `not` stand behind that.
 #[derive(Drop)]
 pub struct Loose {
     or_left: Option<Operand>,
@@ -18,8 +18,8 @@ pub struct Loose {
     nots: usize,
 }
 
-/// The tight ones: what stands left of a comparison, of `+` or `-`, of `*`, `//` or `%`, each behind the one before; and
-/// how many unary `-` stand behind that.
+/// The tight ones: what stands left of a comparison, of `+` or `-`, of `*`, `//` or `%`, each
+/// behind the one before; and how many unary `-` stand behind that.
 #[derive(Drop)]
 pub struct Tight {
     compare_left: Option<(Comparison, Operand)>,

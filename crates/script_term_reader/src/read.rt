@@ -12,8 +12,8 @@ use crate::reader::{Open, Position, TermProgress, at};
 use script_term::{Lexeme, Operand};
 use std::alloc::{AllocError, Global};
 
-/// The expression that the lexemes spell, or that it is too high; `None` where they spell none. Each lexeme is looked at
-/// once, and brackets within brackets take memory and no stack.
+/// The expression that the lexemes spell, or that it is too high; `None` where they spell none.
+/// Each lexeme is looked at once, and brackets within brackets take memory and no stack.
 pub fn read_term(alloc: Global, lexemes: &[Lexeme]) -> Result<Option<Operand>, AllocError>
     ensures { IfOk result
         (λ read. option_map plain_operand read

@@ -1,4 +1,5 @@
-//! What a reader of an expression knows behind some lexemes: what is pending, in each bracket that is open.
+//! What a reader of an expression knows behind some lexemes: what is pending, in
+//! each bracket that is open.
 ghost use Rattle.std.specs.Prelude.{◌≡◌, List};
 ghost use Rattle.law_reading.specs.Reader.{Open as OpenBracket, reading};
 ghost use Rattle.law_reading.specs.Feeding.{opening};

@@ -5,8 +5,8 @@ use aio_base::Memory;
 use aio_task::FutureId;
 use std::alloc::Global;
 
-/// A future that stands for a done one and a pending one is cancelled by the pending one; one that stands for done ones
-/// answers false.
+/// A future that stands for a done one and a pending one is cancelled by the pending one; one that
+/// stands for done ones answers false.
 pub fn many_with_done_member(alloc: Global, still: &mut Still) -> Result<bool, Memory> {
     let done = still.plain(alloc)?;
     let pending = still.plain(alloc)?;
@@ -19,7 +19,8 @@ pub fn many_with_done_member(alloc: Global, still: &mut Still) -> Result<bool, M
     Ok(ended && reached && !nothing && asked && !still.parts().is_pending(pending))
 }
 
-/// Each task waits for the next one, the last for a future, and a cancel of the first goes down to it.
+/// Each task waits for the next one, the last for a future, and a cancel of the first goes down to
+/// it.
 pub fn chain(alloc: Global, count: u32, still: &mut Still) -> Result<bool, Memory> {
     let end = still.plain(alloc)?;
     spawn_all(alloc, count, still)?;

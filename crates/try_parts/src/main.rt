@@ -1,5 +1,5 @@
-//! Runs worked cases of the loop's parts, long ones among them, and prints a line for each: its name, and whether all came
-//! out as it must.
+//! Runs worked cases of the loop's parts, long ones among them, and prints a line for each: its
+//! name, and whether all came out as it must.
 #![tactic(auto)]
 
 mod chains;

@@ -17,8 +17,10 @@ loop-member-preserved-then-id-member c = all_skip c.args.seen.now.visited (parts
     (members_at (slice_get c.args.body.now.futures c.args.id)) c.loop-member.again c.in-Some.ensures.value c.if-id-member.true c.loop-member.invariant
 
 pub loop-member-preserved : goal.loop-member-preserved
-loop-member-preserved c = all_more c.args.seen.now.visited (parts c.args.body.now) c.args.id c.loop-member.place c.in-Some.member (members_at
-    (slice_get c.args.body.now.futures c.args.id)) c.loop-member.again c.in-Some.ensures.value c.if-id-member.false c.loop-member.invariant c.in_ok-of_member.ensures
+loop-member-preserved c =
+    all_more c.args.seen.now.visited (parts c.args.body.now) c.args.id c.loop-member.place c.in-Some.member
+    (members_at (slice_get c.args.body.now.futures c.args.id)) c.loop-member.again c.in-Some.ensures.value
+    c.if-id-member.false c.loop-member.invariant c.in_ok-of_member.ensures
 
 pub loop-member-smaller : goal.loop-member-smaller
 loop-member-smaller c = let h = get_within (members_at (slice_get c.args.body.now.futures c.args.id)) c.loop-member.place c.in-Some.member

@@ -3,7 +3,7 @@ use Rattle.std.proofs.lemmas.Result.{IfOk-weaker}
 use Rattle.std.specs.Option.{option_copied}
 use Rattle.model_value.specs.declared.input.Input.TheVariants.{Send}
 use Rattle.model_machine.specs.Sound.{sends_made}
-use Rattle.aio_core.proofs.Acting.{woken_none, woken_on, woken_sends_may}
+use Rattle.aio_core.proofs.Inputs.{woken_none, woken_on, woken_sends_may}
 use Rattle.aio_core.proofs.handles.woken_with.Goals as goal
 
 pub returns-in_default-clause-input : goal.returns-in_default-clause-input

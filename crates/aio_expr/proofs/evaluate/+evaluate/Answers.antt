@@ -51,7 +51,8 @@ evaluate_all-returns-in_err-evaluate-clause-fault t c =
     let l = c.loop-item in
     let cause = c.in_err-evaluate.field-0.0 in
     if-err c.from_residual.result cause (AllFail (values_of (exprs c.args.items.now) c.args.env.now)) c.from_residual.ensures.1
-    (all-fail c.args.items.now l.item-index c.item-item.result c.args.env.now l.found.items cause c.loop-item-test.true c.item-item.is l.invariant c.in_err-evaluate.ensures)
+    (all-fail c.args.items.now l.item-index c.item-item.result c.args.env.now l.found.items cause c.loop-item-test.true
+    c.item-item.is l.invariant c.in_err-evaluate.ensures)
 
 pub evaluate_all-loop-item-preserved : goal.evaluate_all-loop-item-preserved
 evaluate_all-loop-item-preserved t c =

@@ -1,7 +1,7 @@
 use Rattle.std.proofs.Common.{◌≡◌, ap, subst, ◌∙◌}
 use Rattle.model_loop.specs.Cancel.{cancel}
 use Rattle.aio_task.specs.View.{parts}
-use Rattle.aio_group.proofs.Stepping.{AskedSoFar, none_asked, one_asked, all_asked}
+use Rattle.aio_group.proofs.Asking.{AskedSoFar, none_asked, one_asked, all_asked}
 use Rattle.aio_group.proofs.abort.cancel_each.Goals as goal
 
 pub loop-task-init : goal.loop-task-init

@@ -1,4 +1,4 @@
-use Rattle.aio_group.proofs.Stepping.{AskedSoFar}
+use Rattle.aio_group.proofs.Asking.{AskedSoFar}
 use Rattle.aio_group.proofs.abort.cancel_each.Given as goal
 
 abbrev pub invariant-loop-task : goal.invariant-loop-task

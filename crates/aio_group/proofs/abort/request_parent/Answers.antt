@@ -5,8 +5,9 @@ use Rattle.model_loop.specs.Tasks.{future_of}
 use Rattle.aio_task.specs.View.{parts}
 use Rattle.aio_group.specs.Held.{Held}
 use Rattle.aio_group.specs.Stands.{Steps}
+use Rattle.aio_group.proofs.Asking.{moves_by}
 use Rattle.aio_group.proofs.Going.{cancel_on}
-use Rattle.aio_group.proofs.Stepping.{moves_by, request_parent_steps}
+use Rattle.aio_group.proofs.Stepping.{request_parent_steps}
 use Rattle.aio_group.proofs.abort.request_parent.Goals as goal
 
 pub returns-clause-moves : goal.returns-clause-moves

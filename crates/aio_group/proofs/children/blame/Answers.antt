@@ -1,6 +1,6 @@
 use Rattle.std.proofs.Common.{sym}
-use Rattle.aio_group.proofs.Stepping.{blame_stays, blame_steps}
 use Rattle.aio_group.proofs.Going.{then_moves}
+use Rattle.aio_group.proofs.Stepping.{blame_stays, blame_steps}
 use Rattle.aio_group.proofs.children.blame.Goals as goal
 
 pub returns-then-is_blamed-clause-steps : goal.returns-then-is_blamed-clause-steps

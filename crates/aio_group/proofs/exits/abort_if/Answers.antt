@@ -1,6 +1,6 @@
 use Rattle.std.proofs.Common.{◌≡◌, Bool, true, false, not, ◌&&◌, refl, ap, sym, ◌∙◌}
 use Rattle.std.specs.Prelude.{is_some}
-use Rattle.aio_group.proofs.Stepping.{raised_steps, raised_stays}
+use Rattle.aio_group.proofs.Leaving.{raised_steps, raised_stays}
 use Rattle.aio_group.proofs.exits.abort_if.Goals as goal
 
 unless : (b : Bool) → (b && not true) ≡ false

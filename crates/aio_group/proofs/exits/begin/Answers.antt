@@ -3,8 +3,8 @@ use Rattle.model_loop.specs.Groups.{begin_exit, take_back, abort_if_raised}
 use Rattle.aio_group.specs.Stands.{Steps}
 use Rattle.aio_group.proofs.Going.{then_moves}
 use Rattle.aio_group.proofs.Standing.{then_steps}
-use Rattle.aio_group.proofs.Stepping.{begin_steps}
 use Rattle.aio_group.proofs.Exiting.{begun_same}
+use Rattle.aio_group.proofs.Leaving.{begin_steps}
 use Rattle.aio_group.proofs.exits.begin.Goals as goal
 
 pub returns-clause-same : goal.returns-clause-same

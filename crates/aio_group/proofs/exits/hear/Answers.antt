@@ -2,7 +2,7 @@ use Rattle.std.proofs.Common.{subst, sym}
 use Rattle.model_value.specs.declared.input.Input.TheVariants.{Send}
 use Rattle.aio_group.specs.Exits.{heard}
 use Rattle.aio_group.specs.Stands.{Steps}
-use Rattle.aio_group.proofs.Stepping.{heard_stays}
+use Rattle.aio_group.proofs.Leaving.{heard_stays}
 use Rattle.aio_group.proofs.exits.hear.Goals as goal
 
 pub returns-in-Send-clause-steps : goal.returns-in-Send-clause-steps

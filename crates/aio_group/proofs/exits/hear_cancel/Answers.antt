@@ -4,7 +4,7 @@ use Rattle.model_loop.specs.Groups.{abort}
 use Rattle.aio_group.specs.Exits.{heard}
 use Rattle.aio_group.specs.Held.{Held}
 use Rattle.aio_group.specs.Stands.{Steps}
-use Rattle.aio_group.proofs.Stepping.{heard_stays, heard_steps}
+use Rattle.aio_group.proofs.Leaving.{heard_stays, heard_steps}
 use Rattle.aio_group.proofs.exits.hear_cancel.Goals as goal
 
 pub returns-then-aborts-clause-steps : goal.returns-then-aborts-clause-steps

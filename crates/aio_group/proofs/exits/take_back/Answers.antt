@@ -4,8 +4,9 @@ use Rattle.model_loop.specs.Tasks.{cancelling, uncancel}
 use Rattle.aio_task.specs.View.{View, parts}
 use Rattle.aio_group.specs.GoesOn.{Moves}
 use Rattle.aio_group.specs.Stands.{Steps}
+use Rattle.aio_group.proofs.Asking.{moves_by}
 use Rattle.aio_group.proofs.Going.{uncancel_on}
-use Rattle.aio_group.proofs.Stepping.{moves_by, take_back_stays, take_back_steps, take_back_drops}
+use Rattle.aio_group.proofs.Leaving.{take_back_stays, take_back_steps, take_back_drops}
 use Rattle.aio_group.proofs.exits.take_back.Goals as goal
 
 uncancel_moves : (v w : View) (task : ℕ) → parts w ≡ uncancel task (parts v) → w ≡ record v { tasks = w.tasks } → Moves v w

@@ -37,15 +37,32 @@ returns-in-48-to-57 c =
 pub returns-in_default : goal.returns-in_default
 returns-in_default c =
     let rest = c.args.rest.now in
-    let digit : is_ascii_digit (get_or rest 0 0) ≡ false = elim c.in_default.branch [ in_default-via-in-98+else-opens_bytes w ↦ grind (arith, nat_tests) | in_default-via-in_default+then-first-lt48 w ↦ grind (arith, nat_tests) | in_default-via-in_default+else-first-lt48+else-first-lt58 w ↦ grind (arith, nat_tests) ] in
+    let digit : is_ascii_digit (get_or rest 0 0) ≡ false =
+    elim c.in_default.branch [
+      | in_default-via-in-98+else-opens_bytes w ↦ grind (arith, nat_tests)
+      | in_default-via-in_default+then-first-lt48 w ↦ grind (arith, nat_tests)
+      | in_default-via-in_default+else-first-lt48+else-first-lt58 w ↦ grind (arith, nat_tests)
+    ] in
     let quoted : Bool = is_quote (slice_index (drop 1 rest) 0) in
-    let bytes : (eqb (get_or rest 0 0) 98 && is_quote (slice_index (drop 1 rest) 0)) ≡ false = elim c.in_default.branch [ in_default-via-in-98+else-opens_bytes w ↦ and_right (eqb (get_or rest 0 0) 98) quoted (sym w.opens_bytes.ensures.value ∙ w.if-opens_bytes.false) | in_default-via-in_default+then-first-lt48 w ↦ and_left (eqb (get_or rest 0 0) 98) quoted (grind (arith, nat_tests)) | in_default-via-in_default+else-first-lt48+else-first-lt58 w ↦ and_left (eqb (get_or rest 0 0) 98) quoted (grind (arith, nat_tests)) ] in
+    let starts : Bool = eqb (get_or rest 0 0) 98 in
+    let bytes : (starts && quoted) ≡ false =
+    elim c.in_default.branch [
+      | in_default-via-in-98+else-opens_bytes w ↦ and_right starts quoted (sym w.opens_bytes.ensures.value ∙ w.if-opens_bytes.false)
+      | in_default-via-in_default+then-first-lt48 w ↦ and_left starts quoted (grind (arith, nat_tests))
+      | in_default-via-in_default+else-first-lt48+else-first-lt58 w ↦ and_left starts quoted (grind (arith, nat_tests))
+    ] in
     let word = sym c.is_word.ensures ∙ c.if-is_word.true in
     rw (first-word rest c.requires.some word digit bytes) c.word.ensures
 
 pub returns-in_default-2 : goal.returns-in_default-2
 returns-in_default-2 c =
     let rest = c.args.rest.now in
-    let others : (is_space (get_or rest 0 0) ≡ false) × (is_hash (get_or rest 0 0) ≡ false) × (is_quote (get_or rest 0 0) ≡ false) = elim c.in_default.branch [ in_default-via-in-98+else-opens_bytes w ↦ (grind (arith, nat_tests), grind (arith, nat_tests), grind (arith, nat_tests)) | in_default-via-in_default+then-first-lt48 w ↦ (grind (arith, nat_tests), grind (arith, nat_tests), grind (arith, nat_tests)) | in_default-via-in_default+else-first-lt48+else-first-lt58 w ↦ (grind (arith, nat_tests), grind (arith, nat_tests), grind (arith, nat_tests)) ] in
+    let others : (is_space (get_or rest 0 0) ≡ false) × (is_hash (get_or rest 0 0) ≡ false) × (is_quote (get_or rest 0 0) ≡ false) =
+    elim c.in_default.branch [
+      | in_default-via-in-98+else-opens_bytes w ↦ (grind (arith, nat_tests), grind (arith, nat_tests), grind (arith, nat_tests))
+      | in_default-via-in_default+then-first-lt48 w ↦ (grind (arith, nat_tests), grind (arith, nat_tests), grind (arith, nat_tests))
+      | in_default-via-in_default+else-first-lt48+else-first-lt58 w ↦
+          (grind (arith, nat_tests), grind (arith, nat_tests), grind (arith, nat_tests))
+    ] in
     let word = sym c.is_word.ensures ∙ c.if-is_word.false in
     rw (first-other rest c.requires.some others.0 others.1 others.2 word) c.punctuation.ensures

@@ -18,7 +18,10 @@ more c =
 
 items : (c : goal.Joined-token) → c.match-token.items.items ≡ c.loop-at.items.items ++ option_to_list c.in_ok-token.field-0.token
 items c =
-    elim c.match-token.branch [ in-Some+in_ok-push w ↦ rw (w.items-is, w.in-Some.is) w.in_ok-push.ensures.items | in_default w ↦ rw (w.items-is, w.in_default.is) (sym (append-nil c.loop-at.items.items)) ]
+    elim c.match-token.branch [
+      | in-Some+in_ok-push w ↦ rw (w.items-is, w.in-Some.is) w.in_ok-push.ensures.items
+      | in_default w ↦ rw (w.items-is, w.in_default.is) (sym (append-nil c.loop-at.items.items))
+    ]
 
 pub overflow_add-at-in-loop-at : goal.overflow_add-at-in-loop-at
 overflow_add-at-in-loop-at c = let m = more c in omega (arith, m.within)

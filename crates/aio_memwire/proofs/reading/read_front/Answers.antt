@@ -17,7 +17,9 @@ loop-alloc-preserved g c = record {
   within =
       let size = rw c.in-Bytes.is at c.in_ok-bytes.ensures.size in
       let text = c.loop-alloc.text in
-      let grown = ap (λ (b : List ℕ). length b) (c.in_ok-extend_from_slice-in-Bytes.ensures.items ∙ ap (λ (b : List ℕ). text.items ++ b) c.items.ensures) ∙ length-append text.items c.in-Bytes.bytes in
+      let grown =
+      ap (λ (b : List ℕ). length b) (c.in_ok-extend_from_slice-in-Bytes.ensures.items ∙ ap (λ (b : List ℕ). text.items ++ b) c.items.ensures)
+      ∙ length-append text.items c.in-Bytes.bytes in
       omega (
         arith,
         size.1,

@@ -7,5 +7,5 @@ use Rattle.aio_script.proofs.reader.program_of.Goals as goal
 pub returns-clause-program : goal.returns-clause-program
 returns-clause-program c =
     from_parts c.args.last c.profile_of.result
-    (parts_of
-    (map plain_numbered c.args.forms.now)) c.in_ok-parts.parts.items c.in_ok-coroutines_of.field-0.items c.new.result c.in_ok-parts.ensures c.profile_of.ensures c.in_ok-coroutines_of.ensures c.new.ensures
+    (parts_of (map plain_numbered c.args.forms.now)) c.in_ok-parts.parts.items c.in_ok-coroutines_of.field-0.items
+    c.new.result c.in_ok-parts.ensures c.profile_of.ensures c.in_ok-coroutines_of.ensures c.new.ensures

@@ -20,13 +20,17 @@ overflow_add-line_count c = omega (arith, c.line_count.ensures.few, c.if-text-gt
 pub returns-clause-program : goal.returns-clause-program
 returns-clause-program c =
     let last = c.line_count.result + 1 in
-    let read = from_forms c.args.text.now (map plain_numbered c.in_ok-forms.forms.items) last (omega (arith, c.if-text-gt-LONGEST.false)) c.in_ok-forms.ensures.forms (ap (λ (n : ℕ). n + 1) c.line_count.ensures.count)
+    let read =
+    from_forms c.args.text.now (map plain_numbered c.in_ok-forms.forms.items) last (omega (arith, c.if-text-gt-LONGEST.false))
+    c.in_ok-forms.ensures.forms (ap (λ (n : ℕ). n + 1) c.line_count.ensures.count)
     ∙ ap (λ (forms : List NumberedForm). script_of_parts last (parts_of (map plain_numbered forms))) (sym c.as_slice.ensures.value) in
     IfOk-weaker c.program_of.result _ _ (λ program d. read ∙ d) c.program_of.ensures.program
 
 pub returns-clause-fault : goal.returns-clause-fault
 returns-clause-fault c =
     let last = c.line_count.result + 1 in
-    let read = from_forms c.args.text.now (map plain_numbered c.in_ok-forms.forms.items) last (omega (arith, c.if-text-gt-LONGEST.false)) c.in_ok-forms.ensures.forms (ap (λ (n : ℕ). n + 1) c.line_count.ensures.count)
+    let read =
+    from_forms c.args.text.now (map plain_numbered c.in_ok-forms.forms.items) last (omega (arith, c.if-text-gt-LONGEST.false))
+    c.in_ok-forms.ensures.forms (ap (λ (n : ℕ). n + 1) c.line_count.ensures.count)
     ∙ ap (λ (forms : List NumberedForm). script_of_parts last (parts_of (map plain_numbered forms))) (sym c.as_slice.ensures.value) in
     IfErr-weaker c.program_of.result _ _ (λ fault d. subst (λ (judged : Judged Program). IsFaultOf judged fault) (sym read) d) c.program_of.ensures.fault

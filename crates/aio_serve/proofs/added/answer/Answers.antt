@@ -1,5 +1,3 @@
-use Rattle.std.proofs.Common.{subst}
-use Rattle.aio_serve.specs.Adding.{AnswersAs, IsAnswering, answered}
 use Rattle.aio_serve.proofs.Adding.{on_answer, on_end, on_first, on_next}
 use Rattle.aio_serve.proofs.added.answer.Goals as goal
 

@@ -8,7 +8,9 @@ use Rattle.aio_served.proofs.served.+served.Goals as goal
 pub are_statements_served-is_statement_served-requires : goal.are_statements_served-is_statement_served-requires
 are_statements_served-is_statement_served-requires t c =
     let same : c.items-statement-items.result.now ≡ c.args.body.now = c.items-statement-items.ensures in
-    let smaller = statement_falls c.items-statement-items.result.now c.loop-statement.statement-index c.statement-item.result c.loop-statement-test.true c.statement-item.is in
+    let smaller =
+    statement_falls c.items-statement-items.result.now c.loop-statement.statement-index c.statement-item.result
+    c.loop-statement-test.true c.statement-item.is in
     let falls : 2 * statement_size c.statement-item.result + 1 < 2 * statement_list_size c.args.body.now =
     omega (arith, smaller, ap statement_list_size same) in
     search rules

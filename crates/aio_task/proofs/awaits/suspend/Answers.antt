@@ -1,6 +1,5 @@
-use Rattle.std.proofs.Common.{◌≡◌, ◌≤◌, [], ◌∷◌, Some, None, length, refl, ap, sym, subst, ◌∙◌}
+use Rattle.std.proofs.Common.{◌≡◌, ◌≤◌, [], ◌∷◌, ap, sym, subst, ◌∙◌}
 use Rattle.model_value.specs.declared.action.Action.TheVariants.{StepInCircle}
-use Rattle.model_loop.specs.Parts.{Parts}
 use Rattle.model_loop.specs.Sound.{HasNoCircle}
 use Rattle.model_loop.specs.Suspend.{suspend_unless, cancel_wait, wait_on}
 use Rattle.model_loop.specs.Tasks.{is_marked}

@@ -1,4 +1,4 @@
-use Rattle.std.proofs.Common.{rules, ap, sym, ◌∙◌}
+use Rattle.std.proofs.Common.{rules, ap, ◌∙◌}
 use Rattle.model_value.specs.declared.action.Action.TheVariants.{Step}
 use Rattle.aio_ready.specs.Queue.{soon}
 use Rattle.aio_task.proofs.PartsLemmas.{task_made}

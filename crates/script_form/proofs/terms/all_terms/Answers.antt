@@ -13,6 +13,7 @@ returns-in_default c =
 
 pub loop-part-preserved : goal.loop-part-preserved
 loop-part-preserved c =
-    terms_more c.args.parts.now c.loop-part.part-index c.part-item.result _ (plain_capped c.in-Some.term) c.loop-part-test.true c.part-item.is c.loop-part.invariant
+    terms_more c.args.parts.now c.loop-part.part-index c.part-item.result _ (plain_capped c.in-Some.term) c.loop-part-test.true
+    c.part-item.is c.loop-part.invariant
     (ap (option_map plain_capped) (sym c.in-Some.is) ∙ c.in_ok-term.ensures)
     ∙ ap Some (sym c.in_ok-terms.ensures)

@@ -98,7 +98,8 @@ meaning_of-returns-in_err-items-in-List t c =
 
 pub meaning_of-returns-in_ok-items-in-List : goal.meaning_of-returns-in_ok-items-in-List
 meaning_of-returns-in_ok-items-in-List t c =
-    list-is c.args.scope.now c.args.term.now c.in-List.items.now c.items.result.now c.in_ok-items-in-List.items.items c.in-List.ensures c.items.ensures c.in_ok-items-in-List.ensures
+    list-is c.args.scope.now c.args.term.now c.in-List.items.now c.items.result.now c.in_ok-items-in-List.items.items
+    c.in-List.ensures c.items.ensures c.in_ok-items-in-List.ensures
     ∙ ap (λ all. Ok (ListOf (exprs all))) (sym c.of.ensures)
     ∙ ap Ok (sym c.list.ensures)
 

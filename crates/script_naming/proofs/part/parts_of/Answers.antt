@@ -37,7 +37,9 @@ loop-at-preserved c =
     let none : 0 ≡ (at - 1) - (at - 1) = omega arith in
     let lines = slice_range forms (at - 1 + 1) end in
     let front = i.front ∙ ap (λ n. map plain_numbered (slice_range forms n end)) next in
-    let before = parts-before forms at head some within c.index-forms-at.is ∙ parts-headed head lines (parts_in (drop at forms)) part front c.in-Some.ensures.part in
+    let before =
+    parts-before forms at head some within c.index-forms-at.is
+    ∙ parts-headed head lines (parts_in (drop at forms)) part front c.in-Some.ensures.part in
     record {
       in_range = omega arith;
       inside = omega (arith, within);

@@ -29,6 +29,7 @@ loop-part-preserved c =
     let whole = parts_judged callees [] (plain_parts parts) in (
       name ∷ names,
       Holds-first c.bind.new.bound names name (c.in_ok-bind.ensures names c.loop-part.invariant.1),
-      parts-more callees names parts c.loop-part.part-index part whole c.loop-part.named.items c.push.new.self.items c.in_ok-part_judged.field-0 c.loop-part-test.true c.part-item.is c.loop-part.invariant.2
+      parts-more callees names parts c.loop-part.part-index part whole c.loop-part.named.items c.push.new.self.items
+          c.in_ok-part_judged.field-0 c.loop-part-test.true c.part-item.is c.loop-part.invariant.2
           (c.in_ok-part_judged.ensures names c.loop-part.invariant.1) c.in_ok-push.ensures.items,
     )

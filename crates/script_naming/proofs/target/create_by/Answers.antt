@@ -16,7 +16,9 @@ returns-in_err-group c =
     let after = all_meant scope c.args.after.now in
     let known = callee-known scope c.as_str.result.now name c.in-Some.parameters c.in-Some.ensures c.as_str.ensures.value in
     let group = gives-argument before c.one_argument-group.result c.one_argument-group.ensures.meaning c.one_argument-group.ensures.fault in
-    let gives = create-gives scope name c.in-Some.parameters before after c.one_argument-group.result c.counted-arguments.result known group c.counted-arguments.ensures in
+    let gives =
+    create-gives scope name c.in-Some.parameters before after
+    c.one_argument-group.result c.counted-arguments.result known group c.counted-arguments.ensures in
     gives-err plain_target (create_by scope (callee_of scope name) name before after) c.from_residual.result c.in_err-group.field-0.0 c.from_residual.ensures.1
     (subst (λ found. Gives (λ pair. CreateTask pair.0 name (exprs pair.1)) (create_by scope (callee_of scope name) name before after) found)
     (sym c.in_err-group.ensures) gives)
@@ -29,7 +31,9 @@ returns c =
     let after = all_meant scope c.args.after.now in
     let known = callee-known scope c.as_str.result.now name c.in-Some.parameters c.in-Some.ensures c.as_str.ensures.value in
     let group = gives-argument before c.one_argument-group.result c.one_argument-group.ensures.meaning c.one_argument-group.ensures.fault in
-    let gives = create-gives scope name c.in-Some.parameters before after c.one_argument-group.result c.counted-arguments.result known group c.counted-arguments.ensures in
+    let gives =
+    create-gives scope name c.in-Some.parameters before after
+    c.one_argument-group.result c.counted-arguments.result known group c.counted-arguments.ensures in
     subst (λ found. Gives (λ pair. CreateTask pair.0 name (exprs pair.1)) (create_by scope (callee_of scope name) name before after) found)
     (sym c.in_ok-group.ensures) gives
     ∙ ap (λ n. Ok (CreateTask c.in_ok-group.group n (exprs c.in_ok-group.arguments))) (sym c.in_ok-clone.ensures.cases)

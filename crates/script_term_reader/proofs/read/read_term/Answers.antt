@@ -1,8 +1,10 @@
 use Rattle.std.proofs.Common.{◌≡◌, ◌+◌, map, option_map, reverse, get_or, sym, ap, ◌∙◌, arith}
 use Rattle.std.proofs.lemmas.Result.{IfOk-weaker}
 use Rattle.model_text.specs.Levels.{term_of}
+use Rattle.law_reading.specs.Reader.{ReaderState}
 use Rattle.law_reading.specs.Operands.{capped}
 use Rattle.law_reading.specs.Feeding.{fed, finished}
+use Rattle.script_term.specs.declared.lexeme.Lexeme.{Lexeme}
 use Rattle.script_term.specs.Lexeme.{plain_lexeme}
 use Rattle.script_term.specs.Operand.{plain_operand}
 use Rattle.script_term_reader.specs.Next.{come}
@@ -12,12 +14,15 @@ use Rattle.script_term_reader.proofs.read.read_term.Goals as goal
 pub returns-in-None : goal.returns-in-None
 returns-in-None c =
     let xs = c.args.lexemes.now in
-    let i = c.loop-lexeme.lexeme-index in
-    let more : fed (record { progress = c.loop-lexeme.progress; opened = reverse c.loop-lexeme.opened.items }) (plain_lexeme (get_or xs i c.lexeme-item.result)) ≡ state_behind (i + 1) xs = fed-more xs i c.lexeme-item.result c.loop-lexeme.progress (reverse c.loop-lexeme.opened.items) (omega (arith, c.loop-lexeme-test.true)) c.loop-lexeme.invariant in
+    let at = c.loop-lexeme in
+    let i = at.lexeme-index in
+    let opened = reverse at.opened.items in
+    let after : Lexeme → ReaderState = λ lexeme. fed (record { progress = at.progress; opened = opened }) (plain_lexeme lexeme) in
+    let more : after (get_or xs i c.lexeme-item.result) ≡ state_behind (i + 1) xs =
+    fed-more xs i c.lexeme-item.result at.progress opened (omega (arith, c.loop-lexeme-test.true)) at.invariant in
     failed xs (i + 1) (ap (λ reached. come reached c.fed.new.opened.items) (sym c.in-None.is)
     ∙ (c.in_ok-reached.ensures
-    ∙ (ap (λ lexeme. fed (record { progress = c.loop-lexeme.progress; opened = reverse c.loop-lexeme.opened.items }) (plain_lexeme lexeme)) c.lexeme-item.is
-    ∙ more)))
+    ∙ (ap after c.lexeme-item.is ∙ more)))
 
 pub returns : goal.returns
 returns c =

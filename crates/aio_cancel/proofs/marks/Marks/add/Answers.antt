@@ -9,7 +9,9 @@ clash b t f = absurd (cc)
 
 pub prove-unreachable-requires : goal.prove-unreachable-requires
 prove-unreachable-requires c =
-    let room = room_left c.self.inside.marks.items c.self.inside.visited.items _ c.args.task c.args.self.now c.self.view_is c.self.invariant c.requires.there c.requires.unseen in
+    let room =
+    room_left c.self.inside.marks.items c.self.inside.visited.items _ c.args.task c.args.self.now c.self.view_is
+    c.self.invariant c.requires.there c.requires.unseen in
     let same = c.self.inside.visited.ok.0 in
     let fits : vec_len c.self.inside.visited < vec_capacity c.self.inside.visited = omega arith in
     clash (is_ok c.push-pushed.result) (c.push-pushed.ensures.succeeds fits) c.if-prove.ensures.value

@@ -1,9 +1,7 @@
-use Rattle.std.proofs.Common.{◌≡◌, List, [], ◌∷◌, ◌++◌, sym, ap, ◌∙◌, arith}
-use Rattle.model_tree.specs.Syntax.{statements}
-use Rattle.model_text.specs.Bodies.{SectionBody}
+use Rattle.std.proofs.Common.{◌≡◌, [], ◌∷◌, sym, ap, ◌∙◌, arith}
 use Rattle.aio_program.specs.declared.block.UnendedBlock.{UnendedBlock}
 use Rattle.aio_program.specs.Sorted.{plain_begin}
-use Rattle.aio_program.specs.Block.{over, latest}
+use Rattle.aio_program.specs.Block.{over, latest, sections}
 use Rattle.aio_program.specs.Body.{rest, around}
 use Rattle.aio_program.proofs.TryLemmas.{nothing_left}
 use Rattle.aio_program.proofs.BlockLemmas.{rest-begins, around-begins, begins, pushed, popped, outermost}
@@ -26,7 +24,10 @@ returns c = λ lines.
     let block : UnendedBlock = c.in-Some.block in
     let next : UnendedBlock = c.in_ok-with_section.field-0 in
     let left = c.pop.new.self.items in
-    let sections : List SectionBody = over block ++ record { head = latest block; body = statements so_far } ∷ [] in
-    pushed left c.push.new.self.items next block.outer.items c.new-so_far.result.items sections begin lines
-    (around block (rest so_far (begin ∷ lines))) c.in_ok-push.ensures.items
-    (ap (λ outer. outer.items) c.in_ok-with_section.ensures.outer) c.in_ok-with_section.ensures.over c.in_ok-with_section.ensures.latest c.new-so_far.ensures.items (sym (around-begins begin role.0 role.1 block.outer.items (over block) (latest block) so_far lines)) ∙ popped c.args.self.blocks.items left block (rest so_far (begin ∷ lines)) c.in-Some.ensures.items
+    let inner = rest so_far (begin ∷ lines) in
+    pushed left c.push.new.self.items next block.outer.items c.new-so_far.result.items (sections block so_far) begin lines
+    (around block inner) c.in_ok-push.ensures.items
+    (ap (λ outer. outer.items) c.in_ok-with_section.ensures.outer) c.in_ok-with_section.ensures.over
+    c.in_ok-with_section.ensures.latest c.new-so_far.ensures.items
+    (sym (around-begins begin role.0 role.1 block.outer.items (over block) (latest block) so_far lines))
+    ∙ popped c.args.self.blocks.items left block inner c.in-Some.ensures.items

@@ -1,4 +1,4 @@
-use Rattle.std.proofs.Common.{[], refl, ap, sym, subst, ◌∙◌}
+use Rattle.std.proofs.Common.{[], ap, ◌∙◌}
 use Rattle.aio_task.specs.View.{parts}
 use Rattle.aio_task.specs.Kept.{view_of}
 use Rattle.law_cancel.proofs.Answering.{with_answer_spent}

@@ -1,5 +1,4 @@
-use Rattle.std.proofs.Common.{refl, ap, sym, subst, ◌∙◌, arith}
-use Rattle.aio_task.specs.View.{View}
+use Rattle.std.proofs.Common.{refl, arith}
 use Rattle.aio_task.proofs.Nothing.{nothing_kept, nothing_needed}
 use Rattle.aio_task.proofs.parts.Parts.new.Goals as goal
 

@@ -1,4 +1,4 @@
-use Rattle.std.proofs.Common.{false, refl, ap, sym, subst, ◌∙◌, arith}
+use Rattle.std.proofs.Common.{false, refl, ap, sym, subst, ◌∙◌}
 use Rattle.model_loop.specs.Parts as plain
 use Rattle.aio_task.specs.View.{View}
 use Rattle.aio_task.specs.contracts.parts.Parts.{the_view, the_invariant}

@@ -1,6 +1,5 @@
 use Rattle.std.proofs.Common.{refl, ap, sym, subst, ◌∙◌}
-use Rattle.aio_task.specs.View.{stepped_at}
-use Rattle.aio_task.specs.View.{View}
+use Rattle.aio_task.specs.View.{View, stepped_at}
 use Rattle.aio_task.specs.contracts.parts.Parts.{the_view, the_invariant}
 use Rattle.aio_task.proofs.Keeping.{room_same}
 use Rattle.aio_task.proofs.KeptSteps.{next_kept}

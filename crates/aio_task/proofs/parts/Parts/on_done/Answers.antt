@@ -1,4 +1,4 @@
-use Rattle.std.proofs.Common.{refl, ap, sym, subst, ◌∙◌}
+use Rattle.std.proofs.Common.{ap, sym, subst, ◌∙◌}
 use Rattle.aio_task.specs.View.{View}
 use Rattle.aio_task.specs.contracts.parts.Parts.{the_view, the_invariant}
 use Rattle.aio_task.proofs.KeptFutures.{on_done_whole}

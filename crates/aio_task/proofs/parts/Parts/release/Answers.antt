@@ -1,4 +1,4 @@
-use Rattle.std.proofs.Common.{◌≡◌, ◌⊎◌, false, [], None, slice_get, refl, ap, sym, subst, ◌∙◌}
+use Rattle.std.proofs.Common.{◌≡◌, ◌⊎◌, false, [], None, slice_get, ap, sym, subst, ◌∙◌}
 use Rattle.model_loop.specs.Futures.{is_pending_at}
 use Rattle.model_loop.specs.Totals.{callbacks_at}
 use Rattle.model_loop.specs.Owning.{owner_at}

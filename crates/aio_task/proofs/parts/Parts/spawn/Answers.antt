@@ -1,4 +1,4 @@
-use Rattle.std.proofs.Common.{refl, ap, sym, subst, ◌∙◌}
+use Rattle.std.proofs.Common.{ap, ◌∙◌}
 use Rattle.aio_task.specs.View.{View}
 use Rattle.aio_task.proofs.KeptSteps.{spawned_or_not}
 use Rattle.aio_task.proofs.parts.Parts.spawn.Goals as goal

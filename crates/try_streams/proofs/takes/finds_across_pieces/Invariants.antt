@@ -1,5 +1,5 @@
 use Rattle.std.proofs.Common.{◌≡◌, false, None}
-use Rattle.aio_reader.proofs.tests.finds_across_pieces.Given as goal
+use Rattle.try_streams.proofs.takes.finds_across_pieces.Given as goal
 
 -- more may be fed
 abbrev pub invariant-loop : goal.invariant-loop

@@ -1,0 +1,168 @@
+-- The steps of an exit, before it waits or ends.
+use Rattle.std.proofs.Common.{◌≡◌, ℕ, ◌<◌, Bool, true, false, not, ◌&&◌, List, [], Option, Some, None, slice_get, slice_set, refl, ap, sym, subst, ◌∙◌, arith}
+use Rattle.std.specs.Prelude.{◌==◌, ◌-◌, is_some, if◌then◌else◌}
+use Rattle.std.specs.Option.{option_map_or}
+use Rattle.std.proofs.lemmas.Bool.{eq-eqb, ne_eqb}
+use Rattle.model_value.specs.declared.input.Input.TheVariants.{Send, Throw}
+use Rattle.model_value.specs.Input.{Input}
+use Rattle.model_value.specs.Value.{Exc}
+use Rattle.model_loop.specs.Groups.{group_of, set_group, only_cancelled, abort, take_back, take_back_where, begin_exit, abort_if_raised, hear}
+use Rattle.model_loop.specs.Groups.{keep_and_abort_unless}
+use Rattle.model_loop.specs.Ledger.{ByGroup, uncancel_by}
+use Rattle.model_loop.specs.Loop.{Loop, book}
+use Rattle.model_loop.specs.Parts.{Task, Parts}
+use Rattle.model_loop.specs.Tasks.{cancelling, uncancel}
+use Rattle.aio_task.specs.View.{View, parts}
+use Rattle.aio_task.specs.Keeps.{Ties, Keeps, Kept}
+use Rattle.aio_group.specs.Exits.{heard}
+use Rattle.aio_group.specs.Held.{Held, failing}
+use Rattle.aio_group.specs.Stands.{Steps}
+use Rattle.aio_group.proofs.Flags.{parent_same, aborting_same, requested_same, keeps_this, wakes_up, begins}
+use Rattle.aio_group.proofs.Going.{uncancel_on}
+use Rattle.aio_group.proofs.Laws.{kept_uncancel}
+use Rattle.aio_group.proofs.Standing.{There, no_step, then_steps, as_step, set_steps, parts_steps}
+
+-- an input that a group doesn't keep
+abbrev pub IsQuiet : Held → Input → Type 0
+IsQuiet held (Send value) = Unit {0}
+IsQuiet held (Throw fault) = held.aborting ≡ true
+
+-- a step on a condition
+pub raised_steps : (a b : Held) (v w : View) (raised : Option Exc) → (is_some raised && not a.aborting) ≡ true → Steps a v b w abort
+    → Steps a v b w (abort_if_raised raised)
+raised_steps a b v w raised e step = as_step a b v w abort (abort_if_raised raised) step (λ t id l h k.
+    let c : (is_some raised && not (group_of l id).aborting) ≡ true = rw (← aborting_same h.is) e in
+    (rw c refl, rw c refl))
+
+pub raised_stays : (a : Held) (v : View) (raised : Option Exc) → (is_some raised && not a.aborting) ≡ false
+    → Steps a v a v (abort_if_raised raised)
+raised_stays a v raised e = as_step a a v v (λ id l. l) (abort_if_raised raised) (no_step a v) (λ t id l h k.
+    let c : (is_some raised && not (group_of l id).aborting) ≡ false = rw (← aborting_same h.is) e in
+    (rw c refl, rw c refl))
+
+pub begin_steps : (a : Held) (v : View) (raised : Option Exc)
+    → Steps a v (record a { exiting = true; body = failing raised; kept = only_cancelled raised }) v (begin_exit raised)
+begin_steps a v raised =
+    set_steps a (record a { exiting = true; body = failing raised; kept = only_cancelled raised }) v (begin_exit raised)
+    (λ p group. record group { exiting = true; body = raised; kept = only_cancelled raised }) (λ id l. refl) (λ id l. refl)
+    (λ t p group k is. begins is raised)
+
+pub take_back_stays : (a : Held) (v : View) → a.requested ≡ false → Steps a v a v take_back
+take_back_stays a v e = as_step a a v v (λ id l. l) take_back (no_step a v) (λ t id l h k.
+    let c : (group_of l id).requested ≡ false = sym (requested_same h.is) ∙ e in
+    (rw c refl, rw c refl))
+
+uncancel-tasks : (task : ℕ) (p q : Parts) → p.tasks ≡ q.tasks → (uncancel task p).tasks ≡ (uncancel task q).tasks
+uncancel-tasks task p q e = at (slice_get p.tasks task) (slice_get q.tasks task) (ap (λ ts. slice_get ts task) e)
+  where
+    change : Task → Task
+    change t = record t { cancels = t.cancels - 1 }
+
+    at : (o r : Option Task) → o ≡ r
+        → (option_map_or (λ (t : Task). record p { tasks = slice_set p.tasks task (change t) }) o p).tasks
+        ≡ (option_map_or (λ (t : Task). record q { tasks = slice_set q.tasks task (change t) }) r q).tasks
+    at None None d = e
+    at None (Some t) d = absurd (cc)
+    at (Some t) None d = absurd (cc)
+    at (Some t) (Some u) d = let same : t ≡ u = cc in rw (same, e) refl
+
+abbrev took : ℕ → Loop → Loop
+took id l = book (uncancel_by (ByGroup id) (group_of l id).parent) l
+
+abbrev dropped_if : Bool → ℕ → Loop → Loop
+dropped_if b id l = if b then set_group id (record (group_of l id) { kept = None }) (took id l) else took id l
+
+taken_back : (id : ℕ) (l : Loop) → (group_of l id).requested ≡ true
+    → take_back id l ≡ dropped_if (cancelling (took id l).parts (group_of l id).parent == 0) id l
+taken_back id l e = ap (λ b. take_back_where b id l) e
+
+module _ (a : Held) (v w : View) (requested : a.requested ≡ true) (e : parts w ≡ uncancel a.parent (parts v))
+    (beside : w ≡ record v { tasks = w.tasks }) where
+  took_steps : Steps a v a w took
+  took_steps = parts_steps a v w took (λ t id l h k. (
+    subst (λ (i : ℕ). Kept t l.parts w (uncancel i l.parts)) (parent_same h.is)
+        (kept_uncancel t v w l.parts a.parent k (record {
+          parts = e;
+          queue = ([], ap (λ (x : View). x.queue) beside);
+          time = ap (λ (x : View). x.time) beside;
+          schedule = ap (λ (x : View). x.schedule) beside;
+        })),
+    (uncancel_on (group_of l id).parent l.parts, refl),
+  ))
+
+  -- the count in code is the machine's
+  left : (t : Ties) (id : ℕ) (l : Loop) → There t a id l → Keeps t v l.parts
+      → cancelling (parts w) a.parent ≡ cancelling (took id l).parts (group_of l id).parent
+  left t id l h k =
+      let tasks : (uncancel a.parent (parts v)).tasks ≡ (uncancel a.parent l.parts).tasks =
+      uncancel-tasks a.parent (parts v) l.parts k.tasks in
+      ap (λ (p : Parts). cancelling p a.parent) e
+      ∙ ap (λ (ts : List Task). option_map_or (λ (t : Task). t.cancels) (slice_get ts a.parent) 0) tasks
+      ∙ ap (λ (i : ℕ). cancelling (uncancel i l.parts) i) (parent_same h.is)
+
+  pub take_back_steps : (0 < cancelling (parts w) a.parent) → Steps a v a w take_back
+  take_back_steps some = as_step a a v w took take_back took_steps (λ t id l h k.
+      let c : (group_of l id).requested ≡ true = sym (requested_same h.is) ∙ requested in
+      let n = left t id l h k in
+      let d : (cancelling (took id l).parts (group_of l id).parent == 0) ≡ false =
+      ne_eqb (cancelling (took id l).parts (group_of l id).parent) 0 (λ z. absurd (omega (arith, some, n, z))) in
+      let e = taken_back id l c ∙ ap (λ b. dropped_if b id l) d in
+      (ap (λ (m : Loop). m.parts) (sym e), ap (λ (m : Loop). m.groups) (sym e)))
+
+  pub take_back_drops : cancelling (parts w) a.parent ≡ 0 → Steps a v (record a { kept = None }) w take_back
+  take_back_drops none =
+      let b : Held = record a { kept = None } in
+      as_step a b v w (λ id l. drops id (took id l)) take_back
+      (then_steps a a b v w w took drops took_steps
+      (set_steps a b w drops (λ p group. record group { kept = None }) (λ id l. refl) (λ id l. refl) (λ t p group k is. keeps_this is None)))
+      (λ t id l h k.
+      let c : (group_of l id).requested ≡ true = sym (requested_same h.is) ∙ requested in
+      let d : (cancelling (took id l).parts (group_of l id).parent == 0) ≡ true =
+      eq-eqb (cancelling (took id l).parts (group_of l id).parent) 0 (sym (left t id l h k) ∙ none) in
+      let e = taken_back id l c ∙ ap (λ b. dropped_if b id l) d in
+      (ap (λ (m : Loop). m.parts) (sym e), ap (λ (m : Loop). m.groups) (sym e)))
+    where
+      drops : ℕ → Loop → Loop
+      drops id l = set_group id (record (group_of l id) { kept = None }) l
+
+-- ---- the exit is woken
+abbrev wakes : ℕ → Loop → Loop
+wakes id l = set_group id (record (group_of l id) { exit_future = None }) l
+
+wake_up_steps : (a : Held) (v : View) → Steps a v (record a { exit_future = None }) v wakes
+wake_up_steps a v =
+    set_steps a (record a { exit_future = None }) v wakes (λ p group. record group { exit_future = None }) (λ id l. refl) (λ id l. refl)
+    (λ t p group k is. wakes_up is)
+
+pub heard_stays : (a : Held) (v : View) (input : Input) → IsQuiet a input → Steps a v (record a { exit_future = None }) v (heard input)
+heard_stays a v input quiet =
+    let b : Held = record a { exit_future = None } in
+    then_steps a b b v v v wakes (hear input) (wake_up_steps a v)
+    (as_step b b v v (λ id l. l) (hear input) (no_step b v) (λ t id l h k. go input quiet l id h))
+  where
+    go : {t : Ties} (input : Input) → IsQuiet a input → (l : Loop) (id : ℕ) → There t (record a { exit_future = None }) id l
+        → (l.parts ≡ (hear input id l).parts) × (l.groups ≡ (hear input id l).groups)
+    go (Send value) q l id h = (refl, refl)
+    go (Throw fault) q l id h =
+        let c : (group_of l id).aborting ≡ true = sym (aborting_same h.is) ∙ q in
+        (rw c refl, rw c refl)
+
+pub heard_steps : (a : Held) (v w : View) (fault : Exc) → a.aborting ≡ false
+    → Steps (record a { exit_future = None; kept = Some fault }) v (record a { exit_future = None; kept = Some fault; aborting = true }) w abort
+    → Steps a v (record a { exit_future = None; kept = Some fault; aborting = true }) w (heard (Throw fault))
+heard_steps a v w fault e step =
+    let b : Held = record a { exit_future = None } in
+    let c : Held = record a { exit_future = None; kept = Some fault } in
+    let d : Held = record a { exit_future = None; kept = Some fault; aborting = true } in
+    then_steps a b d v v w wakes (hear (Throw fault)) (wake_up_steps a v)
+    (as_step b d v w (λ id l. abort id (keep id l)) (hear (Throw fault))
+    (then_steps b c d v v w keep abort
+    (set_steps b c v keep (λ p group. record group { kept = Some fault }) (λ id l. refl) (λ id l. refl) (λ t p group k is. keeps_this is (Some fault)))
+    step)
+    (λ t id l h k.
+    let f : (group_of l id).aborting ≡ false = sym (aborting_same h.is) ∙ e in
+    let g = ap (λ b. keep_and_abort_unless b fault id l) f in
+    (ap (λ (m : Loop). m.parts) (sym g), ap (λ (m : Loop). m.groups) (sym g))))
+  where
+    keep : ℕ → Loop → Loop
+    keep id l = set_group id (record (group_of l id) { kept = Some fault }) l

@@ -1,0 +1,242 @@
+//! Operations on a reader.
+ghost use Rattle.std.specs.Prelude.{◌≡◌, false, None};
+
+use aio_base::{Blob, Exc, Kind, Memory};
+use aio_reader::{ReadOp, Reader, Taken};
+use std::alloc::Global;
+
+/// An operation.
+pub enum TakeOp {
+    Line,
+    UpTo(u64),
+    Exactly(i64),
+    Until(&'static str),
+}
+
+/// What an operation must answer.
+pub enum Wanted {
+    Bytes(&'static str),
+    /// So many bytes.
+    Many(usize),
+    /// An exception of that kind, with its text and its bytes.
+    Raises(Kind, &'static str, &'static str),
+    Needs,
+}
+
+/// What is fed to a reader, whether the end follows, an operation, and what it must answer.
+pub struct Take {
+    pub name: &'static str,
+    fed: &'static str,
+    ends: bool,
+    op: TakeOp,
+    wanted: Wanted,
+}
+
+/// With a limit of 4.
+pub static TAKES: [Take; 12] = [
+    Take {
+        name: "line at the limit",
+        fed: "abcd\ne",
+        ends: false,
+        op: TakeOp::Line,
+        wanted: Wanted::Bytes("abcd\n"),
+    },
+    Take {
+        name: "line over the limit",
+        fed: "abcde\n",
+        ends: false,
+        op: TakeOp::Line,
+        wanted: Wanted::Raises(
+            Kind::ValueError,
+            "Separator is found, but chunk is longer than limit",
+            "",
+        ),
+    },
+    Take {
+        name: "begun line over the limit",
+        fed: "abcde",
+        ends: false,
+        op: TakeOp::Line,
+        wanted: Wanted::Raises(
+            Kind::ValueError,
+            "Separator is not found, and chunk exceed the limit",
+            "",
+        ),
+    },
+    Take {
+        name: "begun line at the limit",
+        fed: "abcd",
+        ends: false,
+        op: TakeOp::Line,
+        wanted: Wanted::Needs,
+    },
+    Take {
+        name: "last line without a newline",
+        fed: "abcd",
+        ends: true,
+        op: TakeOp::Line,
+        wanted: Wanted::Bytes("abcd"),
+    },
+    Take {
+        name: "end before exactly ten",
+        fed: "abcd",
+        ends: true,
+        op: TakeOp::Exactly(10),
+        wanted: Wanted::Raises(
+            Kind::IncompleteReadError,
+            "4 bytes read on a total of 10 expected bytes",
+            "abcd",
+        ),
+    },
+    Take {
+        name: "fewer than exactly ten",
+        fed: "abcd",
+        ends: false,
+        op: TakeOp::Exactly(10),
+        wanted: Wanted::Needs,
+    },
+    Take {
+        name: "up to three of four",
+        fed: "abcd",
+        ends: false,
+        op: TakeOp::UpTo(3),
+        wanted: Wanted::Bytes("abc"),
+    },
+    Take {
+        name: "up to three at the end",
+        fed: "",
+        ends: true,
+        op: TakeOp::UpTo(3),
+        wanted: Wanted::Bytes(""),
+    },
+    Take {
+        name: "first of two separators that overlap",
+        fed: "a---b",
+        ends: false,
+        op: TakeOp::Until("--"),
+        wanted: Wanted::Bytes("a--"),
+    },
+    Take {
+        name: "half a separator at the limit",
+        fed: "abcd-",
+        ends: false,
+        op: TakeOp::Until("--"),
+        wanted: Wanted::Needs,
+    },
+    Take {
+        name: "end before a separator",
+        fed: "ab-",
+        ends: true,
+        op: TakeOp::Until("--"),
+        wanted: Wanted::Raises(
+            Kind::IncompleteReadError,
+            "3 bytes read on a total of undefined expected bytes",
+            "ab-",
+        ),
+    },
+];
+
+impl Take {
+    /// Whether a reader of its own answers so.
+    pub fn is_right(&self, alloc: Global) -> bool {
+        let mut reader = Reader::new(alloc, 4);
+        if reader.feed(alloc, self.fed.as_bytes()).is_err() {
+            return false;
+        }
+        if self.ends {
+            reader.feed_eof();
+        }
+        answers(alloc, &mut reader, &self.op, &self.wanted)
+    }
+}
+
+/// The operation, as a reader is asked it.
+fn asked(alloc: Global, op: &TakeOp) -> Result<ReadOp, Memory> {
+    match op {
+        TakeOp::Line => Ok(ReadOp::Line),
+        TakeOp::UpTo(count) => Ok(ReadOp::UpTo(*count)),
+        TakeOp::Exactly(count) => Ok(ReadOp::Exactly(*count)),
+        TakeOp::Until(separator) => {
+            let bytes = Vec::from_slice(alloc, separator.as_bytes())?;
+            Ok(ReadOp::Until(Blob::of(bytes)))
+        }
+    }
+}
+
+fn is_wanted(taken: &Taken, wanted: &Wanted) -> bool {
+    match (taken, wanted) {
+        (Taken::Bytes(bytes), Wanted::Bytes(text)) => bytes.items() == text.as_bytes(),
+        (Taken::Bytes(bytes), Wanted::Many(count)) => bytes.items().len() == *count,
+        (Taken::Raises(fault), Wanted::Raises(kind, text, bytes)) => fault.kind() == *kind
+            && fault.text() == *text
+            && fault.bytes() == bytes.as_bytes(),
+        (Taken::Needs, Wanted::Needs) => true,
+        _ => false,
+    }
+}
+
+/// Whether a reader answers an operation so.
+fn answers(alloc: Global, reader: &mut Reader, op: &TakeOp, wanted: &Wanted) -> bool
+    ensures ended { reader.new.ended ≡ reader.old.ended }
+    ensures failed { reader.new.failed ≡ reader.old.failed }
+{
+    let Ok(asked) = asked(alloc, op) else {
+        return false;
+    };
+    match reader.take(alloc, &asked) {
+        Ok(taken) => is_wanted(&taken, wanted),
+        Err(Memory) => false,
+    }
+}
+
+/// Whether a reader that is fed a piece answers then so, asked for what goes up to `--`.
+fn answers_after(alloc: Global, reader: &mut Reader, piece: &str, wanted: &Wanted) -> bool
+    requires not_ended { reader.old.ended ≡ false }
+    requires not_failed { reader.old.failed ≡ None }
+    ensures not_ended { reader.new.ended ≡ false }
+    ensures not_failed { reader.new.failed ≡ None }
+{
+    if reader.feed(alloc, piece.as_bytes()).is_err() {
+        return false;
+    }
+    answers(alloc, reader, &TakeOp::Until("--"), wanted)
+}
+
+/// A thousand pieces of one byte come, and then a separator's two bytes in a piece each. Before the
+/// last the reader needs more, and then it gives all.
+pub fn finds_across_pieces(alloc: Global) -> bool {
+    let mut reader = Reader::new(alloc, 65_536);
+    let mut right = true;
+    for _ in 0..1_000 {
+        right = right && answers_after(alloc, &mut reader, "x", &Wanted::Needs);
+    }
+    right
+        && answers_after(alloc, &mut reader, "-", &Wanted::Needs)
+        && answers_after(alloc, &mut reader, "-z", &Wanted::Many(1_002))
+}
+
+/// Reading is paused where more than twice the limit is held, and a wait for data resumes it.
+pub fn pauses_and_resumes(alloc: Global) -> bool {
+    let mut reader = Reader::new(alloc, 2);
+    if reader.feed(alloc, b"12345").is_err() {
+        return false;
+    }
+    let paused = reader.paused();
+    reader.resume();
+    paused && !reader.paused()
+}
+
+/// What is held isn't given once the connection is lost.
+pub fn raises_failure(alloc: Global) -> bool {
+    let mut reader = Reader::new(alloc, 2);
+    if reader.feed(alloc, b"12345").is_err() {
+        return false;
+    }
+    reader.fail(Exc::bare(Kind::ConnectionResetError));
+    answers(
+        alloc,
+        &mut reader,
+        &TakeOp::UpTo(9),
+        &Wanted::Raises(Kind::ConnectionResetError, "", ""),
+    )
+}
