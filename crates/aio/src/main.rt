@@ -1,16 +1,10 @@
 //! The program: it hands the words, the files, a wire and the standard output to the run, and ends with its status.
 #![tactic(auto)]
 
-mod files;
-mod output;
-#[cfg(test)]
-mod tests;
-
 use aio_base::Memory;
+use aio_edge::{Files, Output};
 use aio_memwire::DeadWire;
 use aio_run::aio_main;
-use files::Files;
-use output::Output;
 use std::env;
 use std::io::ErrorKind;
 use std::process::ExitCode;

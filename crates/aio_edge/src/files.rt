@@ -2,7 +2,7 @@
 ghost use Rattle.std.specs.Prelude.{◌≡◌, ◌<◌, ℕ, List, length, vec_len, None, IfOk, IfErr, IsErr};
 ghost use Rattle.std.specs.Io.{ReadsAtMost, WritesAtMost};
 ghost use Rattle.aio_wire.specs.Got.{FitsRead, ReadLeavesShelf};
-ghost use Rattle.aio.specs.Counts.{counting, Took};
+ghost use Rattle.aio_edge.specs.Counts.{counting, Took};
 
 use aio_base::{Blob, Memory};
 use aio_wire::{Shelf, SinkTook, SourceGot};

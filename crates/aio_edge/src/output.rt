@@ -1,7 +1,7 @@
 //! The standard output.
 ghost use Rattle.std.specs.Prelude.{◌≡◌, ◌<◌, length, None, IfOk};
 ghost use Rattle.std.specs.Io.{WritesAtMost};
-ghost use Rattle.aio.specs.Counts.{Took};
+ghost use Rattle.aio_edge.specs.Counts.{Took};
 
 use aio_base::Memory;
 use aio_wire::{Sink, SinkTook};

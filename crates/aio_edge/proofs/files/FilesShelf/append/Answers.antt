@@ -1,9 +1,9 @@
-use Rattle.std.proofs.Common.{◌≡◌, ℕ, List, Result, Ok, Err, refl, sym, subst}
+use Rattle.std.proofs.Common.{ℕ, List, Result, Ok, Err, refl, sym, subst}
 use Rattle.aio_wire.specs.Files.{Appends}
 use Rattle.aio_wire.specs.declared.sink.SinkTook.{SinkTook}
 use Rattle.aio_wire.specs.declared.sink.SinkTook.TheVariants as took
-use Rattle.aio.specs.Counts.{Took, counting}
-use Rattle.aio.proofs.files.FilesShelf.append.Goals as goal
+use Rattle.aio_edge.specs.Counts.{Took, counting}
+use Rattle.aio_edge.proofs.files.FilesShelf.append.Goals as goal
 
 -- what is answered for a write is what an append may answer
 appends : {E : Type 0} (wrote : Result ℕ E) (name piece : List ℕ) (before now : ℕ) (answer : SinkTook) → Took wrote before now answer

@@ -1,0 +1,10 @@
+//! The outside of the system: its files as a shelf, and the standard output as a sink.
+#![tactic(auto)]
+
+mod files;
+mod output;
+#[cfg(test)]
+mod tests;
+
+pub use files::Files;
+pub use output::Output;
