@@ -1,5 +1,4 @@
-//! Where an expression ends, at a comma, a closing bracket or the end, and what its
-//! bracket makes of it.
+//! Where an expression ends, at a comma, a bracket or the end, and what its bracket makes of it.
 ghost use Rattle.std.specs.Prelude.{◌≡◌, IfOk, None, Some, map, option_map, [], ◌∷◌, ◌++◌, reverse};
 ghost use Rattle.std.specs.Rc.{rc_str_bytes};
 ghost use Rattle.model_text.specs.Words.{Sign};
