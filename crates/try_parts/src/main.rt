@@ -15,7 +15,7 @@ use still::Still;
 
 /// A case, by its name.
 #[derive(Clone, Copy)]
-enum Case {
+enum PartsCase {
     ManyWithDoneMember,
     Chain,
     ManyOfManys,
@@ -27,30 +27,30 @@ enum Case {
     ManyTimers,
 }
 
-const CASES: [(&str, Case); 9] = [
-    ("many_with_done_member", Case::ManyWithDoneMember),
-    ("chain_of_100000_waits_is_cancelled", Case::Chain),
-    ("many_of_1000_manys_is_cancelled", Case::ManyOfManys),
-    ("awaits_another", Case::AwaitsAnother),
-    ("mark_is_used_up", Case::MarkIsUsedUp),
-    ("await_of_itself", Case::AwaitOfItself),
-    ("callbacks_in_order", Case::CallbacksInOrder),
-    ("timers_by_deadline", Case::TimersByDeadline),
-    ("100000_timers_fall_due", Case::ManyTimers),
+const CASES: [(&str, PartsCase); 9] = [
+    ("many_with_done_member", PartsCase::ManyWithDoneMember),
+    ("chain_of_100000_waits_is_cancelled", PartsCase::Chain),
+    ("many_of_1000_manys_is_cancelled", PartsCase::ManyOfManys),
+    ("awaits_another", PartsCase::AwaitsAnother),
+    ("mark_is_used_up", PartsCase::MarkIsUsedUp),
+    ("await_of_itself", PartsCase::AwaitOfItself),
+    ("callbacks_in_order", PartsCase::CallbacksInOrder),
+    ("timers_by_deadline", PartsCase::TimersByDeadline),
+    ("100000_timers_fall_due", PartsCase::ManyTimers),
 ];
 
-impl Case {
+impl PartsCase {
     fn run(self, alloc: Global, still: &mut Still) -> Result<bool, Memory> {
         match self {
-            Case::ManyWithDoneMember => chains::many_with_done_member(alloc, still),
-            Case::Chain => chains::chain(alloc, 100_000, still),
-            Case::ManyOfManys => chains::many_of_manys(alloc, 1_000, still),
-            Case::AwaitsAnother => lives::awaits_another(alloc, still),
-            Case::MarkIsUsedUp => lives::mark_is_used_up(alloc, still),
-            Case::AwaitOfItself => lives::await_of_itself(alloc, still),
-            Case::CallbacksInOrder => lives::callbacks_in_order(alloc, still),
-            Case::TimersByDeadline => lives::timers_by_deadline(alloc, still),
-            Case::ManyTimers => lives::many_timers(alloc, 100_000, still),
+            PartsCase::ManyWithDoneMember => chains::many_with_done_member(alloc, still),
+            PartsCase::Chain => chains::chain(alloc, 100_000, still),
+            PartsCase::ManyOfManys => chains::many_of_manys(alloc, 1_000, still),
+            PartsCase::AwaitsAnother => lives::awaits_another(alloc, still),
+            PartsCase::MarkIsUsedUp => lives::mark_is_used_up(alloc, still),
+            PartsCase::AwaitOfItself => lives::await_of_itself(alloc, still),
+            PartsCase::CallbacksInOrder => lives::callbacks_in_order(alloc, still),
+            PartsCase::TimersByDeadline => lives::timers_by_deadline(alloc, still),
+            PartsCase::ManyTimers => lives::many_timers(alloc, 100_000, still),
         }
     }
 }
@@ -70,7 +70,7 @@ fn print_cases<R: Print>(rt: &R, alloc: Global) -> Result<(), io::Error> {
 }
 
 // Each case has parts of its own.
-fn verdict(alloc: Global, case: Case) -> &'static str {
+fn verdict(alloc: Global, case: PartsCase) -> &'static str {
     let came = match Still::new(alloc) {
         Ok(mut still) => case.run(alloc, &mut still),
         Err(Memory) => Err(Memory),

@@ -4,17 +4,17 @@
 #![tactic(auto)]
 
 mod handed;
+mod row_count;
 mod sources;
 mod takes;
-mod tally;
 mod writes;
 
 use aio_flow::Flow;
+use row_count::RowCount;
 use std::alloc::Global;
 use std::io;
 use std::process::ExitCode;
 use takes::TAKES;
-use tally::Tally;
 use writes::WRITES;
 
 fn main(rt: HostRuntime) -> ExitCode {
@@ -27,7 +27,7 @@ fn main(rt: HostRuntime) -> ExitCode {
 
 /// Runs all rows, prints what came of them, and answers how many differed.
 fn run_rows<R: Print>(rt: &R, alloc: Global) -> Result<u64, io::Error> {
-    let mut tally = Tally { rows: 0, differ: 0 };
+    let mut tally = RowCount { rows: 0, differ: 0 };
     run_takes(rt, alloc, &mut tally)?;
     run_writes(rt, alloc, &mut tally)?;
     run_large_writes(rt, alloc, &mut tally)?;
@@ -37,7 +37,7 @@ fn run_rows<R: Print>(rt: &R, alloc: Global) -> Result<u64, io::Error> {
 }
 
 /// Each on a reader of its own.
-fn run_takes<R: Print>(rt: &R, alloc: Global, tally: &mut Tally) -> Result<(), io::Error> {
+fn run_takes<R: Print>(rt: &R, alloc: Global, tally: &mut RowCount) -> Result<(), io::Error> {
     for row in &TAKES {
         let right = row.is_right(alloc);
         tally.count(rt, row.name, right)?;
@@ -46,7 +46,7 @@ fn run_takes<R: Print>(rt: &R, alloc: Global, tally: &mut Tally) -> Result<(), i
 }
 
 /// All on one writer, whose marks are set before.
-fn run_writes<R: Print>(rt: &R, alloc: Global, tally: &mut Tally) -> Result<(), io::Error> {
+fn run_writes<R: Print>(rt: &R, alloc: Global, tally: &mut RowCount) -> Result<(), io::Error> {
     let mut flow = Flow::new(alloc, false);
     let refused = writes::refuses_marks(&mut flow);
     tally.count(rt, "low mark over the high one", refused)?;
@@ -60,7 +60,11 @@ fn run_writes<R: Print>(rt: &R, alloc: Global, tally: &mut Tally) -> Result<(), 
 }
 
 /// One writer, which then is lost.
-fn run_large_writes<R: Print>(rt: &R, alloc: Global, tally: &mut Tally) -> Result<(), io::Error> {
+fn run_large_writes<R: Print>(
+    rt: &R,
+    alloc: Global,
+    tally: &mut RowCount,
+) -> Result<(), io::Error> {
     let mut flow = Flow::new(alloc, true);
     let kept = writes::keeps_large_pieces(alloc, &mut flow);
     tally.count(rt, "pieces larger than an offer", kept)?;
@@ -69,7 +73,7 @@ fn run_large_writes<R: Print>(rt: &R, alloc: Global, tally: &mut Tally) -> Resul
 }
 
 /// The cases that are no rows of a table.
-fn run_others<R: Print>(rt: &R, alloc: Global, tally: &mut Tally) -> Result<(), io::Error> {
+fn run_others<R: Print>(rt: &R, alloc: Global, tally: &mut RowCount) -> Result<(), io::Error> {
     let found = takes::finds_across_pieces(alloc);
     tally.count(rt, "separator across pieces of one byte", found)?;
     let resumed = takes::pauses_and_resumes(alloc);

@@ -14,7 +14,7 @@ pub enum TakeOp {
 }
 
 /// What an operation must answer.
-pub enum Wanted {
+pub enum TakeAnswer {
     Bytes(&'static str),
     /// So many bytes.
     Many(usize),
@@ -24,111 +24,111 @@ pub enum Wanted {
 }
 
 /// What is fed to a reader, whether the end follows, an operation, and what it must answer.
-pub struct Take {
+pub struct TakeRow {
     pub name: &'static str,
     fed: &'static str,
     ends: bool,
     op: TakeOp,
-    wanted: Wanted,
+    wanted: TakeAnswer,
 }
 
 /// With a limit of 4.
-pub static TAKES: [Take; 12] = [
-    Take {
+pub static TAKES: [TakeRow; 12] = [
+    TakeRow {
         name: "line at the limit",
         fed: "abcd\ne",
         ends: false,
         op: TakeOp::Line,
-        wanted: Wanted::Bytes("abcd\n"),
+        wanted: TakeAnswer::Bytes("abcd\n"),
     },
-    Take {
+    TakeRow {
         name: "line over the limit",
         fed: "abcde\n",
         ends: false,
         op: TakeOp::Line,
-        wanted: Wanted::Raises(
+        wanted: TakeAnswer::Raises(
             Kind::ValueError,
             "Separator is found, but chunk is longer than limit",
             "",
         ),
     },
-    Take {
+    TakeRow {
         name: "begun line over the limit",
         fed: "abcde",
         ends: false,
         op: TakeOp::Line,
-        wanted: Wanted::Raises(
+        wanted: TakeAnswer::Raises(
             Kind::ValueError,
             "Separator is not found, and chunk exceed the limit",
             "",
         ),
     },
-    Take {
+    TakeRow {
         name: "begun line at the limit",
         fed: "abcd",
         ends: false,
         op: TakeOp::Line,
-        wanted: Wanted::Needs,
+        wanted: TakeAnswer::Needs,
     },
-    Take {
+    TakeRow {
         name: "last line without a newline",
         fed: "abcd",
         ends: true,
         op: TakeOp::Line,
-        wanted: Wanted::Bytes("abcd"),
+        wanted: TakeAnswer::Bytes("abcd"),
     },
-    Take {
+    TakeRow {
         name: "end before exactly ten",
         fed: "abcd",
         ends: true,
         op: TakeOp::Exactly(10),
-        wanted: Wanted::Raises(
+        wanted: TakeAnswer::Raises(
             Kind::IncompleteReadError,
             "4 bytes read on a total of 10 expected bytes",
             "abcd",
         ),
     },
-    Take {
+    TakeRow {
         name: "fewer than exactly ten",
         fed: "abcd",
         ends: false,
         op: TakeOp::Exactly(10),
-        wanted: Wanted::Needs,
+        wanted: TakeAnswer::Needs,
     },
-    Take {
+    TakeRow {
         name: "up to three of four",
         fed: "abcd",
         ends: false,
         op: TakeOp::UpTo(3),
-        wanted: Wanted::Bytes("abc"),
+        wanted: TakeAnswer::Bytes("abc"),
     },
-    Take {
+    TakeRow {
         name: "up to three at the end",
         fed: "",
         ends: true,
         op: TakeOp::UpTo(3),
-        wanted: Wanted::Bytes(""),
+        wanted: TakeAnswer::Bytes(""),
     },
-    Take {
+    TakeRow {
         name: "first of two separators that overlap",
         fed: "a---b",
         ends: false,
         op: TakeOp::Until("--"),
-        wanted: Wanted::Bytes("a--"),
+        wanted: TakeAnswer::Bytes("a--"),
     },
-    Take {
+    TakeRow {
         name: "half a separator at the limit",
         fed: "abcd-",
         ends: false,
         op: TakeOp::Until("--"),
-        wanted: Wanted::Needs,
+        wanted: TakeAnswer::Needs,
     },
-    Take {
+    TakeRow {
         name: "end before a separator",
         fed: "ab-",
         ends: true,
         op: TakeOp::Until("--"),
-        wanted: Wanted::Raises(
+        wanted: TakeAnswer::Raises(
             Kind::IncompleteReadError,
             "3 bytes read on a total of undefined expected bytes",
             "ab-",
@@ -136,7 +136,7 @@ pub static TAKES: [Take; 12] = [
     },
 ];
 
-impl Take {
+impl TakeRow {
     /// Whether a reader of its own answers so.
     pub fn is_right(&self, alloc: Global) -> bool {
         let mut reader = Reader::new(alloc, 4);
@@ -163,20 +163,20 @@ fn asked(alloc: Global, op: &TakeOp) -> Result<ReadOp, Memory> {
     }
 }
 
-fn is_wanted(taken: &Taken, wanted: &Wanted) -> bool {
+fn is_wanted(taken: &Taken, wanted: &TakeAnswer) -> bool {
     match (taken, wanted) {
-        (Taken::Bytes(bytes), Wanted::Bytes(text)) => bytes.items() == text.as_bytes(),
-        (Taken::Bytes(bytes), Wanted::Many(count)) => bytes.items().len() == *count,
-        (Taken::Raises(fault), Wanted::Raises(kind, text, bytes)) => fault.kind() == *kind
+        (Taken::Bytes(bytes), TakeAnswer::Bytes(text)) => bytes.items() == text.as_bytes(),
+        (Taken::Bytes(bytes), TakeAnswer::Many(count)) => bytes.items().len() == *count,
+        (Taken::Raises(fault), TakeAnswer::Raises(kind, text, bytes)) => fault.kind() == *kind
             && fault.text() == *text
             && fault.bytes() == bytes.as_bytes(),
-        (Taken::Needs, Wanted::Needs) => true,
+        (Taken::Needs, TakeAnswer::Needs) => true,
         _ => false,
     }
 }
 
 /// Whether a reader answers an operation so.
-fn answers(alloc: Global, reader: &mut Reader, op: &TakeOp, wanted: &Wanted) -> bool
+fn answers(alloc: Global, reader: &mut Reader, op: &TakeOp, wanted: &TakeAnswer) -> bool
     ensures ended { reader.new.ended ≡ reader.old.ended }
     ensures failed { reader.new.failed ≡ reader.old.failed }
 {
@@ -190,7 +190,7 @@ fn answers(alloc: Global, reader: &mut Reader, op: &TakeOp, wanted: &Wanted) -> 
 }
 
 /// Whether a reader that is fed a piece answers then so, asked for what goes up to `--`.
-fn answers_after(alloc: Global, reader: &mut Reader, piece: &str, wanted: &Wanted) -> bool
+fn answers_after(alloc: Global, reader: &mut Reader, piece: &str, wanted: &TakeAnswer) -> bool
     requires not_ended { reader.old.ended ≡ false }
     requires not_failed { reader.old.failed ≡ None }
     ensures not_ended { reader.new.ended ≡ false }
@@ -208,11 +208,11 @@ pub fn finds_across_pieces(alloc: Global) -> bool {
     let mut reader = Reader::new(alloc, 65_536);
     let mut right = true;
     for _ in 0..1_000 {
-        right = right && answers_after(alloc, &mut reader, "x", &Wanted::Needs);
+        right = right && answers_after(alloc, &mut reader, "x", &TakeAnswer::Needs);
     }
     right
-        && answers_after(alloc, &mut reader, "-", &Wanted::Needs)
-        && answers_after(alloc, &mut reader, "-z", &Wanted::Many(1_002))
+        && answers_after(alloc, &mut reader, "-", &TakeAnswer::Needs)
+        && answers_after(alloc, &mut reader, "-z", &TakeAnswer::Many(1_002))
 }
 
 /// Reading is paused where more than twice the limit is held, and a wait for data resumes it.
@@ -237,6 +237,6 @@ pub fn raises_failure(alloc: Global) -> bool {
         alloc,
         &mut reader,
         &TakeOp::UpTo(9),
-        &Wanted::Raises(Kind::ConnectionResetError, "", ""),
+        &TakeAnswer::Raises(Kind::ConnectionResetError, "", ""),
     )
 }

@@ -2,12 +2,12 @@
 use std::io;
 
 #[derive(Clone, Copy)]
-pub struct Tally {
+pub struct RowCount {
     pub rows: u64,
     pub differ: u64,
 }
 
-impl Tally {
+impl RowCount {
     /// Counts a row, and prints its name where it came out otherwise.
     pub fn count<R: Print>(&mut self, rt: &R, name: &str, is_right: bool) -> Result<(), io::Error> {
         self.rows = self.rows.saturating_add(1);
