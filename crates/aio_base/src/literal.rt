@@ -1,5 +1,5 @@
 //! The text of literals, and of texts that are printed without quotes.
-ghost use Rattle.std.specs.Prelude.{◌≡◌, ◌++◌, ◌<◌, OnOk, IfSome};
+ghost use Rattle.std.specs.Prelude.{◌≡◌, ◌++◌, ◌<◌, OnOk};
 ghost use Rattle.model_value.specs.Escapes.{escaped, escaped_byte, hex_digit, hex_escape, text_literal, bytes_literal};
 
 use crate::memory::Memory;

@@ -14,12 +14,12 @@ use std::rc::{Rc, RcSlice, RcStr};
 #[cycle(value)]
 #[derive(Debug, Drop)]
 pub struct Value {
-    case: Case,
+    node: ValueNode,
 }
 
 #[cycle(value)]
 #[derive(Debug, Drop)]
-enum Case {
+enum ValueNode {
     Nothing,
     Bool(bool),
     Int(i64),
@@ -55,13 +55,13 @@ impl Model for Value {
     ghost use Rattle.aio_base.specs.Size.{value_size};
     ghost use Rattle.aio_base.specs.Value.{value_of};
 
-    ghost view = { λ a. value_of a.case };
+    ghost view = { λ a. value_of a.node };
 
     ghost size = { value_size };
 
-    ghost use Rattle.aio_base.specs.ValueFalls.{case_falls};
+    ghost use Rattle.aio_base.specs.ValueFalls.{node_falls};
 
-    ghost size_decreases = { λ a h. case_falls a.case };
+    ghost size_decreases = { λ a h. node_falls a.node };
 }
 
 impl Model for ValueList {
@@ -110,7 +110,7 @@ impl Value {
         ensures { result ≡ Nothing }
     {
         Value {
-            case: Case::Nothing,
+            node: ValueNode::Nothing,
         }
     }
 
@@ -118,7 +118,7 @@ impl Value {
         ensures { result ≡ Truth truth }
     {
         Value {
-            case: Case::Bool(truth),
+            node: ValueNode::Bool(truth),
         }
     }
 
@@ -126,7 +126,7 @@ impl Value {
         ensures { result ≡ Int number }
     {
         Value {
-            case: Case::Int(number),
+            node: ValueNode::Int(number),
         }
     }
 
@@ -134,7 +134,7 @@ impl Value {
         ensures { result ≡ Text (rc_str_bytes text) }
     {
         Value {
-            case: Case::Text(text),
+            node: ValueNode::Text(text),
         }
     }
 
@@ -142,7 +142,7 @@ impl Value {
         ensures { result ≡ Bytes (rc_slice_items bytes) }
     {
         Value {
-            case: Case::Bytes(bytes),
+            node: ValueNode::Bytes(bytes),
         }
     }
 
@@ -150,7 +150,7 @@ impl Value {
         ensures { result ≡ Items (values list.value) }
     {
         Value {
-            case: Case::List(list),
+            node: ValueNode::List(list),
         }
     }
 
@@ -180,7 +180,7 @@ impl Value {
         ensures { result ≡ Fut id }
     {
         Value {
-            case: Case::Fut(id),
+            node: ValueNode::Fut(id),
         }
     }
 
@@ -188,7 +188,7 @@ impl Value {
         ensures { result ≡ Task id }
     {
         Value {
-            case: Case::Task(id),
+            node: ValueNode::Task(id),
         }
     }
 
@@ -196,7 +196,7 @@ impl Value {
         ensures { result ≡ Group id }
     {
         Value {
-            case: Case::Group(id),
+            node: ValueNode::Group(id),
         }
     }
 
@@ -204,7 +204,7 @@ impl Value {
         ensures { result ≡ Timeout id }
     {
         Value {
-            case: Case::Timeout(id),
+            node: ValueNode::Timeout(id),
         }
     }
 
@@ -213,7 +213,7 @@ impl Value {
         ensures { result ≡ Conn id }
     {
         Value {
-            case: Case::Conn(id),
+            node: ValueNode::Conn(id),
         }
     }
 
@@ -222,7 +222,7 @@ impl Value {
         ensures { result ≡ Server id }
     {
         Value {
-            case: Case::Server(id),
+            node: ValueNode::Server(id),
         }
     }
 
@@ -231,7 +231,7 @@ impl Value {
         ensures { result ≡ Child id }
     {
         Value {
-            case: Case::Child(id),
+            node: ValueNode::Child(id),
         }
     }
 
@@ -240,7 +240,7 @@ impl Value {
         ensures { result ≡ Errs id }
     {
         Value {
-            case: Case::Errs(id),
+            node: ValueNode::Errs(id),
         }
     }
 
@@ -248,7 +248,7 @@ impl Value {
         ensures { result ≡ Exception exc }
     {
         Value {
-            case: Case::Exc(exc),
+            node: ValueNode::Exc(exc),
         }
     }
 
@@ -256,22 +256,22 @@ impl Value {
     pub fn case(&self) -> ValueCase<'_>
         ensures { value_of_case result ≡ self.now }
     {
-        match &self.case {
-            Case::Nothing => ValueCase::Nothing,
-            Case::Bool(truth) => ValueCase::Bool(*truth),
-            Case::Int(number) => ValueCase::Int(*number),
-            Case::Text(text) => ValueCase::Text(text),
-            Case::Bytes(bytes) => ValueCase::Bytes(bytes),
-            Case::List(list) => ValueCase::List(list),
-            Case::Fut(id) => ValueCase::Fut(*id),
-            Case::Task(id) => ValueCase::Task(*id),
-            Case::Group(id) => ValueCase::Group(*id),
-            Case::Timeout(id) => ValueCase::Timeout(*id),
-            Case::Conn(id) => ValueCase::Conn(*id),
-            Case::Server(id) => ValueCase::Server(*id),
-            Case::Child(id) => ValueCase::Child(*id),
-            Case::Errs(id) => ValueCase::Errs(*id),
-            Case::Exc(exc) => ValueCase::Exc(exc),
+        match &self.node {
+            ValueNode::Nothing => ValueCase::Nothing,
+            ValueNode::Bool(truth) => ValueCase::Bool(*truth),
+            ValueNode::Int(number) => ValueCase::Int(*number),
+            ValueNode::Text(text) => ValueCase::Text(text),
+            ValueNode::Bytes(bytes) => ValueCase::Bytes(bytes),
+            ValueNode::List(list) => ValueCase::List(list),
+            ValueNode::Fut(id) => ValueCase::Fut(*id),
+            ValueNode::Task(id) => ValueCase::Task(*id),
+            ValueNode::Group(id) => ValueCase::Group(*id),
+            ValueNode::Timeout(id) => ValueCase::Timeout(*id),
+            ValueNode::Conn(id) => ValueCase::Conn(*id),
+            ValueNode::Server(id) => ValueCase::Server(*id),
+            ValueNode::Child(id) => ValueCase::Child(*id),
+            ValueNode::Errs(id) => ValueCase::Errs(*id),
+            ValueNode::Exc(exc) => ValueCase::Exc(exc),
         }
     }
 }
@@ -280,22 +280,22 @@ impl Clone for Value {
     ghost is_clone = { λ value copy. copy ≡ value };
 
     fn clone(&self) -> Result<Value, AllocError> {
-        match &self.case {
-            Case::Nothing => Ok(Value::nothing()),
-            Case::Bool(truth) => Ok(Value::bool(*truth)),
-            Case::Int(number) => Ok(Value::int(*number)),
-            Case::Text(text) => Ok(Value::text(text.clone()?)),
-            Case::Bytes(bytes) => Ok(Value::bytes(bytes.clone()?)),
-            Case::List(list) => Ok(Value::list(list.clone()?)),
-            Case::Fut(id) => Ok(Value::fut(*id)),
-            Case::Task(id) => Ok(Value::task(*id)),
-            Case::Group(id) => Ok(Value::group(*id)),
-            Case::Timeout(id) => Ok(Value::timeout(*id)),
-            Case::Conn(id) => Ok(Value::conn(*id)),
-            Case::Server(id) => Ok(Value::server(*id)),
-            Case::Child(id) => Ok(Value::child(*id)),
-            Case::Errs(id) => Ok(Value::errs(*id)),
-            Case::Exc(exc) => Ok(Value::exc(exc.clone()?)),
+        match &self.node {
+            ValueNode::Nothing => Ok(Value::nothing()),
+            ValueNode::Bool(truth) => Ok(Value::bool(*truth)),
+            ValueNode::Int(number) => Ok(Value::int(*number)),
+            ValueNode::Text(text) => Ok(Value::text(text.clone()?)),
+            ValueNode::Bytes(bytes) => Ok(Value::bytes(bytes.clone()?)),
+            ValueNode::List(list) => Ok(Value::list(list.clone()?)),
+            ValueNode::Fut(id) => Ok(Value::fut(*id)),
+            ValueNode::Task(id) => Ok(Value::task(*id)),
+            ValueNode::Group(id) => Ok(Value::group(*id)),
+            ValueNode::Timeout(id) => Ok(Value::timeout(*id)),
+            ValueNode::Conn(id) => Ok(Value::conn(*id)),
+            ValueNode::Server(id) => Ok(Value::server(*id)),
+            ValueNode::Child(id) => Ok(Value::child(*id)),
+            ValueNode::Errs(id) => Ok(Value::errs(*id)),
+            ValueNode::Exc(exc) => Ok(Value::exc(exc.clone()?)),
         }
     }
 }

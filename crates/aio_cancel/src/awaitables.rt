@@ -1,5 +1,5 @@
 //! The queue, the futures and the tasks.
-ghost use Rattle.std.specs.Prelude.{◌≡◌, ◌+◌, ◌<◌, ◌^◌, [], ◌∷◌, ◌++◌, IfOk, OnOk, OnErr, IfSome, None, Some, length, slice_get, if◌then◌else◌};
+ghost use Rattle.std.specs.Prelude.{◌≡◌, ◌+◌, ◌<◌, ◌^◌, [], IfOk, IfSome, None, Some, slice_get, if◌then◌else◌};
 ghost use Rattle.std.specs.Option.{option_copied};
 ghost use Rattle.model_loop.specs.Futures.{settle, mark_asked};
 ghost use Rattle.model_loop.specs.Tasks.{raise_count, mark as mark_task};

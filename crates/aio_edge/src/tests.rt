@@ -1,5 +1,4 @@
 //! The real shelf over files of the system, and the real sink over a standard output that fails in turn.
-ghost use Rattle.std.specs.Prelude.{◌≤◌};
 
 use crate::files::Files;
 use crate::output::Output;

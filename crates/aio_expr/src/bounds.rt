@@ -1,5 +1,4 @@
 //! The bounds of computed values.
-ghost use Rattle.std.specs.Prelude.{◌≡◌};
 ghost use Rattle.model_says.specs.Operations.{bounded};
 ghost use Rattle.aio_expr.specs.Gives.{Gives};
 

@@ -13,12 +13,12 @@ use std::marker::Model;
 #[cycle(flat_expr)]
 #[derive(Drop)]
 pub struct FlatExpr {
-    case: FlatCase,
+    node: FlatNode,
 }
 
 #[cycle(flat_expr)]
 #[derive(Drop)]
-enum FlatCase {
+enum FlatNode {
     Or(Box<FlatExpr>, Box<FlatExpr>),
     And(Box<FlatExpr>, Box<FlatExpr>),
     Not(Box<FlatExpr>),
@@ -51,13 +51,13 @@ impl Model for FlatExpr {
     ghost use Rattle.aio_syntax.specs.ExprSize.{expr_size};
     ghost use Rattle.aio_expr.specs.FlatExpr.{expr_of};
 
-    ghost view = { λ a. expr_of a.case };
+    ghost view = { λ a. expr_of a.node };
 
     ghost size = { expr_size };
 
-    ghost use Rattle.aio_expr.specs.FlatExprFalls.{case_falls};
+    ghost use Rattle.aio_expr.specs.FlatExprFalls.{node_falls};
 
-    ghost size_decreases = { λ a h. case_falls a.case };
+    ghost size_decreases = { λ a h. node_falls a.node };
 }
 
 impl Model for FlatExprList {
@@ -103,7 +103,7 @@ impl FlatExpr {
         ensures { result ≡ Or left.value right.value }
     {
         FlatExpr {
-            case: FlatCase::Or(left, right),
+            node: FlatNode::Or(left, right),
         }
     }
 
@@ -111,7 +111,7 @@ impl FlatExpr {
         ensures { result ≡ And left.value right.value }
     {
         FlatExpr {
-            case: FlatCase::And(left, right),
+            node: FlatNode::And(left, right),
         }
     }
 
@@ -119,7 +119,7 @@ impl FlatExpr {
         ensures { result ≡ Not operand.value }
     {
         FlatExpr {
-            case: FlatCase::Not(operand),
+            node: FlatNode::Not(operand),
         }
     }
 
@@ -127,7 +127,7 @@ impl FlatExpr {
         ensures { result ≡ Compare comparison left.value right.value }
     {
         FlatExpr {
-            case: FlatCase::Compare(comparison, left, right),
+            node: FlatNode::Compare(comparison, left, right),
         }
     }
 
@@ -135,7 +135,7 @@ impl FlatExpr {
         ensures { result ≡ Calculate operator left.value right.value }
     {
         FlatExpr {
-            case: FlatCase::Calculate(operator, left, right),
+            node: FlatNode::Calculate(operator, left, right),
         }
     }
 
@@ -143,7 +143,7 @@ impl FlatExpr {
         ensures { result ≡ Negate operand.value }
     {
         FlatExpr {
-            case: FlatCase::Negate(operand),
+            node: FlatNode::Negate(operand),
         }
     }
 
@@ -151,7 +151,7 @@ impl FlatExpr {
         ensures { result ≡ Index sequence.value index.value }
     {
         FlatExpr {
-            case: FlatCase::Index(sequence, index),
+            node: FlatNode::Index(sequence, index),
         }
     }
 
@@ -159,7 +159,7 @@ impl FlatExpr {
         ensures { result ≡ Literal (constant_of constant) }
     {
         FlatExpr {
-            case: FlatCase::Literal(constant),
+            node: FlatNode::Literal(constant),
         }
     }
 
@@ -167,7 +167,7 @@ impl FlatExpr {
         ensures { result ≡ Variable local }
     {
         FlatExpr {
-            case: FlatCase::Variable(local),
+            node: FlatNode::Variable(local),
         }
     }
 
@@ -176,7 +176,7 @@ impl FlatExpr {
         ensures { result ≡ ListOf (exprs items) }
     {
         FlatExpr {
-            case: FlatCase::List(items),
+            node: FlatNode::List(items),
         }
     }
 
@@ -184,7 +184,7 @@ impl FlatExpr {
         ensures { result ≡ Apply function argument.value }
     {
         FlatExpr {
-            case: FlatCase::Apply(function, argument),
+            node: FlatNode::Apply(function, argument),
         }
     }
 
@@ -193,7 +193,7 @@ impl FlatExpr {
         ensures { result ≡ MakeError kind message.value }
     {
         FlatExpr {
-            case: FlatCase::MakeError(kind, message),
+            node: FlatNode::MakeError(kind, message),
         }
     }
 
@@ -201,25 +201,25 @@ impl FlatExpr {
     pub fn case(&self) -> FlatExprCase<'_>
         ensures { expr_of_case result ≡ self.now }
     {
-        match &self.case {
-            FlatCase::Or(left, right) => FlatExprCase::Or(left, right),
-            FlatCase::And(left, right) => FlatExprCase::And(left, right),
-            FlatCase::Not(operand) => FlatExprCase::Not(operand),
-            FlatCase::Compare(comparison, left, right) => FlatExprCase::Compare(
+        match &self.node {
+            FlatNode::Or(left, right) => FlatExprCase::Or(left, right),
+            FlatNode::And(left, right) => FlatExprCase::And(left, right),
+            FlatNode::Not(operand) => FlatExprCase::Not(operand),
+            FlatNode::Compare(comparison, left, right) => FlatExprCase::Compare(
                 *comparison,
                 left,
                 right,
             ),
-            FlatCase::Calculate(operator, left, right) => FlatExprCase::Calculate(
+            FlatNode::Calculate(operator, left, right) => FlatExprCase::Calculate(
                 *operator, left, right,
             ),
-            FlatCase::Negate(operand) => FlatExprCase::Negate(operand),
-            FlatCase::Index(sequence, index) => FlatExprCase::Index(sequence, index),
-            FlatCase::Literal(constant) => FlatExprCase::Literal(constant),
-            FlatCase::Variable(local) => FlatExprCase::Variable(*local),
-            FlatCase::List(items) => FlatExprCase::List(items),
-            FlatCase::Apply(function, argument) => FlatExprCase::Apply(*function, argument),
-            FlatCase::MakeError(kind, message) => FlatExprCase::MakeError(*kind, message),
+            FlatNode::Negate(operand) => FlatExprCase::Negate(operand),
+            FlatNode::Index(sequence, index) => FlatExprCase::Index(sequence, index),
+            FlatNode::Literal(constant) => FlatExprCase::Literal(constant),
+            FlatNode::Variable(local) => FlatExprCase::Variable(*local),
+            FlatNode::List(items) => FlatExprCase::List(items),
+            FlatNode::Apply(function, argument) => FlatExprCase::Apply(*function, argument),
+            FlatNode::MakeError(kind, message) => FlatExprCase::MakeError(*kind, message),
         }
     }
 }

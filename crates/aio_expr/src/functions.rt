@@ -1,5 +1,5 @@
 //! The functions that expressions call.
-ghost use Rattle.std.specs.Prelude.{◌≡◌, map, pos};
+ghost use Rattle.std.specs.Prelude.{map, pos};
 ghost use Rattle.model_value.specs.Value.{Text, Bytes, Items, Exception, values, members_of};
 ghost use Rattle.model_value.specs.Shown.{shown};
 ghost use Rattle.model_says.specs.Operations.{applied, bounded, decoded, error_made, number};

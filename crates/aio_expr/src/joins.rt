@@ -1,6 +1,6 @@
 //! Texts, bytes and lists that are joined and repeated. Each is weighed before it is built.
 ghost use Rattle.std.specs.Prelude.{◌≡◌, ◌+◌, ◌*◌, ◌++◌, nat_le, IfOk, IfErr, true, false};
-ghost use Rattle.model_value.specs.Value.{Text, Bytes, Items, values};
+ghost use Rattle.model_value.specs.Value.{Text, Bytes};
 ghost use Rattle.model_says.specs.Operations.{bounded, repeated, times};
 ghost use Rattle.aio_expr.specs.declared.operation_fault.OperationFault.TheVariants.{OutOfRange};
 ghost use Rattle.aio_expr.specs.Gives.{Gives};

@@ -1,5 +1,5 @@
 //! From a program to its code.
-ghost use Rattle.std.specs.Prelude.{◌≡◌, IfOk};
+ghost use Rattle.std.specs.Prelude.{IfOk};
 ghost use Rattle.aio_flat.specs.Code.{IsBodyOf, AreBodiesOf, IsCodeOf};
 
 use crate::builder::BodyBuilder;

@@ -13,7 +13,7 @@ use Rattle.law_flat.specs.Ops.{CoroutineCode}
 use Rattle.law_flat.specs.Rests.{Way}
 use Rattle.law_flat.specs.declared.answer_use.AnswerUse.TheVariants.{Ignored}
 use Rattle.law_flat.specs.Moves as plain
-use Rattle.law_flat.specs.Moves.{Frames, Move, Says}
+use Rattle.law_flat.specs.Moves.{Frames, Says}
 use Rattle.law_flat.specs.Stands.{AllLaidOut}
 use Rattle.law_flat.specs.Tapes.{Waiting, way_of, after_input, renewed_by, MovesFor, WaitsFor, ComesTo}
 use Rattle.law_flat.proofs.Tapes.{input-moves, waits-says, unbegun-waits}

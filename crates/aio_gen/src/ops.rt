@@ -1,5 +1,5 @@
 //! Operations.
-ghost use Rattle.std.specs.Prelude.{◌≡◌, ◌+◌, ◌<◌, ◌^◌, Some, IfOk, option_copied, slice_get};
+ghost use Rattle.std.specs.Prelude.{◌≡◌, ◌+◌, ◌<◌, ◌^◌, Some, IfOk};
 ghost use Rattle.law_flat.specs.Moves.{counted, after_statement, after_op, move_of};
 ghost use Rattle.aio_flat.specs.Code.{codes_of, plain_body};
 ghost use Rattle.aio_gen.specs.Plain.{plain_frames, plain_move};

@@ -1,6 +1,6 @@
 //! Requests whose arguments are all values.
 ghost use Rattle.std.specs.Prelude.{◌≡◌, [], ◌∷◌, IfOk};
-ghost use Rattle.model_says.specs.Requests.{requested, bad_argument};
+ghost use Rattle.model_says.specs.Requests.{requested};
 ghost use Rattle.aio_gen.specs.Plain.{request_or};
 
 use aio_base::{Exc, Kind, Memory, Request, Value, exception};

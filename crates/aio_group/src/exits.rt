@@ -3,7 +3,6 @@ ghost use Rattle.std.specs.Prelude.{◌≡◌, ◌&&◌, not, is_some, true, fal
 ghost use Rattle.std.specs.Option.{option_copied};
 ghost use Rattle.model_value.specs.Value.{Exc as PlainExc};
 ghost use Rattle.model_value.specs.declared.input.Input.TheVariants as input;
-ghost use Rattle.model_loop.specs.Children.{failures};
 ghost use Rattle.model_loop.specs.Groups as plain;
 ghost use Rattle.aio_group.specs.Held.{failing};
 ghost use Rattle.aio_group.specs.Answers.{fault_of};

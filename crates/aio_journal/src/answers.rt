@@ -1,5 +1,5 @@
 //! The answers that lines say.
-ghost use Rattle.std.specs.Prelude.{◌≡◌, IfOk, OnOk, ◌≤◌, length};
+ghost use Rattle.std.specs.Prelude.{◌≡◌, IfOk};
 ghost use Rattle.std.specs.List.{list_all};
 ghost use Rattle.model_wire.specs.JournalText.{answer_of, exits_fit, item_exit_fits, exit_fits, is_exit_code};
 ghost use Rattle.aio_journal.specs.Steps.{Takes, number_at, bare_answer, answer_after, at_end};

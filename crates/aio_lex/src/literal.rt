@@ -1,6 +1,6 @@
 //! Literals of texts and of bytes.
 
-ghost use Rattle.std.specs.Prelude.{◌≡◌, ◌<◌, ◌≤◌, ◌+◌, ◌^◌, true, false, length, take, Some, None, MatchOption};
+ghost use Rattle.std.specs.Prelude.{◌≡◌, ◌<◌, ◌+◌, ◌^◌, true, false, length, take, Some, None, MatchOption};
 ghost use Rattle.std.specs.Char.{is_ascii_hexdigit, digit_value};
 ghost use Rattle.model_text.specs.Literals.{limit, inside_of, escape_value, hexadecimal_value, value_below, part_value, parts_of, literal_bytes};
 ghost use Rattle.aio_lex.specs.Faults.{Gives};

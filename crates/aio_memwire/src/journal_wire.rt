@@ -1,6 +1,6 @@
 //! A journal on a shelf, as a wire.
-ghost use Rattle.std.specs.Prelude.{◌≡◌, ◌≤◌, true, false, [], Some, None, IfOk, OnOk, OnErr, IsErr};
-ghost use Rattle.aio_wire.specs.Replied.{Replied, Unreplied, Stays, UnlessFailed, Leaves, EndsAs, FailedIfRose};
+ghost use Rattle.std.specs.Prelude.{◌≡◌, ◌≤◌, true, false, [], Some, None, IfOk, OnErr, IsErr};
+ghost use Rattle.aio_wire.specs.Replied.{Replied, Unreplied, UnlessFailed, Leaves, EndsAs, FailedIfRose};
 ghost use Rattle.aio_wire.specs.declared.wire.Reply.TheVariants.{Failed};
 ghost use Rattle.aio_memwire.specs.Held.{held};
 ghost use Rattle.aio_memwire.specs.JournalWire.{left_of, end_of, seen_of};

@@ -1,7 +1,7 @@
 -- What a line makes of blocks that are open, by its role.
 use Rattle.std.proofs.Common.{◌≡◌, List, [], ◌∷◌, ◌++◌, Option, Some, None, option_to_list, refl, sym, ap, ◌∙◌, append_assoc}
 use Rattle.model_tree.specs.Syntax.{Statement, Statements, no_statements, statement_then, statements}
-use Rattle.model_text.specs.Places.{Role, Opens, Begins, Closes, Stands, Block, role_of}
+use Rattle.model_text.specs.Places.{Opens, Begins, Closes, Stands, Block, role_of}
 use Rattle.model_text.specs.Places as places
 use Rattle.model_text.specs.SecondPass.{Line}
 use Rattle.model_text.specs.Bodies.{BlockLines, cut_from, simple, SectionBody, bodies, block, then_statements, block_then, statements_in, body_in}

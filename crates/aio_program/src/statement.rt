@@ -1,5 +1,5 @@
 //! Statements.
-ghost use Rattle.std.specs.Prelude.{◌≡◌, List, option_map, option_copied};
+ghost use Rattle.std.specs.Prelude.{◌≡◌, List, option_copied};
 ghost use Rattle.std.specs.Rc.{rc_str_bytes};
 ghost use Rattle.model_tree.specs.Syntax.{Assign, Yield, YieldFrom, Print, Raise, Return, Pass, If, While, Try, With, exprs, statements, handlers};
 ghost use Rattle.aio_program.specs.Target.{plain_target, plain_manager, plain_branch, plain_name};
@@ -15,12 +15,12 @@ use std::rc::RcStr;
 #[cycle(statement)]
 #[derive(Drop)]
 pub struct Statement {
-    case: Case,
+    node: StatementNode,
 }
 
 #[cycle(statement)]
 #[derive(Drop)]
-enum Case {
+enum StatementNode {
     Assign(RcStr, Expr),
     Yield,
     YieldFrom(Option<RcStr>, Target),
@@ -64,13 +64,13 @@ impl Model for Statement {
     ghost use Rattle.aio_program.specs.StatementSize.{statement_size};
     ghost use Rattle.aio_program.specs.Statement.{statement_of};
 
-    ghost view = { λ a. statement_of a.case };
+    ghost view = { λ a. statement_of a.node };
 
     ghost size = { statement_size };
 
-    ghost use Rattle.aio_program.specs.StatementFalls.{case_falls};
+    ghost use Rattle.aio_program.specs.StatementFalls.{node_falls};
 
-    ghost size_decreases = { λ a h. case_falls a.case };
+    ghost size_decreases = { λ a h. node_falls a.node };
 }
 
 impl Model for StatementList {
@@ -135,7 +135,7 @@ impl Statement {
         ensures { result ≡ Assign (rc_str_bytes name) value }
     {
         Statement {
-            case: Case::Assign(name, value),
+            node: StatementNode::Assign(name, value),
         }
     }
 
@@ -143,7 +143,9 @@ impl Statement {
     pub fn bare_yield() -> Statement
         ensures { result ≡ Yield }
     {
-        Statement { case: Case::Yield }
+        Statement {
+            node: StatementNode::Yield,
+        }
     }
 
     /// `yield from TARGET`, or `NAME = yield from TARGET`.
@@ -151,7 +153,7 @@ impl Statement {
         ensures { result ≡ YieldFrom (plain_name into) (plain_target target) }
     {
         Statement {
-            case: Case::YieldFrom(into, target),
+            node: StatementNode::YieldFrom(into, target),
         }
     }
 
@@ -159,7 +161,7 @@ impl Statement {
         ensures { result ≡ Print (exprs items) }
     {
         Statement {
-            case: Case::Print(items),
+            node: StatementNode::Print(items),
         }
     }
 
@@ -167,7 +169,7 @@ impl Statement {
         ensures { result ≡ Raise fault }
     {
         Statement {
-            case: Case::Raise(fault),
+            node: StatementNode::Raise(fault),
         }
     }
 
@@ -175,14 +177,16 @@ impl Statement {
         ensures { result ≡ Return value }
     {
         Statement {
-            case: Case::Return(value),
+            node: StatementNode::Return(value),
         }
     }
 
     pub fn pass() -> Statement
         ensures { result ≡ Pass }
     {
-        Statement { case: Case::Pass }
+        Statement {
+            node: StatementNode::Pass,
+        }
     }
 
     /// `if`, with its `else` where there is one.
@@ -190,7 +194,7 @@ impl Statement {
         ensures { result ≡ If test (statements body) (plain_branch otherwise) }
     {
         Statement {
-            case: Case::If(test, body, otherwise),
+            node: StatementNode::If(test, body, otherwise),
         }
     }
 
@@ -198,7 +202,7 @@ impl Statement {
         ensures { result ≡ While test (statements body) }
     {
         Statement {
-            case: Case::While(test, body),
+            node: StatementNode::While(test, body),
         }
     }
 
@@ -207,7 +211,7 @@ impl Statement {
         ensures { result ≡ Try (statements body) (handlers clauses.items) (plain_branch finally) }
     {
         Statement {
-            case: Case::Try(body, clauses, finally),
+            node: StatementNode::Try(body, clauses, finally),
         }
     }
 
@@ -216,7 +220,7 @@ impl Statement {
         ensures { result ≡ With (plain_manager manager) (rc_str_bytes name) (statements body) }
     {
         Statement {
-            case: Case::With(manager, name, body),
+            node: StatementNode::With(manager, name, body),
         }
     }
 
@@ -224,20 +228,27 @@ impl Statement {
     pub fn case(&self) -> StatementCase<'_>
         ensures { statement_of_case result ≡ self.now }
     {
-        match &self.case {
-            Case::Assign(name, value) => StatementCase::Assign(name, value),
-            Case::Yield => StatementCase::Yield,
-            Case::YieldFrom(into, target) => StatementCase::YieldFrom(into.as_ref(), target),
-            Case::Print(items) => StatementCase::Print(items),
-            Case::Raise(fault) => StatementCase::Raise(fault),
-            Case::Return(value) => StatementCase::Return(value.as_ref()),
-            Case::Pass => StatementCase::Pass,
-            Case::If(test, body, otherwise) => StatementCase::If(test, body, otherwise.as_ref()),
-            Case::While(test, body) => StatementCase::While(test, body),
-            Case::Try(body, clauses, finally) => {
+        match &self.node {
+            StatementNode::Assign(name, value) => StatementCase::Assign(name, value),
+            StatementNode::Yield => StatementCase::Yield,
+            StatementNode::YieldFrom(into, target) => StatementCase::YieldFrom(
+                into.as_ref(),
+                target,
+            ),
+            StatementNode::Print(items) => StatementCase::Print(items),
+            StatementNode::Raise(fault) => StatementCase::Raise(fault),
+            StatementNode::Return(value) => StatementCase::Return(value.as_ref()),
+            StatementNode::Pass => StatementCase::Pass,
+            StatementNode::If(test, body, otherwise) => StatementCase::If(
+                test,
+                body,
+                otherwise.as_ref(),
+            ),
+            StatementNode::While(test, body) => StatementCase::While(test, body),
+            StatementNode::Try(body, clauses, finally) => {
                 StatementCase::Try(body, clauses.as_slice(), finally.as_ref())
             }
-            Case::With(manager, name, body) => StatementCase::With(manager, name, body),
+            StatementNode::With(manager, name, body) => StatementCase::With(manager, name, body),
         }
     }
 }

@@ -16,7 +16,7 @@ pub struct Callbacks {
 }
 
 impl Model for Callbacks {
-    ghost use Rattle.std.specs.Prelude.{List, ℕ, reverse};
+    ghost use Rattle.std.specs.Prelude.{List, reverse};
     ghost use Rattle.model_value.specs.Action.{Action};
     ghost use Rattle.aio_ready.specs.Queue.{actions_of};
 

@@ -4,14 +4,14 @@ use Rattle.std.proofs.Common.{arith}
 use denote.Param.Weighed.{most}
 use Rattle.model_tree.specs.Syntax.{Expr}
 use Rattle.aio_syntax.specs.ExprSize.{expr_size, expr_list_size}
-use Rattle.aio_syntax.specs.declared.expr.Case.{Case}
-use Rattle.aio_syntax.specs.declared.expr.Case.TheVariants as case
-use Rattle.aio_syntax.specs.declared.expr.Expr.TheDeep.{deep-Case}
+use Rattle.aio_syntax.specs.declared.expr.ExprNode.{ExprNode}
+use Rattle.aio_syntax.specs.declared.expr.ExprNode.TheVariants as node
+use Rattle.aio_syntax.specs.declared.expr.Expr.TheDeep.{deep-ExprNode}
 use Rattle.aio_syntax.specs.Expr.{expr_of}
 
-pub case_falls : (c : Case) → max (deep-Case c) 0 ≤ expr_size (expr_of c)
-case_falls (case.List items) = omega arith
-case_falls _ = omega arith
+pub node_falls : (c : ExprNode) → max (deep-ExprNode c) 0 ≤ expr_size (expr_of c)
+node_falls (node.List items) = omega arith
+node_falls _ = omega arith
 
 pub items_fall : (es : List Expr) → max (most (λ e. expr_size e + 1) es) 0 ≤ expr_list_size es
 items_fall [] = omega arith

@@ -15,12 +15,12 @@ use std::rc::RcStr;
 #[cycle(expr)]
 #[derive(Drop)]
 pub struct Expr {
-    case: Case,
+    node: ExprNode,
 }
 
 #[cycle(expr)]
 #[derive(Drop)]
-enum Case {
+enum ExprNode {
     Or(Box<Expr>, Box<Expr>),
     And(Box<Expr>, Box<Expr>),
     Not(Box<Expr>),
@@ -53,13 +53,13 @@ impl Model for Expr {
     ghost use Rattle.aio_syntax.specs.ExprSize.{expr_size};
     ghost use Rattle.aio_syntax.specs.Expr.{expr_of};
 
-    ghost view = { λ a. expr_of a.case };
+    ghost view = { λ a. expr_of a.node };
 
     ghost size = { expr_size };
 
-    ghost use Rattle.aio_syntax.specs.ExprFalls.{case_falls};
+    ghost use Rattle.aio_syntax.specs.ExprFalls.{node_falls};
 
-    ghost size_decreases = { λ a h. case_falls a.case };
+    ghost size_decreases = { λ a h. node_falls a.node };
 }
 
 impl Model for ExprList {
@@ -105,7 +105,7 @@ impl Expr {
         ensures { result ≡ Or left.value right.value }
     {
         Expr {
-            case: Case::Or(left, right),
+            node: ExprNode::Or(left, right),
         }
     }
 
@@ -113,7 +113,7 @@ impl Expr {
         ensures { result ≡ And left.value right.value }
     {
         Expr {
-            case: Case::And(left, right),
+            node: ExprNode::And(left, right),
         }
     }
 
@@ -121,7 +121,7 @@ impl Expr {
         ensures { result ≡ Not operand.value }
     {
         Expr {
-            case: Case::Not(operand),
+            node: ExprNode::Not(operand),
         }
     }
 
@@ -129,7 +129,7 @@ impl Expr {
         ensures { result ≡ Compare comparison left.value right.value }
     {
         Expr {
-            case: Case::Compare(comparison, left, right),
+            node: ExprNode::Compare(comparison, left, right),
         }
     }
 
@@ -137,7 +137,7 @@ impl Expr {
         ensures { result ≡ Calculate operator left.value right.value }
     {
         Expr {
-            case: Case::Calculate(operator, left, right),
+            node: ExprNode::Calculate(operator, left, right),
         }
     }
 
@@ -145,7 +145,7 @@ impl Expr {
         ensures { result ≡ Negate operand.value }
     {
         Expr {
-            case: Case::Negate(operand),
+            node: ExprNode::Negate(operand),
         }
     }
 
@@ -153,7 +153,7 @@ impl Expr {
         ensures { result ≡ Index sequence.value index.value }
     {
         Expr {
-            case: Case::Index(sequence, index),
+            node: ExprNode::Index(sequence, index),
         }
     }
 
@@ -161,7 +161,7 @@ impl Expr {
         ensures { result ≡ Literal (constant_of constant) }
     {
         Expr {
-            case: Case::Literal(constant),
+            node: ExprNode::Literal(constant),
         }
     }
 
@@ -169,7 +169,7 @@ impl Expr {
         ensures { result ≡ Variable (rc_str_bytes name) }
     {
         Expr {
-            case: Case::Variable(name),
+            node: ExprNode::Variable(name),
         }
     }
 
@@ -178,7 +178,7 @@ impl Expr {
         ensures { result ≡ ListOf (exprs items) }
     {
         Expr {
-            case: Case::List(items),
+            node: ExprNode::List(items),
         }
     }
 
@@ -186,7 +186,7 @@ impl Expr {
         ensures { result ≡ Apply function argument.value }
     {
         Expr {
-            case: Case::Apply(function, argument),
+            node: ExprNode::Apply(function, argument),
         }
     }
 
@@ -195,7 +195,7 @@ impl Expr {
         ensures { result ≡ MakeError kind message.value }
     {
         Expr {
-            case: Case::MakeError(kind, message),
+            node: ExprNode::MakeError(kind, message),
         }
     }
 
@@ -203,19 +203,25 @@ impl Expr {
     pub fn case(&self) -> ExprCase<'_>
         ensures { expr_of_case result ≡ self.now }
     {
-        match &self.case {
-            Case::Or(left, right) => ExprCase::Or(left, right),
-            Case::And(left, right) => ExprCase::And(left, right),
-            Case::Not(operand) => ExprCase::Not(operand),
-            Case::Compare(comparison, left, right) => ExprCase::Compare(*comparison, left, right),
-            Case::Calculate(operator, left, right) => ExprCase::Calculate(*operator, left, right),
-            Case::Negate(operand) => ExprCase::Negate(operand),
-            Case::Index(sequence, index) => ExprCase::Index(sequence, index),
-            Case::Literal(constant) => ExprCase::Literal(constant),
-            Case::Variable(name) => ExprCase::Variable(name),
-            Case::List(items) => ExprCase::List(items),
-            Case::Apply(function, argument) => ExprCase::Apply(*function, argument),
-            Case::MakeError(kind, message) => ExprCase::MakeError(*kind, message),
+        match &self.node {
+            ExprNode::Or(left, right) => ExprCase::Or(left, right),
+            ExprNode::And(left, right) => ExprCase::And(left, right),
+            ExprNode::Not(operand) => ExprCase::Not(operand),
+            ExprNode::Compare(comparison, left, right) => ExprCase::Compare(
+                *comparison,
+                left,
+                right,
+            ),
+            ExprNode::Calculate(operator, left, right) => ExprCase::Calculate(
+                *operator, left, right,
+            ),
+            ExprNode::Negate(operand) => ExprCase::Negate(operand),
+            ExprNode::Index(sequence, index) => ExprCase::Index(sequence, index),
+            ExprNode::Literal(constant) => ExprCase::Literal(constant),
+            ExprNode::Variable(name) => ExprCase::Variable(name),
+            ExprNode::List(items) => ExprCase::List(items),
+            ExprNode::Apply(function, argument) => ExprCase::Apply(*function, argument),
+            ExprNode::MakeError(kind, message) => ExprCase::MakeError(*kind, message),
         }
     }
 }

@@ -32,7 +32,7 @@ use Rattle.aio_cancel.specs.Noted.{Noted}
 use Rattle.aio_cancel.specs.Seen.{Marked, Stacked}
 use Rattle.aio_ready.specs.declared.handle.Handle as code
 use Rattle.aio_ready.specs.Queue as queue
-use Rattle.aio_ready.specs.Queue.{Queue, from_live}
+use Rattle.aio_ready.specs.Queue.{from_live}
 use Rattle.aio_cancel.specs.Awaitables as cancel
 use Rattle.aio_cancel.specs.Awaitables.{Appended, waiting, handles_from}
 use Rattle.aio_cancel.proofs.PartsLemmas.{soon-parts}

@@ -1,7 +1,6 @@
 //! A task's step ends with the await of a future that isn't done.
-ghost use Rattle.std.specs.Prelude.{◌≡◌, ◌≤◌, true, false, None, Some, [], length, slice_get, if◌then◌else◌};
+ghost use Rattle.std.specs.Prelude.{◌≡◌, ◌≤◌, None, Some, [], length};
 ghost use Rattle.model_loop.specs.Circles.{circle};
-ghost use Rattle.model_loop.specs.Futures.{is_pending_at};
 ghost use Rattle.model_loop.specs.Owning.{OwnsFutures};
 ghost use Rattle.model_loop.specs.Sound.{HasNoCircle};
 ghost use Rattle.model_loop.specs.Suspend.{suspend as suspend_of};

@@ -1,10 +1,7 @@
 //! What steps change of the queue, the futures and the tasks.
-ghost use Rattle.std.specs.Prelude.{◌≡◌, ◌≤◌, true, false, None, Some, IfOk, OnOk, OnErr, Ok, Err, length, if◌then◌else◌};
+ghost use Rattle.std.specs.Prelude.{◌≡◌, false, None, Some, IfOk, OnOk, OnErr, Ok, Err, length, if◌then◌else◌};
 ghost use Rattle.model_loop.specs.Handles as handles;
 ghost use Rattle.model_loop.specs.Tasks as tasks;
-ghost use Rattle.model_loop.specs.Circles.{circle};
-ghost use Rattle.model_loop.specs.Cancel as request;
-ghost use Rattle.model_loop.specs.Sound.{HasNoCircle};
 ghost use Rattle.model_loop.specs.Suspend.{wait_on};
 ghost use Rattle.model_value.specs.declared.action.Action.TheVariants as action;
 ghost use Rattle.model_value.specs.declared.outcome.Outcome.TheVariants as outcome;

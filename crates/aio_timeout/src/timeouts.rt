@@ -1,5 +1,5 @@
 //! The timeouts.
-ghost use Rattle.std.specs.Prelude.{◌≡◌, ◌+◌, ◌<◌, [], ◌∷◌, ◌++◌, false, None, IfOk, OnOk, OnErr, length, nat_le};
+ghost use Rattle.std.specs.Prelude.{◌≡◌, ◌+◌, ◌<◌, [], false, None, IfOk, OnOk, OnErr, length, nat_le};
 ghost use Rattle.std.specs.Option.{option_map_or};
 ghost use Rattle.model_loop.specs.Tasks.{cancelling, uncancel, is_cancelled};
 ghost use Rattle.model_loop.specs.Loop.{Loop};

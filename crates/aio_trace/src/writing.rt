@@ -1,6 +1,5 @@
 //! The lines of events.
 ghost use Rattle.std.specs.Prelude.{◌≡◌, ◌++◌, IfOk, OnOk, OnErr};
-ghost use Rattle.std.specs.List.{flat_map};
 ghost use Rattle.model_wire.specs.Trace.{line_of, lines_of_events};
 
 use crate::actions::{push_action, push_id, push_text};

@@ -1,5 +1,5 @@
 -- Events that are added, and what a call with its reply adds.
-use Rattle.std.specs.Prelude.{ℕ, ◌+◌, ◌-◌, ◌^◌, List, [], ◌∷◌, ◌++◌, min}
+use Rattle.std.specs.Prelude.{ℕ, ◌+◌, ◌-◌, ◌^◌, [], ◌∷◌, ◌++◌, min}
 use Rattle.model_wire.specs.declared.event.Event.TheVariants as event
 use Rattle.model_wire.specs.Event.{Event}
 use Rattle.aio_wire.specs.EventList.{EventList}

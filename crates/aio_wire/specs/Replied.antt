@@ -1,7 +1,7 @@
 -- What a wire may reply, by what is seen of it before and after.
-use Rattle.std.specs.Prelude.{◌≡◌, ℕ, ◌≤◌, Bool, true, List, [], ◌∷◌, ◌++◌, Option, Some, None, Result, Ok, Err, ◌⊎◌}
+use Rattle.std.specs.Prelude.{◌≡◌, ℕ, ◌≤◌, Bool, true, List, [], ◌∷◌, ◌++◌, Option, Some, None, ◌⊎◌}
 use Rattle.model_wire.specs.declared.event.Handed.{Handed}
-use Rattle.model_wire.specs.Call.{Call, Answer}
+use Rattle.model_wire.specs.Call.{Call}
 use Rattle.model_wire.specs.Event.{handed_by}
 use Rattle.model_wire.specs.Fits.{fits}
 use Rattle.model_wire.specs.Journal.{Entry, Answered, Refused}

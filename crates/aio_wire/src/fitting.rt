@@ -1,7 +1,7 @@
 //! Which answers fit a call.
-ghost use Rattle.std.specs.Prelude.{◌≡◌, ◌&&◌, length, map, sum, nat_le};
+ghost use Rattle.std.specs.Prelude.{◌≡◌, ◌&&◌, map, sum, nat_le};
 ghost use Rattle.std.specs.List.{list_all, list_any};
-ghost use Rattle.model_wire.specs.Fits.{fits, turn_fits, are_few, are_awaited, is_awaited, is_some_within, is_ready_for, is_told, is_watched_by, is_watched, interest_of, news_interest, clashes, stand_apart, bytes_in, news_bytes, is_sized, is_piece, most_bytes, most_items};
+ghost use Rattle.model_wire.specs.Fits.{fits, turn_fits, are_few, are_awaited, is_awaited, is_some_within, is_ready_for, is_told, is_watched_by, is_watched, interest_of, news_interest, clashes, stand_apart, bytes_in, news_bytes, is_sized, is_piece, most_bytes};
 
 use crate::call::{Answer, Call};
 use crate::lists::{Item, Watch};

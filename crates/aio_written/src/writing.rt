@@ -3,7 +3,6 @@
 ghost use Rattle.std.specs.Prelude.{◌≡◌, ◌++◌, OnOk, map, codes};
 ghost use Rattle.std.specs.List.{flat_map};
 ghost use Rattle.std.specs.Fmt.{decimal, signed_decimal};
-ghost use Rattle.std.specs.Rc.{rc_str_bytes};
 ghost use Rattle.model_value.specs.Escapes.{bytes_literal};
 ghost use Rattle.model_value.specs.Shown.{shown};
 ghost use Rattle.model_value.specs.Value.{Text, Items, values};

@@ -1,26 +1,24 @@
 -- What the steps of a timeout leave.
-use Rattle.std.proofs.Common.{◌≡◌, ℕ, ◌<◌, ◌⊎◌, Bool, true, false, not, ◌&&◌, ◌==◌, Option, Some, None, length, option_map, nat_le, if◌then◌else◌, refl, sym}
-use Rattle.std.proofs.Common.{ap, subst, ◌∙◌, arith, ℤ}
+use Rattle.std.proofs.Common.{◌≡◌, ℕ, ◌<◌, Bool, true, false, not, ◌&&◌, ◌==◌, Option, Some, None, length, option_map, nat_le, if◌then◌else◌, refl, sym}
+use Rattle.std.proofs.Common.{ap, ◌∙◌, arith, ℤ}
 use Rattle.std.proofs.lemmas.Bool.{eq-eqb, false≢true}
 use Rattle.model_value.specs.Action.{Action}
-use Rattle.model_value.specs.declared.action.Action.TheVariants.{Fires, Step}
+use Rattle.model_value.specs.declared.action.Action.TheVariants.{Fires}
 use Rattle.model_value.specs.Value.{Value, Nothing, Exc}
 use Rattle.model_loop.specs.Deadlines.{fires, others_as}
 use Rattle.model_loop.specs.Entries.{entries}
-use Rattle.model_loop.specs.Handles.{later, revoke, soon}
+use Rattle.model_loop.specs.Handles.{later, soon}
 use Rattle.model_loop.specs.Ledger.{ByTimeout, ask_cancel, uncancel_by}
 use Rattle.model_loop.specs.Loop.{TimeoutState, Created, Active, Expiring, Expired, Finished, Timeout, Loop, book, in_parts}
-use Rattle.model_loop.specs.Parts.{Parts}
 use Rattle.model_loop.specs.Tasks.{future_of}
 use Rattle.model_loop.specs.Timeouts.{exit_timeout, fire, fires_at, give_up, is_active, leave_from, moment, reschedule, reschedule_where, schedule, set_timeout}
 use Rattle.model_loop.specs.Timeouts.{timeout_of, with_deadline, without_handle}
-use Rattle.model_loop.specs.Ways.{is_running}
 use Rattle.model_machine.specs.Sound.{is_open}
 use Rattle.law_timeouts.proofs.Entries.{entries-fewer, of_tag}
 use Rattle.law_timeouts.proofs.Tagging.{timeout_same}
 use Rattle.law_timeouts.specs.Tags.{HaveTags}
-use Rattle.law_after.specs.After.{is_step, IsAfter, TimeoutAfter, IsLoopAfter}
-use Rattle.law_after.proofs.Parts.{refl_after, after_on, soon_after, later_after, revoke_after, change_after}
+use Rattle.law_after.specs.After.{is_step, IsAfter, IsLoopAfter}
+use Rattle.law_after.proofs.Parts.{refl_after, soon_after, later_after, revoke_after, change_after}
 use Rattle.law_after.proofs.Requests.{cancel_after}
 use Rattle.law_after.proofs.Loops.{refl_loop, loop_on, parts_loop, book_loop, timeout_loop}
 

@@ -1,5 +1,5 @@
 -- What the exit of a group leaves, as it begins, and as it goes on after a wait.
-use Rattle.std.proofs.Common.{◌≡◌, ℕ, ◌<◌, Bool, true, false, List, [], ◌∷◌, ◌++◌, Option, Some, None, length, refl, sym, ap, subst, ◌∙◌, arith}
+use Rattle.std.proofs.Common.{◌≡◌, ℕ, ◌<◌, Bool, true, false, List, [], ◌∷◌, ◌++◌, Option, Some, None, length, refl, sym, ap, ◌∙◌, arith}
 use Rattle.std.proofs.lemmas.Bool.{eq-eqb, false≢true}
 use Rattle.model_value.specs.Input.{Input}
 use Rattle.model_value.specs.Value.{Value, Nothing, Exc}
@@ -10,9 +10,9 @@ use Rattle.model_loop.specs.Loop.{Group, Loop, in_parts}
 use Rattle.model_loop.specs.Parts.{Plain}
 use Rattle.model_loop.specs.Ways.{is_running}
 use Rattle.law_told.proofs.Holding.{group_same}
-use Rattle.law_after.specs.After.{GroupAfter, IsLoopAfter}
+use Rattle.law_after.specs.After.{IsLoopAfter}
 use Rattle.law_after.proofs.Made.{make_after}
-use Rattle.law_after.proofs.Loops.{refl_loop, loop_on, parts_loop, group_loop, exit_begun, exit_heard, begin_loop, begin_marks, heard_loop}
+use Rattle.law_after.proofs.Loops.{loop_on, parts_loop, group_loop, exit_begun, exit_heard, begin_loop, begin_marks, heard_loop}
 
 module _ (test : Value → Bool) (nothing : test Nothing ≡ true) (grown : Bool) (excused timeout begun : Option ℕ) (id : ℕ) where
   -- one that waits ends nothing, and any other ends the group

@@ -1,36 +1,29 @@
 -- What steps of timeouts and groups leave of the loop.
 use Rattle.std.proofs.Common.{◌≡◌, ℕ, zero, suc, ◌<◌, ◌⊎◌, inl, inr, Bool, true, false, cond, not, ◌&&◌, ◌||◌, ◌==◌, List, [], ◌∷◌, ◌++◌, Option, Some, None}
-use Rattle.std.proofs.Common.{is_some, length, length-set, nat_le, slice_get, slice_set, slice_index_or, refl, sym, ap, subst, ◌∙◌, arith}
-use Rattle.std.proofs.lemmas.Bool.{cases_eq, eqb-true, false≢true}
-use Rattle.model_value.specs.Action.{Action}
+use Rattle.std.proofs.Common.{is_some, length, length-set, slice_set, slice_index_or, refl, sym, ap, subst, ◌∙◌}
+use Rattle.std.proofs.lemmas.Bool.{cases_eq, false≢true}
 use Rattle.model_value.specs.Input.{Input}
 use Rattle.model_value.specs.declared.input.Input.TheVariants.{Send, Throw}
-use Rattle.model_value.specs.declared.action.Action.TheVariants.{Fires, GroupDone, Step}
+use Rattle.model_value.specs.declared.action.Action.TheVariants.{GroupDone}
 use Rattle.model_value.specs.declared.outcome.Outcome.TheVariants.{Value as Returned}
 use Rattle.model_value.specs.Value.{Value, Nothing, Exc}
-use Rattle.model_loop.specs.Deadlines.{fires, others_as}
-use Rattle.model_loop.specs.Entries.{entries}
-use Rattle.model_loop.specs.Futures.{new_plain, next_future, register}
-use Rattle.model_loop.specs.Groups.{GroupExit, Waits, Passes, Raises, Refusal, abort, abort_and_request_unless, abort_if_raised, abort_where, begin_exit, blame}
-use Rattle.model_loop.specs.Groups.{body_failure, child_done, create, create_unless, end_exit, exit_begin, exit_woken, failure_of, group_of, hear}
-use Rattle.model_loop.specs.Groups.{keep_and_abort_unless, new_group, only_cancelled, raised_of, refusal, set_group, take_back, take_back_where, wait_or_end}
-use Rattle.model_loop.specs.Groups.{wait_or_end_with, wake_exit, wake_if_last, with_child, without_child}
-use Rattle.model_loop.specs.Handles.{deadline, later, revoke, soon}
-use Rattle.model_loop.specs.Ledger.{Booked, ByAbort, ByGroup, ByTimeout, ask_cancel, request_each, uncancel_by}
-use Rattle.model_loop.specs.Loop.{TimeoutState, Created, Active, Expiring, Expired, Finished, Timeout, Group, Loop, book, in_parts}
-use Rattle.model_loop.specs.Parts.{Parts, Plain}
+use Rattle.model_loop.specs.Futures.{next_future}
+use Rattle.model_loop.specs.Groups.{Refusal, abort, abort_and_request_unless, abort_if_raised, abort_where, begin_exit, blame}
+use Rattle.model_loop.specs.Groups.{child_done, create, create_unless, failure_of, group_of, hear}
+use Rattle.model_loop.specs.Groups.{keep_and_abort_unless, new_group, only_cancelled, refusal, set_group, take_back, take_back_where}
+use Rattle.model_loop.specs.Groups.{wake_exit, wake_if_last, with_child, without_child}
+use Rattle.model_loop.specs.Ledger.{Booked, ByAbort, ByGroup, ask_cancel, request_each, uncancel_by}
+use Rattle.model_loop.specs.Loop.{Timeout, Group, Loop, book, in_parts}
+use Rattle.model_loop.specs.Parts.{Parts}
 use Rattle.model_loop.specs.Tasks.{cancelling, future_of, next_task, spawn, uncancel}
-use Rattle.model_loop.specs.Timeouts.{exit_timeout, fire, fires_at, give_up, is_active, leave_from, make_timeout, moment, no_timeout, reschedule}
-use Rattle.model_loop.specs.Timeouts.{reschedule_where, schedule, set_timeout, timeout_of, with_deadline, without_handle}
+use Rattle.model_loop.specs.Timeouts.{no_timeout}
+use Rattle.model_loop.specs.Timeouts.{set_timeout, timeout_of}
 use Rattle.model_loop.specs.Ways.{is_running}
-use Rattle.model_machine.specs.Sound.{is_open}
 use Rattle.law_told.proofs.Holding.{group_same, group_other}
-use Rattle.law_timeouts.proofs.Entries.{entries-fewer, of_tag}
-use Rattle.law_timeouts.proofs.Tagging.{timeout_same, timeout_other}
-use Rattle.law_timeouts.specs.Tags.{HaveTags}
-use Rattle.law_after.specs.After.{is_step, IsAfter, TimeoutAfter, GroupAfter, IsLoopAfter}
-use Rattle.law_after.proofs.Parts.{refl_after, after_on, soon_after, later_after, revoke_after, change_after, settle_after}
-use Rattle.law_after.proofs.Made.{register_after, make_after, spawn_after}
+use Rattle.law_timeouts.proofs.Tagging.{timeout_other}
+use Rattle.law_after.specs.After.{IsAfter, TimeoutAfter, GroupAfter, IsLoopAfter}
+use Rattle.law_after.proofs.Parts.{refl_after, after_on, change_after, settle_after}
+use Rattle.law_after.proofs.Made.{register_after, spawn_after}
 use Rattle.law_after.proofs.Requests.{cancel_after, each_after}
 
 -- ---- fields

@@ -1,31 +1,29 @@
 -- What is registered, made and due: what it leaves.
 use Rattle.std.proofs.Common.{◌≡◌, ℕ, zero, suc, ◌+◌, ◌≤◌, ◌<◌, ◌⊎◌, inl, inr, Bool, true, false, cond, not, ◌&&◌, List, [], ◌∷◌, ◌++◌, Option, Some, None}
-use Rattle.std.proofs.Common.{length, slice_get, slice_set, nat_lt, nat_le, filter, refl, sym, ap, subst, ◌∙◌, le_refl, length-append, length-set, arith}
+use Rattle.std.proofs.Common.{length, slice_get, slice_set, nat_lt, refl, sym, ap, ◌∙◌, le_refl, length-append, length-set, arith}
 use Rattle.std.specs.List.{count_by}
 use Rattle.std.specs.Option.{option_map_or}
 use Rattle.std.proofs.lemmas.Bool.{cases_eq, cases_lt, le-leb, le-ltb, lt-leb, lt-ltb, false≢true}
 use Rattle.std.proofs.lemmas.List.Sums.{sum_by-cons, sum_by_push}
-use Rattle.std.proofs.lemmas.Option.{none-some, slice_get_past, slice_get_within}
+use Rattle.std.proofs.lemmas.Option.{none-some, slice_get_past}
 use Rattle.model_value.specs.Action.{Action}
-use Rattle.model_value.specs.declared.action.Action.TheVariants.{MainDone, Step, SleepDone, Fires}
-use Rattle.model_value.specs.declared.outcome.Outcome.TheVariants.{Value as Returned}
+use Rattle.model_value.specs.declared.action.Action.TheVariants.{MainDone, Step}
 use Rattle.model_value.specs.Value.{Value, Outcome}
-use Rattle.model_loop.specs.Entries.{AreTimed, entries, handles_where, timers_where, untimed}
-use Rattle.model_loop.specs.Futures.{future_outcome, outcome_at, is_pending, is_pending_at, make_future, mark_asked, asked_kind, next_future, register}
+use Rattle.model_loop.specs.Entries.{AreTimed, handles_where, timers_where, untimed}
+use Rattle.model_loop.specs.Futures.{outcome_at, is_pending, is_pending_at, make_future, mark_asked, asked_kind, next_future, register}
 use Rattle.model_loop.specs.Futures.{registered, registered_on, with_future}
-use Rattle.model_loop.specs.Handles.{by_deadline, due, fall_due, placed, soon}
+use Rattle.model_loop.specs.Handles.{by_deadline, due, fall_due, placed}
 use Rattle.model_loop.specs.Owning.{is_plain, is_plain_at, is_plain_kind}
 use Rattle.model_loop.specs.Parts.{Future, FutureKind, Plain, OfTask, Many, Handle, Parts, Task, Timer}
 use Rattle.model_loop.specs.Tasks.{future_of, lives, next_task, spawn}
-use Rattle.model_loop.specs.Totals.{callbacks_at, callbacks_of, pending_where}
-use Rattle.model_loop.specs.Ways.{is_running}
+use Rattle.model_loop.specs.Totals.{callbacks_at}
 use Rattle.model_machine.specs.Sound.{IsMainTold, is_main_done}
 use Rattle.law_cancel.proofs.Effects.{asked_as}
-use Rattle.law_cancel.proofs.Lookups.{get-set_same, get-set_other, get-set_kept, get-push_last, get-push_other}
+use Rattle.law_cancel.proofs.Lookups.{get-set_kept, get-push_last, get-push_other}
 use Rattle.law_numbers.proofs.Falling.{early, fall_due-futures, fall_due-next, fallen, late}
 use Rattle.law_settling.proofs.Settling.{count_fewer}
 use Rattle.law_timeouts.proofs.Entries.{of_tag}
-use Rattle.law_after.specs.After.{is_step, HasIn, IsAfter}
+use Rattle.law_after.specs.After.{is_step, IsAfter}
 use Rattle.law_after.proofs.Parts.{refl_after, after_on, same_after, soon_after}
 
 none_past : {A : Type 0} (xs : List A) (place : ℕ) → slice_get xs place ≡ None → length xs ≤ place

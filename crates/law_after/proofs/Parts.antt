@@ -1,27 +1,25 @@
 -- What each change of the parts leaves.
-use Rattle.std.proofs.Common.{◌≡◌, ℕ, zero, suc, ◌+◌, ◌≤◌, ◌<◌, ◌⊎◌, inl, inr, Bool, true, false, cond, not, ◌&&◌, ◌==◌, List, [], ◌∷◌, ◌++◌, Option, Some}
-use Rattle.std.proofs.Common.{None, length, slice_get, slice_set, refl, sym, ap, subst, ◌∙◌, le_refl, length-append, length-set, arith}
+use Rattle.std.proofs.Common.{◌≡◌, ℕ, ◌+◌, ◌≤◌, ◌<◌, ◌⊎◌, inl, inr, Bool, true, false, cond, not, ◌&&◌, List, [], ◌∷◌, Option, Some}
+use Rattle.std.proofs.Common.{None, length, slice_get, slice_set, refl, sym, ap, subst, ◌∙◌, le_refl, length-set, arith}
 use Rattle.std.specs.List.{count_by}
 use Rattle.std.specs.Option.{option_map_or}
-use Rattle.std.proofs.lemmas.Bool.{cases_eq, cases_lt, eq-eqb, ne_eqb, false≢true}
-use Rattle.std.proofs.lemmas.List.Sums.{sum_by_push}
-use Rattle.std.proofs.lemmas.Option.{none-some, slice_get_past, slice_get_within}
+use Rattle.std.proofs.lemmas.Bool.{cases_eq, cases_lt, ne_eqb, false≢true}
 use Rattle.model_value.specs.Action.{Action}
 use Rattle.model_value.specs.declared.outcome.Outcome.TheVariants.{Value as Returned, Failed, Cancelled}
-use Rattle.model_value.specs.Value.{Value, Nothing, Outcome}
+use Rattle.model_value.specs.Value.{Value, Outcome}
 use Rattle.model_loop.specs.Entries.{entries}
-use Rattle.model_loop.specs.Futures.{future_outcome, outcome_at, is_pending, is_pending_at, make_future, mark_asked, asked_kind, next_future, register}
-use Rattle.model_loop.specs.Futures.{registered, registered_on, settle, settled, settled_as, with_future}
+use Rattle.model_loop.specs.Futures.{outcome_at, is_pending, is_pending_at, next_future}
+use Rattle.model_loop.specs.Futures.{registered, settle, settled, settled_as, with_future}
 use Rattle.model_loop.specs.Handles.{later, revoke, soon, soon_all}
-use Rattle.model_loop.specs.Owning.{is_plain, is_plain_at, is_plain_kind}
-use Rattle.model_loop.specs.Parts.{Future, FutureKind, Plain, OfTask, Many, Handle, Parts, Task}
-use Rattle.model_loop.specs.Tasks.{change_task, future_of, lives, next_task}
+use Rattle.model_loop.specs.Owning.{is_plain, is_plain_at}
+use Rattle.model_loop.specs.Parts.{Future, Handle, Parts, Task}
+use Rattle.model_loop.specs.Tasks.{change_task, future_of, next_task}
 use Rattle.model_loop.specs.Totals.{callbacks_at, callbacks_of, pending_where}
 use Rattle.model_loop.specs.Ways.{is_running}
 use Rattle.model_machine.specs.Sound.{IsMainTold, is_main_done}
-use Rattle.law_cancel.proofs.Effects.{soon_all-futures, soon_all-tasks, change_task-futures, length-change_task, asked_as}
+use Rattle.law_cancel.proofs.Effects.{soon_all-futures, soon_all-tasks, change_task-futures, length-change_task}
 use Rattle.law_cancel.proofs.Counting.{change_task-kept}
-use Rattle.law_cancel.proofs.Lookups.{get-set_same, get-set_other, get-set_kept, get-push_last, get-push_other}
+use Rattle.law_cancel.proofs.Lookups.{get-set_same, get-set_other, get-set_kept}
 use Rattle.law_settling.proofs.Looks.{change_task-pending}
 use Rattle.law_settling.proofs.Settling.{soon-where, soon_all-where}
 use Rattle.law_settling.specs.Frames.{taken}

@@ -1,14 +1,14 @@
 -- What requests, and a task's step, leave of the parts.
-use Rattle.std.proofs.Common.{◌≡◌, ℕ, Bool, true, false, List, [], ◌∷◌, ◌++◌, Option, Some, None, Result, Ok, Err, if◌then◌else◌, refl}
+use Rattle.std.proofs.Common.{ℕ, Bool, true, false, List, [], ◌∷◌, Option, Some, None, Result, Ok, Err, if◌then◌else◌, refl}
 use Rattle.model_value.specs.Action.{Circle}
 use Rattle.model_value.specs.Input.{Input}
-use Rattle.model_value.specs.declared.action.Action.TheVariants.{Step, StepInCircle, Wakeup}
+use Rattle.model_value.specs.declared.action.Action.TheVariants.{StepInCircle, Wakeup}
 use Rattle.model_value.specs.declared.outcome.Outcome.TheVariants.{Value as Returned, Failed, Cancelled}
-use Rattle.model_value.specs.Value.{Value, Exc, Outcome}
+use Rattle.model_value.specs.Value.{Value, Exc}
 use Rattle.model_loop.specs.Cancel.{cancel}
 use Rattle.model_loop.specs.Circles.{circle}
-use Rattle.model_loop.specs.Futures.{register, settle}
-use Rattle.model_loop.specs.Ledger.{Origin, ByWait, request, request_each, request_where}
+use Rattle.model_loop.specs.Futures.{register}
+use Rattle.model_loop.specs.Ledger.{Origin, request_each, request_where}
 use Rattle.model_loop.specs.Parts.{Parts}
 use Rattle.model_loop.specs.Suspend.{cancel_wait, suspend, suspend_unless, wait_on}
 use Rattle.model_loop.specs.Tasks.{begin_step, finish, future_of, is_cancelled, is_marked, lives, set_waiter, unmark}

@@ -1,6 +1,6 @@
 -- What a step of the loop leaves to whoever looks from above: which handles are still to come, which tasks live and which
 -- futures are plain, which values futures have, and of timeouts and groups whether their blocks are open.
-use Rattle.std.specs.Prelude.{◌≡◌, ℕ, ◌≤◌, ◌<◌, ◌⊎◌, Bool, true, false, ◌==◌, Option, Some, None, Result, Ok, Err, length}
+use Rattle.std.specs.Prelude.{◌≡◌, ℕ, ◌≤◌, ◌<◌, ◌⊎◌, Bool, true, false, ◌==◌, Option, Some, Result, Ok, Err, length}
 use Rattle.model_value.specs.Action.{Action}
 use Rattle.model_value.specs.declared.action.Action.TheVariants.{Step}
 use Rattle.model_value.specs.declared.outcome.Outcome.TheVariants.{Value as Returned}

@@ -1,5 +1,5 @@
 //! What steps of futures and tasks leave. Each function has no body: its clauses are the laws.
-ghost use Rattle.std.specs.Prelude.{◌≡◌, ℕ, Bool, true, List, Option, Result};
+ghost use Rattle.std.specs.Prelude.{ℕ, Bool, true, List, Option, Result};
 ghost use Rattle.model_value.specs.Input.{Input};
 ghost use Rattle.model_value.specs.Value.{Value, Exc, Outcome};
 ghost use Rattle.model_loop.specs.Cancel.{cancel};

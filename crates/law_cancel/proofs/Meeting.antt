@@ -4,7 +4,7 @@ use Rattle.std.proofs.Common.{slice_get, subst, refl, ap, sym, ◌∙◌, arith}
 use Rattle.std.proofs.lemmas.Bool.{ltb-true}
 use Rattle.model_value.specs.Value.{Outcome}
 use Rattle.model_loop.specs.Parts.{FutureKind, Plain, OfTask, Many, Future, Task, Parts}
-use Rattle.model_loop.specs.Futures.{is_pending_at, is_pending, made_before}
+use Rattle.model_loop.specs.Futures.{is_pending_at, made_before}
 use Rattle.model_loop.specs.Tasks.{raise_count}
 use Rattle.model_loop.specs.Cancel.{CancelRequest, Canceller, answers, has_seen, cancel_each, asked_where, marked_unless, cancel_waiter, cancel_unseen}
 use Rattle.model_loop.specs.Cancel.{cancel_task, cancel_kind, cancel_until, cancel_at, cancel_by, cancel_below, cancel_within, cancel_with}

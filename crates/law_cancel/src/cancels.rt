@@ -1,6 +1,6 @@
 //! Laws of cancel requests, which hold in every state of the parts. Each function has no body: its
 //! clauses are the laws.
-ghost use Rattle.std.specs.Prelude.{◌≡◌, ℕ, ◌≤◌, ◌⊎◌, false, not, List, Option, Some, None, slice_get, if◌then◌else◌};
+ghost use Rattle.std.specs.Prelude.{◌≡◌, ℕ, ◌≤◌, ◌⊎◌, false, not, List, Some, None, slice_get, if◌then◌else◌};
 ghost use Rattle.model_value.specs.declared.outcome.Outcome.TheVariants.{Cancelled};
 ghost use Rattle.model_loop.specs.Parts.{Parts};
 ghost use Rattle.model_loop.specs.Futures.{future_outcome, is_pending};

@@ -2,7 +2,7 @@
 use Rattle.std.proofs.Common.{◌≡◌, ℕ, suc, List, [], ◌∷◌, ◌++◌, map, Option, Some, refl, ap, ap₂, ◌∙◌}
 use Rattle.std.proofs.lemmas.List.{map-append}
 use Rattle.model_tree.specs.Syntax as plain
-use Rattle.model_tree.specs.Syntax.{Expr, Exprs, exprs, exprs_of, Statement, Statements, Branch, Handlers}
+use Rattle.model_tree.specs.Syntax.{Expr, exprs, exprs_of, Statement, Statements, Branch, Handlers}
 use Rattle.model_text.specs.Forms.{Assign, Yield, YieldFrom, Print, Raise, Return, Pass, If, Else, While, Try, Except, Finally, WithGroup, WithTimeout, End}
 use Rattle.model_text.specs.SecondPass.{Line}
 use Rattle.model_text.specs.Bodies.{simple}

@@ -16,7 +16,7 @@ use Rattle.model_text.specs.declared.symbol.Symbol.TheVariants as symbol
 use Rattle.model_text.specs.declared.reserved_word.ReservedWord.TheVariants as word
 use Rattle.model_text.specs.Words.{Lexeme, Reserved, Named, Number, Texts, Octets, Sign, is_sign}
 use Rattle.model_text.specs.Cutting.{Pieces, Cutter, pieces_from, with_front, parts}
-use Rattle.model_text.specs.Terms.{Term, terms, terms_of, Terms, no_terms, term_then}
+use Rattle.model_text.specs.Terms.{Term, terms, Terms, no_terms, term_then}
 use Rattle.model_text.specs.Terms as term
 use Rattle.model_text.specs.Levels.{Parser, is_not, Arguments, all_of, arguments_of, kind_place, called, items, primary, at_word, at_comparison, at_sum}
 use Rattle.model_text.specs.Levels.{at_product, at_index, negated, term_within, term_of}

@@ -1,6 +1,6 @@
 //! Laws of what is added to the loop's own requests. Each function has no body: its clauses are the
 //! laws.
-ghost use Rattle.std.specs.Prelude.{◌≡◌, ℕ, ◌<◌, Bool, true, false, List, Option};
+ghost use Rattle.std.specs.Prelude.{◌≡◌, ℕ, ◌<◌, true, List, Option};
 ghost use Rattle.std.specs.List.{All};
 ghost use Rattle.model_value.specs.Value.{Outcome};
 ghost use Rattle.model_tree.specs.Syntax.{Program};

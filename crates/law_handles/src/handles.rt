@@ -1,5 +1,5 @@
 //! Laws of handles. Each function has no body: its clauses are the laws.
-ghost use Rattle.std.specs.Prelude.{◌≡◌, ◌<◌, ◌≤◌, ℕ, true, false, List, [], ◌∷◌, ◌++◌, Option, Some, None, length, map, nat_lt};
+ghost use Rattle.std.specs.Prelude.{◌≡◌, ◌<◌, ℕ, true, false, List, [], ◌∷◌, Option, Some, None, length, map, nat_lt};
 ghost use Rattle.std.specs.List.{count_by};
 ghost use Rattle.model_value.specs.Action.{Action};
 ghost use Rattle.model_loop.specs.Parts.{Handle, Parts};

@@ -1,11 +1,10 @@
 //! Laws of ties: how they begin and go on. Each function has no body: its clauses are the laws.
-ghost use Rattle.std.specs.Prelude.{◌≡◌, ℕ, false, List};
+ghost use Rattle.std.specs.Prelude.{ℕ, false, List};
 ghost use Rattle.model_loop.specs.Parts.{Handle, Parts};
 ghost use Rattle.model_loop.specs.Handles.{revoke, due};
 ghost use Rattle.model_loop.specs.Start.{no_parts};
-ghost use Rattle.aio_ready.specs.declared.handle.HandleName.TheVariants as name;
-ghost use Rattle.aio_task.specs.View.{View, empty};
-ghost use Rattle.aio_task.specs.Keeps.{Known, ByHandle, Ties, Keeps, Extends, Kept, Knows};
+ghost use Rattle.aio_task.specs.View.{empty};
+ghost use Rattle.aio_task.specs.Keeps.{Known, Ties, Keeps, Extends, Knows};
 
 /// Parts that are new stand for the machine's, where nothing has happened.
 pub fn new_parts_are_kept()

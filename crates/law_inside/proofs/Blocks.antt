@@ -1,15 +1,13 @@
 -- Blocks that are open on tapes are the timeouts and groups that are open, as one is entered or left.
-use Rattle.std.proofs.Common.{◌≡◌, ℕ, zero, suc, ◌<◌, ◌≤◌, ◌+◌, ◌⊎◌, inl, inr, Bool, true, false, not, ◌&&◌, ◌||◌, ◌==◌, List, [], ◌∷◌, ◌++◌, Option, Some}
-use Rattle.std.proofs.Common.{None, length, length-append, length-set, slice_index_or, refl, sym, ap, subst, ◌∙◌, arith}
+use Rattle.std.proofs.Common.{◌≡◌, ℕ, ◌<◌, ◌≤◌, ◌+◌, ◌⊎◌, inl, inr, Bool, true, false, not, ◌&&◌, ◌||◌, List, [], ◌∷◌, Option, Some}
+use Rattle.std.proofs.Common.{None, length, length-append, length-set, refl, sym, ap, subst, ◌∙◌, arith}
 use Rattle.std.specs.List.{list_any}
-use Rattle.std.proofs.lemmas.Bool.{cases_eq, cases_lt, eq-eqb, ne_eqb, false≢true}
+use Rattle.std.proofs.lemmas.Bool.{cases_eq, eq-eqb, ne_eqb}
 use Rattle.model_value.specs.Equality.{equal}
-use Rattle.model_value.specs.Value.{Value, Nothing, Group, Timeout}
-use Rattle.model_loop.specs.Groups.{enter_group, group_of, make_group, new_group, next_group}
-use Rattle.model_loop.specs.Loop.{Active, Group as GroupFields, Timeout as TimeoutFields, Loop}
-use Rattle.model_loop.specs.Tasks.{cancelling}
+use Rattle.model_value.specs.Value.{Value, Group, Timeout}
+use Rattle.model_loop.specs.Groups.{enter_group, group_of, make_group, new_group}
+use Rattle.model_loop.specs.Loop.{Group as GroupFields, Timeout as TimeoutFields, Loop}
 use Rattle.model_loop.specs.Timeouts.{make_timeout, timeout_of}
-use Rattle.model_loop.specs.Ways.{is_running}
 use Rattle.model_machine.specs.Sound.{AreBlocksOf, IsBlockOf, is_open}
 use Rattle.law_told.proofs.Holding.{group_same, group_other}
 use Rattle.law_timeouts.proofs.Firing.{made_timeout, other_timeout}

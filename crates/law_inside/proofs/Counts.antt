@@ -1,18 +1,18 @@
 -- Tasks that live, steps that are pending and sleeps that are named, by number and by place.
 use Rattle.std.proofs.Common.{◌≡◌, ℕ, zero, suc, ◌<◌, ◌≤◌, ◌+◌, ◌⊎◌, inl, inr, Bool, true, false, cond, not, ◌&&◌, ◌==◌, List, [], ◌∷◌, Option, Some, None}
-use Rattle.std.proofs.Common.{option_map, length, slice_get, refl, sym, ap, subst, ◌∙◌, arith}
+use Rattle.std.proofs.Common.{option_map, length, slice_get, refl, sym, ap, ◌∙◌, arith}
 use Rattle.std.specs.List.{count_by}
 use Rattle.std.specs.Option.{option_map_or}
-use Rattle.std.proofs.lemmas.Bool.{cases_eq, eq-eqb, eqb-true, false≢true}
+use Rattle.std.proofs.lemmas.Bool.{eq-eqb, eqb-true, false≢true}
 use Rattle.std.proofs.lemmas.List.Sums.{sum_by-cons}
-use Rattle.std.proofs.lemmas.Option.{none-some, slice_get_within}
+use Rattle.std.proofs.lemmas.Option.{none-some}
 use Rattle.model_value.specs.Action.{Action}
 use Rattle.model_value.specs.declared.action.Action.TheVariants.{Step}
 use Rattle.model_value.specs.Value.{Value}
-use Rattle.model_loop.specs.Entries.{entries, handles_where, timers_where}
+use Rattle.model_loop.specs.Entries.{entries}
 use Rattle.model_loop.specs.Futures.{is_pending, next_future}
 use Rattle.model_loop.specs.Owning.{OwnsFutures, is_plain, is_plain_at, is_plain_kind, owner_at, owner_of, own_future}
-use Rattle.model_loop.specs.Parts.{Future, FutureKind, Plain, OfTask, Many, Handle, Parts, Task, Timer}
+use Rattle.model_loop.specs.Parts.{Future, FutureKind, Plain, Handle, Parts, Task, Timer}
 use Rattle.model_loop.specs.Tasks.{future_of, lives, next_task}
 use Rattle.model_loop.specs.Totals.{pending_where}
 use Rattle.model_machine.specs.Sound.{IsUnbegun, NamesItsSleep, ends_sleep_of}

@@ -1,14 +1,14 @@
 -- Values name tasks that were made: what scripts hand on, and what they are given as a task is made.
-use Rattle.std.proofs.Common.{◌≡◌, ℕ, ◌<◌, ◌≤◌, ◌+◌, ◌⊎◌, inl, inr, Bool, true, false, not, ◌&&◌, List, [], ◌∷◌, ◌++◌, Option, Some, None, length}
-use Rattle.std.proofs.Common.{length-append, nat_lt, slice_get, slice_index_or, refl, sym, ap, subst, ◌∙◌, arith}
+use Rattle.std.proofs.Common.{◌≡◌, ℕ, ◌<◌, ◌≤◌, ◌+◌, ◌⊎◌, inl, inr, true, false, not, List, [], ◌∷◌, Option, Some, None, length}
+use Rattle.std.proofs.Common.{length-append, slice_index_or, refl, sym, ap, subst, ◌∙◌, arith}
 use Rattle.std.specs.List.{list_all}
-use Rattle.std.proofs.lemmas.Bool.{cases_eq, cases_lt, eq-eqb, ne_eqb, le-ltb, lt-ltb, false≢true}
+use Rattle.std.proofs.lemmas.Bool.{cases_eq, cases_lt, le-ltb, lt-ltb, false≢true}
 use Rattle.model_value.specs.Input.{Input}
 use Rattle.model_value.specs.declared.input.Input.TheVariants.{Send, Throw}
 use Rattle.model_value.specs.declared.outcome.Outcome.TheVariants.{Value as Returned, Failed, Cancelled}
 use Rattle.model_value.specs.declared.request.Request.TheVariants as request
 use Rattle.model_value.specs.Value.{Value, Values, no_values, value_then, Items, Task, Outcome, list_of, values}
-use Rattle.model_says.specs.Endings.{Asks, Exchange, saying_of}
+use Rattle.model_says.specs.Endings.{Asks, saying_of}
 use Rattle.model_says.specs.Says.{course, exchanges_along, step_limit}
 use Rattle.model_says.specs.Blocks.{open_blocks}
 use Rattle.model_says.specs.Tape.{Resumed, Tape}
@@ -18,18 +18,18 @@ use Rattle.model_loop.specs.Tasks.{lives, next_task}
 use Rattle.model_loop.specs.Ways.{is_running}
 use Rattle.model_machine.specs.Extra.{Extra}
 use Rattle.model_machine.specs.Outcomes.{input_of}
-use Rattle.model_machine.specs.Sound.{AreScriptsFutures, IsAsking, IsUnbegun, StandsRightly, all_made, blocks_of, exchanges_of, names_block, names_made}
+use Rattle.model_machine.specs.Sound.{AreScriptsFutures, IsAsking, IsUnbegun, StandsRightly, all_made, blocks_of, names_block, names_made}
 use Rattle.model_machine.specs.Sound.{sends_made, stands_at}
-use Rattle.model_machine.specs.State.{Standing, Asked, Sleeping, Leaving, Generator, State, generator, generator_of, with_coroutine}
+use Rattle.model_machine.specs.State.{Asked, Sleeping, Leaving, Generator, State, generator, generator_of, with_coroutine}
 use Rattle.model_machine.specs.Step.{says_of}
 use Rattle.model_machine.specs.Told.{told_in}
 use Rattle.model_loop.specs.Sound.{IsSound}
 use Rattle.law_blocks.specs.Given.{AllOf, IsIn, IsClosed, InInput, InTape, InSaying}
 use Rattle.law_blocks.proofs.Growing.{said_of_given}
-use Rattle.law_after.specs.After.{IsAfter, IsLoopAfter}
+use Rattle.law_after.specs.After.{IsLoopAfter}
 use Rattle.law_inside.specs.InStep.{IsLeft, SameTapes}
 use Rattle.law_inside.proofs.Counts.{and_first, and_second, and_both, lives_within, lives_before, unbegun_kept}
-use Rattle.law_inside.proofs.Keeping.{IsApart, asking_kept, standing_kept, exchanges_same, blocks_same, futures_kept}
+use Rattle.law_inside.proofs.Keeping.{IsApart, asking_kept, standing_kept}
 use Rattle.law_inside.proofs.Tapes.{added_same, added_last, added_past, past_none, blocks_before, exchanges_before}
 
 -- ---- numbers of tasks

@@ -1,16 +1,15 @@
 -- What a step of the loop keeps of the machine's state, what an answer does to it, and what a task stands at.
-use Rattle.std.proofs.Common.{◌≡◌, ℕ, ◌<◌, ◌≤◌, ◌⊎◌, inl, inr, Bool, true, false, not, ◌&&◌, ◌||◌, ◌==◌, List, [], ◌∷◌, ◌++◌, Option, Some, None, length}
-use Rattle.std.proofs.Common.{slice_get, slice_index_or, nat_lt, refl, sym, ap, subst, ◌∙◌, arith}
+use Rattle.std.proofs.Common.{◌≡◌, ℕ, ◌<◌, ◌⊎◌, inl, inr, Bool, true, false, not, ◌&&◌, List, [], ◌∷◌, ◌++◌, Option, Some, None, length}
+use Rattle.std.proofs.Common.{slice_get, slice_index_or, refl, sym, ap, subst, ◌∙◌, arith}
 use mathlib.Core.List.{nil≢cons}
-use Rattle.std.specs.List.{count_by, list_all, list_any}
-use Rattle.std.proofs.lemmas.Bool.{cases_eq, eq-eqb, ne_eqb, eqb-true, false≢true}
+use Rattle.std.specs.List.{list_all}
+use Rattle.std.proofs.lemmas.Bool.{cases_eq, eq-eqb, ne_eqb, false≢true}
 use Rattle.std.proofs.lemmas.List.Folds.{list_all-append}
-use Rattle.model_value.specs.Equality.{equal}
 use Rattle.model_value.specs.Input.{Input}
 use Rattle.model_value.specs.Request.{Request}
-use Rattle.model_value.specs.Value.{Value, Nothing, Group, Timeout}
+use Rattle.model_value.specs.Value.{Value}
 use Rattle.model_says.specs.Blocks.{open_with, open_blocks}
-use Rattle.model_says.specs.Endings.{Asks, Saying, saying_of, Exchange}
+use Rattle.model_says.specs.Endings.{Asks, saying_of, Exchange}
 use Rattle.model_says.specs.Says.{course, exchanges_along, step_limit}
 use Rattle.model_says.specs.Tape.{Resumed}
 use Rattle.model_tree.specs.Syntax.{Program}
@@ -18,16 +17,14 @@ use Rattle.model_loop.specs.Groups.{group_of}
 use Rattle.model_loop.specs.Owning.{is_plain}
 use Rattle.model_loop.specs.Sound.{IsSound}
 use Rattle.model_loop.specs.Tasks.{lives, next_task}
-use Rattle.model_loop.specs.Timeouts.{timeout_of}
-use Rattle.model_loop.specs.Totals.{pending_where}
 use Rattle.model_loop.specs.Ways.{is_running}
 use Rattle.model_machine.specs.Extra.{Extra}
-use Rattle.model_machine.specs.Sound.{AreBlocksOf, AreBlocksOpen, AreScriptsFutures, AreTasksMade, AreTasksSound, IsAsking, IsMainTold, IsStateSound, IsUnbegun}
-use Rattle.model_machine.specs.Sound.{NamesItsSleep, StandsRightly, blocks_of, exchanges_of, has_open, is_open, names_block, names_made, sends_made, stands_at}
-use Rattle.model_machine.specs.State.{Standing, Asked, Sleeping, Leaving, Generator, State, generator, generator_of, resumed, stands, with_generator}
+use Rattle.model_machine.specs.Sound.{AreBlocksOpen, AreScriptsFutures, AreTasksMade, IsAsking, IsMainTold, IsStateSound, IsUnbegun}
+use Rattle.model_machine.specs.Sound.{StandsRightly, blocks_of, exchanges_of, names_block, names_made, sends_made, stands_at}
+use Rattle.model_machine.specs.State.{Standing, Asked, Leaving, Generator, State, generator, generator_of, resumed, stands}
 use Rattle.model_machine.specs.Step.{says_of}
 use Rattle.model_machine.specs.Told.{told_in}
-use Rattle.law_after.specs.After.{is_step, IsAfter, IsLoopAfter}
+use Rattle.law_after.specs.After.{IsAfter, IsLoopAfter}
 use Rattle.law_inside.specs.InStep.{IsLeft, IsSoundBut, SameTapes}
 use Rattle.law_inside.proofs.Blocks.{AreOpenAt}
 use Rattle.law_inside.proofs.Counts.{and_first, and_second, and_both, not_true, not_false, lives_within, lives_before, unbegun_kept, sleep_kept, plain_of}

@@ -1,5 +1,5 @@
 -- A step of the loop that resumes nobody leaves a sound state.
-use Rattle.std.proofs.Common.{◌≡◌, ℕ, Bool, true, false, Option, None, refl, sym, ◌∙◌}
+use Rattle.std.proofs.Common.{◌≡◌, Bool, true, false, None, refl, sym, ◌∙◌}
 use Rattle.std.proofs.lemmas.Bool.{false≢true}
 use Rattle.model_loop.specs.Loop.{Loop}
 use Rattle.model_loop.specs.Tasks.{lives, next_task}

@@ -1,11 +1,8 @@
 -- What a task runs, after its tape or its standing changed.
-use Rattle.std.proofs.Common.{◌≡◌, ℕ, zero, suc, ◌<◌, ◌≤◌, Bool, true, false, ◌&&◌, List, [], ◌∷◌, ◌++◌, fold, length, length-append, length-set}
-use Rattle.std.proofs.Common.{slice_index_or, slice_set, refl, sym, ap, ◌∙◌, arith}
-use Rattle.std.specs.List.{list_all}
+use Rattle.std.proofs.Common.{◌≡◌, ℕ, zero, suc, ◌<◌, ◌≤◌, List, [], ◌∷◌, ◌++◌, fold, length, length-set}
+use Rattle.std.proofs.Common.{slice_index_or, refl, sym, ap, ◌∙◌, arith}
 use Rattle.std.proofs.lemmas.List.{get_or-set_same, get_or-set_other}
-use Rattle.std.proofs.lemmas.List.Folds.{list_all-append}
 use Rattle.std.proofs.lemmas.List.Sums.{fold-append}
-use Rattle.model_value.specs.Input.{Input}
 use Rattle.model_value.specs.Request.{Request}
 use Rattle.model_value.specs.Value.{Value}
 use Rattle.model_tree.specs.Syntax.{Program}
@@ -13,10 +10,7 @@ use Rattle.model_says.specs.Blocks.{open_with, open_after, open_blocks}
 use Rattle.model_says.specs.Endings.{Asks, Exchange, saying_of}
 use Rattle.model_says.specs.Says.{course, exchanges_along, step_limit}
 use Rattle.model_says.specs.Tape.{Resumed, Tape}
-use Rattle.model_machine.specs.Extra.{Extra}
-use Rattle.model_machine.specs.Sound.{blocks_of, exchanges_of}
-use Rattle.model_machine.specs.State.{Standing, Generator, State, generator, generator_of, resumed, stands, with_coroutine, with_generator}
-use Rattle.model_machine.specs.Step.{says_of}
+use Rattle.model_machine.specs.State.{Generator, State, generator, generator_of, with_coroutine, with_generator}
 use Rattle.law_blocks.proofs.Growing.{answered_more}
 
 -- ---- generators

@@ -2,9 +2,8 @@
 ghost use Rattle.std.specs.Prelude.{◌≡◌, ℕ, ◌++◌, ◌∷◌, [], List};
 ghost use Rattle.model_loop.specs.Parts.{Parts};
 ghost use Rattle.model_loop.specs.Cancel.{cancel};
-ghost use Rattle.model_loop.specs.Ledger.{Origin, Booked, request, request_where, request_each};
+ghost use Rattle.model_loop.specs.Ledger.{Origin, request, request_each};
 ghost use Rattle.model_loop.specs.Spent.{is_spent};
-ghost use Rattle.model_loop.specs.Tasks.{future_of, lives};
 ghost use Rattle.aio_task.specs.View.{View, parts};
 ghost use Rattle.aio_task.specs.Keeps.{Ties, Keeps, Kept, Becomes};
 ghost use Rattle.law_kept.specs.Requests.{each_more};

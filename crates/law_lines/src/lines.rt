@@ -4,7 +4,7 @@ ghost use Rattle.std.specs.List.{AllByRecursion, repeat};
 ghost use Rattle.model_tree.specs.Syntax.{Expr};
 ghost use Rattle.model_text.specs.Canonical.{expr_text};
 ghost use Rattle.model_text.specs.FirstPass.{form_behind_lines, line_behind};
-ghost use Rattle.model_text.specs.Forms.{Spelled, form_of};
+ghost use Rattle.model_text.specs.Forms.{form_of};
 ghost use Rattle.model_text.specs.Letters.{is_allowed};
 ghost use Rattle.model_text.specs.Places.{Role};
 ghost use Rattle.model_text.specs.SecondPass.{Line};

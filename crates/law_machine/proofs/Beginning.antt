@@ -1,5 +1,5 @@
 -- A run begins in a sound state.
-use Rattle.std.proofs.Common.{◌≡◌, ℕ, zero, suc, ◌<◌, Bool, true, false, List, [], ◌∷◌, Option, Some, None, slice_get, refl, arith}
+use Rattle.std.proofs.Common.{◌≡◌, ℕ, zero, suc, ◌<◌, true, false, List, Some, refl, arith}
 use Rattle.std.proofs.lemmas.Bool.{false≢true}
 use Rattle.std.proofs.lemmas.Option.{none-some}
 use Rattle.model_value.specs.declared.action.Action.TheVariants.{Step}
@@ -8,14 +8,13 @@ use Rattle.model_value.specs.Value.{Value}
 use Rattle.model_value.specs.declared.outcome.Outcome.TheVariants.{Value as Returned}
 use Rattle.model_value.specs.declared.request.Request.TheVariants as request
 use Rattle.model_tree.specs.Syntax.{Program}
-use Rattle.model_says.specs.Endings.{Asks}
-use Rattle.model_says.specs.Says.{course, step_limit}
+use Rattle.model_says.specs.Says.{course}
 use Rattle.model_wire.specs.Journal.{Entry}
 use Rattle.model_loop.specs.Tasks.{future_of, lives, next_task}
 use Rattle.model_loop.specs.Totals.{callbacks_of}
 use Rattle.model_loop.specs.Futures.{future_outcome}
 use Rattle.model_machine.specs.Extra.{Extra}
-use Rattle.model_machine.specs.Sound.{AreBlocksOf, AreBlocksOpen, AreScriptsFutures, AreTasksMade, AreTasksSound, IsAsking, IsMainTold, IsStateSound, IsUnbegun}
+use Rattle.model_machine.specs.Sound.{AreBlocksOf, AreTasksMade, IsAsking, IsMainTold, IsStateSound, IsUnbegun}
 use Rattle.model_machine.specs.Sound.{StandsRightly, blocks_of, exchanges_of, is_main_done, names_block, names_made, sends_made}
 use Rattle.model_machine.specs.State.{State, generator_of, start}
 use Rattle.law_sound.proofs.Beginning.{first_sound}

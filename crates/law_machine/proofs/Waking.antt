@@ -5,7 +5,7 @@ use Rattle.model_value.specs.Value.{Outcome}
 use Rattle.model_machine.specs.Extra as extra
 use Rattle.model_machine.specs.Extra.{Extra, ExtraAnswer, WakesFall, called, no_extra}
 use Rattle.model_machine.specs.Outcomes.{input_of}
-use Rattle.model_machine.specs.Replies.{RequestReply, ended, serves_as, serves_until, woken_within}
+use Rattle.model_machine.specs.Replies.{ended, serves_as, serves_until, woken_within}
 use Rattle.model_machine.specs.State.{State}
 
 module _ {S : Type 0} (added : Extra S) (falls : WakesFall added) (task : ℕ) where

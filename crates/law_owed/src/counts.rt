@@ -1,6 +1,6 @@
 //! Laws of counts: what timeouts and groups will take back of them is there. Each function has no
 //! body: its clauses are the laws.
-ghost use Rattle.std.specs.Prelude.{◌≡◌, ℕ, ◌<◌, Bool, true, false, List, length, Option};
+ghost use Rattle.std.specs.Prelude.{◌≡◌, ℕ, ◌<◌, true, false, List, length, Option};
 ghost use Rattle.model_value.specs.Value.{Exc};
 ghost use Rattle.model_loop.specs.Cancel.{cancel};
 ghost use Rattle.model_loop.specs.Groups.{child_done, exit_begin, group_of};

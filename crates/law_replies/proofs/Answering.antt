@@ -1,37 +1,32 @@
 -- An answer leaves the step sound, and a wait the whole state, where nothing of the open blocks changed.
-use Rattle.std.proofs.Common.{◌≡◌, ℕ, ◌<◌, ◌≤◌, ◌⊎◌, inl, inr, Bool, true, false, not, ◌&&◌, List, [], ◌∷◌, ◌++◌, Option, Some, None, length, slice_get}
+use Rattle.std.proofs.Common.{◌≡◌, ℕ, ◌<◌, ◌⊎◌, inl, inr, Bool, true, false, not, List, [], Option, Some, None, length, slice_get}
 use Rattle.std.proofs.Common.{slice_index_or, is_none, refl, sym, ap, subst, ◌∙◌, arith}
 use Rattle.std.specs.Option.{option_map_or}
-use Rattle.std.proofs.lemmas.Bool.{cases_eq, eq-eqb, ne_eqb, false≢true}
+use Rattle.std.proofs.lemmas.Bool.{cases_eq, eq-eqb, false≢true}
 use Rattle.std.proofs.lemmas.Option.{none-some}
 use Rattle.model_value.specs.Input.{Input}
-use Rattle.model_value.specs.declared.input.Input.TheVariants.{Send, Throw}
 use Rattle.model_value.specs.declared.request.Request.TheVariants as request
 use Rattle.model_value.specs.Request.{Request}
-use Rattle.model_value.specs.Value.{Value, Nothing, Fut, Task, Exc}
+use Rattle.model_value.specs.Value.{Value, Fut, Task}
 use Rattle.model_says.specs.Blocks.{open_with}
 use Rattle.model_says.specs.Endings.{Asks}
 use Rattle.model_says.specs.Says.{step_limit}
-use Rattle.model_says.specs.Requests.{bad_argument}
-use Rattle.model_loop.specs.Futures.{future_outcome, outcome_at, is_pending, is_pending_at, next_future}
+use Rattle.model_loop.specs.Futures.{future_outcome, outcome_at, is_pending, is_pending_at}
 use Rattle.model_loop.specs.Groups.{group_of}
-use Rattle.model_loop.specs.Loop.{Loop}
 use Rattle.model_loop.specs.Parts.{Future}
 use Rattle.model_loop.specs.Tasks.{future_of, lives, next_task}
 use Rattle.model_loop.specs.Ways.{is_running}
 use Rattle.model_machine.specs.Arguments.{as_awaited}
 use Rattle.model_machine.specs.Extra.{Extra}
-use Rattle.model_machine.specs.Replies.{RequestReply, given}
-use Rattle.model_machine.specs.Sound.{AreScriptsFutures, IsAsking, IsStateSound, StandsRightly, blocks_of, names_block, names_made, sends_made, stands_at}
-use Rattle.model_machine.specs.State.{Standing, Asked, Sleeping, Leaving, Generator, State, generator, generator_of, resumed, stands}
+use Rattle.model_machine.specs.Sound.{AreScriptsFutures, IsStateSound, StandsRightly, blocks_of, names_block, names_made, sends_made, stands_at}
+use Rattle.model_machine.specs.State.{Standing, Asked, Leaving, Generator, State, generator, generator_of, resumed, stands}
 use Rattle.model_machine.specs.Step.{says_of}
-use Rattle.law_turns.specs.Replied.{RunsSound, RepliesSound, HasPlainFutures}
+use Rattle.law_turns.specs.Replied.{RunsSound, HasPlainFutures}
 use Rattle.law_turns.specs.SoundState.{HasSoundLoop}
 use Rattle.law_blocks.specs.Given.{InSaying}
 use Rattle.law_after.specs.After.{IsAfter, IsLoopAfter}
-use Rattle.law_after.proofs.Loops.{refl_loop}
-use Rattle.law_inside.specs.InStep.{IsLeft, IsSoundBut, IsStepSound, IsAsked, RepliesInStep, SameTapes}
-use Rattle.law_inside.proofs.Blocks.{AreOpenAt, open_kept}
+use Rattle.law_inside.specs.InStep.{IsLeft, IsStepSound, IsAsked, SameTapes}
+use Rattle.law_inside.proofs.Blocks.{open_kept}
 use Rattle.law_inside.proofs.Counts.{get_there, and_first, and_second, and_both, lives_within, own_there, lives_before, of_plain}
 use Rattle.law_inside.proofs.Given.{Made, said_made, made_task, asked_sleeps, asked_leaves}
 use Rattle.law_inside.proofs.Keeping.{IsApart, apart_of, open_of, with_open, joined, says_same, tapes_blocks, loop_keeps, stays_stood, leaves_none}

@@ -1,31 +1,30 @@
 -- Requests that make tasks, and those that enter blocks.
-use Rattle.std.proofs.Common.{◌≡◌, ℕ, ◌+◌, ◌<◌, ◌≤◌, ◌⊎◌, inl, inr, ℤ, Bool, true, false, not, ◌&&◌, List, [], ◌∷◌, ◌++◌, Option, Some, None, length}
-use Rattle.std.proofs.Common.{length-append, nat_lt, option_map, slice_index_or, cond, ◌==◌, refl, sym, ap, subst, ◌∙◌, arith}
+use Rattle.std.proofs.Common.{◌≡◌, ℕ, ◌+◌, ◌<◌, ◌≤◌, ◌⊎◌, inl, inr, ℤ, Bool, true, false, not, ◌&&◌, List, ◌∷◌, Option, Some, None, length}
+use Rattle.std.proofs.Common.{length-append, option_map, cond, ◌==◌, refl, sym, ap, subst, ◌∙◌, arith}
 use Rattle.std.specs.List.{list_all}
-use Rattle.std.proofs.lemmas.Bool.{cases_eq, cases_lt, eq-eqb, ne_eqb, false≢true}
+use Rattle.std.proofs.lemmas.Bool.{cases_eq, cases_lt, eq-eqb, false≢true}
 use Rattle.model_value.specs.Input.{Input}
 use Rattle.model_value.specs.declared.action.Action.TheVariants.{GroupDone, Step}
 use Rattle.model_value.specs.declared.input.Input.TheVariants.{Send, Throw}
 use Rattle.model_value.specs.declared.request.Request.TheVariants as request
 use Rattle.model_value.specs.Request.{Request}
-use Rattle.model_value.specs.Value.{Value, Nothing, Task, Group, Timeout}
+use Rattle.model_value.specs.Value.{Value, Task, Group, Timeout}
 use Rattle.model_says.specs.Blocks.{open_with}
 use Rattle.model_says.specs.Endings.{Asks}
 use Rattle.model_says.specs.Says.{step_limit}
-use Rattle.model_loop.specs.Groups.{Refusal, create, group_of, make_group, enter_group, new_group, next_group, refusal, refusal_fault, create_unless}
+use Rattle.model_loop.specs.Groups.{Refusal, create, group_of, new_group, refusal, refusal_fault, create_unless}
 use Rattle.model_loop.specs.Groups.{with_child}
-use Rattle.model_loop.specs.Futures.{next_future, register}
+use Rattle.model_loop.specs.Futures.{next_future}
 use Rattle.model_loop.specs.Handles.{deadline}
 use Rattle.model_loop.specs.Loop.{Group as GroupFields, Loop, in_parts}
 use Rattle.model_loop.specs.Parts.{Parts}
 use Rattle.model_loop.specs.Tasks.{lives, next_task, spawn}
 use Rattle.model_loop.specs.Timeouts.{enter_timeout, make_timeout, next_timeout}
 use Rattle.model_loop.specs.Totals.{pending_where}
-use Rattle.model_loop.specs.Ways.{is_running}
 use Rattle.model_machine.specs.Extra.{Extra}
-use Rattle.model_machine.specs.Replies.{RequestReply, creates, creates_unless, enters_group, enters_timeout, spawns}
-use Rattle.model_machine.specs.Sound.{AreScriptsFutures, IsUnbegun, StandsRightly, blocks_of, names_block, names_made, sends_made}
-use Rattle.model_machine.specs.State.{Standing, Asked, Leaving, Generator, State, generator, generator_of, in_loop, resumed, unbooked_in, with_coroutine}
+use Rattle.model_machine.specs.Replies.{creates, creates_unless, spawns}
+use Rattle.model_machine.specs.Sound.{IsUnbegun, blocks_of, names_block, names_made}
+use Rattle.model_machine.specs.State.{Asked, Generator, State, generator_of, in_loop, resumed, with_coroutine}
 use Rattle.model_machine.specs.Step.{says_of}
 use Rattle.model_machine.specs.Told.{told_in}
 use Rattle.law_sound.proofs.Steps.{tags_of_sound}
@@ -35,17 +34,17 @@ use Rattle.law_turns.specs.Replied.{RunsSound, RepliesSound}
 use Rattle.law_after.specs.After.{is_step, IsAfter, IsLoopAfter}
 use Rattle.law_after.proofs.Parts.{refl_after}
 use Rattle.law_after.proofs.Made.{register_after, spawn_after}
-use Rattle.law_after.proofs.Loops.{refl_loop, parts_loop, create_loop}
+use Rattle.law_after.proofs.Loops.{parts_loop, create_loop}
 use Rattle.law_after.proofs.Deadlines.{schedule_loop}
-use Rattle.law_inside.specs.InStep.{IsLeft, IsStepSound, IsAsked, RepliesInStep, SameTapes}
+use Rattle.law_inside.specs.InStep.{IsLeft, IsStepSound, IsAsked, RepliesInStep}
 use Rattle.law_replies.proofs.Answering.{half, alive, within, left_before}
-use Rattle.law_inside.proofs.Blocks.{AreOpenAt, open_kept, timeout_made_open, group_entered_open, entered_new, entered_is, entered_old, groups_longer}
-use Rattle.law_inside.proofs.Counts.{and_first, and_second, and_both, count_unbegun, lives_before, lives_within}
+use Rattle.law_inside.proofs.Blocks.{open_kept, timeout_made_open, group_entered_open, entered_new, entered_is, entered_old, groups_longer}
+use Rattle.law_inside.proofs.Counts.{and_first, count_unbegun, lives_before, lives_within}
 use Rattle.law_inside.proofs.Given.{asked_leaves, task_made, spawn_keeps, spawned_blocks, old_same}
 use Rattle.law_inside.proofs.Keeping.{IsApart, open_of, with_open, says_same, tapes_blocks, futures_kept, loop_keeps, standing_kept, resumed_blocks}
 use Rattle.law_inside.proofs.Keeping.{resumed_others, resumed_standing, resumed_begun, answer_keeps}
-use Rattle.law_replies.proofs.Table.{same_tapes, self, thrown}
-use Rattle.law_inside.proofs.Tapes.{push_past, past_default}
+use Rattle.law_replies.proofs.Table.{same_tapes, thrown}
+use Rattle.law_inside.proofs.Tapes.{past_default}
 
 -- ---- a new task's first step is pending
 spawned_step : (p : Parts) → 0 < pending_where (is_step (next_task p)) (spawn p).pending

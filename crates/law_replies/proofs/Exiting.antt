@@ -1,8 +1,8 @@
 -- Requests that leave blocks: the exit of a timeout, and that of a group, as it begins and as it goes on.
-use Rattle.std.proofs.Common.{◌≡◌, ℕ, ◌<◌, ◌≤◌, ◌⊎◌, inl, inr, Bool, true, false, not, ◌&&◌, ◌||◌, ◌==◌, List, [], ◌∷◌, ◌++◌, Option, Some, None, drop, length}
-use Rattle.std.proofs.Common.{refl, sym, ap, subst, ◌∙◌, arith}
+use Rattle.std.proofs.Common.{◌≡◌, ℕ, ◌<◌, ◌⊎◌, inl, inr, Bool, true, false, not, ◌&&◌, ◌||◌, List, [], ◌∷◌, Option, Some, None, drop, length}
+use Rattle.std.proofs.Common.{refl, sym, ap, subst, ◌∙◌}
 use Rattle.std.specs.List.{list_any}
-use Rattle.std.proofs.lemmas.Bool.{cases_eq, eq-eqb, ne_eqb, eqb-true, false≢true}
+use Rattle.std.proofs.lemmas.Bool.{cases_eq, eq-eqb, ne_eqb, false≢true}
 use Rattle.model_value.specs.Equality.{equal}
 use Rattle.model_value.specs.Input.{Input}
 use Rattle.model_value.specs.declared.input.Input.TheVariants.{Send, Throw}
@@ -19,24 +19,24 @@ use Rattle.model_loop.specs.Tasks.{lives, next_task}
 use Rattle.model_loop.specs.Timeouts.{exit_timeout, timeout_fault, timeout_of}
 use Rattle.model_loop.specs.Ways.{is_running}
 use Rattle.model_machine.specs.Extra.{Extra}
-use Rattle.model_machine.specs.Replies.{RequestReply, exits_as, exits_timeout, timed_out_if, waits}
-use Rattle.model_machine.specs.Sound.{AreBlocksOf, IsBlockOf, IsStateSound, StandsRightly, blocks_of, is_open, names_made, names_block, sends_made}
+use Rattle.model_machine.specs.Replies.{exits_as, exits_timeout, timed_out_if, waits}
+use Rattle.model_machine.specs.Sound.{AreBlocksOf, IsStateSound, StandsRightly, blocks_of, is_open, names_made, names_block, sends_made}
 use Rattle.model_machine.specs.State.{Standing, Asked, Sleeping, Leaving, State, generator_of, resumed, stands, with_loop}
 use Rattle.model_machine.specs.Step.{says_of}
 use Rattle.model_machine.specs.Told.{told_in}
 use Rattle.law_sound.proofs.Steps.{tags_of_sound}
 use Rattle.law_turns.specs.Replied.{RunsSound, RepliesSound}
-use Rattle.law_after.specs.After.{IsAfter, IsLoopAfter}
+use Rattle.law_after.specs.After.{IsLoopAfter}
 use Rattle.law_after.proofs.Deadlines.{leave_loop, leave_closes}
 use Rattle.law_after.proofs.Exits.{ExitLeaves}
 use Rattle.law_after.proofs.Loops.{loop_on, book_loop}
 use Rattle.law_after.proofs.Requests.{suspend_after}
 use Rattle.law_inside.specs.InStep.{IsLeft, IsStepSound, IsAsked, RepliesInStep}
-use Rattle.law_replies.proofs.Answering.{half, alive, within, left_before, rest_stood}
+use Rattle.law_replies.proofs.Answering.{half, within, left_before, rest_stood}
 use Rattle.law_inside.proofs.Blocks.{AreOpenAt, timeout_left_open, group_left_open}
 use Rattle.law_inside.proofs.Counts.{and_first, and_second, and_both, not_true, not_false, lives_before}
 use Rattle.law_inside.proofs.Given.{asked_leaves}
-use Rattle.law_inside.proofs.Keeping.{IsApart, open_of, with_open, says_same, tapes_blocks, futures_kept, loop_keeps, stays_stood, leaves_none, resumed_blocks}
+use Rattle.law_inside.proofs.Keeping.{open_of, with_open, says_same, tapes_blocks, futures_kept, loop_keeps, stays_stood, leaves_none, resumed_blocks}
 use Rattle.law_inside.proofs.Keeping.{resumed_others, resumed_standing, resumed_begun, answer_keeps, stood_standing}
 use Rattle.law_replies.proofs.Table.{same_tapes}
 

@@ -1,5 +1,5 @@
 -- A block that is left is the innermost on its task's tape, and a timeout or a group of the task.
-use Rattle.std.proofs.Common.{◌≡◌, ℕ, Bool, true, false, ◌&&◌, List, [], ◌∷◌, ◌++◌, Option, map, drop, fold, refl, sym, ap, subst, ◌∙◌}
+use Rattle.std.proofs.Common.{◌≡◌, ℕ, Bool, true, false, List, [], ◌∷◌, Option, map, drop, fold, refl, sym, ap, ◌∙◌}
 use Rattle.std.specs.List.{list_all}
 use Rattle.std.proofs.lemmas.Bool.{false≢true}
 use Rattle.model_value.specs.Input.{Input}
@@ -13,7 +13,7 @@ use Rattle.model_machine.specs.Extra.{Extra}
 use Rattle.model_machine.specs.Sound.{blocks_of, exchanges_of, names_block}
 use Rattle.model_machine.specs.State.{State, generator_of}
 use Rattle.model_machine.specs.Step.{says_of}
-use Rattle.law_blocks.specs.Opened.{EnteredBlock, OfTimeout, OfGroup, entered_as, opened, opened_with, opened_after}
+use Rattle.law_blocks.specs.Opened.{EnteredBlock, OfTimeout, OfGroup, entered_as, opened, opened_with}
 use Rattle.law_blocks.proofs.Growing.{leaves_innermost, same_blocks}
 use Rattle.law_inside.proofs.Counts.{and_first, and_second, and_both}
 

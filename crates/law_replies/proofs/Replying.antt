@@ -1,62 +1,48 @@
 -- Each request of a task in its step is fit, and what it comes to is sound; and so is the end of the task.
-use Rattle.std.proofs.Common.{◌≡◌, ℕ, ℤ, pos, ◌<◌, ◌≤◌, ◌⊎◌, inl, inr, Bool, true, false, not, ◌&&◌, List, [], ◌∷◌, Option, Some, None, Result, Ok, Err}
-use Rattle.std.proofs.Common.{is_some, length, map, slice_get, if◌then◌else◌, refl, sym, ap, subst, ◌∙◌, arith}
-use Rattle.std.specs.List.{list_any}
+use Rattle.std.proofs.Common.{◌≡◌, ℕ, ℤ, pos, ◌<◌, Bool, true, false, not, List, ◌∷◌, Option, Some, None}
+use Rattle.std.proofs.Common.{is_some, length, refl, sym, ap, subst, ◌∙◌}
 use Rattle.std.specs.Option.{option_map_or}
-use Rattle.std.proofs.lemmas.Bool.{cases_eq, cases_lt, eq-eqb, eqb-true, false≢true}
-use Rattle.std.proofs.lemmas.Option.{none-some}
-use Rattle.model_value.specs.Equality.{equal}
+use Rattle.std.proofs.lemmas.Bool.{eq-eqb, eqb-true, false≢true}
 use Rattle.model_value.specs.Input.{Input}
 use Rattle.model_value.specs.declared.input.Input.TheVariants.{Send, Throw}
 use Rattle.model_says.specs.Blocks.{open_with}
-use Rattle.model_value.specs.declared.outcome.Outcome.TheVariants.{Value as Returned, Failed, Cancelled}
+use Rattle.model_value.specs.declared.outcome.Outcome.TheVariants.{Value as Returned, Failed}
 use Rattle.model_value.specs.declared.request.Request.TheVariants as request
 use Rattle.model_value.specs.Request.{Request}
-use Rattle.model_value.specs.Value.{Value, Nothing, Truth, Int, Exc, Task, Group, Timeout, Outcome}
-use Rattle.model_says.specs.Endings.{Asks, Returns, Raises}
+use Rattle.model_value.specs.Value.{Value, Nothing, Truth, Int, Exc, Task, Group, Timeout}
+use Rattle.model_says.specs.Endings.{Asks}
 use Rattle.model_says.specs.Says.{step_limit}
 use Rattle.model_wire.specs.declared.event.Event.TheVariants as event
-use Rattle.model_loop.specs.Futures.{is_pending, is_pending_at, settle, settled, settled_as}
-use Rattle.model_loop.specs.Groups.{exit_begin, group_of, new_group, next_group}
-use Rattle.model_loop.specs.Loop.{TimeoutState, Created, Active, Expiring, Expired, Finished, Group as GroupFields, in_parts}
-use Rattle.model_loop.specs.Parts.{Future, Parts}
-use Rattle.model_loop.specs.Tasks.{cancelling, finish, future_of, is_cancelled, is_marked, lives, next_task, unmark}
+use Rattle.model_loop.specs.Groups.{exit_begin, group_of, next_group}
+use Rattle.model_loop.specs.Loop.{TimeoutState, Created, Active, Expiring, Expired, Finished}
+use Rattle.model_loop.specs.Tasks.{cancelling, next_task}
 use Rattle.model_loop.specs.Timeouts.{has_expired, is_active, next_timeout, reschedule, reschedule_fault, timeout_of}
-use Rattle.model_machine.specs.Arguments.{as_awaited, as_delay, as_failure, as_future, as_group, as_int, as_list, as_task, as_timeout}
+use Rattle.model_machine.specs.Arguments.{as_awaited, as_delay, as_failure, as_future, as_group, as_int, as_task, as_timeout}
 use Rattle.model_machine.specs.Extra.{Extra}
-use Rattle.model_machine.specs.Replies.{RequestReply, awaits, counted, creates, ended, enters_group, enters_timeout, exits_as, exits_group, exits_timeout}
+use Rattle.model_machine.specs.Replies.{awaits, counted, creates, ended, enters_group, enters_timeout, exits_as, exits_group, exits_timeout}
 use Rattle.model_machine.specs.Replies.{given, is_cancelled_as, makes_future, numbered, requests, reschedules, reschedules_if, result_of, settles, shown_all}
 use Rattle.model_machine.specs.Replies.{sleeps, spawns, undefined, reply}
-use Rattle.model_machine.specs.Sound.{IsStateSound, blocks_of, is_open, names_block, names_made}
-use Rattle.model_machine.specs.State.{Asked, Leaving, State, generator_of, in_loop, noted, resumed, unbooked_in, with_loop}
+use Rattle.model_machine.specs.Sound.{blocks_of, is_open, names_block, names_made}
+use Rattle.model_machine.specs.State.{Asked, State, noted, resumed, with_loop}
 use Rattle.model_machine.specs.Step.{says_of}
 use Rattle.model_machine.specs.Told.{told_in}
 use Rattle.law_blocks.specs.Given.{InSaying}
-use Rattle.law_blocks.proofs.Growing.{over_returned, over_raised, same_blocks}
-use Rattle.law_blocks.specs.Opened.{entered_as, opened}
 use Rattle.law_ledger.specs.Telling.{is_open as is_open_there}
-use Rattle.law_settling.proofs.Settling.{settle_effect}
-use Rattle.law_sound.proofs.Steps.{finish_step_sound, tags_of_sound}
-use Rattle.law_turns.specs.Fits.{HasNoOpenGroup}
+use Rattle.law_sound.proofs.Steps.{tags_of_sound}
 use Rattle.law_turns.specs.Replied.{RunsSound, RepliesSound, IsFit}
 use Rattle.law_turns.proofs.Replying.{reply_sound}
-use Rattle.law_after.specs.After.{IsAfter, IsLoopAfter}
 use Rattle.law_after.proofs.Deadlines.{reschedule_loop}
 use Rattle.law_after.proofs.Exits.{exit_begin_loop, exit_begin_leaves, exit_begin_marks}
-use Rattle.law_after.proofs.Loops.{parts_loop}
 use Rattle.law_replies.specs.Added.{KeepsSound}
-use Rattle.law_inside.specs.InStep.{IsLeft, IsStepSound, IsAsked, RepliesInStep, is_added}
-use Rattle.law_replies.proofs.Answering.{half, alive, within, awaited_there, left_before, plain_futures, step_to}
-use Rattle.law_inside.proofs.Blocks.{open_kept}
-use Rattle.law_inside.proofs.Counts.{and_both, not_false, lives_before, lives_within}
+use Rattle.law_inside.specs.InStep.{IsStepSound, IsAsked, RepliesInStep, is_added}
+use Rattle.law_replies.proofs.Answering.{half, alive, awaited_there, plain_futures, step_to}
+use Rattle.law_inside.proofs.Counts.{and_both, not_false, lives_within}
 use Rattle.law_replies.proofs.Entering.{spawns_in, creates_in, enters_timeout_in, enters_group_in}
 use Rattle.law_replies.proofs.Exiting.{timeout_there, timeout_open, exits_timeout_in, group_there, group_entered, group_its, group_unended, exits_in}
 use Rattle.law_inside.proofs.Given.{Made, asked_leaves, of_all, said_made, task_made}
 use Rattle.law_replies.proofs.Innermost.{innermost_timeout, innermost_group}
-use Rattle.law_inside.proofs.Keeping.{joined, open_of, with_open, tapes_blocks, futures_kept, loop_keeps, stays_stood, leaves_none}
 use Rattle.law_replies.proofs.Table.{same_tapes, self, thrown, given_in, numbered_in, answered, valued, pauses_in, awaits_in, sleeps_in, result_in, settles_in}
 use Rattle.law_replies.proofs.Table.{requests_in, uncancels_in, makes_future_in}
-use Rattle.law_inside.proofs.Tapes.{past_default}
 
 same_open : (state : TimeoutState) → is_open state ≡ true → is_open_there state ≡ true
 same_open Active h = refl

@@ -2,24 +2,20 @@
 use Rattle.std.proofs.Common.{◌≡◌, ℕ, zero, suc, ◌+◌, ◌<◌, ◌⊎◌, inl, inr, ℤ, pos, negsuc, Bool, true, false, cond, not, ◌&&◌, ◌==◌, List, [], ◌∷◌, ◌++◌, Option}
 use Rattle.std.proofs.Common.{Some, None, is_some, length, nat_lt, slice_get, refl, sym, ap, subst, ◌∙◌, le_refl, arith}
 use Rattle.std.specs.Option.{option_map_or}
-use Rattle.std.proofs.lemmas.Bool.{cases_eq, eq-eqb, ne_eqb, false≢true}
-use Rattle.std.proofs.lemmas.Option.{none-some}
+use Rattle.std.proofs.lemmas.Bool.{cases_eq, eq-eqb}
 use Rattle.model_value.specs.Input.{Input}
 use Rattle.model_value.specs.declared.input.Input.TheVariants.{Send, Throw}
 use Rattle.model_value.specs.declared.action.Action.TheVariants.{SleepDone, Step}
-use Rattle.model_value.specs.declared.outcome.Outcome.TheVariants.{Value as Returned, Failed}
-use Rattle.model_value.specs.declared.request.Request.TheVariants as request
 use Rattle.model_value.specs.Request.{Request}
 use Rattle.model_value.specs.Value.{Value, Nothing, Truth, Int, Fut, Exc, Outcome}
 use Rattle.model_says.specs.Blocks.{open_with}
 use Rattle.model_says.specs.Operations.{out_of_range}
 use Rattle.model_says.specs.Requests.{bad_argument}
 use Rattle.model_loop.specs.Entries.{entries}
-use Rattle.model_loop.specs.Futures.{future_outcome, new_plain, next_future, settle}
-use Rattle.model_loop.specs.Handles.{deadline, later}
+use Rattle.model_loop.specs.Futures.{new_plain, next_future, settle}
+use Rattle.model_loop.specs.Handles.{deadline}
 use Rattle.model_loop.specs.Ledger.{ByScript, request, uncancel_by}
 use Rattle.model_loop.specs.Loop.{Loop, book, in_parts}
-use Rattle.model_loop.specs.Owning.{is_plain}
 use Rattle.model_loop.specs.Parts.{Future, Plain, Parts}
 use Rattle.model_loop.specs.Suspend.{suspend}
 use Rattle.model_loop.specs.Tasks.{cancelling, next_task, pause, uncancel}
@@ -27,20 +23,19 @@ use Rattle.model_machine.specs.Extra.{Extra}
 use Rattle.model_machine.specs.Outcomes.{input_of}
 use Rattle.model_machine.specs.Replies.{RequestReply, alarmed, awaits, awaits_as, counted, ended, given, makes_future, most_ids, not_set, numbered, numbered_if}
 use Rattle.model_machine.specs.Replies.{pauses, replied, requests, result_of, settles, settles_if, sleeps, waits, invalid_state}
-use Rattle.model_machine.specs.Sound.{AreScriptsFutures, IsStateSound, NamesItsSleep, StandsRightly, names_block, names_made, sends_made, stands_at}
+use Rattle.model_machine.specs.Sound.{AreScriptsFutures, NamesItsSleep, StandsRightly, names_block, names_made, sends_made, stands_at}
 use Rattle.model_machine.specs.State.{Standing, Asked, Sleeping, Leaving, State, generator_of, in_loop, resumed, stands, unbooked_in}
 use Rattle.law_cancel.proofs.Lookups.{get-push_last, get-push_other, get_within}
 use Rattle.law_timeouts.proofs.Entries.{entries-given, entries-later, of_tag}
 use Rattle.law_turns.specs.Replied.{RunsSound, RepliesSound}
-use Rattle.law_turns.specs.SoundState.{HasSoundLoop}
 use Rattle.law_after.specs.After.{IsAfter, IsLoopAfter, OutcomeIn}
 use Rattle.law_after.proofs.Parts.{after_on, soon_after, later_after, change_after, settle_after}
 use Rattle.law_after.proofs.Made.{make_after}
 use Rattle.law_after.proofs.Requests.{cancel_after, suspend_after}
 use Rattle.law_after.proofs.Loops.{refl_loop, loop_on, parts_loop, book_loop}
 use Rattle.law_inside.specs.InStep.{IsStepSound, IsAsked, RepliesInStep, SameTapes}
-use Rattle.law_replies.proofs.Answering.{half, left_before, within, plain_futures, step_to, rest_to, rest_stood}
-use Rattle.law_inside.proofs.Counts.{none_sleep, no_sleep_of, plain_of, sleep_kept}
+use Rattle.law_replies.proofs.Answering.{half, left_before, within, step_to, rest_to, rest_stood}
+use Rattle.law_inside.proofs.Counts.{none_sleep, no_sleep_of, sleep_kept}
 use Rattle.law_inside.proofs.Given.{ended_made, asked_leaves}
 use Rattle.law_inside.proofs.Keeping.{futures_kept, stood_standing}
 

@@ -1,12 +1,12 @@
 -- What is added to the loop's own requests keeps states sound: the premises under which a run does.
-use Rattle.std.specs.Prelude.{◌≡◌, ℕ, ℤ, true, false, List, None}
+use Rattle.std.specs.Prelude.{ℕ, ℤ, true, false, List}
 use Rattle.model_value.specs.Input.{Input}
 use Rattle.model_value.specs.Value.{Value}
 use Rattle.model_value.specs.declared.request.Request.TheVariants as request
 use Rattle.model_machine.specs.Extra.{Extra, called}
 use Rattle.model_machine.specs.Replies.{reply, woken}
 use Rattle.model_machine.specs.Sound.{IsStateSound}
-use Rattle.model_machine.specs.State.{Standing, Asked, Serving, State}
+use Rattle.model_machine.specs.State.{Asked, Serving, State}
 use Rattle.law_inside.specs.InStep.{IsAsked, IsStepSound, RepliesInStep}
 
 pub record KeepsSound {S : Type 0} (added : Extra S) : Type 0 where

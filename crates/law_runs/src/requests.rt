@@ -12,14 +12,14 @@ ghost use Rattle.model_loop.specs.Tasks.{begin_step, finish, lives, next_task};
 ghost use Rattle.model_loop.specs.Ways.{steps};
 ghost use Rattle.model_machine.specs.Extra.{Extra};
 ghost use Rattle.model_machine.specs.Outcomes.{woken_with};
-ghost use Rattle.model_machine.specs.Replies.{decides, reply};
+ghost use Rattle.model_machine.specs.Replies.{decides};
 ghost use Rattle.model_machine.specs.Sound.{IsStateSound, sends_made};
-ghost use Rattle.model_machine.specs.State.{Standing, Asked, Serving, State, generator_of, noted, stands, unbooked_in};
+ghost use Rattle.model_machine.specs.State.{Asked, Serving, State, generator_of, noted, stands, unbooked_in};
 ghost use Rattle.model_machine.specs.Step.{given_up, says_of, serve, step};
 ghost use Rattle.law_turns.specs.Fits.{HasNoOpenGroup};
-ghost use Rattle.law_turns.specs.Replied.{HasPlainFutures, IsFit, IsStanding};
+ghost use Rattle.law_turns.specs.Replied.{IsStanding};
 ghost use Rattle.law_replies.specs.Added.{KeepsSound};
-ghost use Rattle.law_inside.specs.InStep.{IsAsked, IsStepSound, LeavesStateSound, RepliesInStep, is_added};
+ghost use Rattle.law_inside.specs.InStep.{IsAsked, IsStepSound, LeavesStateSound, RepliesInStep};
 
 /// A step begins by a handle that steps its task, with an input that names tasks that were made.
 /// The task lives, and stands as the loop needs it; the coroutine asks what it asked before; and

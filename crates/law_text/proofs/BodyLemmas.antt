@@ -3,7 +3,7 @@ use Rattle.std.proofs.Common.{◌≡◌, ℕ, zero, suc, ◌≤◌, List, [], �
 use Rattle.std.proofs.lemmas.List.{length-append}
 use Rattle.model_value.specs.declared.kind.Kind.{Kind}
 use Rattle.model_tree.specs.Syntax as plain
-use Rattle.model_tree.specs.Syntax.{Name, Expr, Statement, Statements, no_statements, statement_then, Branch, no_branch, branch, Handlers, no_handlers}
+use Rattle.model_tree.specs.Syntax.{Name, Statement, Statements, statement_then, Branch, no_branch, branch, Handlers, no_handlers}
 use Rattle.model_tree.specs.Syntax.{handler_then}
 use Rattle.model_text.specs.Forms.{Profile, Def, Assign, Yield, YieldFrom, Print, Raise, Return, Pass, If, Else, While, Try, Except, Finally, WithGroup}
 use Rattle.model_text.specs.Forms.{WithTimeout, End}

@@ -9,7 +9,7 @@ use Rattle.model_value.specs.declared.kind.Kind.{Kind}
 use Rattle.model_value.specs.Kinds.{kinds, kind_name}
 use Rattle.model_tree.specs.declared.request_name.RequestName.{RequestName}
 use Rattle.model_tree.specs.Syntax as plain
-use Rattle.model_tree.specs.Syntax.{Name, Expr, Exprs, exprs, Target}
+use Rattle.model_tree.specs.Syntax.{Name, Expr, exprs, Target}
 use Rattle.model_tree.specs.Known.{requests, request_text, request_of, request_arity, spawn_text, create_text, listen_text, kind_of_name, is_taken}
 use Rattle.model_text.specs.declared.cause.Cause.{Cause}
 use Rattle.model_text.specs.Terms.{Term}

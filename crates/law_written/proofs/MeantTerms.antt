@@ -8,7 +8,7 @@ use Rattle.model_value.specs.Kinds.{kinds, kind_name}
 use Rattle.model_tree.specs.declared.function.Function.{Function}
 use Rattle.model_tree.specs.declared.function.Function.TheVariants as function
 use Rattle.model_tree.specs.Syntax as plain
-use Rattle.model_tree.specs.Syntax.{Name, Expr, Exprs, exprs, exprs_of}
+use Rattle.model_tree.specs.Syntax.{Name, Expr, exprs}
 use Rattle.model_tree.specs.Known.{functions, function_text, function_of, error_text, kind_of_name, is_made_by_error}
 use Rattle.model_text.specs.declared.cause.Cause.TheVariants as cause
 use Rattle.model_text.specs.Terms.{Term, Or, And, Not, Compare, Calculate, Negate, Index, Constantly, Variable, ListOf, Called, Terms, no_terms, term_then}

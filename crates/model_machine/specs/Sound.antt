@@ -1,6 +1,6 @@
 -- A sound state of the machine, between any two callbacks of a run: its loop is sound, and each task stands where its tape
 -- says that it does.
-use Rattle.std.specs.Prelude.{◌≡◌, ℕ, ◌<◌, Bool, true, false, not, ◌&&◌, ◌==◌, List, [], ◌∷◌, Option, Some, None, length, nat_lt, slice_get}
+use Rattle.std.specs.Prelude.{◌≡◌, ℕ, ◌<◌, Bool, true, false, not, ◌&&◌, ◌==◌, List, [], ◌∷◌, Some, None, length, nat_lt, slice_get}
 use Rattle.std.specs.List.{count_by, list_all, list_any}
 use Rattle.model_value.specs.declared.action.Action.TheVariants.{MainDone, SleepDone, Step}
 use Rattle.model_value.specs.declared.input.Input.TheVariants.{Send, Throw}
@@ -23,7 +23,7 @@ use Rattle.model_loop.specs.Tasks.{future_of, lives, next_task}
 use Rattle.model_loop.specs.Timeouts.{timeout_of}
 use Rattle.model_loop.specs.Totals.{callbacks_of, pending_where}
 use Rattle.model_machine.specs.Extra.{Extra}
-use Rattle.model_machine.specs.State.{Standing, Asked, Sleeping, Leaving, Serving, Generator, State, generator_of}
+use Rattle.model_machine.specs.State.{Standing, Asked, Sleeping, Leaving, Serving, State, generator_of}
 use Rattle.model_machine.specs.Step.{says_of}
 use Rattle.model_machine.specs.Told.{told_in}
 

@@ -2,7 +2,7 @@
 -- Source: the Python language reference, "Compound statements".
 use Rattle.std.specs.Prelude.{ℕ, zero, suc, pred, List, [], ◌∷◌, length, map, Option, Some, None}
 use Rattle.model_tree.specs.Syntax as plain
-use Rattle.model_tree.specs.Syntax.{Name, Expr, exprs, Statement, Statements, no_statements, statement_then, Branch, no_branch, branch, Handlers, no_handlers}
+use Rattle.model_tree.specs.Syntax.{exprs, Statement, Statements, no_statements, statement_then, Branch, no_branch, branch, Handlers, no_handlers}
 use Rattle.model_tree.specs.Syntax.{handler_then}
 use Rattle.model_text.specs.Forms.{Assign, Yield, YieldFrom, Print, Raise, Return, Pass, If, While, Try, Except, Finally, WithGroup, WithTimeout}
 use Rattle.model_text.specs.Places.{Role, Opens, Begins, Closes, Stands, role_of}

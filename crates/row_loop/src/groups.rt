@@ -1,5 +1,5 @@
 //! Task groups.
-ghost use Rattle.std.specs.Prelude.{◌≡◌, [], ◌∷◌, true, false, Some, None, codes};
+ghost use Rattle.std.specs.Prelude.{◌≡◌, [], ◌∷◌, true, Some, None, codes};
 ghost use Rattle.model_value.specs.declared.input.Input.TheVariants.{Send, Throw};
 ghost use Rattle.model_value.specs.Value.{Nothing};
 ghost use Rattle.model_loop.specs.Tasks.{cancelled_error};

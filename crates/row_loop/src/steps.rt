@@ -1,5 +1,5 @@
 //! The parts of a task's step.
-ghost use Rattle.std.specs.Prelude.{◌≡◌, [], ◌∷◌, true, false, Some, None, Ok, Err, codes};
+ghost use Rattle.std.specs.Prelude.{◌≡◌, [], ◌∷◌, true, Some, None, Ok, Err, codes};
 ghost use Rattle.model_value.specs.declared.input.Input.TheVariants.{Send, Throw};
 ghost use Rattle.model_value.specs.declared.kind.Kind.TheVariants.{CancelledError, RuntimeError};
 ghost use Rattle.model_value.specs.declared.outcome.Outcome.TheVariants.{Value as Returned, Failed, Cancelled};
@@ -9,7 +9,7 @@ ghost use Rattle.model_value.specs.Value.{Nothing, Truth, exception_of};
 ghost use Rattle.model_loop.specs.Handles.{due, revoke};
 ghost use Rattle.model_loop.specs.Tasks.{spawn, pause, begin_step, cancelled_error, finish, uncancel, cancelling};
 ghost use Rattle.model_loop.specs.Circles.{circle, circle_fault};
-ghost use Rattle.model_loop.specs.Ledger.{Asked, Raised, ByWait, unbooked};
+ghost use Rattle.model_loop.specs.Ledger.{Asked, ByWait, unbooked};
 ghost use Rattle.model_loop.specs.Suspend.{suspend};
 ghost use Rattle.law_settling.specs.Frames.{taken};
 ghost use Rattle.row_loop.specs.Made.{handle, value_error};

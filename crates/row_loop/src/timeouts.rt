@@ -3,7 +3,7 @@ ghost use Rattle.std.specs.Prelude.{◌≡◌, ◌++◌, [], ◌∷◌, true, fa
 ghost use Rattle.model_value.specs.declared.kind.Kind.TheVariants.{RuntimeError};
 ghost use Rattle.model_value.specs.declared.action.Action.TheVariants.{Wakeup};
 ghost use Rattle.model_value.specs.Value.{exception_of};
-ghost use Rattle.model_loop.specs.Loop.{Created, Active, Expiring, Expired, Finished, in_parts};
+ghost use Rattle.model_loop.specs.Loop.{Active, Expiring, Expired, Finished, in_parts};
 ghost use Rattle.model_loop.specs.Tasks.{cancelled_error};
 ghost use Rattle.model_loop.specs.Timeouts.{enter_timeout, reschedule, reschedule_fault, fire, exit_timeout, has_expired};
 ghost use Rattle.law_settling.specs.Frames.{taken};

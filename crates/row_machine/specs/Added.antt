@@ -16,7 +16,7 @@ use Rattle.model_wire.specs.Event.{Event}
 use Rattle.model_wire.specs.Journal.{Entry, Answered}
 use Rattle.model_loop.specs.Futures.{next_future}
 use Rattle.model_wire.specs.declared.event.End.TheVariants.{Returned}
-use Rattle.model_machine.specs.Extra.{CallsLater, Extra, ExtraAnswer, ExtraCall, ExtraSaid, MakesPlain, Answers, Raises, Settles, Waits}
+use Rattle.model_machine.specs.Extra.{CallsLater, Extra, ExtraAnswer, MakesPlain, Answers, Raises, Settles, Waits}
 use Rattle.model_machine.specs.Replies.{shown_all}
 use Rattle.model_machine.specs.Run.{Run, run_on}
 use Rattle.model_machine.specs.State.{start}

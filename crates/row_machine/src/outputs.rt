@@ -2,7 +2,7 @@
 #![tactic(auto, unfolding(model_text::specs::Tokens::tokens_of, model_text::specs::Pieces::piece_at, model_text::specs::Tokens::piece_tokens, model_text::specs::Levels::term_of, model_text::specs::Forms::form_of, model_text::specs::FirstPass::forms_from, model_text::specs::SecondPass::second_pass, model_text::specs::Bodies::statements_in, model_text::specs::Scripts::script_of, model_says::specs::Says::course, model_machine::specs::Replies::reply, model_machine::specs::Step::serve, model_machine::specs::Step::step, model_machine::specs::Turn::effect, model_machine::specs::Turn::run_below, model_machine::specs::Turn::turn, model_machine::specs::Run::run_on))]
 
 ghost use Rattle.std.specs.Prelude.{◌≡◌, [], ◌∷◌, ◌++◌, codes, true, false};
-ghost use Rattle.model_wire.specs.Trace.{end_text, line, lines_of_events};
+ghost use Rattle.model_wire.specs.Trace.{line, lines_of_events};
 ghost use Rattle.model_machine.specs.Program.{faulted, output_of};
 ghost use Rattle.model_machine.specs.Served.{is_served};
 ghost use Rattle.model_machine.specs.Words.{most_turns};

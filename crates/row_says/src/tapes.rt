@@ -1,6 +1,6 @@
 //! What coroutines say after tapes. Each function has no body: its clauses were worked out by hand.
 ghost use Rattle.std.specs.Prelude.{◌≡◌, [], ◌∷◌, Some, None, pos, true, false, codes};
-ghost use Rattle.model_value.specs.declared.kind.Kind.TheVariants.{ValueError, RuntimeError, RecursionError, TypeError, ZeroDivisionError};
+ghost use Rattle.model_value.specs.declared.kind.Kind.TheVariants.{ValueError, RuntimeError};
 ghost use Rattle.model_value.specs.declared.request.Request.TheVariants.{Print, Pause, Sleep, TimeoutEnter, TimeoutExit, GroupEnter, GroupExit};
 ghost use Rattle.model_value.specs.Value.{Nothing, Truth, Int, Text, Exception, Group, Timeout, Items, values, exception_of};
 ghost use Rattle.model_says.specs.Blocks.{open_blocks};

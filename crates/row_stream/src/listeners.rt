@@ -1,13 +1,11 @@
 //! Listeners, and what is watched.
 ghost use Rattle.std.specs.Prelude.{◌≡◌, [], ◌∷◌, true, false, Some, None, codes};
-ghost use Rattle.model_value.specs.declared.action.Action.TheVariants.{Made, StartRead, Lost, ReadableServer, Readable, HandlerDone};
-ghost use Rattle.model_value.specs.declared.outcome.Outcome.TheVariants.{Value as Returned};
-ghost use Rattle.model_value.specs.Value.{Nothing};
+ghost use Rattle.model_value.specs.declared.action.Action.TheVariants.{Made, StartRead, Lost, ReadableServer, HandlerDone};
 ghost use Rattle.model_wire.specs.declared.answer.Answer.TheVariants as answer;
 ghost use Rattle.model_wire.specs.declared.call.Call.TheVariants as call;
 ghost use Rattle.model_wire.specs.declared.watch.Watch.TheVariants as watch;
 ghost use Rattle.model_stream.specs.Connections.{accepted, connecting, start_read};
-ghost use Rattle.model_stream.specs.Doing.{MakeFuture, CallSoon, Settle};
+ghost use Rattle.model_stream.specs.Doing.{MakeFuture, CallSoon};
 ghost use Rattle.model_stream.specs.Streams.{act, starts, listen, connect, close_server, no_streams, OpenedServer, OpenedConn};
 ghost use Rattle.model_stream.specs.Watching.{watch_list};
 ghost use Rattle.row_stream.specs.Made.{reading, unsent, closing, dying, dead, receiver_of};

@@ -1,11 +1,11 @@
 //! Readers.
-ghost use Rattle.std.specs.Prelude.{◌≡◌, ◌++◌, [], ◌∷◌, true, false, Some, None, pos, negsuc, codes};
+ghost use Rattle.std.specs.Prelude.{◌≡◌, ◌++◌, [], true, pos, negsuc, codes};
 ghost use Rattle.std.specs.Fmt.{decimal};
 ghost use Rattle.model_value.specs.declared.kind.Kind.TheVariants.{ValueError, LimitOverrunError, IncompleteReadError, ConnectionResetError};
 ghost use Rattle.model_value.specs.Value.{exc, exception_of, no_excs};
 ghost use Rattle.model_stream.specs.declared.read_op.ReadOp.TheVariants.{UpTo, Exactly, Until, Line};
-ghost use Rattle.model_stream.specs.declared.read_op.Taken.TheVariants.{Bytes, Raises, Needs};
-ghost use Rattle.model_stream.specs.Reading.{feed, take_read, after_take, raises, needs, resume, fail};
+ghost use Rattle.model_stream.specs.declared.read_op.Taken.TheVariants.{Bytes, Raises};
+ghost use Rattle.model_stream.specs.Reading.{feed, take_read, after_take, raises, needs, resume};
 ghost use Rattle.row_stream.specs.Readers.{reader, ended, paused, failed};
 
 /// Lines about a limit of 4.

@@ -2,7 +2,7 @@
 ghost use Rattle.std.specs.Prelude.{◌≡◌, [], true, false, Some, None, pos, negsuc, codes};
 ghost use Rattle.model_stream.specs.declared.put.Put.TheVariants.{Offer, Kept, Empty, AfterEof, Dropped};
 ghost use Rattle.model_stream.specs.declared.put.Limited.TheVariants.{Set, BadLimits};
-ghost use Rattle.model_stream.specs.Sending.{new_writer, offer, put, put_answer, took, set_eof, set_ended, limits, limits_answer, marks_of};
+ghost use Rattle.model_stream.specs.Sending.{new_writer, put, put_answer, took, set_eof, set_ended, limits, limits_answer, marks_of};
 ghost use Rattle.row_stream.specs.Writers.{writer, child_writer};
 
 /// A high mark of 8 and a low one of 2.

@@ -2,12 +2,9 @@
 ghost use Rattle.std.specs.Prelude.{◌≡◌, ◌++◌, [], ◌∷◌, codes, None, true, false};
 ghost use Rattle.std.specs.Fmt.{decimal};
 ghost use Rattle.model_value.specs.declared.action.Action.TheVariants as action;
-ghost use Rattle.model_value.specs.declared.action.ChildItem.TheVariants as news;
 ghost use Rattle.model_wire.specs.declared.answer.Answer.TheVariants as answer;
 ghost use Rattle.model_wire.specs.declared.call.Call.TheVariants as call;
 ghost use Rattle.model_wire.specs.declared.event.Event.TheVariants as event;
-ghost use Rattle.model_wire.specs.declared.item.Item.TheVariants as item;
-ghost use Rattle.model_wire.specs.declared.item.Readiness.TheVariants as ready;
 ghost use Rattle.model_wire.specs.declared.watch.Watch.TheVariants as watch;
 ghost use Rattle.model_wire.specs.Call.{written_call, written};
 ghost use Rattle.model_wire.specs.Trace.{line_of, lines_of_events};

@@ -1,7 +1,7 @@
 //! The forms of lines.
 ghost use Rattle.std.specs.Prelude.{◌≡◌, Some, option_map, map};
 ghost use Rattle.std.specs.Rc.{rc_str_bytes};
-ghost use Rattle.model_text.specs.Forms.{alone, with_term, profile_form, def_form, yield_from, yield_form, assigned_form, name_form, print_form, return_form, except_form, with_form, form_behind, form_of, Assign, YieldFrom, Raise, Return, If, While, WithGroup};
+ghost use Rattle.model_text.specs.Forms.{alone, with_term, profile_form, def_form, yield_from, yield_form, name_form, print_form, return_form, except_form, with_form, form_behind, form_of, Assign, YieldFrom, Raise, Return, If, While, WithGroup};
 ghost use Rattle.model_text.specs.Places.{height_of_form};
 ghost use Rattle.script_term.specs.Lexeme.{plain_lexeme};
 ghost use Rattle.script_term.specs.Spelled.{plain_spelled, plain_goal};

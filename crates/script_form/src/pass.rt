@@ -1,5 +1,5 @@
 //! The first pass over a text.
-ghost use Rattle.std.specs.Prelude.{◌≡◌, List, ◌∷◌, Ok, Some, None, IfOk, IfErr, map, option_map, length};
+ghost use Rattle.std.specs.Prelude.{◌≡◌, List, ◌∷◌, Ok, Some, None, IfOk, IfErr, map, option_map};
 ghost use Rattle.model_text.specs.Forms.{Spelled as PlainSpelled};
 ghost use Rattle.model_text.specs.Places.{Role as PlainRole, role_of, cause_behind, is_profile};
 ghost use Rattle.model_text.specs.TextLines.{text_lines};

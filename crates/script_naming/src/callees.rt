@@ -2,7 +2,7 @@
 ghost use Rattle.std.specs.Prelude.{◌≡◌, IfOk, map, find, option_map};
 ghost use Rattle.std.specs.Str.{bytes_eq};
 ghost use Rattle.model_text.specs.SecondPass.{callee};
-ghost use Rattle.script_naming.specs.Parts.{plain_part, plain_parts};
+ghost use Rattle.script_naming.specs.Parts.{plain_parts};
 ghost use Rattle.script_naming.specs.Scope.{FindsFirst, with_arity};
 
 use crate::part::Part;

@@ -1,5 +1,5 @@
 //! What a `yield from` hands over to.
-ghost use Rattle.std.specs.Prelude.{◌≡◌, List, Ok, IfOk, IfErr, nat_eq, option_map};
+ghost use Rattle.std.specs.Prelude.{◌≡◌, Ok, IfOk, IfErr, nat_eq, option_map};
 ghost use Rattle.std.specs.Rc.{rc_str_bytes};
 ghost use Rattle.model_tree.specs.Syntax.{Exprs, exprs, Target as PlainTarget, Await, Call};
 ghost use Rattle.model_tree.specs.Known.{request_of};

@@ -16,12 +16,12 @@ use std::rc::RcStr;
 #[derive(Drop)]
 pub struct Term {
     known_height: u8,
-    case: Case,
+    node: TermNode,
 }
 
 #[cycle(term)]
 #[derive(Drop)]
-enum Case {
+enum TermNode {
     Or(Box<Term>, Box<Term>),
     And(Box<Term>, Box<Term>),
     Not(Box<Term>),
@@ -56,15 +56,15 @@ impl Model for Term {
     ghost use Rattle.script_term.specs.TermSize.{term_size};
     ghost use Rattle.script_term.specs.Term.{plain_term};
 
-    ghost view = { λ a. plain_term a.case };
+    ghost view = { λ a. plain_term a.node };
 
-    ghost invariant = { λ a. a.known_height ≡ min (height (plain_term a.case)) 255 };
+    ghost invariant = { λ a. a.known_height ≡ min (height (plain_term a.node)) 255 };
 
     ghost size = { term_size };
 
-    ghost use Rattle.script_term.specs.TermFalls.{case_falls};
+    ghost use Rattle.script_term.specs.TermFalls.{node_falls};
 
-    ghost size_decreases = { λ a h. case_falls a.case };
+    ghost size_decreases = { λ a h. node_falls a.node };
 }
 
 impl Model for TermList {
@@ -114,7 +114,7 @@ impl Term {
     {
         Term {
             known_height: above(left.height(), right.height()),
-            case: Case::Or(left, right),
+            node: TermNode::Or(left, right),
         }
     }
 
@@ -123,7 +123,7 @@ impl Term {
     {
         Term {
             known_height: above(left.height(), right.height()),
-            case: Case::And(left, right),
+            node: TermNode::And(left, right),
         }
     }
 
@@ -132,7 +132,7 @@ impl Term {
     {
         Term {
             known_height: above(operand.height(), 0),
-            case: Case::Not(operand),
+            node: TermNode::Not(operand),
         }
     }
 
@@ -141,7 +141,7 @@ impl Term {
     {
         Term {
             known_height: above(left.height(), right.height()),
-            case: Case::Compare(comparison, left, right),
+            node: TermNode::Compare(comparison, left, right),
         }
     }
 
@@ -150,7 +150,7 @@ impl Term {
     {
         Term {
             known_height: above(left.height(), right.height()),
-            case: Case::Calculate(operator, left, right),
+            node: TermNode::Calculate(operator, left, right),
         }
     }
 
@@ -159,7 +159,7 @@ impl Term {
     {
         Term {
             known_height: above(operand.height(), 0),
-            case: Case::Negate(operand),
+            node: TermNode::Negate(operand),
         }
     }
 
@@ -168,7 +168,7 @@ impl Term {
     {
         Term {
             known_height: above(sequence.height(), index.height()),
-            case: Case::Index(sequence, index),
+            node: TermNode::Index(sequence, index),
         }
     }
 
@@ -177,7 +177,7 @@ impl Term {
     {
         Term {
             known_height: 1,
-            case: Case::Constantly(constant),
+            node: TermNode::Constantly(constant),
         }
     }
 
@@ -186,7 +186,7 @@ impl Term {
     {
         Term {
             known_height: 1,
-            case: Case::Variable(name),
+            node: TermNode::Variable(name),
         }
     }
 
@@ -196,7 +196,7 @@ impl Term {
     {
         Term {
             known_height: above(items.height(), 0),
-            case: Case::List(items),
+            node: TermNode::List(items),
         }
     }
 
@@ -208,7 +208,7 @@ impl Term {
     {
         Term {
             known_height: above(before.height(), after.height()),
-            case: Case::Called(name, before, bare, after),
+            node: TermNode::Called(name, before, bare, after),
         }
     }
 
@@ -223,18 +223,26 @@ impl Term {
     pub fn case(&self) -> TermCase<'_>
         ensures { term_of_case result ≡ self.now }
     {
-        match &self.case {
-            Case::Or(left, right) => TermCase::Or(left, right),
-            Case::And(left, right) => TermCase::And(left, right),
-            Case::Not(operand) => TermCase::Not(operand),
-            Case::Compare(comparison, left, right) => TermCase::Compare(*comparison, left, right),
-            Case::Calculate(operator, left, right) => TermCase::Calculate(*operator, left, right),
-            Case::Negate(operand) => TermCase::Negate(operand),
-            Case::Index(sequence, index) => TermCase::Index(sequence, index),
-            Case::Constantly(constant) => TermCase::Constantly(constant),
-            Case::Variable(name) => TermCase::Variable(name),
-            Case::List(items) => TermCase::List(items),
-            Case::Called(name, before, bare, after) => TermCase::Called(name, before, bare, after),
+        match &self.node {
+            TermNode::Or(left, right) => TermCase::Or(left, right),
+            TermNode::And(left, right) => TermCase::And(left, right),
+            TermNode::Not(operand) => TermCase::Not(operand),
+            TermNode::Compare(comparison, left, right) => TermCase::Compare(
+                *comparison,
+                left,
+                right,
+            ),
+            TermNode::Calculate(operator, left, right) => TermCase::Calculate(
+                *operator, left, right,
+            ),
+            TermNode::Negate(operand) => TermCase::Negate(operand),
+            TermNode::Index(sequence, index) => TermCase::Index(sequence, index),
+            TermNode::Constantly(constant) => TermCase::Constantly(constant),
+            TermNode::Variable(name) => TermCase::Variable(name),
+            TermNode::List(items) => TermCase::List(items),
+            TermNode::Called(name, before, bare, after) => TermCase::Called(
+                name, before, bare, after,
+            ),
         }
     }
 }

@@ -1,5 +1,5 @@
 //! What is added: a request that is answered at once, and one that waits until the next turn.
-ghost use Rattle.std.specs.Prelude.{◌≡◌, ◌++◌, ◌∷◌, [], pos, None, IfOk, OnOk, length};
+ghost use Rattle.std.specs.Prelude.{◌≡◌, ◌++◌, ◌∷◌, [], None, IfOk, OnOk, length};
 ghost use Rattle.model_value.specs.declared.action.Action.TheVariants.{Extra as Acts};
 ghost use Rattle.model_loop.specs.Parts.{Plain};
 ghost use Rattle.model_machine.specs.Extra.{unknown_code};

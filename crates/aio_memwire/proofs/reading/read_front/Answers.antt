@@ -1,4 +1,4 @@
-use Rattle.std.proofs.Common.{◌++◌, arith, ap, ◌∙◌, sym, subst, List, ℕ, Option, length, length-append}
+use Rattle.std.proofs.Common.{◌++◌, arith, ap, ◌∙◌, sym, subst, List, ℕ, length, length-append}
 use Rattle.model_wire.specs.Told.{ShelfSeen}
 use Rattle.aio_memwire.specs.Reading.{Begins}
 use Rattle.aio_memwire.proofs.Files.{begins_more, begins_all, front_all, front_full}

@@ -1,5 +1,5 @@
-use Rattle.std.proofs.Common.{rules, ◌≡◌, ◌+◌, ◌*◌, ◌<◌, ap, sym, ◌∙◌, List, length, arith}
-use Rattle.model_tree.specs.Syntax.{Statement, Handler, statements, handlers}
+use Rattle.std.proofs.Common.{rules, ◌≡◌, ◌+◌, ◌*◌, ◌<◌, ap, sym, ◌∙◌, List, arith}
+use Rattle.model_tree.specs.Syntax.{Statement, statements}
 use Rattle.model_machine.specs.Served.{are_statements_served, is_statement_served}
 use Rattle.aio_program.specs.StatementSize.{handler_size, handler_list_size, statement_size, statement_list_size, statements_size}
 use Rattle.aio_served.proofs.Rows.{all, handler_falls, handlers_all, is_handler_served, none, statement_falls, statements_all}

@@ -1,4 +1,4 @@
-use Rattle.std.proofs.Common.{◌∙◌, ◌∷◌, ◌++◌, [], List, Some, ap, inl}
+use Rattle.std.proofs.Common.{◌∙◌, ◌∷◌, ◌++◌, [], Some, ap, inl}
 use Rattle.model_wire.specs.Call.{Call}
 use Rattle.aio_memwire.proofs.WireLemmas.{on_err_anyway, quiet_got}
 use Rattle.aio_memwire.proofs.journal_wire.JournalWireBuffersWire.ask.Goals as goal

@@ -2,7 +2,7 @@ use Rattle.std.proofs.Common.{◌≡◌, ℕ, ◌≤◌, List, [], ◌++◌, Opt
 use Rattle.std.proofs.Math.Seq.{take-length}
 use Rattle.std.proofs.lemmas.Result.{on_err_weaker}
 use Rattle.aio_wire.specs.Files.{Appends, with_piece}
-use Rattle.aio_wire.specs.Got.{FitsRead, ReadsAt, ReadLeavesShelf, got_of}
+use Rattle.aio_wire.specs.Got.{FitsRead, ReadsAt, ReadLeavesShelf}
 use Rattle.aio_wire.specs.Shelved.{Shelved, held, got_at, missed_by, seen_of, with_appended}
 use Rattle.aio_wire.specs.Took.{FitsWrite}
 use Rattle.aio_wire.specs.declared.sink.SinkTook.TheVariants.{Took}
