@@ -5,3 +5,4 @@ pub mod Outcomes
 pub mod Slots
 pub mod GivingUp
 pub mod Taken
+pub mod Delay

@@ -1,7 +1,7 @@
 //! What the arguments of requests name, where they are of the kind that is wanted.
 ghost use Rattle.std.specs.Prelude.{◌≡◌, IfOk, is_some};
 ghost use Rattle.model_machine.specs.Arguments.{as_task as task_of, as_timeout as timeout_of, as_group as group_of, as_int as int_of};
-ghost use Rattle.model_machine.specs.Arguments.{as_delay as delay_of, as_failure as failure_of, as_list};
+ghost use Rattle.model_machine.specs.Arguments.{as_failure as failure_of, as_list};
 ghost use Rattle.model_value.specs.Value.{Exception};
 ghost use Rattle.aio_task.specs.View.{parts};
 ghost use Rattle.aio_body.specs.Named.{future_in, awaited_in};
@@ -65,17 +65,6 @@ pub fn as_int(value: &Value) -> Option<i64>
 {
     match value.case() {
         ValueCase::Int(number) => Some(number),
-        _ => None,
-    }
-}
-
-/// An Int, or None.
-pub fn as_delay(value: &Value) -> Option<Option<i64>>
-    ensures { result ≡ delay_of value.now }
-{
-    match value.case() {
-        ValueCase::Int(number) => Some(Some(number)),
-        ValueCase::Nothing => Some(None),
         _ => None,
     }
 }

@@ -3,6 +3,7 @@ use Rattle.std.proofs.Common.{◌≡◌, ℕ, ℤ, ◌<◌, ◌≤◌, Bool, tru
 use Rattle.std.proofs.Math.Logic.{∥∥₁_elim}
 use Rattle.std.proofs.Props.{props}
 use Rattle.std.specs.Coded.{le_prop}
+use Rattle.std.specs.Option.{option_map}
 use Rattle.std.proofs.lemmas.Bool.{le-ltb, lt-ltb}
 use Rattle.std.proofs.lemmas.List.{get_or_past}
 use Rattle.model_value.specs.declared.action.Action.TheVariants.{Fires}
@@ -31,7 +32,9 @@ use Rattle.aio_timeout.specs.States.{has_timed_out, refusal}
 use Rattle.aio_timeout.proofs.Keeping.{timeouts_count}
 use Rattle.aio_timeout.proofs.Naming.{handlers_step_none}
 use Rattle.aio_extra.specs.Added.{Added}
+use Rattle.aio_body.specs.Delay.{number_of}
 use Rattle.aio_body.specs.declared.body.Body.{Body}
+use Rattle.aio_body.specs.declared.delay.Delay.{Delay}
 use Rattle.aio_body.specs.declared.reply.RequestReply.{RequestReply}
 use Rattle.aio_body.specs.declared.reply.RequestReply.TheVariants.{Answers, Raises}
 use Rattle.aio_body.specs.Asked.{IsAskingFor, IsGoing, IsInStep, MayAsk, Says, SomeGoes}
@@ -48,6 +51,17 @@ module _ {X : Type 0} {a : Added X} (task : ℕ) (c : Setting a) (body : Body X)
   left_so TimedOut true e = (refl, h)
   left_so Passes true e = absurd (cc)
   left_so TimedOut false e = absurd (cc)
+
+-- ---- what was read of a delay
+module _ (value : Value) (read : Option Delay) (e : option_map number_of read ≡ as_delay value) where
+  pub no_delay : read ≡ None → as_delay value ≡ None
+  no_delay none = sym e ∙ ap (option_map number_of) none
+
+  pub delay_is : (delay : Delay) → read ≡ Some delay → as_delay value ≡ Some (number_of delay)
+  delay_is delay some = sym e ∙ ap (option_map number_of) some
+
+  pub given_as : (delay : Delay) (it : Option ℤ) → read ≡ Some delay → it ≡ number_of delay → as_delay value ≡ Some it
+  given_as delay it some same = delay_is delay some ∙ ap Some (sym same)
 
 -- ---- what the table of requests makes of each
 module _ {S : Type 0} (added : Extra S) (task : ℕ) (s : State S) where

@@ -2,11 +2,10 @@
 use Rattle.std.proofs.Common.{◌≡◌, ℕ, ◌+◌, true, List, [], ◌∷◌, ◌++◌, flat_map, refl, sym, subst}
 use Rattle.std.specs.List.{AllByRecursion, AllZip}
 use Rattle.model_text.specs.Forms.{Profile, Def, Spelled}
-use Rattle.model_text.specs.Places.{OpenBlock, role_of}
+use Rattle.model_text.specs.Places.{OpenBlock, after, role_of}
 use Rattle.model_text.specs.FirstPass.{Numbered}
 use Rattle.model_text.specs.SecondPass.{Line, Part, ScriptParts, before_parts, parts_of}
 use Rattle.law_lines.specs.LineTexts.{spelled}
-use Rattle.law_nesting.proofs.Stack.{after}
 use Rattle.law_nesting.proofs.Nested.{is_inner, Nested}
 use Rattle.law_nesting.proofs.Parted.{in_coroutine}
 use Rattle.law_canonical.proofs.CoroutineLines.{part_lines}

@@ -2,13 +2,12 @@
 use Rattle.std.proofs.Common.{◌≡◌, ℕ, ◌+◌, Bool, true, false, List, [], ◌∷◌, Some, None, Ok, map, length, nat_eq, nat_le, sym, ap, ◌∙◌, subst}
 use Rattle.std.specs.List.{AllZip}
 use Rattle.model_text.specs.Forms.{Profile, Spelled}
-use Rattle.model_text.specs.Places.{Role, OpenBlock, role_of, open_blocks, may_stand, fits, height_of_form, most_height, is_profile, cause_behind}
+use Rattle.model_text.specs.Places.{Role, after, OpenBlock, role_of, open_blocks, may_stand, fits, height_of_form, most_height, is_profile, cause_behind}
 use Rattle.model_text.specs.FirstPass.{Numbered, placed, line_behind, ended, form_before, forms_from}
 use Rattle.model_text.specs.SecondPass.{Line}
 use Rattle.law_lines.specs.LineTexts.{spelled}
 use Rattle.law_lines.specs.WellWritten.{WellWritten}
 use Rattle.law_lines.proofs.FormReads.{line-inside}
-use Rattle.law_nesting.proofs.Stack.{after, open-behind}
 use Rattle.law_nesting.proofs.Passed.{Fits, fitting, stepped, forms-step, forms-end}
 use Rattle.law_nesting.proofs.Parted.{AllFit}
 use Rattle.law_canonical.specs.ProgramLines.{Indented}
@@ -48,7 +47,7 @@ replayed (line ∷ lines) [] number before f w = absurd w
 replayed (line ∷ lines) (form ∷ forms) number before f w =
     let role : Role = role_of (spelled line.line) in
     let behind : AllFit (open_blocks (role ∷ before)) forms =
-    subst (λ blocks. AllFit blocks forms) (ap (λ f. after (role_of f) (open_blocks before)) (sym w.0.same) ∙ sym (open-behind role before)) f.1 in
+    subst (λ blocks. AllFit blocks forms) (ap (λ f. after (role_of f) (open_blocks before)) (sym w.0.same)) f.1 in
     forms-step number before (line_bytes line) (map line_bytes lines)
     ∙ (ap (stepped number before (map line_bytes lines)) (line-again before form line w.0 f.0)
     ∙ ap (form_before number (spelled line.line)) (replayed lines forms (number + 1) (role ∷ before) behind w.1))

@@ -3,7 +3,7 @@ use Rattle.std.proofs.Common.{◌≡◌, ℕ, Bool, List, [], ◌∷◌, Ok, Err
 use Rattle.std.specs.List.{AllByRecursion, AllZip}
 use Rattle.model_tree.specs.Syntax.{Name}
 use Rattle.model_text.specs.Forms.{Profile, Def, Spelled}
-use Rattle.model_text.specs.Places.{OpenBlock, role_of, fits}
+use Rattle.model_text.specs.Places.{OpenBlock, after, role_of, fits}
 use Rattle.model_text.specs.FirstPass.{Numbered}
 use Rattle.model_text.specs.Naming.{Callee, Scope, Meant}
 use Rattle.model_text.specs.SecondPass.{Line, Part, variables_in, callee, line_meant, head_meant, Judged, judged_at, in_turn, lines_judged, named_part}
@@ -11,7 +11,6 @@ use Rattle.model_text.specs.SecondPass.{part_judged, parts_judged, main_judged, 
 use Rattle.law_lines.specs.LineTexts.{spelled}
 use Rattle.law_lines.specs.WellWritten.{WellWritten}
 use Rattle.law_written.proofs.MeantLines.{taken-back}
-use Rattle.law_nesting.proofs.Stack.{after}
 use Rattle.law_nesting.proofs.Nested.{is_inner, Nested}
 use Rattle.law_nesting.proofs.Passed.{Read}
 use Rattle.law_nesting.proofs.Parted.{forms_in, PartFits}

@@ -1,4 +1,3 @@
-pub mod Stack
 pub mod Nested
 pub mod Passed
 pub mod Parted

@@ -3,10 +3,9 @@ use Rattle.std.proofs.Common.{◌≡◌, ℕ, Bool, true, false, List, [], ◌�
 use Rattle.std.specs.List.{AllByRecursion}
 use Rattle.std.specs.Prelude.{not, ◌&&◌}
 use Rattle.model_text.specs.Forms.{Profile, Def, Return, Else, Except, Finally, End, Spelled}
-use Rattle.model_text.specs.Places.{DefBlock, Section, OpenBlock, role_of, fits, is_outside, Begins, Closes}
+use Rattle.model_text.specs.Places.{DefBlock, after, Section, OpenBlock, role_of, fits, is_outside, Begins, Closes}
 use Rattle.model_text.specs.FirstPass.{Numbered}
 use Rattle.model_text.specs.SecondPass.{Part, ScriptParts, before_parts, parts_of}
-use Rattle.law_nesting.proofs.Stack.{after}
 use Rattle.law_nesting.proofs.Nested.{is_inner, Nested}
 use Rattle.law_nesting.proofs.Passed.{Fits, Read, Accepted}
 

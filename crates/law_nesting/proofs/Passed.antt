@@ -9,12 +9,11 @@ use Rattle.model_text.specs.Faults.{TokenFault}
 use Rattle.model_text.specs.Tokens.{Token, tokens_of}
 use Rattle.model_text.specs.Words.{Lexeme, lexemes_of}
 use Rattle.model_text.specs.Forms.{Profile, Def, Spelled, form_of}
-use Rattle.model_text.specs.Places.{Role, OpenBlock, role_of, open_blocks, may_stand, fits, height_of_form, most_height, is_profile, cause_behind}
+use Rattle.model_text.specs.Places.{Role, after, OpenBlock, role_of, open_blocks, may_stand, fits, height_of_form, most_height, is_profile, cause_behind}
 use Rattle.model_text.specs.FirstPass.{Fault, fault_at, Numbered, placed, form_behind_lines, lexemes_behind, tokens_behind, line_behind, ended, form_before}
 use Rattle.model_text.specs.FirstPass.{forms_from}
 use Rattle.model_text.specs.SecondPass.{parts_of}
 use Rattle.model_text.specs.Scripts.{profile_in}
-use Rattle.law_nesting.proofs.Stack.{after, open-behind}
 
 -- A form fits the blocks that are open before it, behind some line.
 pub record Fits (blocks : List OpenBlock) (form : Spelled) : Type 0 where
@@ -152,7 +151,7 @@ accepted (line ∷ lines) number role roles forms e =
         subst (Accepted (open_blocks (role ∷ roles))) (sym p.2) (
           fits-behind role roles form (line-uncaused (role ∷ roles) line form f),
           read,
-          subst (λ blocks. Accepted blocks p.0) (open-behind (role_of form) (role ∷ roles)) (more form p.0 p.1),
+          more form p.0 p.1,
         )
 
 -- ---- the forms of a whole text

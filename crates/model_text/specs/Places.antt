@@ -1,6 +1,6 @@
--- Where a line may stand: the blocks that are open before it, found by going back through the lines before.
+-- Where a line may stand, by the blocks that are open before it: a stack, on which each line acts in its turn.
 -- Source: the Python language reference, "Compound statements", with `end` in place of indentation.
-use Rattle.std.specs.Prelude.{ℕ, suc, max, Bool, true, false, not, ◌&&◌, List, [], ◌∷◌, ◌++◌, ◌-◌, length, map, Option, Some, None, fold, nat_lt, nat_le}
+use Rattle.std.specs.Prelude.{ℕ, max, Bool, true, false, not, ◌&&◌, List, [], ◌∷◌, length, map, Option, Some, None, fold, nat_lt, nat_le}
 use Rattle.std.specs.Prelude.{nat_eq, if◌then◌else◌, option_to_list}
 use Rattle.std.specs.List.{list_any}
 use Rattle.model_text.specs.declared.cause.Cause.{Cause}
@@ -49,40 +49,24 @@ role_of Finally = Begins FinallySection
 role_of End = Closes
 role_of _ = Stands
 
--- an open block, and its sections that have begun behind its head, the latest first
+-- an open block, and its sections that have begun, the latest first
 pub record OpenBlock : Type 0 where
   pub block : Block
   pub sections : List Section
 
--- a line goes before blocks that are open: how the blocks before it are counted
-pub record Going : Type 0 where
-  -- how many blocks end behind and begin before
-  pub ended : ℕ
-  -- the sections that have begun in the innermost open block, the latest first
-  pub sections : List Section
+-- the blocks that are open after a line, by those before it, the innermost first
+abbrev pub after : Role → List OpenBlock → List OpenBlock
+after (Opens block) blocks = record { block = block; sections = [] } ∷ blocks
+after (Begins section) [] = []
+after (Begins section) (block ∷ others) = record { block = block.block; sections = section ∷ block.sections } ∷ others
+after Closes [] = []
+after Closes (block ∷ others) = others
+after Stands blocks = blocks
 
--- the block that opens at a line, if it isn't ended behind it
-abbrev pub opened : Role → Going → List OpenBlock
-opened (Opens block) going =
-    if nat_eq going.ended 0 then record { block = block; sections = going.sections } ∷ [] else []
-opened _ going = []
-
--- how it goes on before a line
-abbrev pub gone : Role → Going → Going
-gone (Opens block) going =
-    if nat_eq going.ended 0 then record { ended = 0; sections = [] } else record going { ended = going.ended - 1 }
-gone (Begins section) going =
-    if nat_eq going.ended 0 then record going { sections = going.sections ++ section ∷ [] } else going
-gone Closes going = record going { ended = suc going.ended }
-gone Stands going = going
-
-abbrev pub open_before : Going → List Role → List OpenBlock
-open_before going [] = []
-open_before going (role ∷ roles) = opened role going ++ open_before (gone role going) roles
-
--- The blocks that are open behind lines, the innermost first. The lines stand with the latest first.
+-- The blocks that are open after lines, the innermost first. The lines stand with the latest first.
 abbrev pub open_blocks : List Role → List OpenBlock
-open_blocks roles = open_before (record { ended = 0; sections = [] }) roles
+open_blocks [] = []
+open_blocks (role ∷ roles) = after role (open_blocks roles)
 
 -- ---- where a form may stand
 abbrev pub is_finally : List Section → Bool

@@ -1,13 +1,13 @@
 -- The code's last open block is the definition's innermost.
 use Rattle.std.proofs.Common.{◌≡◌, ℕ, ◌+◌, ◌-◌, ◌<◌, Bool, true, false, not, ◌||◌, ◌&&◌, List, [], ◌∷◌, ◌++◌, Option, Some, None, IsSome, option_to_list}
-use Rattle.std.proofs.Common.{length, map, reverse, take, drop, get_or, set, refl, sym, ap, ◌∙◌, arith, append-nil}
+use Rattle.std.proofs.Common.{length, map, reverse, take, get_or, set, refl, sym, ap, ◌∙◌, arith, append-nil}
 use Rattle.std.specs.List.{list_any, slice_get}
 use Rattle.std.proofs.lemmas.List.{take_more, take_all, reverse-append, map-append, length-take-le, set_at}
 use Rattle.std.proofs.lemmas.Option.{slice_get_within, slice_get-get_or}
 use Rattle.std.proofs.lemmas.Bool.{false≢true}
 use Rattle.std.proofs.lemmas.List.Folds.{list_any-append}
 use Rattle.model_text.specs.Places as plain
-use Rattle.model_text.specs.Places.{begins, closes, fits, is_finally, is_outside, may_stand, open_blocks}
+use Rattle.model_text.specs.Places.{after, begins, closes, fits, is_finally, is_outside, may_stand, open_blocks}
 use Rattle.model_text.specs.Forms.{Spelled, Profile, Def, Return, Else, Except, Finally, End}
 use Rattle.script_form.specs.declared.block.Section.{Section}
 use Rattle.script_form.specs.declared.form_place.FormPlace.{FormPlace}
@@ -15,7 +15,6 @@ use Rattle.script_form.specs.declared.form_place.FormPlace.TheVariants as standi
 use Rattle.script_form.specs.Placed.{standing_of}
 use Rattle.script_form.specs.declared.block.OpenBlock.{OpenBlock}
 use Rattle.script_form.specs.Blocks.{plain_block, plain_section, kept, plain_open, latest_of, is_in_finally}
-use Rattle.script_form.proofs.BlockLemmas.{begun, open_blocks-begins, open_blocks-closes}
 
 -- a list is what stands before its last element, and that one
 pub last_split : {X : Type 0} (xs : List X) (n : ℕ) (last : X) → n + 1 ≡ length xs → last ≡ get_or xs n last → xs ≡ take n xs ++ last ∷ []
@@ -61,34 +60,34 @@ section_begins front last section roles e =
     let i = innermost_of front last (open_blocks roles) e in
     kept-last front (record { block = last.block; latest = Some section })
     ∙ (λ k. record { block = (i.same k).block; latest = Some (plain_section section) } ∷ i.rest k)
-    ∙ sym (ap (map kept) (open_blocks-begins (plain_section section) roles ∙ ap (begun (plain_section section ∷ [])) i.split))
+    ∙ sym (ap (λ blocks. map kept (after (plain.Begins (plain_section section)) blocks)) i.split)
 
 -- It begins nowhere where no block is open.
 pub no_section_begins : (blocks : List OpenBlock) (section : plain.Section) (roles : List plain.Role) → length blocks ≡ 0 → reverse (map plain_open blocks)
     ≡ map kept (open_blocks roles) → reverse (map plain_open blocks) ≡ map kept (open_blocks (plain.Begins section ∷ roles))
 no_section_begins (block ∷ blocks) section roles none e = absurd (omega arith)
 no_section_begins [] section roles none e =
-    nothing (open_blocks roles) e ∙ sym (ap (map kept) (open_blocks-begins section roles))
+    nothing (open_blocks roles) e
   where
-    nothing : (blocks : List plain.OpenBlock) → [] ≡ map kept blocks → [] ≡ map kept (begun (section ∷ []) blocks)
+    nothing : (blocks : List plain.OpenBlock) → [] ≡ map kept blocks → [] ≡ map kept (after (plain.Begins section) blocks)
     nothing [] e = refl
     nothing (block ∷ blocks) e = cc
 
 -- The innermost block closes.
-pub block_closes : (before after : List OpenBlock) (popped : Option OpenBlock) (roles : List plain.Role) → before ≡ after ++ option_to_list popped
-    → (0 < length before → IsSome popped) → reverse (map plain_open before) ≡ map kept (open_blocks roles) → reverse (map plain_open after)
+pub block_closes : (before rest : List OpenBlock) (popped : Option OpenBlock) (roles : List plain.Role) → before ≡ rest ++ option_to_list popped
+    → (0 < length before → IsSome popped) → reverse (map plain_open before) ≡ map kept (open_blocks roles) → reverse (map plain_open rest)
     ≡ map kept (open_blocks (plain.Closes ∷ roles))
-block_closes before after (Some last) roles split some e =
-    let i = innermost_of after last (open_blocks roles) (sym (ap (λ blocks. reverse (map plain_open blocks)) split) ∙ e) in
-    i.rest ∙ sym (ap (map kept) (open_blocks-closes roles ∙ ap (drop 1) i.split))
-block_closes [] after None roles split some e =
-    ap (λ blocks. reverse (map plain_open blocks)) (sym (append-nil after) ∙ sym split)
-    ∙ nothing (open_blocks roles) e ∙ sym (ap (map kept) (open_blocks-closes roles))
+block_closes before rest (Some last) roles split some e =
+    let i = innermost_of rest last (open_blocks roles) (sym (ap (λ blocks. reverse (map plain_open blocks)) split) ∙ e) in
+    i.rest ∙ sym (ap (λ blocks. map kept (after plain.Closes blocks)) i.split)
+block_closes [] rest None roles split some e =
+    ap (λ blocks. reverse (map plain_open blocks)) (sym (append-nil rest) ∙ sym split)
+    ∙ nothing (open_blocks roles) e
   where
-    nothing : (blocks : List plain.OpenBlock) → [] ≡ map kept blocks → [] ≡ map kept (drop 1 blocks)
+    nothing : (blocks : List plain.OpenBlock) → [] ≡ map kept blocks → [] ≡ map kept (after plain.Closes blocks)
     nothing [] e = refl
     nothing (block ∷ blocks) e = cc
-block_closes (block ∷ before) after None roles split some e = absurd (false≢true (some (omega arith)))
+block_closes (block ∷ before) rest None roles split some e = absurd (false≢true (some (omega arith)))
 
 -- Whether the innermost block takes a line.
 pub section_fits : (front : List OpenBlock) (last : OpenBlock) (answer : Bool) (section : plain.Section) (roles : List plain.Role)
