@@ -1,27 +1,27 @@
 -- What is registered, made and due: what it leaves.
-use Rattle.std.proofs.Common.{◌≡◌, ℕ, zero, suc, ◌+◌, ◌≤◌, ◌<◌, ◌⊎◌, inl, inr, Bool, true, false, cond, not, ◌&&◌, List, [], ◌∷◌, ◌++◌, Option, Some, None}
-use Rattle.std.proofs.Common.{length, slice_get, slice_set, nat_lt, refl, sym, ap, ◌∙◌, le_refl, length-append, length-set, arith}
+use Rattle.std.proofs.Common.{◌≡◌, ℕ, zero, suc, ◌+◌, ◌≤◌, ◌<◌, ◌⊎◌, inl, inr, Bool, true, false, cond, List, [], ◌∷◌, ◌++◌, Option, Some, None}
+use Rattle.std.proofs.Common.{length, slice_get, slice_set, refl, sym, ap, ◌∙◌, le_refl, length-append, length-set, arith}
 use Rattle.std.specs.List.{count_by}
 use Rattle.std.specs.Option.{option_map_or}
-use Rattle.std.proofs.lemmas.Bool.{cases_eq, cases_lt, le-leb, le-ltb, lt-leb, lt-ltb, false≢true}
-use Rattle.std.proofs.lemmas.List.Sums.{sum_by-cons, sum_by_push}
+use Rattle.std.proofs.lemmas.Bool.{cases_eq, cases_lt, false≢true}
+use Rattle.std.proofs.lemmas.List.Sums.{sum_by_push}
 use Rattle.std.proofs.lemmas.Option.{none-some, slice_get_past}
 use Rattle.model_value.specs.Action.{Action}
 use Rattle.model_value.specs.declared.action.Action.TheVariants.{MainDone, Step}
 use Rattle.model_value.specs.Value.{Value, Outcome}
-use Rattle.model_loop.specs.Entries.{AreTimed, handles_where, timers_where, untimed}
+use Rattle.model_loop.specs.Entries.{AreTimed, untimed}
 use Rattle.model_loop.specs.Futures.{outcome_at, is_pending, is_pending_at, make_future, mark_asked, asked_kind, next_future, register}
 use Rattle.model_loop.specs.Futures.{registered, registered_on, with_future}
-use Rattle.model_loop.specs.Handles.{by_deadline, due, fall_due, placed}
+use Rattle.model_loop.specs.Handles.{due}
 use Rattle.model_loop.specs.Owning.{is_plain, is_plain_at, is_plain_kind}
-use Rattle.model_loop.specs.Parts.{Future, FutureKind, Plain, OfTask, Many, Handle, Parts, Task, Timer}
+use Rattle.model_loop.specs.Parts.{Future, FutureKind, Plain, OfTask, Many, Parts, Task, Timer}
 use Rattle.model_loop.specs.Tasks.{future_of, lives, next_task, spawn}
 use Rattle.model_loop.specs.Totals.{callbacks_at}
 use Rattle.model_machine.specs.Sound.{IsMainTold, is_main_done}
 use Rattle.law_cancel.proofs.Effects.{asked_as}
 use Rattle.law_cancel.proofs.Lookups.{get-set_kept, get-push_last, get-push_other}
-use Rattle.law_numbers.proofs.Falling.{early, fall_due-futures, fall_due-next, fallen, late}
 use Rattle.law_settling.proofs.Settling.{count_fewer}
+use Rattle.law_timeouts.proofs.Due.{due-entries, due-futures, due-next, due-tasks, late_fewer}
 use Rattle.law_timeouts.proofs.Entries.{of_tag}
 use Rattle.law_after.specs.After.{is_step, IsAfter}
 use Rattle.law_after.proofs.Parts.{refl_after, after_on, same_after, soon_after}
@@ -202,104 +202,19 @@ spawn_after test excused p =
     (make_after test true excused p (OfTask (next_task p)))
 
 -- ---- timers fall due
-module _ (test : ℕ → Action → Bool) where
-  abbrev passing : Timer → ℕ
-  passing timer = cond (test timer.tag timer.action) 1 0
-
-  timers-cons : (timer : Timer) (timers : List Timer) → timers_where test (timer ∷ timers) ≡ passing timer + timers_where test timers
-  timers-cons timer timers = sum_by-cons (λ (t : Timer). cond (test t.tag t.action) 1 0) timer timers
-
-  placed-where : (timer : Timer) (timers : List Timer) → timers_where test (placed timer timers) ≡ passing timer + timers_where test timers
-  placed-where timer [] = timers-cons timer []
-  placed-where timer (other ∷ others) = go (nat_lt other.when timer.when) (placed-where timer others)
-    where
-      go : (b : Bool) → timers_where test (placed timer others) ≡ passing timer + timers_where test others
-          → timers_where test (cond b (other ∷ placed timer others) (timer ∷ other ∷ others)) ≡ passing timer + timers_where test (other ∷ others)
-      go true ih =
-          let a = timers-cons other (placed timer others) in
-          let b = timers-cons other others in
-          omega (arith, ih, a, b)
-      go false ih = timers-cons timer (other ∷ others)
-
-  by_deadline-where : (timers : List Timer) → timers_where test (by_deadline timers) ≡ timers_where test timers
-  by_deadline-where [] = refl
-  by_deadline-where (timer ∷ timers) =
-      let a = placed-where timer (by_deadline timers) in
-      let b = by_deadline-where timers in
-      let c = timers-cons timer timers in
-      omega (arith, a, b, c)
-
-  split-where : (time : ℕ) (timers : List Timer) → timers_where test (early time timers) + timers_where test (late time timers) ≡ timers_where test timers
-  split-where time [] = refl
-  split-where time (timer ∷ timers) = go (cases_lt time timer.when) (split-where time timers)
-    where
-      go : (time < timer.when) ⊎ (timer.when ≤ time)
-          → timers_where test (early time timers) + timers_where test (late time timers) ≡ timers_where test timers
-          → timers_where test (early time (timer ∷ timers)) + timers_where test (late time (timer ∷ timers)) ≡ timers_where test (timer ∷ timers)
-      go (inl h) ih =
-          let whole = timers-cons timer timers in
-          let part = timers-cons timer (late time timers) in
-          rw (lt-leb timer.when time h, lt-ltb time timer.when h) (omega (arith, ih, whole, part))
-      go (inr h) ih =
-          let whole = timers-cons timer timers in
-          let part = timers-cons timer (early time timers) in
-          rw (le-leb timer.when time h, le-ltb time timer.when h) (omega (arith, ih, whole, part))
-
-  fall_due-where : (timers : List Timer) (p : Parts)
-      → handles_where test (fall_due timers p).pending ≡ handles_where test p.pending + timers_where test timers
-  fall_due-where [] p = omega arith
-  fall_due-where (timer ∷ timers) p =
-      let ih = fall_due-where timers (fallen timer p) in
-      let a = sum_by_push (λ (h : Handle). cond (not h.dead && test h.tag h.action) 1 0) p.pending
-      (record { stamp = p.next_stamp; tag = timer.tag; action = timer.action; dead = false }) in
-      let c = timers-cons timer timers in
-      omega (arith, ih, a, c)
-
-fall_due-timers : (timers : List Timer) (p : Parts) → (fall_due timers p).timers ≡ p.timers
-fall_due-timers [] p = refl
-fall_due-timers (timer ∷ timers) p = fall_due-timers timers (fallen timer p)
-
-fall_due-tasks : (timers : List Timer) (p : Parts) → (fall_due timers p).tasks ≡ p.tasks
-fall_due-tasks [] p = refl
-fall_due-tasks (timer ∷ timers) p = fall_due-tasks timers (fallen timer p)
-
 main_untimed : (action : Action) → is_main_done action ≡ true → untimed 0 action ≡ true
 main_untimed MainDone h = refl
 main_untimed _ h = absurd (false≢true h)
-
-abbrev without_due : Parts → Parts
-without_due p = record p { timers = late p.time p.timers }
-
-abbrev fallen_due : Parts → List Timer
-fallen_due p = by_deadline (early p.time p.timers)
-
-due-futures : (p : Parts) → (due p).futures ≡ p.futures
-due-futures p = fall_due-futures (fallen_due p) (without_due p)
-
-due-tasks : (p : Parts) → (due p).tasks ≡ p.tasks
-due-tasks p = fall_due-tasks (fallen_due p) (without_due p)
-
-due-handles : (kind : ℕ → Action → Bool) (p : Parts)
-    → handles_where kind (due p).pending ≡ handles_where kind p.pending + timers_where kind (early p.time p.timers)
-due-handles kind p =
-    let a = fall_due-where kind (fallen_due p) (without_due p) in
-    let b = by_deadline-where kind (early p.time p.timers) in
-    omega (arith, a, b)
 
 pub due_after : (test : Value → Bool) (grown : Bool) (excused : Option ℕ) (p : Parts) → AreTimed p → IsAfter test grown excused p (due p)
 due_after test grown excused p timed =
     same_after test grown excused p (due p) (due-futures p) (ap length (due-tasks p))
     (λ task. ap (λ (l : List Task). option_map_or (λ (t : Task). t.future) (slice_get l task) (next_future (due p))) (due-tasks p)
     ∙ ap (λ (l : List Future). option_map_or (λ (t : Task). t.future) (slice_get p.tasks task) (length l)) (due-futures p))
-    (let a = fall_due-next (fallen_due p) (without_due p) in omega (arith, a))
-    (λ kind tag h.
-    let a = due-handles (of_tag tag kind) p in
-    let b = split-where (of_tag tag kind) p.time p.timers in
-    let c = ap (timers_where (of_tag tag kind)) (fall_due-timers (fallen_due p) (without_due p)) in
+    (let a = due-next p in omega (arith, a))
+    (λ kind tag h. let a = due-entries (of_tag tag kind) p in omega (arith, a))
+    (λ task h. let a = due-entries (λ tag. is_step task) p in let b = late_fewer (λ tag. is_step task) p in omega (arith, a, b))
+    (let a = due-entries (λ tag. is_main_done) p in
+    let b = count_fewer (λ (t : Timer). is_main_done t.action) (λ (t : Timer). untimed t.tag t.action) (λ t h. main_untimed t.action h) p.timers in
+    let c = timed.timers in
     omega (arith, a, b, c))
-    (λ task h. let a = due-handles (λ tag. is_step task) p in omega (arith, a))
-    (let a = due-handles (λ tag. is_main_done) p in
-    let b = split-where (λ tag. is_main_done) p.time p.timers in
-    let c = count_fewer (λ (t : Timer). is_main_done t.action) (λ (t : Timer). untimed t.tag t.action) (λ t h. main_untimed t.action h) p.timers in
-    let d = timed.timers in
-    omega (arith, a, b, c, d))

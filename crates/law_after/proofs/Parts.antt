@@ -9,7 +9,7 @@ use Rattle.model_value.specs.declared.outcome.Outcome.TheVariants.{Value as Retu
 use Rattle.model_value.specs.Value.{Value, Outcome}
 use Rattle.model_loop.specs.Entries.{entries}
 use Rattle.model_loop.specs.Futures.{outcome_at, is_pending, is_pending_at, next_future}
-use Rattle.model_loop.specs.Futures.{registered, settle, settled, settled_as, with_future}
+use Rattle.model_loop.specs.Futures.{settle, settled, settled_as, with_future}
 use Rattle.model_loop.specs.Handles.{later, revoke, soon, soon_all}
 use Rattle.model_loop.specs.Owning.{is_plain, is_plain_at}
 use Rattle.model_loop.specs.Parts.{Future, Handle, Parts, Task}

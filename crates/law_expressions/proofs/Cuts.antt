@@ -1,14 +1,17 @@
 -- Lexemes that are passed without a cut.
 use Rattle.std.proofs.Common.{◌≡◌, ℕ, suc, Bool, true, false, List, [], ◌∷◌, ◌++◌, Option, Some, None, refl, sym, ap, ◌∙◌, append_assoc, append-nil}
-use Rattle.std.specs.Prelude.{ℤ, option_and_then, option_map, if◌then◌else◌}
+use Rattle.std.proofs.lemmas.Bool.{false≢true}
+use Rattle.std.specs.Prelude.{option_and_then, option_map, if◌then◌else◌}
+use Rattle.model_tree.specs.declared.operator.Comparison.{Comparison}
 use Rattle.model_text.specs.declared.symbol.Symbol.{Symbol}
 use Rattle.model_text.specs.declared.symbol.Symbol.TheVariants as symbol
-use Rattle.model_text.specs.Words.{Lexeme, Reserved, Named, Number, Texts, Octets, Sign, is_sign}
-use Rattle.model_text.specs.Cutting.{Pieces, Cutter, pieces, pieces_from, with_front, ends_operand, depth_behind}
+use Rattle.model_text.specs.Words.{Lexeme, Reserved, Sign, is_sign}
+use Rattle.model_text.specs.Cutting.{Pieces, Cutter, pieces, pieces_from, with_front, ends_operand, depth_behind, is_value_word}
 use Rattle.model_text.specs.declared.reserved_word.ReservedWord.TheVariants as word
 use Rattle.model_text.specs.Terms.{Term}
 use Rattle.model_text.specs.Terms as term
 use Rattle.model_text.specs.Levels.{Parser, level, joined, at_word, at_comparison, at_sum, at_product, at_index, indexed, negated, product, sum_of}
+use Rattle.model_text.specs.Levels.{comparison_of, product_operator, sum_operator}
 use Rattle.model_text.specs.Levels.{comparison_level, compared, denied, is_not, conjunction, disjunction}
 use Rattle.law_expressions.specs.Lexemes.{within_parentheses}
 
@@ -96,90 +99,66 @@ level-cut cutter build operand left right x cut b l r p e q el er =
     ∙ (ap (λ found. option_and_then (λ first. joined build operand first ((cut, right) ∷ [])) found) el
     ∙ ap (λ found. option_and_then (λ second. joined build operand (build cut l second) []) found) er)
 
--- ---- a cutter that cuts at no operand's own lexemes
-pub record Tame {A : Type 0} (cutter : Cutter A) : Type 0 where
-  pub named : (b : Bool) (name : List ℕ) → cutter b (Named name) ≡ None
-  pub number : (b : Bool) (number : ℤ) → cutter b (Number number) ≡ None
-  pub texts : (b : Bool) (text : List ℕ) → cutter b (Texts text) ≡ None
-  pub octets : (b : Bool) (bytes : List ℕ) → cutter b (Octets bytes) ≡ None
-  pub none : (b : Bool) → cutter b (Reserved word.NoneValue) ≡ None
-  pub yes : (b : Bool) → cutter b (Reserved word.TrueValue) ≡ None
-  pub nay : (b : Bool) → cutter b (Reserved word.FalseValue) ≡ None
-  pub parenthesis : (b : Bool) → cutter b (Sign symbol.LeftParenthesis) ≡ None
-  pub bracket : (b : Bool) → cutter b (Sign symbol.LeftBracket) ≡ None
+-- ---- from a level to the loosest
+module _ (inside : Parser Term) (lexemes : List Lexeme) (t : Term) where
+  pub up-denied : Passes (at_word word.And) 0 false 0 true lexemes → Passes (at_word word.Or) 0 false 0 true lexemes → denied inside lexemes ≡ Some t
+      → disjunction inside lexemes ≡ Some t
+  up-denied a o e =
+      level-uncut (at_word word.Or) (λ reserved. term.Or) (conjunction inside) true lexemes t o
+      (level-uncut (at_word word.And) (λ reserved. term.And) (denied inside) true lexemes t a e)
+
+  pub up-comparison : (first : Lexeme) (others : List Lexeme) → lexemes ≡ first ∷ others → is_not inside first ≡ false → comparison_level inside lexemes
+      ≡ Some t → denied inside lexemes ≡ Some t
+  up-comparison first others split no_not e =
+      ap (denied inside) split
+      ∙ (ap (λ test. if test then option_map term.Not (denied inside others) else comparison_level inside (first ∷ others)) no_not
+      ∙ (ap (comparison_level inside) (sym split) ∙ e))
+
+  pub up-sum : Passes at_comparison 0 false 0 true lexemes → sum_of inside lexemes ≡ Some t → comparison_level inside lexemes ≡ Some t
+  up-sum p e =
+      ap (λ (c : Pieces Comparison). option_and_then (compared inside c.others) (sum_of inside c.first)) (whole-from at_comparison 0 false true lexemes p)
+      ∙ ap (option_and_then (compared inside [])) e
+
+  pub up-product : Passes at_sum 0 false 0 true lexemes → product inside lexemes ≡ Some t → sum_of inside lexemes ≡ Some t
+  up-product p e = level-uncut at_sum term.Calculate (product inside) true lexemes t p e
+
+-- ---- a cutter that cuts at no operand's own lexemes, wherever they stand
+abbrev pub is_operands_own : Lexeme → Bool
+is_operands_own (Reserved reserved) = is_value_word reserved
+is_operands_own (Sign symbol.LeftParenthesis) = true
+is_operands_own (Sign symbol.LeftBracket) = true
+is_operands_own (Sign _) = false
+is_operands_own _ = true
+
+abbrev pub Tame : {A : Type 0} → Cutter A → Type 0
+Tame cutter = (b : Bool) (x : Lexeme) → is_operands_own x ≡ true → cutter b x ≡ None
+
+-- a cutter of signs, by the two of them that open an operand
+pub sign-uncut : {A : Type 0} (cut : Symbol → Option A) → cut symbol.LeftParenthesis ≡ None → cut symbol.LeftBracket ≡ None → (sign : Symbol)
+    → is_operands_own (Sign sign) ≡ true → cut sign ≡ None
+sign-uncut cut parenthesis bracket symbol.LeftParenthesis own = parenthesis
+sign-uncut cut parenthesis bracket symbol.LeftBracket own = bracket
+sign-uncut cut parenthesis bracket _ own = absurd (false≢true own)
 
 pub tame_or : Tame (at_word word.Or)
-tame_or = record {
-  named = λ b name. refl;
-  number = λ b number. refl;
-  texts = λ b text. refl;
-  octets = λ b bytes. refl;
-  none = λ b. refl;
-  yes = λ b. refl;
-  nay = λ b. refl;
-  parenthesis = λ b. refl;
-  bracket = λ b. refl;
-}
+tame_or b (Reserved word.Or) own = absurd (false≢true own)
+tame_or b _ own = refl
 
 pub tame_and : Tame (at_word word.And)
-tame_and = record {
-  named = λ b name. refl;
-  number = λ b number. refl;
-  texts = λ b text. refl;
-  octets = λ b bytes. refl;
-  none = λ b. refl;
-  yes = λ b. refl;
-  nay = λ b. refl;
-  parenthesis = λ b. refl;
-  bracket = λ b. refl;
-}
+tame_and b (Reserved word.And) own = absurd (false≢true own)
+tame_and b _ own = refl
 
 pub tame_comparison : Tame at_comparison
-tame_comparison = record {
-  named = λ b name. refl;
-  number = λ b number. refl;
-  texts = λ b text. refl;
-  octets = λ b bytes. refl;
-  none = λ b. refl;
-  yes = λ b. refl;
-  nay = λ b. refl;
-  parenthesis = λ b. refl;
-  bracket = λ b. refl;
-}
+tame_comparison b (Sign sign) own = sign-uncut comparison_of refl refl sign own
+tame_comparison b _ own = refl
 
 pub tame_product : Tame at_product
-tame_product = record {
-  named = λ b name. refl;
-  number = λ b number. refl;
-  texts = λ b text. refl;
-  octets = λ b bytes. refl;
-  none = λ b. refl;
-  yes = λ b. refl;
-  nay = λ b. refl;
-  parenthesis = λ b. refl;
-  bracket = λ b. refl;
-}
-
-either : (P : Bool → Type 0) → P true → P false → (b : Bool) → P b
-either P t f true = t
-either P t f false = f
-
-at_sum_none : (x : Lexeme) → at_sum true x ≡ None → (b : Bool) → at_sum b x ≡ None
-at_sum_none x e true = e
-at_sum_none x e false = refl
+tame_product b (Sign sign) own = sign-uncut product_operator refl refl sign own
+tame_product b _ own = refl
 
 pub tame_sum : Tame at_sum
-tame_sum = record {
-  named = λ b name. at_sum_none (Named name) refl b;
-  number = λ b number. at_sum_none (Number number) refl b;
-  texts = λ b text. at_sum_none (Texts text) refl b;
-  octets = λ b bytes. at_sum_none (Octets bytes) refl b;
-  none = at_sum_none (Reserved word.NoneValue) refl;
-  yes = at_sum_none (Reserved word.TrueValue) refl;
-  nay = at_sum_none (Reserved word.FalseValue) refl;
-  parenthesis = at_sum_none (Sign symbol.LeftParenthesis) refl;
-  bracket = at_sum_none (Sign symbol.LeftBracket) refl;
-}
+tame_sum true (Sign sign) own = sign-uncut sum_operator refl refl sign own
+tame_sum _ _ own = refl
 
 -- pieces, and then a `[` with the pieces behind it
 abbrev pub item_behind : Pieces Symbol → Pieces Symbol → Pieces Symbol
@@ -211,18 +190,13 @@ module _ (inside : Parser Term) (lexemes : List Lexeme) (t : Term) (o : StandsAs
       level-uncut at_product term.Calculate (negated inside) true lexemes t (o.outer _ at_product tame_product false) as_negated
 
   pub as_sum : sum_of inside lexemes ≡ Some t
-  as_sum = level-uncut at_sum term.Calculate (product inside) true lexemes t (o.outer _ at_sum tame_sum false) as_product
+  as_sum = up-product inside lexemes t (o.outer _ at_sum tame_sum false) as_product
 
   pub as_comparison : comparison_level inside lexemes ≡ Some t
-  as_comparison =
-      ap (λ (c : Pieces _). option_and_then (compared inside c.others) (sum_of inside c.first))
-      (whole-from at_comparison 0 false true lexemes (o.outer _ at_comparison tame_comparison false)) ∙ ap (option_and_then (compared inside [])) as_sum
+  as_comparison = up-sum inside lexemes t (o.outer _ at_comparison tame_comparison false) as_sum
 
   pub as_denied : denied inside lexemes ≡ Some t
-  as_denied =
-      ap (denied inside) o.split
-      ∙ (ap (λ test. if test then option_map term.Not (denied inside o.others) else comparison_level inside (o.first ∷ o.others)) o.no_not
-      ∙ (ap (comparison_level inside) (sym o.split) ∙ as_comparison))
+  as_denied = up-comparison inside lexemes t o.first o.others o.split o.no_not as_comparison
 
   pub as_conjunction : conjunction inside lexemes ≡ Some t
   as_conjunction =

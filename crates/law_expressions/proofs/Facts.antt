@@ -1,5 +1,6 @@
 -- The facts of each expression, by its cases.
-use Rattle.std.proofs.Common.{◌≡◌, ℕ, suc, ◌≤◌, Bool, true, false, List, [], ◌∷◌, ◌++◌, length, map, Option, Some, None, refl, sym, ap, ◌∙◌, arith, append-nil}
+use Rattle.std.proofs.Common.{◌≡◌, ℕ, suc, ◌≤◌, Bool, true, false, List, [], ◌∷◌, ◌++◌, length, map, Option, Some, None, refl, sym, subst, ap}
+use Rattle.std.proofs.Common.{◌∙◌, arith, append-nil}
 use Rattle.std.proofs.lemmas.List.{length-append}
 use Rattle.std.specs.Prelude.{option_and_then, option_map}
 use Rattle.model_value.specs.Kinds.{kind_name}
@@ -15,7 +16,7 @@ use Rattle.model_tree.specs.Known.{function_text, error_text}
 use Rattle.model_text.specs.declared.symbol.Symbol.TheVariants as symbol
 use Rattle.model_text.specs.declared.reserved_word.ReservedWord.TheVariants as word
 use Rattle.model_text.specs.Words.{Lexeme, Reserved, Named, Number, Texts, Octets, Sign, is_sign}
-use Rattle.model_text.specs.Cutting.{Pieces, Cutter, pieces_from, with_front, parts}
+use Rattle.model_text.specs.Cutting.{Pieces, Cutter, depth_behind, ends_operand, parts, pieces_from}
 use Rattle.model_text.specs.Terms.{Term, terms, Terms, no_terms, term_then}
 use Rattle.model_text.specs.Terms as term
 use Rattle.model_text.specs.Levels.{Parser, is_not, Arguments, all_of, arguments_of, kind_place, called, items, primary, at_word, at_comparison, at_sum}
@@ -23,10 +24,10 @@ use Rattle.model_text.specs.Levels.{at_product, at_index, negated, term_within, 
 use Rattle.law_expressions.specs.Lexemes.{operator_symbol, comparison_symbol, constant_lexeme, within_parentheses, within_brackets, operand_lexemes}
 use Rattle.law_expressions.specs.Lexemes.{expr_lexemes, exprs_lexemes, more_lexemes, term_from, terms_from}
 use Rattle.law_expressions.proofs.Cuts.{nothing-passes, Passes, passes-append, inside-next, outside-next, Inside, inside-parentheses, outside-parentheses}
-use Rattle.law_expressions.proofs.Cuts.{in_front, whole-from, level-uncut, Tame, tame_or, tame_and, tame_comparison, tame_sum, tame_product, as_negated}
-use Rattle.law_expressions.proofs.Cuts.{as_denied}
+use Rattle.law_expressions.proofs.Cuts.{in_front, whole-from, level-uncut, is_operands_own, Tame, tame_or, tame_and, tame_comparison, tame_sum, tame_product}
+use Rattle.law_expressions.proofs.Cuts.{as_denied, as_negated, up-denied, up-comparison, up-sum, up-product}
 use Rattle.law_expressions.proofs.Shapes.{base-operand, inner-read, room, index-operand, before-last, primary-bracketed}
-use Rattle.law_expressions.proofs.Read.{at_comma, tame_comma, Shape, Facts, operation-facts, bare-facts, up-denied, up-comparison, up-sum, up-product, or-reads}
+use Rattle.law_expressions.proofs.Read.{at_comma, tame_comma, Shape, Facts, operation-facts, bare-facts, or-reads}
 use Rattle.law_expressions.proofs.Read.{and-reads, compare-reads, sum-reads, product-reads, binary-facts}
 
 -- ---- one operand
@@ -71,42 +72,37 @@ module _ (w o : List Lexeme) (t : Term) (f : Facts w o t) where
       (not-passes (at_word word.Or) tame_or refl)
       (ap (option_map term.Not) (as_denied (term_within n) o t (f.operands n (behind-first (Reserved word.Not) n h)))))
 
--- ---- one lexeme
-atom-facts : (x : Lexeme) (t : Term) → ((inside : Parser Term) → primary inside (x ∷ []) ≡ Some t) → Inside (x ∷ [])
-    → ((A : Type 0) (cutter : Cutter A) → Tame cutter → (b : Bool) → Passes cutter 0 b 0 true (x ∷ [])) → Passes at_index 0 false 0 true (x ∷ [])
-    → is_sign symbol.Minus x ≡ false → ((inside : Parser Term) → is_not inside x ≡ false) → Facts (x ∷ []) (x ∷ []) t
-atom-facts x t e inner outer p minus no_not =
-    bare-facts (x ∷ []) t (λ n h. base-operand (term_within n) x [] t (e (term_within n)) inner outer p minus (no_not (term_within n)))
-
--- a lexeme that a tame cutter passes, at the depth where it leaves it
-passed : {A : Type 0} (cutter : Cutter A) (b : Bool) (x : Lexeme) (rest : List Lexeme) → cutter b x ≡ None
-    → with_front (cutter b x) x (pieces_from cutter 0 true rest) ≡ with_front None x (pieces_from cutter 0 true rest)
-passed cutter b x rest e = ap (λ found. with_front found x (pieces_from cutter 0 true rest)) e
+-- ---- one lexeme, which changes no depth
+atom-facts : (x : Lexeme) (t : Term) → ((inside : Parser Term) → primary inside (x ∷ []) ≡ Some t) → ((d : ℕ) → depth_behind d x ≡ d)
+    → ends_operand x ≡ true → is_operands_own x ≡ true → is_sign symbol.Minus x ≡ false → ((inside : Parser Term) → is_not inside x ≡ false)
+    → Facts (x ∷ []) (x ∷ []) t
+atom-facts x t e deep ends own minus no_not =
+    bare-facts (x ∷ []) t (λ n h. base-operand (term_within n) x [] t (e (term_within n))
+    (λ A cutter d a. inside-next cutter d a x (suc d) true [] (behind cutter (suc d)))
+    (λ A cutter tame b. outside-next cutter b x 0 true [] (tame b x own) (behind cutter 0))
+    (outside-next at_index false x 0 true [] refl (behind at_index 0)) minus (no_not (term_within n)))
+  where
+    behind : {A : Type 0} (cutter : Cutter A) (d : ℕ) → Passes cutter (depth_behind d x) (ends_operand x) d true []
+    behind cutter d =
+        subst (λ k. Passes cutter k (ends_operand x) d true []) (sym (deep d))
+        (subst (λ b. Passes cutter d b d true []) (sym ends) (nothing-passes cutter d true))
 
 name-facts : (name : List ℕ) → Facts (Named name ∷ []) (Named name ∷ []) (term.Variable name)
-name-facts name =
-    atom-facts (Named name) (term.Variable name) (λ inside. refl) (λ A cutter d a rest. refl)
-    (λ A cutter tame b rest. passed cutter b (Named name) rest (tame.named b name)) (λ rest. refl) refl (λ inside. refl)
+name-facts name = atom-facts (Named name) (term.Variable name) (λ inside. refl) (λ d. refl) refl refl refl (λ inside. refl)
 
 constant-facts : (c : Constant) → Facts (constant_lexeme c ∷ []) (constant_lexeme c ∷ []) (term.Constantly c)
 constant-facts NoneConstant =
-    atom-facts (Reserved word.NoneValue) (term.Constantly NoneConstant) (λ inside. refl) (λ A cutter d a rest. refl)
-    (λ A cutter tame b rest. passed cutter b (Reserved word.NoneValue) rest (tame.none b)) (λ rest. refl) refl (λ inside. refl)
+    atom-facts (Reserved word.NoneValue) (term.Constantly NoneConstant) (λ inside. refl) (λ d. refl) refl refl refl (λ inside. refl)
 constant-facts (TruthConstant true) =
-    atom-facts (Reserved word.TrueValue) (term.Constantly (TruthConstant true)) (λ inside. refl) (λ A cutter d a rest. refl)
-    (λ A cutter tame b rest. passed cutter b (Reserved word.TrueValue) rest (tame.yes b)) (λ rest. refl) refl (λ inside. refl)
+    atom-facts (Reserved word.TrueValue) (term.Constantly (TruthConstant true)) (λ inside. refl) (λ d. refl) refl refl refl (λ inside. refl)
 constant-facts (TruthConstant false) =
-    atom-facts (Reserved word.FalseValue) (term.Constantly (TruthConstant false)) (λ inside. refl) (λ A cutter d a rest. refl)
-    (λ A cutter tame b rest. passed cutter b (Reserved word.FalseValue) rest (tame.nay b)) (λ rest. refl) refl (λ inside. refl)
+    atom-facts (Reserved word.FalseValue) (term.Constantly (TruthConstant false)) (λ inside. refl) (λ d. refl) refl refl refl (λ inside. refl)
 constant-facts (IntConstant number) =
-    atom-facts (Number number) (term.Constantly (IntConstant number)) (λ inside. refl) (λ A cutter d a rest. refl)
-    (λ A cutter tame b rest. passed cutter b (Number number) rest (tame.number b number)) (λ rest. refl) refl (λ inside. refl)
+    atom-facts (Number number) (term.Constantly (IntConstant number)) (λ inside. refl) (λ d. refl) refl refl refl (λ inside. refl)
 constant-facts (TextConstant text) =
-    atom-facts (Texts text) (term.Constantly (TextConstant text)) (λ inside. refl) (λ A cutter d a rest. refl)
-    (λ A cutter tame b rest. passed cutter b (Texts text) rest (tame.texts b text)) (λ rest. refl) refl (λ inside. refl)
+    atom-facts (Texts text) (term.Constantly (TextConstant text)) (λ inside. refl) (λ d. refl) refl refl refl (λ inside. refl)
 constant-facts (BytesConstant bytes) =
-    atom-facts (Octets bytes) (term.Constantly (BytesConstant bytes)) (λ inside. refl) (λ A cutter d a rest. refl)
-    (λ A cutter tame b rest. passed cutter b (Octets bytes) rest (tame.octets b bytes)) (λ rest. refl) refl (λ inside. refl)
+    atom-facts (Octets bytes) (term.Constantly (BytesConstant bytes)) (λ inside. refl) (λ d. refl) refl refl refl (λ inside. refl)
 
 -- ---- calls
 parts-of : (lexemes : List Lexeme) → Shape lexemes → parts lexemes ≡ lexemes ∷ []
@@ -123,8 +119,8 @@ call-facts name x t inner reads =
     (ap (option_and_then (called (term_within n) name)) (before-last symbol.RightParenthesis (Sign symbol.RightParenthesis) x refl)
     ∙ reads n (room (Sign symbol.LeftParenthesis) (Sign symbol.RightParenthesis) x n (omega arith)))
     (λ A cutter d a. inside-next cutter d a (Named name) (suc d) true (within_parentheses x) (inside-parentheses x inner A cutter d true))
-    (λ A cutter tame b. outside-next cutter b (Named name) 0 true (within_parentheses x) (tame.named b name)
-    (outside-parentheses cutter true (tame.parenthesis true) x inner))
+    (λ A cutter tame b. outside-next cutter b (Named name) 0 true (within_parentheses x) (tame b (Named name) refl)
+    (outside-parentheses cutter true (tame true (Sign symbol.LeftParenthesis) refl) x inner))
     (outside-next at_index false (Named name) 0 true (within_parentheses x) refl
     (outside-parentheses at_index true refl x inner)) refl refl)
 
@@ -292,7 +288,7 @@ module _ (row : Exprs) (r : ReadsRow row) where
       (λ A cutter d a. inside-next cutter d a (Sign symbol.LeftBracket) (suc d) true (exprs_lexemes row ++ Sign symbol.RightBracket ∷ [])
       (row-closed A cutter (suc d)))
       (λ A cutter tame b. outside-next cutter b (Sign symbol.LeftBracket) 0 true (exprs_lexemes row ++ Sign symbol.RightBracket ∷ [])
-      (tame.bracket b) (row-closed A cutter 0))
+      (tame b (Sign symbol.LeftBracket) refl) (row-closed A cutter 0))
       (outside-next at_index false (Sign symbol.LeftBracket) 0 true (exprs_lexemes row ++ Sign symbol.RightBracket ∷ []) refl
       (row-closed _ at_index 0)) refl refl)
 

@@ -4,35 +4,27 @@ use Rattle.std.proofs.lemmas.List.{length-append}
 use Rattle.std.specs.Prelude.{option_and_then, option_map, if◌then◌else◌}
 use Rattle.model_tree.specs.declared.operator.Operator.{Operator}
 use Rattle.model_tree.specs.declared.operator.Comparison.{Comparison}
+use Rattle.model_text.specs.declared.symbol.Symbol.{Symbol}
 use Rattle.model_text.specs.declared.symbol.Symbol.TheVariants as symbol
 use Rattle.model_text.specs.declared.reserved_word.ReservedWord.TheVariants as word
-use Rattle.model_text.specs.Words.{Lexeme, is_sign}
+use Rattle.model_text.specs.Words.{Lexeme, Sign, is_sign}
 use Rattle.model_text.specs.Cutting.{Pieces, Cutter, ends_operand, depth_behind}
 use Rattle.model_text.specs.Terms.{Term}
 use Rattle.model_text.specs.Terms as term
-use Rattle.model_text.specs.Levels.{Parser, at_word, at_comparison, at_sum, at_product, negated, product, sum_of, comparison_level, compared, denied, is_not}
+use Rattle.model_text.specs.Levels.{at_word, at_comparison, at_sum, at_product, negated, product, sum_of, comparison_level, compared, denied}
 use Rattle.model_text.specs.Levels.{conjunction, disjunction, term_within}
 use Rattle.law_expressions.specs.Lexemes.{within_parentheses}
-use Rattle.law_expressions.proofs.Cuts.{Passes, passes-append, inside-next, outside-next, Inside, whole-from, cut-once, level-uncut, level-cut, Tame}
+use Rattle.law_expressions.proofs.Cuts.{Passes, passes-append, inside-next, outside-next, Inside, cut-once, level-uncut, level-cut, Tame}
 use Rattle.law_expressions.proofs.Cuts.{StandsAsOperand, tame_or, tame_and, tame_comparison, tame_sum, tame_product, as_negated, as_product, as_sum, as_denied}
-use Rattle.law_expressions.proofs.Cuts.{as_conjunction, as_disjunction}
+use Rattle.law_expressions.proofs.Cuts.{as_conjunction, as_disjunction, sign-uncut, up-denied, up-comparison, up-sum, up-product}
 use Rattle.law_expressions.proofs.Shapes.{parentheses-operand}
 
 abbrev pub at_comma : Cutter Lexeme
 at_comma behind at = if is_sign symbol.Comma at then Some at else None
 
 pub tame_comma : Tame at_comma
-tame_comma = record {
-  named = λ b name. refl;
-  number = λ b number. refl;
-  texts = λ b text. refl;
-  octets = λ b bytes. refl;
-  none = λ b. refl;
-  yes = λ b. refl;
-  nay = λ b. refl;
-  parenthesis = λ b. refl;
-  bracket = λ b. refl;
-}
+tame_comma b (Sign sign) own = sign-uncut (λ (s : Symbol). at_comma b (Sign s)) refl refl sign own
+tame_comma b _ own = refl
 
 -- what is known of the lexemes of an expression, wherever they stand
 pub record Shape (lexemes : List Lexeme) : Type 1 where
@@ -63,29 +55,6 @@ bare-facts whole t operands =
       reads = λ n h. as_disjunction (term_within n) whole t (operands n h);
       operands = operands;
     }
-
--- ---- from a level to the loosest
-module _ (inside : Parser Term) (lexemes : List Lexeme) (t : Term) where
-  pub up-denied : Passes (at_word word.And) 0 false 0 true lexemes → Passes (at_word word.Or) 0 false 0 true lexemes → denied inside lexemes ≡ Some t
-      → disjunction inside lexemes ≡ Some t
-  up-denied a o e =
-      level-uncut (at_word word.Or) (λ reserved. term.Or) (conjunction inside) true lexemes t o
-      (level-uncut (at_word word.And) (λ reserved. term.And) (denied inside) true lexemes t a e)
-
-  pub up-comparison : (first : Lexeme) (others : List Lexeme) → lexemes ≡ first ∷ others → is_not inside first ≡ false → comparison_level inside lexemes
-      ≡ Some t → denied inside lexemes ≡ Some t
-  up-comparison first others split no_not e =
-      ap (denied inside) split
-      ∙ (ap (λ test. if test then option_map term.Not (denied inside others) else comparison_level inside (first ∷ others)) no_not
-      ∙ (ap (comparison_level inside) (sym split) ∙ e))
-
-  pub up-sum : Passes at_comparison 0 false 0 true lexemes → sum_of inside lexemes ≡ Some t → comparison_level inside lexemes ≡ Some t
-  up-sum p e =
-      ap (λ (c : Pieces Comparison). option_and_then (compared inside c.others) (sum_of inside c.first)) (whole-from at_comparison 0 false true lexemes p)
-      ∙ ap (option_and_then (compared inside [])) e
-
-  pub up-product : Passes at_sum 0 false 0 true lexemes → product inside lexemes ≡ Some t → sum_of inside lexemes ≡ Some t
-  up-product p e = level-uncut at_sum term.Calculate (product inside) true lexemes t p e
 
 -- ---- two operands, and between them a lexeme that changes no depth
 module _ (lw lo : List Lexeme) (l : Term) (fl : Facts lw lo l) (rw ro : List Lexeme) (r : Term) (fr : Facts rw ro r) (x : Lexeme)

@@ -77,7 +77,7 @@ pub parentheses-operand : (n : ℕ) (lexemes : List Lexeme) (t : Term) → ((m :
 parentheses-operand n lexemes t f inner h =
     base-operand (term_within n) (Sign symbol.LeftParenthesis) (lexemes ++ Sign symbol.RightParenthesis ∷ []) t
     (parentheses-read (term_within n) lexemes t (inner-read n lexemes t f (room (Sign symbol.LeftParenthesis) (Sign symbol.RightParenthesis) lexemes n h)))
-    (inside-parentheses lexemes inner) (λ A cutter tame b. outside-parentheses cutter b (tame.parenthesis b) lexemes inner)
+    (inside-parentheses lexemes inner) (λ A cutter tame b. outside-parentheses cutter b (tame b (Sign symbol.LeftParenthesis) refl) lexemes inner)
     (outside-parentheses at_index false refl lexemes inner) refl refl
 
 -- ---- `x[i]`
@@ -150,7 +150,7 @@ module _ (inside : Parser Term) (sequence index : List Lexeme) (s i : Term) (o :
     inner = λ A cutter d a. passes-append cutter (suc d) a (suc d) true (suc d) true sequence (within_brackets index) (o.inner A cutter d a)
         (inside-next cutter d true (Sign symbol.LeftBracket) (suc d) true (closed index) (closed-passes cutter (suc d) index p));
     outer = λ A cutter tame b. passes-append cutter 0 b 0 true 0 true sequence (within_brackets index) (o.outer A cutter tame b)
-        (outside-next cutter true (Sign symbol.LeftBracket) 0 true (closed index) (tame.bracket true) (closed-passes cutter 0 index p));
+        (outside-next cutter true (Sign symbol.LeftBracket) 0 true (closed index) (tame true (Sign symbol.LeftBracket) refl) (closed-passes cutter 0 index p));
     first = o.first;
     others = o.others ++ within_brackets index;
     split = ap (λ l. l ++ within_brackets index) o.split;

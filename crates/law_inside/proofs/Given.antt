@@ -205,10 +205,10 @@ module _ {S : Type 0} (added : Extra S) (task coroutine : ℕ) (arguments : List
     main_told = a.parts.main is.main_told;
     standing = λ other l f. standing other f (living other l);
     exits = λ id e f. left id e f;
-    entered = each (λ other g. list_all (λ exchange. names_block exchange.request exchange.answer)
+    blocks = each (λ other g. list_all (λ exchange. names_block exchange.request exchange.answer)
         (exchanges_along t.program g.coroutine g.arguments g.tape) ≡ true)
         (λ other h. ap (λ p. list_all (λ exchange. names_block exchange.request exchange.answer)
-        (exchanges_along p (generator_of other s).coroutine (generator_of other s).arguments (generator_of other s).tape)) tapes.program ∙ is.entered other)
+        (exchanges_along p (generator_of other s).coroutine (generator_of other s).arguments (generator_of other s).tape)) tapes.program ∙ is.blocks other)
         (ap (list_all (λ exchange. names_block exchange.request exchange.answer)) (exchanges_before t.program coroutine arguments))
         (λ other h. ap (list_all (λ exchange. names_block exchange.request exchange.answer)) (exchanges_before t.program 0 []));
     futures = record { plain = scripts.plain; once = scripts.once };

@@ -19,37 +19,28 @@ use Rattle.model_loop.specs.Sound.{IsSound}
 use Rattle.model_loop.specs.Tasks.{lives, next_task}
 use Rattle.model_loop.specs.Ways.{is_running}
 use Rattle.model_machine.specs.Extra.{Extra}
-use Rattle.model_machine.specs.Sound.{AreBlocksOpen, AreScriptsFutures, AreTasksMade, IsAsking, IsMainTold, IsStateSound, IsUnbegun}
+use Rattle.model_machine.specs.Sound.{AreBlocksOpen, AreScriptsFutures, IsAsking, IsStateSound, IsUnbegun}
 use Rattle.model_machine.specs.Sound.{StandsRightly, blocks_of, exchanges_of, names_block, names_made, sends_made, stands_at}
 use Rattle.model_machine.specs.State.{Standing, Asked, Leaving, Generator, State, generator, generator_of, resumed, stands}
 use Rattle.model_machine.specs.Step.{says_of}
 use Rattle.model_machine.specs.Told.{told_in}
 use Rattle.law_after.specs.After.{IsAfter, IsLoopAfter}
-use Rattle.law_inside.specs.InStep.{IsLeft, IsSoundBut, SameTapes}
+use Rattle.law_inside.specs.InStep.{IsLeft, IsSoundBut, IsSoundOver, SameTapes}
 use Rattle.law_inside.proofs.Blocks.{AreOpenAt}
 use Rattle.law_inside.proofs.Counts.{and_first, and_second, and_both, not_true, not_false, lives_within, lives_before, unbegun_kept, sleep_kept, plain_of}
 use Rattle.law_inside.proofs.Counts.{of_plain}
 use Rattle.law_inside.proofs.Tapes.{set_same, set_other, set_length, exchanges_grow, blocks_grow}
 
--- ---- all but which blocks are open
-pub record IsApart {S : Type 0} (running excused : Option ℕ) (added : Extra S) (s : State S) : Type 0 where
-  pub loop : IsSound running (told_in s.events) s.loop
-  pub generators : length s.generators ≡ next_task s.loop.parts
-  pub asking : (task : ℕ) → lives s.loop.parts task ≡ true → is_running excused task ≡ false → IsAsking added s task
-  pub unbegun : (task : ℕ) → lives s.loop.parts task ≡ true → is_running excused task ≡ false → (generator_of task s).tape ≡ []
-      → IsUnbegun s.loop.parts task
-  pub main_over : s.main_done ≡ true → lives s.loop.parts 0 ≡ false
-  pub main_told : IsMainTold s.loop.parts
-  pub standing : (task : ℕ) → lives s.loop.parts task ≡ true → is_running excused task ≡ false → StandsRightly s task
-  pub exits : (id : ℕ) → IsLeft s id → is_running excused (group_of s.loop id).parent ≡ false
-      → (generator_of (group_of s.loop id).parent s).standing ≡ Leaving id
-  pub entered : (task : ℕ) → list_all (λ exchange. names_block exchange.request exchange.answer) (exchanges_of s task) ≡ true
-  pub futures : AreScriptsFutures s
-  pub made : AreTasksMade s
+-- ---- all but which blocks are open: entries were answered by blocks
+abbrev pub AreBlocksEntered : {S : Type 0} → State S → Type 0
+AreBlocksEntered s = (task : ℕ) → list_all (λ exchange. names_block exchange.request exchange.answer) (exchanges_of s task) ≡ true
+
+abbrev pub IsApart : {S : Type 0} → (running excused : Option ℕ) → Extra S → State S → Type 0
+IsApart running excused added s = IsSoundOver (AreBlocksEntered s) running excused added s
 
 module _ {S : Type 0} (added : Extra S) (running excused : Option ℕ) (s : State S) where
-  pub apart_of : IsSoundBut running excused added s → IsApart running excused added s
-  apart_of is = record {
+  with_blocks : {Blocks Others : Type 0} → IsSoundOver Blocks running excused added s → Others → IsSoundOver Others running excused added s
+  with_blocks is others = record {
     loop = is.loop;
     generators = is.generators;
     asking = is.asking;
@@ -58,28 +49,19 @@ module _ {S : Type 0} (added : Extra S) (running excused : Option ℕ) (s : Stat
     main_told = is.main_told;
     standing = is.standing;
     exits = is.exits;
-    entered = is.blocks.entered;
+    blocks = others;
     futures = is.futures;
     made = is.made;
   }
+
+  pub apart_of : IsSoundBut running excused added s → IsApart running excused added s
+  apart_of is = with_blocks is is.blocks.entered
 
   pub open_of : AreBlocksOpen s → AreOpenAt s.loop (blocks_of s)
   open_of blocks = record { timeouts = blocks.timeouts; groups = blocks.groups; own = blocks.own }
 
   pub with_open : IsApart running excused added s → AreOpenAt s.loop (blocks_of s) → IsSoundBut running excused added s
-  with_open is at = record {
-    loop = is.loop;
-    generators = is.generators;
-    asking = is.asking;
-    unbegun = is.unbegun;
-    main_over = is.main_over;
-    main_told = is.main_told;
-    standing = is.standing;
-    exits = is.exits;
-    blocks = record { timeouts = at.timeouts; groups = at.groups; entered = is.entered; own = at.own };
-    futures = is.futures;
-    made = is.made;
-  }
+  with_open is at = with_blocks is (record { timeouts = at.timeouts; groups = at.groups; entered = is.blocks; own = at.own })
 
 -- a whole state, and one but for nobody
 module _ {S : Type 0} (added : Extra S) (s : State S) where
@@ -237,8 +219,8 @@ module _ {S : Type 0} (added : Extra S) (s t : State S) (tapes : SameTapes s t) 
         let x = leaves id e f in
         ap (λ (g : Generator). g.standing) (same_at (group_of t.loop id).parent) ∙ ap (λ k. (generator_of k s).standing) x.1
         ∙ is.exits id x.0 (fewer (group_of s.loop id).parent (sym (ap (is_running excused) x.1) ∙ f));
-    entered = λ task. ap (list_all (λ exchange. names_block exchange.request exchange.answer))
-        (exchanges_same added s t tapes.program task (same_at task)) ∙ is.entered task;
+    blocks = λ task. ap (list_all (λ exchange. names_block exchange.request exchange.answer))
+        (exchanges_same added s t tapes.program task (same_at task)) ∙ is.blocks task;
     futures = scripts;
     made = record {
       arguments = λ task. ap (λ n. list_all (names_made n) (generator_of task t).arguments) made
@@ -324,7 +306,7 @@ module _ {S : Type 0} (added : Extra S) (task : ℕ) (asked : Request) (fresh : 
     main_told = is.main_told;
     standing = λ other l f. stands_right other f (is.standing other l f);
     exits = λ id e f. ap (λ (g : Generator). g.standing) (free_same (group_of t.loop id).parent f) ∙ is.exits id e f;
-    entered = λ other. entered other (cases_eq task other);
+    blocks = λ other. entered other (cases_eq task other);
     futures = record { plain = is.futures.plain; once = is.futures.once };
     made = record {
       arguments = λ other. arguments other (cases_eq task other);
@@ -346,10 +328,10 @@ module _ {S : Type 0} (added : Extra S) (task : ℕ) (asked : Request) (fresh : 
           subst (λ k. list_all (λ exchange. names_block exchange.request exchange.answer) (exchanges_of u k) ≡ true) same
           (ap (list_all (λ exchange. names_block exchange.request exchange.answer)) resumed_exchanges
           ∙ list_all-append (λ (exchange : Exchange). names_block exchange.request exchange.answer) (exchanges_of t task) _
-          ∙ and_both _ _ (is.entered task) (ap (λ b. b && true) named))
+          ∙ and_both _ _ (is.blocks task) (ap (λ b. b && true) named))
       entered other (inr n) =
           ap (list_all (λ exchange. names_block exchange.request exchange.answer)) (exchanges_same added t u refl other (others_same other n))
-          ∙ is.entered other
+          ∙ is.blocks other
 
       arguments : (other : ℕ) → (task ≡ other) ⊎ (task ≡ other → ⊥)
           → list_all (names_made (next_task t.loop.parts)) (generator_of other u).arguments ≡ true
@@ -417,8 +399,8 @@ module _ {S : Type 0} (added : Extra S) (task : ℕ) (standing : Standing) (t : 
     main_told = is.main_told;
     standing = λ other l f. stands_right other f (is.standing other l f);
     exits = λ id e f. ap (λ (g : Generator). g.standing) (free (group_of t.loop id).parent f) ∙ is.exits id e f;
-    entered = λ other. seen_same (λ c a tape. list_all (λ exchange. names_block exchange.request exchange.answer) (exchanges_along t.program c a tape)) other
-        ∙ is.entered other;
+    blocks = λ other. seen_same (λ c a tape. list_all (λ exchange. names_block exchange.request exchange.answer) (exchanges_along t.program c a tape)) other
+        ∙ is.blocks other;
     futures = record { plain = is.futures.plain; once = is.futures.once };
     made = record {
       arguments = λ other. seen_same (λ c a tape. list_all (names_made (next_task t.loop.parts)) a) other ∙ is.made.arguments other;

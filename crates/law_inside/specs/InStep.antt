@@ -23,8 +23,8 @@ use Rattle.model_machine.specs.Went.{Went, Goes, Stops}
 abbrev pub IsLeft : {S : Type 0} → State S → (group : ℕ) → Type 0
 IsLeft s id = ((group_of s.loop id).exiting && not (group_of s.loop id).ended) ≡ true
 
--- A state that is sound while this task runs, but for what the excused task asks and stands at.
-pub record IsSoundBut {S : Type 0} (running excused : Option ℕ) (added : Extra S) (s : State S) : Type 0 where
+-- A state that is sound while this task runs, but for what the excused task asks and stands at. Of its blocks it says `Blocks`.
+pub record IsSoundOver {S : Type 0} (Blocks : Type 0) (running excused : Option ℕ) (added : Extra S) (s : State S) : Type 0 where
   pub loop : IsSound running (told_in s.events) s.loop
   pub generators : length s.generators ≡ next_task s.loop.parts
   pub asking : (task : ℕ) → lives s.loop.parts task ≡ true → is_running excused task ≡ false → IsAsking added s task
@@ -35,9 +35,13 @@ pub record IsSoundBut {S : Type 0} (running excused : Option ℕ) (added : Extra
   pub standing : (task : ℕ) → lives s.loop.parts task ≡ true → is_running excused task ≡ false → StandsRightly s task
   pub exits : (id : ℕ) → IsLeft s id → is_running excused (group_of s.loop id).parent ≡ false
       → (generator_of (group_of s.loop id).parent s).standing ≡ Leaving id
-  pub blocks : AreBlocksOpen s
+  pub blocks : Blocks
   pub futures : AreScriptsFutures s
   pub made : AreTasksMade s
+
+-- all of its blocks
+abbrev pub IsSoundBut : {S : Type 0} → (running excused : Option ℕ) → Extra S → State S → Type 0
+IsSoundBut running excused added s = IsSoundOver (AreBlocksOpen s) running excused added s
 
 -- Inside a step of a task, whose coroutine was resumed. None of its groups is being left: that ends the step.
 pub record IsStepSound {S : Type 0} (added : Extra S) (task : ℕ) (s : State S) : Type 0 where

@@ -1,5 +1,6 @@
 pub mod Counting
 pub mod Balancing
+pub mod GroupFrame
 pub mod LoopBalance
 pub mod Asked
 pub mod Quietly

@@ -1,31 +1,32 @@
 -- Timeouts, groups and the end of a run keep counts the ledger's balance.
-use Rattle.std.proofs.Common.{◌≡◌, ℕ, ◌+◌, ◌⊎◌, ℤ, Bool, true, false, cond, not, ◌||◌, ◌==◌, List, [], ◌∷◌, ◌++◌, Option, Some, None, length, nat_le}
-use Rattle.std.proofs.Common.{option_map, slice_get, refl, ap, ◌∙◌, inl, inr, arith, is_some, ◌&&◌}
+use Rattle.std.proofs.Common.{◌≡◌, ℕ, ◌+◌, ◌⊎◌, ℤ, Bool, true, false, cond, List, [], ◌∷◌, ◌++◌, Option, Some, None, length, nat_le}
+use Rattle.std.proofs.Common.{option_map, slice_get, refl, ap, ◌∙◌, inl, inr, arith}
 use Rattle.std.specs.List.{count_by, range_with_len}
 use Rattle.std.proofs.lemmas.Bool.{cases_eq}
 use Rattle.std.proofs.lemmas.Option.{slice_get_past}
-use Rattle.model_value.specs.declared.input.Input.TheVariants.{Send, Throw}
 use Rattle.model_value.specs.declared.outcome.Outcome.TheVariants.{Value as Returned}
 use Rattle.model_value.specs.declared.action.Action.TheVariants.{GroupDone, Fires}
 use Rattle.model_value.specs.Input.{Input}
 use Rattle.model_value.specs.Value.{Nothing, Exc}
 use Rattle.model_loop.specs.Parts.{Task, Parts}
 use Rattle.model_loop.specs.Handles.{deadline, soon, later}
-use Rattle.model_loop.specs.Futures.{next_future}
+use Rattle.model_loop.specs.Futures.{next_future, settle}
 use Rattle.model_loop.specs.Tasks.{cancelling, next_task, spawn, future_of}
 use Rattle.model_loop.specs.Ledger.{Began, Booked, ByTimeout, ByGroup, ByAbort, ByEnd, ask_cancel, request_each, uncancel_by}
 use Rattle.model_loop.specs.Loop.{TimeoutState, Created, Active, Expiring, Expired, Finished, Loop, in_parts, book}
 use Rattle.model_loop.specs.Timeouts.{timeout_of, give_up, without_handle, fires_at, with_deadline, schedule, next_timeout, make_timeout, enter_timeout, moment}
 use Rattle.model_loop.specs.Timeouts.{is_active, reschedule_where, reschedule, fire, leave_from, exit_timeout}
-use Rattle.model_loop.specs.Groups.{group_of, set_group, Refusal, refusal, with_child, create_unless, create, abort, abort_where, failure_of, without_child}
-use Rattle.model_loop.specs.Groups.{wake_if_last, wake_exit, request_parent, abort_and_request_unless, blame, child_done, end_exit, wait_or_end_with}
-use Rattle.model_loop.specs.Groups.{wait_or_end, begin_exit, take_back_where, take_back, abort_if_raised, exit_begin, keep_and_abort_unless, hear, exit_woken}
+use Rattle.model_loop.specs.Groups.{with_child, create}
+use Rattle.model_loop.specs.Groups.{child_done}
+use Rattle.model_loop.specs.Groups.{exit_begin, exit_woken}
 use Rattle.model_loop.specs.Ending.{cancel_everything}
 use Rattle.model_loop.specs.Balance.{raises, lowers, Balances, TasksBalance}
 use Rattle.law_cancel.proofs.Lookups.{get-push_last, get-push_other}
 use Rattle.law_cancel.proofs.Effects.{settle-tasks, register-tasks}
 use Rattle.law_ledger.proofs.Counting.{count-append}
 use Rattle.law_ledger.proofs.Balancing.{count_at, request_balances, request_each_balances, uncancel_balances}
+use Rattle.law_ledger.proofs.GroupFrame.{IsKeptByGroups}
+use Rattle.law_ledger.proofs.GroupFrame as group
 
 -- ---- a change that is booked, and one that no count sees
 pub book_keeps : (change : Parts → Booked) (l : Loop) → Balances l.parts (change l.parts) → TasksBalance l → TasksBalance (book change l)
@@ -110,112 +111,36 @@ with_child_counts : (id : ℕ) (p : Parts) → KeepsCounts (with_child id) p
 with_child_counts id p task =
     ap (λ (ts : List Task). count_at (slice_get ts task)) (register-tasks (next_future p) (GroupDone id (next_task p)) (spawn p)) ∙ spawn_counts p task
 
+groups_balance : IsKeptByGroups TasksBalance
+groups_balance = record {
+  quiet = record {
+    changes = λ id new l requested exiting is. is;
+    aborts = λ id tasks l is. book_keeps (request_each (ByAbort id) tasks) l (request_each_balances (ByAbort id) tasks l.parts) is;
+    makes = λ id l is. in_parts_keeps (with_child id) l (with_child_counts id l.parts) is;
+    waits = λ l is. is;
+    wakes = λ future l is. in_parts_keeps (settle future (Returned Nothing)) l
+        (λ task. ap (λ (ts : List Task). count_at (slice_get ts task)) (settle-tasks future (Returned Nothing) l.parts)) is;
+  };
+  requests = λ id on l is. book_keeps (ask_cancel (ByGroup id) on) l (request_balances (ByGroup id) on l.parts) is;
+  takes = λ id task l is. book_keeps (uncancel_by (ByGroup id) task) l (uncancel_balances (ByGroup id) task l.parts) is;
+  begins = λ raised id l is task.
+      let a = count-append (lowers task) l.ledger (Began id ∷ []) in
+      let b = count-append (raises task) l.ledger (Began id ∷ []) in
+      let c = is task in
+      omega arith;
+}
+
 pub create_keeps : (id : ℕ) (l : Loop) → TasksBalance l → TasksBalance (create id l)
-create_keeps id l is = at (refusal (group_of l id))
-  where
-    at : (o : Option Refusal) → TasksBalance (create_unless o id l)
-    at (Some cause) = is
-    at None = in_parts_keeps (with_child id) l (with_child_counts id l.parts) is
-
-abort_keeps : (id : ℕ) (l : Loop) → TasksBalance l → TasksBalance (abort id l)
-abort_keeps id l is =
-    let tasks = (group_of l id).children in
-    book_keeps (request_each (ByAbort id) tasks) l (request_each_balances (ByAbort id) tasks l.parts) is
-
-wake_counts : (children : List ℕ) (future : Option ℕ) (p : Parts) → KeepsCounts (wake_if_last children future) p
-wake_counts [] (Some future) p task = ap (λ (ts : List Task). count_at (slice_get ts task)) (settle-tasks future (Returned Nothing) p)
-wake_counts [] None p task = refl
-wake_counts (c ∷ children) future p task = refl
-
-request_parent_keeps : (id : ℕ) (l : Loop) → TasksBalance l → TasksBalance (request_parent id l)
-request_parent_keeps id l is =
-    let on = future_of l.parts (group_of l id).parent in
-    book_keeps (ask_cancel (ByGroup id) on) l (request_balances (ByGroup id) on l.parts) is
-
-blame_keeps : (o : Option Exc) (id : ℕ) (l : Loop) → TasksBalance l → TasksBalance (blame o id l)
-blame_keeps None id l is = is
-blame_keeps (Some fault) id l is = at ((group_of l id).aborting || (group_of l id).requested)
-  where
-    failed : Loop
-    failed = set_group id (record (group_of l id) { errors = (group_of l id).errors ++ fault ∷ [] }) l
-
-    at : (b : Bool) → TasksBalance (abort_and_request_unless b id failed)
-    at true = is
-    at false = request_parent_keeps id (abort id failed) (abort_keeps id failed is)
+create_keeps = group.create_keeps groups_balance.quiet
 
 pub child_done_keeps : (id task : ℕ) (l : Loop) → TasksBalance l → TasksBalance (child_done id task l)
-child_done_keeps id task l is =
-    let without = without_child id task l in
-    let group = group_of without id in
-    blame_keeps (failure_of l.parts task) id (wake_exit id without)
-    (in_parts_keeps (wake_if_last group.children group.exit_future) without (wake_counts group.children group.exit_future without.parts) is)
-
-end_keeps : (kept : Option Exc) (errors : List Exc) (id : ℕ) (l : Loop) → TasksBalance l → TasksBalance (end_exit kept errors id l).loop
-end_keeps (Some fault) [] id l is = is
-end_keeps (Some fault) (e ∷ errors) id l is = is
-end_keeps None errors id l is = is
-
-wait_or_end_keeps : (id : ℕ) (l : Loop) → TasksBalance l → TasksBalance (wait_or_end id l).loop
-wait_or_end_keeps id l is = at (group_of l id).children
-  where
-    at : (children : List ℕ) → TasksBalance (wait_or_end_with children id l).loop
-    at [] = end_keeps (group_of l id).kept (group_of l id).errors id l is
-    at (c ∷ children) = is
-
-begin_exit_keeps : (raised : Option Exc) (id : ℕ) (l : Loop) → TasksBalance l → TasksBalance (begin_exit raised id l)
-begin_exit_keeps raised id l is task =
-    let a = count-append (lowers task) l.ledger (Began id ∷ []) in
-    let b = count-append (raises task) l.ledger (Began id ∷ []) in
-    let c = is task in
-    omega arith
-
-take_back_keeps : (id : ℕ) (l : Loop) → TasksBalance l → TasksBalance (take_back id l)
-take_back_keeps id l is = at (group_of l id).requested
-  where
-    parent : ℕ
-    parent = (group_of l id).parent
-
-    taken : Loop
-    taken = book (uncancel_by (ByGroup id) (group_of l id).parent) l
-
-    h : TasksBalance taken
-    h = book_keeps (uncancel_by (ByGroup id) parent) l (uncancel_balances (ByGroup id) parent l.parts) is
-
-    at : (b : Bool) → TasksBalance (take_back_where b id l)
-    at false = is
-    at true =
-        elim (cancelling taken.parts parent == 0) as
-        (λ b. TasksBalance (cond b (set_group id (record (group_of l id) { kept = None }) taken) taken)) [ true ↦ h | false ↦ h ]
-
-abort_if_raised_keeps : (raised : Option Exc) (id : ℕ) (l : Loop) → TasksBalance l → TasksBalance (abort_if_raised raised id l)
-abort_if_raised_keeps raised id l is = at (is_some raised && not (group_of l id).aborting)
-  where
-    at : (b : Bool) → TasksBalance (abort_where b id l)
-    at true = abort_keeps id l is
-    at false = is
+child_done_keeps = group.child_done_keeps groups_balance
 
 pub exit_begin_keeps : (raised : Option Exc) (id : ℕ) (l : Loop) → TasksBalance l → TasksBalance (exit_begin raised id l).loop
-exit_begin_keeps raised id l is =
-    let begun = begin_exit raised id l in
-    let taken = take_back id begun in
-    wait_or_end_keeps id (abort_if_raised raised id taken)
-    (abort_if_raised_keeps raised id taken (take_back_keeps id begun (begin_exit_keeps raised id l is)))
-
-hear_keeps : (input : Input) (id : ℕ) (l : Loop) → TasksBalance l → TasksBalance (hear input id l)
-hear_keeps (Send value) id l is = is
-hear_keeps (Throw fault) id l is = at (group_of l id).aborting
-  where
-    kept : Loop
-    kept = set_group id (record (group_of l id) { kept = Some fault }) l
-
-    at : (b : Bool) → TasksBalance (keep_and_abort_unless b fault id l)
-    at true = is
-    at false = abort_keeps id kept is
+exit_begin_keeps = group.exit_begin_keeps groups_balance
 
 pub exit_woken_keeps : (input : Input) (id : ℕ) (l : Loop) → TasksBalance l → TasksBalance (exit_woken input id l).loop
-exit_woken_keeps input id l is =
-    let woken = set_group id (record (group_of l id) { exit_future = None }) l in
-    wait_or_end_keeps id (hear input id woken) (hear_keeps input id woken is)
+exit_woken_keeps = group.exit_woken_keeps groups_balance.quiet
 
 -- ---- the end of a run
 pub cancel_everything_keeps : (l : Loop) → TasksBalance l → TasksBalance (cancel_everything l)

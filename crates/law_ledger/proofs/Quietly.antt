@@ -2,20 +2,19 @@
 use Rattle.std.proofs.Common.{◌≡◌, ℕ, Bool, List, None, Option, Some, [], ap, append-nil, append_assoc, arith, false, map, option_map, refl}
 use Rattle.std.proofs.Common.{slice_index_or, slice_set, subst, suc, sym, true, zero, ℤ, ◌++◌, ◌∙◌, ◌∷◌, nat_lt}
 use Rattle.model_loop.specs.Handles.{deadline}
-use Rattle.model_loop.specs.Groups.{Refusal, abort, create, create_unless, end_exit, exit_woken, group_of, hear, keep_and_abort_unless, make_group, new_group}
-use Rattle.model_loop.specs.Groups.{refusal, set_group, wait_or_end, wait_or_end_with, wake_exit, wake_if_last, with_child}
+use Rattle.model_loop.specs.Groups.{abort, create, exit_woken, group_of, make_group, new_group}
+use Rattle.model_loop.specs.Groups.{set_group, wait_or_end, wake_exit, with_child}
 use Rattle.model_loop.specs.Circles.{circle}
 use Rattle.model_loop.specs.Timeouts.{enter_timeout, fires_at, give_up, has_expired, is_active, make_timeout, moment, next_timeout, no_timeout, reschedule}
 use Rattle.model_loop.specs.Timeouts.{reschedule_where, schedule, set_timeout, timeout_of, with_deadline, without_handle}
 use Rattle.model_loop.specs.Tasks.{future_of, is_marked, lives, cancelling}
-use Rattle.model_loop.specs.Futures.{new_plain}
+use Rattle.model_loop.specs.Futures.{new_plain, settle}
 use Rattle.model_loop.specs.Loop.{Group, Loop, Timeout, book, in_parts}
 use Rattle.model_loop.specs.Ledger.{Asked, Booked, ByAbort, ByWait, LedgerEntry, Origin, Raised, Took, ask_cancel, raised_among, request_each, request_where}
 use Rattle.model_loop.specs.Ledger.{uncancel_by}
 use Rattle.model_loop.specs.Suspend.{cancel_wait, suspend, suspend_unless, wait_on}
 use Rattle.std.specs.List.{count_by}
 use Rattle.model_loop.specs.Ways.{one_if}
-use Rattle.model_value.specs.declared.input.Input.TheVariants.{Send, Throw}
 use Rattle.law_ledger.specs.Telling.{BooksNone, BooksQuietly, IsOther, Tells}
 use Rattle.model_value.specs.Action.{Circle}
 use Rattle.model_loop.specs.Cancel.{cancel}
@@ -23,8 +22,11 @@ use Rattle.model_loop.specs.Parts.{Parts}
 use Rattle.model_loop.specs.Balance.{GroupBalances, is_by_timeout, is_expired, takes, asks, begins, is_by_group}
 use Rattle.law_ledger.proofs.Asked.{quiet_asked}
 use Rattle.law_ledger.proofs.Counting.{count-append, count-no}
+use Rattle.law_ledger.proofs.GroupFrame.{IsKeptQuietly}
+use Rattle.law_ledger.proofs.GroupFrame as group
 use Rattle.model_value.specs.Input.{Input}
-use Rattle.model_value.specs.Value.{Exc}
+use Rattle.model_value.specs.Value.{Nothing}
+use Rattle.model_value.specs.declared.outcome.Outcome.TheVariants.{Value as Returned}
 
 pub none_nil : BooksNone []
 none_nil = record {
@@ -256,50 +258,27 @@ enter_quietly task delay l =
     (schedule_quietly (next_timeout l) (option_map (deadline l.parts.time) delay) (make_timeout task l)) (make_timeout_quietly task l)
 
 -- ---- groups
+groups_quietly : (l : Loop) → IsKeptQuietly (BooksQuietly l)
+groups_quietly l = record {
+  changes = λ id new q requested exiting b. quietly_on l q _ (group_quietly id new q requested exiting) b;
+  aborts = λ id tasks q b.
+      quietly_on l q _ (book_quietly (request_each (ByAbort id) tasks) q (each_none (ByAbort id) tasks q.parts (by_abort id))) b;
+  makes = λ id q b. quietly_on l q _ (parts_quietly q (with_child id q.parts)) b;
+  waits = λ q b. quietly_on l q _ (parts_quietly q (new_plain q.parts)) b;
+  wakes = λ future q b. quietly_on l q _ (parts_quietly q (settle future (Returned Nothing) q.parts)) b;
+}
+
 pub create_quietly : (id : ℕ) (l : Loop) → BooksQuietly l (create id l)
-create_quietly id l = at (refusal (group_of l id))
-  where
-    at : (o : Option Refusal) → BooksQuietly l (create_unless o id l)
-    at (Some why) = refl_quietly l
-    at None =
-        quietly_on l (in_parts (with_child id) l) _ (group_quietly id _ (in_parts (with_child id) l) refl refl)
-        (parts_quietly l (with_child id l.parts))
+create_quietly id l = group.create_keeps (groups_quietly l) id l (refl_quietly l)
 
 pub abort_quietly : (id : ℕ) (l : Loop) → BooksQuietly l (abort id l)
-abort_quietly id l =
-    quietly_on l (set_group id (record (group_of l id) { aborting = true }) l) _
-    (book_quietly (request_each (ByAbort id) (group_of l id).children) (set_group id (record (group_of l id) { aborting = true }) l)
-    (each_none (ByAbort id) (group_of l id).children l.parts (by_abort id)))
-    (group_quietly id (record (group_of l id) { aborting = true }) l refl refl)
+abort_quietly id l = group.abort_keeps (groups_quietly l) id l (refl_quietly l)
 
 pub wake_quietly : (id : ℕ) (l : Loop) → BooksQuietly l (wake_exit id l)
-wake_quietly id l = parts_quietly l (wake_if_last (group_of l id).children (group_of l id).exit_future l.parts)
-
-end_quietly : (kept : Option Exc) (errors : List Exc) (id : ℕ) (l : Loop) → BooksQuietly l (end_exit kept errors id l).loop
-end_quietly None errors id l = group_quietly id _ l refl refl
-end_quietly (Some fault) [] id l = group_quietly id _ l refl refl
-end_quietly (Some fault) (x ∷ xs) id l = group_quietly id _ l refl refl
+wake_quietly id l = group.wake_keeps (groups_quietly l) id l (refl_quietly l)
 
 pub wait_or_end_quietly : (id : ℕ) (l : Loop) → BooksQuietly l (wait_or_end id l).loop
-wait_or_end_quietly id l = at (group_of l id).children
-  where
-    at : (children : List ℕ) → BooksQuietly l (wait_or_end_with children id l).loop
-    at [] = end_quietly (group_of l id).kept (group_of l id).errors id l
-    at (child ∷ children) =
-        quietly_on l (in_parts new_plain l) _ (group_quietly id _ (in_parts new_plain l) refl refl) (parts_quietly l (new_plain l.parts))
-
-hear_quietly : (input : Input) (id : ℕ) (l : Loop) → BooksQuietly l (hear input id l)
-hear_quietly (Send value) id l = refl_quietly l
-hear_quietly (Throw fault) id l = at (group_of l id).aborting
-  where
-    at : (b : Bool) → BooksQuietly l (keep_and_abort_unless b fault id l)
-    at true = refl_quietly l
-    at false =
-        quietly_on l (set_group id (record (group_of l id) { kept = Some fault }) l) _
-        (abort_quietly id (set_group id (record (group_of l id) { kept = Some fault }) l)) (group_quietly id _ l refl refl)
+wait_or_end_quietly id l = group.wait_or_end_keeps (groups_quietly l) id l (refl_quietly l)
 
 pub woken_quietly : (input : Input) (id : ℕ) (l : Loop) → BooksQuietly l (exit_woken input id l).loop
-woken_quietly input id l =
-    let l1 = set_group id (record (group_of l id) { exit_future = None }) l in
-    quietly_on l (hear input id l1) _ (wait_or_end_quietly id (hear input id l1))
-    (quietly_on l l1 _ (hear_quietly input id l1) (group_quietly id (record (group_of l id) { exit_future = None }) l refl refl))
+woken_quietly input id l = group.exit_woken_keeps (groups_quietly l) input id l (refl_quietly l)

@@ -8,6 +8,7 @@ use Rattle.model_text.specs.Tokens.{TokenClass, Symbol, Token, token_of}
 use Rattle.model_text.specs.Cuts.{FirstIs, IsLongest}
 use Rattle.model_text.specs.Lines.{SpellsToken, Ends, Reads}
 use Rattle.model_text.specs.Words.{Lexeme, Sign, lexeme_of, lexemes_of}
+use Rattle.law_tokens.proofs.LineLemmas.{Reads-blank}
 use Rattle.law_tokens.proofs.SymbolLemmas.{SymbolIs, symbol_is}
 
 -- from each column on the bytes are spaces and tokens with these lexemes
@@ -58,26 +59,10 @@ pub nothing-fronts : Fronts [] []
 nothing-fronts rest others r h = h
 
 -- ---- blanks
-behind-blank : (column : ℕ) (rest : List ℕ) (tokens : List Token) → Reads (column + 1) rest tokens → Reads column (32 ∷ rest) tokens
-behind-blank column rest [] r = (suc r.0, r.1, ap (λ more. 32 ∷ more) r.2, r.3)
-behind-blank column rest (token ∷ tokens) r = (
-  r.0,
-  record {
-    spaces = suc r.1.spaces;
-    text = r.1.text;
-    whole = ap (λ more. 32 ∷ more) r.1.whole;
-    spelled = r.1.spelled;
-    ended = r.1.ended;
-    start = omega (arith, r.1.start);
-    end = r.1.end;
-  },
-  r.2,
-)
-
 pub blank-leads : Leads (32 ∷ []) []
 blank-leads rest others h column =
     let t = h (column + 1) in
-    (t.0, behind-blank column rest t.0 t.1, t.2)
+    (t.0, Reads-blank column rest t.0 t.1, t.2)
 
 pub blanks-lead : (spaces : ℕ) → Leads (replicate spaces 32) []
 blanks-lead zero rest others h = h

@@ -19,7 +19,7 @@ use Rattle.model_text.specs.Tokens.{number_of}
 use Rattle.model_text.specs.Lines.{Says, IsLiteral, IsDecimal}
 
 -- ---- what holds of each number below a bound, since it was computed
-abbrev all_below : ℕ → (ℕ → Bool) → Bool
+abbrev pub all_below : ℕ → (ℕ → Bool) → Bool
 all_below zero test = true
 all_below (suc n) test = test n && all_below n test
 
@@ -27,7 +27,7 @@ by_order : (n : ℕ) (test : ℕ → Bool) (b : ℕ) → test n ≡ true → (sa
 by_order n test b p true s others h = subst (λ k. test k ≡ true) (sym (eqb-true b n s)) p
 by_order n test b p false s others h = others (grind (arith, nat_tests))
 
-below : (n : ℕ) (test : ℕ → Bool) (b : ℕ) → all_below n test ≡ true → b < n → test b ≡ true
+pub below : (n : ℕ) (test : ℕ → Bool) (b : ℕ) → all_below n test ≡ true → b < n → test b ≡ true
 below zero test b e h = absurd (omega arith)
 below (suc n) test b e h =
     let p = and_parts (test n) (all_below n test) e in

@@ -1,11 +1,10 @@
 -- What takes no mark away.
-use Rattle.std.proofs.Common.{◌≡◌, ℕ, zero, suc, ℤ, Bool, true, false, not, cond, ◌&&◌, ◌||◌, ◌==◌, List, [], ◌∷◌, ◌++◌, Option, Some, None, is_some, nat_le}
+use Rattle.std.proofs.Common.{◌≡◌, ℕ, zero, suc, ℤ, Bool, true, false, cond, List, [], ◌∷◌, ◌++◌, Option, Some, None, nat_le}
 use Rattle.std.proofs.Common.{option_map, slice_get, refl, ap, ◌∙◌}
 use Rattle.std.specs.List.{range_with_len}
 use Rattle.std.specs.Option.{option_map_or}
 use Rattle.std.proofs.lemmas.Bool.{false≢true}
 use Rattle.model_value.specs.declared.action.Action.TheVariants.{Fires, GroupDone}
-use Rattle.model_value.specs.declared.input.Input.TheVariants.{Send, Throw}
 use Rattle.model_value.specs.declared.outcome.Outcome.TheVariants.{Value as Returned, Cancelled}
 use Rattle.model_value.specs.Input.{Input}
 use Rattle.model_value.specs.Value.{Exc, Nothing}
@@ -15,19 +14,21 @@ use Rattle.model_loop.specs.Cancelling.{task as task_row, no_task as no_task_row
 use Rattle.model_loop.specs.Cancelling.{waits as waits_row}
 use Rattle.model_loop.specs.Ending.{cancel_everything}
 use Rattle.model_loop.specs.Futures.{mark_asked, next_future, settle}
-use Rattle.model_loop.specs.Groups.{Refusal, abort, abort_and_request_unless, abort_if_raised, abort_where, begin_exit, blame, child_done, create}
-use Rattle.model_loop.specs.Groups.{create_unless, end_exit, exit_begin, exit_woken, failure_of, group_of, hear, keep_and_abort_unless, refusal, set_group}
-use Rattle.model_loop.specs.Groups.{take_back, take_back_where, wait_or_end, wait_or_end_with, wake_exit, wake_if_last, with_child, without_child}
+use Rattle.model_loop.specs.Groups.{child_done, create}
+use Rattle.model_loop.specs.Groups.{exit_begin, exit_woken}
+use Rattle.model_loop.specs.Groups.{with_child}
 use Rattle.model_loop.specs.Handles.{deadline, due, later, soon}
-use Rattle.model_loop.specs.Ledger.{Origin, ByAbort, ByEnd, ByGroup, request_each, request_where, uncancel_by}
-use Rattle.model_loop.specs.Loop.{TimeoutState, Expiring, Loop, book}
+use Rattle.model_loop.specs.Ledger.{Origin, ByAbort, ByEnd, request_each, request_where}
+use Rattle.model_loop.specs.Loop.{TimeoutState, Expiring, Loop}
 use Rattle.model_loop.specs.Parts.{Parts, Task}
-use Rattle.model_loop.specs.Tasks.{cancelling, change_task, future_of, is_marked, lives, next_task, spawn, uncancel}
+use Rattle.model_loop.specs.Tasks.{change_task, future_of, is_marked, lives, next_task, spawn}
 use Rattle.model_loop.specs.Timeouts.{enter_timeout, exit_timeout, fire, fires_at, give_up, is_active, leave_from, make_timeout, moment, next_timeout}
 use Rattle.model_loop.specs.Timeouts.{reschedule, reschedule_where, schedule, timeout_of, without_handle}
 use Rattle.law_cancel.proofs.Counting.{change_task-kept}
 use Rattle.law_cancel.proofs.Effects.{mark_asked-tasks, register-tasks, settle-tasks}
 use Rattle.law_cancel.proofs.Meeting.{cancel_meets}
+use Rattle.law_ledger.proofs.GroupFrame.{IsKeptByGroups}
+use Rattle.law_ledger.proofs.GroupFrame as group
 use Rattle.law_timeouts.proofs.Due.{due-tasks}
 use Rattle.law_promises.specs.Marked.{KeepsMarks}
 use Rattle.law_promises.proofs.Reaching.{mark_more}
@@ -135,90 +136,33 @@ exit_keeps raised id l task m =
     leave_keeps (timeout_of l id).state raised id (without_handle id l) task (given_up (timeout_of l id).tag l.parts task m)
 
 -- ---- groups
+child_marks : (id : ℕ) (p : Parts) → KeepsMarks p (with_child id p)
+child_marks id p task m =
+    as_tasks (spawn p) (with_child id p) (register-tasks (next_future p) (GroupDone id (next_task p)) (spawn p)) task (spawn_keeps p task m)
+
+groups_mark : (p : Parts) → IsKeptByGroups (λ l. KeepsMarks p l.parts)
+groups_mark p = record {
+  quiet = record {
+    changes = λ id new l requested exiting is. is;
+    aborts = λ id tasks l is task m. requests_keep (ByAbort id) tasks l.parts task (is task m);
+    makes = λ id l is task m. child_marks id l.parts task (is task m);
+    waits = λ l is. is;
+    wakes = λ future l is task m.
+        as_tasks l.parts (settle future (Returned Nothing) l.parts) (settle-tasks future (Returned Nothing) l.parts) task (is task m);
+  };
+  requests = λ id on l is task m. request_keeps on l.parts task (is task m);
+  takes = λ id parent l is task m. counted_keeps parent _ l.parts (λ x. refl) task (is task m);
+  begins = λ raised id l is. is;
+}
+
 pub create_keeps : (id : ℕ) (l : Loop) → KeepsMarks l.parts (create id l).parts
-create_keeps id l task m = at (refusal (group_of l id))
-  where
-    at : (o : Option Refusal) → is_marked (create_unless o id l).parts task ≡ true
-    at (Some cause) = m
-    at None =
-        as_tasks (spawn l.parts) (with_child id l.parts)
-        (register-tasks (next_future l.parts) (GroupDone id (next_task l.parts)) (spawn l.parts)) task (spawn_keeps l.parts task m)
-
-abort_keeps : (id : ℕ) (l : Loop) → KeepsMarks l.parts (abort id l).parts
-abort_keeps id l = requests_keep (ByAbort id) (group_of l id).children l.parts
-
-wake_keeps : (children : List ℕ) (exit : Option ℕ) (p : Parts) → KeepsMarks p (wake_if_last children exit p)
-wake_keeps [] None p task m = m
-wake_keeps [] (Some future) p task m = as_tasks p (settle future (Returned Nothing) p) (settle-tasks future (Returned Nothing) p) task m
-wake_keeps (child ∷ children) exit p task m = m
-
-blamed_keeps : (b : Bool) (id : ℕ) (l : Loop) → KeepsMarks l.parts (abort_and_request_unless b id l).parts
-blamed_keeps true id l task m = m
-blamed_keeps false id l task m =
-    request_keeps (future_of (abort id l).parts (group_of (abort id l) id).parent) (abort id l).parts task (abort_keeps id l task m)
-
-blame_keeps : (fault : Option Exc) (id : ℕ) (l : Loop) → KeepsMarks l.parts (blame fault id l).parts
-blame_keeps None id l task m = m
-blame_keeps (Some fault) id l task m =
-    blamed_keeps ((group_of l id).aborting || (group_of l id).requested) id
-    (set_group id (record (group_of l id) { errors = (group_of l id).errors ++ fault ∷ [] }) l) task m
+create_keeps id l = group.create_keeps (groups_mark l.parts).quiet id l (λ task m. m)
 
 pub child_done_keeps : (id task : ℕ) (l : Loop) → KeepsMarks l.parts (child_done id task l).parts
-child_done_keeps id child l task m =
-    let l1 = without_child id child l in
-    blame_keeps (failure_of l.parts child) id (wake_exit id l1) task
-    (wake_keeps (group_of l1 id).children (group_of l1 id).exit_future l.parts task m)
-
-take_back_keeps : (id : ℕ) (l : Loop) → KeepsMarks l.parts (take_back id l).parts
-take_back_keeps id l task m = at (group_of l id).requested
-  where
-    taken : is_marked (uncancel (group_of l id).parent l.parts) task ≡ true
-    taken = counted_keeps (group_of l id).parent _ l.parts (λ x. refl) task m
-
-    none_left : (b : Bool)
-        → is_marked (cond b (set_group id (record (group_of l id) { kept = None }) (book (uncancel_by (ByGroup id) (group_of l id).parent) l))
-        (book (uncancel_by (ByGroup id) (group_of l id).parent) l)).parts task ≡ true
-    none_left true = taken
-    none_left false = taken
-
-    at : (b : Bool) → is_marked (take_back_where b id l).parts task ≡ true
-    at false = m
-    at true = none_left (cancelling (uncancel (group_of l id).parent l.parts) (group_of l id).parent == 0)
-
-ends_keeps : (kept : Option Exc) (errors : List Exc) (id : ℕ) (l : Loop) → KeepsMarks l.parts (end_exit kept errors id l).loop.parts
-ends_keeps None errors id l task m = m
-ends_keeps (Some fault) [] id l task m = m
-ends_keeps (Some fault) (x ∷ xs) id l task m = m
-
-wait_keeps : (id : ℕ) (l : Loop) → KeepsMarks l.parts (wait_or_end id l).loop.parts
-wait_keeps id l task m = at (group_of l id).children
-  where
-    at : (children : List ℕ) → is_marked (wait_or_end_with children id l).loop.parts task ≡ true
-    at [] = ends_keeps (group_of l id).kept (group_of l id).errors id l task m
-    at (child ∷ children) = m
-
-raised_keeps : (raised : Option Exc) (id : ℕ) (l : Loop) → KeepsMarks l.parts (abort_if_raised raised id l).parts
-raised_keeps raised id l task m = at (is_some raised && not (group_of l id).aborting)
-  where
-    at : (b : Bool) → is_marked (abort_where b id l).parts task ≡ true
-    at true = abort_keeps id l task m
-    at false = m
+child_done_keeps id child l = group.child_done_keeps (groups_mark l.parts) id child l (λ task m. m)
 
 pub exit_begin_keeps : (raised : Option Exc) (id : ℕ) (l : Loop) → KeepsMarks l.parts (exit_begin raised id l).loop.parts
-exit_begin_keeps raised id l task m =
-    let l1 = begin_exit raised id l in
-    let l2 = take_back id l1 in
-    wait_keeps id (abort_if_raised raised id l2) task (raised_keeps raised id l2 task (take_back_keeps id l1 task m))
-
-hear_keeps : (input : Input) (id : ℕ) (l : Loop) → KeepsMarks l.parts (hear input id l).parts
-hear_keeps (Send value) id l task m = m
-hear_keeps (Throw fault) id l task m = at (group_of l id).aborting
-  where
-    at : (b : Bool) → is_marked (keep_and_abort_unless b fault id l).parts task ≡ true
-    at true = m
-    at false = abort_keeps id (set_group id (record (group_of l id) { kept = Some fault }) l) task m
+exit_begin_keeps raised id l = group.exit_begin_keeps (groups_mark l.parts) raised id l (λ task m. m)
 
 pub exit_woken_keeps : (input : Input) (id : ℕ) (l : Loop) → KeepsMarks l.parts (exit_woken input id l).loop.parts
-exit_woken_keeps input id l task m =
-    let l1 = set_group id (record (group_of l id) { exit_future = None }) l in
-    wait_keeps id (hear input id l1) task (hear_keeps input id l1 task m)
+exit_woken_keeps input id l = group.exit_woken_keeps (groups_mark l.parts).quiet input id l (λ task m. m)

@@ -1,8 +1,8 @@
 -- What each step of the loop carries on: what is numbered, that no circle is, what is called and scheduled.
-use Rattle.std.proofs.Common.{◌≡◌, ℕ, Bool, List, None, Option, Some, [], ap, arith, cond, false, inl, inr, is_some, length, not, refl, slice_get, sym, true}
-use Rattle.std.proofs.Common.{◌&&◌, ◌++◌, ◌==◌, ◌||◌, ◌∙◌, ◌∷◌, ◌⊎◌}
+use Rattle.std.proofs.Common.{◌≡◌, ℕ, Bool, List, None, Option, Some, [], ap, arith, cond, false, inl, inr, length, not, refl, slice_get, sym, true}
+use Rattle.std.proofs.Common.{◌&&◌, ◌++◌, ◌∙◌, ◌∷◌, ◌⊎◌}
 use Rattle.model_loop.specs.Parts.{Future, FutureKind, Handle, OfTask, Parts, Plain, Task}
-use Rattle.model_loop.specs.Tasks.{cancelling, change_task, future_of, lives, next_task, spawn, uncancel, waiter_of}
+use Rattle.model_loop.specs.Tasks.{change_task, future_of, lives, next_task, spawn, uncancel, waiter_of}
 use Rattle.model_loop.specs.Totals.{callbacks_at, callbacks_of}
 use Rattle.law_numbers.proofs.Falling.{new_plain_numbers, spawn_numbers}
 use Rattle.model_value.specs.Value.{Exc, Nothing, Outcome}
@@ -10,18 +10,18 @@ use Rattle.model_loop.specs.Futures.{make_future, new_plain, next_future, regist
 use Rattle.model_loop.specs.Handles.{soon}
 use Rattle.law_timeouts.proofs.Quiet.{change_task_quiet, make_quiet, mark_asked_quiet, quiet_on, refl_quiet, register_quiet, settle_quiet, soon_quiet}
 use Rattle.law_timeouts.proofs.Quiet.{spawn_quiet, taken_quiet}
-use Rattle.model_loop.specs.Groups.{Refusal, abort, abort_and_request_unless, abort_if_raised, abort_where, begin_exit, blame, child_done, create}
-use Rattle.model_loop.specs.Groups.{create_unless, end_exit, exit_begin, exit_woken, failure_of, group_of, hear, keep_and_abort_unless, refusal, set_group}
-use Rattle.model_loop.specs.Groups.{take_back, take_back_where, wait_or_end, wait_or_end_with, wake_exit, wake_if_last, with_child, without_child}
+use Rattle.model_loop.specs.Groups.{child_done, create}
+use Rattle.model_loop.specs.Groups.{exit_begin, exit_woken, set_group}
+use Rattle.model_loop.specs.Groups.{with_child}
 use Rattle.std.specs.Option.{option_map_or, option_to_list}
 use Rattle.model_loop.specs.Numbered.{IsNumbered}
 use Rattle.law_cancel.proofs.Effects.{register-tasks}
 use Rattle.law_settling.proofs.CancelSound.{plain_within, settled_callbacks}
 use Rattle.model_loop.specs.Owning.{AreCallbacks, is_callback, is_no_callback, is_plain, is_plain_at}
 use Rattle.law_cancel.proofs.Lookups.{get-push_last, get-push_other, get-set_kept}
-use Rattle.model_loop.specs.Ledger.{Booked, ByAbort, ByGroup, Origin, ask_cancel, request_each, request_where, uncancel_by}
+use Rattle.model_loop.specs.Ledger.{Booked, ByAbort, ByGroup, Origin, request_each, request_where, uncancel_by}
 use Rattle.law_numbers.proofs.Numbering.{change_task_numbers, mark_asked_numbers, register_numbers, settle_numbers, soon_numbers, taken_numbers}
-use Rattle.model_loop.specs.Loop.{Group, Loop, book, in_parts}
+use Rattle.model_loop.specs.Loop.{Group, Loop, book}
 use Rattle.model_loop.specs.Cancel.{cancel}
 use Rattle.model_value.specs.Action.{Action}
 use Rattle.model_loop.specs.Circles.{passes, passes_at}
@@ -31,8 +31,9 @@ use Rattle.law_settling.proofs.Spreading.{Spreads, begins, settles, asks, raises
 use Rattle.law_cancel.proofs.Circling.{no_circle_kept, passes-same, register-view}
 use Rattle.law_timeouts.specs.Tags.{IsQuiet, is_deadline}
 use Rattle.law_settling.specs.Frames.{taken}
+use Rattle.law_ledger.proofs.GroupFrame.{IsKeptByGroups}
+use Rattle.law_ledger.proofs.GroupFrame as group
 use Rattle.std.proofs.lemmas.List.Sums.{sum_by_push}
-use Rattle.model_value.specs.declared.input.Input.TheVariants.{Send, Throw}
 use Rattle.model_loop.specs.Deadlines.{fires}
 use Rattle.law_told.proofs.Holding.{settled_names}
 use Rattle.law_settling.proofs.Settling.{settle_cases}
@@ -264,108 +265,28 @@ pub group_loop : (id : ℕ) (new : Group) (l : Loop) → LoopCarries l (set_grou
 group_loop id new l = record { parts = refl_carries l.parts; timeouts = refl }
 
 -- ---- groups
+groups_carry : (l : Loop) → IsKeptByGroups (LoopCarries l)
+groups_carry l = record {
+  quiet = record {
+    changes = λ id new q requested exiting c. loop_on l q _ (group_loop id new q) c;
+    aborts = λ id tasks q c. loop_on l q _ (book_loop (request_each (ByAbort id) tasks) q (each_carries (ByAbort id) tasks q.parts)) c;
+    makes = λ id q c. loop_on l q _ (parts_loop q _ (child_carries id q.parts)) c;
+    waits = λ q c. loop_on l q _ (parts_loop q _ (plain_carries q.parts)) c;
+    wakes = λ future q c. loop_on l q _ (parts_loop q _ (settle_carries future (Returned Nothing) q.parts)) c;
+  };
+  requests = λ id on q c. record { parts = carries_on l.parts q.parts _ (cancel_carries on q.parts) c.parts; timeouts = c.timeouts };
+  takes = λ id task q c. loop_on l q _ (book_loop (uncancel_by (ByGroup id) task) q (uncancel_carries task q.parts)) c;
+  begins = λ raised id q c. record { parts = c.parts; timeouts = c.timeouts };
+}
+
 pub create_loop : (id : ℕ) (l : Loop) → LoopCarries l (create id l)
-create_loop id l = at (refusal (group_of l id))
-  where
-    at : (o : Option Refusal) → LoopCarries l (create_unless o id l)
-    at (Some why) = refl_loop l
-    at None = loop_on l (in_parts (with_child id) l) _ (group_loop id _ (in_parts (with_child id) l)) (parts_loop l _ (child_carries id l.parts))
-
-abort_loop : (id : ℕ) (l : Loop) → LoopCarries l (abort id l)
-abort_loop id l =
-    loop_on l (set_group id (record (group_of l id) { aborting = true }) l) _
-    (book_loop (request_each (ByAbort id) (group_of l id).children) (set_group id (record (group_of l id) { aborting = true }) l)
-    (each_carries (ByAbort id) (group_of l id).children l.parts)) (group_loop id _ l)
-
-wake_loop : (id : ℕ) (l : Loop) → LoopCarries l (wake_exit id l)
-wake_loop id l = parts_loop l _ (at (group_of l id).children (group_of l id).exit_future)
-  where
-    at : (children : List ℕ) (exit : Option ℕ) → Carries l.parts (wake_if_last children exit l.parts)
-    at [] None = refl_carries l.parts
-    at [] (Some future) = settle_carries future (Returned Nothing) l.parts
-    at (child ∷ children) exit = refl_carries l.parts
-
-blame_loop : (fault : Option Exc) (id : ℕ) (l : Loop) → LoopCarries l (blame fault id l)
-blame_loop None id l = refl_loop l
-blame_loop (Some fault) id l =
-    loop_on l (set_group id (record (group_of l id) { errors = (group_of l id).errors ++ fault ∷ [] }) l) _
-    (at ((group_of l id).aborting || (group_of l id).requested)) (group_loop id _ l)
-  where
-    at : (b : Bool) → LoopCarries (set_group id (record (group_of l id) { errors = (group_of l id).errors ++ fault ∷ [] }) l)
-        (abort_and_request_unless b id (set_group id (record (group_of l id) { errors = (group_of l id).errors ++ fault ∷ [] }) l))
-    at true = refl_loop _
-    at false =
-        let l1 = set_group id (record (group_of l id) { errors = (group_of l id).errors ++ fault ∷ [] }) l in
-        loop_on l1 (abort id l1) _
-        (loop_on (abort id l1) (set_group id (record (group_of (abort id l1) id) { requested = true }) (abort id l1)) _
-        (book_loop (ask_cancel (ByGroup id) (future_of (abort id l1).parts (group_of (abort id l1) id).parent))
-        (set_group id (record (group_of (abort id l1) id) { requested = true }) (abort id l1))
-        (cancel_carries (future_of (abort id l1).parts (group_of (abort id l1) id).parent) (abort id l1).parts))
-        (group_loop id _ (abort id l1)))
-        (abort_loop id l1)
+create_loop id l = group.create_keeps (groups_carry l).quiet id l (refl_loop l)
 
 pub child_done_loop : (id task : ℕ) (l : Loop) → LoopCarries l (child_done id task l)
-child_done_loop id task l =
-    loop_on l (without_child id task l) _
-    (loop_on (without_child id task l) (wake_exit id (without_child id task l)) _
-    (blame_loop (failure_of l.parts task) id (wake_exit id (without_child id task l))) (wake_loop id (without_child id task l)))
-    (group_loop id _ l)
-
-end_loop : (kept : Option Exc) (errors : List Exc) (id : ℕ) (l : Loop) → LoopCarries l (end_exit kept errors id l).loop
-end_loop None errors id l = group_loop id _ l
-end_loop (Some fault) [] id l = group_loop id _ l
-end_loop (Some fault) (x ∷ xs) id l = group_loop id _ l
-
-wait_or_end_loop : (id : ℕ) (l : Loop) → LoopCarries l (wait_or_end id l).loop
-wait_or_end_loop id l = at (group_of l id).children
-  where
-    at : (children : List ℕ) → LoopCarries l (wait_or_end_with children id l).loop
-    at [] = end_loop (group_of l id).kept (group_of l id).errors id l
-    at (child ∷ children) =
-        loop_on l (in_parts new_plain l) _ (group_loop id _ (in_parts new_plain l)) (parts_loop l _ (plain_carries l.parts))
-
-hear_loop : (input : Input) (id : ℕ) (l : Loop) → LoopCarries l (hear input id l)
-hear_loop (Send value) id l = refl_loop l
-hear_loop (Throw fault) id l = at (group_of l id).aborting
-  where
-    at : (b : Bool) → LoopCarries l (keep_and_abort_unless b fault id l)
-    at true = refl_loop l
-    at false =
-        loop_on l (set_group id (record (group_of l id) { kept = Some fault }) l) _
-        (abort_loop id (set_group id (record (group_of l id) { kept = Some fault }) l)) (group_loop id _ l)
+child_done_loop id task l = group.child_done_keeps (groups_carry l) id task l (refl_loop l)
 
 pub woken_loop : (input : Input) (id : ℕ) (l : Loop) → LoopCarries l (exit_woken input id l).loop
-woken_loop input id l =
-    let l1 = set_group id (record (group_of l id) { exit_future = None }) l in
-    loop_on l l1 _ (loop_on l1 (hear input id l1) _ (wait_or_end_loop id (hear input id l1)) (hear_loop input id l1)) (group_loop id _ l)
-
-take_back_loop : (id : ℕ) (l : Loop) → LoopCarries l (take_back id l)
-take_back_loop id l = at (group_of l id).requested
-  where
-    taken_loop : LoopCarries l (book (uncancel_by (ByGroup id) (group_of l id).parent) l)
-    taken_loop = book_loop (uncancel_by (ByGroup id) (group_of l id).parent) l (uncancel_carries (group_of l id).parent l.parts)
-
-    at : (requested : Bool) → LoopCarries l (take_back_where requested id l)
-    at false = refl_loop l
-    at true =
-        elim (cancelling (uncancel (group_of l id).parent l.parts) (group_of l id).parent == 0) as (λ b.
-        LoopCarries l (cond b (set_group id (record (group_of l id) { kept = None })
-        (book (uncancel_by (ByGroup id) (group_of l id).parent) l)) (book (uncancel_by (ByGroup id) (group_of l id).parent) l))) [
-          | true ↦ loop_on l (book (uncancel_by (ByGroup id) (group_of l id).parent) l) _ (group_loop id _ _) taken_loop
-          | false ↦ taken_loop
-        ]
+woken_loop input id l = group.exit_woken_keeps (groups_carry l).quiet input id l (refl_loop l)
 
 pub begin_loop : (raised : Option Exc) (id : ℕ) (l : Loop) → LoopCarries l (exit_begin raised id l).loop
-begin_loop raised id l =
-    let begun = begin_exit raised id l in
-    let taken_ = take_back id begun in
-    loop_on l begun _
-    (loop_on begun taken_ _
-    (loop_on taken_ (abort_if_raised raised id taken_) _ (wait_or_end_loop id (abort_if_raised raised id taken_))
-    (at (is_some raised && not (group_of taken_ id).aborting) taken_))
-    (take_back_loop id begun))
-    (record { parts = refl_carries l.parts; timeouts = refl })
-  where
-    at : (b : Bool) (q : Loop) → LoopCarries q (abort_where b id q)
-    at true q = abort_loop id q
-    at false q = refl_loop q
+begin_loop raised id l = group.exit_begin_keeps (groups_carry l) raised id l (refl_loop l)

@@ -1,5 +1,6 @@
 pub mod Carrying
-pub mod Beginning
 pub mod Steps
+pub mod Registering
+pub mod Beginning
 pub mod GroupSteps
 pub mod TimeoutSteps

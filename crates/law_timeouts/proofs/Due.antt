@@ -86,6 +86,12 @@ fallen_due p = by_deadline (early p.time p.timers)
 due-timers : (p : Parts) → (due p).timers ≡ late p.time p.timers
 due-timers p = fall_due-timers (fallen_due p) (without_due p)
 
+pub due-next : (p : Parts) → (due p).next_tag ≡ p.next_tag
+due-next p = fall_due-next (fallen_due p) (without_due p)
+
+pub due-futures : (p : Parts) → (due p).futures ≡ p.futures
+due-futures p = fall_due-futures (fallen_due p) (without_due p)
+
 pub due-tasks : (p : Parts) → (due p).tasks ≡ p.tasks
 due-tasks p = fall_due-tasks (fallen_due p) (without_due p)
 
@@ -97,11 +103,11 @@ due-handles test p =
     let c = split-where test p.time p.timers in
     omega (arith, a, b, c)
 
-due-entries : (test : ℕ → Action → Bool) (p : Parts) → entries test (due p) ≡ entries test p
+pub due-entries : (test : ℕ → Action → Bool) (p : Parts) → entries test (due p) ≡ entries test p
 due-entries test p =
     ap (λ l. handles_where test (due p).pending + timers_where test l) (due-timers p) ∙ due-handles test p
 
-late_fewer : (test : ℕ → Action → Bool) (p : Parts) → timers_where test (due p).timers ≤ timers_where test p.timers
+pub late_fewer : (test : ℕ → Action → Bool) (p : Parts) → timers_where test (due p).timers ≤ timers_where test p.timers
 late_fewer test p =
     let a = split-where test p.time p.timers in
     let b = ap (timers_where test) (due-timers p) in
@@ -110,7 +116,7 @@ late_fewer test p =
 pub due_quiet : (p : Parts) → IsQuiet p (due p)
 due_quiet p = record {
   tags = record {
-    next = let e = fall_due-next (fallen_due p) (without_due p) in omega (arith, e);
+    next = let e = due-next p in omega (arith, e);
     any = λ id. due-entries (fires_any id) p;
     as_tag = λ id tag. due-entries (fires_as id tag) p;
     others = λ id tag h. let e = due-entries (others_as id tag) p in omega (arith, e);
@@ -143,7 +149,7 @@ timers_followed p timed test follows =
 
 pub due_looks_same : (p : Parts) → AreTimed p → LooksSame p (due p)
 due_looks_same p timed =
-    handles_look_same p (due p) (fall_due-futures (fallen_due p) (without_due p)) (fall_due-tasks (fallen_due p) (without_due p)) pending
+    handles_look_same p (due p) (due-futures p) (due-tasks p) pending
   where
     pending : (test : Action → Bool) → Follows test → pending_where test (due p).pending ≡ pending_where test p.pending
     pending test follows =

@@ -29,7 +29,7 @@ token-is token column text s e =
     λ i. record { class = token.class; start = start i; end = end i }
 
 -- the tokens behind a blank
-Reads-blank : (column : ℕ) (rest : List ℕ) (tokens : List Token) → Reads (column + 1) rest tokens → Reads column (32 ∷ rest) tokens
+pub Reads-blank : (column : ℕ) (rest : List ℕ) (tokens : List Token) → Reads (column + 1) rest tokens → Reads column (32 ∷ rest) tokens
 Reads-blank column rest [] r = (suc r.0, r.1, ap (λ more. 32 ∷ more) r.2, r.3)
 Reads-blank column rest (token ∷ tokens) r = (
   r.0,

@@ -1,10 +1,10 @@
 -- Each word that is written, with the token that it is read as.
-use Rattle.std.proofs.Common.{◌≡◌, ℕ, zero, suc, ◌+◌, ◌<◌, ◌≤◌, Bool, true, false, not, ◌&&◌, List, [], ◌∷◌, ◌++◌, length, refl, sym, ap, subst, ◌∙◌}
+use Rattle.std.proofs.Common.{◌≡◌, ℕ, ◌+◌, ◌<◌, ◌≤◌, Bool, true, false, not, ◌&&◌, List, [], ◌∷◌, ◌++◌, length, refl, sym, ap, subst, ◌∙◌}
 use Rattle.std.proofs.Common.{append_assoc, arith, nat_eq, nat_le}
 use Rattle.std.specs.List.{list_all, AllByRecursion}
 use Rattle.std.specs.Fmt.{decimal}
 use Rattle.std.proofs.lemmas.List.{length-append}
-use Rattle.std.proofs.lemmas.Bool.{and_parts, eqb-true}
+use Rattle.std.proofs.lemmas.Bool.{and_parts}
 use Rattle.std.proofs.lemmas.Bool.Decides.{nat_tests}
 use Rattle.model_value.specs.declared.place.Place.TheVariants.{InBytes}
 use Rattle.model_value.specs.Escapes.{escaped_byte, escaped, bytes_literal}
@@ -21,7 +21,7 @@ use Rattle.model_wire.specs.declared.entry.EntryToken.TheVariants as token
 use Rattle.model_wire.specs.JournalText.{EntryToken, QuoteState, Outside, Inside, Escaped, standing_after, is_outside, is_some, are_digits, most_id}
 use Rattle.model_wire.specs.JournalText.{entry_word_text, token_of, number_token, minus_token, id_token, literal_token}
 use Rattle.law_tokens.proofs.PartLemmas.{literal_bytes-Says, inside_of-Says}
-use Rattle.law_lines.proofs.Spelling.{bytes-literal}
+use Rattle.law_lines.proofs.Spelling.{all_below, below, bytes-literal}
 use Rattle.law_wire.proofs.Numbers.{decimal-of}
 use Rattle.law_wire.proofs.Words.{parts_nothing, standing_over, Leads, leads, IsWord}
 
@@ -127,21 +127,6 @@ child-word n h =
     word-of (80 ∷ decimal n) (token.Id letter.Child n) refl s.0 s.1 (id-read letter.Child n (decimal n) h d.0 d.1)
 
 -- ---- literals
--- what holds of each number below a bound, since it was computed
-abbrev all_below : ℕ → (ℕ → Bool) → Bool
-all_below zero test = true
-all_below (suc n) test = test n && all_below n test
-
-by_order : (n : ℕ) (test : ℕ → Bool) (b : ℕ) → test n ≡ true → (same : Bool) → nat_eq b n ≡ same → (b < n → test b ≡ true) → b < suc n → test b ≡ true
-by_order n test b p true s others h = subst (λ k. test k ≡ true) (sym (eqb-true b n s)) p
-by_order n test b p false s others h = others (grind (arith, nat_tests))
-
-below : (n : ℕ) (test : ℕ → Bool) (b : ℕ) → all_below n test ≡ true → b < n → test b ≡ true
-below zero test b e h = absurd (omega arith)
-below (suc n) test b e h =
-    let p = and_parts (test n) (all_below n test) e in
-    by_order n test b p.0 (nat_eq b n) refl (λ smaller. below n test b p.1 smaller) h
-
 abbrev is_inside : QuoteState → Bool
 is_inside Outside = false
 is_inside Inside = true

@@ -3,23 +3,19 @@ use Rattle.std.proofs.Common.{◌≡◌, ℕ, ℤ, zero, suc, ◌<◌, true, fal
 use Rattle.std.proofs.Common.{arith}
 use Rattle.std.specs.List.{All, list_all}
 use Rattle.std.proofs.lemmas.Bool.{and_parts, false≢true, ltb-true}
-use Rattle.std.proofs.lemmas.Option.{none-some}
 use Rattle.std.proofs.lemmas.List.Elements.{All-cons, All-nil}
 use Rattle.model_value.specs.Value.{Value, Nothing, Exc, Outcome}
 use Rattle.model_value.specs.declared.action.Action.TheVariants.{GroupDone, Fires, SleepDone}
 use Rattle.model_value.specs.declared.input.Input.TheVariants.{Send}
-use Rattle.model_loop.specs.Circles.{at_once, through}
-use Rattle.model_loop.specs.Children.{IsTold, told_more}
+use Rattle.model_loop.specs.Children.{told_more}
 use Rattle.model_loop.specs.Futures.{is_pending, new_plain, new_many, next_future, settle}
 use Rattle.model_loop.specs.Groups.{new_group, group_of, make_group, enter_group, create, child_done, exit_begin}
 use Rattle.model_loop.specs.Handles.{due, later}
 use Rattle.model_loop.specs.Ledger.{ByScript, ask_cancel, uncancel_by}
 use Rattle.model_loop.specs.Loop.{Group, Loop, book, in_parts}
-use Rattle.model_loop.specs.Numbered.{AreGivenOnce}
 use Rattle.model_loop.specs.Owning.{is_plain}
 use Rattle.model_loop.specs.Parts.{Handle}
-use Rattle.model_loop.specs.Sound.{HasNoCircle, IsSound}
-use Rattle.model_loop.specs.Start.{no_parts}
+use Rattle.model_loop.specs.Sound.{IsSound}
 use Rattle.model_loop.specs.Suspend.{suspend}
 use Rattle.model_loop.specs.Tasks.{begin_step, finish, lives, pause, spawn}
 use Rattle.model_loop.specs.Timeouts.{enter_timeout, exit_timeout, fire, timeout_of}
@@ -33,82 +29,6 @@ use Rattle.law_sound.proofs.Carrying.{looks_carries}
 use Rattle.law_sound.proofs.GroupSteps as group
 use Rattle.law_sound.proofs.Steps as step
 use Rattle.law_sound.proofs.TimeoutSteps as timeout
-use Rattle.row_loop.specs.Standing.{bare}
-
--- ---- nothing was made
-none_given : AreGivenOnce [] 0
-none_given = record { once = λ k. omega arith; below = λ k h. refl }
-
-no_circle : HasNoCircle no_parts
-no_circle id (at_once e) = absurd (false≢true e)
-no_circle id (through next e l) = absurd (false≢true e)
-
-none_told : (id : ℕ) → IsTold no_parts id [] (new_group 0)
-none_told id = record {
-  tellings = λ task. refl;
-  at_home = λ task on h. absurd (omega (arith, h));
-  not_yet = λ task l. refl;
-  told_done = λ task h. refl;
-  made_below = λ task h. absurd (omega (arith, h));
-  parent_lives = λ e n. absurd (false≢true e);
-}
-
--- groups that were told of no task
-abbrev pub nobody : ℕ → List ℕ
-nobody group = []
-
-pub nothing : IsSound None nobody (bare no_parts [])
-nothing = record {
-  numbered = record { stamps = none_given; tags = none_given; members = λ id. All-nil (λ member. member < id) };
-  no_circle = no_circle;
-  parts = record {
-    owns = λ id task. (λ h. absurd (none-some task h), λ h. absurd (none-some id h));
-    settled = λ id h. refl;
-    callbacks = λ id. refl;
-    runs = λ task r. absurd (false≢true r);
-    free = λ task r. absurd (false≢true r);
-    waits_made = λ task on w. absurd (none-some on w);
-    one_way = record {
-      one = λ task. refl;
-      on_waiter = λ task on h. absurd (omega (arith, h));
-      stays = λ task on l w h. absurd (none-some on w);
-    };
-    ready = record { free = λ task h. refl; woken = λ task h. absurd (omega (arith, h)) };
-    marks = λ task l m. absurd (false≢true m);
-  };
-  timed = record { timers = refl; sleeps = λ id h. absurd (omega (arith, h)) };
-  timeouts = λ id. record {
-    held = refl;
-    active = λ tag e. absurd (none-some tag e);
-    below = λ tag e. absurd (none-some tag e);
-    own = λ tag e. absurd (none-some tag e);
-  };
-  groups = λ id. record {
-    tellings = none_told id;
-    kept = record {
-      made_once = λ task. omega arith;
-      child_or_told = λ task. refl;
-      none_left = λ h. refl;
-      ended_exiting = λ h. absurd (false≢true h);
-    };
-    errors = refl;
-    orderly = record {
-      exiting_entered = λ e. absurd (false≢true e);
-      kept_clean = λ fault e. refl;
-      body_aborts = λ e. refl;
-      body_exiting = λ e. refl;
-      kept_exiting = λ e. refl;
-      waits_exiting = λ e. refl;
-      waits_open = λ e. refl;
-    };
-    plain_exit = λ future e. absurd (none-some future e);
-  };
-  balance = record {
-    tasks = λ task. refl;
-    timeouts = λ id. record { asked = refl; took = refl };
-    groups = λ id. record { asked = refl; began = refl; took = refl };
-  };
-}
 
 -- ---- what is made, whoever runs; a script asks for a cancel and takes one back, and so does what is added
 module _ {running : Option ℕ} {told : ℕ → List ℕ} {l : Loop} (s : IsSound running told l) where

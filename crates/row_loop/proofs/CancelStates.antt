@@ -17,13 +17,14 @@ use Rattle.model_loop.specs.Ways.{one_if}
 use Rattle.law_cancel.proofs.Counting.{change_task-kept}
 use Rattle.law_settling.proofs.Looks.{change_looks_same}
 use Rattle.law_told.proofs.Holding.{looks_holds}
+use Rattle.law_sound.proofs.Beginning.{nobody, no_loop_sound as nothing}
 use Rattle.law_sound.proofs.Carrying.{change_carries}
 use Rattle.law_sound.proofs.Steps as step
 use Rattle.row_loop.specs.Cancels.{all_done, awaited_runs, chain, chain_cancelled, free_task, full_count, member_refused, member_runs, one_of_two}
 use Rattle.row_loop.specs.Cancels.{one_of_two_cancelled, refused, twice_to_one, two_on_one, two_ways}
 use Rattle.row_loop.specs.Made.{free, parts_of, waiting}
 use Rattle.row_loop.specs.Standing.{PartsStand, bare}
-use Rattle.row_loop.proofs.Building.{asks, begins, below, many, nobody, nothing, plain, settles, task, waits}
+use Rattle.row_loop.proofs.Building.{asks, begins, below, many, plain, settles, task, waits}
 
 -- task 0 awaits task 1, and that task 2, which waits
 awaits_two : IsSound None nobody (bare chain [])

@@ -8,11 +8,12 @@ use Rattle.model_loop.specs.Loop.{Loop}
 use Rattle.model_loop.specs.Parts.{OfTask, Plain}
 use Rattle.model_loop.specs.Sound.{IsSound}
 use Rattle.model_loop.specs.Tasks.{cancelled_error}
+use Rattle.law_sound.proofs.Beginning.{nobody, no_loop_sound as nothing}
 use Rattle.row_loop.specs.Family.{a, all_woken, asked_before, b, both_failed, c, cancelled_body, child_failed, in_block, last_was_told, loop_of, parent_alone}
 use Rattle.row_loop.specs.Family.{parent_with_child, parent_woken, three_children, told_nothing, told_one, unentered}
 use Rattle.row_loop.specs.Made.{free, parts_of, waiting, waits as waiting_for}
 use Rattle.row_loop.specs.Standing.{Stands}
-use Rattle.row_loop.proofs.Building.{asks, begins, begins_exit, creates, enters_group, child_finishes, makes_group, nobody, nothing, pauses, plain, task, tells}
+use Rattle.row_loop.proofs.Building.{asks, begins, begins_exit, creates, enters_group, child_finishes, makes_group, pauses, plain, task, tells}
 use Rattle.row_loop.proofs.Building.{waits}
 
 first : 0 < 1

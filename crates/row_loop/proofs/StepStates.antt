@@ -3,12 +3,12 @@ use Rattle.std.proofs.Common.{[], ◌∷◌, Some, None, Ok, refl}
 use Rattle.model_value.specs.Value.{Nothing}
 use Rattle.model_value.specs.declared.action.Action.TheVariants.{Step}
 use Rattle.model_loop.specs.Sound.{IsSound}
-use Rattle.law_sound.proofs.Beginning.{first_sound}
+use Rattle.law_sound.proofs.Beginning.{first_sound, nobody, no_loop_sound as nothing}
 use Rattle.row_loop.specs.Ledgers.{main_done}
 use Rattle.row_loop.specs.Standing.{PartsStand, Stands, bare}
 use Rattle.row_loop.specs.Steps.{awaited, nothing_made, one_task, paused, running, running_marked, running_over_none, sleeping, three_timers, two_due}
 use Rattle.row_loop.specs.Steps.{woken_and_marked, woken_at_once}
-use Rattle.row_loop.proofs.Building.{asks, at, begins, below, falls_due, finishes, lowers, many, no_group, nobody, nothing, pauses, plain, sleeps, task, waits}
+use Rattle.row_loop.proofs.Building.{asks, at, begins, below, falls_due, finishes, lowers, many, no_group, pauses, plain, sleeps, task, waits}
 
 pub nothing_made_stands : PartsStand None nothing_made
 nothing_made_stands = ([], (nobody, nothing))

@@ -3,10 +3,11 @@ use Rattle.std.proofs.Common.{◌<◌, ◌++◌, Some, None, pos, refl, arith}
 use Rattle.model_loop.specs.Loop.{Expired, Expiring}
 use Rattle.model_loop.specs.Sound.{IsSound}
 use Rattle.model_loop.specs.Tasks.{cancelled_error}
+use Rattle.law_sound.proofs.Beginning.{nobody, no_loop_sound as nothing}
 use Rattle.row_loop.specs.Nested.{alone_due, alone_left, alone_waiting, before, both_asked, both_due, expiring_alone, expiring_and_asked, expiring_and_lowered}
 use Rattle.row_loop.specs.Nested.{inner_took, outer_fired, stepping}
 use Rattle.row_loop.specs.Standing.{Stands}
-use Rattle.row_loop.proofs.Building.{asks, at, begins, enters, falls_due, fires, leaves, lowers, nobody, nothing, pauses, plain, task, waits}
+use Rattle.row_loop.proofs.Building.{asks, at, begins, enters, falls_due, fires, leaves, lowers, pauses, plain, task, waits}
 
 before_both : IsSound (Some 0) nobody before
 before_both = begins (task nothing) 0 refl refl refl
