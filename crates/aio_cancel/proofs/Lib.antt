@@ -1,2 +1,3 @@
 pub mod MarkedLemmas
 pub mod PartsLemmas
+pub mod MemberLemmas

@@ -2,3 +2,5 @@ pub mod Code
 pub mod Seen
 pub mod Awaitables
 pub mod Noted
+pub mod Room
+pub mod Members

@@ -8,10 +8,11 @@ ghost use Rattle.law_parts.specs.declared.walk.Go.TheVariants as go;
 ghost use Rattle.law_parts.specs.declared.walk.FutureState.TheVariants as stands;
 ghost use Rattle.law_parts.specs.Shape.{stands_at};
 ghost use Rattle.law_parts.specs.Weight.{weight};
-ghost use Rattle.law_parts.specs.Open.{CanWalk, room_of};
+ghost use Rattle.law_parts.specs.Open.{CanWalk};
 ghost use Rattle.law_parts.specs.Seek.{CanSeek};
 ghost use Rattle.aio_cancel.specs.Awaitables.{parts};
 ghost use Rattle.aio_cancel.specs.Noted.{noted, HasNoNotes};
+ghost use Rattle.aio_cancel.specs.Room.{HasRoom};
 
 use crate::awaitables::Awaitables;
 use crate::marks::Marks;
@@ -119,22 +120,7 @@ fn seek_next(
     ensures room { stack.new.room ≡ stack.old.room }
 {
     match body.member(id, place) {
-        Some(member) => {
-            if member < id {
-                stack.push(WalkFrame::Members {
-                    id,
-                    place: place + 1,
-                    any,
-                });
-                Go::Visit(member)
-            } else {
-                Go::Next {
-                    id,
-                    place: place + 1,
-                    any,
-                }
-            }
-        }
+        Some(member) => stack.take_member(id, place, any, member),
         None => Go::Answer(false),
     }
 }
@@ -166,12 +152,8 @@ fn search(
     stack: &mut WalkStack,
 ) -> bool
     requires differ { from ≡ to → ⊥ }
-    requires empty { stack.old.frames ≡ [] }
-    requires unseen { seen.old.visited ≡ [] }
-    requires unnoted { HasNoNotes notes.old }
     requires no_circle { HasNoCircle (parts body.now) }
-    requires fits { room_of (parts body.now) ≤ stack.old.room }
-    requires marked { length body.now.tasks ≤ seen.old.tasks }
+    requires room { HasRoom body.now stack.old seen.old notes.old }
     ensures answer { result ≡ leads_of (parts body.now) from to }
     ensures room { stack.new.room ≡ stack.old.room }
     ensures marks { seen.new.tasks ≡ seen.old.tasks }
@@ -204,12 +186,8 @@ pub fn leads(
     stack: &mut WalkStack,
 ) -> bool
     requires differ { from ≡ to → ⊥ }
-    requires empty { stack.old.frames ≡ [] }
-    requires unseen { seen.old.visited ≡ [] }
-    requires unnoted { HasNoNotes notes.old }
     requires no_circle { HasNoCircle (parts body.now) }
-    requires fits { room_of (parts body.now) ≤ stack.old.room }
-    requires marked { length body.now.tasks ≤ seen.old.tasks }
+    requires room { HasRoom body.now stack.old seen.old notes.old }
     ensures answer { result ≡ leads_of (parts body.now) from to }
     ensures stack { stack.new ≡ stack.old }
     ensures seen { seen.new ≡ seen.old }

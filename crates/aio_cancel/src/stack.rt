@@ -1,8 +1,10 @@
 //! What waits for an answer in a request.
-ghost use Rattle.std.specs.Prelude.{◌≡◌, ◌+◌, ◌<◌, [], ◌∷◌, ◌++◌, OnOk, OnErr, MatchOption, length};
+ghost use Rattle.std.specs.Prelude.{◌≡◌, ◌+◌, ◌<◌, ◌^◌, [], ◌∷◌, ◌++◌, OnOk, OnErr, MatchOption, length};
+ghost use Rattle.aio_cancel.specs.Members.{TakesMember};
 
 use aio_base::Memory;
-use law_parts::WalkFrame;
+use aio_future::FutureId;
+use law_parts::{Go, WalkFrame};
 use std::alloc::Global;
 use std::marker::Model;
 
@@ -53,6 +55,35 @@ impl WalkStack {
     {
         let pushed = self.frames.push(frame);
         prove!(pushed.is_ok());
+    }
+
+    /// The next member of a future that stands for several, at a place: where it was made before
+    /// that it comes next, and those after it wait. Another one is passed over.
+    pub(crate) fn take_member(
+        &mut self,
+        id: FutureId,
+        place: usize,
+        any: bool,
+        member: FutureId,
+    ) -> Go
+        requires place { place + 1 < 2 ^ 64 }
+        requires room { member < id → length self.old.frames < self.old.room }
+        ensures { TakesMember id place member any self.old result self.new }
+    {
+        if member < id {
+            self.push(WalkFrame::Members {
+                id,
+                place: place + 1,
+                any,
+            });
+            Go::Visit(member)
+        } else {
+            Go::Next {
+                id,
+                place: place + 1,
+                any,
+            }
+        }
     }
 
     pub fn pop(&mut self) -> Option<WalkFrame>

@@ -1,18 +1,19 @@
 //! A cancel request, with what is left to do on a stack.
-ghost use Rattle.std.specs.Prelude.{◌≡◌, ◌<◌, ◌≤◌, ℕ, List, [], ◌∷◌, ◌++◌, length};
+ghost use Rattle.std.specs.Prelude.{◌≡◌, ◌<◌, ℕ, List, [], ◌∷◌, ◌++◌};
 ghost use Rattle.model_loop.specs.Cancel.{cancel as cancel_of};
 ghost use Rattle.model_loop.specs.Sound.{HasNoCircle};
 ghost use Rattle.law_parts.specs.declared.walk.WalkFrame.{WalkFrame as PlainFrame};
 ghost use Rattle.law_parts.specs.declared.walk.Go.TheVariants as go;
 ghost use Rattle.law_parts.specs.Walk.{run, run_task};
 ghost use Rattle.law_parts.specs.Weight.{weight};
-ghost use Rattle.law_parts.specs.Open.{CanWalk, room_of};
+ghost use Rattle.law_parts.specs.Open.{CanWalk};
 ghost use Rattle.law_parts.specs.Shape.{stands_at};
 ghost use Rattle.law_parts.specs.declared.walk.FutureState.TheVariants as stands;
 ghost use Rattle.std.specs.Prelude.{slice_get};
 ghost use Rattle.law_parts.specs.Quiet.{Sound, Later};
 ghost use Rattle.aio_cancel.specs.Awaitables.{parts, Appended};
 ghost use Rattle.aio_cancel.specs.Noted.{noted, HasNoNotes};
+ghost use Rattle.aio_cancel.specs.Room.{HasRoom};
 
 use crate::awaitables::Awaitables;
 use crate::marks::Marks;
@@ -127,22 +128,7 @@ fn next(
     ensures room { stack.new.room ≡ stack.old.room }
 {
     match body.member(id, place) {
-        Some(member) => {
-            if member < id {
-                stack.push(WalkFrame::Members {
-                    id,
-                    place: place + 1,
-                    any,
-                });
-                Go::Visit(member)
-            } else {
-                Go::Next {
-                    id,
-                    place: place + 1,
-                    any,
-                }
-            }
-        }
+        Some(member) => stack.take_member(id, place, any, member),
         None => {
             body.ask_where(any, id);
             note(id, body, seen, notes);
@@ -187,12 +173,8 @@ pub fn cancel(
     notes: &mut Notes,
     stack: &mut WalkStack,
 ) -> bool
-    requires empty { stack.old.frames ≡ [] }
-    requires unseen { seen.old.visited ≡ [] }
-    requires unnoted { HasNoNotes notes.old }
     requires no_circle { HasNoCircle (parts body.old) }
-    requires fits { room_of (parts body.old) ≤ stack.old.room }
-    requires marked { length body.old.tasks ≤ seen.old.tasks }
+    requires room { HasRoom body.old stack.old seen.old notes.old }
     ensures after { parts body.new ≡ (cancel_of target (parts body.old)).parts }
     ensures answer { result ≡ (cancel_of target (parts body.old)).answer }
     ensures queue { Appended body.old.queue body.new.queue }

@@ -1,22 +1,25 @@
 -- A call on the groups, by what it made of one group.
-use Rattle.std.proofs.Common.{◌≡◌, ℕ, zero, suc, ◌<◌, ◌&&◌, not, true, List, [], ◌∷◌, Option, Some, None, Result, Ok, Err, length, slice_get, slice_set, refl}
-use Rattle.std.proofs.Common.{ap, sym, subst, ◌∙◌, arith}
+use Rattle.std.proofs.Common.{◌≡◌, ℕ, zero, suc, ◌<◌, ◌≤◌, ◌&&◌, not, true, List, [], ◌∷◌, Option, Some, None, Result, Ok, Err, length, slice_get}
+use Rattle.std.proofs.Common.{slice_set, refl, ap, sym, subst, ◌∙◌, arith, IfOk}
 use Rattle.std.proofs.lemmas.Bool.{false≢true}
+use Rattle.std.proofs.lemmas.Result.{IfOk-weaker, on_err_weaker}
 use Rattle.std.specs.Prelude.{OnErr, slice_index_or}
 use Rattle.model_loop.specs.Cancel.{has_seen}
-use Rattle.model_loop.specs.Groups.{Refusal, NotEntered, IsFinished, IsShuttingDown, new_group, group_of, refusal, create, create_unless}
+use Rattle.model_loop.specs.Groups.{Exited, Refusal, NotEntered, IsFinished, IsShuttingDown, new_group, group_of, refusal, create, create_unless}
 use Rattle.model_loop.specs.Loop.{Loop}
 use Rattle.model_loop.specs.Tasks.{next_task}
 use Rattle.aio_task.specs.View.{View}
 use Rattle.aio_task.specs.Keeps.{Ties}
 use Rattle.aio_group.specs.declared.created.Created.{Created}
 use Rattle.aio_group.specs.declared.created.Created.TheVariants as created
-use Rattle.aio_group.specs.Answers.{created_of}
+use Rattle.aio_group.specs.declared.exit.GroupExit.{GroupExit}
+use Rattle.aio_group.specs.Answers.{created_of, exit_of}
+use Rattle.aio_group.specs.Exits.{Exits}
 use Rattle.aio_group.specs.GoesOn.{Moves}
 use Rattle.aio_group.specs.Held.{Held, new_held, held_at, shown}
-use Rattle.aio_group.specs.Stands.{Belongs, AllBelong, Stands, Came}
+use Rattle.aio_group.specs.Stands.{Belongs, AllBelong, Stands, Came, Steps}
 use Rattle.aio_group.proofs.Belonging.{all_belong_on, all_belong_set}
-use Rattle.aio_group.proofs.Listing.{index_past}
+use Rattle.aio_group.proofs.Listing.{get_past, index_past, set-same}
 use Rattle.aio_group.proofs.Numbering.{none_there, refused_stands}
 use Rattle.aio_group.proofs.Standing.{stays}
 
@@ -31,13 +34,50 @@ get_of [] id held m e = absurd (omega (arith, m))
 get_of (x ∷ groups) zero held m e = ap Some (sym e)
 get_of (x ∷ groups) (suc id) held m e = get_of groups id held (omega (arith, m)) e
 
--- one group changed
-pub changed_belong : (v w : View) (groups : List Held) (id : ℕ) (old new : Held) → slice_get groups id ≡ Some old → AllBelong v groups
-    → Moves v w → Belongs w new → AllBelong w (slice_set groups id new)
-changed_belong v w groups id old new e all moves is =
-    all_belong_set w groups id old new e (all_belong_on v w moves groups all) is
+-- the group of a number, in the list that the fields hold and in the one that contracts see
+pub record Found (items seen : List Held) (id : ℕ) (held : Held) : Type 0 where
+  pub same : items ≡ seen
+  pub at : slice_get items id ≡ Some held
+
+pub found : {items seen : List Held} (id : ℕ) (held : Held) → items ≡ seen → id < length items → held ≡ slice_index_or items id held
+    → Found items seen id held
+found {items} id held same below is = record { same = same; at = get_of items id held below is }
+
+module _ {items seen : List Held} {id : ℕ} {held : Held} (f : Found items seen id held) where
+  pub found_belongs : (v : View) → AllBelong v seen → Belongs v held
+  found_belongs v all = all id held (ap (λ gs. slice_get gs id) (sym f.same) ∙ f.at)
+
+  pub found_stands : (t : Ties) (v : View) (l : Loop) → Stands t seen v l → Stands t items v l
+  found_stands t v l s = subst (λ gs. Stands t gs v l) (sym f.same) s
+
+  -- nothing became of it
+  pub kept_same : slice_set items id held ≡ seen
+  kept_same = set-same items id held f.at ∙ f.same
+
+  -- it became another one
+  module _ (v w : View) (new : Held) where
+    pub changed_belong : AllBelong v seen → Moves v w → Belongs w new → AllBelong w (slice_set items id new)
+    changed_belong all moves is =
+        all_belong_set w items id held new f.at (all_belong_on v w moves items (subst (λ gs. AllBelong v gs) (sym f.same) all)) is
+
+    pub changed_came : (step : ℕ → Loop → Loop) → Steps held v new w step → (t : Ties) (l : Loop) → Stands t seen v l
+        → Came t l (slice_set items id new) w (step id l)
+    changed_came step steps t l s = steps t items id l f.at (found_stands t v l s)
+
+    pub exit_came : {E : Type 0} (result : Result GroupExit E) (step : ℕ → Loop → Exited)
+        → IfOk result (λ exit. Exits held v new w step exit)
+        → IfOk result (λ exit. (t : Ties) (l : Loop) → Stands t seen v l
+        → Came t l (slice_set items id new) w (step id l).loop × (exit_of exit ≡ (step id l).answer))
+    exit_came result step = IfOk-weaker result _ _ (λ exit steps t l s. steps t items id l f.at (found_stands t v l s))
+
+    pub err_came : {T E : Type 0} (result : Result T E) → OnErr result ((new ≡ held) × (w ≡ v))
+        → OnErr result ((slice_set items id new ≡ seen) × (w ≡ v))
+    err_came result = on_err_weaker result (λ e. (ap (λ h. slice_set items id h) e.0 ∙ kept_same, e.1))
 
 -- ---- a group that isn't
+pub none_at : {items seen : List Held} (id : ℕ) → items ≡ seen → length items ≤ id → slice_get seen id ≡ None
+none_at {items} id same past = ap (λ gs. slice_get gs id) (sym same) ∙ get_past items id past
+
 -- it isn't entered, has no child and doesn't wait
 pub none_is_new : (groups : List Held) (id : ℕ) → slice_get groups id ≡ None → held_at groups id ≡ new_held 0
 none_is_new groups id e = index_past groups id (new_held 0) e

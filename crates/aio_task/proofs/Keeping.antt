@@ -24,11 +24,13 @@ use Rattle.aio_timer.specs.declared.live.TimerId.{TimerId}
 use Rattle.aio_timer.specs.Schedule.{Schedule, timer, placed_after, without, is_of, lives, due_at, later_than, fallen}
 use Rattle.law_parts.specs.Open.{room_of}
 use Rattle.aio_cancel.specs.Noted.{Noted}
+use Rattle.aio_cancel.specs.Room as walk
 use Rattle.aio_cancel.specs.Seen.{Marked, Stacked}
-use Rattle.aio_cancel.specs.Awaitables.{waiting}
+use Rattle.aio_cancel.specs.Awaitables as request
+use Rattle.aio_cancel.specs.Awaitables.{Awaitables, waiting}
 use Rattle.aio_task.specs.Bare.{bare}
 use Rattle.aio_task.specs.View.{View, parts, is_step, steps_as, NamesNoStep}
-use Rattle.aio_task.specs.Kept.{AreSound, IsKept, HasRoom, is_timer, steps_as_timer, steps_later}
+use Rattle.aio_task.specs.Kept.{AreSound, IsKept, is_timer, steps_as_timer, steps_later}
 use Rattle.aio_task.proofs.BareLemmas.{make-bare}
 use Rattle.aio_task.proofs.BareSteps.{passes-bare}
 use Rattle.aio_task.proofs.Queues.{or_none, none_or, live, live-pending, live-appended, live-cancelled, live-fallen, any-cancelled, any-fallen, any-soon}
@@ -222,8 +224,8 @@ barred_kept v idle is =
     (ap (list_any steps_as_timer) (waiting-barred v.queue) ∙ is.fallen) is
 
 -- ---- the room that a request needs
-pub room_same : (v w : View) (stack : Stacked) (seen : Marked) (notes : Noted) → room_of (parts w) ≡ room_of (parts v)
-    → length w.tasks ≡ length v.tasks → HasRoom v stack seen notes → HasRoom w stack seen notes
+pub room_same : (v w : Awaitables) (stack : Stacked) (seen : Marked) (notes : Noted) → room_of (request.parts w) ≡ room_of (request.parts v)
+    → length w.tasks ≡ length v.tasks → walk.HasRoom v stack seen notes → walk.HasRoom w stack seen notes
 room_same v w stack seen notes rooms tasks has = record {
   empty = has.empty;
   unseen = has.unseen;

@@ -248,19 +248,19 @@ pub resolved_whole : (v : View) (stack : Stacked) (seen : Marked) (notes : Noted
     → IsKept (record v { futures = settled_in id outcome v.futures; queue = queue.soon_all (called id v.futures) v.queue })
     × HasRoom (record v { futures = settled_in id outcome v.futures; queue = queue.soon_all (called id v.futures) v.queue }) stack seen notes
 resolved_whole v stack seen notes id outcome idle free is has =
-    (resolve_kept v id outcome idle free is, room_same v _ stack seen notes (resolved_room v id outcome) refl has)
+    (resolve_kept v id outcome idle free is, room_same _ _ stack seen notes (resolved_room v id outcome) refl has)
 
 pub on_done_whole : (v : View) (stack : Stacked) (seen : Marked) (notes : Noted) (id : ℕ) (action : Action) → v.called ≡ None
     → is_step action ≡ false → IsKept v → HasRoom v stack seen notes
     → IsKept (record v { futures = registered_in id action v.futures; queue = soon_if_done id action v.futures v.queue })
     × HasRoom (record v { futures = registered_in id action v.futures; queue = soon_if_done id action v.futures v.queue }) stack seen notes
 on_done_whole v stack seen notes id action idle none is has =
-    (on_done_kept v id action idle none is, room_same v _ stack seen notes (on_done_room v id action) refl has)
+    (on_done_kept v id action idle none is, room_same _ _ stack seen notes (on_done_room v id action) refl has)
 
 pub asked_whole : (v : View) (stack : Stacked) (seen : Marked) (notes : Noted) (id : ℕ) → v.called ≡ None → IsKept v
     → HasRoom v stack seen notes
     → IsKept (record v { futures = asked id v.futures }) × HasRoom (record v { futures = asked id v.futures }) stack seen notes
-asked_whole v stack seen notes id idle is has = (asked_kept v id idle is, room_same v _ stack seen notes (asked_room v id) refl has)
+asked_whole v stack seen notes id idle is has = (asked_kept v id idle is, room_same _ _ stack seen notes (asked_room v id) refl has)
 
 abbrev pub without_future : View → ℕ → View
 without_future v id =

@@ -19,7 +19,10 @@ use Rattle.law_cancel.proofs.Trace.{goes-tasks}
 use Rattle.law_parts.specs.Open.{room_of}
 use Rattle.law_parts.proofs.RoomsKept.{settle-room, register-room, change-room, cancel-room}
 use Rattle.law_settling.proofs.Spreading.{as_row, with_spread}
+use Rattle.aio_cancel.specs.Awaitables as cancel
+use Rattle.aio_cancel.specs.Awaitables.{Awaitables}
 use Rattle.aio_cancel.specs.Noted.{Noted, noted, HasNoNotes}
+use Rattle.aio_cancel.specs.Room as walk
 use Rattle.aio_cancel.specs.Seen.{Marked, Stacked}
 use Rattle.aio_task.specs.View.{View, parts}
 use Rattle.aio_task.specs.Kept.{HasRoom}
@@ -84,8 +87,8 @@ wait-marked task on p other =
     ∙ ap (λ (ts : List Task). option_map_or (λ (t : Task). t.must_cancel) (slice_get ts other) false) (register-tasks on (Wakeup task) p)
 
 -- ---- the room that a request needs
-pub sized : (v w : View) (q : Parts) (stack : Stacked) (seen : Marked) (notes after : Noted) → SameSize (parts v) q → parts w ≡ q
-    → HasNoNotes after → HasRoom v stack seen notes → HasRoom w stack seen after
+pub sized : (v w : Awaitables) (q : Parts) (stack : Stacked) (seen : Marked) (notes after : Noted) → SameSize (cancel.parts v) q
+    → cancel.parts w ≡ q → HasNoNotes after → walk.HasRoom v stack seen notes → walk.HasRoom w stack seen after
 sized v w q stack seen notes after size same unnoted has = record {
   empty = has.empty;
   unseen = has.unseen;
@@ -114,9 +117,9 @@ released_room v w stack seen notes after less tasks unnoted has = record {
 }
 
 -- room for one frame more, for a future that stands for several
-pub more_room : (v : View) (stack larger : Stacked) (seen : Marked) (notes after : Noted)
-    → larger ≡ record stack { room = stack.room + 1 } → HasNoNotes after → HasRoom v stack seen notes
-    → HasRoom v larger seen after × (room_of (parts v) + 1 ≤ larger.room)
+pub more_room : (v : Awaitables) (stack larger : Stacked) (seen : Marked) (notes after : Noted)
+    → larger ≡ record stack { room = stack.room + 1 } → HasNoNotes after → walk.HasRoom v stack seen notes
+    → walk.HasRoom v larger seen after × (room_of (cancel.parts v) + 1 ≤ larger.room)
 more_room v stack larger seen notes after more unnoted has =
     let room : larger.room ≡ stack.room + 1 = ap (λ (s : Stacked). s.room) more in
     let fits = has.fits in (

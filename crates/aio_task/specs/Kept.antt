@@ -1,23 +1,23 @@
 -- What the type of the parts keeps: one way on for each task, no circle of waits, marks only where they may stand; steps
 -- and wakeups are out of reach of whoever cancels handles and timers; and a request has the room that it needs.
-use Rattle.std.specs.Prelude.{◌≡◌, ℕ, ◌≤◌, Bool, true, false, ◌&&◌, [], ◌∷◌, Option, Some, None, length}
+use Rattle.std.specs.Prelude.{◌≡◌, ℕ, Bool, true, false, ◌&&◌, ◌∷◌, Option, Some, None}
 use Rattle.std.specs.List.{list_any}
 use Rattle.std.specs.Option.{option_map}
 use Rattle.model_value.specs.Action.{Action}
 use Rattle.model_loop.specs.Parts.{Timer, Parts}
 use Rattle.model_loop.specs.Sound.{HasNoCircle, ArePartsSound}
-use Rattle.law_parts.specs.Open.{room_of}
 use Rattle.aio_ready.specs.declared.handle.Handle.{Handle}
 use Rattle.aio_ready.specs.declared.handle.HandleName.{HandleName}
 use Rattle.aio_ready.specs.declared.handle.HandleName.TheVariants as name
 use Rattle.aio_timer.specs.Schedule.{Schedule}
 use Rattle.aio_cancel.specs.Awaitables as cancel
 use Rattle.aio_cancel.specs.Awaitables.{waiting}
-use Rattle.aio_cancel.specs.Noted.{Noted, HasNoNotes}
+use Rattle.aio_cancel.specs.Noted.{Noted}
+use Rattle.aio_cancel.specs.Room as walk
 use Rattle.aio_cancel.specs.Seen.{Marked, Stacked}
 use Rattle.aio_task.specs.declared.running.Running.{Running}
 use Rattle.aio_task.specs.Bare.{bare}
-use Rattle.aio_task.specs.View.{View, parts, stepped, is_step}
+use Rattle.aio_task.specs.View.{View, body, parts, stepped, is_step}
 
 -- with a handle of an action before all others
 abbrev pub with_first : Action → Parts → Parts
@@ -50,12 +50,8 @@ pub record IsKept (v : View) : Type 0 where
   pub fallen : list_any steps_as_timer (waiting v.queue) ≡ false
 
 -- with the room that a request needs
-pub record HasRoom (v : View) (stack : Stacked) (seen : Marked) (notes : Noted) : Type 0 where
-  pub empty : stack.frames ≡ []
-  pub unseen : seen.visited ≡ []
-  pub unnoted : HasNoNotes notes
-  pub fits : room_of (parts v) ≤ stack.room
-  pub marked : length v.tasks ≤ seen.tasks
+abbrev pub HasRoom : View → Stacked → Marked → Noted → Type 0
+HasRoom v = walk.HasRoom (body v)
 
 -- what is seen of the fields
 abbrev pub view_of : (time profile : ℕ) → cancel.Awaitables → Schedule → Option Running → Option ℕ → View

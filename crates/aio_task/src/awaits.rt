@@ -1,14 +1,14 @@
 //! A task's step ends with the await of a future that isn't done.
-ghost use Rattle.std.specs.Prelude.{◌≡◌, ◌≤◌, None, Some, [], length};
+ghost use Rattle.std.specs.Prelude.{◌≡◌, None, Some};
 ghost use Rattle.model_loop.specs.Circles.{circle};
 ghost use Rattle.model_loop.specs.Owning.{OwnsFutures};
 ghost use Rattle.model_loop.specs.Sound.{HasNoCircle};
 ghost use Rattle.model_loop.specs.Suspend.{suspend as suspend_of};
 ghost use Rattle.model_loop.specs.Tasks.{is_marked as is_marked_in};
 ghost use Rattle.model_loop.specs.Suspend.{cancel_wait};
-ghost use Rattle.law_parts.specs.Open.{room_of};
 ghost use Rattle.aio_cancel.specs.Awaitables.{parts, Appended};
 ghost use Rattle.aio_cancel.specs.Noted.{HasNoNotes};
+ghost use Rattle.aio_cancel.specs.Room.{HasRoom};
 ghost use Rattle.aio_task.specs.View.{suspension_of};
 
 use crate::suspension::Suspension;
@@ -27,12 +27,8 @@ fn find_circle(
     notes: &mut Notes,
     stack: &mut WalkStack,
 ) -> Option<Circle>
-    requires empty { stack.old.frames ≡ [] }
-    requires unseen { seen.old.visited ≡ [] }
-    requires unnoted { HasNoNotes notes.old }
     requires no_circle { HasNoCircle (parts body.now) }
-    requires fits { room_of (parts body.now) ≤ stack.old.room }
-    requires marked { length body.now.tasks ≤ seen.old.tasks }
+    requires room { HasRoom body.now stack.old seen.old notes.old }
     ensures answer { result ≡ circle (parts body.now) task on }
     ensures stack { stack.new ≡ stack.old }
     ensures seen { seen.new ≡ seen.old }
@@ -58,12 +54,8 @@ fn cancel_waiting(
     notes: &mut Notes,
     stack: &mut WalkStack,
 )
-    requires empty { stack.old.frames ≡ [] }
-    requires unseen { seen.old.visited ≡ [] }
-    requires unnoted { HasNoNotes notes.old }
     requires no_circle { HasNoCircle (parts body.old) }
-    requires fits { room_of (parts body.old) ≤ stack.old.room }
-    requires marked { length body.old.tasks ≤ seen.old.tasks }
+    requires room { HasRoom body.old stack.old seen.old notes.old }
     ensures after { parts body.new
         ≡ (cancel_wait (is_marked_in (parts body.old) task) task on (parts body.old)).parts }
     ensures queue { Appended body.old.queue body.new.queue }
@@ -89,13 +81,9 @@ pub fn suspend(
     notes: &mut Notes,
     stack: &mut WalkStack,
 ) -> Suspension
-    requires empty { stack.old.frames ≡ [] }
-    requires unseen { seen.old.visited ≡ [] }
-    requires unnoted { HasNoNotes notes.old }
     requires owns { OwnsFutures (parts body.old) }
     requires no_circle { HasNoCircle (parts body.old) }
-    requires fits { room_of (parts body.old) ≤ stack.old.room }
-    requires marked { length body.old.tasks ≤ seen.old.tasks }
+    requires room { HasRoom body.old stack.old seen.old notes.old }
     ensures answer { result ≡ suspension_of (circle (parts body.old) task on) }
     ensures after { parts body.new ≡ (suspend_of task on (parts body.old)).parts }
     ensures queue { Appended body.old.queue body.new.queue }

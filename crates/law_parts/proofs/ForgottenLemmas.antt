@@ -1,22 +1,21 @@
 -- Forgetting released futures commutes with a request.
-use Rattle.std.proofs.Common.{◌≡◌, ℕ, zero, suc, ◌+◌, Bool, true, false, cond, List, [], ◌∷◌, ◌++◌, Option, Some, None, length, slice_get, slice_set, refl, ap}
+use Rattle.std.proofs.Common.{◌≡◌, ℕ, zero, suc, ◌+◌, Bool, true, false, cond, List, [], ◌∷◌, Option, Some, None, slice_get, slice_set, refl, ap}
 use Rattle.std.proofs.Common.{sym, ◌∙◌, arith}
 use Rattle.std.specs.Option.{option_map, option_map_or}
 use Rattle.model_value.specs.Action.{Action}
 use Rattle.model_value.specs.declared.outcome.Outcome.TheVariants.{Cancelled}
 use Rattle.model_value.specs.Value.{Outcome}
-use Rattle.model_loop.specs.Parts.{FutureKind, Plain, OfTask, Many, Future, Task, Parts}
+use Rattle.model_loop.specs.Parts.{FutureKind, Future, Task, Parts}
 use Rattle.model_loop.specs.Handles.{soon, soon_all}
-use Rattle.model_loop.specs.Futures.{made_before, with_future, settle, settled, settled_as, mark_asked}
-use Rattle.model_loop.specs.Tasks.{raise_count, change_task}
-use Rattle.model_loop.specs.Cancel.{CancelRequest, Canceller, answers, has_seen, cancel_each, asked_where, marked_unless, cancel_waiter, cancel_unseen}
-use Rattle.model_loop.specs.Cancel.{cancel_task, cancel_kind, cancel_until, cancel_at, cancel_by, cancel_below, cancel_within, cancel}
+use Rattle.model_loop.specs.Futures.{with_future, settle, settled, settled_as, mark_asked}
+use Rattle.model_loop.specs.Tasks.{change_task}
+use Rattle.model_loop.specs.Cancel.{Canceller, answers, cancel_until, cancel_at, cancel}
 use Rattle.law_cancel.proofs.Effects.{done_as, asked_as}
-use Rattle.law_cancel.proofs.Trace.{Goes, begins, settles, asks, raises, marks, IsRow, below_row, within_row}
-use Rattle.law_parts.specs.Forgotten.{released}
+use Rattle.law_cancel.proofs.Trace.{Goes, begins, settles, asks, raises, marks}
 use Rattle.law_parts.specs.Quiet.{stage_of, stage, stage_at, Later, Grows}
-use Rattle.law_parts.specs.Forgotten.{forget_from, forgotten, forgotten_of, AreDone}
+use Rattle.law_parts.specs.Forgotten.{released, forget_from, forgotten, forgotten_of, AreDone}
 use Rattle.law_parts.proofs.QuietLemmas.{settled_later, asked_later, marked_later, raised_later}
+use Rattle.law_parts.proofs.Commuting.{SeesRequests, changes, cancels}
 
 module _ (gone : ℕ → Bool) where
   -- ---- lists
@@ -94,14 +93,6 @@ module _ (gone : ℕ → Bool) where
           ap (λ fs. record p { futures = fs }) (set_same (forget_from gone 0 p.futures) id released there
           ∙ sym (set-gone 0 p.futures id (asked_as future) (gone_at id true g)))
 
-  pub change-forget : (id : ℕ) (change : Task → Task) (p : Parts) → change_task id change (forgotten gone p) ≡ forgotten gone (change_task id change p)
-  change-forget id change p = go (slice_get p.tasks id)
-    where
-      go : (o : Option Task) → option_map_or (λ (task : Task). record (forgotten gone p) { tasks = slice_set p.tasks id (change task) }) o (forgotten gone p)
-          ≡ forgotten gone (option_map_or (λ (task : Task). record p { tasks = slice_set p.tasks id (change task) }) o p)
-      go None = refl
-      go (Some task) = refl
-
   -- ---- the released stay done
   done_later : {s : List ℕ} {p : Parts} {t : List ℕ} {q : Parts} → Later s p t q → AreDone gone p → AreDone gone q
   done_later {p = p} {q = q} l done = λ id g. go id (stage_at p id) (done id g) (l.stages id)
@@ -119,70 +110,33 @@ module _ (gone : ℕ → Bool) where
   done_goes {s} {p} {t} (marks {q = q} g id) done = done_later (marked_later t q id) (done_goes g done)
 
   -- ---- a request
-  abbrev Commutes : Canceller → Type 0
-  Commutes F = (id : ℕ) (s : List ℕ) (p : Parts) → AreDone gone p → F id s (forgotten gone p) ≡ forgotten_of gone (F id s p)
+  at_gone : (F V : Canceller) (id : ℕ) (s : List ℕ) (p q : Parts) → AreDone gone p
+      → cancel_at F V (slice_get (forgotten gone p).futures id) id s q ≡ cancel_at F V (slice_get p.futures id) id s q
+  at_gone F V id s p q done = ap (λ o. cancel_at F V o id s q) (forgotten_at p id) ∙ go (slice_get p.futures id) (gone id) (done id)
+    where
+      over : (o : Option Outcome) (k : FutureKind) → stage_of o k ≡ None → answers false s q ≡ cancel_until F V o k id s q
+      over (Some outcome) k e = refl
+      over None k e = absurd (cc)
 
-  each_commutes : (F : Canceller) → IsRow F → Commutes F → (ids : List ℕ) (s : List ℕ) (p : Parts) → AreDone gone p
-      → cancel_each F ids s (forgotten gone p) ≡ forgotten_of gone (cancel_each F ids s p)
-  each_commutes F row c [] s p done = refl
-  each_commutes F row c (id ∷ ids) s p done =
-      rw (c id s p done, each_commutes F row c ids (F id s p).seen (F id s p).parts (done_goes (row id s p) done)) refl
+      go : (o : Option Future) (b : Bool) → (b ≡ true → stage o ≡ None)
+          → cancel_at F V (option_map (λ (f : Future). cond b released f) o) id s q ≡ cancel_at F V o id s q
+      go None b d = refl
+      go (Some future) true d = over future.outcome future.kind (d refl)
+      go (Some future) false d = refl
 
-  module _ (F V : Canceller) (frow : IsRow F) (fc : Commutes F) (vc : Commutes V) (id : ℕ) (s : List ℕ) (p : Parts) (done : AreDone gone p) where
-    asked : (b : Bool) (r : CancelRequest) → asked_where b id (forgotten_of gone r) ≡ forgotten_of gone (asked_where b id r)
-    asked true r = ap (λ q. record r { parts = q }) (ask-forget id r.parts)
-    asked false r = refl
+  sees : SeesRequests (forgotten gone) (AreDone gone)
+  sees = record {
+    goes = λ s p t q g done. done_goes g done;
+    raised = λ task p done. done_later (raised_later [] p task) done;
+    tasks = λ p. refl;
+    put = λ tasks p. refl;
+    future = at_gone;
+    settles = λ id p done. settle-forget id Cancelled p done;
+    asks = ask-forget;
+  }
 
-    marked : (b : Bool) (t : ℕ) (r : CancelRequest) → marked_unless b t (forgotten_of gone r) ≡ forgotten_of gone (marked_unless b t r)
-    marked true t r = refl
-    marked false t r = ap (λ q. record r { parts = q; answer = true }) (change-forget t _ r.parts)
-
-    waits : (t : ℕ) (w : Option ℕ) (u : List ℕ) (q : Parts) → AreDone gone q
-        → cancel_waiter V t w u (forgotten gone q) ≡ forgotten_of gone (cancel_waiter V t w u q)
-    waits t None u q d = ap (answers true u) (change-forget t _ q)
-    waits t (Some w) u q d = ap (λ (r : CancelRequest). marked_unless r.answer t r) (vc w u q d) ∙ marked (V w u q).answer t (V w u q)
-
-    unseen : (t : ℕ) (o : Option Task) → cancel_unseen V t o s (forgotten gone p) ≡ forgotten_of gone (cancel_unseen V t o s p)
-    unseen t None = refl
-    unseen t (Some task) =
-        ap (cancel_waiter V t task.waiter (s ++ t ∷ [])) (change-forget t _ p)
-        ∙ waits t task.waiter (s ++ t ∷ []) (raise_count t p) (done_later (raised_later s p t) done)
-
-    task : (seen : Bool) (t : ℕ) → cancel_task V seen t s (forgotten gone p) ≡ forgotten_of gone (cancel_task V seen t s p)
-    task true t = refl
-    task false t = unseen t (slice_get p.tasks t)
-
-    kind : (k : FutureKind) → cancel_kind F V k id s (forgotten gone p) ≡ forgotten_of gone (cancel_kind F V k id s p)
-    kind Plain = ap (answers true s) (settle-forget id Cancelled p done)
-    kind (OfTask t) = task (has_seen s t) t
-    kind (Many members asked_before) =
-        let r = cancel_each F (made_before id members) s p in
-        ap (λ (x : CancelRequest). asked_where x.answer id x) (each_commutes F frow fc (made_before id members) s p done) ∙ asked r.answer r
-
-    until : (o : Option Outcome) (k : FutureKind) → cancel_until F V o k id s (forgotten gone p) ≡ forgotten_of gone (cancel_until F V o k id s p)
-    until (Some outcome) k = refl
-    until None k = kind k
-
-    over : (o : Option Outcome) (k : FutureKind) → stage_of o k ≡ None → answers false s (forgotten gone p) ≡ forgotten_of gone (cancel_until F V o k id s p)
-    over (Some outcome) k e = refl
-    over None k e = absurd (cc)
-
-    future_at : (o : Option Future) (b : Bool) → (b ≡ true → stage o ≡ None)
-        → cancel_at F V (option_map (λ (f : Future). cond b released f) o) id s (forgotten gone p) ≡ forgotten_of gone (cancel_at F V o id s p)
-    future_at None b d = refl
-    future_at (Some future) true d = over future.outcome future.kind (d refl)
-    future_at (Some future) false d = until future.outcome future.kind
-
-    by_commutes : cancel_by F V id s (forgotten gone p) ≡ forgotten_of gone (cancel_by F V id s p)
-    by_commutes = ap (λ o. cancel_at F V o id s (forgotten gone p)) (forgotten_at p id) ∙ future_at (slice_get p.futures id) (gone id) (done id)
-
-  below_commutes : (bound : ℕ) (V : Canceller) → IsRow V → Commutes V → Commutes (cancel_below bound V)
-  below_commutes zero V row c id s p done = refl
-  below_commutes (suc bound) V row c id s p done = by_commutes (cancel_below bound V) V (below_row bound V row) (below_commutes bound V row c) c id s p done
-
-  within_commutes : (tasks : ℕ) → Commutes (cancel_within tasks)
-  within_commutes zero id s p done = refl
-  within_commutes (suc tasks) id s p done = below_commutes (suc id) (cancel_within tasks) (within_row tasks) (within_commutes tasks) id s p done
+  pub change-forget : (id : ℕ) (change : Task → Task) (p : Parts) → change_task id change (forgotten gone p) ≡ forgotten gone (change_task id change p)
+  change-forget = changes (forgotten gone) (AreDone gone) sees
 
   pub cancel-forget : (id : ℕ) (p : Parts) → AreDone gone p → cancel id (forgotten gone p) ≡ forgotten_of gone (cancel id p)
-  cancel-forget id p done = within_commutes (suc (length p.tasks)) id [] p done
+  cancel-forget = cancels (forgotten gone) (AreDone gone) sees

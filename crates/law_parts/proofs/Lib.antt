@@ -6,6 +6,7 @@ pub mod SeekLemmas
 pub mod OpenLemmas
 pub mod RoomLemmas
 pub mod RoomsKept
+pub mod Commuting
 pub mod ForgottenLemmas
 pub mod ForgottenSteps
 pub mod PlacedLemmas

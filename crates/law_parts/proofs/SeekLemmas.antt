@@ -1,5 +1,5 @@
 -- A search for a circle finds exactly what leads there.
-use Rattle.std.proofs.Common.{◌≡◌, ◌≢◌, ℕ, zero, suc, ◌+◌, ◌<◌, ◌≤◌, ◌⊎◌, Bool, true, false, ◌||◌, List, [], ◌∷◌, ◌++◌, Option, Some, None, drop, slice_get}
+use Rattle.std.proofs.Common.{◌≡◌, ◌≢◌, ℕ, suc, ◌+◌, ◌<◌, ◌≤◌, ◌⊎◌, Bool, true, false, ◌||◌, List, [], ◌∷◌, ◌++◌, Option, Some, None, slice_get}
 use Rattle.std.proofs.Common.{refl, ap, sym, ◌∙◌, subst, arith, inl, inr}
 use Rattle.std.specs.Prelude.{◌==◌}
 use Rattle.std.specs.List.{list_any}
@@ -23,6 +23,7 @@ use Rattle.law_parts.specs.declared.walk.Go.TheVariants.{Visit, Next, Answer}
 use Rattle.law_parts.specs.declared.walk.FutureState.TheVariants as stands
 use Rattle.law_parts.specs.Seek.{in_rest, in_go, in_frame, in_frames, Pending, Seeks, CanSeek}
 use Rattle.law_parts.proofs.Leading.{leads_on, seen_split}
+use Rattle.law_parts.proofs.WalkLemmas.{drop_some, drop_none, or_assoc}
 use Rattle.law_parts.proofs.OpenLemmas.{pass_waiter, passes-task, passes-many}
 
 any_push : {X : Type 0} (f : X → Bool) (xs : List X) (y : X) → list_any f (xs ++ y ∷ []) ≡ (list_any f xs || f y)
@@ -32,10 +33,6 @@ any_push f [] y = or_false (f y)
     or_false true = refl
     or_false false = refl
 any_push f (x ∷ xs) y = ap (λ b. f x || b) (any_push f xs y) ∙ or_assoc (f x) (list_any f xs) (f y)
-  where
-    or_assoc : (a b c : Bool) → (a || (b || c)) ≡ ((a || b) || c)
-    or_assoc true b c = refl
-    or_assoc false b c = refl
 
 or_split : (a b : Bool) → (a || b) ≡ true → (a ≡ true) ⊎ (b ≡ true)
 or_split true b h = inl refl
@@ -249,17 +246,6 @@ regroup p from to seen noted go after frames frames' back on c = (
     right : {A B C : Type 0} → A ⊎ B → (B → C) → A ⊎ C
     right (inl a) f = inl a
     right (inr b) f = inr (f b)
-
-drop_some : (xs : List ℕ) (place : ℕ) (x : ℕ) → slice_get xs place ≡ Some x → drop place xs ≡ x ∷ drop (suc place) xs
-drop_some [] place x e = absurd (cc)
-drop_some (y ∷ ys) zero x e = let same : y ≡ x = cc in ap (λ z. z ∷ ys) same
-drop_some (y ∷ ys) (suc place) x e = drop_some ys place x e
-
-drop_none : (xs : List ℕ) (place : ℕ) → slice_get xs place ≡ None → drop place xs ≡ []
-drop_none [] zero e = refl
-drop_none [] (suc place) e = refl
-drop_none (y ∷ ys) zero e = absurd (cc)
-drop_none (y ∷ ys) (suc place) e = drop_none ys place e
 
 module _ (p : Parts) (from to id place : ℕ) (any : Bool) (seen : List ℕ) (noted : ℕ → Option Bool) (frames : List WalkFrame)
     (c : CanSeek p from to seen noted (Next id place any) frames) where

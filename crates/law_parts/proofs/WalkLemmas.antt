@@ -71,18 +71,18 @@ goes-members (marks {q = q} g id) j =
     ap (λ (fs : List Future). members_at (slice_get fs j)) (change_task-futures id _ q) ∙ goes-members g j
 
 -- ---- the members from a place on
-drop_some : (xs : List ℕ) (place : ℕ) (x : ℕ) → slice_get xs place ≡ Some x → drop place xs ≡ x ∷ drop (suc place) xs
+pub drop_some : (xs : List ℕ) (place : ℕ) (x : ℕ) → slice_get xs place ≡ Some x → drop place xs ≡ x ∷ drop (suc place) xs
 drop_some [] place x e = absurd (cc)
 drop_some (y ∷ ys) zero x e = let same : y ≡ x = cc in ap (λ z. z ∷ ys) same
 drop_some (y ∷ ys) (suc place) x e = drop_some ys place x e
 
-drop_none : (xs : List ℕ) (place : ℕ) → slice_get xs place ≡ None → drop place xs ≡ []
+pub drop_none : (xs : List ℕ) (place : ℕ) → slice_get xs place ≡ None → drop place xs ≡ []
 drop_none [] zero e = refl
 drop_none [] (suc place) e = refl
 drop_none (y ∷ ys) zero e = absurd (cc)
 drop_none (y ∷ ys) (suc place) e = drop_none ys place e
 
-or_assoc : (a b c : Bool) → (a || (b || c)) ≡ ((a || b) || c)
+pub or_assoc : (a b c : Bool) → (a || (b || c)) ≡ ((a || b) || c)
 or_assoc true b c = refl
 or_assoc false b c = refl
 

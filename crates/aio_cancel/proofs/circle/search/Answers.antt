@@ -14,10 +14,10 @@ pub loop-go-init : goal.loop-go-init
 loop-go-init c =
     let a = c.args in
     record {
-      seeks = rw (c.requires.empty, c.requires.unseen) (seek_begins (parts a.body.now) a.from a.to (noted a.notes.now) c.requires.unnoted);
+      seeks = rw (c.requires.room.empty, c.requires.room.unseen) (seek_begins (parts a.body.now) a.from a.to (noted a.notes.now) c.requires.room.unnoted);
       walks =
-          rw c.requires.empty
-          (walk_begins a.stack.now.room a.seen.now.tasks a.from (parts a.body.now) c.requires.no_circle c.requires.fits c.requires.marked);
+          rw c.requires.room.empty
+          (walk_begins a.stack.now.room a.seen.now.tasks a.from (parts a.body.now) c.requires.no_circle c.requires.room.fits c.requires.room.marked);
       room = refl;
       marks = refl;
     }

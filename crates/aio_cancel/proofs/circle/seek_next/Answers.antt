@@ -1,52 +1,43 @@
-use Rattle.std.proofs.Common.{ap, refl, ◌+◌, ◌++◌, ◌∷◌, [], false}
-use Rattle.law_parts.specs.declared.walk.WalkFrame.TheVariants.{Members}
-use Rattle.law_parts.specs.declared.walk.Go.TheVariants.{Visit}
-use Rattle.law_parts.proofs.WeightLemmas.{weigh_push, weigh_skip, weigh_end}
-use Rattle.law_parts.proofs.RoomLemmas.{room_for, walk_member}
+use Rattle.std.proofs.Common.{refl, [], false}
+use Rattle.law_parts.specs.Seek.{CanSeek}
+use Rattle.law_parts.proofs.WeightLemmas.{weigh_end}
 use Rattle.law_parts.proofs.SeekLemmas.{seek_member, seek_skips, seek_ends}
-use Rattle.aio_cancel.specs.Seen.{Stacked}
 use Rattle.aio_cancel.specs.Awaitables.{parts}
+use Rattle.aio_cancel.proofs.MemberLemmas.{taken, room_to_take, taken_room, taken_walks, taken_falls}
 use Rattle.aio_cancel.proofs.circle.seek_next.Goals as goal
 
-pub push-requires : goal.push-requires
-push-requires c =
+pub take_member-requires-clause-room : goal.take_member-requires-clause-room
+take_member-requires-clause-room c = λ l.
     let a = c.args in
-    room_for a.stack.now.room a.seen.now.tasks (Visit c.in-Some.member) a.stack.now.frames (Members a.id (a.place + 1) a.any)
-    [] (parts a.body.now)
-    (walk_member a.stack.now.room a.seen.now.tasks a.id a.place (a.place + 1) c.in-Some.member a.any a.stack.now.frames
-    (a.stack.now.frames ++ Members a.id (a.place + 1) a.any ∷ []) [] (parts a.body.now) c.requires
-    c.in-Some.ensures.value c.if-member-id.true refl)
+    room_to_take (parts a.body.now) [] a.id a.place c.in-Some.member a.any a.stack.now c.in-Some.ensures.value a.seen.now.tasks c.requires l
 
-pub returns-then-member-id-clause-seeks : goal.returns-then-member-id-clause-seeks
-returns-then-member-id-clause-seeks c = λ from to said can.
+pub returns-in-Some-clause-walks : goal.returns-in-Some-clause-walks
+returns-in-Some-clause-walks c =
     let a = c.args in
-    seek_member (parts a.body.now) from to a.id a.place a.any a.seen.now.visited said a.stack.now.frames can c.in-Some.member
-    c.push.new.self.frames c.in-Some.ensures.value c.if-member-id.true (ap (λ (x : Stacked). x.frames) c.push.ensures)
+    taken_walks (parts a.body.now) [] a.id a.place c.in-Some.member a.any a.stack.now c.in-Some.ensures.value
+    c.take_member.result c.take_member.new.self c.take_member.ensures a.seen.now.tasks c.requires
 
-pub returns-then-member-id-clause-walks : goal.returns-then-member-id-clause-walks
-returns-then-member-id-clause-walks c =
+pub returns-in-Some-clause-falls : goal.returns-in-Some-clause-falls
+returns-in-Some-clause-falls c =
     let a = c.args in
-    rw (ap (λ (x : Stacked). x.room) c.push.ensures)
-    (walk_member a.stack.now.room a.seen.now.tasks a.id a.place (a.place + 1) c.in-Some.member a.any a.stack.now.frames
-    c.push.new.self.frames [] (parts a.body.now) c.requires
-    c.in-Some.ensures.value c.if-member-id.true (ap (λ (x : Stacked). x.frames) c.push.ensures))
+    taken_falls (parts a.body.now) a.seen.now.visited a.id a.place c.in-Some.member a.any a.stack.now c.in-Some.ensures.value
+    c.take_member.result c.take_member.new.self c.take_member.ensures
 
-pub returns-then-member-id-clause-falls : goal.returns-then-member-id-clause-falls
-returns-then-member-id-clause-falls c =
+pub returns-in-Some-clause-room : goal.returns-in-Some-clause-room
+returns-in-Some-clause-room c =
     let a = c.args in
-    weigh_push a.id a.place c.in-Some.member a.any a.stack.now.frames c.push.new.self.frames a.seen.now.visited (parts a.body.now)
-    c.in-Some.ensures.value c.if-member-id.true (ap (λ (x : Stacked). x.frames) c.push.ensures)
+    taken_room (parts a.body.now) [] a.id a.place c.in-Some.member a.any a.stack.now c.in-Some.ensures.value
+    c.take_member.result c.take_member.new.self c.take_member.ensures
 
-pub returns-else-member-id-clause-seeks : goal.returns-else-member-id-clause-seeks
-returns-else-member-id-clause-seeks c = λ from to said can.
+pub returns-in-Some-clause-seeks : goal.returns-in-Some-clause-seeks
+returns-in-Some-clause-seeks c = λ from to said can.
     let a = c.args in
-    seek_skips (parts a.body.now) from to a.id a.place a.any a.seen.now.visited said a.stack.now.frames can c.in-Some.member
-    c.in-Some.ensures.value c.if-member-id.false
-
-pub returns-else-member-id-clause-falls : goal.returns-else-member-id-clause-falls
-returns-else-member-id-clause-falls c =
-    let a = c.args in
-    weigh_skip a.id a.place c.in-Some.member a.any a.stack.now.frames a.seen.now.visited (parts a.body.now) c.in-Some.ensures.value
+    let p = parts a.body.now in
+    let there = c.in-Some.ensures.value in
+    taken a.id a.place c.in-Some.member a.any a.stack.now c.take_member.result c.take_member.new.self
+    (λ go after. CanSeek p from to a.seen.now.visited said go after.frames) c.take_member.ensures
+    (λ l. seek_member p from to a.id a.place a.any a.seen.now.visited said a.stack.now.frames can c.in-Some.member _ there l refl)
+    (λ m. seek_skips p from to a.id a.place a.any a.seen.now.visited said a.stack.now.frames can c.in-Some.member there m)
 
 pub returns-in-None-clause-seeks : goal.returns-in-None-clause-seeks
 returns-in-None-clause-seeks c = λ from to said can.

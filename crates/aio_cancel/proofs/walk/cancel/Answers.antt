@@ -19,12 +19,12 @@ loop-go-init c =
     let a = c.args in
     record {
       walks =
-          rw (c.requires.empty, c.requires.unseen)
-          (walk_begins a.stack.now.room a.seen.now.tasks a.target (parts a.body.now) c.requires.no_circle c.requires.fits c.requires.marked);
+          rw (c.requires.room.empty, c.requires.room.unseen)
+          (walk_begins a.stack.now.room a.seen.now.tasks a.target (parts a.body.now) c.requires.no_circle c.requires.room.fits c.requires.room.marked);
       same =
-          ap (λ (frames : List WalkFrame). run (Visit a.target) frames a.seen.now.visited (parts a.body.now)) c.requires.empty
-          ∙ ap (λ (visited : List ℕ). run (Visit a.target) [] visited (parts a.body.now)) c.requires.unseen;
-      sound = λ id again e. absurd (none_some (noted a.notes.now id) again (c.requires.unnoted id) e);
+          ap (λ (frames : List WalkFrame). run (Visit a.target) frames a.seen.now.visited (parts a.body.now)) c.requires.room.empty
+          ∙ ap (λ (visited : List ℕ). run (Visit a.target) [] visited (parts a.body.now)) c.requires.room.unseen;
+      sound = λ id again e. absurd (none_some (noted a.notes.now id) again (c.requires.room.unnoted id) e);
       queue = nothing_appended a.body.now.queue a.body.now.queue refl;
       room = refl;
       marks = refl;

@@ -1,57 +1,49 @@
-use Rattle.std.proofs.Common.{sym, ap, ◌∙◌, refl, ◌+◌, ◌++◌, ◌∷◌, []}
-use Rattle.law_parts.specs.declared.walk.WalkFrame.TheVariants.{Members}
-use Rattle.law_parts.specs.declared.walk.Go.TheVariants.{Visit}
-use Rattle.law_parts.specs.Walk.{resume}
+use Rattle.std.proofs.Common.{◌≡◌, sym, ap, ◌∙◌}
+use Rattle.law_parts.specs.declared.walk.Go.TheVariants.{Next}
+use Rattle.law_parts.specs.Walk.{resume, run}
 use Rattle.law_parts.proofs.WalkLemmas.{next_ends_where, next_past, next_member, resume-push}
-use Rattle.law_parts.proofs.WeightLemmas.{weigh_push, weigh_skip, weigh_ask_where}
-use Rattle.law_parts.proofs.RoomLemmas.{room_for, walk_member, walk_ends}
+use Rattle.law_parts.proofs.WeightLemmas.{weigh_ask_where}
+use Rattle.law_parts.proofs.RoomLemmas.{walk_ends}
 use Rattle.law_parts.proofs.QuietLemmas.{sound_later, ask_where_later}
 use Rattle.aio_cancel.specs.Noted.{noted}
-use Rattle.aio_cancel.specs.Seen.{Stacked}
 use Rattle.aio_cancel.specs.Awaitables.{parts}
+use Rattle.aio_cancel.proofs.MemberLemmas.{taken, room_to_take, taken_room, taken_walks, taken_falls}
 use Rattle.aio_cancel.proofs.walk.next.Goals as goal
 
-pub push-requires : goal.push-requires
-push-requires c =
+pub take_member-requires-clause-room : goal.take_member-requires-clause-room
+take_member-requires-clause-room c = λ l.
     let a = c.args in
-    room_for a.stack.now.room a.seen.now.tasks (Visit c.in-Some.member) a.stack.now.frames (Members a.id (a.place + 1) a.any)
-    a.seen.now.visited (parts a.body.now)
-    (walk_member a.stack.now.room a.seen.now.tasks a.id a.place (a.place + 1) c.in-Some.member a.any a.stack.now.frames
-    (a.stack.now.frames ++ Members a.id (a.place + 1) a.any ∷ []) a.seen.now.visited (parts a.body.now) c.requires.can
-    c.in-Some.ensures.value c.if-member-id.true refl)
+    room_to_take (parts a.body.now) a.seen.now.visited a.id a.place c.in-Some.member a.any a.stack.now c.in-Some.ensures.value a.seen.now.tasks c.requires.can l
 
-pub returns-then-member-id-clause-walks : goal.returns-then-member-id-clause-walks
-returns-then-member-id-clause-walks c =
+pub returns-in-Some-clause-walks : goal.returns-in-Some-clause-walks
+returns-in-Some-clause-walks c =
     let a = c.args in
-    rw (ap (λ (x : Stacked). x.room) c.push.ensures)
-    (walk_member a.stack.now.room a.seen.now.tasks a.id a.place (a.place + 1) c.in-Some.member a.any a.stack.now.frames
-    c.push.new.self.frames a.seen.now.visited (parts a.body.now) c.requires.can
-    c.in-Some.ensures.value c.if-member-id.true (ap (λ (x : Stacked). x.frames) c.push.ensures))
+    taken_walks (parts a.body.now) a.seen.now.visited a.id a.place c.in-Some.member a.any a.stack.now c.in-Some.ensures.value
+    c.take_member.result c.take_member.new.self c.take_member.ensures a.seen.now.tasks c.requires.can
 
-pub returns-then-member-id-clause-same : goal.returns-then-member-id-clause-same
-returns-then-member-id-clause-same c =
+pub returns-in-Some-clause-falls : goal.returns-in-Some-clause-falls
+returns-in-Some-clause-falls c =
     let a = c.args in
-    rw (ap (λ (x : Stacked). x.frames) c.push.ensures)
-    (resume-push a.stack.now.frames _ _
-    ∙ sym (ap (resume a.stack.now.frames)
-    (next_member a.id a.place a.any a.seen.now.visited (parts a.body.now) c.in-Some.member (sym c.in-Some.ensures.value) c.if-member-id.true)))
+    taken_falls (parts a.body.now) a.seen.now.visited a.id a.place c.in-Some.member a.any a.stack.now c.in-Some.ensures.value
+    c.take_member.result c.take_member.new.self c.take_member.ensures
 
-pub returns-then-member-id-clause-falls : goal.returns-then-member-id-clause-falls
-returns-then-member-id-clause-falls c =
+pub returns-in-Some-clause-room : goal.returns-in-Some-clause-room
+returns-in-Some-clause-room c =
     let a = c.args in
-    weigh_push a.id a.place c.in-Some.member a.any a.stack.now.frames c.push.new.self.frames a.seen.now.visited (parts a.body.now)
-    c.in-Some.ensures.value c.if-member-id.true (ap (λ (x : Stacked). x.frames) c.push.ensures)
+    taken_room (parts a.body.now) a.seen.now.visited a.id a.place c.in-Some.member a.any a.stack.now c.in-Some.ensures.value
+    c.take_member.result c.take_member.new.self c.take_member.ensures
 
-pub returns-else-member-id-clause-same : goal.returns-else-member-id-clause-same
-returns-else-member-id-clause-same c =
+pub returns-in-Some-clause-same : goal.returns-in-Some-clause-same
+returns-in-Some-clause-same c =
     let a = c.args in
-    sym (ap (resume a.stack.now.frames)
-    (next_past a.id a.place a.any a.seen.now.visited (parts a.body.now) c.in-Some.member (sym c.in-Some.ensures.value) c.if-member-id.false))
-
-pub returns-else-member-id-clause-falls : goal.returns-else-member-id-clause-falls
-returns-else-member-id-clause-falls c =
-    let a = c.args in
-    weigh_skip a.id a.place c.in-Some.member a.any a.stack.now.frames a.seen.now.visited (parts a.body.now) c.in-Some.ensures.value
+    let p = parts a.body.now in
+    let s = a.seen.now.visited in
+    let frames = a.stack.now.frames in
+    let there = sym c.in-Some.ensures.value in
+    taken a.id a.place c.in-Some.member a.any a.stack.now c.take_member.result c.take_member.new.self
+    (λ go after. run go after.frames s p ≡ run (Next a.id a.place a.any) frames s p) c.take_member.ensures
+    (λ l. resume-push frames _ _ ∙ sym (ap (resume frames) (next_member a.id a.place a.any s p c.in-Some.member there l)))
+    (λ m. sym (ap (resume frames) (next_past a.id a.place a.any s p c.in-Some.member there m)))
 
 pub returns-in-None-clause-walks : goal.returns-in-None-clause-walks
 returns-in-None-clause-walks c =

@@ -1,14 +1,12 @@
-use Rattle.std.proofs.Common.{◌≡◌, ◌≤◌, [], ◌∷◌, ap, sym, subst, ◌∙◌}
+use Rattle.std.proofs.Common.{[], ◌∷◌, ap, sym, subst, ◌∙◌}
 use Rattle.model_value.specs.declared.action.Action.TheVariants.{StepInCircle}
 use Rattle.model_loop.specs.Sound.{HasNoCircle}
 use Rattle.model_loop.specs.Suspend.{suspend_unless, cancel_wait, wait_on}
 use Rattle.model_loop.specs.Tasks.{is_marked}
 use Rattle.law_cancel.proofs.Circling.{allowed, wait_makes_none}
-use Rattle.law_parts.specs.Open.{room_of}
 use Rattle.aio_cancel.specs.Awaitables.{Awaitables, parts}
-use Rattle.aio_cancel.specs.Seen.{Stacked}
 use Rattle.aio_cancel.proofs.PartsLemmas.{appended_on}
-use Rattle.aio_task.proofs.Sizes.{size_wait, wait-marked}
+use Rattle.aio_task.proofs.Sizes.{size_wait, wait-marked, sized}
 use Rattle.aio_task.proofs.awaits.suspend.Goals as goal
 
 pub cancel_waiting-requires-clause-no_circle : goal.cancel_waiting-requires-clause-no_circle
@@ -18,12 +16,11 @@ cancel_waiting-requires-clause-no_circle c =
     (wait_makes_none c.args.task c.args.on p c.requires.owns
     (allowed p c.args.task c.args.on (sym c.find_circle.ensures.answer ∙ c.in-None.is)) c.requires.no_circle)
 
-pub cancel_waiting-requires-clause-fits : goal.cancel_waiting-requires-clause-fits
-cancel_waiting-requires-clause-fits c =
+pub cancel_waiting-requires-clause-room : goal.cancel_waiting-requires-clause-room
+cancel_waiting-requires-clause-room c =
     let p = parts c.args.body.now in
-    let same : room_of (parts c.wait.new.body) ≡ room_of p = ap room_of c.wait.ensures.after ∙ (size_wait c.args.task c.args.on p).room in
-    subst (λ (s : Stacked). room_of (parts c.wait.new.body) ≤ s.room) (sym c.find_circle.ensures.stack)
-    (subst (λ n. n ≤ c.args.stack.now.room) (sym same) c.requires.fits)
+    rw (c.find_circle.ensures.stack, c.find_circle.ensures.seen)
+    (sized _ _ _ _ _ _ _ (size_wait c.args.task c.args.on p) c.wait.ensures.after c.find_circle.ensures.unnoted c.requires.room)
 
 pub returns-in-Some-clause-after : goal.returns-in-Some-clause-after
 returns-in-Some-clause-after c =

@@ -1,34 +1,28 @@
-use Rattle.std.proofs.Common.{slice_get, ap, sym, subst, ◌∙◌}
-use Rattle.aio_group.specs.Stands.{AllBelong, Stands}
-use Rattle.aio_group.proofs.Calls.{get_of, changed_belong, none_child}
-use Rattle.aio_group.proofs.Listing.{get_past}
+use Rattle.model_loop.specs.Groups as plain
+use Rattle.aio_group.proofs.Calls.{found, found_belongs, changed_belong, changed_came, none_at, none_child}
 use Rattle.aio_group.proofs.groups.Groups.child_done.Goals as goal
 
 pub child_done-requires-clause-belongs : goal.child_done-requires-clause-belongs
 child_done-requires-clause-belongs c =
-    let at = get_of c.self.inside.held.items c.args.id c.in-Some.group.now c.in-Some.ensures.item.3.0 c.in-Some.ensures.item.1 in
-    c.requires.belongs c.args.id c.in-Some.group.now (ap (λ gs. slice_get gs c.args.id) (sym c.self.view_is) ∙ at)
+    let f = found c.args.id c.in-Some.group.now c.self.view_is c.in-Some.ensures.item.3.0 c.in-Some.ensures.item.1 in
+    found_belongs f c.args.parts.now c.requires.belongs
 
 pub returns-clause-belongs : goal.returns-clause-belongs
 returns-clause-belongs c =
-    let items = c.self.inside.held.items in
-    let held = c.in-Some.group.now in
-    let at = get_of items c.args.id held c.in-Some.ensures.item.3.0 c.in-Some.ensures.item.1 in
-    changed_belong c.args.parts.now c.child_done.new.parts items c.args.id held c.child_done.new.group at
-    (subst (λ gs. AllBelong c.args.parts.now gs) (sym c.self.view_is) c.requires.belongs) c.child_done.ensures.moves c.child_done.ensures.belongs
+    let f = found c.args.id c.in-Some.group.now c.self.view_is c.in-Some.ensures.item.3.0 c.in-Some.ensures.item.1 in
+    let called = c.child_done in
+    changed_belong f c.args.parts.now called.new.parts called.new.group c.requires.belongs called.ensures.moves called.ensures.belongs
 
 pub returns-clause-stands : goal.returns-clause-stands
 returns-clause-stands c =
-    let items = c.self.inside.held.items in
-    let at = get_of items c.args.id c.in-Some.group.now c.in-Some.ensures.item.3.0 c.in-Some.ensures.item.1 in
-    λ t l s. c.child_done.ensures.steps t items c.args.id l at (subst (λ gs. Stands t gs c.args.parts.now l) (sym c.self.view_is) s)
+    let f = found c.args.id c.in-Some.group.now c.self.view_is c.in-Some.ensures.item.3.0 c.in-Some.ensures.item.1 in
+    let called = c.child_done in
+    changed_came f c.args.parts.now called.new.parts called.new.group (λ id l. plain.child_done id c.args.child l) called.ensures.steps
 
 pub returns-in_default-clause-belongs : goal.returns-in_default-clause-belongs
 returns-in_default-clause-belongs c =
-    absurd (none_child c.args.self.now c.args.id c.args.child
-    (ap (λ gs. slice_get gs c.args.id) (sym c.self.view_is) ∙ get_past c.self.inside.held.items c.args.id c.in_default.ensures.item.3) c.requires.child)
+    absurd (none_child c.args.self.now c.args.id c.args.child (none_at c.args.id c.self.view_is c.in_default.ensures.item.3) c.requires.child)
 
 pub returns-in_default-clause-stands : goal.returns-in_default-clause-stands
 returns-in_default-clause-stands c =
-    absurd (none_child c.args.self.now c.args.id c.args.child
-    (ap (λ gs. slice_get gs c.args.id) (sym c.self.view_is) ∙ get_past c.self.inside.held.items c.args.id c.in_default.ensures.item.3) c.requires.child)
+    absurd (none_child c.args.self.now c.args.id c.args.child (none_at c.args.id c.self.view_is c.in_default.ensures.item.3) c.requires.child)

@@ -1,44 +1,34 @@
-use Rattle.std.proofs.Common.{slice_get, slice_set, ap, sym, subst, ◌∙◌}
-use Rattle.std.proofs.lemmas.Result.{IfOk-weaker, on_err_weaker}
-use Rattle.aio_group.specs.Stands.{AllBelong, Stands}
-use Rattle.aio_group.proofs.Calls.{get_of, changed_belong, none_going}
-use Rattle.aio_group.proofs.Listing.{get_past, set-same}
+use Rattle.model_loop.specs.Groups as plain
+use Rattle.aio_group.proofs.Calls.{found, found_belongs, changed_belong, exit_came, err_came, none_at, none_going}
 use Rattle.aio_group.proofs.groups.Groups.exit_woken.Goals as goal
 
 pub exit_woken-requires-clause-belongs : goal.exit_woken-requires-clause-belongs
 exit_woken-requires-clause-belongs c =
-    let at = get_of c.self.inside.held.items c.args.id c.in-Some.group.now c.in-Some.ensures.item.3.0 c.in-Some.ensures.item.1 in
-    c.requires.belongs c.args.id c.in-Some.group.now (ap (λ gs. slice_get gs c.args.id) (sym c.self.view_is) ∙ at)
+    let f = found c.args.id c.in-Some.group.now c.self.view_is c.in-Some.ensures.item.3.0 c.in-Some.ensures.item.1 in
+    found_belongs f c.args.parts.now c.requires.belongs
 
 pub returns-clause-belongs : goal.returns-clause-belongs
 returns-clause-belongs c =
-    let items = c.self.inside.held.items in
-    let held = c.in-Some.group.now in
-    let at = get_of items c.args.id held c.in-Some.ensures.item.3.0 c.in-Some.ensures.item.1 in
-    changed_belong c.args.parts.now c.exit_woken.new.parts items c.args.id held c.exit_woken.new.group at
-    (subst (λ gs. AllBelong c.args.parts.now gs) (sym c.self.view_is) c.requires.belongs) c.exit_woken.ensures.moves c.exit_woken.ensures.belongs
+    let f = found c.args.id c.in-Some.group.now c.self.view_is c.in-Some.ensures.item.3.0 c.in-Some.ensures.item.1 in
+    let called = c.exit_woken in
+    changed_belong f c.args.parts.now called.new.parts called.new.group c.requires.belongs called.ensures.moves called.ensures.belongs
 
 pub returns-clause-stands : goal.returns-clause-stands
 returns-clause-stands c =
-    let items = c.self.inside.held.items in
-    let at = get_of items c.args.id c.in-Some.group.now c.in-Some.ensures.item.3.0 c.in-Some.ensures.item.1 in
-    IfOk-weaker c.exit_woken.result _ _
-    (λ exit steps t l s. steps t items c.args.id l at (subst (λ gs. Stands t gs c.args.parts.now l) (sym c.self.view_is) s)) c.exit_woken.ensures.steps
+    let f = found c.args.id c.in-Some.group.now c.self.view_is c.in-Some.ensures.item.3.0 c.in-Some.ensures.item.1 in
+    let called = c.exit_woken in
+    exit_came f c.args.parts.now called.new.parts called.new.group called.result (plain.exit_woken c.args.input) called.ensures.steps
 
 pub returns-clause-err : goal.returns-clause-err
 returns-clause-err c =
-    let items = c.self.inside.held.items in
-    let held = c.in-Some.group.now in
-    let at = get_of items c.args.id held c.in-Some.ensures.item.3.0 c.in-Some.ensures.item.1 in
-    on_err_weaker c.exit_woken.result
-    (λ e. (ap (λ h. slice_set items c.args.id h) e.0 ∙ set-same items c.args.id held at ∙ c.self.view_is, e.1)) c.exit_woken.ensures.err
+    let f = found c.args.id c.in-Some.group.now c.self.view_is c.in-Some.ensures.item.3.0 c.in-Some.ensures.item.1 in
+    let called = c.exit_woken in
+    err_came f c.args.parts.now called.new.parts called.new.group called.result called.ensures.err
 
 pub returns-in_default-clause-belongs : goal.returns-in_default-clause-belongs
 returns-in_default-clause-belongs c =
-    absurd (none_going c.args.self.now c.args.id
-    (ap (λ gs. slice_get gs c.args.id) (sym c.self.view_is) ∙ get_past c.self.inside.held.items c.args.id c.in_default.ensures.item.3) c.requires.going)
+    absurd (none_going c.args.self.now c.args.id (none_at c.args.id c.self.view_is c.in_default.ensures.item.3) c.requires.going)
 
 pub returns-in_default-clause-stands : goal.returns-in_default-clause-stands
 returns-in_default-clause-stands c =
-    absurd (none_going c.args.self.now c.args.id
-    (ap (λ gs. slice_get gs c.args.id) (sym c.self.view_is) ∙ get_past c.self.inside.held.items c.args.id c.in_default.ensures.item.3) c.requires.going)
+    absurd (none_going c.args.self.now c.args.id (none_at c.args.id c.self.view_is c.in_default.ensures.item.3) c.requires.going)
