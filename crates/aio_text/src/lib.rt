@@ -5,4 +5,4 @@ mod lines;
 mod numbers;
 
 pub use lines::next_line;
-pub use numbers::number;
+pub use numbers::{are_digits, number, value_of};

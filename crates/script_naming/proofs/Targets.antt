@@ -2,9 +2,9 @@
 use Rattle.std.proofs.Common.{◌≡◌, ℕ, Bool, true, false, if◌then◌else◌, List, length, Option, Some, None, Result, Ok, Err, IfOk, IfErr, nat_eq, refl, ap, sym}
 use Rattle.std.proofs.Common.{◌∙◌, subst}
 use Rattle.std.specs.Str.{bytes_eq}
-use Rattle.model_tree.specs.Syntax.{Name, Expr, Exprs, exprs, Target, Call, CreateTask, ListenAt}
+use Rattle.model_tree.specs.Syntax.{Name, Expr, Exprs, exprs, Target, Call}
 use Rattle.model_tree.specs.Known.{spawn_text, create_text, listen_text}
-use Rattle.model_text.specs.Naming.{Meant, Scope, meant_map, both, if_arity, one_argument, counted, callee_of, passed, create_by, listen_by, called_target}
+use Rattle.model_text.specs.Naming.{Callee, Meant, Scope, meant_map, both, if_arity, one_argument, counted, callee_of, passed, called_target}
 use Rattle.script_naming.specs.declared.fault.MeaningFault.{MeaningFault}
 use Rattle.script_naming.specs.Gives.{Fails, Gives, both_found}
 use Rattle.script_naming.specs.Scope.{with_arity}
@@ -15,7 +15,7 @@ pub callee-known : (scope : Scope) (spelled name : Name) (parameters : ℕ) → 
 callee-known scope spelled name parameters is named =
     subst (λ n. callee_of scope n ≡ Some (with_arity n parameters)) named is
 
-pub gives-argument : (meant : Meant (List Expr)) (found : Result Expr MeaningFault)
+gives-argument : (meant : Meant (List Expr)) (found : Result Expr MeaningFault)
     → IfOk found (λ argument. (call : Expr → Expr) → one_argument call meant ≡ Ok (call argument))
     → IfErr found (λ fault. (call : Expr → Expr) → Fails (one_argument call meant) fault) → Gives (λ e. e) (one_argument (λ e. e) meant) found
 gives-argument meant (Ok argument) is fails = is (λ e. e)
@@ -38,27 +38,18 @@ passed-fails scope name parameters meant fault target is fails =
     (fails-along (counted parameters (λ all. all) meant) (counted parameters (λ all. target (exprs all)) meant) fault
     (λ c e. sym (counted-map parameters (λ all. target (exprs all)) meant) ∙ ap (λ m. meant_map (λ all. target (exprs all)) m) e) fails)
 
-pub create-gives : (scope : Scope) (name : Name) (parameters : ℕ) (before after : Meant (List Expr)) (group : Result Expr MeaningFault)
-    (arguments : Result (List Expr) MeaningFault) → callee_of scope name ≡ Some (with_arity name parameters)
-    → Gives (λ e. e) (one_argument (λ e. e) before) group → Gives (λ all. all) (counted parameters (λ all. all) after) arguments
-    → Gives (λ (pair : Expr × List Expr). CreateTask pair.0 name (exprs pair.1)) (create_by scope (callee_of scope name) name before after)
-    (both_found group arguments)
-create-gives scope name parameters before after group arguments is group_is arguments_are =
-    subst (λ callee. Gives (λ (pair : Expr × List Expr). CreateTask pair.0 name (exprs pair.1)) (create_by scope callee name before after)
-    (both_found group arguments)) (sym is)
-    (gives-both (λ g all. CreateTask g name (exprs all)) (λ e. e) (λ all. all) (one_argument (λ e. e) before)
-    (counted parameters (λ all. all) after) group arguments group_is arguments_are)
-
-pub listen-gives : {R : Type 0} (scope : Scope) (name : Name) (parameters : ℕ) (bytes : R → Name) (before after : Meant (List Expr))
-    (port : Result Expr MeaningFault) (handler : Result R MeaningFault) → callee_of scope name ≡ Some (with_arity name parameters)
-    → Gives (λ e. e) (one_argument (λ e. e) before) port
-    → Gives bytes (both (λ none h. h) (counted 0 (λ all. all) after) (if_arity (nat_eq parameters 1) name)) handler
-    → Gives (λ (pair : Expr × R). ListenAt pair.0 (bytes pair.1)) (listen_by scope (callee_of scope name) name before after)
-    (both_found port handler)
-listen-gives {R} scope name parameters bytes before after port handler is port_is handler_is =
-    subst (λ callee. Gives (λ (pair : Expr × R). ListenAt pair.0 (bytes pair.1)) (listen_by scope callee name before after) (both_found port handler)) (sym is)
-    (gives-both ListenAt (λ e. e) bytes (one_argument (λ e. e) before)
-    (both (λ none h. h) (counted 0 (λ all. all) after) (if_arity (nat_eq parameters 1) name)) port handler port_is handler_is)
+-- what is found of the expression before a coroutine's name, and of what stands after it, is what both mean
+pub handed-gives : {A B : Type 0} (join : Expr → B → Target) (view : A → B) (scope : Scope) (spelled name : Name) (parameters : ℕ)
+    (by : Option Callee → Meant Target) (before : Meant (List Expr)) (after : Meant B) (first : Result Expr MeaningFault) (second : Result A MeaningFault)
+    → callee_of scope spelled ≡ Some (with_arity spelled parameters) → spelled ≡ name
+    → by (Some (with_arity name parameters)) ≡ both join (one_argument (λ e. e) before) after
+    → IfOk first (λ argument. (call : Expr → Expr) → one_argument call before ≡ Ok (call argument))
+    → IfErr first (λ fault. (call : Expr → Expr) → Fails (one_argument call before) fault) → Gives view after second
+    → Gives (λ (pair : Expr × A). join pair.0 (view pair.1)) (by (callee_of scope name)) (both_found first second)
+handed-gives {A} join view scope spelled name parameters by before after first second found named same is fails second_is =
+    subst (λ meant. Gives (λ (pair : Expr × A). join pair.0 (view pair.1)) meant (both_found first second))
+    (sym (ap by (callee-known scope spelled name parameters found named) ∙ same))
+    (gives-both join (λ e. e) view (one_argument (λ e. e) before) after first second (gives-argument before first is fails) second_is)
 
 otherwise : {A : Type 0} (b : Bool) (x y : A) → b ≡ false → (if b then x else y) ≡ y
 otherwise b x y e = ap (λ t. if t then x else y) e

@@ -206,10 +206,12 @@ fn create_by(
     let Some(parameters) = scope.callee_of(name.as_str()) else {
         return Err(MeaningFault::Refused(Cause::Name));
     };
+    // Before the arguments, so that there is none to let go where memory runs out.
+    let task = name.clone()?;
     let group = one_argument(alloc, scope, before);
     let arguments = counted(alloc, scope, after, parameters);
     let (group, arguments) = both(group, arguments)?;
-    Ok(Target::CreateTask(group, name.clone()?, arguments))
+    Ok(Target::CreateTask(group, task, arguments))
 }
 
 /// `listen(n, NAME)`, whose handler has one parameter.

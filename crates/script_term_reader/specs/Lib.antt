@@ -5,4 +5,5 @@ pub mod Reader
 pub mod ReaderCode
 pub mod Closed
 pub mod Infix
+pub mod Made
 pub mod Next

@@ -1,5 +1,5 @@
 //! Where an expression ends, at a comma, a bracket or the end, and what its bracket makes of it.
-ghost use Rattle.std.specs.Prelude.{◌≡◌, IfOk, None, Some, map, option_map, [], ◌∷◌, ◌++◌, reverse};
+ghost use Rattle.std.specs.Prelude.{◌≡◌, None, Some, map, option_map, [], ◌∷◌, ◌++◌, reverse};
 ghost use Rattle.std.specs.Rc.{rc_str_bytes};
 ghost use Rattle.model_text.specs.Words.{Sign};
 ghost use Rattle.model_text.specs.Terms.{Variable};
@@ -9,18 +9,19 @@ ghost use Rattle.law_reading.specs.Reader.{Items, Arguments, BehindOperand};
 ghost use Rattle.law_reading.specs.Ends.{ended, parted, at_comma, filled, empty, with_kind, whole, closing, at_closing};
 ghost use Rattle.script_term.specs.Operand.{plain_operand};
 ghost use Rattle.script_term_reader.specs.Closed.{parted_open, closed};
-ghost use Rattle.script_term_reader.specs.Next.{come};
+ghost use Rattle.script_term_reader.specs.Made.{Makes};
+ghost use Rattle.script_term_reader.specs.Next.{Comes};
 ghost use Rattle.script_term_reader.specs.Reader.{plain_bracket};
 
-use crate::pending::{Loose, Tight, disjunction_of, no_loose};
+use crate::pending::{Loose, Made, Tight, disjunction_of, no_loose};
 use crate::reader::{Bracket, Open, Position, TermProgress, at, before, forget, forget_loose};
 use script_term::{Join, Operand, Symbol, Term, TermList, all_that_fit, capped, joined};
-use std::alloc::{AllocError, Global};
+use std::alloc::Global;
 use std::rc::RcStr;
 
 /// The expression that ends here.
-pub fn ended(alloc: Global, progress: TermProgress) -> Result<Option<Operand>, AllocError>
-    ensures { IfOk result (λ operand. option_map plain_operand operand ≡ ended progress) }
+pub fn ended(alloc: Global, progress: TermProgress) -> Made<Option<Operand>>
+    ensures { Makes (option_map plain_operand) (ended progress) result }
 {
     match progress.place() {
         Position::Start => Ok(None),
@@ -46,15 +47,9 @@ pub fn named(name: RcStr) -> Operand
     Operand::Fits(Term::variable(name))
 }
 
-fn ended_by(
-    alloc: Global,
-    loose: Loose,
-    tight: Tight,
-    operand: Operand,
-) -> Result<Option<Operand>, AllocError>
-    ensures { IfOk result
-        (λ made. option_map plain_operand made
-        ≡ Some (disjunction_of loose tight (plain_operand operand))) }
+fn ended_by(alloc: Global, loose: Loose, tight: Tight, operand: Operand) -> Made<Option<Operand>>
+    ensures { Makes (option_map plain_operand) (Some
+        (disjunction_of loose tight (plain_operand operand))) result }
 {
     let made = disjunction_of(alloc, loose, tight, operand)?;
     Ok(Some(made))
@@ -63,13 +58,8 @@ fn ended_by(
 // ---- commas
 
 /// Behind a comma: what was read in the bracket.
-fn parted(
-    alloc: Global,
-    bracket: Bracket,
-    progress: TermProgress,
-) -> Result<Option<Bracket>, AllocError>
-    ensures { IfOk result
-        (λ behind. option_map plain_bracket behind ≡ parted (plain_bracket bracket) progress) }
+fn parted(alloc: Global, bracket: Bracket, progress: TermProgress) -> Made<Option<Bracket>>
+    ensures { Makes (option_map plain_bracket) (parted (plain_bracket bracket) progress) result }
 {
     match bracket {
         Bracket::Group => Ok(None),
@@ -81,14 +71,9 @@ fn parted(
     }
 }
 
-fn parted_items(
-    alloc: Global,
-    items: Vec<Operand>,
-    progress: TermProgress,
-) -> Result<Option<Bracket>, AllocError>
-    ensures { IfOk result
-        (λ behind. option_map plain_bracket behind
-        ≡ parted (Items (map plain_operand items.items)) progress) }
+fn parted_items(alloc: Global, items: Vec<Operand>, progress: TermProgress) -> Made<Option<Bracket>>
+    ensures { Makes (option_map plain_bracket) (parted (Items (map plain_operand items.items))
+        progress) result }
 {
     let item = ended(alloc, progress)?;
     match item {
@@ -97,10 +82,9 @@ fn parted_items(
     }
 }
 
-fn with_last_item(items: Vec<Operand>, item: Operand) -> Result<Option<Bracket>, AllocError>
-    ensures { IfOk result
-        (λ behind. option_map plain_bracket behind
-        ≡ Some (Items (map plain_operand items.items ++ plain_operand item ∷ []))) }
+fn with_last_item(items: Vec<Operand>, item: Operand) -> Made<Option<Bracket>>
+    ensures { Makes (option_map plain_bracket) (Some
+        (Items (map plain_operand items.items ++ plain_operand item ∷ []))) result }
 {
     let items = with_last(items, item)?;
     Ok(Some(Bracket::Items(items)))
@@ -112,11 +96,10 @@ fn parted_arguments(
     bare: Option<RcStr>,
     arguments: Vec<Operand>,
     progress: TermProgress,
-) -> Result<Option<Bracket>, AllocError>
-    ensures { IfOk result
-        (λ behind. option_map plain_bracket behind
-        ≡ parted (Arguments (rc_str_bytes name) (option_map rc_str_bytes bare)
-        (map plain_operand arguments.items)) progress) }
+) -> Made<Option<Bracket>>
+    ensures { Makes (option_map plain_bracket) (parted
+        (Arguments (rc_str_bytes name) (option_map rc_str_bytes bare)
+        (map plain_operand arguments.items)) progress) result }
 {
     match progress.place() {
         Position::Start => Ok(None),
@@ -128,15 +111,10 @@ fn parted_arguments(
             forget(loose, tight);
             Ok(None)
         }
-        Position::BehindName(loose, tight, argument) => with_argument(
-            alloc,
-            name,
-            bare,
-            arguments,
-            loose,
-            tight,
-            named(argument),
-        ),
+        Position::BehindName(loose, tight, argument) => {
+            let argument = named(argument);
+            with_argument(alloc, name, bare, arguments, loose, tight, argument)
+        }
         Position::BehindOperand(loose, tight, argument) => with_argument(
             alloc, name, bare, arguments, loose, tight, argument,
         ),
@@ -157,22 +135,20 @@ fn with_argument(
     loose: Loose,
     tight: Tight,
     argument: Operand,
-) -> Result<Option<Bracket>, AllocError>
-    ensures { IfOk result
-        (λ behind. option_map plain_bracket behind
-        ≡ Some (Arguments (rc_str_bytes name) (option_map rc_str_bytes bare)
+) -> Made<Option<Bracket>>
+    ensures { Makes (option_map plain_bracket) (Some
+        (Arguments (rc_str_bytes name) (option_map rc_str_bytes bare)
         (map plain_operand arguments.items ++ disjunction_of loose tight (plain_operand argument)
-        ∷ []))) }
+        ∷ []))) result }
 {
     let argument = disjunction_of(alloc, loose, tight, argument)?;
     let arguments = with_last(arguments, argument)?;
     Ok(Some(Bracket::Arguments(name, bare, arguments)))
 }
 
-fn with_last(items: Vec<Operand>, last: Operand) -> Result<Vec<Operand>, AllocError>
-    ensures { IfOk result
-        (λ more. map plain_operand more.items
-        ≡ map plain_operand items.items ++ plain_operand last ∷ []) }
+fn with_last(items: Vec<Operand>, last: Operand) -> Made<Vec<Operand>>
+    ensures { Makes (λ more. map plain_operand more.items)
+        (map plain_operand items.items ++ plain_operand last ∷ []) result }
 {
     let mut items = items;
     items.push(last)?;
@@ -184,9 +160,8 @@ pub fn at_comma(
     alloc: Global,
     progress: TermProgress,
     opened: &mut Vec<Open>,
-) -> Result<Option<TermProgress>, AllocError>
-    ensures { IfOk result
-        (λ reached. come reached opened.new.items ≡ at_comma progress (reverse opened.old.items)) }
+) -> Made<Option<TermProgress>>
+    ensures { Comes opened.new.items (at_comma progress (reverse opened.old.items)) result }
 {
     match opened.pop() {
         None => Ok(None),
@@ -199,10 +174,9 @@ fn comma_within(
     innermost: Open,
     progress: TermProgress,
     opened: &mut Vec<Open>,
-) -> Result<Option<TermProgress>, AllocError>
-    ensures { IfOk result
-        (λ reached. come reached opened.new.items
-        ≡ at_comma progress (innermost ∷ reverse opened.old.items)) }
+) -> Made<Option<TermProgress>>
+    ensures { Comes opened.new.items (at_comma progress (innermost ∷ reverse opened.old.items))
+        result }
 {
     match parted_open(alloc, innermost, progress)? {
         Some(innermost) => {
@@ -213,12 +187,8 @@ fn comma_within(
     }
 }
 
-fn parted_open(
-    alloc: Global,
-    innermost: Open,
-    progress: TermProgress,
-) -> Result<Option<Open>, AllocError>
-    ensures { IfOk result (λ behind. behind ≡ parted_open innermost progress) }
+fn parted_open(alloc: Global, innermost: Open, progress: TermProgress) -> Made<Option<Open>>
+    ensures { Makes (λ a. a) (parted_open innermost progress) result }
 {
     let (bracket, loose, tight) = innermost.parts();
     match parted(alloc, bracket, progress) {
@@ -237,9 +207,8 @@ fn parted_open(
 // ---- closing brackets
 
 /// `[a, b]`.
-fn list_of(alloc: Global, items: Vec<Operand>) -> Result<Operand, AllocError>
-    ensures { IfOk result
-        (λ operand. plain_operand operand ≡ list_of (map plain_operand items.items)) }
+fn list_of(alloc: Global, items: Vec<Operand>) -> Made<Operand>
+    ensures { Makes plain_operand (list_of (map plain_operand items.items)) result }
 {
     match all_that_fit(alloc, items)? {
         Some(items) => Ok(capped(Term::list(TermList::of(items)))),
@@ -253,11 +222,9 @@ fn call_of(
     name: RcStr,
     bare: Option<RcStr>,
     arguments: Vec<Operand>,
-) -> Result<Operand, AllocError>
-    ensures { IfOk result
-        (λ operand. plain_operand operand
-        ≡ call_of (rc_str_bytes name) (option_map rc_str_bytes bare)
-        (map plain_operand arguments.items)) }
+) -> Made<Operand>
+    ensures { Makes plain_operand (call_of (rc_str_bytes name) (option_map rc_str_bytes bare)
+        (map plain_operand arguments.items)) result }
 {
     match all_that_fit(alloc, arguments)? {
         Some(arguments) => Ok(capped(call(alloc, name, bare, arguments))),
@@ -277,9 +244,8 @@ fn call(alloc: Global, name: RcStr, bare: Option<RcStr>, arguments: Vec<Term>) -
 }
 
 /// The operand that a bracket makes with the last expression in it.
-fn filled(alloc: Global, bracket: Bracket, operand: Operand) -> Result<Operand, AllocError>
-    ensures { IfOk result
-        (λ made. plain_operand made ≡ filled (plain_bracket bracket) (plain_operand operand)) }
+fn filled(alloc: Global, bracket: Bracket, operand: Operand) -> Made<Operand>
+    ensures { Makes plain_operand (filled (plain_bracket bracket) (plain_operand operand)) result }
 {
     match bracket {
         Bracket::Group => Ok(operand),
@@ -291,10 +257,9 @@ fn filled(alloc: Global, bracket: Bracket, operand: Operand) -> Result<Operand, 
     }
 }
 
-fn list_with(alloc: Global, items: Vec<Operand>, last: Operand) -> Result<Operand, AllocError>
-    ensures { IfOk result
-        (λ made. plain_operand made
-        ≡ list_of (map plain_operand items.items ++ plain_operand last ∷ [])) }
+fn list_with(alloc: Global, items: Vec<Operand>, last: Operand) -> Made<Operand>
+    ensures { Makes plain_operand (list_of (map plain_operand items.items ++ plain_operand last
+        ∷ [])) result }
 {
     let items = with_last(items, last)?;
     let made = list_of(alloc, items)?;
@@ -307,11 +272,9 @@ fn call_with(
     bare: Option<RcStr>,
     arguments: Vec<Operand>,
     last: Operand,
-) -> Result<Operand, AllocError>
-    ensures { IfOk result
-        (λ made. plain_operand made
-        ≡ call_of (rc_str_bytes name) (option_map rc_str_bytes bare)
-        (map plain_operand arguments.items ++ plain_operand last ∷ [])) }
+) -> Made<Operand>
+    ensures { Makes plain_operand (call_of (rc_str_bytes name) (option_map rc_str_bytes bare)
+        (map plain_operand arguments.items ++ plain_operand last ∷ [])) result }
 {
     let arguments = with_last(arguments, last)?;
     let made = call_of(alloc, name, bare, arguments)?;
@@ -319,9 +282,8 @@ fn call_with(
 }
 
 /// The operand that a bracket makes with nothing in it.
-fn empty(alloc: Global, bracket: Bracket) -> Result<Option<Operand>, AllocError>
-    ensures { IfOk result
-        (λ operand. option_map plain_operand operand ≡ empty (plain_bracket bracket)) }
+fn empty(alloc: Global, bracket: Bracket) -> Made<Option<Operand>>
+    ensures { Makes (option_map plain_operand) (empty (plain_bracket bracket)) result }
 {
     match bracket {
         Bracket::Group => Ok(None),
@@ -331,9 +293,9 @@ fn empty(alloc: Global, bracket: Bracket) -> Result<Option<Operand>, AllocError>
     }
 }
 
-fn closed_list(alloc: Global, items: Vec<Operand>) -> Result<Option<Operand>, AllocError>
-    ensures { IfOk result
-        (λ made. option_map plain_operand made ≡ Some (list_of (map plain_operand items.items))) }
+fn closed_list(alloc: Global, items: Vec<Operand>) -> Made<Option<Operand>>
+    ensures { Makes (option_map plain_operand) (Some (list_of (map plain_operand items.items)))
+        result }
 {
     let made = list_of(alloc, items)?;
     Ok(Some(made))
@@ -344,25 +306,19 @@ fn closed_call(
     name: RcStr,
     bare: Option<RcStr>,
     arguments: Vec<Operand>,
-) -> Result<Option<Operand>, AllocError>
-    ensures { IfOk result
-        (λ made. option_map plain_operand made
-        ≡ Some (call_of (rc_str_bytes name) (option_map rc_str_bytes bare)
-        (map plain_operand arguments.items))) }
+) -> Made<Option<Operand>>
+    ensures { Makes (option_map plain_operand) (Some
+        (call_of (rc_str_bytes name) (option_map rc_str_bytes bare)
+        (map plain_operand arguments.items))) result }
 {
     let made = call_of(alloc, name, bare, arguments)?;
     Ok(Some(made))
 }
 
 /// The operand that a call makes with a bare name alone, or with nothing in its place.
-fn with_kind(
-    alloc: Global,
-    kind: Option<RcStr>,
-    bracket: Bracket,
-) -> Result<Option<Operand>, AllocError>
-    ensures { IfOk result
-        (λ operand. option_map plain_operand operand
-        ≡ with_kind (option_map rc_str_bytes kind) (plain_bracket bracket)) }
+fn with_kind(alloc: Global, kind: Option<RcStr>, bracket: Bracket) -> Made<Option<Operand>>
+    ensures { Makes (option_map plain_operand) (with_kind (option_map rc_str_bytes kind)
+        (plain_bracket bracket)) result }
 {
     match bracket {
         Bracket::Group => Ok(None),
@@ -378,13 +334,8 @@ fn with_kind(
 }
 
 /// The operand that a bracket makes if it closes here.
-fn whole(
-    alloc: Global,
-    bracket: Bracket,
-    progress: TermProgress,
-) -> Result<Option<Operand>, AllocError>
-    ensures { IfOk result
-        (λ operand. option_map plain_operand operand ≡ whole (plain_bracket bracket) progress) }
+fn whole(alloc: Global, bracket: Bracket, progress: TermProgress) -> Made<Option<Operand>>
+    ensures { Makes (option_map plain_operand) (whole (plain_bracket bracket) progress) result }
 {
     match progress.place() {
         Position::Start => empty(alloc, bracket),
@@ -396,13 +347,10 @@ fn whole(
             forget(loose, tight);
             Ok(unfinished(bracket))
         }
-        Position::BehindName(loose, tight, name) => filled_by(
-            alloc,
-            bracket,
-            loose,
-            tight,
-            named(name),
-        ),
+        Position::BehindName(loose, tight, name) => {
+            let operand = named(name);
+            filled_by(alloc, bracket, loose, tight, operand)
+        }
         Position::BehindOperand(loose, tight, operand) => filled_by(
             alloc, bracket, loose, tight, operand,
         ),
@@ -424,11 +372,10 @@ fn filled_by(
     loose: Loose,
     tight: Tight,
     operand: Operand,
-) -> Result<Option<Operand>, AllocError>
-    ensures { IfOk result
-        (λ made. option_map plain_operand made
-        ≡ Some (filled (plain_bracket bracket)
-        (disjunction_of loose tight (plain_operand operand)))) }
+) -> Made<Option<Operand>>
+    ensures { Makes (option_map plain_operand) (Some
+        (filled (plain_bracket bracket) (disjunction_of loose tight (plain_operand operand))))
+        result }
 {
     let operand = disjunction_of(alloc, loose, tight, operand)?;
     let made = filled(alloc, bracket, operand)?;
@@ -450,10 +397,9 @@ pub fn at_closing(
     symbol: Symbol,
     progress: TermProgress,
     opened: &mut Vec<Open>,
-) -> Result<Option<TermProgress>, AllocError>
-    ensures { IfOk result
-        (λ reached. come reached opened.new.items
-        ≡ at_closing (Sign symbol) progress (reverse opened.old.items)) }
+) -> Made<Option<TermProgress>>
+    ensures { Comes opened.new.items (at_closing (Sign symbol) progress (reverse opened.old.items))
+        result }
 {
     match opened.pop() {
         None => Ok(None),
@@ -466,8 +412,8 @@ fn closed(
     symbol: Symbol,
     innermost: Open,
     progress: TermProgress,
-) -> Result<Option<TermProgress>, AllocError>
-    ensures { IfOk result (λ reached. reached ≡ closed (Sign symbol) progress innermost) }
+) -> Made<Option<TermProgress>>
+    ensures { Makes (λ a. a) (closed (Sign symbol) progress innermost) result }
 {
     if closing(&innermost.bracket) != symbol {
         return Ok(None);
@@ -475,15 +421,9 @@ fn closed(
     closed_by(alloc, innermost, progress)
 }
 
-fn closed_by(
-    alloc: Global,
-    innermost: Open,
-    progress: TermProgress,
-) -> Result<Option<TermProgress>, AllocError>
-    ensures { IfOk result
-        (λ reached. reached
-        ≡ option_map (λ operand. BehindOperand innermost.loose innermost.tight operand)
-        (whole innermost.bracket progress)) }
+fn closed_by(alloc: Global, innermost: Open, progress: TermProgress) -> Made<Option<TermProgress>>
+    ensures { Makes (λ a. a) (option_map (λ operand. BehindOperand innermost.loose innermost.tight
+        operand) (whole innermost.bracket progress)) result }
 {
     let (bracket, loose, tight) = innermost.parts();
     match whole(alloc, bracket, progress) {

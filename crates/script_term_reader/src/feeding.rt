@@ -1,28 +1,29 @@
 //! What a reader knows behind one lexeme more.
-ghost use Rattle.std.specs.Prelude.{◌≡◌, List, IfOk, [], None, suc, option_map, option_and_then, reverse};
+ghost use Rattle.std.specs.Prelude.{◌≡◌, [], None, suc, option_map, option_and_then, reverse};
 ghost use Rattle.std.specs.Rc.{rc_str_bytes};
 ghost use Rattle.model_text.specs.Levels.{atom, constant_of_word};
 ghost use Rattle.model_text.specs.Words.{Reserved, Sign};
 ghost use Rattle.law_reading.specs.Operands.{Fits};
 ghost use Rattle.law_reading.specs.Pending.{behind_and, behind_or};
-ghost use Rattle.law_reading.specs.Reader.{Open as OpenBracket, Arguments, AtNot, AtOperand, BehindName, BehindOperand, reading};
+ghost use Rattle.law_reading.specs.Reader.{Arguments, AtNot, AtOperand, BehindName, BehindOperand, reading};
 ghost use Rattle.law_reading.specs.Feeding.{opening, at_operand, at_not, infix_of, behind_infix, at_symbol, behind_operand, first_argument, behind_name, at_kind, fed_within, fed};
 ghost use Rattle.script_term.specs.Lexeme.{plain_lexeme};
 ghost use Rattle.script_term.specs.Operand.{plain_operand};
 ghost use Rattle.script_term_reader.specs.Infix.{plain_infix};
-ghost use Rattle.script_term_reader.specs.Next.{applied, come};
+ghost use Rattle.script_term_reader.specs.Made.{Makes};
+ghost use Rattle.script_term_reader.specs.Next.{applied, Becomes, Leads, Comes};
 
 use crate::ends::{at_closing, at_comma, named};
 use crate::pending::{
-    Loose, Tight, behind_and, behind_compared, behind_minus, behind_not, behind_or, behind_product,
-    behind_sum, no_loose, no_tight,
+    Loose, Made, Tight, behind_and, behind_compared, behind_minus, behind_not, behind_or,
+    behind_product, behind_sum, no_loose, no_tight,
 };
 use crate::reader::{
     AfterLexeme, Bracket, Open, Position, TermProgress, at, forget, forget_loose, forget_operand,
     goes, opens,
 };
 use script_term::{Comparison, Constant, Lexeme, Operand, Operator, ReservedWord, Symbol, Term};
-use std::alloc::{AllocError, Global};
+use std::alloc::Global;
 use std::rc::RcStr;
 
 // ---- where an operand may stand
@@ -39,8 +40,8 @@ fn constant_of_word(word: ReservedWord) -> Option<Term>
 }
 
 /// The expression that one lexeme is.
-fn atom(lexeme: &Lexeme) -> Result<Option<Term>, AllocError>
-    ensures { IfOk result (λ term. term ≡ atom (plain_lexeme lexeme.now)) }
+fn atom(lexeme: &Lexeme) -> Made<Option<Term>>
+    ensures { Makes (λ a. a) (atom (plain_lexeme lexeme.now)) result }
 {
     Ok(match lexeme {
         Lexeme::Reserved(word) => constant_of_word(*word),
@@ -52,15 +53,8 @@ fn atom(lexeme: &Lexeme) -> Result<Option<Term>, AllocError>
     })
 }
 
-fn at_operand(
-    alloc: Global,
-    loose: Loose,
-    tight: Tight,
-    lexeme: &Lexeme,
-) -> Result<AfterLexeme, AllocError>
-    ensures { IfOk result
-        (λ next. (opened : List OpenBracket) → applied next opened
-        ≡ at_operand loose tight opened (plain_lexeme lexeme.now)) }
+fn at_operand(alloc: Global, loose: Loose, tight: Tight, lexeme: &Lexeme) -> Made<AfterLexeme>
+    ensures { Leads (λ opened. at_operand loose tight opened (plain_lexeme lexeme.now)) result }
 {
     match lexeme {
         Lexeme::Reserved(_) | Lexeme::Number(_) | Lexeme::Texts(_) | Lexeme::Octets(_) =>
@@ -70,10 +64,8 @@ fn at_operand(
     }
 }
 
-fn behind_new_name(loose: Loose, tight: Tight, name: &RcStr) -> Result<AfterLexeme, AllocError>
-    ensures { IfOk result
-        (λ next. (opened : List OpenBracket) → applied next opened
-        ≡ reading (BehindName loose tight (rc_str_bytes name.now)) opened) }
+fn behind_new_name(loose: Loose, tight: Tight, name: &RcStr) -> Made<AfterLexeme>
+    ensures { Leads (reading (BehindName loose tight (rc_str_bytes name.now))) result }
 {
     match name.clone() {
         Ok(name) => Ok(goes(Position::BehindName(loose, tight, name))),
@@ -84,11 +76,9 @@ fn behind_new_name(loose: Loose, tight: Tight, name: &RcStr) -> Result<AfterLexe
     }
 }
 
-fn behind_atom(loose: Loose, tight: Tight, lexeme: &Lexeme) -> Result<AfterLexeme, AllocError>
-    ensures { IfOk result
-        (λ next. (opened : List OpenBracket) → applied next opened
-        ≡ option_and_then (λ term. reading (BehindOperand loose tight (Fits term)) opened)
-        (atom (plain_lexeme lexeme.now))) }
+fn behind_atom(loose: Loose, tight: Tight, lexeme: &Lexeme) -> Made<AfterLexeme>
+    ensures { Leads (λ opened. option_and_then (λ term. reading
+        (BehindOperand loose tight (Fits term)) opened) (atom (plain_lexeme lexeme.now))) result }
 {
     match atom(lexeme) {
         Ok(Some(term)) => Ok(goes(Position::BehindOperand(loose, tight, Operand::Fits(term)))),
@@ -103,15 +93,8 @@ fn behind_atom(loose: Loose, tight: Tight, lexeme: &Lexeme) -> Result<AfterLexem
     }
 }
 
-fn at_operand_sign(
-    alloc: Global,
-    loose: Loose,
-    tight: Tight,
-    symbol: Symbol,
-) -> Result<AfterLexeme, AllocError>
-    ensures { IfOk result
-        (λ next. (opened : List OpenBracket) → applied next opened
-        ≡ at_operand loose tight opened (Sign symbol)) }
+fn at_operand_sign(alloc: Global, loose: Loose, tight: Tight, symbol: Symbol) -> Made<AfterLexeme>
+    ensures { Leads (λ opened. at_operand loose tight opened (Sign symbol)) result }
 {
     match symbol {
         Symbol::Minus => minus(loose, tight),
@@ -129,10 +112,9 @@ fn at_operand_sign(
     }
 }
 
-fn minus(loose: Loose, tight: Tight) -> Result<AfterLexeme, AllocError>
-    ensures { IfOk result
-        (λ next. (opened : List OpenBracket) → applied next opened
-        ≡ reading (AtOperand loose (record tight { minuses = suc tight.minuses })) opened) }
+fn minus(loose: Loose, tight: Tight) -> Made<AfterLexeme>
+    ensures { Leads (reading (AtOperand loose (record tight { minuses = suc tight.minuses })))
+        result }
 {
     match behind_minus(tight) {
         Ok(tight) => Ok(goes(Position::AtOperand(loose, tight))),
@@ -144,10 +126,8 @@ fn minus(loose: Loose, tight: Tight) -> Result<AfterLexeme, AllocError>
 }
 
 /// Where `not` may stand too.
-fn at_not(alloc: Global, loose: Loose, lexeme: &Lexeme) -> Result<AfterLexeme, AllocError>
-    ensures { IfOk result
-        (λ next. (opened : List OpenBracket) → applied next opened
-        ≡ at_not loose opened (plain_lexeme lexeme.now)) }
+fn at_not(alloc: Global, loose: Loose, lexeme: &Lexeme) -> Made<AfterLexeme>
+    ensures { Leads (λ opened. at_not loose opened (plain_lexeme lexeme.now)) result }
 {
     match lexeme {
         Lexeme::Reserved(ReservedWord::Not) => denial(loose),
@@ -155,10 +135,8 @@ fn at_not(alloc: Global, loose: Loose, lexeme: &Lexeme) -> Result<AfterLexeme, A
     }
 }
 
-fn denial(loose: Loose) -> Result<AfterLexeme, AllocError>
-    ensures { IfOk result
-        (λ next. (opened : List OpenBracket) → applied next opened
-        ≡ reading (AtNot (record loose { nots = suc loose.nots })) opened) }
+fn denial(loose: Loose) -> Made<AfterLexeme>
+    ensures { Leads (reading (AtNot (record loose { nots = suc loose.nots }))) result }
 {
     let loose = behind_not(loose)?;
     Ok(goes(Position::AtNot(loose)))
@@ -168,7 +146,7 @@ fn denial(loose: Loose) -> Result<AfterLexeme, AllocError>
 
 /// It is no expression: what is pending is let go.
 fn fails(loose: Loose, tight: Tight, operand: Operand) -> AfterLexeme
-    ensures { (opened : List OpenBracket) → applied result opened ≡ None }
+    ensures { Becomes (λ opened. None) result }
 {
     forget(loose, tight);
     forget_operand(operand);
@@ -207,9 +185,9 @@ fn behind_infix(
     tight: Tight,
     operand: Operand,
     operator: Infix,
-) -> Result<Option<Tight>, AllocError>
-    ensures { IfOk result
-        (λ pending. pending ≡ behind_infix tight (plain_operand operand) (plain_infix operator)) }
+) -> Made<Option<Tight>>
+    ensures { Makes (λ a. a) (behind_infix tight (plain_operand operand) (plain_infix operator))
+        result }
 {
     match operator {
         Infix::Compares(comparison) => behind_compared(alloc, tight, comparison, operand),
@@ -224,11 +202,9 @@ fn infixed(
     tight: Tight,
     operand: Operand,
     operator: Infix,
-) -> Result<AfterLexeme, AllocError>
-    ensures { IfOk result
-        (λ next. (opened : List OpenBracket) → applied next opened
-        ≡ option_and_then (λ pending. reading (AtOperand loose pending) opened)
-        (behind_infix tight (plain_operand operand) (plain_infix operator))) }
+) -> Made<AfterLexeme>
+    ensures { Leads (λ opened. option_and_then (λ pending. reading (AtOperand loose pending) opened)
+        (behind_infix tight (plain_operand operand) (plain_infix operator))) result }
 {
     match behind_infix(alloc, tight, operand, operator) {
         Ok(Some(pending)) => Ok(goes(Position::AtOperand(loose, pending))),
@@ -249,11 +225,9 @@ fn infixed_by(
     tight: Tight,
     operand: Operand,
     symbol: Symbol,
-) -> Result<AfterLexeme, AllocError>
-    ensures { IfOk result
-        (λ next. (opened : List OpenBracket) → applied next opened
-        ≡ option_and_then (λ pending. reading (AtOperand loose pending) opened)
-        (option_and_then (behind_infix tight (plain_operand operand)) (infix_of symbol))) }
+) -> Made<AfterLexeme>
+    ensures { Leads (λ opened. option_and_then (λ pending. reading (AtOperand loose pending) opened)
+        (option_and_then (behind_infix tight (plain_operand operand)) (infix_of symbol))) result }
 {
     match infix_of(symbol) {
         None => Ok(fails(loose, tight, operand)),
@@ -267,10 +241,8 @@ fn at_symbol(
     tight: Tight,
     operand: Operand,
     symbol: Symbol,
-) -> Result<AfterLexeme, AllocError>
-    ensures { IfOk result
-        (λ next. (opened : List OpenBracket) → applied next opened
-        ≡ at_symbol loose tight (plain_operand operand) opened symbol) }
+) -> Made<AfterLexeme>
+    ensures { Leads (λ opened. at_symbol loose tight (plain_operand operand) opened symbol) result }
 {
     match symbol {
         Symbol::LeftBracket => Ok(opens(Bracket::Item(operand), loose, tight, at(Position::Start))),
@@ -284,10 +256,9 @@ fn behind_operand(
     tight: Tight,
     operand: Operand,
     lexeme: &Lexeme,
-) -> Result<AfterLexeme, AllocError>
-    ensures { IfOk result
-        (λ next. (opened : List OpenBracket) → applied next opened
-        ≡ behind_operand loose tight (plain_operand operand) opened (plain_lexeme lexeme.now)) }
+) -> Made<AfterLexeme>
+    ensures { Leads (λ opened. behind_operand loose tight (plain_operand operand) opened
+        (plain_lexeme lexeme.now)) result }
 {
     match lexeme {
         Lexeme::Reserved(word) => at_word(alloc, loose, tight, operand, *word),
@@ -304,10 +275,9 @@ fn at_word(
     tight: Tight,
     operand: Operand,
     word: ReservedWord,
-) -> Result<AfterLexeme, AllocError>
-    ensures { IfOk result
-        (λ next. (opened : List OpenBracket) → applied next opened
-        ≡ behind_operand loose tight (plain_operand operand) opened (Reserved word)) }
+) -> Made<AfterLexeme>
+    ensures { Leads (λ opened. behind_operand loose tight (plain_operand operand) opened
+        (Reserved word)) result }
 {
     match word {
         ReservedWord::Or => disjunction(alloc, loose, tight, operand),
@@ -316,29 +286,15 @@ fn at_word(
     }
 }
 
-fn disjunction(
-    alloc: Global,
-    loose: Loose,
-    tight: Tight,
-    operand: Operand,
-) -> Result<AfterLexeme, AllocError>
-    ensures { IfOk result
-        (λ next. (opened : List OpenBracket) → applied next opened
-        ≡ reading (AtNot (behind_or loose tight (plain_operand operand))) opened) }
+fn disjunction(alloc: Global, loose: Loose, tight: Tight, operand: Operand) -> Made<AfterLexeme>
+    ensures { Leads (reading (AtNot (behind_or loose tight (plain_operand operand)))) result }
 {
     let loose = behind_or(alloc, loose, tight, operand)?;
     Ok(goes(Position::AtNot(loose)))
 }
 
-fn conjunction(
-    alloc: Global,
-    loose: Loose,
-    tight: Tight,
-    operand: Operand,
-) -> Result<AfterLexeme, AllocError>
-    ensures { IfOk result
-        (λ next. (opened : List OpenBracket) → applied next opened
-        ≡ reading (AtNot (behind_and loose tight (plain_operand operand))) opened) }
+fn conjunction(alloc: Global, loose: Loose, tight: Tight, operand: Operand) -> Made<AfterLexeme>
+    ensures { Leads (reading (AtNot (behind_and loose tight (plain_operand operand)))) result }
 {
     let loose = behind_and(alloc, loose, tight, operand)?;
     Ok(goes(Position::AtNot(loose)))
@@ -361,10 +317,9 @@ fn behind_name(
     tight: Tight,
     name: RcStr,
     lexeme: &Lexeme,
-) -> Result<AfterLexeme, AllocError>
-    ensures { IfOk result
-        (λ next. (opened : List OpenBracket) → applied next opened
-        ≡ behind_name loose tight (rc_str_bytes name) opened (plain_lexeme lexeme.now)) }
+) -> Made<AfterLexeme>
+    ensures { Leads (λ opened. behind_name loose tight (rc_str_bytes name) opened
+        (plain_lexeme lexeme.now)) result }
 {
     match lexeme {
         Lexeme::Sign(Symbol::LeftParenthesis) => Ok(called(alloc, loose, tight, name)),
@@ -373,9 +328,8 @@ fn behind_name(
 }
 
 fn called(alloc: Global, loose: Loose, tight: Tight, name: RcStr) -> AfterLexeme
-    ensures { (opened : List OpenBracket) → applied result opened
-        ≡ opening (Arguments (rc_str_bytes name) None []) loose tight
-        (first_argument (rc_str_bytes name)) opened }
+    ensures { Becomes (opening (Arguments (rc_str_bytes name) None []) loose tight
+        (first_argument (rc_str_bytes name))) result }
 {
     let progress = first_argument(name.as_str());
     opens(
@@ -386,10 +340,8 @@ fn called(alloc: Global, loose: Loose, tight: Tight, name: RcStr) -> AfterLexeme
     )
 }
 
-fn at_kind(lexeme: &Lexeme) -> Result<AfterLexeme, AllocError>
-    ensures { IfOk result
-        (λ next. (opened : List OpenBracket) → applied next opened
-        ≡ at_kind opened (plain_lexeme lexeme.now)) }
+fn at_kind(lexeme: &Lexeme) -> Made<AfterLexeme>
+    ensures { Leads (λ opened. at_kind opened (plain_lexeme lexeme.now)) result }
 {
     match lexeme {
         Lexeme::Named(kind) => {
@@ -402,14 +354,8 @@ fn at_kind(lexeme: &Lexeme) -> Result<AfterLexeme, AllocError>
 
 // ---- one lexeme more
 
-fn fed_within(
-    alloc: Global,
-    progress: TermProgress,
-    lexeme: &Lexeme,
-) -> Result<AfterLexeme, AllocError>
-    ensures { IfOk result
-        (λ next. (opened : List OpenBracket) → applied next opened
-        ≡ fed_within progress opened (plain_lexeme lexeme.now)) }
+fn fed_within(alloc: Global, progress: TermProgress, lexeme: &Lexeme) -> Made<AfterLexeme>
+    ensures { Leads (λ opened. fed_within progress opened (plain_lexeme lexeme.now)) result }
 {
     match progress.place() {
         Position::Start => at_not(alloc, no_loose(), lexeme),
@@ -425,9 +371,8 @@ fn fed_within(
 }
 
 /// The brackets that are open are changed in place.
-fn apply(next: AfterLexeme, opened: &mut Vec<Open>) -> Result<Option<TermProgress>, AllocError>
-    ensures { IfOk result
-        (λ reached. come reached opened.new.items ≡ applied next (reverse opened.old.items)) }
+fn apply(next: AfterLexeme, opened: &mut Vec<Open>) -> Made<Option<TermProgress>>
+    ensures { Comes opened.new.items (applied next (reverse opened.old.items)) result }
 {
     match next {
         AfterLexeme::Goes(progress) => Ok(Some(progress)),
@@ -444,10 +389,9 @@ fn within(
     progress: TermProgress,
     opened: &mut Vec<Open>,
     lexeme: &Lexeme,
-) -> Result<Option<TermProgress>, AllocError>
-    ensures { IfOk result
-        (λ reached. come reached opened.new.items
-        ≡ fed_within progress (reverse opened.old.items) (plain_lexeme lexeme.now)) }
+) -> Made<Option<TermProgress>>
+    ensures { Comes opened.new.items (fed_within progress (reverse opened.old.items)
+        (plain_lexeme lexeme.now)) result }
 {
     let next = fed_within(alloc, progress, lexeme)?;
     apply(next, opened)
@@ -460,11 +404,10 @@ pub fn fed(
     progress: TermProgress,
     opened: &mut Vec<Open>,
     lexeme: &Lexeme,
-) -> Result<Option<TermProgress>, AllocError>
-    ensures { IfOk result
-        (λ reached. come reached opened.new.items
-        ≡ fed (record { progress = progress; opened = reverse opened.old.items })
-        (plain_lexeme lexeme.now)) }
+) -> Made<Option<TermProgress>>
+    ensures { Comes opened.new.items
+        (fed (record { progress = progress; opened = reverse opened.old.items })
+        (plain_lexeme lexeme.now)) result }
 {
     match lexeme {
         Lexeme::Sign(Symbol::Comma) => at_comma(alloc, progress, opened),

@@ -1,13 +1,17 @@
 //! Operators that still want their right operand, at most one at each level.
-ghost use Rattle.std.specs.Prelude.{◌≡◌, IfOk, option_map, suc};
+ghost use Rattle.std.specs.Prelude.{◌≡◌, option_map, suc};
 ghost use Rattle.law_reading.specs.Pending.{no_loose, no_tight, with_nots, with_minuses, calculated, compared, and_of, or_of, product_of, sum_of, comparison_of, conjunction_of, disjunction_of, behind_product, behind_sum, behind_comparison, behind_and, behind_or};
 ghost use Rattle.law_reading.specs.Feeding.{behind_compared};
 ghost use Rattle.script_term.specs.Operand.{plain_operand};
+ghost use Rattle.script_term_reader.specs.Made.{Makes};
 ghost use Rattle.script_term_reader.specs.PendingLeft.{plain_left};
 
 use script_term::{Comparison, Join, Operand, Operator, denied, joined, negated};
 use std::alloc::{AllocError, Global};
 use std::marker::Model;
+
+/// What is made, unless memory ran out.
+pub type Made<T> = Result<T, AllocError>;
 
 /// The loose operators: what stands left of `or`, what stands left of `and` behind it, and how many
 /// `not` stand behind that.
@@ -77,8 +81,8 @@ pub fn no_tight() -> Tight
 
 // ---- what one level makes of its right operand
 
-fn with_nots(alloc: Global, nots: usize, operand: Operand) -> Result<Operand, AllocError>
-    ensures { IfOk result (λ made. plain_operand made ≡ with_nots nots (plain_operand operand)) }
+fn with_nots(alloc: Global, nots: usize, operand: Operand) -> Made<Operand>
+    ensures { Makes plain_operand (with_nots nots (plain_operand operand)) result }
 {
     let mut made = operand;
     for _count in 0..nots {
@@ -87,9 +91,8 @@ fn with_nots(alloc: Global, nots: usize, operand: Operand) -> Result<Operand, Al
     Ok(made)
 }
 
-fn with_minuses(alloc: Global, minuses: usize, operand: Operand) -> Result<Operand, AllocError>
-    ensures { IfOk result
-        (λ made. plain_operand made ≡ with_minuses minuses (plain_operand operand)) }
+fn with_minuses(alloc: Global, minuses: usize, operand: Operand) -> Made<Operand>
+    ensures { Makes plain_operand (with_minuses minuses (plain_operand operand)) result }
 {
     let mut made = operand;
     for _count in 0..minuses {
@@ -98,13 +101,8 @@ fn with_minuses(alloc: Global, minuses: usize, operand: Operand) -> Result<Opera
     Ok(made)
 }
 
-fn calculated(
-    alloc: Global,
-    left: Option<(Operator, Operand)>,
-    right: Operand,
-) -> Result<Operand, AllocError>
-    ensures { IfOk result
-        (λ made. plain_operand made ≡ calculated (plain_left left) (plain_operand right)) }
+fn calculated(alloc: Global, left: Option<(Operator, Operand)>, right: Operand) -> Made<Operand>
+    ensures { Makes plain_operand (calculated (plain_left left) (plain_operand right)) result }
 {
     match left {
         None => Ok(right),
@@ -112,13 +110,8 @@ fn calculated(
     }
 }
 
-fn compared(
-    alloc: Global,
-    left: Option<(Comparison, Operand)>,
-    right: Operand,
-) -> Result<Operand, AllocError>
-    ensures { IfOk result
-        (λ made. plain_operand made ≡ compared (plain_left left) (plain_operand right)) }
+fn compared(alloc: Global, left: Option<(Comparison, Operand)>, right: Operand) -> Made<Operand>
+    ensures { Makes plain_operand (compared (plain_left left) (plain_operand right)) result }
 {
     match left {
         None => Ok(right),
@@ -126,10 +119,9 @@ fn compared(
     }
 }
 
-fn and_of(alloc: Global, left: Option<Operand>, right: Operand) -> Result<Operand, AllocError>
-    ensures { IfOk result
-        (λ made. plain_operand made
-        ≡ and_of (option_map plain_operand left) (plain_operand right)) }
+fn and_of(alloc: Global, left: Option<Operand>, right: Operand) -> Made<Operand>
+    ensures { Makes plain_operand (and_of (option_map plain_operand left) (plain_operand right))
+        result }
 {
     match left {
         None => Ok(right),
@@ -137,9 +129,9 @@ fn and_of(alloc: Global, left: Option<Operand>, right: Operand) -> Result<Operan
     }
 }
 
-fn or_of(alloc: Global, left: Option<Operand>, right: Operand) -> Result<Operand, AllocError>
-    ensures { IfOk result
-        (λ made. plain_operand made ≡ or_of (option_map plain_operand left) (plain_operand right)) }
+fn or_of(alloc: Global, left: Option<Operand>, right: Operand) -> Made<Operand>
+    ensures { Makes plain_operand (or_of (option_map plain_operand left) (plain_operand right))
+        result }
 {
     match left {
         None => Ok(right),
@@ -154,36 +146,28 @@ fn product_of(
     left: Option<(Operator, Operand)>,
     minuses: usize,
     operand: Operand,
-) -> Result<Operand, AllocError>
-    ensures { IfOk result
-        (λ made. plain_operand made
-        ≡ calculated (plain_left left) (with_minuses minuses (plain_operand operand))) }
+) -> Made<Operand>
+    ensures { Makes plain_operand (calculated (plain_left left)
+        (with_minuses minuses (plain_operand operand))) result }
 {
     let right = with_minuses(alloc, minuses, operand)?;
     calculated(alloc, left, right)
 }
 
 /// Forgets what stands left of a comparison.
-fn sum_of(alloc: Global, tight: Tight, operand: Operand) -> Result<Operand, AllocError>
-    ensures { IfOk result (λ made. plain_operand made ≡ sum_of tight (plain_operand operand)) }
+fn sum_of(alloc: Global, tight: Tight, operand: Operand) -> Made<Operand>
+    ensures { Makes plain_operand (sum_of tight (plain_operand operand)) result }
 {
     let product = product_of(alloc, tight.product_left, tight.minuses, operand)?;
     calculated(alloc, tight.sum_left, product)
 }
 
-fn comparison_of(alloc: Global, tight: Tight, operand: Operand) -> Result<Operand, AllocError>
-    ensures { IfOk result
-        (λ made. plain_operand made ≡ comparison_of tight (plain_operand operand)) }
+fn comparison_of(alloc: Global, tight: Tight, operand: Operand) -> Made<Operand>
+    ensures { Makes plain_operand (comparison_of tight (plain_operand operand)) result }
 {
-    let Tight {
-        compare_left,
-        sum_left,
-        product_left,
-        minuses,
-    } = tight;
-    let product = product_of(alloc, product_left, minuses, operand)?;
-    let sum = calculated(alloc, sum_left, product)?;
-    compared(alloc, compare_left, sum)
+    let product = product_of(alloc, tight.product_left, tight.minuses, operand)?;
+    let sum = calculated(alloc, tight.sum_left, product)?;
+    compared(alloc, tight.compare_left, sum)
 }
 
 fn conjunction_of(
@@ -192,11 +176,9 @@ fn conjunction_of(
     nots: usize,
     tight: Tight,
     operand: Operand,
-) -> Result<Operand, AllocError>
-    ensures { IfOk result
-        (λ made. plain_operand made
-        ≡ and_of (option_map plain_operand left)
-        (with_nots nots (comparison_of tight (plain_operand operand)))) }
+) -> Made<Operand>
+    ensures { Makes plain_operand (and_of (option_map plain_operand left)
+        (with_nots nots (comparison_of tight (plain_operand operand)))) result }
 {
     let comparison = comparison_of(alloc, tight, operand)?;
     let right = with_nots(alloc, nots, comparison)?;
@@ -204,22 +186,11 @@ fn conjunction_of(
 }
 
 /// What all levels make of the operand.
-pub fn disjunction_of(
-    alloc: Global,
-    loose: Loose,
-    tight: Tight,
-    operand: Operand,
-) -> Result<Operand, AllocError>
-    ensures { IfOk result
-        (λ made. plain_operand made ≡ disjunction_of loose tight (plain_operand operand)) }
+pub fn disjunction_of(alloc: Global, loose: Loose, tight: Tight, operand: Operand) -> Made<Operand>
+    ensures { Makes plain_operand (disjunction_of loose tight (plain_operand operand)) result }
 {
-    let Loose {
-        or_left,
-        and_left,
-        nots,
-    } = loose;
-    let conjunction = conjunction_of(alloc, and_left, nots, tight, operand)?;
-    or_of(alloc, or_left, conjunction)
+    let conjunction = conjunction_of(alloc, loose.and_left, loose.nots, tight, operand)?;
+    or_of(alloc, loose.or_left, conjunction)
 }
 
 // ---- what is pending behind an operator that stands behind an operand
@@ -229,9 +200,8 @@ pub fn behind_product(
     tight: Tight,
     operator: Operator,
     operand: Operand,
-) -> Result<Tight, AllocError>
-    ensures { IfOk result
-        (λ pending. pending ≡ behind_product tight operator (plain_operand operand)) }
+) -> Made<Tight>
+    ensures { Makes (λ a. a) (behind_product tight operator (plain_operand operand)) result }
 {
     let Tight {
         compare_left,
@@ -248,13 +218,8 @@ pub fn behind_product(
     })
 }
 
-pub fn behind_sum(
-    alloc: Global,
-    tight: Tight,
-    operator: Operator,
-    operand: Operand,
-) -> Result<Tight, AllocError>
-    ensures { IfOk result (λ pending. pending ≡ behind_sum tight operator (plain_operand operand)) }
+pub fn behind_sum(alloc: Global, tight: Tight, operator: Operator, operand: Operand) -> Made<Tight>
+    ensures { Makes (λ a. a) (behind_sum tight operator (plain_operand operand)) result }
 {
     let Tight {
         compare_left,
@@ -278,10 +243,9 @@ pub fn behind_compared(
     tight: Tight,
     comparison: Comparison,
     operand: Operand,
-) -> Result<Option<Tight>, AllocError>
-    ensures { IfOk result
-        (λ pending. pending
-        ≡ behind_compared tight.compare_left tight comparison (plain_operand operand)) }
+) -> Made<Option<Tight>>
+    ensures { Makes (λ a. a) (behind_compared tight.compare_left tight comparison
+        (plain_operand operand)) result }
 {
     match &tight.compare_left {
         Some(_) => Ok(None),
@@ -294,9 +258,8 @@ fn behind_comparison(
     tight: Tight,
     comparison: Comparison,
     operand: Operand,
-) -> Result<Tight, AllocError>
-    ensures { IfOk result
-        (λ pending. pending ≡ behind_comparison tight comparison (plain_operand operand)) }
+) -> Made<Tight>
+    ensures { Makes (λ a. a) (behind_comparison tight comparison (plain_operand operand)) result }
 {
     let left = sum_of(alloc, tight, operand)?;
     Ok(Tight {
@@ -307,13 +270,8 @@ fn behind_comparison(
     })
 }
 
-pub fn behind_and(
-    alloc: Global,
-    loose: Loose,
-    tight: Tight,
-    operand: Operand,
-) -> Result<Loose, AllocError>
-    ensures { IfOk result (λ pending. pending ≡ behind_and loose tight (plain_operand operand)) }
+pub fn behind_and(alloc: Global, loose: Loose, tight: Tight, operand: Operand) -> Made<Loose>
+    ensures { Makes (λ a. a) (behind_and loose tight (plain_operand operand)) result }
 {
     let Loose {
         or_left,
@@ -328,13 +286,8 @@ pub fn behind_and(
     })
 }
 
-pub fn behind_or(
-    alloc: Global,
-    loose: Loose,
-    tight: Tight,
-    operand: Operand,
-) -> Result<Loose, AllocError>
-    ensures { IfOk result (λ pending. pending ≡ behind_or loose tight (plain_operand operand)) }
+pub fn behind_or(alloc: Global, loose: Loose, tight: Tight, operand: Operand) -> Made<Loose>
+    ensures { Makes (λ a. a) (behind_or loose tight (plain_operand operand)) result }
 {
     let left = disjunction_of(alloc, loose, tight, operand)?;
     Ok(Loose {
@@ -345,44 +298,26 @@ pub fn behind_or(
 }
 
 /// One `not` more.
-pub fn behind_not(loose: Loose) -> Result<Loose, AllocError>
-    ensures { IfOk result (λ pending. pending ≡ record loose { nots = suc loose.nots }) }
+pub fn behind_not(loose: Loose) -> Made<Loose>
+    ensures { Makes (λ a. a) (record loose { nots = suc loose.nots }) result }
 {
-    let Loose {
-        or_left,
-        and_left,
-        nots,
-    } = loose;
-    let nots = one_more(nots)?;
-    Ok(Loose {
-        or_left,
-        and_left,
-        nots,
-    })
+    let mut loose = loose;
+    loose.nots = one_more(loose.nots)?;
+    Ok(loose)
 }
 
 /// One unary `-` more.
-pub fn behind_minus(tight: Tight) -> Result<Tight, AllocError>
-    ensures { IfOk result (λ pending. pending ≡ record tight { minuses = suc tight.minuses }) }
+pub fn behind_minus(tight: Tight) -> Made<Tight>
+    ensures { Makes (λ a. a) (record tight { minuses = suc tight.minuses }) result }
 {
-    let Tight {
-        compare_left,
-        sum_left,
-        product_left,
-        minuses,
-    } = tight;
-    let minuses = one_more(minuses)?;
-    Ok(Tight {
-        compare_left,
-        sum_left,
-        product_left,
-        minuses,
-    })
+    let mut tight = tight;
+    tight.minuses = one_more(tight.minuses)?;
+    Ok(tight)
 }
 
 /// No memory holds as many lexemes as would take the count to its type's end.
-fn one_more(count: usize) -> Result<usize, AllocError>
-    ensures { IfOk result (λ more. more ≡ suc count) }
+fn one_more(count: usize) -> Made<usize>
+    ensures { Makes (λ a. a) (suc count) result }
 {
     count.checked_add(1).ok_or(AllocError)
 }

@@ -1,9 +1,9 @@
 //! What a reader of an expression knows behind some lexemes: what is pending, in
 //! each bracket that is open.
-ghost use Rattle.std.specs.Prelude.{◌≡◌, List};
-ghost use Rattle.law_reading.specs.Reader.{Open as OpenBracket, reading};
+ghost use Rattle.std.specs.Prelude.{◌≡◌};
+ghost use Rattle.law_reading.specs.Reader.{reading};
 ghost use Rattle.law_reading.specs.Feeding.{opening};
-ghost use Rattle.script_term_reader.specs.Next.{applied};
+ghost use Rattle.script_term_reader.specs.Next.{Becomes};
 ghost use Rattle.script_term_reader.specs.Reader.{plain_bracket, plain_progress};
 
 use crate::pending::{Loose, Tight};
@@ -99,16 +99,14 @@ pub fn at(place: Position) -> TermProgress
 
 /// The expression goes on.
 pub fn goes(place: Position) -> AfterLexeme
-    ensures { (opened : List OpenBracket) → applied result opened
-        ≡ reading (plain_progress place) opened }
+    ensures { Becomes (reading (plain_progress place)) result }
 {
     AfterLexeme::Goes(at(place))
 }
 
 /// A bracket opens before what is pending.
 pub fn opens(bracket: Bracket, loose: Loose, tight: Tight, progress: TermProgress) -> AfterLexeme
-    ensures { (opened : List OpenBracket) → applied result opened
-        ≡ opening (plain_bracket bracket) loose tight progress opened }
+    ensures { Becomes (opening (plain_bracket bracket) loose tight progress) result }
 {
     AfterLexeme::Opens(before(bracket, loose, tight), progress)
 }
