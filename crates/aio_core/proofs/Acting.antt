@@ -57,7 +57,7 @@ use Rattle.aio_step.specs.Stepping.{Steps, IsCalled, MayBegin}
 use Rattle.law_body.proofs.Lasting.{spares_none, stands_on}
 use Rattle.law_body.proofs.Left.{leaves_settle}
 use Rattle.law_body.proofs.May.{same_prop}
-use Rattle.law_body.proofs.Noting.{stands_noted}
+use Rattle.law_body.proofs.Noting.{stands_noted, telling_changes}
 use Rattle.law_body.proofs.Rooms.{below_soon_all}
 use Rattle.law_body.proofs.Sound.{extra_sound}
 use Rattle.aio_core.specs.declared.effect.Effect.{Effect}
@@ -308,32 +308,16 @@ module _ {X : Type 0} {a : Added X} where
     where
       stands_main : (c : Setting a) (old : Body X) (s : State a.Kept) → Stands None c old s
           → Stands None c (record old { main_done = true }) (record s { main_done = true })
-      stands_main c old s h = record {
-        ties = h.ties;
-        code = h.code;
-        keeps = h.keeps;
-        left = h.left;
-        bar = h.bar;
-        blocks = h.blocks;
-        made = h.made;
-        told = h.told;
-        few = h.few;
-        held = λ task l. let has = h.held task l in record {
-          slot = has.slot;
-          found = has.found;
-          right = record { waits = has.right.waits; standing = has.right.standing };
-        };
-        gone = h.gone;
-        futures = h.futures;
-        few_futures = h.few_futures;
-        main_done = refl;
-        time = h.time;
-        counts = h.counts;
-        events = h.events;
-        rest = h.rest;
-        extra = h.extra;
-        count = h.count;
-      }
+      stands_main c old s h =
+          telling_changes None c c old (record old { main_done = true }) s (record s { main_done = true }) h refl refl refl (record {
+            own = λ sleeper id sleeps. sleeps;
+            futures = h.futures;
+            few_futures = h.few_futures;
+            main_done = refl;
+            events = h.events;
+            rest = h.rest;
+            count = h.count;
+          })
 
   -- a handle that was taken may do what it does
   pub may_act : (it : Action) (what : Effect) (body : Body X) (events : EventList) → what ≡ effect_of it → events ≡ pushed body.events (event.Ran it)

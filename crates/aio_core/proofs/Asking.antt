@@ -30,11 +30,11 @@ use Rattle.aio_wire.specs.declared.wire.Reply.TheVariants as reply
 use Rattle.aio_extra.specs.Added.{Added}
 use Rattle.aio_body.specs.declared.body.Body.{Body}
 use Rattle.aio_body.specs.Stands.{Setting, Stands, IsBetween}
-use Rattle.law_body.proofs.Noting.{counted, stands_noted}
+use Rattle.law_body.proofs.Noting.{counted, stands_noted, telling_changes}
 use Rattle.aio_core.specs.declared.went.Went as code
 use Rattle.aio_core.specs.declared.went.Went.TheVariants as went
-use Rattle.aio_core.specs.Turning.{AliveIfWent, ComesTo, EndsTelling, Is, IsAlive, IsAtRest, OfFailing, StallsAs, Stood, Turned, UnlessFailed, all_below}
-use Rattle.aio_core.specs.Turning.{at_bar, resting, stood_by}
+use Rattle.aio_core.specs.Turning.{AliveIfWent, ComesTo, EndsFrom, EndsTelling, Is, IsAlive, IsAtRest, NoneLeft, OfFailing, StallsAs, Stood, Turned}
+use Rattle.aio_core.specs.Turning.{UnlessFailed, all_below, at_bar, resting, stood_by}
 
 -- ---- the machine
 turn_asks : {S : Type 0} (added : Extra S) (s : State S) → is_stalled added s ≡ false
@@ -58,32 +58,16 @@ module _ {X : Type 0} {a : Added X} where
   -- the outside's answers are other ones
   stands_answers : (c : Setting a) (body : Body X) (s : State a.Kept) (answers : List Entry) → Stands None c body s
       → Stands None (record c { answers = answers }) body (record s { answers = answers })
-  stands_answers c body s answers h = record {
-    ties = h.ties;
-    code = h.code;
-    keeps = h.keeps;
-    left = h.left;
-    bar = h.bar;
-    blocks = h.blocks;
-    made = h.made;
-    told = h.told;
-    few = h.few;
-    held = λ task l. let has = h.held task l in record {
-      slot = has.slot;
-      found = has.found;
-      right = record { waits = has.right.waits; standing = has.right.standing };
-    };
-    gone = h.gone;
-    futures = h.futures;
-    few_futures = h.few_futures;
-    main_done = h.main_done;
-    time = h.time;
-    counts = h.counts;
-    events = h.events;
-    rest = refl;
-    extra = h.extra;
-    count = h.count;
-  }
+  stands_answers c body s answers h =
+      telling_changes None c (record c { answers = answers }) body body s (record s { answers = answers }) h refl refl refl (record {
+        own = λ sleeper id sleeps. sleeps;
+        futures = h.futures;
+        few_futures = h.few_futures;
+        main_done = h.main_done;
+        events = h.events;
+        rest = refl;
+        count = h.count;
+      })
 
 -- ---- of a turn that isn't stalled, by its call
 module _ {X : Type 0} {a : Added X} (old : Body X) (call : Call)
@@ -110,21 +94,19 @@ module _ {X : Type 0} {a : Added X} (old : Body X) (call : Call)
 
   -- ---- it has none
   module _ (events : EventList) (before after : WireSeen) where
+    -- none was left, and the call alone is told
+    ends_over : events ≡ pushed old.events (event.Called call) → EndsFrom a.meaning [] NoneLeft (Is (end.Over call)) (stood_by a old) events.events
+    ends_over e past rest s none h = record {
+      end = end.Over call;
+      last = called_at call s;
+      way = refl;
+      stops = turned_as (resting a past rest h.0) s h.1 [] (h.1.stands.rest ∙ none);
+      told = told_call past [] rest s events h.1.stands.events e;
+    }
+
     stops_over : Replied call before after reply.Over → events ≡ pushed old.events (event.Called call) → (new : Stood a.Kept)
         → ComesTo a.meaning before.left after.left before.faults after.faults (stood_by a old) new events.events (went.Stopped (stop.Over call))
-    stops_over replied e new = (
-      [],
-      (
-        replied.left.0,
-        λ past rest s none h. record {
-          end = end.Over call;
-          last = called_at call s;
-          way = refl;
-          stops = turned_as (resting a past rest h.0) s h.1 [] (h.1.stands.rest ∙ none);
-          told = told_call past [] rest s events h.1.stands.events e;
-        },
-      ),
-    )
+    stops_over replied e new = ([], (replied.left.0, ends_over e))
 
     stops_bad : (fault : JournalFault) → Replied call before after (reply.Bad fault) → events ≡ pushed old.events (event.Called call) → (new : Stood a.Kept)
         → ComesTo a.meaning before.left after.left before.faults after.faults (stood_by a old) new events.events (went.Stopped (stop.Bad fault))
@@ -144,20 +126,7 @@ module _ {X : Type 0} {a : Added X} (old : Body X) (call : Call)
 
     stops_failed : Replied call before after reply.Failed → events ≡ pushed old.events (event.Called call) → (new : Stood a.Kept)
         → ComesTo a.meaning before.left after.left before.faults after.faults (stood_by a old) new events.events (went.Stopped (stop.Failed call))
-    stops_failed replied e new = (
-      [],
-      (
-        replied.left,
-        λ past rest s none h. record {
-          end = end.Over call;
-          last = called_at call s;
-          way = refl;
-          stops = turned_as (resting a past rest h.0) s h.1 [] (h.1.stands.rest ∙ none);
-          told = told_call past [] rest s events h.1.stands.events e;
-        },
-        replied.failed,
-      ),
-    )
+    stops_failed replied e new = ([], (replied.left, ends_over e, replied.failed))
 
     stops_misfit : (answer : Answer) → Replied call before after (reply.Got answer)
         → events ≡ pushed (pushed old.events (event.Called call)) (event.Got answer) → fits call answer ≡ false → (new : Stood a.Kept)

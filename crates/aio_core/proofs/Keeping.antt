@@ -14,6 +14,7 @@ use Rattle.aio_wire.specs.declared.stop.Stop.TheVariants as stop
 use Rattle.aio_extra.specs.Added.{Added}
 use Rattle.aio_body.specs.declared.body.Body.{Body}
 use Rattle.aio_body.specs.Stands.{Setting, IsBetween}
+use Rattle.law_body.proofs.Noting.{telling_changes}
 use Rattle.aio_core.specs.declared.kernel.Kernel.{Kernel}
 use Rattle.aio_core.specs.declared.went.Went as code
 use Rattle.aio_core.specs.declared.went.Went.TheVariants as went
@@ -70,34 +71,19 @@ module _ {X : Type 0} {a : Added X} where
   pub between_taken : (c : Setting a) (body : Body X) (events : EventList) (s : State a.Kept) → events ≡ record body.events { events = [] }
       → IsBetween c body s → IsBetween (record c { past = c.past ++ body.events.events }) (record body { events = events }) s
   between_taken c body events s e h = record {
-    stands = record {
-      ties = h.stands.ties;
-      code = h.stands.code;
-      keeps = h.stands.keeps;
-      left = h.stands.left;
-      bar = h.stands.bar;
-      blocks = h.stands.blocks;
-      made = h.stands.made;
-      told = h.stands.told;
-      few = h.stands.few;
-      held = λ task l. let has = h.stands.held task l in record {
-        slot = has.slot;
-        found = has.found;
-        right = record { waits = has.right.waits; standing = has.right.standing };
-      };
-      gone = h.stands.gone;
-      futures = h.stands.futures;
-      few_futures = h.stands.few_futures;
-      main_done = h.stands.main_done;
-      time = h.stands.time;
-      counts = h.stands.counts;
-      events =
-          h.stands.events ∙ sym (append-nil (c.past ++ body.events.events))
-          ∙ ap (λ (l : EventList). (c.past ++ body.events.events) ++ l.events) (sym e);
-      rest = h.stands.rest;
-      extra = h.stands.extra;
-      count = ap (λ (l : EventList). l.answers) e ∙ h.stands.count;
-    };
+    stands =
+        telling_changes None c (record c { past = c.past ++ body.events.events }) body (record body { events = events }) s s h.stands refl refl refl
+        (record {
+          own = λ sleeper id sleeps. sleeps;
+          futures = h.stands.futures;
+          few_futures = h.stands.few_futures;
+          main_done = h.stands.main_done;
+          events =
+              h.stands.events ∙ sym (append-nil (c.past ++ body.events.events))
+              ∙ ap (λ (l : EventList). (c.past ++ body.events.events) ++ l.events) (sym e);
+          rest = h.stands.rest;
+          count = ap (λ (l : EventList). l.answers) e ∙ h.stands.count;
+        });
     called = h.called;
     running = h.running;
     sound = h.sound;

@@ -15,8 +15,7 @@ use Rattle.model_loop.specs.Handles.{by_deadline, due, fall_due}
 use Rattle.model_loop.specs.Loop.{in_parts}
 use Rattle.model_loop.specs.Parts.{Parts, Timer}
 use Rattle.model_machine.specs.Outside.{select, time_of, watch_list}
-use Rattle.model_machine.specs.State as plain
-use Rattle.model_machine.specs.State.{State, generator_of, unbooked_in}
+use Rattle.model_machine.specs.State.{State, unbooked_in}
 use Rattle.model_machine.specs.Turn.{call_of, is_stalled, longest_wait, nothing_comes, wait_of, woken_by}
 use Rattle.law_handles.proofs.Appending.{waiting_kept}
 use Rattle.law_handles.proofs.Running.{keeps_barred}
@@ -34,10 +33,8 @@ use Rattle.aio_task.specs.View.{View}
 use Rattle.aio_task.specs.Keeps.{Ties, Keeps, Knows, ByTimer, handle_as}
 use Rattle.aio_extra.specs.Added.{Added, GoesBeside, named_in}
 use Rattle.aio_body.specs.declared.body.Body.{Body}
-use Rattle.aio_body.specs.declared.standing.Standing.{Standing}
-use Rattle.aio_body.specs.declared.standing.Standing.TheVariants.{Asked, Sleeping, Leaving, Serving}
-use Rattle.aio_body.specs.Stands.{Setting, Stands, IsBetween, IsOwnSleep, StandsAt}
-use Rattle.law_body.proofs.Lasting.{spares_none, stands_left}
+use Rattle.aio_body.specs.Stands.{Setting, Stands, IsBetween, IsOwnSleep}
+use Rattle.law_body.proofs.Lasting.{parts_change, spares_none, stands_left}
 use Rattle.law_body.proofs.Left.{leaves_handles}
 use Rattle.law_body.proofs.May.{same_prop}
 use Rattle.aio_core.specs.Turning.{IsAlive, IsTime, all_below}
@@ -91,63 +88,27 @@ knows_timed : (t : Ties) (p : Parts) (now bar tag : ℕ) (id : TimerId) → Know
     → Knows (record t { bar = bar }) (record p { time = now }) tag (ByTimer id)
 knows_timed t p now bar tag id k = record { given = k.given; known = k.known }
 
-at_timed : (t : Ties) (p : Parts) (now bar : ℕ) (named : ℕ → Type 0) (task : ℕ) (code : Standing) (standing : plain.Standing)
-    → StandsAt t p named task code standing → StandsAt (record t { bar = bar }) (record p { time = now }) named task code standing
-at_timed t p now bar named task Asked plain.Asked h = tt
-at_timed t p now bar named task Asked (plain.Sleeping tag) h = h
-at_timed t p now bar named task Asked (plain.Leaving id) h = h
-at_timed t p now bar named task Asked (plain.Serving key) h = h
-at_timed t p now bar named task (Sleeping timer future) plain.Asked h = h
-at_timed t p now bar named task (Sleeping timer future) (plain.Sleeping tag) h =
-    (knows_timed t p now bar tag timer h.0, own_timed p now named (Some task) future h.1)
-at_timed t p now bar named task (Sleeping timer future) (plain.Leaving id) h = h
-at_timed t p now bar named task (Sleeping timer future) (plain.Serving key) h = h
-at_timed t p now bar named task (Leaving group) plain.Asked h = h
-at_timed t p now bar named task (Leaving group) (plain.Sleeping tag) h = h
-at_timed t p now bar named task (Leaving group) (plain.Leaving id) h = h
-at_timed t p now bar named task (Leaving group) (plain.Serving key) h = h
-at_timed t p now bar named task (Serving key) plain.Asked h = h
-at_timed t p now bar named task (Serving key) (plain.Sleeping tag) h = h
-at_timed t p now bar named task (Serving key) (plain.Leaving id) h = h
-at_timed t p now bar named task (Serving key) (plain.Serving kept) h = h
-
 module _ {X : Type 0} {a : Added X} where
   -- The time is set, and the bar stands here.
   pub stands_timed : (c : Setting a) (body : Body X) (s : State a.Kept) (v : View) (now bar : ℕ) (h : Stands None c body s) → now ≤ most
       → Keeps (record h.ties { bar = bar }) v (record s.loop.parts { time = now })
       → Stands None (record c { left = length v.queue.below; bar = bar }) (record body { parts = v }) (unbooked_in (λ p. record p { time = now }) s)
-  stands_timed c body s v now bar h few keeps = record {
-    ties = u;
-    code = h.code;
-    keeps = keeps;
-    left = refl;
-    bar = refl;
-    blocks = record {
-      timeouts = timeouts_stay h.ties u p q body.timeouts s.loop.timeouts (λ tag below. refl) (omega arith) h.blocks.timeouts;
-      groups = groups_on h.ties u p q on refl body.groups s.loop.groups h.blocks.groups;
-    };
-    made = h.made;
-    told = h.told;
-    few = h.few;
-    held = λ task l. let it = h.held task l in record {
-      slot = it.slot;
-      found = it.found;
-      right = record {
-        waits = it.right.waits;
-        standing = at_timed h.ties p now bar (named_in a s) task it.slot.standing (generator_of task s).standing it.right.standing;
-      };
-    };
-    gone = λ id e. own_timed p now (named_in a s) None id (h.gone id e);
-    futures = h.futures;
-    few_futures = h.few_futures;
-    main_done = h.main_done;
-    time = few;
-    counts = h.counts;
-    events = h.events;
-    rest = h.rest;
-    extra = a.goes_on h.ties u p q body.extra s.extra h.extra beside;
-    count = h.count;
-  }
+  stands_timed c body s v now bar h few keeps =
+      parts_change None c body s u v body.timeouts body.groups body.extra (in_parts (λ _. q) s.loop) s.extra (length v.queue.below) bar h (record {
+        keeps = keeps;
+        blocks = record {
+          timeouts = timeouts_stay h.ties u p q body.timeouts s.loop.timeouts (λ tag below. refl) (omega arith) h.blocks.timeouts;
+          groups = groups_on h.ties u p q on refl body.groups s.loop.groups h.blocks.groups;
+        };
+        tasks = refl;
+        living = λ task l. l;
+        knows = λ tag timer. knows_timed h.ties p now bar tag timer;
+        own = own_timed p now (named_in a s);
+        gone = λ id e. own_timed p now (named_in a s) None id (h.gone id e);
+        time = few;
+        counts = h.counts;
+        extra = a.goes_on h.ties u p q body.extra s.extra h.extra beside;
+      }) refl refl
     where
       p : Parts
       p = s.loop.parts

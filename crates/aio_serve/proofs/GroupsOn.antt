@@ -1,11 +1,10 @@
 -- Steps of groups: what they leave, and how what is stood for goes on where groups change.
-use Rattle.std.proofs.Common.{◌≡◌, ℕ, zero, suc, ◌<◌, ◌≤◌, Bool, true, false, not, ◌&&◌, ◌||◌, ◌==◌, List, [], ◌∷◌, ◌++◌, Option, Some, None, filter, length}
-use Rattle.std.proofs.Common.{slice_set, ◌∙◌, refl, sym, ap, subst, arith, if◌then◌else◌}
+use Rattle.std.proofs.Common.{◌≡◌, ℕ, zero, suc, ◌<◌, Bool, true, false, not, ◌&&◌, ◌||◌, ◌==◌, List, [], ◌∷◌, ◌++◌, Option, Some, None, filter, length}
+use Rattle.std.proofs.Common.{slice_set, ◌∙◌, refl, sym, subst, arith, if◌then◌else◌}
 use Rattle.std.specs.Prelude.{is_some, slice_index_or}
 use Rattle.model_value.specs.Input.{Input}
 use Rattle.model_value.specs.declared.input.Input.TheVariants.{Send, Throw}
 use Rattle.model_value.specs.declared.outcome.Outcome.TheVariants.{Value as Returned}
-use Rattle.model_value.specs.Number.{most}
 use Rattle.model_value.specs.Value.{Nothing, Exc}
 use Rattle.model_loop.specs.Children.{HasPlainExit}
 use Rattle.model_loop.specs.Futures.{new_plain, settle}
@@ -18,7 +17,7 @@ use Rattle.model_loop.specs.Loop as loop
 use Rattle.model_loop.specs.Owning.{is_plain}
 use Rattle.model_loop.specs.Parts.{Parts, Plain}
 use Rattle.model_loop.specs.Tasks.{cancelling, future_of, lives, next_task, uncancel}
-use Rattle.model_machine.specs.State.{State, generator_of, in_loop}
+use Rattle.model_machine.specs.State.{State, in_loop}
 use Rattle.law_kept.proofs.Only.{only_cancel, only_settle, changes_make, changes_task, appends}
 use Rattle.law_settling.proofs.CancelSound.{plain_within}
 use Rattle.aio_task.specs.View.{View}
@@ -32,7 +31,7 @@ use Rattle.aio_body.specs.declared.body.Body.{Body}
 use Rattle.aio_body.specs.Stands.{AreBlocks, Setting, Stands}
 use Rattle.aio_serve.proofs.Appending.{Appends, appends_same, appends_on, appends_only, below_kept}
 use Rattle.law_body.proofs.Left.{AreOwnMade, leaves_plain, leaves_request, leaves_settle, leaves_uncancel}
-use Rattle.law_body.proofs.Lasting.{Spares, goes_beside, own_on, spares_none, stands_at_on}
+use Rattle.law_body.proofs.Lasting.{Spares, spares_none, stands_kept}
 use Rattle.law_body.proofs.Leaving.{Leaves, leaves_same, leaves_on}
 
 -- ---- what a step of a group leaves
@@ -239,40 +238,8 @@ module _ {X : Type 0} {a : Added X} where
       → Leaves new s.loop.parts (change s.loop).parts → Spares new s.loop.parts (named_in a s)
       → AreBlocks kept.ties old.timeouts groups (change s.loop) → length v.queue.below ≡ length old.parts.queue.below
       → Stands out c (record old { parts = v; groups = groups }) (in_loop change s)
-  stands_blocks new out c old s v groups change h kept leaves spares blocks below = record {
-    ties = kept.ties;
-    code = h.code;
-    keeps = kept.keeps;
-    blocks = blocks;
-    left = below ∙ h.left;
-    bar = kept.extends.bar ∙ h.bar;
-    made = h.made ∙ sym leaves.tasks;
-    told = h.told ∙ sym leaves.tasks;
-    few = h.few;
-    held = λ task l. let it = h.held task (leaves.living task l) in record {
-      slot = it.slot;
-      found = it.found;
-      right = record {
-        waits = it.right.waits;
-        standing =
-            stands_at_on new h.ties kept.ties s.loop.parts (change s.loop).parts (named_in a s) task it.slot.standing
-            (generator_of task s).standing leaves spares kept.extends
-            it.right.standing;
-      };
-    };
-    gone = λ id e. own_on new s.loop.parts (change s.loop).parts (named_in a s) None id leaves spares (h.gone id (sym (ap (λ f. f id) kept.extends.gone) ∙ e));
-    futures = h.futures;
-    few_futures = h.few_futures;
-    main_done = h.main_done;
-    time = subst (λ n. n ≤ most) (sym leaves.time) h.time;
-    counts = leaves.counts h.counts;
-    events = h.events;
-    rest = h.rest;
-    extra =
-        a.goes_on h.ties kept.ties s.loop.parts (change s.loop).parts old.extra s.extra h.extra
-        (goes_beside (a.owns s.extra) h.ties kept.ties s.loop.parts (change s.loop).parts kept.extends leaves.plain leaves.goes_on);
-    count = h.count;
-  }
+  stands_blocks new out c old s v groups change h kept leaves spares blocks below =
+      stands_kept new out c old s v old.timeouts groups (change s.loop) c.left h kept leaves spares blocks (below ∙ h.left)
 
   -- groups and parts of a body stand for its loop
   pub groups_stand : (out : Option ℕ) (c : Setting a) (body : Body X) (s : State a.Kept) → (h : Stands out c body s)

@@ -1,6 +1,5 @@
 -- What is stood for goes on through calls of what is added.
-use Rattle.std.proofs.Common.{◌≡◌, ℕ, ◌<◌, ◌≤◌, ◌⊎◌, false, List, [], ◌∷◌, Option, Some, None, ◌∙◌, refl, sym, ap, subst, inl, inr, arith}
-use Rattle.model_value.specs.Number.{most}
+use Rattle.std.proofs.Common.{◌≡◌, ℕ, ◌<◌, ◌≤◌, ◌⊎◌, false, List, [], ◌∷◌, Option, Some, None, ◌∙◌, refl, inl, inr, arith}
 use Rattle.model_value.specs.declared.action.Action.TheVariants as action
 use Rattle.model_loop.specs.Futures.{next_future}
 use Rattle.model_loop.specs.Ledger.{ByExtra}
@@ -10,7 +9,7 @@ use Rattle.model_loop.specs.Sound.{IsSound}
 use Rattle.model_loop.specs.Tasks.{waiter_of}
 use Rattle.model_machine.specs.Extra.{ExtraCall, ExtraStep, MakesPlain, MakesMany, Settles, Releases, Registers, CallsSoon, CallsLater, Revokes, Cancels}
 use Rattle.model_machine.specs.Extra.{Uncancels, called, made_by, made_by_all}
-use Rattle.model_machine.specs.State.{State, generator_of}
+use Rattle.model_machine.specs.State.{State}
 use Rattle.model_machine.specs.Told.{told_in}
 use Rattle.law_extras.specs.Allowed.{AreAllowed, IsAllowed}
 use Rattle.law_extras.proofs.Steps.{all_sound, step_sound}
@@ -22,7 +21,7 @@ use Rattle.aio_extra.specs.Called.{CallsAs, IsServed}
 use Rattle.aio_body.specs.declared.body.Body.{Body}
 use Rattle.aio_body.specs.Stands.{IsOwnSleep, Setting, Stands}
 use Rattle.law_body.proofs.Blocks.{blocks_on}
-use Rattle.law_body.proofs.Lasting.{stands_at_by}
+use Rattle.law_body.proofs.Lasting.{parts_change, stands_after}
 use Rattle.law_body.proofs.Leaving.{IsNew, Leaves, leaves_on, leaves_same}
 use Rattle.law_body.proofs.Left.{leaves_handles, leaves_later, leaves_make, leaves_register, leaves_request, leaves_revoke, leaves_settle, leaves_uncancel}
 
@@ -117,42 +116,15 @@ module _ {X : Type 0} {a : Added X} (running out : Option ℕ) (c : Setting a) (
 
   -- the state is stood for in which the machine's call leaves it
   pub stands_called : Stands out c (record old { parts = v; extra = x }) (called call s)
-  stands_called = record {
-    ties = r.ties;
-    code = h.code;
-    keeps = r.keeps;
-    blocks =
-        blocks_on h.ties r.ties old.timeouts old.groups s.loop (called call s).loop r.extends leaves.goes_on (steps_blocks call.steps s.loop).0
-        (steps_blocks call.steps s.loop).1 h.blocks;
-    left = r.below ∙ h.left;
-    bar = r.extends.bar ∙ h.bar;
-    made = h.made ∙ sym leaves.tasks;
-    told = h.told ∙ sym leaves.tasks;
-    few = h.few;
-    held = λ task l. let it = h.held task (leaves.living task l) in record {
-      slot = it.slot;
-      found = it.found;
-      right = record {
-        waits = it.right.waits;
-        standing =
-            stands_at_by h.ties r.ties p q (named_in a s) (named_in a (called call s)) task it.slot.standing (generator_of task s).standing
-            (own_called (Some task)) r.extends it.right.standing;
-      };
-    };
-    gone = λ id e. own_called None id (h.gone id (sym (ap (λ f. f id) r.extends.gone) ∙ e));
-    futures = h.futures;
-    few_futures = h.few_futures;
-    main_done = h.main_done;
-    time = subst (λ n. n ≤ most) (sym leaves.time) h.time;
-    counts = leaves.counts h.counts;
-    events = h.events;
-    rest = h.rest;
-    extra = r.stands;
-    count = h.count;
-  }
+  stands_called =
+      stands_after None out c old s v old.timeouts old.groups x (called call s).loop call.state c.left h
+      (record { ties = r.ties; keeps = r.keeps; extends = r.extends }) leaves
+      (blocks_on h.ties r.ties old.timeouts old.groups s.loop (called call s).loop r.extends leaves.goes_on (steps_blocks call.steps s.loop).0
+      (steps_blocks call.steps s.loop).1 h.blocks)
+      own_called r.stands (r.below ∙ h.left)
 
   pub ties_called : stands_called.ties ≡ r.ties
-  unfolding stands_called
+  unfolding stands_called stands_after parts_change
   ties_called = refl
 
   pub sound_called : IsSound running (told_in s.events) (called call s).loop

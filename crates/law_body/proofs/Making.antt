@@ -7,8 +7,7 @@ use Rattle.model_loop.specs.Futures.{new_plain, next_future, settle}
 use Rattle.model_loop.specs.Loop.{in_parts}
 use Rattle.model_loop.specs.Owning.{OwnsFutures, owner_of}
 use Rattle.model_loop.specs.Parts.{Plain, Parts}
-use Rattle.model_machine.specs.State as plain
-use Rattle.model_machine.specs.State.{State, generator_of, unbooked_in}
+use Rattle.model_machine.specs.State.{State, unbooked_in}
 use Rattle.law_cancel.proofs.Lookups.{get-push_last, get-push_other}
 use Rattle.law_inside.proofs.Counts.{own_there}
 use Rattle.law_settling.proofs.CancelSound.{plain_within}
@@ -19,14 +18,13 @@ use Rattle.aio_task.specs.View.{View}
 use Rattle.aio_task.specs.Keeps.{Kept}
 use Rattle.aio_extra.specs.Added.{Added, IsNamed, named_in}
 use Rattle.aio_body.specs.declared.body.Body.{Body}
-use Rattle.aio_body.specs.declared.standing.Standing.{Standing}
-use Rattle.aio_body.specs.declared.standing.Standing.TheVariants.{Asked, Sleeping, Leaving, Serving}
 use Rattle.aio_body.specs.Asked.{IsInStep}
-use Rattle.aio_body.specs.Stands.{Setting, Stands, IsOwnSleep, StandsAt}
+use Rattle.aio_body.specs.Stands.{Setting, Stands, IsOwnSleep}
 use Rattle.law_kept.proofs.Calls.{kept_settle}
 use Rattle.law_body.proofs.Kept.{kept_plain}
 use Rattle.law_body.proofs.Lasting.{spares_none, stands_on}
 use Rattle.law_body.proofs.Left.{leaves_plain, leaves_settle}
+use Rattle.law_body.proofs.Noting.{telling_changes}
 use Rattle.law_body.proofs.Rooms.{below_soon_all}
 
 module _ {X : Type 0} {a : Added X} where
@@ -79,63 +77,22 @@ module _ {X : Type 0} {a : Added X} where
   pub stands_named : (out : Option ℕ) (c : Setting a) (old new : Body X) (s : State a.Kept) → Stands out c old s → new ≡ record old { futures = new.futures }
       → new.futures.items ≡ old.futures.items ++ next_future s.loop.parts ∷ [] → length s.futures + 1 < 2 ^ 32
       → Stands out c new (record s { futures = s.futures ++ next_future s.loop.parts ∷ [] })
-  stands_named out c old new s h beside items few = subst (λ b. Stands out c b now) (sym beside) (record {
-    ties = h.ties;
-    code = h.code;
-    keeps = h.keeps;
-    blocks = h.blocks;
-    left = h.left;
-    bar = h.bar;
-    made = h.made;
-    told = h.told;
-    few = h.few;
-    held = λ task l. let it = h.held task l in record {
-      slot = it.slot;
-      found = it.found;
-      right = record {
-        waits = it.right.waits;
-        standing = at_named task it.slot.standing (generator_of task s).standing it.right.standing;
-      };
-    };
-    gone = λ id e. own_named p s.futures (a.owns s.extra) None id (h.gone id e);
-    futures = items ∙ ap (λ xs. xs ++ next_future p ∷ []) h.futures;
-    few_futures = let l = length-append s.futures (next_future p ∷ []) in omega (arith, few, l);
-    main_done = h.main_done;
-    time = h.time;
-    counts = h.counts;
-    events = h.events;
-    rest = h.rest;
-    extra = h.extra;
-    count = h.count;
-  })
+  stands_named out c old new s h beside items few =
+      subst (λ b. Stands out c b now) (sym beside) (telling_changes out c c old (record old { futures = new.futures }) s now h refl refl refl (record {
+        own = own_named p s.futures (a.owns s.extra);
+        futures = items ∙ ap (λ xs. xs ++ next_future p ∷ []) h.futures;
+        few_futures = let l = length-append s.futures (next_future p ∷ []) in omega (arith, few, l);
+        main_done = h.main_done;
+        events = h.events;
+        rest = h.rest;
+        count = h.count;
+      }))
     where
       p : Parts
       p = s.loop.parts
 
       now : State a.Kept
       now = record s { futures = s.futures ++ next_future s.loop.parts ∷ [] }
-
-      named : List ℕ
-      named = s.futures ++ next_future s.loop.parts ∷ []
-
-      at_named : (task : ℕ) (code : Standing) (standing : plain.Standing) → StandsAt h.ties p (named_in a s) task code standing
-          → StandsAt h.ties p (named_in a now) task code standing
-      at_named task Asked plain.Asked e = tt
-      at_named task Asked (plain.Sleeping tag) e = e
-      at_named task Asked (plain.Leaving group) e = e
-      at_named task Asked (plain.Serving key) e = e
-      at_named task (Sleeping timer future) plain.Asked e = e
-      at_named task (Sleeping timer future) (plain.Sleeping tag) e = (e.0, own_named p s.futures (a.owns s.extra) (Some task) future e.1)
-      at_named task (Sleeping timer future) (plain.Leaving group) e = e
-      at_named task (Sleeping timer future) (plain.Serving key) e = e
-      at_named task (Leaving group) plain.Asked e = e
-      at_named task (Leaving group) (plain.Sleeping tag) e = e
-      at_named task (Leaving group) (plain.Leaving id) e = e
-      at_named task (Leaving group) (plain.Serving key) e = e
-      at_named task (Serving key) plain.Asked e = e
-      at_named task (Serving key) (plain.Sleeping tag) e = e
-      at_named task (Serving key) (plain.Leaving id) e = e
-      at_named task (Serving key) (plain.Serving kept) e = e
 
   pub makes_so : (task : ℕ) (c : Setting a) (old new : Body X) (s : State a.Kept) (v : View) → IsInStep task c old s → OwnsFutures s.loop.parts
       → v ≡ record old.parts { futures = old.parts.futures ++ record { kind = Plain; outcome = None; callbacks = [] } ∷ [] }

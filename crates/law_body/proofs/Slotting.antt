@@ -62,35 +62,86 @@ runs_itself task = eq-eqb task task refl
 pub runs_no_other : (task other : ℕ) → (task ≡ other → ⊥) → is_running (Some task) other ≡ false
 runs_no_other task other n = ne_eqb task other n
 
+-- the coroutine of another task is the one in its slot
+pub in_slot : (task other : ℕ) → (task ≡ other → ⊥) → (taken own : Option Gen) → coroutine_in (is_running (Some task) other) taken own ≡ own
+in_slot task other n taken own = ap (λ b. coroutine_in b taken own) (runs_no_other task other n)
+
+-- What isn't this task's stays: other tasks' slots and generators, and which coroutine each of them has.
+pub record OthersStay {S : Type 0} (task : ℕ) (was out : Option ℕ) (before taken : Option Gen) (old new : List Slot) (s now : State S) : Type 0 where
+  pub slots : length new ≡ length old
+  pub generators : length now.generators ≡ length s.generators
+  pub found : (other : ℕ) → (task ≡ other → ⊥) → slice_get new other ≡ slice_get old other
+  pub told : (other : ℕ) → (task ≡ other → ⊥) → generator_of other now ≡ generator_of other s
+  pub coroutines : (other : ℕ) → (task ≡ other → ⊥) → (own : Option Gen)
+      → coroutine_in (is_running out other) taken own ≡ coroutine_in (is_running was other) before own
+
 module _ {X : Type 0} {a : Added X} where
+  -- Nothing changes but what is this task's.
+  pub slots_change : (task : ℕ) (was out : Option ℕ) (c : Setting a) (taken : Option Gen) (old new : Body X) (s : State a.Kept)
+      (generators : List Generator) (h : Stands was c old s) → new ≡ record old { slots = new.slots }
+      → OthersStay task was out c.coroutine taken old.slots.items new.slots.items s (record s { generators = generators })
+      → (lives s.loop.parts task ≡ true → HasSlot a was c.coroutine h.ties old.code old.slots.items s task
+      → HasSlot a out taken h.ties old.code new.slots.items (record s { generators = generators }) task)
+      → Stands out (record c { coroutine = taken }) new (record s { generators = generators })
+  slots_change task was out c taken old new s generators h beside others own =
+      subst (λ b. Stands out (record c { coroutine = taken }) b now) (sym beside) (record {
+        ties = h.ties;
+        code = h.code;
+        keeps = h.keeps;
+        blocks = h.blocks;
+        left = h.left;
+        bar = h.bar;
+        made = others.slots ∙ h.made;
+        told = others.generators ∙ h.told;
+        few = subst (λ n. n < 2 ^ 32) (sym others.slots) h.few;
+        held = λ other l. has other l (cases_eq task other);
+        gone = h.gone;
+        futures = h.futures;
+        few_futures = h.few_futures;
+        main_done = h.main_done;
+        time = h.time;
+        counts = h.counts;
+        events = h.events;
+        rest = h.rest;
+        extra = h.extra;
+        count = h.count;
+      })
+    where
+      now : State a.Kept
+      now = record s { generators = generators }
+
+      has : (other : ℕ) → lives s.loop.parts other ≡ true → (task ≡ other) ⊎ (task ≡ other → ⊥)
+          → HasSlot a out taken h.ties old.code new.slots.items now other
+      has other l (inl same) =
+          let living = subst (λ k. lives s.loop.parts k ≡ true) (sym same) l in
+          subst (λ k. HasSlot a out taken h.ties old.code new.slots.items now k) same (own living (h.held task living))
+      has other l (inr n) = let it = h.held other l in record {
+        slot = it.slot;
+        found = others.found other n ∙ it.found;
+        right = record {
+          waits =
+              subst (λ g. WaitsAs s.program old.code g (coroutine_in (is_running out other) taken it.slot.coroutine)) (sym (others.told other n))
+              (subst (λ o. WaitsAs s.program old.code (generator_of other s) o) (sym (others.coroutines other n it.slot.coroutine)) it.right.waits);
+          standing =
+              subst (λ (g : Generator). StandsAt h.ties s.loop.parts (named_in a s) other it.slot.standing g.standing) (sym (others.told other n))
+              it.right.standing;
+        };
+      }
+
   -- What a task stands at changes, in code and in the machine, while its coroutine is taken out.
   pub stands_standing : (c : Setting a) (old new : Body X) (s : State a.Kept) (task : ℕ) (code : Standing) (standing : plain.Standing)
       → (h : Stands (Some task) c old s)
       → StandsAt h.ties s.loop.parts (named_in a s) task code standing → new ≡ record old { slots = new.slots }
       → new.slots.items ≡ standing_at task code old.slots.items → task < next_task s.loop.parts
       → Stands (Some task) c new (stands standing task s)
-  stands_standing c old new s task code standing h at_it beside items within = subst (λ b. Stands (Some task) c b now) (sym beside) (record {
-    ties = h.ties;
-    code = h.code;
-    keeps = h.keeps;
-    blocks = h.blocks;
-    left = h.left;
-    bar = h.bar;
-    made = ap length items ∙ with_length task change old.slots.items ∙ h.made;
-    told = set_length task it s ∙ h.told;
-    few = subst (λ n. n < 2 ^ 32) (sym (ap length items ∙ with_length task change old.slots.items)) h.few;
-    held = λ other l. has other l (cases_eq task other);
-    gone = h.gone;
-    futures = h.futures;
-    few_futures = h.few_futures;
-    main_done = h.main_done;
-    time = h.time;
-    counts = h.counts;
-    events = h.events;
-    rest = h.rest;
-    extra = h.extra;
-    count = h.count;
-  })
+  stands_standing c old new s task code standing h at_it beside items within =
+      slots_change task (Some task) (Some task) c c.coroutine old new s now.generators h beside (record {
+        slots = ap length items ∙ with_length task change old.slots.items;
+        generators = set_length task it s;
+        found = λ other n. ap (λ (xs : List Slot). slice_get xs other) items ∙ with_other task other change old.slots.items n;
+        told = λ other n. set_other task other it s n;
+        coroutines = λ other n own. refl;
+      }) own
     where
       change : Slot → Slot
       change slot = record slot { standing = code }
@@ -101,170 +152,76 @@ module _ {X : Type 0} {a : Added X} where
       now : State a.Kept
       now = stands standing task s
 
-      has : (other : ℕ) → lives s.loop.parts other ≡ true → (task ≡ other) ⊎ (task ≡ other → ⊥)
-          → HasSlot a (Some task) c.coroutine h.ties old.code new.slots.items now other
-      has other l (inr n) = let old_one = h.held other l in record {
-        slot = old_one.slot;
-        found = ap (λ (xs : List Slot). slice_get xs other) items ∙ with_other task other change old.slots.items n ∙ old_one.found;
+      inside : task < length s.generators
+      inside = subst (λ n. task < n) (sym h.told) within
+
+      own : lives s.loop.parts task ≡ true → HasSlot a (Some task) c.coroutine h.ties old.code old.slots.items s task
+          → HasSlot a (Some task) c.coroutine h.ties old.code new.slots.items now task
+      own l was = record {
+        slot = change was.slot;
+        found = ap (λ (xs : List Slot). slice_get xs task) items ∙ with_same task change old.slots.items was.slot was.found;
         right = record {
           waits =
-              subst (λ g. WaitsAs s.program old.code g (coroutine_in (is_running (Some task) other) c.coroutine old_one.slot.coroutine))
-              (sym (set_other task other it s n)) old_one.right.waits;
+              subst (λ g. WaitsAs s.program old.code g (coroutine_in (is_running (Some task) task) c.coroutine was.slot.coroutine))
+              (sym (set_same task it s inside)) was.right.waits;
           standing =
-              subst (λ (g : Generator). StandsAt h.ties s.loop.parts (named_in a s) other old_one.slot.standing g.standing) (sym (set_other task other it s n))
-              old_one.right.standing;
+              subst (λ (g : Generator). StandsAt h.ties s.loop.parts (named_in a s) task code g.standing) (sym (set_same task it s inside)) at_it;
         };
       }
-      has other l (inl same) = subst (λ k. HasSlot a (Some task) c.coroutine h.ties old.code new.slots.items now k) same
-          (own (h.held task (subst (λ k. lives s.loop.parts k ≡ true) (sym same) l)))
-        where
-          own : HasSlot a (Some task) c.coroutine h.ties old.code old.slots.items s task
-              → HasSlot a (Some task) c.coroutine h.ties old.code new.slots.items now task
-          own old_one = record {
-            slot = change old_one.slot;
-            found = ap (λ (xs : List Slot). slice_get xs task) items ∙ with_same task change old.slots.items old_one.slot old_one.found;
-            right = record {
-              waits =
-                  subst (λ g. WaitsAs s.program old.code g (coroutine_in (is_running (Some task) task) c.coroutine old_one.slot.coroutine))
-                  (sym (set_same task it s (subst (λ n. task < n) (sym h.told) within))) old_one.right.waits;
-              standing =
-                  subst (λ (g : Generator). StandsAt h.ties s.loop.parts (named_in a s) task code g.standing)
-                  (sym (set_same task it s (subst (λ n. task < n) (sym h.told) within))) at_it;
-            };
-          }
 
   -- The coroutine is put back.
   pub stands_back : (c : Setting a) (old new : Body X) (s : State a.Kept) (task : ℕ) (coroutine : Gen) → (h : Stands (Some task) (holding coroutine c) old s)
       → new ≡ record old { slots = new.slots }
       → new.slots.items ≡ put_back task coroutine old.slots.items → Stands None c new s
-  stands_back c old new s task coroutine h beside items = subst (λ b. Stands None c b s) (sym beside) (record {
-    ties = h.ties;
-    code = h.code;
-    keeps = h.keeps;
-    blocks = h.blocks;
-    left = h.left;
-    bar = h.bar;
-    made = ap length items ∙ with_length task change old.slots.items ∙ h.made;
-    told = h.told;
-    few = subst (λ n. n < 2 ^ 32) (sym (ap length items ∙ with_length task change old.slots.items)) h.few;
-    held = λ other l. has other l (cases_eq task other);
-    gone = h.gone;
-    futures = h.futures;
-    few_futures = h.few_futures;
-    main_done = h.main_done;
-    time = h.time;
-    counts = h.counts;
-    events = h.events;
-    rest = h.rest;
-    extra = h.extra;
-    count = h.count;
-  })
+  stands_back c old new s task coroutine h beside items =
+      slots_change task (Some task) None (holding coroutine c) c.coroutine old new s s.generators h beside (record {
+        slots = ap length items ∙ with_length task change old.slots.items;
+        generators = refl;
+        found = λ other n. ap (λ (xs : List Slot). slice_get xs other) items ∙ with_other task other change old.slots.items n;
+        told = λ other n. refl;
+        coroutines = λ other n own. sym (in_slot task other n (Some coroutine) own);
+      }) own
     where
       change : Slot → Slot
       change slot = record slot { coroutine = Some coroutine }
 
-      has : (other : ℕ) → lives s.loop.parts other ≡ true → (task ≡ other) ⊎ (task ≡ other → ⊥)
-          → HasSlot a None c.coroutine h.ties old.code new.slots.items s other
-      has other l (inr n) = let old_one = h.held other l in record {
-        slot = old_one.slot;
-        found = ap (λ (xs : List Slot). slice_get xs other) items ∙ with_other task other change old.slots.items n ∙ old_one.found;
+      own : lives s.loop.parts task ≡ true → HasSlot a (Some task) (Some coroutine) h.ties old.code old.slots.items s task
+          → HasSlot a None c.coroutine h.ties old.code new.slots.items s task
+      own l was = record {
+        slot = change was.slot;
+        found = ap (λ (xs : List Slot). slice_get xs task) items ∙ with_same task change old.slots.items was.slot was.found;
         right = record {
           waits =
-              subst (λ b. WaitsAs s.program old.code (generator_of other s) (coroutine_in b (Some coroutine) old_one.slot.coroutine))
-              (runs_no_other task other n)
-              old_one.right.waits;
-          standing = old_one.right.standing;
+              subst (λ b. WaitsAs s.program old.code (generator_of task s) (coroutine_in b (Some coroutine) was.slot.coroutine)) (runs_itself task)
+              was.right.waits;
+          standing = was.right.standing;
         };
       }
-      has other l (inl same) = subst (λ k. HasSlot a None c.coroutine h.ties old.code new.slots.items s k) same
-          (own (h.held task (subst (λ k. lives s.loop.parts k ≡ true) (sym same) l)))
-        where
-          own : HasSlot a (Some task) (Some coroutine) h.ties old.code old.slots.items s task
-              → HasSlot a None c.coroutine h.ties old.code new.slots.items s task
-          own old_one = record {
-            slot = change old_one.slot;
-            found = ap (λ (xs : List Slot). slice_get xs task) items ∙ with_same task change old.slots.items old_one.slot old_one.found;
-            right = record {
-              waits =
-                  subst (λ b. WaitsAs s.program old.code (generator_of task s) (coroutine_in b (Some coroutine) old_one.slot.coroutine)) (runs_itself task)
-                  old_one.right.waits;
-              standing = old_one.right.standing;
-            };
-          }
 
   -- A task that is done needs no coroutine.
   pub stands_over : (c : Setting a) (body : Body X) (s : State a.Kept) (task : ℕ) (coroutine : Gen)
       → (h : Stands (Some task) (holding coroutine c) body s) → lives s.loop.parts task ≡ false
       → Stands None c body s
-  stands_over c body s task coroutine h done = record {
-    ties = h.ties;
-    code = h.code;
-    keeps = h.keeps;
-    blocks = h.blocks;
-    left = h.left;
-    bar = h.bar;
-    made = h.made;
-    told = h.told;
-    few = h.few;
-    held = λ other l. let it = h.held other l in record {
-      slot = it.slot;
-      found = it.found;
-      right = record {
-        waits =
-            subst (λ b. WaitsAs s.program body.code (generator_of other s) (coroutine_in b (Some coroutine) it.slot.coroutine))
-            (runs_no_other task other (λ same. false≢true (sym done ∙ ap (lives s.loop.parts) same ∙ l))) it.right.waits;
-        standing = it.right.standing;
-      };
-    };
-    gone = h.gone;
-    futures = h.futures;
-    few_futures = h.few_futures;
-    main_done = h.main_done;
-    time = h.time;
-    counts = h.counts;
-    events = h.events;
-    rest = h.rest;
-    extra = h.extra;
-    count = h.count;
-  }
+  stands_over c body s task coroutine h done =
+      slots_change task (Some task) None (holding coroutine c) c.coroutine body body s s.generators h refl (record {
+        slots = refl;
+        generators = refl;
+        found = λ other n. refl;
+        told = λ other n. refl;
+        coroutines = λ other n own. sym (in_slot task other n (Some coroutine) own);
+      }) (λ l was. absurd (false≢true (sym done ∙ l)))
 
   -- What a task that is done was resumed with doesn't matter.
   pub stands_dead : (c : Setting a) (body : Body X) (s : State a.Kept) (task : ℕ) (it : Generator) → Stands None c body s → lives s.loop.parts task ≡ false
       → Stands None c body (with_generator task it s)
-  stands_dead c body s task it h done = record {
-    ties = h.ties;
-    code = h.code;
-    keeps = h.keeps;
-    blocks = h.blocks;
-    left = h.left;
-    bar = h.bar;
-    made = h.made;
-    told = set_length task it s ∙ h.told;
-    few = h.few;
-    held = λ other l.
-        let n : task ≡ other → ⊥ = λ same. false≢true (sym done ∙ ap (lives s.loop.parts) same ∙ l) in
-        let old_one = h.held other l in record {
-          slot = old_one.slot;
-          found = old_one.found;
-          right = record {
-            waits = subst (λ g. WaitsAs s.program body.code g old_one.slot.coroutine) (sym (set_other task other it s n)) old_one.right.waits;
-            standing =
-                subst (λ (g : Generator). StandsAt h.ties s.loop.parts (named_in a s) other old_one.slot.standing g.standing)
-                (sym (set_other task other it s n))
-                old_one.right.standing;
-          };
-        };
-    gone = h.gone;
-    futures = h.futures;
-    few_futures = h.few_futures;
-    main_done = h.main_done;
-    time = h.time;
-    counts = h.counts;
-    events = h.events;
-    rest = h.rest;
-    extra = h.extra;
-    count = h.count;
-  }
+  stands_dead c body s task it h done =
+      slots_change task None None c c.coroutine body body s (with_generator task it s).generators h refl (record {
+        slots = refl;
+        generators = set_length task it s;
+        found = λ other n. refl;
+        told = λ other n. set_other task other it s n;
+        coroutines = λ other n own. refl;
+      }) (λ l was. absurd (false≢true (sym done ∙ l)))
 
   -- The coroutine that is taken out was resumed.
   pub stands_resumed : (c : Setting a) (body : Body X) (s : State a.Kept) (task : ℕ) (fresh : Bool) (input : Input) (before now : Gen)
@@ -273,28 +230,14 @@ module _ {X : Type 0} {a : Added X} where
       → StandsFor s.program body.code (generator_of task s).coroutine (generator_of task s).arguments
       ((generator_of task s).tape ++ record { input = input; fresh = fresh } ∷ []) now)
       → Stands (Some task) (holding now c) body (resumed fresh task input s)
-  stands_resumed c body s task fresh input before now h within goes = record {
-    ties = h.ties;
-    code = h.code;
-    keeps = h.keeps;
-    blocks = h.blocks;
-    left = h.left;
-    bar = h.bar;
-    made = h.made;
-    told = set_length task it s ∙ h.told;
-    few = h.few;
-    held = λ other l. has other l (cases_eq task other);
-    gone = h.gone;
-    futures = h.futures;
-    few_futures = h.few_futures;
-    main_done = h.main_done;
-    time = h.time;
-    counts = h.counts;
-    events = h.events;
-    rest = h.rest;
-    extra = h.extra;
-    count = h.count;
-  }
+  stands_resumed c body s task fresh input before now h within goes =
+      slots_change task (Some task) (Some task) (holding before c) (Some now) body body s after.generators h refl (record {
+        slots = refl;
+        generators = set_length task it s;
+        found = λ other n. refl;
+        told = λ other n. set_other task other it s n;
+        coroutines = λ other n own. in_slot task other n (Some now) own ∙ sym (in_slot task other n (Some before) own);
+      }) own
     where
       it : Generator
       it = record (generator_of task s) { tape = (generator_of task s).tape ++ record { input = input; fresh = fresh } ∷ [] }
@@ -305,46 +248,23 @@ module _ {X : Type 0} {a : Added X} where
       inside : task < length s.generators
       inside = subst (λ n. task < n) (sym h.told) within
 
-      has : (other : ℕ) → lives s.loop.parts other ≡ true → (task ≡ other) ⊎ (task ≡ other → ⊥)
-          → HasSlot a (Some task) (Some now) h.ties body.code body.slots.items after other
-      has other l (inr n) = let old_one = h.held other l in record {
-        slot = old_one.slot;
-        found = old_one.found;
+      own : lives s.loop.parts task ≡ true → HasSlot a (Some task) (Some before) h.ties body.code body.slots.items s task
+          → HasSlot a (Some task) (Some now) h.ties body.code body.slots.items after task
+      own l was = record {
+        slot = was.slot;
+        found = was.found;
         right = record {
           waits =
-              subst (λ g. WaitsAs s.program body.code g (coroutine_in (is_running (Some task) other) (Some now) old_one.slot.coroutine))
-              (sym (set_other task other it s n))
-              (subst (λ b. WaitsAs s.program body.code (generator_of other s) (coroutine_in b (Some now) old_one.slot.coroutine))
-              (sym (runs_no_other task other n))
-              (subst (λ b. WaitsAs s.program body.code (generator_of other s) (coroutine_in b (Some before) old_one.slot.coroutine))
-              (runs_no_other task other n)
-              old_one.right.waits));
+              subst (λ g. WaitsAs s.program body.code g (coroutine_in (is_running (Some task) task) (Some now) was.slot.coroutine))
+              (sym (set_same task it s inside))
+              (subst (λ b. WaitsAs s.program body.code it (coroutine_in b (Some now) was.slot.coroutine)) (sym (runs_itself task))
+              (goes (subst (λ b. WaitsAs s.program body.code (generator_of task s) (coroutine_in b (Some before) was.slot.coroutine)) (runs_itself task)
+              was.right.waits)));
           standing =
-              subst (λ (g : Generator). StandsAt h.ties s.loop.parts (named_in a s) other old_one.slot.standing g.standing) (sym (set_other task other it s n))
-              old_one.right.standing;
+              subst (λ (g : Generator). StandsAt h.ties s.loop.parts (named_in a s) task was.slot.standing g.standing) (sym (set_same task it s inside))
+              was.right.standing;
         };
       }
-      has other l (inl same) =
-          subst (λ k. HasSlot a (Some task) (Some now) h.ties body.code body.slots.items after k) same
-          (own (h.held task (subst (λ k. lives s.loop.parts k ≡ true) (sym same) l)))
-        where
-          own : HasSlot a (Some task) (Some before) h.ties body.code body.slots.items s task
-              → HasSlot a (Some task) (Some now) h.ties body.code body.slots.items after task
-          own old_one = record {
-            slot = old_one.slot;
-            found = old_one.found;
-            right = record {
-              waits =
-                  subst (λ g. WaitsAs s.program body.code g (coroutine_in (is_running (Some task) task) (Some now) old_one.slot.coroutine))
-                  (sym (set_same task it s inside))
-                  (subst (λ b. WaitsAs s.program body.code it (coroutine_in b (Some now) old_one.slot.coroutine)) (sym (runs_itself task))
-                  (goes (subst (λ b. WaitsAs s.program body.code (generator_of task s) (coroutine_in b (Some before) old_one.slot.coroutine)) (runs_itself task)
-                  old_one.right.waits)));
-              standing =
-                  subst (λ (g : Generator). StandsAt h.ties s.loop.parts (named_in a s) task old_one.slot.standing g.standing) (sym (set_same task it s inside))
-                  old_one.right.standing;
-            };
-          }
 
   -- The coroutine that is taken out stands for the task's generator.
   pub stood : (c : Setting a) (body : Body X) (s : State a.Kept) (task : ℕ) (coroutine : Gen) → Stands (Some task) (holding coroutine c) body s

@@ -29,7 +29,7 @@ use Rattle.aio_body.specs.Slots.{HoldsMore}
 use Rattle.aio_body.specs.Stands.{AreBlocks, HasSlot, IsOwnSleep, Setting, Stands, StandsAt, WaitsAs, coroutine_in}
 use Rattle.aio_body.specs.declared.body.Body.{Body}
 use Rattle.aio_body.specs.declared.standing.Slot.{Slot}
-use Rattle.law_body.proofs.Lasting.{goes_beside, own_by, stands_at_by}
+use Rattle.law_body.proofs.Lasting.{goes_beside, knows_on, own_by, stands_at_by}
 use Rattle.law_body.proofs.Left.{AreOwnMade, any, living_made}
 
 -- what an operation leaves that makes a task
@@ -132,8 +132,7 @@ module _ {X : Type 0} {a : Added X} where
           standing =
               subst (λ (g : Generator). StandsAt kept.ties q (named_in a s) task one.slot.standing g.standing) (sym same)
               (stands_at_by h.ties kept.ties p q (named_in a s) (named_in a s) task one.slot.standing (generator_of task s).standing
-              (own (Some task)) kept.extends
-              one.right.standing);
+              (λ tag timer. knows_on h.ties kept.ties p q tag timer kept.extends) (own (Some task)) one.right.standing);
         };
       }
         where

@@ -1,9 +1,8 @@
 -- What is stood for goes on through calls of timeouts.
-use Rattle.std.proofs.Common.{◌≡◌, ℕ, ℤ, ◌≤◌, Bool, true, false, List, Option, Some, None, length, nat_le, option_map, slice_get, if◌then◌else◌, ◌∙◌, refl}
-use Rattle.std.proofs.Common.{sym, ap, subst, inl, arith}
+use Rattle.std.proofs.Common.{◌≡◌, ℕ, ℤ, Bool, true, false, List, Option, Some, None, length, nat_le, option_map, slice_get, if◌then◌else◌, ◌∙◌, refl}
+use Rattle.std.proofs.Common.{sym, subst}
 use Rattle.model_value.specs.Action.{Action}
 use Rattle.model_value.specs.declared.action.Action.TheVariants.{Fires}
-use Rattle.model_value.specs.Number.{most}
 use Rattle.model_value.specs.Value.{Exc}
 use Rattle.model_loop.specs.Handles.{deadline, later, soon}
 use Rattle.model_loop.specs.Ledger.{ByTimeout}
@@ -12,7 +11,7 @@ use Rattle.model_loop.specs.Parts.{Parts}
 use Rattle.model_loop.specs.Tasks.{future_of, uncancel}
 use Rattle.model_loop.specs.Timeouts.{enter_timeout, exit_timeout, fire, fires_at, give_up, is_active, leave_from, make_timeout, moment, reschedule}
 use Rattle.model_loop.specs.Timeouts.{reschedule_where, schedule, timeout_of, without_handle}
-use Rattle.model_machine.specs.State.{State, generator_of, with_loop}
+use Rattle.model_machine.specs.State.{State, with_loop}
 use Rattle.aio_task.specs.View.{View}
 use Rattle.aio_timeout.specs.declared.timeout.Timeout.{Timeout}
 use Rattle.aio_timeout.specs.Kept.{IsSameStep, KeepsTimeouts, KeptTimeouts}
@@ -22,27 +21,13 @@ use Rattle.aio_extra.specs.Added.{Added, named_in}
 use Rattle.aio_body.specs.declared.body.Body.{Body}
 use Rattle.aio_body.specs.Asked.{IsInStep}
 use Rattle.aio_body.specs.Stands.{Setting, Stands}
-use Rattle.law_body.proofs.Left.{leaves_later, leaves_request, leaves_revoke, leaves_uncancel}
-use Rattle.law_body.proofs.Lasting.{goes_beside, own_on, spares_none, stands_at_on}
+use Rattle.law_body.proofs.Left.{leaves_handles, leaves_later, leaves_request, leaves_revoke, leaves_uncancel}
+use Rattle.law_body.proofs.Lasting.{spares_none, stands_kept}
 use Rattle.law_body.proofs.Leaving.{Leaves, leaves_on, leaves_same}
 
 -- ---- what calls of timeouts leave of the parts
 pub leaves_soon : (action : Action) (p : Parts) → Leaves None p (soon action p)
-leaves_soon action p = record {
-  tasks = refl;
-  living = λ task l. l;
-  plain = λ id e. e;
-  waits = λ task id e. inl e;
-  time = refl;
-  counts = λ h. h;
-  goes_on = record {
-    tasks = omega arith;
-    futures = omega arith;
-    own = λ _ _. refl;
-    owners = λ _ _. refl;
-    failures = λ _ _ e. e;
-  };
-}
+leaves_soon action p = leaves_handles p (soon action p) refl refl refl
 
 leaves_fires : (id when : ℕ) (p : Parts) → Leaves None p (fires_at id when p)
 leaves_fires id when p = at (nat_le when p.time)
@@ -71,46 +56,15 @@ module _ {X : Type 0} {a : Added X} where
       → (h : Stands out c old s) → KeptTimeouts h.ties s.loop timeouts v m → Leaves None s.loop.parts m.parts → m.groups ≡ s.loop.groups
       → length v.queue.below ≡ length old.parts.queue.below
       → Stands out c (record old { parts = v; timeouts = timeouts }) (with_loop m s)
-  stands_timed out c old s v timeouts m h kept leaves groups below = record {
-    ties = kept.ties;
-    code = h.code;
-    keeps = kept.keeps.parts;
-    left = below ∙ h.left;
-    bar = kept.extends.bar ∙ h.bar;
-    blocks = record {
-      timeouts = kept.keeps.timeouts;
-      groups =
-          subst (λ (gs : List Group). (id : ℕ) → KeepsAt kept.ties m.parts (slice_get old.groups id) (slice_get gs id)) (sym groups)
-          (groups_on h.ties kept.ties s.loop.parts m.parts leaves.goes_on kept.extends.gone old.groups s.loop.groups h.blocks.groups);
-    };
-    made = h.made ∙ sym leaves.tasks;
-    told = h.told ∙ sym leaves.tasks;
-    few = h.few;
-    held = λ task l. let it = h.held task (leaves.living task l) in record {
-      slot = it.slot;
-      found = it.found;
-      right = record {
-        waits = it.right.waits;
-        standing =
-            stands_at_on None h.ties kept.ties s.loop.parts m.parts (named_in a s) task it.slot.standing (generator_of task s).standing leaves
-            (spares_none s.loop.parts (named_in a s)) kept.extends it.right.standing;
-      };
-    };
-    gone = λ id e.
-        own_on None s.loop.parts m.parts (named_in a s) None id leaves (spares_none s.loop.parts (named_in a s))
-        (h.gone id (sym (ap (λ f. f id) kept.extends.gone) ∙ e));
-    futures = h.futures;
-    few_futures = h.few_futures;
-    main_done = h.main_done;
-    time = subst (λ n. n ≤ most) (sym leaves.time) h.time;
-    counts = leaves.counts h.counts;
-    events = h.events;
-    rest = h.rest;
-    extra =
-        a.goes_on h.ties kept.ties s.loop.parts m.parts old.extra s.extra h.extra
-        (goes_beside (a.owns s.extra) h.ties kept.ties s.loop.parts m.parts kept.extends leaves.plain leaves.goes_on);
-    count = h.count;
-  }
+  stands_timed out c old s v timeouts m h kept leaves groups below =
+      stands_kept None out c old s v timeouts old.groups m c.left h
+      (record { ties = kept.ties; keeps = kept.keeps.parts; extends = kept.extends }) leaves (spares_none s.loop.parts (named_in a s))
+      (record {
+        timeouts = kept.keeps.timeouts;
+        groups =
+            subst (λ (gs : List Group). (id : ℕ) → KeepsAt kept.ties m.parts (slice_get old.groups id) (slice_get gs id)) (sym groups)
+            (groups_on h.ties kept.ties s.loop.parts m.parts leaves.goes_on kept.extends.gone old.groups s.loop.groups h.blocks.groups);
+      }) (below ∙ h.left)
 
   pub timeouts_of : (out : Option ℕ) (c : Setting a) (body : Body X) (s : State a.Kept) → (h : Stands out c body s)
       → KeepsTimeouts h.ties body.timeouts body.parts s.loop
