@@ -2,11 +2,10 @@
 //! the canonical text.
 #![tactic(auto)]
 
-mod fault;
 mod lines;
 mod reader;
 
 pub use aio_program::{Coroutine, Program};
-pub use fault::ScriptFault;
 pub use reader::read;
 pub use script_canonical::print;
+pub use script_fault::ScriptFault;

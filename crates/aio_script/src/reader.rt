@@ -3,13 +3,13 @@ ghost use Rattle.std.specs.Prelude.{◌≡◌, Ok, IfOk, IfErr, map};
 ghost use Rattle.model_text.specs.Scripts.{coroutine, script_of, script_of_parts};
 ghost use Rattle.model_text.specs.SecondPass.{parts_of};
 ghost use Rattle.script_term.specs.Spelled.{plain_numbered};
+ghost use Rattle.script_fault.specs.Faults.{IsFaultOf};
 ghost use Rattle.aio_program.specs.Line.{plain_part};
-ghost use Rattle.aio_script.specs.Fault.{IsFaultOf};
 
-use crate::fault::{ScriptFault, cause_number};
 use crate::lines::line_count;
 use aio_program::{Coroutine, NamedPart, Program, body_of};
 use model_text::Cause;
+use script_fault::{ScriptFault, cause_number};
 use script_form::first_pass;
 use script_naming::{profile_of, second_pass};
 use script_term::NumberedForm;

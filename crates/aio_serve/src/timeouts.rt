@@ -35,7 +35,9 @@ pub fn enter_timeout<X: Extra>(
     if body.timeouts.count() >= MOST_IDS {
         return out_of_range(alloc);
     }
-    let id = body.timeouts.enter(alloc, task, delay.number(), &mut body.parts)?;
+    let id = body
+        .timeouts
+        .enter(alloc, task, delay.number(), &mut body.parts)?;
     Ok(RequestReply::Answers(Value::timeout(id)))
 }
 
@@ -86,7 +88,10 @@ pub fn reschedule<X: Extra>(
     if id as usize >= body.timeouts.count() {
         return refused(alloc, TimeoutState::Finished);
     }
-    match body.timeouts.reschedule(alloc, id, when.number(), &mut body.parts)? {
+    match body
+        .timeouts
+        .reschedule(alloc, id, when.number(), &mut body.parts)?
+    {
         Rescheduled::Set => Ok(RequestReply::Answers(Value::nothing())),
         Rescheduled::BadState(state) => refused(alloc, state),
     }

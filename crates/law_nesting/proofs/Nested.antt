@@ -7,8 +7,8 @@ use Rattle.model_tree.specs.Syntax.{Name, Expr, Statement, Statements, no_statem
 use Rattle.model_tree.specs.Syntax.{handler_then}
 use Rattle.model_text.specs.Forms.{Form, Profile, Def, Assign, Yield, YieldFrom, Print, Raise, Return, Pass, If, Else, While, Try, Except, Finally, WithGroup}
 use Rattle.model_text.specs.Forms.{WithTimeout, End}
-use Rattle.model_text.specs.Places.{Block, after, DefBlock, IfBlock, WhileBlock, TryBlock, WithBlock, Section, ElseSection, ExceptSection, FinallySection, OpenBlock}
-use Rattle.model_text.specs.Places.{role_of, fits, begins, is_finally, is_outside}
+use Rattle.model_text.specs.Places.{Block, DefBlock, IfBlock, WhileBlock, TryBlock, WithBlock, Section, ElseSection, ExceptSection, FinallySection}
+use Rattle.model_text.specs.Places.{OpenBlock, after, role_of, fits, begins, is_finally, is_outside}
 use Rattle.model_text.specs.SecondPass.{Line}
 use Rattle.model_text.specs.Spells.{Spells, spells_nothing, spells_next, SpellsOne, spells_line, spells_if, spells_while, spells_try, spells_group}
 use Rattle.model_text.specs.Spells.{spells_timeout, SpellsSection, no_section, section_with, SpellsHandlers, no_clauses, clause_then}

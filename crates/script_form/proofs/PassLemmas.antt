@@ -13,11 +13,12 @@ use Rattle.model_text.specs.FirstPass.{Fault, Numbered, placed, form_behind_line
 use Rattle.model_text.specs.FirstPass.{fault_at, ended}
 use Rattle.script_term.specs.declared.lexeme.Lexeme as code
 use Rattle.script_term.specs.Lexeme.{plain_lexeme}
-use Rattle.script_form.specs.declared.fault.LineFault.{LineFault}
-use Rattle.script_form.specs.declared.fault.LineFault.TheVariants as line_fault
+use Rattle.script_fault.specs.declared.line_fault.LineFault.{LineFault}
+use Rattle.script_fault.specs.declared.line_fault.LineFault.TheVariants as line_fault
+use Rattle.script_fault.specs.Faults.{IsFaultOf, at_line}
 use Rattle.script_form.specs.declared.form_place.FormPlace.{FormPlace}
 use Rattle.script_form.specs.Unplaced.{unplaced_of}
-use Rattle.script_form.specs.Faults.{IsFaultOf, IsCauseOf, at_line}
+use Rattle.script_form.specs.Faults.{IsCauseOf}
 use Rattle.script_form.specs.Behind.{roles_of, roles_behind}
 
 -- forms in front of those of a pass
@@ -113,10 +114,12 @@ line-read roles line tokens lexemes kept spelled is lexed some read fits =
 -- a pass that stops at a line
 pub pass_stops : (forms : List (Numbered Spelled)) (all : Result (List (Numbered Spelled)) Fault) (number : ℕ) (roles : List Role) (line : List ℕ)
     (lines others : List (List ℕ)) (fault : LineFault) → all ≡ before_all forms (forms_from number roles lines) → lines ≡ line ∷ others
-    → IsCauseOf fault (line_behind roles line) → IsFaultOf (at_line number fault) all
-pass_stops forms all number roles line lines others (line_fault.Wrong cause) so_far split is =
+    → IsCauseOf fault (line_behind roles line) → IsFaultOf all (at_line number fault)
+pass_stops forms all number roles line lines others (line_fault.Refused cause) so_far split is =
+    let failed =
     so_far ∙ ap (λ ls. before_all forms (forms_from number roles ls)) split
-    ∙ ap (before_all forms) (forms_fail number roles line others cause is)
+    ∙ ap (before_all forms) (forms_fail number roles line others cause is) in
+    (cause, failed, refl)
 pass_stops forms all number roles line lines others line_fault.Memory so_far split is = tt
 
 -- a pass that goes on
@@ -149,9 +152,10 @@ pass_ends forms all number roles so_far outside =
     by_blocks (block ∷ blocks) e = cc
 
 pub pass_lacks : (forms : List (Numbered Spelled)) (all : Result (List (Numbered Spelled)) Fault) (number : ℕ) (roles : List Role) → all
-    ≡ before_all forms (forms_from number roles []) → false ≡ is_outside (open_blocks roles) → all ≡ Err (record { line = number; cause = cause.Nesting })
+    ≡ before_all forms (forms_from number roles []) → false ≡ is_outside (open_blocks roles)
+    → IsFaultOf all (at_line number (line_fault.Refused cause.Nesting))
 pass_lacks forms all number roles so_far outside =
-    so_far ∙ ap (before_all forms) (forms_end number roles) ∙ by_blocks (open_blocks roles) outside
+    (cause.Nesting, so_far ∙ ap (before_all forms) (forms_end number roles) ∙ by_blocks (open_blocks roles) outside, refl)
   where
     by_blocks : (blocks : List OpenBlock) → false ≡ is_outside blocks → before_all forms (ended number blocks)
         ≡ Err (record { line = number; cause = cause.Nesting })

@@ -4,7 +4,6 @@
 
 mod block;
 mod capped;
-mod fault;
 mod form_place;
 mod forms;
 mod fronts;
@@ -15,7 +14,6 @@ mod places;
 mod terms;
 mod text;
 
-pub use fault::FormFault;
 pub use model_text::Cause;
 pub use pass::first_pass;
 pub use script_term::{Arguments, Goal, NumberedForm, Operand, Spelled, Term};

@@ -8,24 +8,25 @@ ghost use Rattle.model_text.specs.FirstPass.{line_behind, first_pass};
 ghost use Rattle.script_term.specs.Spelled.{plain_spelled, plain_numbered};
 ghost use Rattle.script_form.specs.Placed.{IsBehind};
 ghost use Rattle.script_form.specs.Unplaced.{plain_unplaced, unplaced_of};
-ghost use Rattle.script_form.specs.Faults.{IsFaultOf, IsCauseOf, IsCauseIn};
+ghost use Rattle.script_fault.specs.Faults.{IsFaultOf};
+ghost use Rattle.script_form.specs.Faults.{IsCauseOf, IsCauseIn};
 ghost use Rattle.script_form.specs.Behind.{roles_behind};
 
 use crate::block::role_of;
-use crate::fault::{FormFault, LineFault};
 use crate::forms::{UnplacedForm, form_of};
 use crate::places::Places;
 use crate::text::next_text_line;
 use aio_lex::{LexFault, TokenList, tokens};
 use model_text::Cause;
+use script_fault::{LineFault, ScriptFault};
 use script_term::{NumberedForm, Spelled, lexemes};
 use std::alloc::Global;
 
 /// The forms of a text's lines, with their numbers, or the least faulty line.
-pub fn first_pass(alloc: Global, text: &[u8]) -> Result<Vec<NumberedForm>, FormFault>
+pub fn first_pass(alloc: Global, text: &[u8]) -> Result<Vec<NumberedForm>, ScriptFault>
     ensures forms { IfOk result
         (λ forms. first_pass (text_lines text.now) ≡ Ok (map plain_numbered forms.items)) }
-    ensures fault { IfErr result (λ fault. IsFaultOf fault (first_pass (text_lines text.now))) }
+    ensures fault { IfErr result (IsFaultOf (first_pass (text_lines text.now))) }
 {
     let mut places = Places::new(alloc);
     let mut forms = Vec::new(alloc);
@@ -45,7 +46,7 @@ pub fn first_pass(alloc: Global, text: &[u8]) -> Result<Vec<NumberedForm>, FormF
     if places.is_outside() {
         Ok(forms)
     } else {
-        Err(LineFault::Wrong(Cause::Nesting).at(line))
+        Err(LineFault::Refused(Cause::Nesting).at(line))
     }
 }
 
@@ -65,7 +66,7 @@ fn line_form(alloc: Global, places: &mut Places, line: &[u8]) -> Result<Option<S
         return Ok(None);
     }
     let Some(unplaced) = form_of(alloc, lexemes.as_slice())? else {
-        return Err(LineFault::Wrong(Cause::Form));
+        return Err(LineFault::Refused(Cause::Form));
     };
     Ok(Some(placed(places, unplaced)?))
 }
@@ -78,7 +79,7 @@ fn line_tokens(alloc: Global, line: &[u8]) -> Result<TokenList, LineFault>
     match tokens(alloc, line) {
         Ok(tokens) => Ok(tokens),
         Err(LexFault::Memory) => Err(LineFault::Memory),
-        Err(_) => Err(LineFault::Wrong(Cause::Token)),
+        Err(_) => Err(LineFault::Refused(Cause::Token)),
     }
 }
 
@@ -96,17 +97,17 @@ fn placed(places: &mut Places, unplaced: UnplacedForm) -> Result<Spelled, LineFa
         → IfErr result (λ fault. IsCauseIn fault (cause_behind roles form)) }
 {
     if !places.may_stand(unplaced.standing) {
-        return Err(LineFault::Wrong(Cause::Form));
+        return Err(LineFault::Refused(Cause::Form));
     }
     let Some(form) = unplaced.form else {
-        return Err(LineFault::Wrong(Cause::Nesting));
+        return Err(LineFault::Refused(Cause::Nesting));
     };
     let role = role_of(&form);
     if !places.fits(role) {
-        return Err(LineFault::Wrong(Cause::Nesting));
+        return Err(LineFault::Refused(Cause::Nesting));
     }
     if !is_profile(&form) {
-        return Err(LineFault::Wrong(Cause::Profile));
+        return Err(LineFault::Refused(Cause::Profile));
     }
     places.add(role)?;
     Ok(form)

@@ -8,16 +8,18 @@ use Rattle.model_text.specs.declared.cause.Cause.TheVariants as cause
 use Rattle.model_text.specs.Forms.{Spelled}
 use Rattle.model_text.specs.FirstPass.{Numbered, fault_at}
 use Rattle.model_text.specs.Naming.{Meant, Callee}
-use Rattle.model_text.specs.SecondPass.{Line, Part, Judged, judged_at, in_turn, part_judged, parts_judged, callee, main_text, is_main, main_judged, second_pass}
+use Rattle.model_text.specs.SecondPass.{Line, Part, Judged, judged_at, in_turn, head_meant, lines_judged, named_part, part_judged, parts_judged, callee}
+use Rattle.model_text.specs.SecondPass.{main_text, is_main, main_judged, second_pass, variables_in}
 use Rattle.aio_program.specs.declared.line.NamedPart.{NamedPart}
 use Rattle.aio_program.specs.Line.{plain_part as plain_named_part}
-use Rattle.script_naming.specs.declared.fault.MeaningFault.{MeaningFault}
-use Rattle.script_naming.specs.declared.fault.MeaningFault.TheVariants.{Refused, Memory}
-use Rattle.script_naming.specs.declared.fault.NameFault.{NameFault}
-use Rattle.script_naming.specs.declared.fault.NameFault.TheVariants as name
+use Rattle.script_fault.specs.declared.line_fault.LineFault.{LineFault}
+use Rattle.script_fault.specs.declared.line_fault.LineFault.TheVariants.{Refused, Memory}
+use Rattle.script_fault.specs.declared.script_fault.ScriptFault.{ScriptFault}
+use Rattle.script_fault.specs.declared.script_fault.ScriptFault.TheVariants as script
+use Rattle.script_fault.specs.Faults.{IsFaultOf}
 use Rattle.script_naming.specs.declared.part.Part.{Part as LentPart}
 use Rattle.script_naming.specs.Gives.{Gives}
-use Rattle.script_naming.specs.Judges.{FailsAt, Judges, found_at}
+use Rattle.script_naming.specs.Judges.{Judges, found_at}
 use Rattle.script_naming.specs.Parts.{plain_part, plain_parts}
 
 -- what was found before, and then what is judged
@@ -34,22 +36,41 @@ pub after-none : {A : Type 0} (others : Judged (List A)) → others ≡ after []
 after-none (Ok others) = refl
 after-none (Err fault) = refl
 
-pub judges-found : {A B : Type 0} (line : ℕ) (view : A → B) (meant : Meant B) (found : Result A MeaningFault) → Gives view meant found
+pub judges-found : {A B : Type 0} (line : ℕ) (view : A → B) (meant : Meant B) (found : Result A LineFault) → Gives view meant found
     → Judges view (judged_at line meant) (found_at line found)
 judges-found line view meant (Ok a) gives = ap (λ m. judged_at line m) gives
-judges-found line view meant (Err (Refused c)) gives = ap (λ m. judged_at line m) gives
+judges-found line view meant (Err (Refused why)) gives = (why, ap (λ m. judged_at line m) gives, refl)
 judges-found line view meant (Err Memory) gives = tt
 
-pub judges-err : {A B : Type 0} (view : A → B) (judged : Judged B) (found : Result A NameFault) (fault : NameFault) → IsErrAnd found (λ e. e ≡ fault)
-    → FailsAt judged fault → Judges view judged found
+pub judges-err : {A B : Type 0} (view : A → B) (judged : Judged B) (found : Result A ScriptFault) (fault : ScriptFault) → IsErrAnd found (λ e. e ≡ fault)
+    → IsFaultOf judged fault → Judges view judged found
 judges-err view judged (Ok a) fault is fails = absurd is
-judges-err view judged (Err e) fault is fails = subst (FailsAt judged) (sym is) fails
+judges-err view judged (Err e) fault is fails = subst (IsFaultOf judged) (sym is) fails
 
 -- what fails makes another judgement fail at the same line
-pub fails-at-along : {A B : Type 0} (judged : Judged A) (other : Judged B) (fault : NameFault) → ((f : _) → judged ≡ Err f → other ≡ Err f)
-    → FailsAt judged fault → FailsAt other fault
-fails-at-along judged other (name.Refused line c) along fails = along _ fails
-fails-at-along judged other name.Memory along fails = tt
+pub fails-at-along : {A B : Type 0} (judged : Judged A) (other : Judged B) (fault : ScriptFault) → ((f : _) → judged ≡ Err f → other ≡ Err f)
+    → IsFaultOf judged fault → IsFaultOf other fault
+fails-at-along judged other (script.Refused line number) along fails = (fails.0, along _ fails.1, fails.2)
+fails-at-along judged other script.Memory along fails = tt
+
+-- ---- a coroutine
+-- its head stands where the code found nothing wrong
+pub head-stands : {A B : Type 0} (line : ℕ) (name : B) (meant : Meant B) (found : Result A LineFault) (a : A) → Gives (λ _. name) meant found
+    → Ok a ≡ found_at line found → judged_at line meant ≡ Ok name
+head-stands line name meant (Ok b) a gives is = ap (λ m. judged_at line m) gives
+head-stands line name meant (Err fault) a gives is = cc
+
+module _ (callees : List Callee) (names : List Name) (part : Part (Numbered Spelled)) (name : Name)
+    (head : judged_at part.line (head_meant names part) ≡ Ok name) where
+  pub part-is : (lines : List Line) → lines_judged (record { callees = callees; variables = variables_in part }) part.lines ≡ Ok lines
+      → part_judged callees names part ≡ Ok (named_part part lines)
+  part-is lines judged = ap₂ (in_turn (λ (n : Name) (ls : List Line). named_part part ls)) head judged
+
+  pub part-fails : (fault : ScriptFault) → IsFaultOf (lines_judged (record { callees = callees; variables = variables_in part }) part.lines) fault
+      → IsFaultOf (part_judged callees names part) fault
+  part-fails fault fails =
+      fails-at-along (lines_judged (record { callees = callees; variables = variables_in part }) part.lines) (part_judged callees names part) fault
+      (λ f e. ap₂ (in_turn (λ (n : Name) (ls : List Line). named_part part ls)) head e) fails
 
 -- ---- coroutines in order
 parts-then : (callees : List Callee) (names : List Name) (parts : List LentPart) (at : ℕ) (part : LentPart) → at < length parts → part
@@ -60,9 +81,9 @@ parts-then callees names parts at part inside is =
     ap (λ l. parts_judged callees names (plain_parts l)) (drop_more parts at part inside ∙ ap (λ p. p ∷ drop (at + 1) parts) (sym is))
 
 pub parts-fail : (callees : List Callee) (names : List Name) (parts : List LentPart) (at : ℕ) (part : LentPart) (whole : Judged (List (Part Line)))
-    (found : List (Part Line)) (fault : NameFault) → at < length parts → part ≡ slice_index_or parts at part → whole
-    ≡ after found (parts_judged callees names (plain_parts (drop at parts))) → FailsAt (part_judged callees names (plain_part part)) fault
-    → FailsAt whole fault
+    (found : List (Part Line)) (fault : ScriptFault) → at < length parts → part ≡ slice_index_or parts at part → whole
+    ≡ after found (parts_judged callees names (plain_parts (drop at parts))) → IsFaultOf (part_judged callees names (plain_part part)) fault
+    → IsFaultOf whole fault
 parts-fail callees names parts at part whole found fault inside is whole_is fails =
     fails-at-along (part_judged callees names (plain_part part)) whole fault
     (λ f e. whole_is
@@ -92,8 +113,8 @@ main_by last has_main = if has_main then Ok true else fault_at last cause.NoMain
 by_test : (last : ℕ) (test answer : Bool) → test ≡ answer → main_by last test ≡ main_by last answer
 by_test last test answer e = ap (main_by last) e
 
-pub pass-fails : (last : ℕ) (parts : List (Part (Numbered Spelled))) (fault : NameFault) → FailsAt (parts_judged (map callee parts) [] parts) fault
-    → FailsAt (second_pass last parts) fault
+pub pass-fails : (last : ℕ) (parts : List (Part (Numbered Spelled))) (fault : ScriptFault) → IsFaultOf (parts_judged (map callee parts) [] parts) fault
+    → IsFaultOf (second_pass last parts) fault
 unfolding second_pass
 pass-fails last parts fault fails =
     let main = main_judged last (map callee parts) in

@@ -17,13 +17,13 @@ use Rattle.model_text.specs.Terms.{Term, Called, terms}
 use Rattle.model_text.specs.Naming.{Meant, Scope, lesser, both, meaning_of, meanings_of, all_meant, one_argument, error_of, error_call, function_call}
 use Rattle.model_text.specs.Naming.{meant_map}
 use Rattle.script_term.specs.TermSize.{term_size, term_list_size}
-use Rattle.script_naming.specs.declared.fault.MeaningFault.{MeaningFault}
-use Rattle.script_naming.specs.declared.fault.MeaningFault.TheVariants.{Refused, Memory}
+use Rattle.script_fault.specs.declared.line_fault.LineFault.{LineFault}
+use Rattle.script_fault.specs.declared.line_fault.LineFault.TheVariants.{Refused, Memory}
 use Rattle.script_naming.specs.Gives.{Fails, Gives, both_found}
 
 -- what is found of two meanings is their joint meaning
-pub gives-both : {A B C D E : Type 0} (join : C → D → E) (view : A → C) (other_view : B → D) (meant : Meant C) (other : Meant D) (found : Result A MeaningFault)
-    (other_found : Result B MeaningFault) → Gives view meant found → Gives other_view other other_found
+pub gives-both : {A B C D E : Type 0} (join : C → D → E) (view : A → C) (other_view : B → D) (meant : Meant C) (other : Meant D) (found : Result A LineFault)
+    (other_found : Result B LineFault) → Gives view meant found → Gives other_view other other_found
     → Gives (λ (pair : A × B). join (view pair.0) (other_view pair.1)) (both join meant other) (both_found found other_found)
 gives-both join view other_view meant other (Ok a) (Ok b) is other_is = ap₂ (both join) is other_is
 gives-both join view other_view meant other (Ok a) (Err (Refused c)) is other_is = ap₂ (both join) is other_is
@@ -84,18 +84,18 @@ term_size-item (first ∷ items) zero item inside is = omega (arith, ap term_siz
 term_size-item (first ∷ items) (suc at) item inside is = omega (arith, term_size-item items at item (omega arith) is)
 
 -- ---- where a call fails
-pub gives-err : {A B : Type 0} (view : A → B) (meant : Meant B) (found : Result A MeaningFault) (fault : MeaningFault) → IsErrAnd found (λ e. e ≡ fault)
+pub gives-err : {A B : Type 0} (view : A → B) (meant : Meant B) (found : Result A LineFault) (fault : LineFault) → IsErrAnd found (λ e. e ≡ fault)
     → Fails meant fault → Gives view meant found
 gives-err view meant (Ok a) fault is fails = absurd is
 gives-err view meant (Err e) fault is fails = subst (Fails meant) (sym is) fails
 
-pub if-err : {T : Type 0} (found : Result T MeaningFault) (fault : MeaningFault) (P : MeaningFault → Type 0) → IsErrAnd found (λ e. e ≡ fault) → P fault
+pub if-err : {T : Type 0} (found : Result T LineFault) (fault : LineFault) (P : LineFault → Type 0) → IsErrAnd found (λ e. e ≡ fault) → P fault
     → IfErr found P
 if-err (Ok value) fault P is holds = tt
 if-err (Err e) fault P is holds = subst P (sym is) holds
 
 -- what fails makes another meaning fail
-pub fails-along : {A B : Type 0} (meant : Meant A) (other : Meant B) (fault : MeaningFault) → ((c : Cause) → meant ≡ Err c → other ≡ Err c) → Fails meant fault
+pub fails-along : {A B : Type 0} (meant : Meant A) (other : Meant B) (fault : LineFault) → ((c : Cause) → meant ≡ Err c → other ≡ Err c) → Fails meant fault
     → Fails other fault
 fails-along meant other (Refused c) along fails = along c fails
 fails-along meant other Memory along fails = tt
@@ -111,7 +111,7 @@ one-argument-is all [] last call is one = ap (λ xs. one_argument call (Ok xs)) 
 one-argument-is all (x ∷ front) last call is one =
     absurd (omega (arith, one, ap length is, length-append front (last ∷ [])))
 
-pub error-fails : (found : Option Kind) (kind : Kind) (meant : Meant (List Expr)) (fault : MeaningFault) → Some kind ≡ found → is_made_by_error kind ≡ true
+pub error-fails : (found : Option Kind) (kind : Kind) (meant : Meant (List Expr)) (fault : LineFault) → Some kind ≡ found → is_made_by_error kind ≡ true
     → ((call : Expr → Expr) → Fails (one_argument call meant) fault) → Fails (error_of found meant) fault
 error-fails found kind meant fault is made fails =
     let wrong : Meant Expr = Err cause.Name in
@@ -119,7 +119,7 @@ error-fails found kind meant fault is made fails =
     (subst (λ b. Fails (if b then one_argument (MakeError kind) meant else wrong) fault) (sym made) (fails (MakeError kind)))
 
 -- ---- calls and lists, by what code finds of their parts
-pub gives-error_call : (bare : Option (RcStr Global)) (kind : RcStr Global) (name : Name) (meant : Meant (List Expr)) (found : Result Expr MeaningFault) → bare
+pub gives-error_call : (bare : Option (RcStr Global)) (kind : RcStr Global) (name : Name) (meant : Meant (List Expr)) (found : Result Expr LineFault) → bare
     ≡ Some kind → name ≡ rc_str_bytes kind → Gives (λ e. e) (error_of (kind_of_name name) meant) found
     → Gives (λ e. e) (error_call (option_map rc_str_bytes bare) meant) found
 gives-error_call bare kind name meant found is named gives =
@@ -127,7 +127,7 @@ gives-error_call bare kind name meant found is named gives =
     (subst (λ n. Gives (λ e. e) (error_of (kind_of_name n) meant) found) named gives)
 
 pub function-fails : (name : Name) (found : Option Function) (function : Function) (before : Meant (List Expr)) (bare : Option Name) (after : Meant (List Expr))
-    (fault : MeaningFault) → Some function ≡ found → ((call : Expr → Expr) → Fails (one_argument call before) fault)
+    (fault : LineFault) → Some function ≡ found → ((call : Expr → Expr) → Fails (one_argument call before) fault)
     → Fails (function_call name found before bare after) fault
 function-fails name found function before bare after fault is fails =
     subst (λ f. Fails (function_call name f before bare after) fault) is (fails (Apply function))
@@ -137,7 +137,7 @@ list-meant : (scope : Scope) (items passed : List Term) → passed ≡ items →
 list-meant scope items passed is =
     ap (λ meant. meant_map (λ all. ListOf (exprs all)) meant) (ap (λ l. all_meant scope l) is ∙ sym (meanings_of-terms scope items))
 
-pub list-fails : (scope : Scope) (t : Term) (items passed : List Term) (fault : MeaningFault) → term.ListOf (terms items) ≡ t → passed ≡ items
+pub list-fails : (scope : Scope) (t : Term) (items passed : List Term) (fault : LineFault) → term.ListOf (terms items) ≡ t → passed ≡ items
     → Fails (all_meant scope passed) fault → Fails (meaning_of scope t) fault
 list-fails scope t items passed fault is passed_is fails =
     subst (λ t. Fails (meaning_of scope t) fault) is
@@ -152,7 +152,7 @@ list-is scope t items passed all is passed_is meant =
     ∙ ap (λ meant. meant_map (λ all. ListOf (exprs all)) meant) meant
 
 pub gives-call : (scope : Scope) (t : Term) (name passed_name : Name) (before passed_before : List Term) (bare : Option Name) (after passed_after : List Term)
-    (found : Result Expr MeaningFault) → Called name (terms before) bare (terms after) ≡ t → passed_name ≡ name → passed_before ≡ before → passed_after ≡ after
+    (found : Result Expr LineFault) → Called name (terms before) bare (terms after) ≡ t → passed_name ≡ name → passed_before ≡ before → passed_after ≡ after
     → Gives (λ e. e) (function_call passed_name (function_of passed_name) (all_meant scope passed_before) bare (all_meant scope passed_after)) found
     → Gives (λ e. e) (meaning_of scope t) found
 gives-call scope t name passed_name before passed_before bare after passed_after found is named before_is after_is gives =

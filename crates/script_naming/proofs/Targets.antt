@@ -5,7 +5,7 @@ use Rattle.std.specs.Str.{bytes_eq}
 use Rattle.model_tree.specs.Syntax.{Name, Expr, Exprs, exprs, Target, Call}
 use Rattle.model_tree.specs.Known.{spawn_text, create_text, listen_text}
 use Rattle.model_text.specs.Naming.{Callee, Meant, Scope, meant_map, both, if_arity, one_argument, counted, callee_of, passed, called_target}
-use Rattle.script_naming.specs.declared.fault.MeaningFault.{MeaningFault}
+use Rattle.script_fault.specs.declared.line_fault.LineFault.{LineFault}
 use Rattle.script_naming.specs.Gives.{Fails, Gives, both_found}
 use Rattle.script_naming.specs.Scope.{with_arity}
 use Rattle.script_naming.proofs.Meanings.{gives-both, fails-along}
@@ -15,7 +15,7 @@ pub callee-known : (scope : Scope) (spelled name : Name) (parameters : ℕ) → 
 callee-known scope spelled name parameters is named =
     subst (λ n. callee_of scope n ≡ Some (with_arity n parameters)) named is
 
-gives-argument : (meant : Meant (List Expr)) (found : Result Expr MeaningFault)
+gives-argument : (meant : Meant (List Expr)) (found : Result Expr LineFault)
     → IfOk found (λ argument. (call : Expr → Expr) → one_argument call meant ≡ Ok (call argument))
     → IfErr found (λ fault. (call : Expr → Expr) → Fails (one_argument call meant) fault) → Gives (λ e. e) (one_argument (λ e. e) meant) found
 gives-argument meant (Ok argument) is fails = is (λ e. e)
@@ -30,7 +30,7 @@ counted-map {A} count make (Ok all) = by_test (nat_eq (length all) count)
     by_test true = refl
     by_test false = refl
 
-pub passed-fails : (scope : Scope) (name : Name) (parameters : ℕ) (meant : Meant (List Expr)) (fault : MeaningFault) (target : Exprs → Target)
+pub passed-fails : (scope : Scope) (name : Name) (parameters : ℕ) (meant : Meant (List Expr)) (fault : LineFault) (target : Exprs → Target)
     → callee_of scope name ≡ Some (with_arity name parameters) → Fails (counted parameters (λ all. all) meant) fault
     → Fails (passed scope (callee_of scope name) target meant) fault
 passed-fails scope name parameters meant fault target is fails =
@@ -40,7 +40,7 @@ passed-fails scope name parameters meant fault target is fails =
 
 -- what is found of the expression before a coroutine's name, and of what stands after it, is what both mean
 pub handed-gives : {A B : Type 0} (join : Expr → B → Target) (view : A → B) (scope : Scope) (spelled name : Name) (parameters : ℕ)
-    (by : Option Callee → Meant Target) (before : Meant (List Expr)) (after : Meant B) (first : Result Expr MeaningFault) (second : Result A MeaningFault)
+    (by : Option Callee → Meant Target) (before : Meant (List Expr)) (after : Meant B) (first : Result Expr LineFault) (second : Result A LineFault)
     → callee_of scope spelled ≡ Some (with_arity spelled parameters) → spelled ≡ name
     → by (Some (with_arity name parameters)) ≡ both join (one_argument (λ e. e) before) after
     → IfOk first (λ argument. (call : Expr → Expr) → one_argument call before ≡ Ok (call argument))

@@ -3,8 +3,8 @@ ghost use Rattle.std.specs.Prelude.{◌≡◌};
 ghost use Rattle.model_text.specs.Naming.{lesser, if_arity};
 ghost use Rattle.script_naming.specs.Gives.{Gives, lesser_fault, both_found};
 
-use crate::fault::MeaningFault;
 use model_text::Cause;
+use script_fault::LineFault;
 
 fn lesser(cause: Cause, other: Cause) -> Cause
     ensures { result ≡ lesser cause other }
@@ -15,22 +15,22 @@ fn lesser(cause: Cause, other: Cause) -> Cause
     }
 }
 
-fn lesser_fault(fault: MeaningFault, other: MeaningFault) -> MeaningFault
+fn lesser_fault(fault: LineFault, other: LineFault) -> LineFault
     ensures { result ≡ lesser_fault fault other }
 {
     match (fault, other) {
-        (MeaningFault::Refused(cause), MeaningFault::Refused(other)) => {
-            MeaningFault::Refused(lesser(cause, other))
+        (LineFault::Refused(cause), LineFault::Refused(other)) => {
+            LineFault::Refused(lesser(cause, other))
         }
-        _ => MeaningFault::Memory,
+        _ => LineFault::Memory,
     }
 }
 
 /// Both meanings, or the least cause.
 pub fn both<A: Drop, B: Drop>(
-    left: Result<A, MeaningFault>,
-    right: Result<B, MeaningFault>,
-) -> Result<(A, B), MeaningFault>
+    left: Result<A, LineFault>,
+    right: Result<B, LineFault>,
+) -> Result<(A, B), LineFault>
     ensures { result ≡ both_found left right }
 {
     match (left, right) {
@@ -42,12 +42,12 @@ pub fn both<A: Drop, B: Drop>(
 }
 
 /// The meaning, where the number of arguments is right.
-pub fn if_arity<A: Drop>(is_right: bool, meaning: A) -> Result<A, MeaningFault>
+pub fn if_arity<A: Drop>(is_right: bool, meaning: A) -> Result<A, LineFault>
     ensures { Gives (λ a. a) (if_arity is_right meaning) result }
 {
     if is_right {
         Ok(meaning)
     } else {
-        Err(MeaningFault::Refused(Cause::Arity))
+        Err(LineFault::Refused(Cause::Arity))
     }
 }

@@ -7,11 +7,11 @@ ghost use Rattle.script_naming.specs.Gives.{Gives};
 ghost use Rattle.script_naming.specs.Parts.{plain_part};
 ghost use Rattle.script_naming.specs.Scope.{Holds, is_free};
 
-use crate::fault::MeaningFault;
 use crate::known::is_taken;
 use crate::part::Part;
 use crate::scope::bind;
 use model_text::Cause;
+use script_fault::LineFault;
 use std::alloc::{AllocError, Global};
 use std::collections::BTreeSet;
 use std::rc::RcStr;
@@ -20,20 +20,16 @@ use std::rc::RcStr;
 const MOST_PARAMETERS: usize = 16;
 
 /// Whether a head may stand behind coroutines of these names, or the least cause why not.
-pub fn head_meant(
-    alloc: Global,
-    earlier: &BTreeSet<&str>,
-    part: &Part<'_>,
-) -> Result<(), MeaningFault>
+pub fn head_meant(alloc: Global, earlier: &BTreeSet<&str>, part: &Part<'_>) -> Result<(), LineFault>
     ensures { (names : List Name) → Holds earlier.now names
         → Gives (λ _. rc_str_bytes part.now.name.now)
         (head_meant names (plain_part part.now)) result }
 {
     if !is_new(alloc, earlier, part)? {
-        return Err(MeaningFault::Refused(Cause::Name));
+        return Err(LineFault::Refused(Cause::Name));
     }
     if part.parameters.len() > MOST_PARAMETERS {
-        return Err(MeaningFault::Refused(Cause::Arity));
+        return Err(LineFault::Refused(Cause::Arity));
     }
     Ok(())
 }

@@ -3,7 +3,6 @@
 
 mod both;
 mod callees;
-mod fault;
 mod head;
 mod known;
 mod line;
@@ -13,6 +12,5 @@ mod pass;
 mod scope;
 mod target;
 
-pub use fault::NameFault;
 pub use part::profile_of;
 pub use pass::second_pass;

@@ -11,7 +11,6 @@ ghost use Rattle.aio_program.specs.Target.{plain_name};
 ghost use Rattle.script_naming.specs.Gives.{Gives};
 
 use crate::both::both;
-use crate::fault::MeaningFault;
 use crate::known::{is_taken, kind_of_name};
 use crate::meaning::{all_meant, meaning_of};
 use crate::scope::Scope;
@@ -20,16 +19,13 @@ use aio_program::Line;
 use aio_syntax::{Expr, ExprList};
 use model_text::Cause;
 use model_value::Kind;
+use script_fault::LineFault;
 use script_term::{Goal, Spelled, Term};
 use std::alloc::{AllocError, Global};
 use std::rc::RcStr;
 
 /// What a line means, or the least cause why it has no meaning.
-pub fn line_meant(
-    alloc: Global,
-    scope: &Scope<'_, '_>,
-    form: &Spelled,
-) -> Result<Line, MeaningFault>
+pub fn line_meant(alloc: Global, scope: &Scope<'_, '_>, form: &Spelled) -> Result<Line, LineFault>
     ensures { Gives plain_line (line_meant scope.now (plain_spelled form.now)) result }
 {
     match form {
@@ -61,17 +57,17 @@ pub fn line_meant(
 }
 
 /// A name that a line binds: none that the language has for itself.
-fn free(name: &RcStr) -> Result<RcStr, MeaningFault>
+fn free(name: &RcStr) -> Result<RcStr, LineFault>
     ensures { Gives rc_str_bytes (free (rc_str_bytes name.now)) result }
 {
     if is_taken(name.as_str()) {
-        Err(MeaningFault::Refused(Cause::Name))
+        Err(LineFault::Refused(Cause::Name))
     } else {
         Ok(name.clone()?)
     }
 }
 
-fn free_or_none(name: &Option<RcStr>) -> Result<Option<RcStr>, MeaningFault>
+fn free_or_none(name: &Option<RcStr>) -> Result<Option<RcStr>, LineFault>
     ensures { Gives plain_name (free_or_none (option_map rc_str_bytes name.now)) result }
 {
     match name {
@@ -80,17 +76,17 @@ fn free_or_none(name: &Option<RcStr>) -> Result<Option<RcStr>, MeaningFault>
     }
 }
 
-fn kind_meant(kind: &RcStr) -> Result<Kind, MeaningFault>
+fn kind_meant(kind: &RcStr) -> Result<Kind, LineFault>
     ensures { Gives (λ kind. kind) (kind_meant (kind_of_name (rc_str_bytes kind.now))) result }
 {
-    kind_of_name(kind.as_str()).ok_or(MeaningFault::Refused(Cause::Name))
+    kind_of_name(kind.as_str()).ok_or(LineFault::Refused(Cause::Name))
 }
 
 fn value_meant(
     alloc: Global,
     scope: &Scope<'_, '_>,
     value: &Option<Term>,
-) -> Result<Option<Expr>, MeaningFault>
+) -> Result<Option<Expr>, LineFault>
     ensures { Gives (λ value. value) (value_meant scope.now value.now) result }
 {
     match value {
@@ -104,7 +100,7 @@ fn assign(
     scope: &Scope<'_, '_>,
     name: &RcStr,
     value: &Term,
-) -> Result<Line, MeaningFault>
+) -> Result<Line, LineFault>
     ensures { Gives plain_line (both form.Assign (free (rc_str_bytes name.now))
         (meaning_of scope.now value.now)) result }
 {
@@ -117,7 +113,7 @@ fn yield_from(
     scope: &Scope<'_, '_>,
     into: &Option<RcStr>,
     goal: &Goal,
-) -> Result<Line, MeaningFault>
+) -> Result<Line, LineFault>
     ensures { Gives plain_line
         (both form.YieldFrom (free_or_none (option_map rc_str_bytes into.now))
         (target_of scope.now (plain_goal goal.now))) result }
@@ -126,7 +122,7 @@ fn yield_from(
     Ok(Line::YieldFrom(into, target))
 }
 
-fn except(kind: &RcStr, name: &Option<RcStr>) -> Result<Line, MeaningFault>
+fn except(kind: &RcStr, name: &Option<RcStr>) -> Result<Line, LineFault>
     ensures { Gives plain_line (both form.Except (kind_meant (kind_of_name (rc_str_bytes kind.now)))
         (free_or_none (option_map rc_str_bytes name.now))) result }
 {
@@ -139,7 +135,7 @@ fn with_timeout(
     scope: &Scope<'_, '_>,
     delay: &Term,
     name: &RcStr,
-) -> Result<Line, MeaningFault>
+) -> Result<Line, LineFault>
     ensures { Gives plain_line (both form.WithTimeout (meaning_of scope.now delay.now)
         (free (rc_str_bytes name.now))) result }
 {

@@ -8,18 +8,18 @@ ghost use Rattle.aio_syntax.specs.Constant.{constant_of};
 ghost use Rattle.script_naming.specs.Gives.{Gives, Fails};
 
 use crate::both::both;
-use crate::fault::MeaningFault;
 use crate::known::{is_made_by_error, kind_of_name};
 use crate::scope::Scope;
 use aio_syntax::{Constant, Expr, ExprList, function_of};
 use model_text::Cause;
+use script_fault::LineFault;
 use script_term::{Term, TermCase};
 use std::alloc::{AllocError, Global};
 use std::rc::RcStr;
 
 /// What an expression means, or the least cause why it has no meaning.
 #[cycle(meaning)]
-pub fn meaning_of(alloc: Global, scope: &Scope<'_, '_>, term: &Term) -> Result<Expr, MeaningFault>
+pub fn meaning_of(alloc: Global, scope: &Scope<'_, '_>, term: &Term) -> Result<Expr, LineFault>
     ensures { Gives (λ meaning. meaning) (meaning_of scope.now term.now) result }
 {
     match term.case() {
@@ -75,7 +75,7 @@ fn two_meant(
     scope: &Scope<'_, '_>,
     left: &Term,
     right: &Term,
-) -> Result<(Box<Expr>, Box<Expr>), MeaningFault>
+) -> Result<(Box<Expr>, Box<Expr>), LineFault>
     ensures left { IfOk result (λ pair. meaning_of scope.now left.now ≡ Ok pair.0.value) }
     ensures right { IfOk result (λ pair. meaning_of scope.now right.now ≡ Ok pair.1.value) }
     ensures fault { IfErr result (λ fault. (join : Expr → Expr → Expr)
@@ -94,7 +94,7 @@ pub fn all_meant(
     alloc: Global,
     scope: &Scope<'_, '_>,
     items: &[Term],
-) -> Result<Vec<Expr>, MeaningFault>
+) -> Result<Vec<Expr>, LineFault>
     ensures { Gives (λ all. all.items) (all_meant scope.now items.now) result }
 {
     let mut all = Ok(Vec::new(alloc));
@@ -105,9 +105,9 @@ pub fn all_meant(
 }
 
 fn pushed(
-    all: Result<Vec<Expr>, MeaningFault>,
-    last: Result<Expr, MeaningFault>,
-) -> Result<Vec<Expr>, MeaningFault>
+    all: Result<Vec<Expr>, LineFault>,
+    last: Result<Expr, LineFault>,
+) -> Result<Vec<Expr>, LineFault>
     ensures { (front : Meant (List Expr)) (behind : Meant Expr)
         → Gives (λ all. all.items) front all → Gives (λ meaning. meaning) behind last
         → Gives (λ all. all.items) (both (λ xs x. xs ++ x ∷ []) front behind) result }
@@ -123,7 +123,7 @@ pub fn one_argument(
     alloc: Global,
     scope: &Scope<'_, '_>,
     arguments: &[Term],
-) -> Result<Expr, MeaningFault>
+) -> Result<Expr, LineFault>
     ensures meaning { IfOk result (λ argument. (call : Expr → Expr)
         → one_argument call (all_meant scope.now arguments.now) ≡ Ok (call argument)) }
     ensures fault { IfErr result (λ fault. (call : Expr → Expr)
@@ -132,16 +132,16 @@ pub fn one_argument(
     only(all_meant(alloc, scope, arguments)?)
 }
 
-fn only(mut all: Vec<Expr>) -> Result<Expr, MeaningFault>
+fn only(mut all: Vec<Expr>) -> Result<Expr, LineFault>
     ensures meaning { IfOk result (λ argument. (call : Expr → Expr)
         → one_argument call (Ok all.items) ≡ Ok (call argument)) }
     ensures fault { IfErr result (λ fault. (call : Expr → Expr)
         → Fails (one_argument call (Ok all.items)) fault) }
 {
     if all.len() != 1 {
-        return Err(MeaningFault::Refused(Cause::Arity));
+        return Err(LineFault::Refused(Cause::Arity));
     }
-    all.pop().ok_or(MeaningFault::Refused(Cause::Arity))
+    all.pop().ok_or(LineFault::Refused(Cause::Arity))
 }
 
 /// A call of a function by its name, with the arguments before and behind a kind.
@@ -153,7 +153,7 @@ fn function_call(
     before: &[Term],
     bare: &Option<RcStr>,
     after: &[Term],
-) -> Result<Expr, MeaningFault>
+) -> Result<Expr, LineFault>
     ensures { Gives (λ meaning. meaning)
         (function_call name.now (function_of name.now) (all_meant scope.now before.now)
         (option_map rc_str_bytes bare.now) (all_meant scope.now after.now)) result }
@@ -164,7 +164,7 @@ fn function_call(
             Ok(Expr::apply(function, Box::new(alloc, argument)?))
         }
         None if name == "error" => error_call(alloc, scope, bare, after),
-        None => Err(MeaningFault::Refused(Cause::Name)),
+        None => Err(LineFault::Refused(Cause::Name)),
     }
 }
 
@@ -175,13 +175,13 @@ fn error_call(
     scope: &Scope<'_, '_>,
     bare: &Option<RcStr>,
     after: &[Term],
-) -> Result<Expr, MeaningFault>
+) -> Result<Expr, LineFault>
     ensures { Gives (λ meaning. meaning)
         (error_call (option_map rc_str_bytes bare.now) (all_meant scope.now after.now)) result }
 {
     match bare {
         Some(kind) => error_of(alloc, scope, kind.as_str(), after),
-        None => Err(MeaningFault::Refused(Cause::Arity)),
+        None => Err(LineFault::Refused(Cause::Arity)),
     }
 }
 
@@ -191,7 +191,7 @@ fn error_of(
     scope: &Scope<'_, '_>,
     kind: &str,
     after: &[Term],
-) -> Result<Expr, MeaningFault>
+) -> Result<Expr, LineFault>
     ensures { Gives (λ meaning. meaning)
         (error_of (kind_of_name kind.now) (all_meant scope.now after.now)) result }
 {
@@ -200,11 +200,11 @@ fn error_of(
             let message = one_argument(alloc, scope, after)?;
             Ok(Expr::make_error(kind, Box::new(alloc, message)?))
         }
-        _ => Err(MeaningFault::Refused(Cause::Name)),
+        _ => Err(LineFault::Refused(Cause::Name)),
     }
 }
 
-fn variable(scope: &Scope<'_, '_>, name: &RcStr) -> Result<Expr, MeaningFault>
+fn variable(scope: &Scope<'_, '_>, name: &RcStr) -> Result<Expr, LineFault>
     ensures { Gives (λ meaning. meaning)
         (if_known (is_variable scope.now (rc_str_bytes name.now))
         (Variable (rc_str_bytes name.now)))
@@ -213,7 +213,7 @@ fn variable(scope: &Scope<'_, '_>, name: &RcStr) -> Result<Expr, MeaningFault>
     if scope.is_variable(name.as_str()) {
         Ok(Expr::variable(name.clone()?))
     } else {
-        Err(MeaningFault::Refused(Cause::Name))
+        Err(LineFault::Refused(Cause::Name))
     }
 }
 

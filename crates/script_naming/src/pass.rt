@@ -10,13 +10,13 @@ ghost use Rattle.script_naming.specs.Parts.{plain_part, plain_parts};
 ghost use Rattle.script_naming.specs.Scope.{Holds};
 
 use crate::callees::Callees;
-use crate::fault::{MeaningFault, NameFault};
 use crate::head::head_meant;
 use crate::line::{line_meant, shared_names};
 use crate::part::{Part, parts_of};
 use crate::scope::{Scope, bind};
 use aio_program::{Line, NamedPart};
 use model_text::Cause;
+use script_fault::{LineFault, ScriptFault};
 use script_term::NumberedForm;
 use std::alloc::Global;
 use std::collections::BTreeSet;
@@ -27,7 +27,7 @@ pub fn second_pass(
     alloc: Global,
     forms: &[NumberedForm],
     last: u64,
-) -> Result<Vec<NamedPart>, NameFault>
+) -> Result<Vec<NamedPart>, ScriptFault>
     ensures { Judges (λ named. map plain_named_part named.items)
         (second_pass last (parts_of (map plain_numbered forms.now)).coroutines) result }
 {
@@ -37,10 +37,7 @@ pub fn second_pass(
     if has_main(&callees) {
         Ok(named)
     } else {
-        Err(NameFault::Refused {
-            line: last,
-            cause: Cause::NoMain,
-        })
+        Err(LineFault::Refused(Cause::NoMain).at(last))
     }
 }
 
@@ -58,7 +55,7 @@ fn parts_judged<'a, 'f>(
     alloc: Global,
     callees: &'a Callees<'a, 'f>,
     parts: &'a [Part<'f>],
-) -> Result<Vec<NamedPart>, NameFault>
+) -> Result<Vec<NamedPart>, ScriptFault>
     ensures { Judges (λ named. map plain_named_part named.items)
         (parts_judged callees.now [] (plain_parts parts.now)) result }
 {
@@ -76,7 +73,7 @@ fn part_judged<'a, 'f>(
     callees: &'a Callees<'a, 'f>,
     earlier: &BTreeSet<&str>,
     part: &'a Part<'f>,
-) -> Result<NamedPart, NameFault>
+) -> Result<NamedPart, ScriptFault>
     ensures { (names : List Name) → Holds earlier.now names
         → Judges plain_named_part (part_judged callees.now names (plain_part part.now)) result }
 {
@@ -95,7 +92,7 @@ fn lines_judged(
     alloc: Global,
     scope: &Scope<'_, '_>,
     lines: &[NumberedForm],
-) -> Result<Vec<Line>, NameFault>
+) -> Result<Vec<Line>, ScriptFault>
     ensures { Judges (λ meant. map plain_line meant.items)
         (lines_judged scope.now (map plain_numbered lines.now)) result }
 {
@@ -107,12 +104,11 @@ fn lines_judged(
 }
 
 /// A meaning of a line, or the line's fault.
-fn judged_at<T: Drop>(line: u64, meant: Result<T, MeaningFault>) -> Result<T, NameFault>
+fn judged_at<T: Drop>(line: u64, meant: Result<T, LineFault>) -> Result<T, ScriptFault>
     ensures { result ≡ found_at line meant }
 {
     match meant {
         Ok(meaning) => Ok(meaning),
-        Err(MeaningFault::Refused(cause)) => Err(NameFault::Refused { line, cause }),
-        Err(MeaningFault::Memory) => Err(NameFault::Memory),
+        Err(fault) => Err(fault.at(line)),
     }
 }

@@ -10,7 +10,6 @@ ghost use Rattle.aio_program.specs.Target.{plain_target};
 ghost use Rattle.script_naming.specs.Gives.{Gives, Fails};
 
 use crate::both::{both, if_arity};
-use crate::fault::MeaningFault;
 use crate::known::request_arity;
 use crate::meaning::{all_meant, one_argument};
 use crate::scope::Scope;
@@ -18,12 +17,13 @@ use aio_program::Target;
 use aio_syntax::{ExprList, request_of};
 use model_text::Cause;
 use model_tree::RequestName;
+use script_fault::LineFault;
 use script_term::{Arguments, Goal, Term};
 use std::alloc::Global;
 use std::rc::RcStr;
 
 /// What a `yield from` hands over to, or the least cause why it has no meaning.
-pub fn target_of(alloc: Global, scope: &Scope<'_, '_>, goal: &Goal) -> Result<Target, MeaningFault>
+pub fn target_of(alloc: Global, scope: &Scope<'_, '_>, goal: &Goal) -> Result<Target, LineFault>
     ensures { Gives plain_target (target_of scope.now (plain_goal goal.now)) result }
 {
     match goal {
@@ -32,14 +32,14 @@ pub fn target_of(alloc: Global, scope: &Scope<'_, '_>, goal: &Goal) -> Result<Ta
     }
 }
 
-fn awaited(scope: &Scope<'_, '_>, name: &RcStr) -> Result<Target, MeaningFault>
+fn awaited(scope: &Scope<'_, '_>, name: &RcStr) -> Result<Target, LineFault>
     ensures { Gives plain_target (if_known (is_variable scope.now (rc_str_bytes name.now))
         (Await (rc_str_bytes name.now))) result }
 {
     if scope.is_variable(name.as_str()) {
         Ok(Target::Await(name.clone()?))
     } else {
-        Err(MeaningFault::Refused(Cause::Name))
+        Err(LineFault::Refused(Cause::Name))
     }
 }
 
@@ -49,7 +49,7 @@ fn called_target(
     scope: &Scope<'_, '_>,
     name: &RcStr,
     arguments: &Arguments,
-) -> Result<Target, MeaningFault>
+) -> Result<Target, LineFault>
     ensures { Gives plain_target (called_target scope.now (rc_str_bytes name.now)
         (request_of (rc_str_bytes name.now)) (all_meant scope.now arguments.now.before.items)
         (option_map rc_str_bytes arguments.now.bare)
@@ -67,7 +67,7 @@ fn coroutine_target(
     scope: &Scope<'_, '_>,
     name: &RcStr,
     arguments: &Arguments,
-) -> Result<Target, MeaningFault>
+) -> Result<Target, LineFault>
     ensures { Gives plain_target (called_target scope.now (rc_str_bytes name.now) None
         (all_meant scope.now arguments.now.before.items)
         (option_map rc_str_bytes arguments.now.bare)
@@ -93,7 +93,7 @@ fn counted(
     scope: &Scope<'_, '_>,
     arguments: &[Term],
     count: usize,
-) -> Result<ExprList, MeaningFault>
+) -> Result<ExprList, LineFault>
     ensures { Gives (λ all. all)
         (counted count (λ all. all) (all_meant scope.now arguments.now)) result }
 {
@@ -106,7 +106,7 @@ fn request_target(
     scope: &Scope<'_, '_>,
     request: RequestName,
     arguments: &[Term],
-) -> Result<Target, MeaningFault>
+) -> Result<Target, LineFault>
     ensures { Gives plain_target
         (request_target scope.now request (all_meant scope.now arguments.now))
         result }
@@ -121,7 +121,7 @@ fn passed(
     scope: &Scope<'_, '_>,
     name: &RcStr,
     arguments: &[Term],
-) -> Result<(RcStr, ExprList), MeaningFault>
+) -> Result<(RcStr, ExprList), LineFault>
     ensures name { IfOk result (λ pair. rc_str_bytes pair.0 ≡ rc_str_bytes name.now) }
     ensures arguments { IfOk result (λ pair. (target : Exprs → PlainTarget)
         → passed scope.now (callee_of scope.now (rc_str_bytes name.now)) target
@@ -131,7 +131,7 @@ fn passed(
         (all_meant scope.now arguments.now)) fault) }
 {
     let Some(parameters) = scope.callee_of(name.as_str()) else {
-        return Err(MeaningFault::Refused(Cause::Name));
+        return Err(LineFault::Refused(Cause::Name));
     };
     let arguments = counted(alloc, scope, arguments, parameters)?;
     Ok((name.clone()?, arguments))
@@ -142,7 +142,7 @@ fn call_target(
     scope: &Scope<'_, '_>,
     name: &RcStr,
     arguments: &[Term],
-) -> Result<Target, MeaningFault>
+) -> Result<Target, LineFault>
     ensures { Gives plain_target (passed scope.now (callee_of scope.now (rc_str_bytes name.now))
         (Call (rc_str_bytes name.now)) (all_meant scope.now arguments.now)) result }
 {
@@ -156,23 +156,23 @@ fn spawn_target(
     scope: &Scope<'_, '_>,
     bare: &Option<RcStr>,
     arguments: &[Term],
-) -> Result<Target, MeaningFault>
+) -> Result<Target, LineFault>
     ensures { Gives plain_target (spawn_target scope.now (option_map rc_str_bytes bare.now)
         (all_meant scope.now arguments.now)) result }
 {
     let Some(name) = bare else {
-        return Err(MeaningFault::Refused(Cause::Arity));
+        return Err(LineFault::Refused(Cause::Arity));
     };
     let (name, arguments) = passed(alloc, scope, name, arguments)?;
     Ok(Target::SpawnTask(name, arguments))
 }
 
 /// Too few arguments.
-fn missing(alloc: Global, scope: &Scope<'_, '_>, arguments: &[Term]) -> Result<Target, MeaningFault>
+fn missing(alloc: Global, scope: &Scope<'_, '_>, arguments: &[Term]) -> Result<Target, LineFault>
     ensures { Gives plain_target (missing (all_meant scope.now arguments.now)) result }
 {
     let _all = all_meant(alloc, scope, arguments)?;
-    Err(MeaningFault::Refused(Cause::Arity))
+    Err(LineFault::Refused(Cause::Arity))
 }
 
 /// `create(g, NAME, ..)`.
@@ -182,7 +182,7 @@ fn create_target(
     before: &[Term],
     bare: &Option<RcStr>,
     after: &[Term],
-) -> Result<Target, MeaningFault>
+) -> Result<Target, LineFault>
     ensures { Gives plain_target (create_target scope.now (all_meant scope.now before.now)
         (option_map rc_str_bytes bare.now) (all_meant scope.now after.now)) result }
 {
@@ -198,13 +198,13 @@ fn create_by(
     before: &[Term],
     name: &RcStr,
     after: &[Term],
-) -> Result<Target, MeaningFault>
+) -> Result<Target, LineFault>
     ensures { Gives plain_target (create_by scope.now (callee_of scope.now (rc_str_bytes name.now))
         (rc_str_bytes name.now) (all_meant scope.now before.now) (all_meant scope.now after.now))
         result }
 {
     let Some(parameters) = scope.callee_of(name.as_str()) else {
-        return Err(MeaningFault::Refused(Cause::Name));
+        return Err(LineFault::Refused(Cause::Name));
     };
     // Before the arguments, so that there is none to let go where memory runs out.
     let task = name.clone()?;
@@ -221,7 +221,7 @@ fn listen_target(
     before: &[Term],
     bare: &Option<RcStr>,
     after: &[Term],
-) -> Result<Target, MeaningFault>
+) -> Result<Target, LineFault>
     ensures { Gives plain_target (listen_target scope.now (all_meant scope.now before.now)
         (option_map rc_str_bytes bare.now) (all_meant scope.now after.now)) result }
 {
@@ -237,13 +237,13 @@ fn listen_by(
     before: &[Term],
     name: &RcStr,
     after: &[Term],
-) -> Result<Target, MeaningFault>
+) -> Result<Target, LineFault>
     ensures { Gives plain_target (listen_by scope.now (callee_of scope.now (rc_str_bytes name.now))
         (rc_str_bytes name.now) (all_meant scope.now before.now) (all_meant scope.now after.now))
         result }
 {
     let Some(parameters) = scope.callee_of(name.as_str()) else {
-        return Err(MeaningFault::Refused(Cause::Name));
+        return Err(LineFault::Refused(Cause::Name));
     };
     let port = one_argument(alloc, scope, before);
     let handler = handler_of(alloc, scope, name, parameters, after);
@@ -257,7 +257,7 @@ fn handler_of(
     name: &RcStr,
     parameters: usize,
     after: &[Term],
-) -> Result<RcStr, MeaningFault>
+) -> Result<RcStr, LineFault>
     ensures { Gives rc_str_bytes (both (λ none handler. handler)
         (counted 0 (λ all. all) (all_meant scope.now after.now))
         (if_arity (nat_eq parameters 1) (rc_str_bytes name.now))) result }

@@ -5,8 +5,8 @@ use Rattle.model_text.specs.declared.cause.Cause.TheVariants.{TooLong}
 use Rattle.model_text.specs.Scripts.{script_of_parts}
 use Rattle.model_text.specs.SecondPass.{Judged, parts_of}
 use Rattle.script_term.specs.Spelled.{plain_numbered}
+use Rattle.script_fault.specs.Faults.{IsFaultOf}
 use Rattle.script_term.specs.declared.spelled.NumberedForm.{NumberedForm}
-use Rattle.aio_script.specs.Fault.{IsFaultOf}
 use Rattle.aio_script.proofs.Reading.{too_long, from_forms}
 use Rattle.aio_script.proofs.reader.read.Goals as goal
 

@@ -3,7 +3,7 @@ use Rattle.std.specs.Rc.{rc_str_bytes}
 use Rattle.model_tree.specs.Syntax.{Expr, Target, CreateTask, exprs}
 use Rattle.model_text.specs.Naming.{Meant, all_meant, counted, callee_of, create_by}
 use Rattle.aio_program.specs.Target.{plain_target}
-use Rattle.script_naming.specs.declared.fault.MeaningFault.{MeaningFault}
+use Rattle.script_fault.specs.declared.line_fault.LineFault.{LineFault}
 use Rattle.script_naming.specs.Gives.{Gives, both_found}
 use Rattle.script_naming.proofs.Meanings.{gives-err}
 use Rattle.script_naming.proofs.Targets.{handed-gives}
@@ -16,7 +16,7 @@ meant c =
     let name = rc_str_bytes c.args.name.now in
     create_by scope (callee_of scope name) name (all_meant scope c.args.before.now) (all_meant scope c.args.after.now)
 
-abbrev IsFound : (c : After-both) → Result (Expr × List Expr) MeaningFault → Type 0
+abbrev IsFound : (c : After-both) → Result (Expr × List Expr) LineFault → Type 0
 IsFound c found = Gives (λ (pair : Expr × List Expr). CreateTask pair.0 (rc_str_bytes c.args.name.now) (exprs pair.1)) (meant c) found
 
 is_found : (c : After-both) → IsFound c (both_found c.one_argument-group.result c.counted-arguments.result)

@@ -5,7 +5,7 @@ use Rattle.std.proofs.Common.{Global}
 use Rattle.model_tree.specs.Syntax.{Expr, Target, ListenAt}
 use Rattle.model_text.specs.Naming.{Meant, all_meant, both, counted, if_arity, callee_of, listen_by}
 use Rattle.aio_program.specs.Target.{plain_target}
-use Rattle.script_naming.specs.declared.fault.MeaningFault.{MeaningFault}
+use Rattle.script_fault.specs.declared.line_fault.LineFault.{LineFault}
 use Rattle.script_naming.specs.Gives.{Gives, both_found}
 use Rattle.script_naming.proofs.Meanings.{gives-err}
 use Rattle.script_naming.proofs.Targets.{handed-gives}
@@ -18,7 +18,7 @@ meant c =
     let name = rc_str_bytes c.args.name.now in
     listen_by scope (callee_of scope name) name (all_meant scope c.args.before.now) (all_meant scope c.args.after.now)
 
-abbrev IsFound : (c : After-both) → Result (Expr × RcStr Global) MeaningFault → Type 0
+abbrev IsFound : (c : After-both) → Result (Expr × RcStr Global) LineFault → Type 0
 IsFound c found = Gives (λ (pair : Expr × RcStr Global). ListenAt pair.0 (rc_str_bytes pair.1)) (meant c) found
 
 is_found : (c : After-both) → IsFound c (both_found c.one_argument-port.result c.handler_of-handler.result)

@@ -1,12 +1,9 @@
-//! Why a text is no script.
+//! Faults of texts.
 ghost use Rattle.std.specs.Prelude.{◌≡◌};
 ghost use Rattle.model_text.specs.Causes.{cause_number};
-ghost use Rattle.aio_script.specs.declared.fault.ScriptFault.TheVariants.{Memory};
-ghost use Rattle.aio_script.specs.Fault.{of_form, of_name};
+ghost use Rattle.script_fault.specs.declared.script_fault.ScriptFault.TheVariants.{Memory};
 
 use model_text::Cause;
-use script_form::FormFault;
-use script_naming::NameFault;
 use std::alloc::{AllocError, AllocFailed};
 use thiserror::Error;
 
@@ -56,33 +53,5 @@ impl<T: Drop> From<AllocFailed<T>> for ScriptFault {
 
     fn from(_error: AllocFailed<T>) -> ScriptFault {
         ScriptFault::Memory
-    }
-}
-
-impl From<FormFault> for ScriptFault {
-    ghost from_gives = { λ error fault. fault ≡ of_form error };
-
-    fn from(error: FormFault) -> ScriptFault {
-        match error {
-            FormFault::Refused { line, cause } => ScriptFault::Refused {
-                line,
-                cause: cause_number(cause),
-            },
-            FormFault::Memory => ScriptFault::Memory,
-        }
-    }
-}
-
-impl From<NameFault> for ScriptFault {
-    ghost from_gives = { λ error fault. fault ≡ of_name error };
-
-    fn from(error: NameFault) -> ScriptFault {
-        match error {
-            NameFault::Refused { line, cause } => ScriptFault::Refused {
-                line,
-                cause: cause_number(cause),
-            },
-            NameFault::Memory => ScriptFault::Memory,
-        }
     }
 }
