@@ -33,7 +33,7 @@ use Rattle.law_kept.proofs.Telling.{owner_kept}
 use Rattle.aio_ready.specs.Queue.{soon_all}
 use Rattle.aio_future.specs.Settled as settled
 use Rattle.aio_future.specs.Settled.{called}
-use Rattle.aio_task.specs.View.{View, parts, stepped}
+use Rattle.aio_task.specs.View.{View, stepped}
 use Rattle.aio_wire.specs.EventList.{EventList}
 use Rattle.aio_wire.specs.Events.{pushed}
 use Rattle.aio_extra.specs.Added.{Added, named_in}

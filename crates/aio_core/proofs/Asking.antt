@@ -357,6 +357,12 @@ module _ {X : Type 0} {a : Added X} (old : Body X) (call : Call)
         at went.Stalled both = tt
         at (went.Stopped why) both = tt
 
+    -- what a turn with this answer comes to
+    pub turned_so : IsAlive a (record old { events = events })
+        → ComesTo a.meaning before.left after.left before.faults after.faults (stood_by a old) (stood_by a new) new.events.events said
+        × StallsAs false said × AliveIfWent a said new
+    turned_so alive = (comes_so alive, stalls_after alive, alive_after alive)
+
 module _ {X : Type 0} {a : Added X} where
   -- ---- a turn that is stalled
   pub stalls_so : (old : Body X) (seen : WireSeen) → ((c : Setting a) (s : State a.Kept) → IsBetween c old s → true ≡ is_stalled a.meaning s)

@@ -4,13 +4,16 @@ use Rattle.model_wire.specs.Fits.{fits}
 use Rattle.model_says.specs.Says.{step_limit}
 use Rattle.model_machine.specs.State.{State, unbooked_in}
 use Rattle.model_machine.specs.Turn.{is_stalled, turned_by, woken_by}
+use Rattle.aio_body.specs.declared.body.Body.{Body}
 use Rattle.aio_body.specs.Stands.{IsBetween, Setting}
-use Rattle.aio_core.specs.Turning.{AliveIfWent, IsAlive, StallsAs, Turned, all_below, at_bar, resting, said_by, stood_by}
+use Rattle.aio_core.specs.Turning.{AliveIfWent, ComesTo, IsAlive, StallsAs, Turned, all_below, at_bar, resting, said_by, stood_by}
+use Rattle.aio_core.specs.declared.went.Went as code
 use Rattle.aio_core.specs.declared.went.Went.TheVariants as went
-use Rattle.aio_core.proofs.Asking.{alive_after, comes_so, failing_answered, failing_stopped, got_alive, got_so, stalls_after, stalls_so, stalls_stopped}
-use Rattle.aio_core.proofs.Asking.{still_after, still_stopped, stops_so}
+use Rattle.aio_core.proofs.Asking.{HasGot, failing_answered, failing_stopped, got_alive, got_so, stalls_so, stalls_stopped}
+use Rattle.aio_core.proofs.Asking.{still_after, still_stopped, stops_so, turned_so}
 use Rattle.aio_core.proofs.Waking.{fits_time}
 use Rattle.aio_core.proofs.turns.turn.Goals as goal
+use Rattle.aio_core.proofs.turns.turn.Goals.{In_ok-answer}
 
 pub returns-then-is_stalled-clause-comes : goal.returns-then-is_stalled-clause-comes
 returns-then-is_stalled-clause-comes g c =
@@ -69,29 +72,46 @@ pub returns-in_err-answer-clause-later : goal.returns-in_err-answer-clause-later
 returns-in_err-answer-clause-later g c = c.in_err-answer.ensures.stays.1
 
 -- ---- the call has its answer
+-- the turn isn't stalled
+goes : (g : _) (c : In_ok-answer g) (d : Setting g.X.Extra.added) (s : State _) → IsBetween d c.args.body.now s
+    → false ≡ is_stalled g.X.Extra.added.meaning s
+goes g c d s h = sym c.if-is_stalled.false ∙ c.is_stalled.ensures d s h
+
+-- the answer was the first of those that were left, and is noted
+got : (g : _) (c : In_ok-answer g)
+    → HasGot c.args.body.now c.first_call-call.result c.first_call-call.ensures.call (goes g c) c.in_ok-answer.answer c.ask.new.body.events
+    (g.W.Wire.seen c.args.wire.now) (g.W.Wire.seen c.ask.new.wire)
+got g c =
+    got_so c.args.body.now c.first_call-call.result c.first_call-call.ensures.call (goes g c) (Ok c.in_ok-answer.answer) c.in_ok-answer.answer
+    c.ask.new.body.events (g.W.Wire.seen c.args.wire.now) (g.W.Wire.seen c.ask.new.wire) refl c.in_ok-answer.ensures.asks
+
+alive : (g : _) (c : In_ok-answer g) → IsAlive g.X.Extra.added (record c.args.body.now { events = c.ask.new.body.events })
+alive g c =
+    got_alive c.args.body.now c.first_call-call.result c.first_call-call.ensures.call (goes g c) c.in_ok-answer.answer c.ask.new.body.events
+    (got g c).is_noted c.requires
+
+-- what the turn comes to, if it does with the answer what the machine's turn does
+module _ (g : _) (c : In_ok-answer g) (new : Body _) (said : code.Went) (does : (d : Setting g.X.Extra.added) (s : State _)
+    → IsBetween d (record c.args.body.now { events = c.ask.new.body.events }) s
+    → Turned (at_bar (all_below d (unbooked_in (woken_by c.in_ok-answer.answer) s))) new said
+    (turned_by step_limit g.X.Extra.added.meaning c.in_ok-answer.answer s)) where
+  turned : ComesTo g.X.Extra.added.meaning (g.W.Wire.seen c.args.wire.now).left (g.W.Wire.seen c.ask.new.wire).left
+      (g.W.Wire.seen c.args.wire.now).faults (g.W.Wire.seen c.ask.new.wire).faults (stood_by g.X.Extra.added c.args.body.now)
+      (stood_by g.X.Extra.added new) new.events.events said
+      × StallsAs false said × AliveIfWent g.X.Extra.added said new
+  turned =
+      turned_so c.args.body.now c.first_call-call.result c.first_call-call.ensures.call (goes g c) c.in_ok-answer.answer c.ask.new.body.events
+      (g.W.Wire.seen c.args.wire.now) (g.W.Wire.seen c.ask.new.wire) (got g c) new said does (alive g c)
+
 pub after-requires-clause-alive : goal.after-requires-clause-alive
 after-requires-clause-alive g c =
-    let old = c.args.body.now in
-    let call = c.first_call-call.result in
-    let is = c.first_call-call.ensures.call in
-    let goes : (d : Setting g.X.Extra.added) (s : State _) → IsBetween d old s → false ≡ is_stalled g.X.Extra.added.meaning s = λ d s h.
-    sym c.if-is_stalled.false ∙ c.is_stalled.ensures d s h in
-    let got = got_so old call is goes (Ok c.in_ok-answer.answer) c.in_ok-answer.answer c.ask.new.body.events (g.W.Wire.seen c.args.wire.now)
-    (g.W.Wire.seen c.ask.new.wire) refl c.in_ok-answer.ensures.asks in
-    subst (IsAlive g.X.Extra.added) (sym c.in_ok-answer.ensures.beside)
-    (got_alive old call is goes c.in_ok-answer.answer c.ask.new.body.events got.is_noted c.requires)
+    subst (IsAlive g.X.Extra.added) (sym c.in_ok-answer.ensures.beside) (alive g (goal.at.after-requires-clause-alive g c).In_ok-answer)
 
 pub after-requires-clause-time : goal.after-requires-clause-time
 after-requires-clause-time g c =
-    let old = c.args.body.now in
-    let call = c.first_call-call.result in
-    let is = c.first_call-call.ensures.call in
-    let goes : (d : Setting g.X.Extra.added) (s : State _) → IsBetween d old s → false ≡ is_stalled g.X.Extra.added.meaning s = λ d s h.
-    sym c.if-is_stalled.false ∙ c.is_stalled.ensures d s h in
-    let got = got_so old call is goes (Ok c.in_ok-answer.answer) c.in_ok-answer.answer c.ask.new.body.events (g.W.Wire.seen c.args.wire.now)
-    (g.W.Wire.seen c.ask.new.wire) refl c.in_ok-answer.ensures.asks in
     let shape = c.first_call-call.ensures.shape in
-    fits_time shape.0 c.in_ok-answer.answer (subst (λ k. fits k c.in_ok-answer.answer ≡ true) shape.1 got.is_fit)
+    let fit = (got g (goal.at.after-requires-clause-time g c).In_ok-answer).is_fit in
+    fits_time shape.0 c.in_ok-answer.answer (subst (λ k. fits k c.in_ok-answer.answer ≡ true) shape.1 fit)
 
 -- ---- memory was refused then
 
@@ -130,72 +150,23 @@ returns-in_err-after-clause-later g c = c.in_ok-answer.ensures.stays.1
 
 pub returns-clause-comes : goal.returns-clause-comes
 returns-clause-comes g c =
-    let old = c.args.body.now in
-    let call = c.first_call-call.result in
-    let is = c.first_call-call.ensures.call in
-    let goes : (d : Setting g.X.Extra.added) (s : State _) → IsBetween d old s → false ≡ is_stalled g.X.Extra.added.meaning s = λ d s h.
-    sym c.if-is_stalled.false ∙ c.is_stalled.ensures d s h in
-    let answer = c.in_ok-answer.answer in
-    let events = c.ask.new.body.events in
-    let before = g.W.Wire.seen c.args.wire.now in
-    let after = g.W.Wire.seen c.ask.new.wire in
-    let got = got_so old call is goes (Ok answer) answer events before after refl c.in_ok-answer.ensures.asks in
-    let alive = got_alive old call is goes answer events got.is_noted c.requires in
-    let does : (d : Setting g.X.Extra.added) (s : State _) → IsBetween d (record old { events = events }) s
-    → Turned (at_bar (all_below d (unbooked_in (woken_by answer) s))) c.after.new.body c.in_ok-after.field-0
-    (turned_by step_limit g.X.Extra.added.meaning answer s) = λ d s h.
-    c.in_ok-after.ensures d s (subst (λ b. IsBetween d b s) (sym c.in_ok-answer.ensures.beside) h) in
-    comes_so old call is goes answer events before after got c.after.new.body c.in_ok-after.field-0 does alive
+    (turned g (goal.at.returns-clause-comes g c).In_ok-answer c.after.new.body c.in_ok-after.field-0
+    (λ d s h. c.in_ok-after.ensures d s (subst (λ b. IsBetween d b s) (sym c.in_ok-answer.ensures.beside) h))).0
 
 pub returns-clause-stalls : goal.returns-clause-stalls
 returns-clause-stalls g c =
-    let old = c.args.body.now in
-    let call = c.first_call-call.result in
-    let is = c.first_call-call.ensures.call in
-    let goes : (d : Setting g.X.Extra.added) (s : State _) → IsBetween d old s → false ≡ is_stalled g.X.Extra.added.meaning s = λ d s h.
-    sym c.if-is_stalled.false ∙ c.is_stalled.ensures d s h in
-    let answer = c.in_ok-answer.answer in
-    let events = c.ask.new.body.events in
-    let before = g.W.Wire.seen c.args.wire.now in
-    let after = g.W.Wire.seen c.ask.new.wire in
-    let got = got_so old call is goes (Ok answer) answer events before after refl c.in_ok-answer.ensures.asks in
-    let alive = got_alive old call is goes answer events got.is_noted c.requires in
-    let does : (d : Setting g.X.Extra.added) (s : State _) → IsBetween d (record old { events = events }) s
-    → Turned (at_bar (all_below d (unbooked_in (woken_by answer) s))) c.after.new.body c.in_ok-after.field-0
-    (turned_by step_limit g.X.Extra.added.meaning answer s) = λ d s h.
-    c.in_ok-after.ensures d s (subst (λ b. IsBetween d b s) (sym c.in_ok-answer.ensures.beside) h) in
     λ past answers s h. subst (λ b. StallsAs b c.in_ok-after.field-0)
     (sym c.if-is_stalled.false ∙ c.is_stalled.ensures (resting g.X.Extra.added past answers h.0) s h.1)
-    (stalls_after old call is goes answer events before after got c.after.new.body c.in_ok-after.field-0 does alive)
+    (turned g (goal.at.returns-clause-stalls g c).In_ok-answer c.after.new.body c.in_ok-after.field-0
+    (λ d s h. c.in_ok-after.ensures d s (subst (λ b. IsBetween d b s) (sym c.in_ok-answer.ensures.beside) h))).1
 
 pub returns-clause-alive : goal.returns-clause-alive
 returns-clause-alive g c =
-    let old = c.args.body.now in
-    let call = c.first_call-call.result in
-    let is = c.first_call-call.ensures.call in
-    let goes : (d : Setting g.X.Extra.added) (s : State _) → IsBetween d old s → false ≡ is_stalled g.X.Extra.added.meaning s = λ d s h.
-    sym c.if-is_stalled.false ∙ c.is_stalled.ensures d s h in
-    let answer = c.in_ok-answer.answer in
-    let events = c.ask.new.body.events in
-    let before = g.W.Wire.seen c.args.wire.now in
-    let after = g.W.Wire.seen c.ask.new.wire in
-    let got = got_so old call is goes (Ok answer) answer events before after refl c.in_ok-answer.ensures.asks in
-    let alive = got_alive old call is goes answer events got.is_noted c.requires in
-    let does : (d : Setting g.X.Extra.added) (s : State _) → IsBetween d (record old { events = events }) s
-    → Turned (at_bar (all_below d (unbooked_in (woken_by answer) s))) c.after.new.body c.in_ok-after.field-0
-    (turned_by step_limit g.X.Extra.added.meaning answer s) = λ d s h.
-    c.in_ok-after.ensures d s (subst (λ b. IsBetween d b s) (sym c.in_ok-answer.ensures.beside) h) in
-    alive_after old call is goes answer events before after got c.after.new.body c.in_ok-after.field-0 does alive
+    (turned g (goal.at.returns-clause-alive g c).In_ok-answer c.after.new.body c.in_ok-after.field-0
+    (λ d s h. c.in_ok-after.ensures d s (subst (λ b. IsBetween d b s) (sym c.in_ok-answer.ensures.beside) h))).2
 
 pub returns-clause-fails : goal.returns-clause-fails
-returns-clause-fails g c =
-    let old = c.args.body.now in
-    let call = c.first_call-call.result in
-    let is = c.first_call-call.ensures.call in
-    let goes : (d : Setting g.X.Extra.added) (s : State _) → IsBetween d old s → false ≡ is_stalled g.X.Extra.added.meaning s = λ d s h.
-    sym c.if-is_stalled.false ∙ c.is_stalled.ensures d s h in
-    let answer = c.in_ok-answer.answer in
-    λ fails. absurd (failing_answered call answer (c.in_ok-answer.ensures.fails fails))
+returns-clause-fails g c = λ fails. absurd (failing_answered c.first_call-call.result c.in_ok-answer.answer (c.in_ok-answer.ensures.fails fails))
 
 pub returns-clause-keeps : goal.returns-clause-keeps
 returns-clause-keeps g c =
