@@ -31,7 +31,15 @@ impl Model for Flow {
 
     ghost Value = { Writer };
 
-    ghost view = { λ flow. record { unsent = flow.unsent.items; high = flow.high; low = flow.low; paused = flow.paused; eof = flow.eof; ended = flow.ended; whole = flow.whole } };
+    ghost view = { λ flow. record {
+      unsent = flow.unsent.items;
+      high = flow.high;
+      low = flow.low;
+      paused = flow.paused;
+      eof = flow.eof;
+      ended = flow.ended;
+      whole = flow.whole;
+    } };
 }
 
 impl Flow {

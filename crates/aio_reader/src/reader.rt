@@ -38,7 +38,13 @@ impl Model for Reader {
 
     ghost coded = { coded_reading };
 
-    ghost view = { λ r. record { held = r.held; ended = r.ended; failed = r.failed; limit = r.limit; paused = r.paused } };
+    ghost view = { λ r. record {
+      held = r.held;
+      ended = r.ended;
+      failed = r.failed;
+      limit = r.limit;
+      paused = r.paused;
+    } };
 }
 
 impl Reader {
