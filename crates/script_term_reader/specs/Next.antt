@@ -11,17 +11,17 @@ applied (Opens bracket progress) opened = reading progress (bracket ∷ opened)
 applied Fails opened = None
 
 -- it makes this state of the brackets that are open, whatever they are
-abbrev pub Becomes : (List Open → ReaderState) → AfterLexeme → Type 0
-Becomes state next = (opened : List Open) → applied next opened ≡ state opened
+abbrev pub Arrives : (List Open → ReaderState) → AfterLexeme → Type 0
+Arrives state next = (opened : List Open) → applied next opened ≡ state opened
 
 -- the same, unless memory ran out
-abbrev pub Leads : {E : Type 0} → (List Open → ReaderState) → Result AfterLexeme E → Type 0
-Leads state next = IfOk next (Becomes state)
+abbrev pub Sends : {E : Type 0} → (List Open → ReaderState) → Result AfterLexeme E → Type 0
+Sends state next = IfOk next (Arrives state)
 
 -- how far an expression has come, if it is one, with the open brackets, the innermost last
 abbrev pub come : Option TermProgress → List Open → ReaderState
 come progress opened = option_and_then (λ reached. reading reached (reverse opened)) progress
 
 -- with these brackets open the expression has come to this state, unless memory ran out
-abbrev pub Comes : {E : Type 0} → List Open → ReaderState → Result (Option TermProgress) E → Type 0
-Comes opened state reached = IfOk reached (λ reached. come reached opened ≡ state)
+abbrev pub Lands : {E : Type 0} → List Open → ReaderState → Result (Option TermProgress) E → Type 0
+Lands opened state reached = IfOk reached (λ reached. come reached opened ≡ state)

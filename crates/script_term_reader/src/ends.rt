@@ -10,17 +10,17 @@ ghost use Rattle.law_reading.specs.Ends.{ended, parted, at_comma, filled, empty,
 ghost use Rattle.script_term.specs.Operand.{plain_operand};
 ghost use Rattle.script_term_reader.specs.Closed.{parted_open, closed};
 ghost use Rattle.script_term_reader.specs.Made.{Makes};
-ghost use Rattle.script_term_reader.specs.Next.{Comes};
+ghost use Rattle.script_term_reader.specs.Next.{Lands};
 ghost use Rattle.script_term_reader.specs.Reader.{plain_bracket};
 
-use crate::pending::{Loose, Made, Tight, disjunction_of, no_loose};
+use crate::pending::{Gained, Loose, Tight, disjunction_of, no_loose};
 use crate::reader::{Bracket, Open, Position, TermProgress, at, before, forget, forget_loose};
 use script_term::{Join, Operand, Symbol, Term, TermList, all_that_fit, capped, joined};
 use std::alloc::Global;
 use std::rc::RcStr;
 
 /// The expression that ends here.
-pub fn ended(alloc: Global, progress: TermProgress) -> Made<Option<Operand>>
+pub fn ended(alloc: Global, progress: TermProgress) -> Gained<Option<Operand>>
     ensures { Makes (option_map plain_operand) (ended progress) result }
 {
     match progress.place() {
@@ -47,7 +47,7 @@ pub fn named(name: RcStr) -> Operand
     Operand::Fits(Term::variable(name))
 }
 
-fn ended_by(alloc: Global, loose: Loose, tight: Tight, operand: Operand) -> Made<Option<Operand>>
+fn ended_by(alloc: Global, loose: Loose, tight: Tight, operand: Operand) -> Gained<Option<Operand>>
     ensures { Makes (option_map plain_operand) (Some
         (disjunction_of loose tight (plain_operand operand))) result }
 {
@@ -58,7 +58,7 @@ fn ended_by(alloc: Global, loose: Loose, tight: Tight, operand: Operand) -> Made
 // ---- commas
 
 /// Behind a comma: what was read in the bracket.
-fn parted(alloc: Global, bracket: Bracket, progress: TermProgress) -> Made<Option<Bracket>>
+fn parted(alloc: Global, bracket: Bracket, progress: TermProgress) -> Gained<Option<Bracket>>
     ensures { Makes (option_map plain_bracket) (parted (plain_bracket bracket) progress) result }
 {
     match bracket {
@@ -71,7 +71,11 @@ fn parted(alloc: Global, bracket: Bracket, progress: TermProgress) -> Made<Optio
     }
 }
 
-fn parted_items(alloc: Global, items: Vec<Operand>, progress: TermProgress) -> Made<Option<Bracket>>
+fn parted_items(
+    alloc: Global,
+    items: Vec<Operand>,
+    progress: TermProgress,
+) -> Gained<Option<Bracket>>
     ensures { Makes (option_map plain_bracket) (parted (Items (map plain_operand items.items))
         progress) result }
 {
@@ -82,7 +86,7 @@ fn parted_items(alloc: Global, items: Vec<Operand>, progress: TermProgress) -> M
     }
 }
 
-fn with_last_item(items: Vec<Operand>, item: Operand) -> Made<Option<Bracket>>
+fn with_last_item(items: Vec<Operand>, item: Operand) -> Gained<Option<Bracket>>
     ensures { Makes (option_map plain_bracket) (Some
         (Items (map plain_operand items.items ++ plain_operand item ∷ []))) result }
 {
@@ -96,7 +100,7 @@ fn parted_arguments(
     bare: Option<RcStr>,
     arguments: Vec<Operand>,
     progress: TermProgress,
-) -> Made<Option<Bracket>>
+) -> Gained<Option<Bracket>>
     ensures { Makes (option_map plain_bracket) (parted
         (Arguments (rc_str_bytes name) (option_map rc_str_bytes bare)
         (map plain_operand arguments.items)) progress) result }
@@ -135,7 +139,7 @@ fn with_argument(
     loose: Loose,
     tight: Tight,
     argument: Operand,
-) -> Made<Option<Bracket>>
+) -> Gained<Option<Bracket>>
     ensures { Makes (option_map plain_bracket) (Some
         (Arguments (rc_str_bytes name) (option_map rc_str_bytes bare)
         (map plain_operand arguments.items ++ disjunction_of loose tight (plain_operand argument)
@@ -146,7 +150,7 @@ fn with_argument(
     Ok(Some(Bracket::Arguments(name, bare, arguments)))
 }
 
-fn with_last(items: Vec<Operand>, last: Operand) -> Made<Vec<Operand>>
+fn with_last(items: Vec<Operand>, last: Operand) -> Gained<Vec<Operand>>
     ensures { Makes (λ more. map plain_operand more.items)
         (map plain_operand items.items ++ plain_operand last ∷ []) result }
 {
@@ -160,8 +164,8 @@ pub fn at_comma(
     alloc: Global,
     progress: TermProgress,
     opened: &mut Vec<Open>,
-) -> Made<Option<TermProgress>>
-    ensures { Comes opened.new.items (at_comma progress (reverse opened.old.items)) result }
+) -> Gained<Option<TermProgress>>
+    ensures { Lands opened.new.items (at_comma progress (reverse opened.old.items)) result }
 {
     match opened.pop() {
         None => Ok(None),
@@ -174,8 +178,8 @@ fn comma_within(
     innermost: Open,
     progress: TermProgress,
     opened: &mut Vec<Open>,
-) -> Made<Option<TermProgress>>
-    ensures { Comes opened.new.items (at_comma progress (innermost ∷ reverse opened.old.items))
+) -> Gained<Option<TermProgress>>
+    ensures { Lands opened.new.items (at_comma progress (innermost ∷ reverse opened.old.items))
         result }
 {
     match parted_open(alloc, innermost, progress)? {
@@ -187,7 +191,7 @@ fn comma_within(
     }
 }
 
-fn parted_open(alloc: Global, innermost: Open, progress: TermProgress) -> Made<Option<Open>>
+fn parted_open(alloc: Global, innermost: Open, progress: TermProgress) -> Gained<Option<Open>>
     ensures { Makes (λ a. a) (parted_open innermost progress) result }
 {
     let (bracket, loose, tight) = innermost.parts();
@@ -207,7 +211,7 @@ fn parted_open(alloc: Global, innermost: Open, progress: TermProgress) -> Made<O
 // ---- closing brackets
 
 /// `[a, b]`.
-fn list_of(alloc: Global, items: Vec<Operand>) -> Made<Operand>
+fn list_of(alloc: Global, items: Vec<Operand>) -> Gained<Operand>
     ensures { Makes plain_operand (list_of (map plain_operand items.items)) result }
 {
     match all_that_fit(alloc, items)? {
@@ -222,7 +226,7 @@ fn call_of(
     name: RcStr,
     bare: Option<RcStr>,
     arguments: Vec<Operand>,
-) -> Made<Operand>
+) -> Gained<Operand>
     ensures { Makes plain_operand (call_of (rc_str_bytes name) (option_map rc_str_bytes bare)
         (map plain_operand arguments.items)) result }
 {
@@ -244,7 +248,7 @@ fn call(alloc: Global, name: RcStr, bare: Option<RcStr>, arguments: Vec<Term>) -
 }
 
 /// The operand that a bracket makes with the last expression in it.
-fn filled(alloc: Global, bracket: Bracket, operand: Operand) -> Made<Operand>
+fn filled(alloc: Global, bracket: Bracket, operand: Operand) -> Gained<Operand>
     ensures { Makes plain_operand (filled (plain_bracket bracket) (plain_operand operand)) result }
 {
     match bracket {
@@ -257,7 +261,7 @@ fn filled(alloc: Global, bracket: Bracket, operand: Operand) -> Made<Operand>
     }
 }
 
-fn list_with(alloc: Global, items: Vec<Operand>, last: Operand) -> Made<Operand>
+fn list_with(alloc: Global, items: Vec<Operand>, last: Operand) -> Gained<Operand>
     ensures { Makes plain_operand (list_of (map plain_operand items.items ++ plain_operand last
         ∷ [])) result }
 {
@@ -272,7 +276,7 @@ fn call_with(
     bare: Option<RcStr>,
     arguments: Vec<Operand>,
     last: Operand,
-) -> Made<Operand>
+) -> Gained<Operand>
     ensures { Makes plain_operand (call_of (rc_str_bytes name) (option_map rc_str_bytes bare)
         (map plain_operand arguments.items ++ plain_operand last ∷ [])) result }
 {
@@ -282,7 +286,7 @@ fn call_with(
 }
 
 /// The operand that a bracket makes with nothing in it.
-fn empty(alloc: Global, bracket: Bracket) -> Made<Option<Operand>>
+fn empty(alloc: Global, bracket: Bracket) -> Gained<Option<Operand>>
     ensures { Makes (option_map plain_operand) (empty (plain_bracket bracket)) result }
 {
     match bracket {
@@ -293,7 +297,7 @@ fn empty(alloc: Global, bracket: Bracket) -> Made<Option<Operand>>
     }
 }
 
-fn closed_list(alloc: Global, items: Vec<Operand>) -> Made<Option<Operand>>
+fn closed_list(alloc: Global, items: Vec<Operand>) -> Gained<Option<Operand>>
     ensures { Makes (option_map plain_operand) (Some (list_of (map plain_operand items.items)))
         result }
 {
@@ -306,7 +310,7 @@ fn closed_call(
     name: RcStr,
     bare: Option<RcStr>,
     arguments: Vec<Operand>,
-) -> Made<Option<Operand>>
+) -> Gained<Option<Operand>>
     ensures { Makes (option_map plain_operand) (Some
         (call_of (rc_str_bytes name) (option_map rc_str_bytes bare)
         (map plain_operand arguments.items))) result }
@@ -316,7 +320,7 @@ fn closed_call(
 }
 
 /// The operand that a call makes with a bare name alone, or with nothing in its place.
-fn with_kind(alloc: Global, kind: Option<RcStr>, bracket: Bracket) -> Made<Option<Operand>>
+fn with_kind(alloc: Global, kind: Option<RcStr>, bracket: Bracket) -> Gained<Option<Operand>>
     ensures { Makes (option_map plain_operand) (with_kind (option_map rc_str_bytes kind)
         (plain_bracket bracket)) result }
 {
@@ -334,7 +338,7 @@ fn with_kind(alloc: Global, kind: Option<RcStr>, bracket: Bracket) -> Made<Optio
 }
 
 /// The operand that a bracket makes if it closes here.
-fn whole(alloc: Global, bracket: Bracket, progress: TermProgress) -> Made<Option<Operand>>
+fn whole(alloc: Global, bracket: Bracket, progress: TermProgress) -> Gained<Option<Operand>>
     ensures { Makes (option_map plain_operand) (whole (plain_bracket bracket) progress) result }
 {
     match progress.place() {
@@ -372,7 +376,7 @@ fn filled_by(
     loose: Loose,
     tight: Tight,
     operand: Operand,
-) -> Made<Option<Operand>>
+) -> Gained<Option<Operand>>
     ensures { Makes (option_map plain_operand) (Some
         (filled (plain_bracket bracket) (disjunction_of loose tight (plain_operand operand))))
         result }
@@ -397,8 +401,8 @@ pub fn at_closing(
     symbol: Symbol,
     progress: TermProgress,
     opened: &mut Vec<Open>,
-) -> Made<Option<TermProgress>>
-    ensures { Comes opened.new.items (at_closing (Sign symbol) progress (reverse opened.old.items))
+) -> Gained<Option<TermProgress>>
+    ensures { Lands opened.new.items (at_closing (Sign symbol) progress (reverse opened.old.items))
         result }
 {
     match opened.pop() {
@@ -412,7 +416,7 @@ fn closed(
     symbol: Symbol,
     innermost: Open,
     progress: TermProgress,
-) -> Made<Option<TermProgress>>
+) -> Gained<Option<TermProgress>>
     ensures { Makes (λ a. a) (closed (Sign symbol) progress innermost) result }
 {
     if closing(&innermost.bracket) != symbol {
@@ -421,7 +425,7 @@ fn closed(
     closed_by(alloc, innermost, progress)
 }
 
-fn closed_by(alloc: Global, innermost: Open, progress: TermProgress) -> Made<Option<TermProgress>>
+fn closed_by(alloc: Global, innermost: Open, progress: TermProgress) -> Gained<Option<TermProgress>>
     ensures { Makes (λ a. a) (option_map (λ operand. BehindOperand innermost.loose innermost.tight
         operand) (whole innermost.bracket progress)) result }
 {

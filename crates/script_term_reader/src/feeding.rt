@@ -11,11 +11,11 @@ ghost use Rattle.script_term.specs.Lexeme.{plain_lexeme};
 ghost use Rattle.script_term.specs.Operand.{plain_operand};
 ghost use Rattle.script_term_reader.specs.Infix.{plain_infix};
 ghost use Rattle.script_term_reader.specs.Made.{Makes};
-ghost use Rattle.script_term_reader.specs.Next.{applied, Becomes, Leads, Comes};
+ghost use Rattle.script_term_reader.specs.Next.{applied, Arrives, Sends, Lands};
 
 use crate::ends::{at_closing, at_comma, named};
 use crate::pending::{
-    Loose, Made, Tight, behind_and, behind_compared, behind_minus, behind_not, behind_or,
+    Gained, Loose, Tight, behind_and, behind_compared, behind_minus, behind_not, behind_or,
     behind_product, behind_sum, no_loose, no_tight,
 };
 use crate::reader::{
@@ -40,7 +40,7 @@ fn constant_of_word(word: ReservedWord) -> Option<Term>
 }
 
 /// The expression that one lexeme is.
-fn atom(lexeme: &Lexeme) -> Made<Option<Term>>
+fn atom(lexeme: &Lexeme) -> Gained<Option<Term>>
     ensures { Makes (λ a. a) (atom (plain_lexeme lexeme.now)) result }
 {
     Ok(match lexeme {
@@ -53,8 +53,8 @@ fn atom(lexeme: &Lexeme) -> Made<Option<Term>>
     })
 }
 
-fn at_operand(alloc: Global, loose: Loose, tight: Tight, lexeme: &Lexeme) -> Made<AfterLexeme>
-    ensures { Leads (λ opened. at_operand loose tight opened (plain_lexeme lexeme.now)) result }
+fn at_operand(alloc: Global, loose: Loose, tight: Tight, lexeme: &Lexeme) -> Gained<AfterLexeme>
+    ensures { Sends (λ opened. at_operand loose tight opened (plain_lexeme lexeme.now)) result }
 {
     match lexeme {
         Lexeme::Reserved(_) | Lexeme::Number(_) | Lexeme::Texts(_) | Lexeme::Octets(_) =>
@@ -64,8 +64,8 @@ fn at_operand(alloc: Global, loose: Loose, tight: Tight, lexeme: &Lexeme) -> Mad
     }
 }
 
-fn behind_new_name(loose: Loose, tight: Tight, name: &RcStr) -> Made<AfterLexeme>
-    ensures { Leads (reading (BehindName loose tight (rc_str_bytes name.now))) result }
+fn behind_new_name(loose: Loose, tight: Tight, name: &RcStr) -> Gained<AfterLexeme>
+    ensures { Sends (reading (BehindName loose tight (rc_str_bytes name.now))) result }
 {
     match name.clone() {
         Ok(name) => Ok(goes(Position::BehindName(loose, tight, name))),
@@ -76,8 +76,8 @@ fn behind_new_name(loose: Loose, tight: Tight, name: &RcStr) -> Made<AfterLexeme
     }
 }
 
-fn behind_atom(loose: Loose, tight: Tight, lexeme: &Lexeme) -> Made<AfterLexeme>
-    ensures { Leads (λ opened. option_and_then (λ term. reading
+fn behind_atom(loose: Loose, tight: Tight, lexeme: &Lexeme) -> Gained<AfterLexeme>
+    ensures { Sends (λ opened. option_and_then (λ term. reading
         (BehindOperand loose tight (Fits term)) opened) (atom (plain_lexeme lexeme.now))) result }
 {
     match atom(lexeme) {
@@ -93,8 +93,8 @@ fn behind_atom(loose: Loose, tight: Tight, lexeme: &Lexeme) -> Made<AfterLexeme>
     }
 }
 
-fn at_operand_sign(alloc: Global, loose: Loose, tight: Tight, symbol: Symbol) -> Made<AfterLexeme>
-    ensures { Leads (λ opened. at_operand loose tight opened (Sign symbol)) result }
+fn at_operand_sign(alloc: Global, loose: Loose, tight: Tight, symbol: Symbol) -> Gained<AfterLexeme>
+    ensures { Sends (λ opened. at_operand loose tight opened (Sign symbol)) result }
 {
     match symbol {
         Symbol::Minus => minus(loose, tight),
@@ -112,8 +112,8 @@ fn at_operand_sign(alloc: Global, loose: Loose, tight: Tight, symbol: Symbol) ->
     }
 }
 
-fn minus(loose: Loose, tight: Tight) -> Made<AfterLexeme>
-    ensures { Leads (reading (AtOperand loose (record tight { minuses = suc tight.minuses })))
+fn minus(loose: Loose, tight: Tight) -> Gained<AfterLexeme>
+    ensures { Sends (reading (AtOperand loose (record tight { minuses = suc tight.minuses })))
         result }
 {
     match behind_minus(tight) {
@@ -126,8 +126,8 @@ fn minus(loose: Loose, tight: Tight) -> Made<AfterLexeme>
 }
 
 /// Where `not` may stand too.
-fn at_not(alloc: Global, loose: Loose, lexeme: &Lexeme) -> Made<AfterLexeme>
-    ensures { Leads (λ opened. at_not loose opened (plain_lexeme lexeme.now)) result }
+fn at_not(alloc: Global, loose: Loose, lexeme: &Lexeme) -> Gained<AfterLexeme>
+    ensures { Sends (λ opened. at_not loose opened (plain_lexeme lexeme.now)) result }
 {
     match lexeme {
         Lexeme::Reserved(ReservedWord::Not) => denial(loose),
@@ -135,8 +135,8 @@ fn at_not(alloc: Global, loose: Loose, lexeme: &Lexeme) -> Made<AfterLexeme>
     }
 }
 
-fn denial(loose: Loose) -> Made<AfterLexeme>
-    ensures { Leads (reading (AtNot (record loose { nots = suc loose.nots }))) result }
+fn denial(loose: Loose) -> Gained<AfterLexeme>
+    ensures { Sends (reading (AtNot (record loose { nots = suc loose.nots }))) result }
 {
     let loose = behind_not(loose)?;
     Ok(goes(Position::AtNot(loose)))
@@ -146,7 +146,7 @@ fn denial(loose: Loose) -> Made<AfterLexeme>
 
 /// It is no expression: what is pending is let go.
 fn fails(loose: Loose, tight: Tight, operand: Operand) -> AfterLexeme
-    ensures { Becomes (λ opened. None) result }
+    ensures { Arrives (λ opened. None) result }
 {
     forget(loose, tight);
     forget_operand(operand);
@@ -185,7 +185,7 @@ fn behind_infix(
     tight: Tight,
     operand: Operand,
     operator: Infix,
-) -> Made<Option<Tight>>
+) -> Gained<Option<Tight>>
     ensures { Makes (λ a. a) (behind_infix tight (plain_operand operand) (plain_infix operator))
         result }
 {
@@ -202,8 +202,8 @@ fn infixed(
     tight: Tight,
     operand: Operand,
     operator: Infix,
-) -> Made<AfterLexeme>
-    ensures { Leads (λ opened. option_and_then (λ pending. reading (AtOperand loose pending) opened)
+) -> Gained<AfterLexeme>
+    ensures { Sends (λ opened. option_and_then (λ pending. reading (AtOperand loose pending) opened)
         (behind_infix tight (plain_operand operand) (plain_infix operator))) result }
 {
     match behind_infix(alloc, tight, operand, operator) {
@@ -225,8 +225,8 @@ fn infixed_by(
     tight: Tight,
     operand: Operand,
     symbol: Symbol,
-) -> Made<AfterLexeme>
-    ensures { Leads (λ opened. option_and_then (λ pending. reading (AtOperand loose pending) opened)
+) -> Gained<AfterLexeme>
+    ensures { Sends (λ opened. option_and_then (λ pending. reading (AtOperand loose pending) opened)
         (option_and_then (behind_infix tight (plain_operand operand)) (infix_of symbol))) result }
 {
     match infix_of(symbol) {
@@ -241,8 +241,8 @@ fn at_symbol(
     tight: Tight,
     operand: Operand,
     symbol: Symbol,
-) -> Made<AfterLexeme>
-    ensures { Leads (λ opened. at_symbol loose tight (plain_operand operand) opened symbol) result }
+) -> Gained<AfterLexeme>
+    ensures { Sends (λ opened. at_symbol loose tight (plain_operand operand) opened symbol) result }
 {
     match symbol {
         Symbol::LeftBracket => Ok(opens(Bracket::Item(operand), loose, tight, at(Position::Start))),
@@ -256,8 +256,8 @@ fn behind_operand(
     tight: Tight,
     operand: Operand,
     lexeme: &Lexeme,
-) -> Made<AfterLexeme>
-    ensures { Leads (λ opened. behind_operand loose tight (plain_operand operand) opened
+) -> Gained<AfterLexeme>
+    ensures { Sends (λ opened. behind_operand loose tight (plain_operand operand) opened
         (plain_lexeme lexeme.now)) result }
 {
     match lexeme {
@@ -275,8 +275,8 @@ fn at_word(
     tight: Tight,
     operand: Operand,
     word: ReservedWord,
-) -> Made<AfterLexeme>
-    ensures { Leads (λ opened. behind_operand loose tight (plain_operand operand) opened
+) -> Gained<AfterLexeme>
+    ensures { Sends (λ opened. behind_operand loose tight (plain_operand operand) opened
         (Reserved word)) result }
 {
     match word {
@@ -286,15 +286,15 @@ fn at_word(
     }
 }
 
-fn disjunction(alloc: Global, loose: Loose, tight: Tight, operand: Operand) -> Made<AfterLexeme>
-    ensures { Leads (reading (AtNot (behind_or loose tight (plain_operand operand)))) result }
+fn disjunction(alloc: Global, loose: Loose, tight: Tight, operand: Operand) -> Gained<AfterLexeme>
+    ensures { Sends (reading (AtNot (behind_or loose tight (plain_operand operand)))) result }
 {
     let loose = behind_or(alloc, loose, tight, operand)?;
     Ok(goes(Position::AtNot(loose)))
 }
 
-fn conjunction(alloc: Global, loose: Loose, tight: Tight, operand: Operand) -> Made<AfterLexeme>
-    ensures { Leads (reading (AtNot (behind_and loose tight (plain_operand operand)))) result }
+fn conjunction(alloc: Global, loose: Loose, tight: Tight, operand: Operand) -> Gained<AfterLexeme>
+    ensures { Sends (reading (AtNot (behind_and loose tight (plain_operand operand)))) result }
 {
     let loose = behind_and(alloc, loose, tight, operand)?;
     Ok(goes(Position::AtNot(loose)))
@@ -317,8 +317,8 @@ fn behind_name(
     tight: Tight,
     name: RcStr,
     lexeme: &Lexeme,
-) -> Made<AfterLexeme>
-    ensures { Leads (λ opened. behind_name loose tight (rc_str_bytes name) opened
+) -> Gained<AfterLexeme>
+    ensures { Sends (λ opened. behind_name loose tight (rc_str_bytes name) opened
         (plain_lexeme lexeme.now)) result }
 {
     match lexeme {
@@ -328,7 +328,7 @@ fn behind_name(
 }
 
 fn called(alloc: Global, loose: Loose, tight: Tight, name: RcStr) -> AfterLexeme
-    ensures { Becomes (opening (Arguments (rc_str_bytes name) None []) loose tight
+    ensures { Arrives (opening (Arguments (rc_str_bytes name) None []) loose tight
         (first_argument (rc_str_bytes name))) result }
 {
     let progress = first_argument(name.as_str());
@@ -340,8 +340,8 @@ fn called(alloc: Global, loose: Loose, tight: Tight, name: RcStr) -> AfterLexeme
     )
 }
 
-fn at_kind(lexeme: &Lexeme) -> Made<AfterLexeme>
-    ensures { Leads (λ opened. at_kind opened (plain_lexeme lexeme.now)) result }
+fn at_kind(lexeme: &Lexeme) -> Gained<AfterLexeme>
+    ensures { Sends (λ opened. at_kind opened (plain_lexeme lexeme.now)) result }
 {
     match lexeme {
         Lexeme::Named(kind) => {
@@ -354,8 +354,8 @@ fn at_kind(lexeme: &Lexeme) -> Made<AfterLexeme>
 
 // ---- one lexeme more
 
-fn fed_within(alloc: Global, progress: TermProgress, lexeme: &Lexeme) -> Made<AfterLexeme>
-    ensures { Leads (λ opened. fed_within progress opened (plain_lexeme lexeme.now)) result }
+fn fed_within(alloc: Global, progress: TermProgress, lexeme: &Lexeme) -> Gained<AfterLexeme>
+    ensures { Sends (λ opened. fed_within progress opened (plain_lexeme lexeme.now)) result }
 {
     match progress.place() {
         Position::Start => at_not(alloc, no_loose(), lexeme),
@@ -371,8 +371,8 @@ fn fed_within(alloc: Global, progress: TermProgress, lexeme: &Lexeme) -> Made<Af
 }
 
 /// The brackets that are open are changed in place.
-fn apply(next: AfterLexeme, opened: &mut Vec<Open>) -> Made<Option<TermProgress>>
-    ensures { Comes opened.new.items (applied next (reverse opened.old.items)) result }
+fn apply(next: AfterLexeme, opened: &mut Vec<Open>) -> Gained<Option<TermProgress>>
+    ensures { Lands opened.new.items (applied next (reverse opened.old.items)) result }
 {
     match next {
         AfterLexeme::Goes(progress) => Ok(Some(progress)),
@@ -389,8 +389,8 @@ fn within(
     progress: TermProgress,
     opened: &mut Vec<Open>,
     lexeme: &Lexeme,
-) -> Made<Option<TermProgress>>
-    ensures { Comes opened.new.items (fed_within progress (reverse opened.old.items)
+) -> Gained<Option<TermProgress>>
+    ensures { Lands opened.new.items (fed_within progress (reverse opened.old.items)
         (plain_lexeme lexeme.now)) result }
 {
     let next = fed_within(alloc, progress, lexeme)?;
@@ -404,8 +404,8 @@ pub fn fed(
     progress: TermProgress,
     opened: &mut Vec<Open>,
     lexeme: &Lexeme,
-) -> Made<Option<TermProgress>>
-    ensures { Comes opened.new.items
+) -> Gained<Option<TermProgress>>
+    ensures { Lands opened.new.items
         (fed (record { progress = progress; opened = reverse opened.old.items })
         (plain_lexeme lexeme.now)) result }
 {

@@ -10,8 +10,8 @@ use script_term::{Comparison, Join, Operand, Operator, denied, joined, negated};
 use std::alloc::{AllocError, Global};
 use std::marker::Model;
 
-/// What is made, unless memory ran out.
-pub type Made<T> = Result<T, AllocError>;
+/// What is made of an operand, unless memory ran out.
+pub type Gained<T> = Result<T, AllocError>;
 
 /// The loose operators: what stands left of `or`, what stands left of `and` behind it, and how many
 /// `not` stand behind that.
@@ -81,7 +81,7 @@ pub fn no_tight() -> Tight
 
 // ---- what one level makes of its right operand
 
-fn with_nots(alloc: Global, nots: usize, operand: Operand) -> Made<Operand>
+fn with_nots(alloc: Global, nots: usize, operand: Operand) -> Gained<Operand>
     ensures { Makes plain_operand (with_nots nots (plain_operand operand)) result }
 {
     let mut made = operand;
@@ -91,7 +91,7 @@ fn with_nots(alloc: Global, nots: usize, operand: Operand) -> Made<Operand>
     Ok(made)
 }
 
-fn with_minuses(alloc: Global, minuses: usize, operand: Operand) -> Made<Operand>
+fn with_minuses(alloc: Global, minuses: usize, operand: Operand) -> Gained<Operand>
     ensures { Makes plain_operand (with_minuses minuses (plain_operand operand)) result }
 {
     let mut made = operand;
@@ -101,7 +101,7 @@ fn with_minuses(alloc: Global, minuses: usize, operand: Operand) -> Made<Operand
     Ok(made)
 }
 
-fn calculated(alloc: Global, left: Option<(Operator, Operand)>, right: Operand) -> Made<Operand>
+fn calculated(alloc: Global, left: Option<(Operator, Operand)>, right: Operand) -> Gained<Operand>
     ensures { Makes plain_operand (calculated (plain_left left) (plain_operand right)) result }
 {
     match left {
@@ -110,7 +110,7 @@ fn calculated(alloc: Global, left: Option<(Operator, Operand)>, right: Operand) 
     }
 }
 
-fn compared(alloc: Global, left: Option<(Comparison, Operand)>, right: Operand) -> Made<Operand>
+fn compared(alloc: Global, left: Option<(Comparison, Operand)>, right: Operand) -> Gained<Operand>
     ensures { Makes plain_operand (compared (plain_left left) (plain_operand right)) result }
 {
     match left {
@@ -119,7 +119,7 @@ fn compared(alloc: Global, left: Option<(Comparison, Operand)>, right: Operand) 
     }
 }
 
-fn and_of(alloc: Global, left: Option<Operand>, right: Operand) -> Made<Operand>
+fn and_of(alloc: Global, left: Option<Operand>, right: Operand) -> Gained<Operand>
     ensures { Makes plain_operand (and_of (option_map plain_operand left) (plain_operand right))
         result }
 {
@@ -129,7 +129,7 @@ fn and_of(alloc: Global, left: Option<Operand>, right: Operand) -> Made<Operand>
     }
 }
 
-fn or_of(alloc: Global, left: Option<Operand>, right: Operand) -> Made<Operand>
+fn or_of(alloc: Global, left: Option<Operand>, right: Operand) -> Gained<Operand>
     ensures { Makes plain_operand (or_of (option_map plain_operand left) (plain_operand right))
         result }
 {
@@ -146,7 +146,7 @@ fn product_of(
     left: Option<(Operator, Operand)>,
     minuses: usize,
     operand: Operand,
-) -> Made<Operand>
+) -> Gained<Operand>
     ensures { Makes plain_operand (calculated (plain_left left)
         (with_minuses minuses (plain_operand operand))) result }
 {
@@ -155,14 +155,14 @@ fn product_of(
 }
 
 /// Forgets what stands left of a comparison.
-fn sum_of(alloc: Global, tight: Tight, operand: Operand) -> Made<Operand>
+fn sum_of(alloc: Global, tight: Tight, operand: Operand) -> Gained<Operand>
     ensures { Makes plain_operand (sum_of tight (plain_operand operand)) result }
 {
     let product = product_of(alloc, tight.product_left, tight.minuses, operand)?;
     calculated(alloc, tight.sum_left, product)
 }
 
-fn comparison_of(alloc: Global, tight: Tight, operand: Operand) -> Made<Operand>
+fn comparison_of(alloc: Global, tight: Tight, operand: Operand) -> Gained<Operand>
     ensures { Makes plain_operand (comparison_of tight (plain_operand operand)) result }
 {
     let product = product_of(alloc, tight.product_left, tight.minuses, operand)?;
@@ -176,7 +176,7 @@ fn conjunction_of(
     nots: usize,
     tight: Tight,
     operand: Operand,
-) -> Made<Operand>
+) -> Gained<Operand>
     ensures { Makes plain_operand (and_of (option_map plain_operand left)
         (with_nots nots (comparison_of tight (plain_operand operand)))) result }
 {
@@ -186,7 +186,12 @@ fn conjunction_of(
 }
 
 /// What all levels make of the operand.
-pub fn disjunction_of(alloc: Global, loose: Loose, tight: Tight, operand: Operand) -> Made<Operand>
+pub fn disjunction_of(
+    alloc: Global,
+    loose: Loose,
+    tight: Tight,
+    operand: Operand,
+) -> Gained<Operand>
     ensures { Makes plain_operand (disjunction_of loose tight (plain_operand operand)) result }
 {
     let conjunction = conjunction_of(alloc, loose.and_left, loose.nots, tight, operand)?;
@@ -200,7 +205,7 @@ pub fn behind_product(
     tight: Tight,
     operator: Operator,
     operand: Operand,
-) -> Made<Tight>
+) -> Gained<Tight>
     ensures { Makes (λ a. a) (behind_product tight operator (plain_operand operand)) result }
 {
     let Tight {
@@ -218,7 +223,12 @@ pub fn behind_product(
     })
 }
 
-pub fn behind_sum(alloc: Global, tight: Tight, operator: Operator, operand: Operand) -> Made<Tight>
+pub fn behind_sum(
+    alloc: Global,
+    tight: Tight,
+    operator: Operator,
+    operand: Operand,
+) -> Gained<Tight>
     ensures { Makes (λ a. a) (behind_sum tight operator (plain_operand operand)) result }
 {
     let Tight {
@@ -243,7 +253,7 @@ pub fn behind_compared(
     tight: Tight,
     comparison: Comparison,
     operand: Operand,
-) -> Made<Option<Tight>>
+) -> Gained<Option<Tight>>
     ensures { Makes (λ a. a) (behind_compared tight.compare_left tight comparison
         (plain_operand operand)) result }
 {
@@ -258,7 +268,7 @@ fn behind_comparison(
     tight: Tight,
     comparison: Comparison,
     operand: Operand,
-) -> Made<Tight>
+) -> Gained<Tight>
     ensures { Makes (λ a. a) (behind_comparison tight comparison (plain_operand operand)) result }
 {
     let left = sum_of(alloc, tight, operand)?;
@@ -270,7 +280,7 @@ fn behind_comparison(
     })
 }
 
-pub fn behind_and(alloc: Global, loose: Loose, tight: Tight, operand: Operand) -> Made<Loose>
+pub fn behind_and(alloc: Global, loose: Loose, tight: Tight, operand: Operand) -> Gained<Loose>
     ensures { Makes (λ a. a) (behind_and loose tight (plain_operand operand)) result }
 {
     let Loose {
@@ -286,7 +296,7 @@ pub fn behind_and(alloc: Global, loose: Loose, tight: Tight, operand: Operand) -
     })
 }
 
-pub fn behind_or(alloc: Global, loose: Loose, tight: Tight, operand: Operand) -> Made<Loose>
+pub fn behind_or(alloc: Global, loose: Loose, tight: Tight, operand: Operand) -> Gained<Loose>
     ensures { Makes (λ a. a) (behind_or loose tight (plain_operand operand)) result }
 {
     let left = disjunction_of(alloc, loose, tight, operand)?;
@@ -298,7 +308,7 @@ pub fn behind_or(alloc: Global, loose: Loose, tight: Tight, operand: Operand) ->
 }
 
 /// One `not` more.
-pub fn behind_not(loose: Loose) -> Made<Loose>
+pub fn behind_not(loose: Loose) -> Gained<Loose>
     ensures { Makes (λ a. a) (record loose { nots = suc loose.nots }) result }
 {
     let mut loose = loose;
@@ -307,7 +317,7 @@ pub fn behind_not(loose: Loose) -> Made<Loose>
 }
 
 /// One unary `-` more.
-pub fn behind_minus(tight: Tight) -> Made<Tight>
+pub fn behind_minus(tight: Tight) -> Gained<Tight>
     ensures { Makes (λ a. a) (record tight { minuses = suc tight.minuses }) result }
 {
     let mut tight = tight;
@@ -316,7 +326,7 @@ pub fn behind_minus(tight: Tight) -> Made<Tight>
 }
 
 /// No memory holds as many lexemes as would take the count to its type's end.
-fn one_more(count: usize) -> Made<usize>
+fn one_more(count: usize) -> Gained<usize>
     ensures { Makes (λ a. a) (suc count) result }
 {
     count.checked_add(1).ok_or(AllocError)

@@ -3,7 +3,7 @@
 ghost use Rattle.std.specs.Prelude.{◌≡◌};
 ghost use Rattle.law_reading.specs.Reader.{reading};
 ghost use Rattle.law_reading.specs.Feeding.{opening};
-ghost use Rattle.script_term_reader.specs.Next.{Becomes};
+ghost use Rattle.script_term_reader.specs.Next.{Arrives};
 ghost use Rattle.script_term_reader.specs.Reader.{plain_bracket, plain_progress};
 
 use crate::pending::{Loose, Tight};
@@ -99,14 +99,14 @@ pub fn at(place: Position) -> TermProgress
 
 /// The expression goes on.
 pub fn goes(place: Position) -> AfterLexeme
-    ensures { Becomes (reading (plain_progress place)) result }
+    ensures { Arrives (reading (plain_progress place)) result }
 {
     AfterLexeme::Goes(at(place))
 }
 
 /// A bracket opens before what is pending.
 pub fn opens(bracket: Bracket, loose: Loose, tight: Tight, progress: TermProgress) -> AfterLexeme
-    ensures { Becomes (opening (plain_bracket bracket) loose tight progress) result }
+    ensures { Arrives (opening (plain_bracket bracket) loose tight progress) result }
 {
     AfterLexeme::Opens(before(bracket, loose, tight), progress)
 }
