@@ -10,12 +10,13 @@ use Rattle.model_value.specs.declared.request.Request.TheVariants as request
 use Rattle.model_tree.specs.Syntax.{Program}
 use Rattle.model_says.specs.Says.{course}
 use Rattle.model_wire.specs.Journal.{Entry}
+use Rattle.model_loop.specs.Owning.{is_main_done}
 use Rattle.model_loop.specs.Tasks.{future_of, lives, next_task}
 use Rattle.model_loop.specs.Totals.{callbacks_of}
 use Rattle.model_loop.specs.Futures.{future_outcome}
 use Rattle.model_machine.specs.Extra.{Extra}
 use Rattle.model_machine.specs.Sound.{AreBlocksOf, AreTasksMade, IsAsking, IsMainTold, IsStateSound, IsUnbegun}
-use Rattle.model_machine.specs.Sound.{StandsRightly, blocks_of, exchanges_of, is_main_done, names_block, names_made, sends_made}
+use Rattle.model_machine.specs.Sound.{StandsRightly, blocks_of, exchanges_of, names_block, names_made, sends_made}
 use Rattle.model_machine.specs.State.{State, generator_of, start}
 use Rattle.law_sound.proofs.Beginning.{first_sound}
 

@@ -17,6 +17,7 @@ use Rattle.model_loop.specs.Deadlines.{fires}
 use Rattle.model_loop.specs.Futures.{future_outcome, settle}
 use Rattle.model_loop.specs.Groups.{child_done}
 use Rattle.model_loop.specs.Loop.{TimeoutState, Created, Active, Expiring, Expired, Finished, in_parts}
+use Rattle.model_loop.specs.Owning.{is_main_done}
 use Rattle.model_loop.specs.Parts.{Handle}
 use Rattle.model_loop.specs.Tasks.{next_task, waiter_of}
 use Rattle.model_loop.specs.Timeouts.{fire, is_active, timeout_of}
@@ -24,7 +25,7 @@ use Rattle.model_loop.specs.Ways.{steps}
 use Rattle.model_machine.specs.Extra.{Extra}
 use Rattle.model_machine.specs.Outcomes.{input_of, woken_with}
 use Rattle.model_machine.specs.Replies.{RequestReply, Answers, Raises, Rests, Halts, reply}
-use Rattle.model_machine.specs.Sound.{IsStateSound, is_main_done, is_open, names_made, sends_made}
+use Rattle.model_machine.specs.Sound.{IsStateSound, is_open, names_made, sends_made}
 use Rattle.model_machine.specs.State.{State, generator_of, noted, unbooked_in}
 use Rattle.model_machine.specs.Step.{most_answers, says_of, serve, serve_all, served, step, taken_as}
 use Rattle.model_machine.specs.Told.{told_by, told_in}

@@ -19,6 +19,7 @@ use Rattle.model_loop.specs.Ending.{cancel_everything}
 use Rattle.model_loop.specs.Handles.{due, soon, soon_all}
 use Rattle.model_loop.specs.Ledger.{ByEnd, request_each}
 use Rattle.model_loop.specs.Loop.{in_parts}
+use Rattle.model_loop.specs.Owning.{is_main_done}
 use Rattle.model_loop.specs.Parts.{Handle, Parts}
 use Rattle.model_loop.specs.Sound.{IsSound}
 use Rattle.model_loop.specs.Tasks.{next_task}
@@ -27,7 +28,7 @@ use Rattle.model_machine.specs.Extra.{Extra}
 use Rattle.model_machine.specs.Mids.{mids, mids_below, mids_by, mids_fitted, mids_if, mids_unless, next_mids, then_mids}
 use Rattle.model_machine.specs.Outcomes.{finished_as}
 use Rattle.model_machine.specs.Outside.{actions_of, items_of, news_of, ready_actions, time_of}
-use Rattle.model_machine.specs.Sound.{IsStateSound, is_main_done, names_made}
+use Rattle.model_machine.specs.Sound.{IsStateSound, names_made}
 use Rattle.model_machine.specs.State.{State, in_loop, noted, unbooked_in}
 use Rattle.model_machine.specs.Told.{told_by, told_in}
 use Rattle.model_machine.specs.Turn.{at_time, call_of, cancelled_if, finished_if, is_stalled, next_below, run_below, run_first, run_if, run_pending, turn}

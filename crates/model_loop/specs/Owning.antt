@@ -38,6 +38,10 @@ is_callback MainDone = true
 is_callback (Extra key) = true
 is_callback _ = false
 
+abbrev pub is_main_done : Action → Bool
+is_main_done MainDone = true
+is_main_done _ = false
+
 abbrev pub is_no_callback : Action → Bool
 is_no_callback action = not (is_callback action)
 

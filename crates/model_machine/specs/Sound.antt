@@ -2,7 +2,7 @@
 -- says that it does.
 use Rattle.std.specs.Prelude.{◌≡◌, ℕ, ◌<◌, Bool, true, false, not, ◌&&◌, ◌==◌, List, [], ◌∷◌, Some, None, length, nat_lt, slice_get}
 use Rattle.std.specs.List.{count_by, list_all, list_any}
-use Rattle.model_value.specs.declared.action.Action.TheVariants.{MainDone, SleepDone, Step}
+use Rattle.model_value.specs.declared.action.Action.TheVariants.{SleepDone, Step}
 use Rattle.model_value.specs.declared.input.Input.TheVariants.{Send, Throw}
 use Rattle.model_value.specs.declared.outcome.Outcome.TheVariants.{Value as Returned}
 use Rattle.model_value.specs.declared.request.Request.TheVariants as request
@@ -17,6 +17,7 @@ use Rattle.model_says.specs.Says.{exchanges_along, step_limit}
 use Rattle.model_loop.specs.Futures.{future_outcome, next_future}
 use Rattle.model_loop.specs.Groups.{group_of}
 use Rattle.model_loop.specs.Loop.{Loop, TimeoutState, Active, Expiring}
+use Rattle.model_loop.specs.Owning.{is_main_done}
 use Rattle.model_loop.specs.Parts.{Future, Handle, Parts, Plain, Timer}
 use Rattle.model_loop.specs.Sound.{IsSound}
 use Rattle.model_loop.specs.Tasks.{future_of, lives, next_task}
@@ -51,10 +52,6 @@ pub record IsAsking {S : Type 0} (added : Extra S) (s : State S) (task : ℕ) : 
   pub asked : Request
   pub says : says_of step_limit added task s ≡ Asks asked
   pub stands : stands_at (generator_of task s).standing asked ≡ true
-
-abbrev pub is_main_done : Action → Bool
-is_main_done MainDone = true
-is_main_done _ = false
 
 -- what is called when main is done is registered on main's future alone, and pending only then
 pub record IsMainTold (p : Parts) : Type 0 where

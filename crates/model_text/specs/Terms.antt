@@ -25,10 +25,6 @@ mutual
     no_terms : Terms
     term_then : (first : Term) (others : Terms) → Terms
 
-abbrev pub terms_of : Terms → List Term
-terms_of no_terms = []
-terms_of (term_then first others) = first ∷ terms_of others
-
 abbrev pub terms : List Term → Terms
 terms [] = no_terms
 terms (first ∷ others) = term_then first (terms others)

@@ -132,11 +132,6 @@ pub record Handler : Type 0 where
   pub name : Option Name
   pub body : Statements
 
-abbrev pub handlers_of : Handlers → List Handler
-handlers_of no_handlers = []
-handlers_of (handler_then kind name body others) =
-    record { kind = kind; name = name; body = body } ∷ handlers_of others
-
 abbrev pub handlers : List Handler → Handlers
 handlers [] = no_handlers
 handlers (first ∷ others) = handler_then first.kind first.name first.body (handlers others)

@@ -55,9 +55,6 @@ same_kind = sameb the_type
 abbrev pub matches : (k e : Kind) → Bool
 matches k e = list_any (λ ancestor. same_kind ancestor k) (lineage e)
 
-abbrev pub Matches : (k e : Kind) → Type 0
-Matches k e = matches k e ≡ true
-
 abbrev pub kind_name : Kind → List ℕ
 kind_name BaseException = codes "BaseException"
 kind_name CancelledError = codes "CancelledError"

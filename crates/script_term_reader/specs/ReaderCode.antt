@@ -6,7 +6,7 @@ use Rattle.model_tree.specs.Syntax.{Name}
 use Rattle.law_reading.specs.Operands.{Operand, TooHigh}
 use Rattle.law_reading.specs.Pending.{Loose, Tight, no_loose, no_tight}
 use Rattle.law_reading.specs.Reader.{Bracket, Group, Item, Items, Arguments, Open, TermProgress, Start, AtNot, AtOperand, BehindName, BehindOperand, AtKind}
-use Rattle.law_reading.specs.Reader.{BehindKind, TermReader}
+use Rattle.law_reading.specs.Reader.{BehindKind}
 use Rattle.script_term_reader.specs.PendingCode.{coded_operand, coded_loose, coded_tight}
 
 abbrev coded_name : Coded Name
@@ -76,9 +76,3 @@ coded_open =
     (λ parts. record { bracket = parts.0; loose = parts.1.0; tight = parts.1.1 })
     (λ _. refl)
 
-abbrev pub coded_reader : Coded TermReader
-coded_reader =
-    code_by (TermProgress × List Open) (coded× coded_progress (coded_list coded_open))
-    (λ reader. (reader.progress, reader.opened))
-    (λ parts. record { progress = parts.0; opened = parts.1 })
-    (λ _. refl)
