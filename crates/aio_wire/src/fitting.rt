@@ -80,7 +80,9 @@ fn each_is_awaited(watch: &[Watch], items: &[Item]) -> bool
     items.iter().all(|item| is_awaited(watch, item))
 }
 
-fn is_awaited(watch: &[Watch], item: &Item) -> bool
+/// Whether an item of a turn is one that these watch entries await, and no piece in it is empty or over
+/// 65,536 bytes.
+pub fn is_awaited(watch: &[Watch], item: &Item) -> bool
     ensures { result ≡ is_awaited watch.now item.now }
 {
     is_watched(watch, item) && is_sized(item)
@@ -184,7 +186,9 @@ fn news_interest(item: &ChildItem) -> Interest
     }
 }
 
-fn clashes(first: &Item, second: &Item) -> bool
+/// Whether two items are news of the same kind of one connection, listener or child: an answer of a turn
+/// holds one of them at most.
+pub fn clashes(first: &Item, second: &Item) -> bool
     ensures { result ≡ clashes first.now second.now }
 {
     let Some((interest, id)) = interest_of(first) else {
@@ -248,7 +252,8 @@ fn bytes_of(items: &[Item]) -> u64
     total
 }
 
-fn bytes_in(item: &Item) -> u64
+/// How many bytes an item brings. The items of one turn bring 262,144 at most.
+pub fn bytes_in(item: &Item) -> u64
     ensures { result ≡ bytes_in item.now }
 {
     match item {

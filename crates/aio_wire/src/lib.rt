@@ -22,7 +22,7 @@ pub use aio_base::ChildItem;
 pub use call::{Answer, Call};
 pub use copying::{copy_of_answer, copy_of_call};
 pub use event::{Event, Events};
-pub use fitting::fits;
+pub use fitting::{bytes_in, clashes, fits, is_awaited};
 pub use lists::{Item, ItemList, Watch, WatchList, WordList};
 pub use mem_shelf::MemShelf;
 pub use mem_sink::MemSink;
