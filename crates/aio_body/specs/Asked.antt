@@ -5,6 +5,7 @@ use Rattle.model_says.specs.Endings.{Asks}
 use Rattle.model_says.specs.Says.{step_limit}
 use Rattle.model_machine.specs.Replies as plain
 use Rattle.model_machine.specs.Replies.{reply}
+use Rattle.model_machine.specs.Sound.{IsLeft}
 use Rattle.model_machine.specs.State as standing
 use Rattle.model_machine.specs.State.{State}
 use Rattle.model_machine.specs.Step.{says_of}
@@ -14,7 +15,7 @@ use Rattle.aio_body.specs.declared.body.Body.{Body}
 use Rattle.aio_body.specs.declared.reply.RequestReply.{RequestReply}
 use Rattle.aio_body.specs.declared.reply.RequestReply.TheVariants.{Answers, Raises, Rests}
 use Rattle.aio_body.specs.Stands.{Setting, Stands}
-use Rattle.law_inside.specs.InStep.{IsAsked, IsLeft, IsStepSound}
+use Rattle.law_inside.specs.InStep.{IsAsked, IsStepSound}
 
 -- a task's step goes on, and its coroutine is taken out
 pub record IsInStep {X : Type 0} {a : Added X} (task : ℕ) (c : Setting a) (body : Body X) (s : State a.Kept) : Type 0 where

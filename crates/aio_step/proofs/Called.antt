@@ -5,11 +5,11 @@ use Rattle.model_value.specs.Value.{Nothing}
 use Rattle.model_value.specs.declared.input.Input.TheVariants.{Send}
 use Rattle.model_loop.specs.Tasks.{lives, next_task}
 use Rattle.model_machine.specs.Replies.{decides}
-use Rattle.model_machine.specs.Sound.{IsAsking, sends_made}
+use Rattle.model_machine.specs.Sound.{IsAsking, IsLeft, sends_made}
 use Rattle.model_machine.specs.State as plain
 use Rattle.model_machine.specs.State.{State, generator_of}
 use Rattle.law_cancel.proofs.Lookups.{get_within}
-use Rattle.law_inside.specs.InStep.{IsAsked, IsLeft, RepliesInStep}
+use Rattle.law_inside.specs.InStep.{IsAsked, RepliesInStep}
 use Rattle.law_runs.proofs.Beginning.{begins_in, begun_asked, stepped_lives}
 use Rattle.law_steps.proofs.Waiting.{task_there}
 use Rattle.aio_extra.specs.Added.{Added}
@@ -44,7 +44,7 @@ module _ {X : Type 0} {a : Added X} (task : ℕ) (c : Setting a) (body : Body X)
 
   -- ---- what its coroutine asked
   pub called_asking : IsAsking a.meaning h.before task
-  called_asking = h.sound.tasks.asking task lived
+  called_asking = h.sound.asking task lived refl
 
   pub called_asked : (input : Input) → IsAsked a.meaning task (generator_of task s).standing called_asking.asked (begun_in task input s)
   called_asked input =
@@ -55,7 +55,7 @@ module _ {X : Type 0} {a : Added X} (task : ℕ) (c : Setting a) (body : Body X)
   pub called_leaving : (input : Input) (id : ℕ) → (generator_of task s).standing ≡ plain.Leaving id → IsLeft (begun_in task input s) id
   called_leaving input =
       subst (λ (x : State a.Kept). (id : ℕ) → (generator_of task x).standing ≡ plain.Leaving id → IsLeft (begun_in task input x) id) (sym h.after)
-      (h.sound.standing task lived).leaving_now
+      (h.sound.standing task lived refl).leaving_now
 
   same_count : length body.slots.items ≡ next_task h.before.loop.parts
   same_count = h.stands.made ∙ ap (λ (x : State a.Kept). next_task x.loop.parts) h.after

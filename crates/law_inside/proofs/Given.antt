@@ -18,7 +18,7 @@ use Rattle.model_loop.specs.Tasks.{lives, next_task}
 use Rattle.model_loop.specs.Ways.{is_running}
 use Rattle.model_machine.specs.Extra.{Extra}
 use Rattle.model_machine.specs.Outcomes.{input_of}
-use Rattle.model_machine.specs.Sound.{AreScriptsFutures, IsAsking, IsUnbegun, StandsRightly, all_made, blocks_of, names_block, names_made}
+use Rattle.model_machine.specs.Sound.{AreScriptsFutures, IsAsking, IsLeft, IsUnbegun, StandsRightly, all_made, blocks_of, names_block, names_made}
 use Rattle.model_machine.specs.Sound.{sends_made, stands_at}
 use Rattle.model_machine.specs.State.{Asked, Sleeping, Leaving, Generator, State, generator, generator_of, with_coroutine}
 use Rattle.model_machine.specs.Step.{says_of}
@@ -27,7 +27,7 @@ use Rattle.model_loop.specs.Sound.{IsSound}
 use Rattle.law_blocks.specs.Given.{AllOf, IsIn, IsClosed, InInput, InTape, InSaying}
 use Rattle.law_blocks.proofs.Growing.{said_of_given}
 use Rattle.law_after.specs.After.{IsLoopAfter}
-use Rattle.law_inside.specs.InStep.{IsLeft, SameTapes}
+use Rattle.law_inside.specs.InStep.{SameTapes}
 use Rattle.law_inside.proofs.Counts.{and_first, and_second, and_both, lives_within, lives_before, unbegun_kept}
 use Rattle.law_inside.proofs.Keeping.{IsApart, asking_kept, standing_kept}
 use Rattle.law_inside.proofs.Tapes.{added_same, added_last, added_past, past_none, blocks_before, exchanges_before}

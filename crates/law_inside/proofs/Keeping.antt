@@ -19,13 +19,13 @@ use Rattle.model_loop.specs.Sound.{IsSound}
 use Rattle.model_loop.specs.Tasks.{lives, next_task}
 use Rattle.model_loop.specs.Ways.{is_running}
 use Rattle.model_machine.specs.Extra.{Extra}
-use Rattle.model_machine.specs.Sound.{AreBlocksOpen, AreScriptsFutures, IsAsking, IsStateSound, IsUnbegun}
+use Rattle.model_machine.specs.Sound.{AreBlocksOpen, AreScriptsFutures, IsAsking, IsLeft, IsSoundBut, IsSoundOver, IsStateSound, IsUnbegun}
 use Rattle.model_machine.specs.Sound.{StandsRightly, blocks_of, exchanges_of, names_block, names_made, sends_made, stands_at}
 use Rattle.model_machine.specs.State.{Standing, Asked, Leaving, Generator, State, generator, generator_of, resumed, stands}
 use Rattle.model_machine.specs.Step.{says_of}
 use Rattle.model_machine.specs.Told.{told_in}
 use Rattle.law_after.specs.After.{IsAfter, IsLoopAfter}
-use Rattle.law_inside.specs.InStep.{IsLeft, IsSoundBut, IsSoundOver, SameTapes}
+use Rattle.law_inside.specs.InStep.{SameTapes}
 use Rattle.law_inside.proofs.Blocks.{AreOpenAt}
 use Rattle.law_inside.proofs.Counts.{and_first, and_second, and_both, not_true, not_false, lives_within, lives_before, unbegun_kept, sleep_kept, plain_of}
 use Rattle.law_inside.proofs.Counts.{of_plain}
@@ -63,45 +63,12 @@ module _ {S : Type 0} (added : Extra S) (running excused : Option ℕ) (s : Stat
   pub with_open : IsApart running excused added s → AreOpenAt s.loop (blocks_of s) → IsSoundBut running excused added s
   with_open is at = with_blocks is (record { timeouts = at.timeouts; groups = at.groups; entered = is.blocks; own = at.own })
 
--- a whole state, and one but for nobody
 module _ {S : Type 0} (added : Extra S) (s : State S) where
-  pub but_none : IsStateSound added s → IsSoundBut None None added s
-  but_none is = record {
-    loop = is.loop;
-    generators = is.tasks.generators;
-    asking = λ task l f. is.tasks.asking task l;
-    unbegun = λ task l f e. is.tasks.unbegun task l e;
-    main_over = is.tasks.main_over;
-    main_told = is.tasks.main_told;
-    standing = λ task l f. is.standing task l;
-    exits = λ id e f. is.exits id e;
-    blocks = is.blocks;
-    futures = is.futures;
-    made = is.made;
-  }
-
-  pub whole : IsSoundBut None None added s → IsStateSound added s
-  whole is = record {
-    loop = is.loop;
-    tasks = record {
-      generators = is.generators;
-      asking = λ task l. is.asking task l refl;
-      unbegun = λ task l e. is.unbegun task l refl e;
-      main_over = is.main_over;
-      main_told = is.main_told;
-    };
-    standing = λ task l. is.standing task l refl;
-    exits = λ id e. is.exits id e refl;
-    blocks = is.blocks;
-    futures = is.futures;
-    made = is.made;
-  }
-
   -- the excused task asks and stands rightly too
   pub joined : (task : ℕ) → IsSoundBut None (Some task) added s → (lives s.loop.parts task ≡ true → IsAsking added s task)
       → ((generator_of task s).tape ≡ [] → ⊥) → (lives s.loop.parts task ≡ true → StandsRightly s task)
       → ((id : ℕ) → IsLeft s id → task ≡ (group_of s.loop id).parent → (generator_of task s).standing ≡ Leaving id) → IsStateSound added s
-  joined task is asks begun stands_ left = whole (record {
+  joined task is asks begun stands_ left = record {
     loop = is.loop;
     generators = is.generators;
     asking = λ other l f. asking other l (cases_eq task other);
@@ -113,7 +80,7 @@ module _ {S : Type 0} (added : Extra S) (s : State S) where
     blocks = is.blocks;
     futures = is.futures;
     made = is.made;
-  })
+  }
     where
       asking : (other : ℕ) → lives s.loop.parts other ≡ true → (task ≡ other) ⊎ (task ≡ other → ⊥) → IsAsking added s other
       asking other l (inl same) = subst (λ k. lives s.loop.parts k ≡ true → IsAsking added s k) same asks l

@@ -11,20 +11,19 @@ use Rattle.law_after.specs.After.{IsLoopAfter}
 use Rattle.law_inside.specs.InStep.{SameTapes}
 use Rattle.law_inside.proofs.Blocks.{open_kept}
 use Rattle.law_inside.proofs.Counts.{lives_before}
-use Rattle.law_inside.proofs.Keeping.{apart_of, but_none, open_of, with_open, whole, tapes_blocks, futures_kept, loop_keeps, stays_stood, leaves_none}
+use Rattle.law_inside.proofs.Keeping.{apart_of, open_of, with_open, tapes_blocks, futures_kept, loop_keeps, stays_stood, leaves_none}
 
 module _ {S : Type 0} (added : Extra S) (s : State S) (sound : IsStateSound added s) where
   pub nobody : (t : State S) → SameTapes s t → t.futures ≡ s.futures → (t.main_done ≡ true → lives t.loop.parts 0 ≡ false)
       → IsLoopAfter (names_made (next_task s.loop.parts)) false None None None None s.loop t.loop → HasSoundLoop t → IsStateSound added t
   nobody t tapes futures over a loop =
-      whole added t
-      (with_open added None None t
+      with_open added None None t
       (loop_keeps added s t tapes None None None None a.parts (a.parts.same refl) loop (λ other f. f) over
       (stays_stood added s t tapes None None None None _ _ None None None a (λ other id f e r. refl))
       (leaves_none added s t tapes None None None None _ _ None None None a (λ id f. (refl, refl)))
-      (futures_kept s t futures (λ id h. a.parts.plain id h) sound.futures) (apart_of added None None s (but_none added s sound)))
+      (futures_kept s t futures (λ id h. a.parts.plain id h) sound.futures) (apart_of added None None s sound))
       (open_kept _ _ None None s.loop t.loop (blocks_of s) (blocks_of t) a (tapes_blocks added s t tapes None None None None)
-      (open_of added None None s sound.blocks)))
+      (open_of added None None s sound.blocks))
 
   pub over_as : (l : Loop) → IsLoopAfter (names_made (next_task s.loop.parts)) false None None None None s.loop l → s.main_done ≡ true
       → lives l.parts 0 ≡ false
@@ -33,5 +32,5 @@ module _ {S : Type 0} (added : Extra S) (s : State S) (sound : IsStateSound adde
       at : (b : Bool) → lives l.parts 0 ≡ b → lives l.parts 0 ≡ false
       at false e = e
       at true e =
-          absurd (false≢true (sym (sound.tasks.main_over done)
-          ∙ lives_before _ _ None s.loop.parts l.parts a.parts sound.loop.parts.owns 0 sound.tasks.main_told.made e))
+          absurd (false≢true (sym (sound.main_over done)
+          ∙ lives_before _ _ None s.loop.parts l.parts a.parts sound.loop.parts.owns 0 sound.main_told.made e))

@@ -1,47 +1,19 @@
 -- A sound state inside a step of a task: the same as between two callbacks, but for the task that runs.
-use Rattle.std.specs.Prelude.{◌≡◌, ℕ, zero, suc, Bool, true, false, not, ◌&&◌, List, [], ◌∷◌, Option, Some, length}
+use Rattle.std.specs.Prelude.{◌≡◌, ℕ, zero, suc, Bool, true, false, List, [], ◌∷◌, Some}
 use Rattle.model_value.specs.declared.input.Input.TheVariants.{Send, Throw}
 use Rattle.model_value.specs.declared.request.Request.TheVariants as request
 use Rattle.model_value.specs.Request.{Request}
 use Rattle.model_says.specs.Endings.{Asks}
 use Rattle.model_says.specs.Says.{step_limit}
 use Rattle.model_loop.specs.Groups.{group_of}
-use Rattle.model_loop.specs.Sound.{IsSound}
-use Rattle.model_loop.specs.Tasks.{lives, next_task}
-use Rattle.model_loop.specs.Ways.{is_running}
 use Rattle.model_machine.specs.Extra.{Extra}
 use Rattle.model_machine.specs.Mids.{mids}
 use Rattle.model_machine.specs.Replies.{RequestReply, Answers, Raises, Rests, Halts}
-use Rattle.model_machine.specs.Sound.{AreBlocksOpen, AreScriptsFutures, AreTasksMade, IsAsking, IsMainTold, IsStateSound, IsUnbegun, StandsRightly}
+use Rattle.model_machine.specs.Sound.{IsLeft, IsSoundBut, IsStateSound}
 use Rattle.model_machine.specs.State.{Standing, Asked, Leaving, State, generator_of, resumed}
 use Rattle.model_machine.specs.Step.{says_of}
-use Rattle.model_machine.specs.Told.{told_in}
 use Rattle.model_machine.specs.Turn.{turn}
 use Rattle.model_machine.specs.Went.{Went, Goes, Stops}
-
--- a group whose exit has begun and hasn't ended
-abbrev pub IsLeft : {S : Type 0} → State S → (group : ℕ) → Type 0
-IsLeft s id = ((group_of s.loop id).exiting && not (group_of s.loop id).ended) ≡ true
-
--- A state that is sound while this task runs, but for what the excused task asks and stands at. Of its blocks it says `Blocks`.
-pub record IsSoundOver {S : Type 0} (Blocks : Type 0) (running excused : Option ℕ) (added : Extra S) (s : State S) : Type 0 where
-  pub loop : IsSound running (told_in s.events) s.loop
-  pub generators : length s.generators ≡ next_task s.loop.parts
-  pub asking : (task : ℕ) → lives s.loop.parts task ≡ true → is_running excused task ≡ false → IsAsking added s task
-  pub unbegun : (task : ℕ) → lives s.loop.parts task ≡ true → is_running excused task ≡ false → (generator_of task s).tape ≡ []
-      → IsUnbegun s.loop.parts task
-  pub main_over : s.main_done ≡ true → lives s.loop.parts 0 ≡ false
-  pub main_told : IsMainTold s.loop.parts
-  pub standing : (task : ℕ) → lives s.loop.parts task ≡ true → is_running excused task ≡ false → StandsRightly s task
-  pub exits : (id : ℕ) → IsLeft s id → is_running excused (group_of s.loop id).parent ≡ false
-      → (generator_of (group_of s.loop id).parent s).standing ≡ Leaving id
-  pub blocks : Blocks
-  pub futures : AreScriptsFutures s
-  pub made : AreTasksMade s
-
--- all of its blocks
-abbrev pub IsSoundBut : {S : Type 0} → (running excused : Option ℕ) → Extra S → State S → Type 0
-IsSoundBut running excused added s = IsSoundOver (AreBlocksOpen s) running excused added s
 
 -- Inside a step of a task, whose coroutine was resumed. None of its groups is being left: that ends the step.
 pub record IsStepSound {S : Type 0} (added : Extra S) (task : ℕ) (s : State S) : Type 0 where

@@ -73,15 +73,13 @@ module _ {S : Type 0} (added : Extra S) (state : S) (program : Program) (answers
   pub begins_sound : IsStateSound added begun
   begins_sound = record {
     loop = first_sound;
-    tasks = record {
-      generators = refl;
-      asking = asking;
-      unbegun = λ task l e. unbegun task l;
-      main_over = λ e. absurd (false≢true e);
-      main_told = main_told;
-    };
-    standing = standing;
-    exits = λ id e. absurd (false≢true e);
+    generators = refl;
+    asking = λ task l f. asking task l;
+    unbegun = λ task l f e. unbegun task l;
+    main_over = λ e. absurd (false≢true e);
+    main_told = main_told;
+    standing = λ task l f. standing task l;
+    exits = λ id e f. absurd (false≢true e);
     blocks = record {
       timeouts = λ id h. absurd (omega (arith, h));
       groups = λ id h. absurd (omega (arith, h));

@@ -19,13 +19,14 @@ use Rattle.model_loop.specs.Ways.{is_running}
 use Rattle.model_machine.specs.Arguments.{as_awaited}
 use Rattle.model_machine.specs.Extra.{Extra}
 use Rattle.model_machine.specs.Sound.{AreScriptsFutures, IsStateSound, StandsRightly, blocks_of, names_block, names_made, sends_made, stands_at}
+use Rattle.model_machine.specs.Sound.{IsLeft}
 use Rattle.model_machine.specs.State.{Standing, Asked, Leaving, Generator, State, generator, generator_of, resumed, stands}
 use Rattle.model_machine.specs.Step.{says_of}
 use Rattle.law_turns.specs.Replied.{RunsSound, HasPlainFutures}
 use Rattle.law_turns.specs.SoundState.{HasSoundLoop}
 use Rattle.law_blocks.specs.Given.{InSaying}
 use Rattle.law_after.specs.After.{IsAfter, IsLoopAfter}
-use Rattle.law_inside.specs.InStep.{IsLeft, IsStepSound, IsAsked, SameTapes}
+use Rattle.law_inside.specs.InStep.{IsStepSound, IsAsked, SameTapes}
 use Rattle.law_inside.proofs.Blocks.{open_kept}
 use Rattle.law_inside.proofs.Counts.{get_there, and_first, and_second, and_both, lives_within, own_there, lives_before, of_plain}
 use Rattle.law_inside.proofs.Given.{Made, said_made, made_task, asked_sleeps, asked_leaves}

@@ -23,7 +23,7 @@ use Rattle.model_loop.specs.Timeouts.{enter_timeout, make_timeout, next_timeout}
 use Rattle.model_loop.specs.Totals.{pending_where}
 use Rattle.model_machine.specs.Extra.{Extra}
 use Rattle.model_machine.specs.Replies.{creates, creates_unless, spawns}
-use Rattle.model_machine.specs.Sound.{IsUnbegun, blocks_of, names_block, names_made}
+use Rattle.model_machine.specs.Sound.{IsLeft, IsUnbegun, blocks_of, names_block, names_made}
 use Rattle.model_machine.specs.State.{Asked, Generator, State, generator_of, in_loop, resumed, with_coroutine}
 use Rattle.model_machine.specs.Step.{says_of}
 use Rattle.model_machine.specs.Told.{told_in}
@@ -36,7 +36,7 @@ use Rattle.law_after.proofs.Parts.{refl_after}
 use Rattle.law_after.proofs.Made.{register_after, spawn_after}
 use Rattle.law_after.proofs.Loops.{parts_loop, create_loop}
 use Rattle.law_after.proofs.Deadlines.{schedule_loop}
-use Rattle.law_inside.specs.InStep.{IsLeft, IsStepSound, IsAsked, RepliesInStep}
+use Rattle.law_inside.specs.InStep.{IsStepSound, IsAsked, RepliesInStep}
 use Rattle.law_replies.proofs.Answering.{half, alive, within, left_before}
 use Rattle.law_inside.proofs.Blocks.{open_kept, timeout_made_open, group_entered_open, entered_new, entered_is, entered_old, groups_longer}
 use Rattle.law_inside.proofs.Counts.{and_first, count_unbegun, lives_before, lives_within}

@@ -20,7 +20,7 @@ use Rattle.model_loop.specs.Timeouts.{exit_timeout, timeout_fault, timeout_of}
 use Rattle.model_loop.specs.Ways.{is_running}
 use Rattle.model_machine.specs.Extra.{Extra}
 use Rattle.model_machine.specs.Replies.{exits_as, exits_timeout, timed_out_if, waits}
-use Rattle.model_machine.specs.Sound.{AreBlocksOf, IsStateSound, StandsRightly, blocks_of, is_open, names_made, names_block, sends_made}
+use Rattle.model_machine.specs.Sound.{AreBlocksOf, IsLeft, IsStateSound, StandsRightly, blocks_of, is_open, names_block, names_made, sends_made}
 use Rattle.model_machine.specs.State.{Standing, Asked, Sleeping, Leaving, State, generator_of, resumed, stands, with_loop}
 use Rattle.model_machine.specs.Step.{says_of}
 use Rattle.model_machine.specs.Told.{told_in}
@@ -31,7 +31,7 @@ use Rattle.law_after.proofs.Deadlines.{leave_loop, leave_closes}
 use Rattle.law_after.proofs.Exits.{ExitLeaves}
 use Rattle.law_after.proofs.Loops.{loop_on, book_loop}
 use Rattle.law_after.proofs.Requests.{suspend_after}
-use Rattle.law_inside.specs.InStep.{IsLeft, IsStepSound, IsAsked, RepliesInStep}
+use Rattle.law_inside.specs.InStep.{IsStepSound, IsAsked, RepliesInStep}
 use Rattle.law_replies.proofs.Answering.{half, within, left_before, rest_stood}
 use Rattle.law_inside.proofs.Blocks.{AreOpenAt, timeout_left_open, group_left_open}
 use Rattle.law_inside.proofs.Counts.{and_first, and_second, and_both, not_true, not_false, lives_before}

@@ -44,7 +44,7 @@ use Rattle.law_inside.proofs.Counts.{and_first, and_second, not_true, lives_befo
 use Rattle.law_replies.proofs.Exiting.{group_there, exits_in, leaving_is}
 use Rattle.law_inside.proofs.Given.{asked_leaves}
 use Rattle.law_replies.proofs.Innermost.{innermost_group}
-use Rattle.law_inside.proofs.Keeping.{IsApart, apart_of, but_none, open_of, with_open, futures_kept, loop_keeps, stays_stood}
+use Rattle.law_inside.proofs.Keeping.{IsApart, apart_of, open_of, with_open, futures_kept, loop_keeps, stays_stood}
 use Rattle.law_inside.proofs.Keeping.{leaves_none, stood_standing, stood_says, stood_blocks, stands_keeps}
 use Rattle.law_replies.proofs.Table.{same_tapes, sleeps_leaves}
 use Rattle.law_inside.proofs.Tapes.{past_default}
@@ -180,13 +180,13 @@ module _ {S : Type 0} (added : Extra S) (s : State S) (task : ℕ) (input : Inpu
           absurd (omega (arith, a, b, c, d))
 
   task_within : task < length s.generators
-  task_within = let w = lives_within s.loop.parts task stepped_lives in let c = sound.tasks.generators in omega (arith, w, c)
+  task_within = let w = lives_within s.loop.parts task stepped_lives in let c = sound.generators in omega (arith, w, c)
 
   -- ---- what a sleep's tag names
   sleep_named : (tag : ℕ) → (generator_of task s).standing ≡ Sleeping tag → (kind : ℕ → Action → Bool)
       → ((k : ℕ) (action : Action) → kind k action ≡ true → not (ends_sleep_of task action) ≡ true) → entries (of_tag tag kind) s.loop.parts ≡ 0
   sleep_named tag e kind harder =
-      let a = sleep_none s.loop.parts task tag ((sound.standing task stepped_lives).sleeping tag e) in
+      let a = sleep_none s.loop.parts task tag ((sound.standing task stepped_lives refl).sleeping tag e) in
       let b = entries-fewer (of_tag tag kind) (of_tag tag (no_sleep_of task)) s.loop.parts
       (λ k action h. both_true (k == tag) (kind k action) (not (ends_sleep_of task action)) (harder k action) h) in
       omega (arith, a, b)
@@ -230,7 +230,7 @@ module _ {S : Type 0} (added : Extra S) (s : State S) (task : ℕ) (input : Inpu
   standing_fit (Sleeping tag) e n =
       sleep_named tag e (λ k action. not (is_sleep_end action)) (λ k action h. no_end_no_sleep task action h)
   standing_fit (Leaving id) e n =
-      let now = (sound.standing task stepped_lives).leaving_now id e in
+      let now = (sound.standing task stepped_lives refl).leaving_now id e in
       let out = and_first (group_of s.loop id).exiting (not (group_of s.loop id).ended) now in (
         inside id out (cases_lt id (length s.loop.groups)),
         out,
@@ -254,8 +254,8 @@ module _ {S : Type 0} (added : Extra S) (s : State S) (task : ℕ) (input : Inpu
   -- ---- its coroutine asks as before
   over : s.main_done ≡ true → lives t.loop.parts 0 ≡ false
   over done =
-      false_from_ne_true (lives t.loop.parts 0) (λ e. false≢true (sym (sound.tasks.main_over done)
-      ∙ lives_before _ _ (Some task) s.loop.parts t.loop.parts moved_after.parts sound.loop.parts.owns 0 sound.tasks.main_told.made e))
+      false_from_ne_true (lives t.loop.parts 0) (λ e. false≢true (sym (sound.main_over done)
+      ∙ lives_before _ _ (Some task) s.loop.parts t.loop.parts moved_after.parts sound.loop.parts.owns 0 sound.main_told.made e))
 
   t_half : IsApart (Some task) (Some task) added t
   t_half =
@@ -265,7 +265,7 @@ module _ {S : Type 0} (added : Extra S) (s : State S) (task : ℕ) (input : Inpu
       (λ other id f e r. refl))
       (leaves_none added s t (record { program = refl; generators = refl }) None (Some task) None (Some task) _ _ None None None moved_after
       (λ id f. (refl, refl)))
-      (futures_kept s t refl (λ id h. moved_after.parts.plain id h) sound.futures) (apart_of added None None s (but_none added s sound))
+      (futures_kept s t refl (λ id h. moved_after.parts.plain id h) sound.futures) (apart_of added None None s sound)
 
   pub begun_asked : (asked : Request) → says_of step_limit added task s ≡ Asks asked → IsAsked added task (generator_of task s).standing asked begun
   begun_asked asked says = record {
@@ -276,7 +276,7 @@ module _ {S : Type 0} (added : Extra S) (s : State S) (task : ℕ) (input : Inpu
     says = stood_says added task Asked t task_within ∙ says;
     exits = λ id e its.
         ap (λ k. (generator_of k s).standing) its
-        ∙ sound.exits id (left_before s t _ _ (Some task) None None None moved_after id refl refl e);
+        ∙ sound.exits id (left_before s t _ _ (Some task) None None None moved_after id refl refl e) refl;
   }
 
   -- ---- and is answered
@@ -322,7 +322,8 @@ module _ {S : Type 0} (added : Extra S) (s : State S) (task : ℕ) (input : Inpu
         let a = exit_woken_loop (names_made (next_task begun.loop.parts)) refl false (Some task) None None id heard_ begun.loop in
         exits_in added task (generator_of task s).standing begun g.0 id is r.2.0 its None (λ gid x. absurd (false≢true x))
         (exit_woken heard_ id begun.loop).loop a
-        ((a.groups id).exiting (and_first (group_of s.loop id).exiting (not (group_of s.loop id).ended) ((sound.standing task stepped_lives).leaving_now id e)))
+        ((a.groups id).exiting
+        (and_first (group_of s.loop id).exiting (not (group_of s.loop id).ended) ((sound.standing task stepped_lives refl).leaving_now id e)))
         (λ gid x. leaving_is gid id (sym x ∙ e)) true (exit_woken heard_ id begun.loop).answer
         (λ x. not_pause (sym (pause_first added task begun x) ∙ is.says))
         (exit_woken_leaves (names_made (next_task begun.loop.parts)) refl false (Some task) None None id heard_ begun.loop there) h
@@ -348,4 +349,4 @@ module _ {S : Type 0} (added : Extra S) (s : State S) (task : ℕ) (input : Inpu
 
     pub begins_in : RepliesInStep added true task (decides added (generator_of task s).standing task (heard (generator_of task s).standing) begun)
     begins_in =
-        let a = sound.tasks.asking task stepped_lives in decided (generator_of task s).standing refl a.asked a.says a.stands
+        let a = sound.asking task stepped_lives refl in decided (generator_of task s).standing refl a.asked a.says a.stands

@@ -48,7 +48,7 @@ use Rattle.law_inside.specs.InStep.{IsStepSound, LeavesStateSound, RepliesInStep
 use Rattle.law_runs.proofs.Beginning.{begins_in}
 use Rattle.law_runs.proofs.Finishing.{returns_sound, raises_sound}
 use Rattle.law_inside.proofs.Given.{ended_made}
-use Rattle.law_inside.proofs.Keeping.{apart_of, but_none}
+use Rattle.law_inside.proofs.Keeping.{apart_of}
 use Rattle.law_inside.proofs.Nobody.{nobody, over_as}
 use Rattle.law_replies.proofs.Replying.{reply_in}
 
@@ -91,7 +91,7 @@ woken_made added s sound task = at (waiter_of s.loop.parts task)
     until : (on : ℕ) (o : Option Outcome) → future_outcome s.loop.parts on ≡ o
         → sends_made (next_task s.loop.parts) (option_map_or input_of o (Send Nothing)) ≡ true
     until on None e = refl
-    until on (Some outcome) e = ended_made added None None s (apart_of added None None s (but_none added s sound)) on outcome e
+    until on (Some outcome) e = ended_made added None None s (apart_of added None None s sound) on outcome e
 
     at : (o : Option ℕ)
         → sends_made (next_task s.loop.parts) (option_map_or input_of (option_and_then (future_outcome s.loop.parts) o) (Send Nothing)) ≡ true
@@ -148,7 +148,7 @@ module _ {S : Type 0} (added : Extra S) (keeps : KeepsSound added) (s : State S)
   main_in is live =
       let a = taken_by (no_step action.MainDone is (λ other. refl)) in
       nobody added s sound (record (noted (event.Ran action.MainDone) out) { main_done = true }) (record { program = refl; generators = refl }) refl
-      (λ done. sound.tasks.main_told.pending (
+      (λ done. sound.main_told.pending (
       let b = taken-where is_main_done handle rest s.loop.parts first in
       let c : ◌≡◌ {A = ℕ} (cond (not handle.dead && is_main_done handle.action) 1 0) 1 =
       ap (λ d. cond (not d && is_main_done handle.action) 1 0) live ∙ ap (λ x. cond (is_main_done x) 1 0) is in

@@ -98,7 +98,7 @@ module _ {S : Type 0} (added : Extra S) where
       → IsStateSound added (noted (event.Got answer) (record (noted (event.Called call) s) { answers = entries }))
   noted_in s entries call answer sound =
       nobody added s sound (noted (event.Got answer) (record (noted (event.Called call) s) { answers = entries }))
-      (record { program = refl; generators = refl }) refl sound.tasks.main_over
+      (record { program = refl; generators = refl }) refl sound.main_over
       (refl_loop (names_made (next_task s.loop.parts)) refl false None None None None s.loop)
       (as_told None (told_in s.events) (told_in ((s.events ++ event.Called call ∷ []) ++ event.Got answer ∷ [])) s.loop
       (λ g. told_got (s.events ++ event.Called call ∷ []) answer g ∙ told_call s.events call g) sound.loop)
@@ -155,7 +155,7 @@ module _ {S : Type 0} (added : Extra S) where
         asked : IsStateSound added (noted (event.Called (call_of added s)) s)
         asked =
             nobody added s sound (noted (event.Called (call_of added s)) s) (record { program = refl; generators = refl }) refl
-            sound.tasks.main_over (refl_loop (names_made (next_task s.loop.parts)) refl false None None None None s.loop)
+            sound.main_over (refl_loop (names_made (next_task s.loop.parts)) refl false None None None None s.loop)
             (as_told None (told_in s.events) (told_in (s.events ++ event.Called (call_of added s) ∷ [])) s.loop
             (λ g. told_call s.events (call_of added s) g) sound.loop)
 

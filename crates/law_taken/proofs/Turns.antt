@@ -131,7 +131,7 @@ module _ {S : Type 0} (added : Extra S) (keeps : KeepsSound added) (s : State S)
   out = unbooked_in (λ p. record p { pending = rest }) s
 
   right : IsRight s.loop
-  right = right_of s None _ sound.loop sound.blocks sound.tasks.generators
+  right = right_of s None _ sound.loop sound.blocks sound.generators
 
   good : IsGood out.loop
   good =
@@ -184,7 +184,7 @@ module _ {S : Type 0} (added : Extra S) where
   went_in go_on each (Stops end last) sound c = c
 
   state_right : (s : State S) → IsStateSound added s → IsRight s.loop
-  state_right s sound = right_of s None _ sound.loop sound.blocks sound.tasks.generators
+  state_right s sound = right_of s None _ sound.loop sound.blocks sound.generators
 
   module _ (keeps : KeepsSound added) where
     next_in : (bar : ℕ) (go_on : State S → Went S) → ((t : State S) → IsStateSound added t → IsCovered t.loop → IsCovered (state_of (go_on t)).loop)

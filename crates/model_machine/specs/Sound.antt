@@ -1,6 +1,6 @@
 -- A sound state of the machine, between any two callbacks of a run: its loop is sound, and each task stands where its tape
 -- says that it does.
-use Rattle.std.specs.Prelude.{◌≡◌, ℕ, ◌<◌, Bool, true, false, not, ◌&&◌, ◌==◌, List, [], ◌∷◌, Some, None, length, nat_lt, slice_get}
+use Rattle.std.specs.Prelude.{◌≡◌, ℕ, ◌<◌, Bool, true, false, not, ◌&&◌, ◌==◌, List, [], ◌∷◌, Option, Some, None, length, nat_lt, slice_get}
 use Rattle.std.specs.List.{count_by, list_all, list_any}
 use Rattle.model_value.specs.declared.action.Action.TheVariants.{SleepDone, Step}
 use Rattle.model_value.specs.declared.input.Input.TheVariants.{Send, Throw}
@@ -23,6 +23,7 @@ use Rattle.model_loop.specs.Sound.{IsSound}
 use Rattle.model_loop.specs.Tasks.{future_of, lives, next_task}
 use Rattle.model_loop.specs.Timeouts.{timeout_of}
 use Rattle.model_loop.specs.Totals.{callbacks_of, pending_where}
+use Rattle.model_loop.specs.Ways.{is_running}
 use Rattle.model_machine.specs.Extra.{Extra}
 use Rattle.model_machine.specs.State.{Standing, Asked, Sleeping, Leaving, Serving, State, generator_of}
 use Rattle.model_machine.specs.Step.{says_of}
@@ -60,13 +61,6 @@ pub record IsMainTold (p : Parts) : Type 0 where
   pub registered : (id : ℕ) → 0 < count_by is_main_done (callbacks_of p id) → id ≡ future_of p 0
   pub pending : 0 < pending_where is_main_done p.pending → lives p 0 ≡ false
 
-pub record AreTasksSound {S : Type 0} (added : Extra S) (s : State S) : Type 0 where
-  pub generators : length s.generators ≡ next_task s.loop.parts
-  pub asking : (task : ℕ) → lives s.loop.parts task ≡ true → IsAsking added s task
-  pub unbegun : (task : ℕ) → lives s.loop.parts task ≡ true → (generator_of task s).tape ≡ [] → IsUnbegun s.loop.parts task
-  pub main_over : s.main_done ≡ true → lives s.loop.parts 0 ≡ false
-  pub main_told : IsMainTold s.loop.parts
-
 -- ---- what tasks stand at
 -- whether an action ends a sleep of the task
 abbrev pub ends_sleep_of : ℕ → Action → Bool
@@ -81,17 +75,14 @@ pub record NamesItsSleep (p : Parts) (task tag : ℕ) : Type 0 where
   pub in_time : (place : ℕ) (timer : Timer) → slice_get p.timers place ≡ Some timer → timer.tag ≡ tag
       → ends_sleep_of task timer.action ≡ true
 
+-- a group whose exit has begun and hasn't ended
+abbrev pub IsLeft : {S : Type 0} → State S → (group : ℕ) → Type 0
+IsLeft s id = ((group_of s.loop id).exiting && not (group_of s.loop id).ended) ≡ true
+
 pub record StandsRightly {S : Type 0} (s : State S) (task : ℕ) : Type 0 where
   pub sleeping : (tag : ℕ) → (generator_of task s).standing ≡ Sleeping tag → NamesItsSleep s.loop.parts task tag
   pub leaving : (id : ℕ) → (generator_of task s).standing ≡ Leaving id → (group_of s.loop id).parent ≡ task
-  pub leaving_now : (id : ℕ) → (generator_of task s).standing ≡ Leaving id
-      → ((group_of s.loop id).exiting && not (group_of s.loop id).ended) ≡ true
-
--- a group whose exit has begun and hasn't ended is the one at whose exit its parent stands
-abbrev pub AreExitsStood : {S : Type 0} → State S → Type 0
-AreExitsStood s =
-    (id : ℕ) → ((group_of s.loop id).exiting && not (group_of s.loop id).ended) ≡ true
-    → (generator_of (group_of s.loop id).parent s).standing ≡ Leaving id
+  pub leaving_now : (id : ℕ) → (generator_of task s).standing ≡ Leaving id → IsLeft s id
 
 -- ---- open blocks
 abbrev pub is_open : TimeoutState → Bool
@@ -169,11 +160,27 @@ pub record AreScriptsFutures {S : Type 0} (s : State S) : Type 0 where
   pub once : (place other id : ℕ) → slice_get s.futures place ≡ Some id → slice_get s.futures other ≡ Some id → place ≡ other
 
 -- ---- all of it
-pub record IsStateSound {S : Type 0} (added : Extra S) (s : State S) : Type 0 where
-  pub loop : IsSound None (told_in s.events) s.loop
-  pub tasks : AreTasksSound added s
-  pub standing : (task : ℕ) → lives s.loop.parts task ≡ true → StandsRightly s task
-  pub exits : AreExitsStood s
-  pub blocks : AreBlocksOpen s
+-- A state that is sound while this task runs, but for what the excused task asks and stands at. Of its blocks it says `Blocks`.
+pub record IsSoundOver {S : Type 0} (Blocks : Type 0) (running excused : Option ℕ) (added : Extra S) (s : State S) : Type 0 where
+  pub loop : IsSound running (told_in s.events) s.loop
+  pub generators : length s.generators ≡ next_task s.loop.parts
+  pub asking : (task : ℕ) → lives s.loop.parts task ≡ true → is_running excused task ≡ false → IsAsking added s task
+  pub unbegun : (task : ℕ) → lives s.loop.parts task ≡ true → is_running excused task ≡ false → (generator_of task s).tape ≡ []
+      → IsUnbegun s.loop.parts task
+  pub main_over : s.main_done ≡ true → lives s.loop.parts 0 ≡ false
+  pub main_told : IsMainTold s.loop.parts
+  pub standing : (task : ℕ) → lives s.loop.parts task ≡ true → is_running excused task ≡ false → StandsRightly s task
+  -- a group whose exit has begun and hasn't ended is the one at whose exit its parent stands
+  pub exits : (id : ℕ) → IsLeft s id → is_running excused (group_of s.loop id).parent ≡ false
+      → (generator_of (group_of s.loop id).parent s).standing ≡ Leaving id
+  pub blocks : Blocks
   pub futures : AreScriptsFutures s
   pub made : AreTasksMade s
+
+-- all of its blocks
+abbrev pub IsSoundBut : {S : Type 0} → (running excused : Option ℕ) → Extra S → State S → Type 0
+IsSoundBut running excused added s = IsSoundOver (AreBlocksOpen s) running excused added s
+
+-- between two callbacks: no task runs, and none is excused
+abbrev pub IsStateSound : {S : Type 0} → Extra S → State S → Type 0
+IsStateSound added s = IsSoundBut None None added s
