@@ -1,39 +1,38 @@
 -- What each change of the loop leaves of tasks and futures: those that there were stay, and what is done stays done.
-use Rattle.std.proofs.Common.{◌≡◌, ℕ, ◌≤◌, ◌<◌, ◌⊎◌, inl, inr, ℤ, Bool, true, false, List, [], ◌∷◌, Option, Some, None, Result, Ok, Err, filter, length, nat_le}
-use Rattle.std.proofs.Common.{nat_lt, slice_get, if◌then◌else◌, refl, sym, ap, ◌∙◌, arith}
-use Rattle.std.specs.List.{range_with_len}
+use Rattle.std.proofs.Common.{◌≡◌, ℕ, ◌≤◌, ◌<◌, ◌⊎◌, inl, inr, Bool, true, false, Option, None, filter, length, nat_le}
+use Rattle.std.proofs.Common.{nat_lt, slice_get, refl, sym, ap, ◌∙◌, arith, List, [], ◌∷◌, Result}
 use Rattle.std.specs.Option.{option_map_or}
-use Rattle.std.proofs.lemmas.Bool.{eq-eqb, false≢true}
+use Rattle.std.proofs.lemmas.Bool.{false≢true}
+use Rattle.model_value.specs.declared.outcome.Outcome.TheVariants.{Value as Returned, Failed, Cancelled}
 use Rattle.model_value.specs.Action.{Action}
 use Rattle.model_value.specs.Input.{Input}
-use Rattle.model_value.specs.declared.action.Action.TheVariants as action
-use Rattle.model_value.specs.declared.outcome.Outcome.TheVariants.{Value as Returned, Failed, Cancelled}
 use Rattle.model_value.specs.Value.{Value, Exc, Outcome}
 use Rattle.model_loop.specs.Cancel.{cancel}
 use Rattle.model_loop.specs.Ending.{cancel_everything}
-use Rattle.model_loop.specs.Futures.{is_pending, is_pending_at, next_future, new_plain, settle}
-use Rattle.model_loop.specs.Groups.{child_done, create, exit_begin, exit_woken}
-use Rattle.model_loop.specs.Handles.{due, by_deadline, later, soon, soon_all}
-use Rattle.model_loop.specs.Ledger.{ByEnd}
-use Rattle.model_loop.specs.Loop.{TimeoutState, Created, Active, Expiring, Expired, Finished, Loop}
-use Rattle.model_loop.specs.Owning.{OwnsFutures}
-use Rattle.model_loop.specs.Parts.{Future, Plain, Many, Parts, Task, Timer}
+use Rattle.model_loop.specs.Groups.{create, exit_begin, exit_woken}
+use Rattle.model_loop.specs.Loop.{Loop}
 use Rattle.model_loop.specs.Suspend.{suspend}
-use Rattle.model_loop.specs.Tasks.{begin_step, finish, future_of, lives, next_task, spawn, uncancel}
-use Rattle.model_loop.specs.Timeouts.{enter_timeout, exit_timeout, fire, give_up, is_active, leave_from, make_timeout, next_timeout, reschedule}
-use Rattle.model_loop.specs.Timeouts.{reschedule_where, schedule, timeout_of, with_deadline, without_handle}
-use Rattle.model_machine.specs.Extra.{ExtraStep, MakesPlain, MakesMany, Settles, Releases, Registers, CallsSoon, CallsLater, Revokes, Cancels, Uncancels}
-use Rattle.model_machine.specs.Extra.{made_by, made_by_all}
+use Rattle.model_machine.specs.Extra.{ExtraStep, made_by}
 use Rattle.law_cancel.proofs.Effects.{soon_all-futures, soon_all-tasks}
-use Rattle.law_after.specs.After.{IsAfter, OutcomeIn, ResultIn}
-use Rattle.law_after.proofs.Exits.{exit_begin_loop, exit_woken_loop}
-use Rattle.law_after.proofs.Loops.{child_done_loop, create_loop}
-use Rattle.law_after.proofs.Made.{make_after, register_after, spawn_after}
+use Rattle.law_changes.specs.Changes.{PartsChange, CallsSoon, CallsLater, Revokes, MakesFuture, Settles, Registers, KeepsAsked, MakesTask, WaitsFor}
+use Rattle.law_changes.specs.Changes.{Marks, Unmarks, Counts, Uncounts, Passes, FallsDue, LeavesPending, MayInParts, made_of_parts}
+use Rattle.law_changes.specs.Reaches.{ReachAlone, PartsReach}
+use Rattle.law_changes.proofs.LoopRows.{create_row, end_row, exit_begin_row, exit_woken_row, in_parts_row, suspend_row}
+use Rattle.law_changes.proofs.Parts.{parts_of}
+use Rattle.law_changes.proofs.PartsRows.{begin_row, cancel_row, finish_row}
+use Rattle.law_reach.proofs.Extras.{all_row}
+use Rattle.law_changes.proofs.Folds.{fold}
+use Rattle.model_loop.specs.Futures.{is_pending, is_pending_at, next_future, new_plain, settle}
+use Rattle.model_loop.specs.Handles.{due, by_deadline, soon_all}
+use Rattle.model_loop.specs.Owning.{OwnsFutures}
+use Rattle.model_loop.specs.Parts.{Future, Parts, Plain, Task, Timer}
+use Rattle.model_loop.specs.Tasks.{begin_step, finish, future_of, lives, next_task, spawn, uncancel}
+use Rattle.law_after.specs.After.{IsAfter, OutcomeIn}
+use Rattle.law_after.proofs.Made.{asked_after, make_after, register_after, spawn_after}
 use Rattle.law_after.proofs.Parts.{change_after, settle_after}
-use Rattle.law_after.proofs.Requests.{begin_after, cancel_after, each_after, finish_after, suspend_after}
 use Rattle.law_inside.proofs.Counts.{own_there}
-use Rattle.law_done.specs.Done.{IsDone}
 use Rattle.law_numbers.proofs.Falling.{fall_due-futures}
+use Rattle.law_done.specs.Done.{IsDone}
 use Rattle.law_timeouts.proofs.Due.{due-tasks}
 
 -- tasks and futures stay, and what is done stays so
@@ -90,120 +89,76 @@ any_outcome (Returned value) = refl
 any_outcome (Failed fault) = tt
 any_outcome Cancelled = tt
 
-any_result : (end : Result Value Exc) → ResultIn any end
-any_result (Ok value) = refl
-any_result (Err fault) = tt
-
--- ---- parts
-pub later_settle : (id : ℕ) (outcome : Outcome) (p : Parts) → IsLater p (settle id outcome p)
-later_settle id outcome p = later_of false None p (settle id outcome p) (settle_after any false None id outcome p (any_outcome outcome))
-
-pub later_cancel : (id : ℕ) (p : Parts) → IsLater p (cancel id p).parts
-later_cancel id p = later_of false None p (cancel id p).parts (cancel_after any false None id p)
-
-pub later_suspend : (task on : ℕ) (p : Parts) → IsLater p (suspend task on p).parts
-later_suspend task on p = later_of false None p (suspend task on p).parts (suspend_after any false None task on p)
-
-pub later_finish : (task : ℕ) (end : Result Value Exc) (p : Parts) → IsLater p (finish task end p)
-later_finish task end p = later_of false None p (finish task end p) (finish_after any false None task end p (any_result end))
-
-pub later_begin : (task : ℕ) (input : Input) (p : Parts) → IsLater p (begin_step task input p).parts
-later_begin task input p = later_of false None p (begin_step task input p).parts (begin_after any false None task input p)
-
-pub later_plain : (p : Parts) → IsLater p (new_plain p)
-later_plain p = later_of false None p (new_plain p) (make_after any false None p Plain)
-
-pub later_spawn : (p : Parts) → IsLater p (spawn p)
-later_spawn p = later_of true None p (spawn p) (spawn_after any None p)
-
-pub later_uncancel : (task : ℕ) (p : Parts) → IsLater p (uncancel task p)
-later_uncancel task p = later_of false None p (uncancel task p) (change_after any false None task _ p (λ t. refl))
-
 pub later_due : (p : Parts) → IsLater p (due p)
 later_due p =
     let ready = by_deadline (filter (λ (timer : Timer). nat_le timer.when p.time) p.timers) in
     let rest = record p { timers = filter (λ (timer : Timer). nat_lt p.time timer.when) p.timers } in
     later_same p (due p) (fall_due-futures ready rest) (due-tasks p)
 
-pub later_soon_all : (actions : List Action) (p : Parts) → IsLater p (soon_all actions p)
-later_soon_all actions p = later_same p (soon_all actions p) (soon_all-futures actions p) (soon_all-tasks actions p)
+-- ---- one change, and a row of them
+later_change : (r : Option ℕ) (change : PartsChange) (p : Parts) → MayInParts r change p → IsLater p (made_of_parts change p)
+later_change r (MakesFuture kind) p may = later_of false None p _ (make_after any false None p kind)
+later_change r (Settles future outcome) p may = later_of false None p _ (settle_after any false None future outcome p (any_outcome outcome))
+later_change r (Registers future action) p may = later_of false None p _ (register_after any false None future action p may)
+later_change r (KeepsAsked future) p may = later_of false None p _ (asked_after any false None future p)
+later_change r MakesTask p may = later_of true None p _ (spawn_after any None p)
+later_change r (WaitsFor task on) p may = later_of false None p _ (change_after any false None task _ p (λ t. refl))
+later_change r (Marks task) p may = later_of false None p _ (change_after any false None task _ p (λ t. refl))
+later_change r (Unmarks task) p may = later_of false None p _ (change_after any false None task _ p (λ t. refl))
+later_change r (Counts task) p may = later_of false None p _ (change_after any false None task _ p (λ t. refl))
+later_change r (Uncounts task) p may = later_of false None p _ (change_after any false None task _ p (λ t. refl))
+later_change r FallsDue p may = later_due p
+later_change r (CallsSoon action) p may = later_same _ _ refl refl
+later_change r (CallsLater when action) p may = later_same _ _ refl refl
+later_change r (Revokes tag) p may = later_same _ _ refl refl
+later_change r (Passes now) p may = later_same _ _ refl refl
+later_change r (LeavesPending rest) p may = later_same _ _ refl refl
 
--- ---- timeouts
-given_up : (tag : Option ℕ) (p : Parts) → IsLater p (give_up tag p)
-given_up None p = later_refl p
-given_up (Some tag) p = later_same p _ refl refl
+pub later_row : {r : Option ℕ} {p q : Parts} → PartsReach r p q → IsLater p q
+later_row row = fold IsLater later_refl later_then (later_change _) row
 
-later_deadline : (id : ℕ) (when : Option ℕ) (l : Loop) → IsLater l.parts (with_deadline id when l).parts
-later_deadline id None l = later_refl l.parts
-later_deadline id (Some when) l = at (nat_le when l.parts.time)
-  where
-    at : (b : Bool) → IsLater l.parts (if b then soon (action.Fires id) l.parts else later when (action.Fires id) l.parts)
-    at true = later_same _ _ refl refl
-    at false = later_same _ _ refl refl
+-- ---- by their operations, for the laws that are not told by rows so far
+later_alone : {r : Option ℕ} {p q : Parts} → ReachAlone r p q → IsLater p q
+later_alone {p = p} row = later_row (parts_of (in_parts_row (record { parts = p; timeouts = []; groups = []; ledger = [] }) row))
 
-later_schedule : (id : ℕ) (when : Option ℕ) (l : Loop) → IsLater l.parts (schedule id when l).parts
-later_schedule id when l =
-    later_then l.parts (without_handle id l).parts (schedule id when l).parts (given_up (timeout_of l id).tag l.parts)
-    (later_deadline id when (without_handle id l))
+pub later_settle : (id : ℕ) (outcome : Outcome) (p : Parts) → IsLater p (settle id outcome p)
+later_settle id outcome p = later_change None (Settles id outcome) p tt
 
-pub later_enter : (task : ℕ) (delay : Option ℤ) (l : Loop) → IsLater l.parts (enter_timeout task delay l).parts
-later_enter task delay l = later_schedule (next_timeout l) _ (make_timeout task l)
+pub later_plain : (p : Parts) → IsLater p (new_plain p)
+later_plain p = later_change None (MakesFuture Plain) p tt
 
-pub later_reschedule : (id : ℕ) (when : Option ℤ) (l : Loop) → IsLater l.parts (reschedule id when l).parts
-later_reschedule id when l = at (is_active (timeout_of l id).state)
-  where
-    at : (b : Bool) → IsLater l.parts (reschedule_where b id when l).parts
-    at true = later_schedule id _ l
-    at false = later_refl l.parts
+pub later_spawn : (p : Parts) → IsLater p (spawn p)
+later_spawn p = later_change None MakesTask p tt
 
-pub later_fire : (id : ℕ) (l : Loop) → IsLater l.parts (fire id l).parts
-later_fire id l = later_cancel (future_of l.parts (timeout_of l id).task) l.parts
+pub later_uncancel : (task : ℕ) (p : Parts) → IsLater p (uncancel task p)
+later_uncancel task p = later_change None (Uncounts task) p tt
 
-pub later_exit : (raised : Option Exc) (id : ℕ) (l : Loop) → IsLater l.parts (exit_timeout raised id l).loop.parts
-later_exit raised id l =
-    later_then l.parts m.parts (exit_timeout raised id l).loop.parts (given_up (timeout_of l id).tag l.parts) (at (timeout_of l id).state)
-  where
-    m : Loop
-    m = without_handle id l
+pub later_cancel : (id : ℕ) (p : Parts) → IsLater p (cancel id p).parts
+later_cancel id p = later_row (cancel_row None id p)
 
-    at : (state : TimeoutState) → IsLater (without_handle id l).parts (leave_from state raised id (without_handle id l)).loop.parts
-    at Created = later_refl _
-    at Active = later_refl _
-    at Expired = later_refl _
-    at Finished = later_refl _
-    at Expiring = later_uncancel _ _
+pub later_begin : (task : ℕ) (input : Input) (p : Parts) → IsLater p (begin_step task input p).parts
+later_begin task input p = later_alone (begin_row task input p)
 
--- ---- groups
+pub later_finish : (task : ℕ) (end : Result Value Exc) (p : Parts) → IsLater p (finish task end p)
+later_finish task end p = later_alone (finish_row task end p)
+
+pub later_suspend : (task on : ℕ) (p : Parts) → IsLater p (suspend task on p).parts
+later_suspend task on p = later_row (parts_of (suspend_row task on (record { parts = p; timeouts = []; groups = []; ledger = [] })))
+
 pub later_create : (id : ℕ) (l : Loop) → IsLater l.parts (create id l).parts
-later_create id l = later_of true None l.parts _ (create_loop any refl None None None None id l).parts
-
-pub later_child : (group task : ℕ) (l : Loop) → IsLater l.parts (child_done group task l).parts
-later_child group task l = later_of false None l.parts _ (child_done_loop any refl false None None None None group task l).parts
+later_create id l = later_row (parts_of (create_row None id l))
 
 pub later_exit_begin : (raised : Option Exc) (id : ℕ) (l : Loop) → IsLater l.parts (exit_begin raised id l).loop.parts
-later_exit_begin raised id l =
-    later_of false None l.parts _ (exit_begin_loop any refl false None None (Some id) id (eq-eqb id id refl) raised l).parts
+later_exit_begin raised id l = later_row (parts_of (exit_begin_row None raised id l))
 
 pub later_exit_woken : (input : Input) (id : ℕ) (l : Loop) → IsLater l.parts (exit_woken input id l).loop.parts
-later_exit_woken input id l = later_of false None l.parts _ (exit_woken_loop any refl false None None None id input l).parts
+later_exit_woken input id l = later_row (parts_of (exit_woken_row None input id l))
 
 pub later_end : (l : Loop) → IsLater l.parts (cancel_everything l).parts
-later_end l = later_of false None l.parts _ (each_after any false None ByEnd (range_with_len 0 (next_task l.parts)) l.parts)
+later_end l = later_row (parts_of (end_row None l))
 
--- ---- what is added
 pub later_made : (step : ExtraStep) (l : Loop) → IsLater l.parts (made_by step l).parts
-later_made MakesPlain l = later_plain l.parts
-later_made (MakesMany members) l = later_of false None l.parts _ (make_after any false None l.parts (Many members false))
-later_made (Settles future outcome) l = later_settle future outcome l.parts
-later_made (Releases future) l = later_refl l.parts
-later_made (Registers future key) l = later_of false None l.parts _ (register_after any false None future (action.Extra key) l.parts refl)
-later_made (CallsSoon key) l = later_same _ _ refl refl
-later_made (CallsLater when key) l = later_same _ _ refl refl
-later_made (Revokes tag) l = later_same _ _ refl refl
-later_made (Cancels key future) l = later_cancel future l.parts
-later_made (Uncancels key task) l = later_uncancel task l.parts
+later_made step l = later_row (parts_of (all_row None (step ∷ []) l))
 
-pub later_all : (steps : List ExtraStep) (l : Loop) → IsLater l.parts (made_by_all steps l).parts
-later_all [] l = later_refl l.parts
-later_all (step ∷ steps) l =
-    later_then l.parts (made_by step l).parts (made_by_all (step ∷ steps) l).parts (later_made step l) (later_all steps (made_by step l))
+pub later_soon_all : (actions : List Action) (p : Parts) → IsLater p (soon_all actions p)
+later_soon_all actions p = later_same p (soon_all actions p) (soon_all-futures actions p) (soon_all-tasks actions p)

@@ -12,7 +12,8 @@ use Rattle.model_machine.specs.Went.{Went, Goes, Stops, went_on}
 use Rattle.law_replies.specs.Added.{KeepsSound}
 use Rattle.law_inside.specs.InStep.{LeavesStateSound}
 use Rattle.law_runs.proofs.Turning.{over_left, pending_in, turn_left, woken_in}
-use Rattle.law_ends.specs.Ends.{IsRunaway, OnlyRunsAway, IsLastSound, IsLeftSound, EndsAfter, EndsSound}
+use Rattle.law_reach.specs.Reaches.{IsRunaway, OnlyRunsAway}
+use Rattle.law_ends.specs.Ends.{IsLastSound, IsLeftSound, EndsAfter, EndsSound}
 use Rattle.law_ends.proofs.RunningAway.{pending_away}
 
 module _ {S : Type 0} (added : Extra S) where

@@ -9,15 +9,6 @@ use Rattle.model_machine.specs.State.{State}
 use Rattle.model_machine.specs.Turn.{turn}
 use Rattle.model_machine.specs.Went.{Went, Goes, Stops}
 
-abbrev pub IsRunaway : End → Type 0
-IsRunaway (end.Runaway task) = Unit {0}
-IsRunaway _ = ⊥
-
--- what goes on, or ends the run inside a step
-abbrev pub OnlyRunsAway : {S : Type 0} → Went S → Type 0
-OnlyRunsAway (Goes now) = Unit {0}
-OnlyRunsAway (Stops how last) = IsRunaway how
-
 -- the last state of a run that ended so
 abbrev pub IsLastSound : {S : Type 0} → Extra S → End → State S → Type 0
 IsLastSound added (end.Runaway task) last = Unit {0}

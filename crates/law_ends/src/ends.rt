@@ -10,7 +10,8 @@ ghost use Rattle.model_machine.specs.Sound.{IsStateSound};
 ghost use Rattle.model_machine.specs.State.{State, start};
 ghost use Rattle.model_machine.specs.Turn.{run_first, run_pending, turn};
 ghost use Rattle.law_replies.specs.Added.{KeepsSound};
-ghost use Rattle.law_ends.specs.Ends.{OnlyRunsAway, IsLeftSound, EndsSound};
+ghost use Rattle.law_reach.specs.Reaches.{OnlyRunsAway};
+ghost use Rattle.law_ends.specs.Ends.{IsLeftSound, EndsSound};
 
 /// A callback ends a run in one way: it steps a task that runs away. So do all callbacks of a turn.
 pub fn callbacks_end_a_run_by_running_away<S>()

@@ -1,32 +1,25 @@
 -- What steps, handles, turns and runs leave: events are only added, and turns are bounded by what the outside answers.
-use Rattle.std.proofs.Common.{◌≡◌, ℕ, ◌+◌, ◌≤◌, zero, suc, Bool, true, false, not, ◌&&◌, List, [], ◌∷◌, ◌++◌, Option, Some, None, length, nat_lt, subst, refl}
+use Rattle.std.proofs.Common.{◌≡◌, ℕ, ◌+◌, ◌≤◌, zero, suc, Bool, true, false, List, [], ◌∷◌, ◌++◌, length, subst, refl}
 use Rattle.std.proofs.Common.{ap, sym, ◌∙◌, arith}
 use Rattle.std.proofs.lemmas.Bool.{true≢false}
 use Rattle.model_value.specs.Action.{Action}
-use Rattle.model_value.specs.declared.action.Action.TheVariants as action
-use Rattle.model_value.specs.declared.input.Input.TheVariants.{Send, Throw}
-use Rattle.model_value.specs.Input.{Input}
-use Rattle.model_value.specs.Value.{Outcome}
-use Rattle.model_says.specs.Endings.{Saying, Asks, Returns, Raises as Raised, Runaway}
 use Rattle.model_wire.specs.declared.event.End.TheVariants as end
 use Rattle.model_wire.specs.declared.event.Event.TheVariants as event
 use Rattle.model_wire.specs.Call.{Call, Answer}
 use Rattle.model_wire.specs.Event.{Event}
 use Rattle.model_wire.specs.Fits.{fits}
 use Rattle.model_wire.specs.Journal.{Entry, Answered, Refused}
-use Rattle.model_loop.specs.Parts.{Handle}
-use Rattle.model_loop.specs.Tasks.{begin_step}
 use Rattle.model_machine.specs.Extra.{Extra}
-use Rattle.model_machine.specs.Outcomes.{finished_as}
-use Rattle.model_machine.specs.Replies.{RequestReply, Answers, Raises, Rests, Halts, reply, decides}
 use Rattle.model_machine.specs.Run.{run_after, run_on}
-use Rattle.model_machine.specs.State.{Asked, State, generator_of, noted, resumed, stands, unbooked_in}
-use Rattle.model_machine.specs.Step.{given_up, says_of, taken_as, served, serve, serve_all, step}
-use Rattle.model_machine.specs.Turn.{call_of, is_stalled, woken_by, effect, ran, run_first, run_if, next_below, run_below, run_pending, cancelled_if}
-use Rattle.model_machine.specs.Turn.{finished_if, turn_over, turned_by, turn_unless, turn}
-use Rattle.model_machine.specs.Went.{Went, Goes, Stops, answers_in, state_of, went_on, ask, answered_by, fitted}
+use Rattle.model_machine.specs.State.{State, noted}
+use Rattle.model_machine.specs.Turn.{call_of, is_stalled, turned_by, turn_unless, turn}
+use Rattle.model_machine.specs.Went.{Went, Goes, Stops, answers_in, state_of, ask, answered_by, fitted}
+use Rattle.law_reach.specs.Changes.{StateChange, OfLoop, Says, MakesCoroutine, Stands, Resumes, NamesFuture, EndsMain, ChangesExtra, Runs, Calls}
+use Rattle.law_reach.specs.Changes.{Gets, MayInTurn, made}
+use Rattle.law_changes.proofs.Folds.{fold}
+use Rattle.law_reach.proofs.Turning.{turned_row}
 use Rattle.law_machine.specs.Growth.{GoesOn, turns_in}
-use Rattle.law_machine.proofs.Kept.{goes_on_same, goes_on_one, goes_on_then, IsKeptInAnswer, reply_state, reply-keeps, decides-keeps}
+use Rattle.law_machine.proofs.Kept.{goes_on_same, goes_on_one, goes_on_then, turns-said, answers-said}
 
 -- events are added, no turn began, and the outside was not asked
 pub record IsOn {S : Type 0} (s t : State S) : Type 0 where
@@ -46,9 +39,6 @@ on_then s t u first second = record {
   got = second.got ∙ first.got;
   answers = second.answers ∙ first.answers;
 }
-
-kept_on : {S : Type 0} (task : ℕ) (s t : State S) → IsKeptInAnswer task s t → IsOn s t
-kept_on task s t is = record { events = is.events; turns = is.turns; got = is.got; answers = is.answers }
 
 turns-ran : (es : List Event) (it : Action) → turns_in (es ++ event.Ran it ∷ []) ≡ turns_in es
 turns-ran [] it = refl
@@ -92,105 +82,23 @@ answers-called (event.Got answer ∷ es) call = ap suc (answers-called es call)
 answers-called (event.Ran it ∷ es) call = answers-called es call
 answers-called (event.Said task text ∷ es) call = answers-called es call
 
--- ---- steps
-taken-on : {S : Type 0} (s : State S) (it : RequestReply S) (fresh : Bool) (task : ℕ) (go_on : State S → Went S)
-    → IsOn s (reply_state it) → ((t : State S) → IsOn t (state_of (go_on t))) → IsOn s (state_of (taken_as it fresh task go_on))
-taken-on s (Answers value now) fresh task go_on on goes =
-    let next = resumed fresh task (Send value) now in
-    on_then s now (state_of (go_on next)) on (on_then now next (state_of (go_on next)) (on_as now next refl refl) (goes next))
-taken-on s (Raises fault now) fresh task go_on on goes =
-    let next = resumed fresh task (Throw fault) now in
-    on_then s now (state_of (go_on next)) on (on_then now next (state_of (go_on next)) (on_as now next refl refl) (goes next))
-taken-on s (Rests now) fresh task go_on on goes = on
-taken-on s (Halts end last) fresh task go_on on goes = on
+-- ---- the rest of a turn, once it has its answer
+change-on : {S : Type 0} (change : StateChange S) (s : State S) → MayInTurn change s → IsOn s (made change s)
+change-on (Says task text) s may =
+    record { events = goes_on_one s.events _; turns = turns-said s.events task text; got = answers-said s.events task text; answers = refl }
+change-on (Runs it) s may = record { events = goes_on_one s.events _; turns = turns-ran s.events it; got = answers-ran s.events it; answers = refl }
+change-on (Calls call) s may = absurd may
+change-on (Gets answer left) s may = absurd may
+change-on (OfLoop change) s may = on_as s _ refl refl
+change-on (MakesCoroutine coroutine arguments) s may = on_as s _ refl refl
+change-on (Stands standing task) s may = on_as s _ refl refl
+change-on (Resumes fresh task input) s may = on_as s _ refl refl
+change-on (NamesFuture future) s may = on_as s _ refl refl
+change-on EndsMain s may = on_as s _ refl refl
+change-on (ChangesExtra extra) s may = on_as s _ refl refl
 
-turn_over-on : {S : Type 0} (done_before : Bool) (s : State S) → IsOn s (state_of (turn_over done_before s))
-turn_over-on {S = S} done_before s = on_then s left (state_of (turn_over done_before s)) (cancelled (s.main_done && not done_before)) (at (finished_as left))
-  where
-    left : State S
-    left = cancelled_if (s.main_done && not done_before) s
-
-    cancelled : (b : Bool) → IsOn s (cancelled_if b s)
-    cancelled true = on_as s _ refl refl
-    cancelled false = on_as s s refl refl
-
-    at : (o : Option Outcome) → IsOn left (state_of (finished_if o left))
-    at None = on_as left left refl refl
-    at (Some outcome) = on_as left left refl refl
-
-module _ {S : Type 0} (limit : ℕ) (added : Extra S) where
-  served-on : (said : Saying) (task : ℕ) (go_on : State S → Went S) (s : State S)
-      → ((t : State S) → IsOn t (state_of (go_on t))) → IsOn s (state_of (served limit added said task go_on s))
-  served-on (Asks request) task go_on s goes =
-      let it = reply added task request s in
-      taken-on s it false task go_on (kept_on task s (reply_state it) (reply-keeps added task request s)) goes
-  served-on (Returns value) task go_on s goes = on_as s _ refl refl
-  served-on (Raised fault) task go_on s goes = on_as s _ refl refl
-  served-on Runaway task go_on s goes = on_as s _ refl refl
-
-  serve-on : (answers task : ℕ) (s : State S) → IsOn s (state_of (serve limit added answers task s))
-  unfolding serve
-  serve-on zero task s = on_as s s refl refl
-  serve-on (suc answers) task s =
-      served-on (says_of limit added task s) task (serve limit added answers task) s (serve-on answers task)
-
-  step-on : (task : ℕ) (input : Input) (s : State S) → IsOn s (state_of (step limit added task input s))
-  unfolding step
-  step-on task input s =
-      let standing = (generator_of task s).standing in
-      let begun = begin_step task input (given_up standing s.loop.parts) in
-      let awake = stands Asked task (unbooked_in (λ p. begun.parts) s) in
-      let it = decides added standing task begun.input awake in
-      on_then s awake (state_of (step limit added task input s)) (on_as s awake refl refl)
-      (taken-on awake it true task (serve_all limit added task) (kept_on task awake (reply_state it) (decides-keeps added standing task begun.input awake))
-      (λ t. serve-on _ task t))
-
-  -- ---- handles
-  effect-on : (it : Action) (s : State S) → IsOn s (state_of (effect limit added it s))
-  unfolding effect
-  effect-on (action.Step task) s = step-on task _ s
-  effect-on (action.StepInCircle task circle) s = step-on task _ s
-  effect-on (action.Wakeup task) s = step-on task _ s
-  effect-on _ s = on_as s _ refl refl
-
-  ran-on : (dead : Bool) (it : Action) (s : State S) → IsOn s (state_of (ran limit added dead it s))
-  ran-on true it s = on_as s s refl refl
-  ran-on false it s =
-      let noticed = noted (event.Ran it) s in
-      on_then s noticed (state_of (effect limit added it noticed))
-      (record { events = goes_on_one s.events _; turns = turns-ran s.events it; got = answers-ran s.events it; answers = refl })
-      (effect-on it noticed)
-
-  run_first-on : (handle : Handle) (handles : List Handle) (s : State S) → IsOn s (state_of (run_first limit added handle handles s))
-  run_first-on handle handles s =
-      let taken = unbooked_in (λ p. record p { pending = handles }) s in
-      on_then s taken (state_of (ran limit added handle.dead handle.action taken)) (on_as s taken refl refl) (ran-on handle.dead handle.action taken)
-
-  went_on-on : (s : State S) (went : Went S) (go_on : State S → Went S) → IsOn s (state_of went)
-      → ((t : State S) → IsOn t (state_of (go_on t))) → IsOn s (state_of (went_on go_on went))
-  went_on-on s (Goes now) go_on on goes = on_then s now (state_of (go_on now)) on (goes now)
-  went_on-on s (Stops end last) go_on on goes = on
-
-  next_below-on : (bar : ℕ) (handles : List Handle) (go_on : State S → Went S) (s : State S)
-      → ((t : State S) → IsOn t (state_of (go_on t))) → IsOn s (state_of (next_below limit added bar handles go_on s))
-  next_below-on bar [] go_on s goes = on_as s s refl refl
-  next_below-on bar (handle ∷ handles) go_on s goes = at (nat_lt handle.stamp bar)
-    where
-      at : (b : Bool) → IsOn s (state_of (run_if limit added b handle handles go_on s))
-      at true = went_on-on s (run_first limit added handle handles s) go_on (run_first-on handle handles s) goes
-      at false = on_as s s refl refl
-
-  run_below-on : (bar count : ℕ) (s : State S) → IsOn s (state_of (run_below limit added bar count s))
-  unfolding run_below
-  run_below-on bar zero s = on_as s s refl refl
-  run_below-on bar (suc count) s = next_below-on bar s.loop.parts.pending (run_below limit added bar count) s (run_below-on bar count)
-
-  turned-on : (answer : Answer) (s : State S) → IsOn s (state_of (turned_by limit added answer s))
-  turned-on answer s =
-      let woken = unbooked_in (woken_by answer) s in
-      went_on-on s (run_pending limit added woken) (turn_over s.main_done)
-      (on_then s woken (state_of (run_pending limit added woken)) (on_as s woken refl refl) (run_below-on _ _ woken))
-      (turn_over-on s.main_done)
+turned-on : {S : Type 0} (limit : ℕ) (added : Extra S) (answer : Answer) (s : State S) → IsOn s (state_of (turned_by limit added answer s))
+turned-on limit added answer s = fold IsOn (λ t. on_as t t refl refl) on_then change-on (turned_row limit added answer s)
 
 -- ---- turns. Each asks once. One that goes on took an answer.
 abbrev pub Turned : {S : Type 0} → State S → Went S → Type 0

@@ -1,40 +1,41 @@
 -- Each request of a task in its step leaves what is owed covered.
-use Rattle.std.proofs.Common.{◌≡◌, ℕ, zero, suc, ◌≤◌, ◌<◌, ℤ, pos, negsuc, Bool, true, false, cond, not, ◌&&◌, ◌==◌, List, [], ◌∷◌, Option, Some, None, length}
-use Rattle.std.proofs.Common.{nat_lt, is_some, slice_index_or, refl, sym, ap, subst, ◌∙◌, le_refl, arith}
+use Rattle.std.proofs.Common.{◌≡◌, ℕ, zero, suc, ◌≤◌, ◌<◌, pos, Bool, true, false, cond, not, ◌&&◌, ◌==◌, List, [], ◌∷◌, Option, Some, None, length}
+use Rattle.std.proofs.Common.{slice_index_or, refl, sym, ap, subst, ◌∙◌, le_refl, arith}
 use Rattle.std.specs.List.{count_by, list_any}
 use Rattle.std.specs.Option.{option_map_or}
-use Rattle.std.proofs.lemmas.Bool.{eq-eqb, eqb-true, ltb-true, false≢true}
+use Rattle.std.proofs.lemmas.Bool.{eq-eqb, eqb-true, false≢true}
 use Rattle.model_value.specs.Equality.{equal}
 use Rattle.model_value.specs.Input.{Input}
 use Rattle.model_value.specs.Request.{Request}
 use Rattle.model_value.specs.Value.{Value, Timeout, Exc, Outcome}
 use Rattle.model_value.specs.declared.input.Input.TheVariants.{Send, Throw}
-use Rattle.model_value.specs.declared.outcome.Outcome.TheVariants.{Value as Returned, Failed}
 use Rattle.model_value.specs.declared.request.Request.TheVariants as request
 use Rattle.model_tree.specs.Syntax.{Program}
 use Rattle.model_says.specs.Blocks.{open_blocks}
 use Rattle.model_says.specs.Endings.{Asks}
 use Rattle.model_says.specs.Says.{course, step_limit}
 use Rattle.model_loop.specs.Futures.{new_plain, next_future, settle}
-use Rattle.model_loop.specs.Groups.{GroupExit, Waits, Passes, Raises as RaisedBy, Refusal, create, exit_begin, exit_woken, group_of, new_group, next_group}
-use Rattle.model_loop.specs.Groups.{refusal}
-use Rattle.model_loop.specs.Ledger.{ByScript, ask_cancel, uncancel_by}
+use Rattle.model_loop.specs.Groups.{GroupExit, Waits, Passes, Raises as RaisedBy, create, exit_begin, exit_woken, group_of, new_group}
+use Rattle.model_loop.specs.Ledger.{ByScript, ask_cancel}
 use Rattle.model_loop.specs.Loop.{TimeoutState, Created, Active, Expiring, Expired, Finished, Loop, book, in_parts}
 use Rattle.model_loop.specs.Sound.{IsSound}
 use Rattle.model_loop.specs.Suspend.{suspend}
 use Rattle.model_loop.specs.Tasks.{lives, next_task, spawn}
-use Rattle.model_loop.specs.Timeouts.{exit_timeout, is_active, next_timeout, no_timeout, reschedule, timeout_of}
-use Rattle.model_machine.specs.Arguments.{as_future, as_awaited, as_task, as_timeout, as_group, as_int, as_delay, as_failure, as_list}
+use Rattle.model_loop.specs.Timeouts.{exit_timeout, no_timeout, reschedule, timeout_of}
+use Rattle.model_machine.specs.Arguments.{as_timeout, as_group}
 use Rattle.model_machine.specs.Extra as extra
 use Rattle.model_machine.specs.Extra.{Extra, ExtraAnswer, ExtraSaid, called}
 use Rattle.model_machine.specs.Outcomes.{input_of}
-use Rattle.model_machine.specs.Replies.{RequestReply, given, most_ids, numbered_if, numbered, replied, ended, result_of, waits, awaits_as, awaits, alarmed}
-use Rattle.model_machine.specs.Replies.{sleeps, makes_future, settles_if, settles, requests, counted, spawns, enters_timeout, timed_out_if, exits_timeout}
-use Rattle.model_machine.specs.Replies.{reschedules_if, reschedules, enters_group, exits_as, exits_group, creates_unless, creates, Wake, serves_until}
+use Rattle.model_machine.specs.Replies.{RequestReply, replied, ended, waits, alarmed}
+use Rattle.model_machine.specs.Replies.{sleeps_for, timed_out_if, exits_timeout}
+use Rattle.model_machine.specs.Replies.{exits_as, exits_group, Wake, serves_until}
 use Rattle.model_machine.specs.Replies.{serves_as, serves, woken_within, woken, reply, decides}
 use Rattle.model_machine.specs.Sound.{AreBlocksOf, AreBlocksOpen, blocks_of, has_open, is_open}
-use Rattle.model_machine.specs.State.{Standing, Asked, Sleeping, Leaving, Serving, Generator, State, generator, in_loop, with_loop}
+use Rattle.model_machine.specs.State.{Standing, Asked, Sleeping, Leaving, Serving, Generator, State, generator, with_loop}
 use Rattle.model_machine.specs.Step.{says_of}
+use Rattle.law_reach.specs.Cases.{Replies, answers, raises, pauses_on, alarms, awaits, says, makes, settles_it, cancels, uncancels, spawns_it, enters}
+use Rattle.law_reach.specs.Cases.{leaves, moves, enters_one, exits, creates_it, serves_it}
+use Rattle.law_reach.proofs.Cases.{reply_is}
 use Rattle.law_machine.proofs.Kept.{reply_state}
 use Rattle.law_inside.specs.InStep.{IsStepSound}
 use Rattle.law_inside.proofs.Counts.{own_there, lives_within}
@@ -145,73 +146,22 @@ Covers it = IsCovered (reply_state it).loop
 some_is : (a b : ℕ) → Some a ≡ Some b → a ≡ b
 some_is a b e = ap (λ o. option_map_or (λ (x : ℕ). x) o a) e
 
-given_in : {S A : Type 0} (o : Option A) (next : A → State S → RequestReply S) (s : State S) → IsCovered s.loop
-    → ((a : A) → o ≡ Some a → Covers (next a s)) → Covers (given o next s)
-given_in None next s c each = c
-given_in (Some a) next s c each = each a refl
-
-numbered_in : {S : Type 0} (made : ℕ) (next : State S → RequestReply S) (s : State S) → IsCovered s.loop
-    → (made < most_ids → Covers (next s)) → Covers (numbered made next s)
-numbered_in made next s c each = at (nat_lt made most_ids) refl
-  where
-    at : (b : Bool) → nat_lt made most_ids ≡ b → Covers (numbered_if b next s)
-    at true e = each (ltb-true made most_ids e)
-    at false e = c
-
 replied_in : {S : Type 0} (input : Input) (s : State S) → IsCovered s.loop → Covers (replied input s)
 replied_in (Send value) s c = c
 replied_in (Throw fault) s c = c
 
-result_in : {S : Type 0} (o : Option Outcome) (s : State S) → IsCovered s.loop → Covers (result_of o s)
-result_in (Some outcome) s c = replied_in (input_of outcome) s c
-result_in None s c = c
-
 waits_in : {S : Type 0} (task on : ℕ) (s : State S) → IsRight s.loop → IsCovered s.loop → IsCovered (waits task on s).loop
 waits_in task on s right c = covers s.loop (book (suspend task on) s.loop) (easy_suspend task on s.loop) right c
-
-awaits_in : {S : Type 0} (o : Option Outcome) (task on : ℕ) (s : State S) → IsRight s.loop → IsCovered s.loop → Covers (awaits_as o task on s)
-awaits_in (Some outcome) task on s right c = replied_in (input_of outcome) s c
-awaits_in None task on s right c = waits_in task on s right c
-
-sleeps_in : {S : Type 0} (task : ℕ) (delay : ℤ) (s : State S) → IsRight s.loop → IsCovered s.loop → Covers (sleeps task delay s)
-sleeps_in task (negsuc before) s right c =
-    covers s.loop _ (easy_parts s.loop _ (later_same s.loop.parts _ refl refl) (λ other. le_refl _)) right c
-sleeps_in task (pos zero) s right c =
-    covers s.loop _ (easy_parts s.loop _ (later_same s.loop.parts _ refl refl) (λ other. le_refl _)) right c
-sleeps_in task (pos (suc delay)) s right c =
-    let alarm = in_parts (alarmed task (pos (suc delay))) s.loop in
-    let on = next_future s.loop.parts in
-    covers s.loop (book (suspend task on) alarm)
-    (easy_then s.loop alarm (book (suspend task on) alarm)
-    (easy_parts s.loop (alarmed task (pos (suc delay)) s.loop.parts)
-    (later_then s.loop.parts (new_plain s.loop.parts) alarm.parts (later_plain s.loop.parts) (later_same (new_plain s.loop.parts) alarm.parts refl refl))
-    (λ other. le_refl _))
-    (easy_suspend task on alarm)) right c
-
-settles_in : {S : Type 0} (done : Bool) (on : ℕ) (outcome : Outcome) (s : State S) → IsRight s.loop → IsCovered s.loop
-    → Covers (settles_if done on outcome s)
-settles_in true on outcome s right c = c
-settles_in false on outcome s right c = covers s.loop (in_parts (settle on outcome) s.loop) (easy_settle on outcome s.loop) right c
 
 timed_out_in : {S : Type 0} (b : Bool) (l : Loop) (s : State S) → IsCovered l → Covers (timed_out_if b (with_loop l s))
 timed_out_in true l s c = c
 timed_out_in false l s c = c
-
-reschedules_in : {S : Type 0} (b : Bool) (id : ℕ) (when : Option ℤ) (s : State S) → IsRight s.loop → IsCovered s.loop
-    → Covers (reschedules_if b id when s)
-reschedules_in true id when s right c = covers s.loop (reschedule id when s.loop) (easy_reschedule id when s.loop) right c
-reschedules_in false id when s right c = c
 
 pub exits_in : {S : Type 0} (answer : GroupExit) (task id : ℕ) (l : Loop) (s : State S) → IsRight l → IsCovered l
     → Covers (exits_as answer task id (with_loop l s))
 exits_in (Waits on) task id l s right c = waits_in task on (with_loop l s) right c
 exits_in Passes task id l s right c = c
 exits_in (RaisedBy fault) task id l s right c = c
-
-creates_in : {S : Type 0} (cause : Option Refusal) (id coroutine : ℕ) (arguments : List Value) (s : State S) → IsRight s.loop → IsCovered s.loop
-    → Covers (creates_unless cause id coroutine arguments s)
-creates_in (Some cause) id coroutine arguments s right c = c
-creates_in None id coroutine arguments s right c = covers s.loop (create id s.loop) (easy_create id s.loop) right c
 
 -- what is added, where what wakes it does so
 abbrev WakeCovers : {S : Type 0} → Wake S → Type 0
@@ -260,8 +210,8 @@ module _ {S : Type 0} (added : Extra S) (task : ℕ) (s : State S) (step : IsSte
 
   timeout_in : (value : Value) (raised : Option Exc) → says_of step_limit added task s ≡ Asks (request.TimeoutExit value raised) → (id : ℕ)
       → as_timeout value ≡ Some id → Covers (exits_timeout raised id s)
-  timeout_in value raised says id e =
-      let r = innermost_timeout added task s (step.others.blocks.entered task) value raised says in
+  timeout_in value raised said id e =
+      let r = innermost_timeout added task s (step.others.blocks.entered task) value raised said in
       let same : r.0 ≡ id = some_is r.0 id (sym (ap as_timeout r.1) ∙ e) in
       let mine = (subst (AreBlocksOf s.loop task) r.2.1 (step.others.blocks.own task)).0 in
       let its : (timeout_of s.loop id).task ≡ task = ap (λ k. (timeout_of s.loop k).task) (sym same) ∙ mine.1 in
@@ -270,8 +220,8 @@ module _ {S : Type 0} (added : Extra S) (task : ℕ) (s : State S) (step : IsSte
 
   group_in : (value : Value) (raised : Option Exc) → says_of step_limit added task s ≡ Asks (request.GroupExit value raised) → (id : ℕ)
       → as_group value ≡ Some id → Covers (exits_group (exit_begin raised id s.loop) task id s)
-  group_in value raised says id e =
-      let f = fits_in added task s step (request.GroupExit value raised) says refl id e in
+  group_in value raised said id e =
+      let f = fits_in added task s step (request.GroupExit value raised) said refl id e in
       let living = (step.others.loop.groups id).tellings.parent_lives f.1 (unended f.2 (group_of s.loop id).ended refl) in
       exits_in (exit_begin raised id s.loop).answer task id (exit_begin raised id s.loop).loop s
       (begin_right raised id s.loop f.0 f.1 f.2 living right c) (begin_covers raised id s.loop f.0 f.1 f.2 living right c)
@@ -280,60 +230,38 @@ module _ {S : Type 0} (added : Extra S) (task : ℕ) (s : State S) (step : IsSte
       unended e false f = f
       unended e true f = absurd (false≢true (sym e ∙ (step.others.loop.groups id).kept.ended_exiting f))
 
+  alarm_in : (delay : ℕ) → Covers (sleeps_for task (pos (suc delay)) s)
+  alarm_in delay =
+      let alarm = in_parts (alarmed task (pos (suc delay))) s.loop in
+      let on = next_future s.loop.parts in
+      covers s.loop (book (suspend task on) alarm)
+      (easy_then s.loop alarm (book (suspend task on) alarm)
+      (easy_parts s.loop (alarmed task (pos (suc delay)) s.loop.parts)
+      (later_then s.loop.parts (new_plain s.loop.parts) alarm.parts (later_plain s.loop.parts) (later_same (new_plain s.loop.parts) alarm.parts refl refl))
+      (λ other. le_refl _))
+      (easy_suspend task on alarm)) right c
+
+  case_in : (asked : Request) (it : RequestReply S) → says_of step_limit added task s ≡ Asks asked → Replies added task s asked it → Covers it
+  case_in asked it said (answers value) = c
+  case_in asked it said (raises fault) = c
+  case_in asked it said pauses_on = covers s.loop _ (easy_parts s.loop _ (later_same s.loop.parts _ refl refl) (λ other. le_refl _)) right c
+  case_in asked it said (alarms delay) = alarm_in delay
+  case_in asked it said (awaits x on e none) = waits_in task on s right c
+  case_in asked it said (says values) = c
+  case_in asked it said (makes few) =
+      covers s.loop _ (easy_parts s.loop (new_plain s.loop.parts) (later_plain s.loop.parts) (λ other. le_refl _)) right c
+  case_in asked it said (settles_it future on outcome e) = covers s.loop (in_parts (settle on outcome) s.loop) (easy_settle on outcome s.loop) right c
+  case_in asked it said (cancels on) = covers s.loop (book (ask_cancel (ByScript task) on) s.loop) (easy_request (ByScript task) on s.loop) right c
+  case_in asked it said (uncancels other) = hand_covers s.loop (ByScript task) other refl right c
+  case_in asked it said (spawns_it coroutine arguments few) = covers s.loop (in_parts spawn s.loop) (easy_spawn s.loop) right c
+  case_in asked it said (enters delay few) = enter_covers task delay s.loop few right c
+  case_in asked it said (leaves timeout raised id e) = timeout_in timeout raised said id e
+  case_in asked it said (moves id when e) = covers s.loop (reschedule id when s.loop) (easy_reschedule id when s.loop) right c
+  case_in asked it said (enters_one few) = enter_group_covers task s.loop few right c
+  case_in asked it said (exits group raised id e) = group_in group raised said id e
+  case_in asked it said (creates_it id coroutine arguments few e) = covers s.loop (create id s.loop) (easy_create id s.loop) right c
+  case_in asked it said (serves_it code arguments number items) =
+      said_in (added.ask task number items s) (woken added task) task s (woken_in added task) (record { right = right; covered = c })
+
   pub reply_in : (asked : Request) → says_of step_limit added task s ≡ Asks asked → Covers (reply added task asked s)
-  unfolding reply
-  reply_in request.Pause says =
-      covers s.loop _ (easy_parts s.loop _ (later_same s.loop.parts _ refl refl) (λ other. le_refl _)) right c
-  reply_in (request.Await x) says =
-      given_in (as_awaited s x) (awaits task) s c (λ on e. awaits_in (ended s on) task on s right c)
-  reply_in (request.Print values) says = c
-  reply_in request.MakeFuture says =
-      numbered_in (length s.futures) makes_future s c
-      (λ few. covers s.loop _ (easy_parts s.loop (new_plain s.loop.parts) (later_plain s.loop.parts) (λ other. le_refl _)) right c)
-  reply_in (request.Set future value) says =
-      given_in (as_future s future) (λ on. settles on (Returned value)) s c
-      (λ on e. settles_in (is_some (ended s on)) on (Returned value) s right c)
-  reply_in (request.Fail future fault) says =
-      given_in (as_future s future) (λ on. given (as_failure fault) (λ it. settles on (Failed it))) s c
-      (λ on e. given_in (as_failure fault) (λ it. settles on (Failed it)) s c
-      (λ it f. settles_in (is_some (ended s on)) on (Failed it) s right c))
-  reply_in (request.IsDone x) says = given_in (as_awaited s x) _ s c (λ on e. c)
-  reply_in (request.IsCancelled x) says = given_in (as_awaited s x) _ s c (λ on e. c)
-  reply_in (request.ResultOf x) says =
-      given_in (as_awaited s x) (λ on now. result_of (ended now on) now) s c (λ on e. result_in (ended s on) s c)
-  reply_in (request.Cancel x) says =
-      given_in (as_awaited s x) (requests task) s c
-      (λ on e. covers s.loop (book (ask_cancel (ByScript task) on) s.loop) (easy_request (ByScript task) on s.loop) right c)
-  reply_in (request.Cancelling x) says = given_in (as_task x) counted s c (λ other e. c)
-  reply_in (request.Uncancel x) says =
-      given_in (as_task x) (λ other now. counted other (in_loop (book (uncancel_by (ByScript task) other)) now)) s c
-      (λ other e. hand_covers s.loop (ByScript task) other refl right c)
-  reply_in request.Current says = c
-  reply_in request.Time says = c
-  reply_in (request.Spawn coroutine arguments) says =
-      numbered_in (next_task s.loop.parts) (spawns coroutine arguments) s c (λ few. covers s.loop (in_parts spawn s.loop) (easy_spawn s.loop) right c)
-  reply_in (request.Sleep delay) says = given_in (as_int delay) (sleeps task) s c (λ it e. sleeps_in task it s right c)
-  reply_in (request.TimeoutEnter delay) says =
-      given_in (as_delay delay) (λ it now. numbered (next_timeout now.loop) (enters_timeout task it) now) s c
-      (λ it e. numbered_in (next_timeout s.loop) (enters_timeout task it) s c (λ few. enter_covers task it s.loop few right c))
-  reply_in (request.TimeoutExit timeout raised) says =
-      given_in (as_timeout timeout) (exits_timeout raised) s c (λ id e. timeout_in timeout raised says id e)
-  reply_in (request.Reschedule timeout when) says =
-      given_in (as_timeout timeout) (λ id. given (as_delay when) (λ it. reschedules id it)) s c
-      (λ id e. given_in (as_delay when) (λ it. reschedules id it) s c
-      (λ it f. reschedules_in (is_active (timeout_of s.loop id).state) id it s right c))
-  reply_in (request.Expired timeout) says = given_in (as_timeout timeout) _ s c (λ id e. c)
-  reply_in request.GroupEnter says =
-      numbered_in (next_group s.loop) (enters_group task) s c (λ few. enter_group_covers task s.loop few right c)
-  reply_in (request.GroupExit group raised) says =
-      given_in (as_group group) (λ id now. exits_group (exit_begin raised id now.loop) task id now) s c (λ id e. group_in group raised says id e)
-  reply_in (request.Create group coroutine arguments) says =
-      given_in (as_group group) (λ id now. numbered (next_task now.loop.parts) (creates id coroutine arguments) now) s c
-      (λ id e. numbered_in (next_task s.loop.parts) (creates id coroutine arguments) s c
-      (λ few. creates_in (refusal (group_of s.loop id)) id coroutine arguments s right c))
-  reply_in (request.Extra code arguments) says =
-      given_in (as_int code)
-      (λ number. given (as_list arguments) (λ items now. serves (added.ask task number items now) (woken added task) task now)) s c
-      (λ number e. given_in (as_list arguments) (λ items now. serves (added.ask task number items now) (woken added task) task now) s c
-      (λ items f. said_in (added.ask task number items s) (woken added task) task s (woken_in added task) (record { right = right; covered = c })))
-  reply_in _ says = c
+  reply_in asked said = case_in asked (reply added task asked s) said (reply_is added task s asked)

@@ -1,0 +1,4 @@
+pub mod Folds
+pub mod LoopRows
+pub mod Parts
+pub mod PartsRows

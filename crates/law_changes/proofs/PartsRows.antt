@@ -1,0 +1,107 @@
+-- What the loop does to its parts is a row of changes.
+use Rattle.std.proofs.Common.{ℕ, zero, suc, refl, Bool, true, false, List, [], ◌∷◌, ◌++◌, Option, Some, None, Result, Ok, Err, length, slice_get}
+use Rattle.std.proofs.Common.{nat_le, if◌then◌else◌}
+use Rattle.model_value.specs.declared.action.Action.TheVariants as action
+use Rattle.model_value.specs.declared.outcome.Outcome.TheVariants.{Cancelled}
+use Rattle.model_value.specs.Input.{Input}
+use Rattle.model_value.specs.Value.{Value, Exc, Outcome}
+use Rattle.model_loop.specs.Cancel.{CancelRequest, Canceller, cancel, cancel_at, cancel_below, cancel_by, cancel_each, cancel_kind, cancel_task}
+use Rattle.model_loop.specs.Cancel.{cancel_unseen, cancel_until}
+use Rattle.model_loop.specs.Cancel.{cancel_waiter, cancel_within, asked_where, has_seen, marked_unless}
+use Rattle.model_loop.specs.Futures.{made_before}
+use Rattle.model_loop.specs.Groups.{with_child, wake_if_last}
+use Rattle.model_loop.specs.Handles.{later, soon}
+use Rattle.model_loop.specs.Parts.{Future, FutureKind, Plain, OfTask, Many, Parts, Task}
+use Rattle.model_loop.specs.Tasks.{begin_step, finish, future_of}
+use Rattle.model_loop.specs.Timeouts.{fires_at, give_up}
+use Rattle.law_changes.specs.Changes.{CallsSoon, CallsLater, Revokes, Settles, Registers, KeepsAsked, MakesTask, WaitsFor, Marks, Unmarks, Counts}
+use Rattle.law_changes.specs.Reaches.{ReachAlone, PartsReach, stays, goes}
+use Rattle.law_changes.proofs.Folds.{one, on}
+
+module _ (r : Option ℕ) where
+  -- ---- cancel requests
+  abbrev ByRows : Canceller → Type 0
+  ByRows c = (id : ℕ) (seen : List ℕ) (p : Parts) → PartsReach r p (c id seen p).parts
+
+  each_row : (c : Canceller) → ByRows c → (ids seen : List ℕ) (p : Parts) → PartsReach r p (cancel_each c ids seen p).parts
+  each_row c rows [] seen p = stays
+  each_row c rows (id ∷ ids) seen p = on (rows id seen p) (each_row c rows ids (c id seen p).seen (c id seen p).parts)
+
+  module _ (member waiter : Canceller) (members : ByRows member) (waiters : ByRows waiter) where
+    waiter_row : (task : ℕ) (o : Option ℕ) (seen : List ℕ) (p : Parts) → PartsReach r p (cancel_waiter waiter task o seen p).parts
+    waiter_row task None seen p = one (Marks task) tt
+    waiter_row task (Some id) seen p = at (waiter id seen p).answer
+      where
+        at : (b : Bool) → PartsReach r p (marked_unless b task (waiter id seen p)).parts
+        at true = waiters id seen p
+        at false = goes (waiters id seen p) (Marks task) tt
+
+    unseen_row : (task : ℕ) (o : Option Task) (seen : List ℕ) (p : Parts) → PartsReach r p (cancel_unseen waiter task o seen p).parts
+    unseen_row task None seen p = stays
+    unseen_row task (Some it) seen p = on (one (Counts task) tt) (waiter_row task it.waiter (seen ++ task ∷ []) _)
+
+    task_row : (b : Bool) (task : ℕ) (seen : List ℕ) (p : Parts) → PartsReach r p (cancel_task waiter b task seen p).parts
+    task_row true task seen p = stays
+    task_row false task seen p = unseen_row task (slice_get p.tasks task) seen p
+
+    asked_row : (b : Bool) (id : ℕ) (p : Parts) (it : CancelRequest) → PartsReach r p it.parts → PartsReach r p (asked_where b id it).parts
+    asked_row true id p it row = goes row (KeepsAsked id) tt
+    asked_row false id p it row = row
+
+    kind_row : (kind : FutureKind) → ByRows (cancel_kind member waiter kind)
+    kind_row Plain id seen p = one (Settles id Cancelled) tt
+    kind_row (OfTask task) id seen p = task_row (has_seen seen task) task seen p
+    kind_row (Many others asked) id seen p =
+        asked_row (cancel_each member (made_before id others) seen p).answer id p (cancel_each member (made_before id others) seen p)
+        (each_row member members (made_before id others) seen p)
+
+    until_row : (o : Option Outcome) (kind : FutureKind) → ByRows (cancel_until member waiter o kind)
+    until_row (Some outcome) kind id seen p = stays
+    until_row None kind id seen p = kind_row kind id seen p
+
+    at_row : (o : Option Future) → ByRows (cancel_at member waiter o)
+    at_row None id seen p = stays
+    at_row (Some future) id seen p = until_row future.outcome future.kind id seen p
+
+    by_row : ByRows (cancel_by member waiter)
+    by_row id seen p = at_row (slice_get p.futures id) id seen p
+
+  below_row : (bound : ℕ) (waiter : Canceller) → ByRows waiter → ByRows (cancel_below bound waiter)
+  below_row zero waiter rows id seen p = stays
+  below_row (suc bound) waiter rows id seen p = by_row (cancel_below bound waiter) waiter (below_row bound waiter rows) rows id seen p
+
+  within_row : (tasks : ℕ) → ByRows (cancel_within tasks)
+  within_row zero id seen p = stays
+  within_row (suc tasks) id seen p = below_row (suc id) (cancel_within tasks) (within_row tasks) id seen p
+
+  pub cancel_row : (id : ℕ) (p : Parts) → PartsReach r p (cancel id p).parts
+  cancel_row id p = within_row (suc (length p.tasks)) id [] p
+
+  -- ---- handles and groups
+  pub give_up_row : (o : Option ℕ) (p : Parts) → ReachAlone r p (give_up o p)
+  give_up_row None p = stays
+  give_up_row (Some tag) p = one (Revokes tag) tt
+
+  pub fires_row : (id when : ℕ) (p : Parts) → ReachAlone r p (fires_at id when p)
+  fires_row id when p = at (nat_le when p.time)
+    where
+      at : (b : Bool) → ReachAlone r p (if b then soon (action.Fires id) p else later when (action.Fires id) p)
+      at true = one (CallsSoon (action.Fires id)) refl
+      at false = one (CallsLater when (action.Fires id)) tt
+
+  pub child_row : (id : ℕ) (p : Parts) → ReachAlone r p (with_child id p)
+  child_row id p = goes (one MakesTask tt) (Registers _ _) refl
+
+  pub wake_row : (tasks : List ℕ) (o : Option ℕ) (p : Parts) → ReachAlone r p (wake_if_last tasks o p)
+  wake_row [] (Some future) p = one (Settles future _) tt
+  wake_row [] None p = stays
+  wake_row (task ∷ tasks) o p = stays
+
+-- ---- the task that runs
+module _ (task : ℕ) where
+  pub begin_row : (input : Input) (p : Parts) → ReachAlone (Some task) p (begin_step task input p).parts
+  begin_row input p = goes (one (WaitsFor task None) refl) (Unmarks task) refl
+
+  pub finish_row : (end : Result Value Exc) (p : Parts) → ReachAlone (Some task) p (finish task end p)
+  finish_row (Ok value) p = goes (one (Unmarks task) refl) (Settles (future_of p task) _) tt
+  finish_row (Err fault) p = one (Settles (future_of p task) _) tt

@@ -1,0 +1,4 @@
+//! Laws of what the loop does as rows of small changes.
+#![tactic(auto)]
+
+pub mod rows;

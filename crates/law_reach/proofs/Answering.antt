@@ -1,0 +1,142 @@
+-- What a request comes to is a row of changes.
+use Rattle.std.proofs.Common.{ℕ, zero, suc, pos, refl, Bool, true, false, Option, Some, None}
+use Rattle.model_value.specs.declared.action.Action.TheVariants as action
+use Rattle.model_value.specs.declared.input.Input.TheVariants.{Send, Throw}
+use Rattle.model_value.specs.Input.{Input}
+use Rattle.model_value.specs.Request.{Request}
+use Rattle.model_value.specs.Value.{Outcome, Exc}
+use Rattle.model_loop.specs.Futures.{next_future}
+use Rattle.model_loop.specs.Groups.{GroupExit, Waits, Passes, Raises as RaisedBy, exit_begin, exit_woken}
+use Rattle.model_loop.specs.Ledger.{ByScript}
+use Rattle.model_loop.specs.Loop.{Loop}
+use Rattle.model_loop.specs.Parts.{Plain}
+use Rattle.model_loop.specs.Timeouts.{exit_timeout}
+use Rattle.model_machine.specs.Extra as extra
+use Rattle.model_machine.specs.Extra.{Extra, ExtraAnswer, ExtraCall, ExtraSaid, called}
+use Rattle.model_machine.specs.Outcomes.{input_of}
+use Rattle.model_machine.specs.Replies.{RequestReply, Wake, alarmed, decides, ended, exits_as, exits_timeout, replied, reply, serves, serves_as}
+use Rattle.model_machine.specs.Replies.{serves_until}
+use Rattle.model_machine.specs.Replies.{shown_all, timed_out_if, waits, woken, woken_within}
+use Rattle.model_machine.specs.State.{Standing, Asked, Sleeping, Leaving, Serving, State, unbooked_in, with_loop}
+use Rattle.law_changes.specs.Changes.{CallsSoon, CallsLater, MakesFuture, Settles, MakesTask, OfParts}
+use Rattle.law_changes.specs.Reaches.{stays, goes, LoopReaches}
+use Rattle.law_changes.proofs.LoopRows.{asks_row, create_row, enter_group_row, enter_row, exit_begin_row, exit_timeout_row, exit_woken_row}
+use Rattle.law_changes.proofs.LoopRows.{reschedule_row, suspend_row, takes_row}
+use Rattle.law_changes.proofs.Folds.{one, on}
+use Rattle.law_reach.specs.Cases.{Replies, answers, raises, pauses_on, alarms, awaits, says, makes, settles_it, cancels, uncancels, spawns_it, enters}
+use Rattle.law_reach.specs.Cases.{leaves, moves, enters_one, exits, creates_it, serves_it}
+use Rattle.law_reach.specs.Changes.{OfLoop, Says, MakesCoroutine, Stands, NamesFuture, ChangesExtra}
+use Rattle.law_reach.specs.Reaches.{ComesTo, InAnswer}
+use Rattle.law_reach.proofs.Cases.{reply_is}
+use Rattle.law_reach.proofs.Extras.{all_row}
+
+-- a row of the loop is one of the state
+pub in_loop_row : {S : Type 0} {r : Option ℕ} {l m : Loop} (s : State S) → LoopReaches r l m → InAnswer r (record s { loop = l }) (record s { loop = m })
+in_loop_row s stays = stays
+in_loop_row s (goes row change may) = goes (in_loop_row s row) (OfLoop change) may
+
+pub called_row : {S : Type 0} (r : Option ℕ) (call : ExtraCall S) (s : State S) → InAnswer r s (called call s)
+called_row r call s = on (one (ChangesExtra call.state) tt) (in_loop_row (record s { extra = call.state }) (all_row r call.steps s.loop))
+
+module _ {S : Type 0} (task : ℕ) where
+  abbrev Row : State S → State S → Type 0
+  Row s t = InAnswer (Some task) s t
+
+  abbrev Comes : State S → RequestReply S → Type 0
+  Comes s it = ComesTo (Some task) s it
+
+  replied_comes : (input : Input) (s : State S) → Comes s (replied input s)
+  replied_comes (Send value) s = record { reaches = stays; ends = tt }
+  replied_comes (Throw fault) s = record { reaches = stays; ends = tt }
+
+  -- ---- waits
+  waits_row : (id : ℕ) (s : State S) → Row s (waits task id s)
+  waits_row id s = in_loop_row s (suspend_row task id s.loop)
+
+  -- ---- timeouts and groups
+  exits_timeout_comes : (raised : Option Exc) (id : ℕ) (s : State S) → Comes s (exits_timeout raised id s)
+  exits_timeout_comes raised id s = at (exit_timeout raised id s.loop).timed_out
+    where
+      at : (b : Bool) → Comes s (timed_out_if b (with_loop (exit_timeout raised id s.loop).loop s))
+      at true = record { reaches = in_loop_row s (exit_timeout_row (Some task) raised id s.loop); ends = tt }
+      at false = record { reaches = in_loop_row s (exit_timeout_row (Some task) raised id s.loop); ends = tt }
+
+  exits_comes : (answer : GroupExit) (id : ℕ) (l : Loop) (s : State S) → LoopReaches (Some task) s.loop l → Comes s (exits_as answer task id (with_loop l s))
+  exits_comes (Waits future) id l s row = record {
+    reaches = goes (on (in_loop_row s row) (waits_row future (with_loop l s))) (Stands (Leaving id) task) refl;
+    ends = tt;
+  }
+  exits_comes Passes id l s row = record { reaches = in_loop_row s row; ends = tt }
+  exits_comes (RaisedBy fault) id l s row = record { reaches = in_loop_row s row; ends = tt }
+
+  -- ---- what is added
+  abbrev WakeComes : Wake S → Type 0
+  WakeComes wake = (key : ℕ) (input : Input) (s : State S) → Comes s (wake key input s)
+
+  after : {s t : State S} {it : RequestReply S} → Row s t → Comes t it → Comes s it
+  after row it = record { reaches = on row it.reaches; ends = it.ends }
+
+  until_comes : (o : Option Outcome) (wake : Wake S) (id key : ℕ) (s : State S) → WakeComes wake → Comes s (serves_until o wake task id key s)
+  until_comes (Some outcome) wake id key s wakes = wakes key (input_of outcome) s
+  until_comes None wake id key s wakes = record { reaches = goes (waits_row id s) (Stands (Serving key) task) refl; ends = tt }
+
+  as_comes : (answer : ExtraAnswer) (wake : Wake S) (s : State S) → WakeComes wake → Comes s (serves_as answer wake task s)
+  as_comes (extra.Answers value) wake s wakes = record { reaches = stays; ends = tt }
+  as_comes (extra.Raises fault) wake s wakes = record { reaches = stays; ends = tt }
+  as_comes (extra.Waits id key) wake s wakes = until_comes (ended s id) wake id key s wakes
+
+  serves_comes : (said : ExtraSaid S) (wake : Wake S) (s : State S) → WakeComes wake → Comes s (serves said wake task s)
+  serves_comes said wake s wakes = after (called_row (Some task) said.call s) (as_comes said.answer wake (called said.call s) wakes)
+
+module _ {S : Type 0} (added : Extra S) (task : ℕ) where
+  within_comes : (wakes : ℕ) → WakeComes task (woken_within added wakes task)
+  within_comes zero key input s = record { reaches = stays; ends = tt }
+  within_comes (suc wakes) key input s = serves_comes task (added.wake key input s) (woken_within added wakes task) s (within_comes wakes)
+
+  woken_comes : WakeComes task (woken added task)
+  woken_comes key input s = within_comes (suc (added.wakes_left key s.extra)) key input s
+
+  -- ---- the table, by its cases
+  case_comes : (s : State S) {asked : Request} {it : RequestReply S} → Replies added task s asked it → ComesTo (Some task) s it
+  case_comes s (answers value) = record { reaches = stays; ends = tt }
+  case_comes s (raises fault) = record { reaches = stays; ends = tt }
+  case_comes s pauses_on = record { reaches = one (OfLoop (OfParts (CallsSoon (action.Step task)))) refl; ends = tt }
+  case_comes s (alarms delay) = record {
+    reaches = goes (on (goes (one (OfLoop (OfParts (MakesFuture Plain))) tt) (OfLoop (OfParts (CallsLater _ _))) tt)
+        (waits_row task (next_future s.loop.parts) (unbooked_in (alarmed task (pos (suc delay))) s))) (Stands (Sleeping s.loop.parts.next_tag) task) refl;
+    ends = tt;
+  }
+  case_comes s (awaits x id e none) = record { reaches = waits_row task id s; ends = tt }
+  case_comes s (says values) = record { reaches = one (Says task (shown_all values)) refl; ends = tt }
+  case_comes s (makes few) = record {
+    reaches = goes (one (NamesFuture (next_future s.loop.parts)) tt) (OfLoop (OfParts (MakesFuture Plain))) tt;
+    ends = tt;
+  }
+  case_comes s (settles_it future id outcome e) = record { reaches = one (OfLoop (OfParts (Settles id outcome))) tt; ends = tt }
+  case_comes s (cancels id) = record { reaches = in_loop_row s (asks_row (Some task) (ByScript task) id s.loop); ends = tt }
+  case_comes s (uncancels other) = record { reaches = in_loop_row s (takes_row (Some task) (ByScript task) other s.loop); ends = tt }
+  case_comes s (spawns_it coroutine arguments few) = record {
+    reaches = goes (one (OfLoop (OfParts MakesTask)) tt) (MakesCoroutine coroutine arguments) tt;
+    ends = tt;
+  }
+  case_comes s (enters delay few) = record { reaches = in_loop_row s (enter_row (Some task) task delay s.loop); ends = tt }
+  case_comes s (leaves timeout raised id e) = exits_timeout_comes task raised id s
+  case_comes s (moves id when e) = record { reaches = in_loop_row s (reschedule_row (Some task) id when s.loop); ends = tt }
+  case_comes s (enters_one few) = record { reaches = in_loop_row s (enter_group_row (Some task) task s.loop); ends = tt }
+  case_comes s (exits group raised id e) =
+      exits_comes task (exit_begin raised id s.loop).answer id (exit_begin raised id s.loop).loop s (exit_begin_row (Some task) raised id s.loop)
+  case_comes s (creates_it id coroutine arguments few e) = record {
+    reaches = goes (in_loop_row s (create_row (Some task) id s.loop)) (MakesCoroutine coroutine arguments) tt;
+    ends = tt;
+  }
+  case_comes s (serves_it code arguments number items) = serves_comes task (added.ask task number items s) (woken added task) s woken_comes
+
+  pub reply_comes : (asked : Request) (s : State S) → ComesTo (Some task) s (reply added task asked s)
+  reply_comes asked s = case_comes s (reply_is added task s asked)
+
+  pub decides_comes : (standing : Standing) (input : Input) (s : State S) → ComesTo (Some task) s (decides added standing task input s)
+  decides_comes Asked input s = replied_comes task input s
+  decides_comes (Sleeping tag) input s = replied_comes task input s
+  decides_comes (Leaving group) input s =
+      exits_comes task (exit_woken input group s.loop).answer group (exit_woken input group s.loop).loop s (exit_woken_row (Some task) input group s.loop)
+  decides_comes (Serving key) input s = woken_comes key input s

@@ -1,0 +1,7 @@
+pub mod Answering
+pub mod Cases
+pub mod Extras
+pub mod Loops
+pub mod Running
+pub mod Streams
+pub mod Turning

@@ -1,0 +1,4 @@
+pub mod Cases
+pub mod Changes
+pub mod Reaches
+pub mod Streams
