@@ -1,0 +1,6 @@
+use Rattle.std.proofs.Common.{◌≡◌, ◌++◌, flat_map}
+use Rattle.model_work.specs.Work.{quiet_text, numbers_from}
+use Rattle.aio_work.proofs.journal.push_quiet_turns.Given as goal
+
+abbrev pub invariant-loop-past : goal.invariant-loop-past
+invariant-loop-past l = l.out.items ≡ l.initial.out.items ++ flat_map quiet_text (numbers_from 301 l.past)

@@ -1,0 +1,9 @@
+//! A script and a journal made from a number, to have the loop work.
+#![tactic(auto)]
+
+mod journal;
+mod numbers;
+mod script;
+mod texts;
+
+pub use texts::work;
