@@ -16,7 +16,7 @@ use Rattle.model_loop.specs.Groups.{take_back, take_back_where, wait_or_end, wai
 use Rattle.model_loop.specs.Ledger.{LedgerEntry, Origin, ByAbort, ByEnd, ByGroup, ByTimeout, ByWait, ask_cancel, request, request_each, request_where}
 use Rattle.model_loop.specs.Ledger.{uncancel_by}
 use Rattle.model_loop.specs.Loop.{Loop, TimeoutState, Created, Active, Expiring, Expired, Finished, book}
-use Rattle.model_loop.specs.Parts.{Plain, Many, Parts}
+use Rattle.model_loop.specs.Parts.{Plain, Parts}
 use Rattle.model_loop.specs.Tasks.{cancelling, future_of, is_marked, lives, next_task, unmark}
 use Rattle.model_loop.specs.Circles.{circle}
 use Rattle.model_loop.specs.Handles.{soon}
@@ -24,7 +24,7 @@ use Rattle.model_loop.specs.Suspend.{cancel_wait, suspend, suspend_unless, wait_
 use Rattle.model_loop.specs.Timeouts.{enter_timeout, exit_timeout, fire, is_active, leave_from, make_timeout, next_timeout, reschedule}
 use Rattle.model_loop.specs.Timeouts.{reschedule_where, schedule}
 use Rattle.model_loop.specs.Timeouts.{timeout_of, with_deadline, without_handle}
-use Rattle.law_changes.specs.Changes.{CallsSoon, CallsLater, Revokes, MakesFuture, Settles, Registers, Unmarks, WaitsFor, OfParts, MakesTimeout}
+use Rattle.law_changes.specs.Changes.{CallsSoon, MakesFuture, Registers, Unmarks, WaitsFor, OfParts, MakesTimeout}
 use Rattle.law_changes.specs.Changes.{ChangesTimeout, MakesGroup, ChangesGroup, AsksCancel, TakesBack, BeginsExit}
 use Rattle.law_changes.specs.Reaches.{ReachAlone, LoopReaches, stays, goes}
 use Rattle.law_changes.proofs.PartsRows.{child_row, fires_row, give_up_row, wake_row}

@@ -23,7 +23,8 @@ use Rattle.law_changes.specs.Reaches.{stays, goes, LoopReaches}
 use Rattle.law_changes.proofs.LoopRows.{asks_row, create_row, enter_group_row, enter_row, exit_begin_row, exit_timeout_row, exit_woken_row}
 use Rattle.law_changes.proofs.LoopRows.{reschedule_row, suspend_row, takes_row}
 use Rattle.law_changes.proofs.Folds.{one, on}
-use Rattle.law_reach.specs.Cases.{Replies, answers, raises, pauses_on, alarms, awaits, says, makes, settles_it, cancels, uncancels, spawns_it, enters}
+use Rattle.law_reach.specs.Cases.{Replies, raises, leaves_none, exits_none, tells, names_itself, hands_on, pauses_on, alarms, awaits, prints, makes, sets}
+use Rattle.law_reach.specs.Cases.{fails, cancels, uncancels, spawns_it, enters}
 use Rattle.law_reach.specs.Cases.{leaves, moves, enters_one, exits, creates_it, serves_it}
 use Rattle.law_reach.specs.Changes.{OfLoop, Says, MakesCoroutine, Stands, NamesFuture, ChangesExtra}
 use Rattle.law_reach.specs.Reaches.{ComesTo, InAnswer}
@@ -98,34 +99,39 @@ module _ {S : Type 0} (added : Extra S) (task : ℕ) where
 
   -- ---- the table, by its cases
   case_comes : (s : State S) {asked : Request} {it : RequestReply S} → Replies added task s asked it → ComesTo (Some task) s it
-  case_comes s (answers value) = record { reaches = stays; ends = tt }
-  case_comes s (raises fault) = record { reaches = stays; ends = tt }
-  case_comes s pauses_on = record { reaches = one (OfLoop (OfParts (CallsSoon (action.Step task)))) refl; ends = tt }
-  case_comes s (alarms delay) = record {
+  case_comes s (raises fault f) = record { reaches = stays; ends = tt }
+  case_comes s (leaves_none timeout raised fault e) = record { reaches = stays; ends = tt }
+  case_comes s (exits_none group raised fault e) = record { reaches = stays; ends = tt }
+  case_comes s (tells value none b) = record { reaches = stays; ends = tt }
+  case_comes s names_itself = record { reaches = stays; ends = tt }
+  case_comes s (hands_on on outcome e b) = replied_comes task (input_of outcome) s
+  case_comes s (pauses_on may b) = record { reaches = one (OfLoop (OfParts (CallsSoon (action.Step task)))) refl; ends = tt }
+  case_comes s (alarms x delay) = record {
     reaches = goes (on (goes (one (OfLoop (OfParts (MakesFuture Plain))) tt) (OfLoop (OfParts (CallsLater _ _))) tt)
         (waits_row task (next_future s.loop.parts) (unbooked_in (alarmed task (pos (suc delay))) s))) (Stands (Sleeping s.loop.parts.next_tag) task) refl;
     ends = tt;
   }
   case_comes s (awaits x id e none) = record { reaches = waits_row task id s; ends = tt }
-  case_comes s (says values) = record { reaches = one (Says task (shown_all values)) refl; ends = tt }
+  case_comes s (prints values) = record { reaches = one (Says task (shown_all values)) refl; ends = tt }
   case_comes s (makes few) = record {
     reaches = goes (one (NamesFuture (next_future s.loop.parts)) tt) (OfLoop (OfParts (MakesFuture Plain))) tt;
     ends = tt;
   }
-  case_comes s (settles_it future id outcome e) = record { reaches = one (OfLoop (OfParts (Settles id outcome))) tt; ends = tt }
-  case_comes s (cancels id) = record { reaches = in_loop_row s (asks_row (Some task) (ByScript task) id s.loop); ends = tt }
-  case_comes s (uncancels other) = record { reaches = in_loop_row s (takes_row (Some task) (ByScript task) other s.loop); ends = tt }
+  case_comes s (sets future value on e) = record { reaches = one (OfLoop (OfParts (Settles on _))) tt; ends = tt }
+  case_comes s (fails future fault on it e) = record { reaches = one (OfLoop (OfParts (Settles on _))) tt; ends = tt }
+  case_comes s (cancels x id) = record { reaches = in_loop_row s (asks_row (Some task) (ByScript task) id s.loop); ends = tt }
+  case_comes s (uncancels x other) = record { reaches = in_loop_row s (takes_row (Some task) (ByScript task) other s.loop); ends = tt }
   case_comes s (spawns_it coroutine arguments few) = record {
     reaches = goes (one (OfLoop (OfParts MakesTask)) tt) (MakesCoroutine coroutine arguments) tt;
     ends = tt;
   }
-  case_comes s (enters delay few) = record { reaches = in_loop_row s (enter_row (Some task) task delay s.loop); ends = tt }
+  case_comes s (enters x delay few) = record { reaches = in_loop_row s (enter_row (Some task) task delay s.loop); ends = tt }
   case_comes s (leaves timeout raised id e) = exits_timeout_comes task raised id s
-  case_comes s (moves id when e) = record { reaches = in_loop_row s (reschedule_row (Some task) id when s.loop); ends = tt }
+  case_comes s (moves timeout x id when e) = record { reaches = in_loop_row s (reschedule_row (Some task) id when s.loop); ends = tt }
   case_comes s (enters_one few) = record { reaches = in_loop_row s (enter_group_row (Some task) task s.loop); ends = tt }
   case_comes s (exits group raised id e) =
       exits_comes task (exit_begin raised id s.loop).answer id (exit_begin raised id s.loop).loop s (exit_begin_row (Some task) raised id s.loop)
-  case_comes s (creates_it id coroutine arguments few e) = record {
+  case_comes s (creates_it group id coroutine arguments few e) = record {
     reaches = goes (in_loop_row s (create_row (Some task) id s.loop)) (MakesCoroutine coroutine arguments) tt;
     ends = tt;
   }

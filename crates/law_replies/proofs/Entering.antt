@@ -5,14 +5,14 @@ use Rattle.std.specs.List.{list_all}
 use Rattle.std.proofs.lemmas.Bool.{cases_eq, cases_lt, eq-eqb, false≢true}
 use Rattle.model_value.specs.Input.{Input}
 use Rattle.model_value.specs.declared.action.Action.TheVariants.{GroupDone, Step}
-use Rattle.model_value.specs.declared.input.Input.TheVariants.{Send, Throw}
+use Rattle.model_value.specs.declared.input.Input.TheVariants.{Send}
 use Rattle.model_value.specs.declared.request.Request.TheVariants as request
 use Rattle.model_value.specs.Request.{Request}
 use Rattle.model_value.specs.Value.{Value, Task, Group, Timeout}
 use Rattle.model_says.specs.Blocks.{open_with}
 use Rattle.model_says.specs.Endings.{Asks}
 use Rattle.model_says.specs.Says.{step_limit}
-use Rattle.model_loop.specs.Groups.{Refusal, create, group_of, new_group, refusal, refusal_fault, create_unless}
+use Rattle.model_loop.specs.Groups.{Refusal, create, group_of, new_group, refusal, create_unless}
 use Rattle.model_loop.specs.Groups.{with_child}
 use Rattle.model_loop.specs.Futures.{next_future}
 use Rattle.model_loop.specs.Handles.{deadline}
@@ -22,7 +22,7 @@ use Rattle.model_loop.specs.Tasks.{lives, next_task, spawn}
 use Rattle.model_loop.specs.Timeouts.{enter_timeout, make_timeout, next_timeout}
 use Rattle.model_loop.specs.Totals.{pending_where}
 use Rattle.model_machine.specs.Extra.{Extra}
-use Rattle.model_machine.specs.Replies.{creates, creates_unless, spawns}
+use Rattle.model_machine.specs.Replies.{creates_unless, spawns}
 use Rattle.model_machine.specs.Sound.{IsLeft, IsUnbegun, blocks_of, names_block, names_made}
 use Rattle.model_machine.specs.State.{Asked, Generator, State, generator_of, in_loop, resumed, with_coroutine}
 use Rattle.model_machine.specs.Step.{says_of}
@@ -43,7 +43,7 @@ use Rattle.law_inside.proofs.Counts.{and_first, count_unbegun, lives_before, liv
 use Rattle.law_inside.proofs.Given.{asked_leaves, task_made, spawn_keeps, spawned_blocks, old_same}
 use Rattle.law_inside.proofs.Keeping.{IsApart, open_of, with_open, says_same, tapes_blocks, futures_kept, loop_keeps, standing_kept, resumed_blocks}
 use Rattle.law_inside.proofs.Keeping.{resumed_others, resumed_standing, resumed_begun, answer_keeps}
-use Rattle.law_replies.proofs.Table.{same_tapes, thrown}
+use Rattle.law_replies.proofs.Table.{same_tapes}
 use Rattle.law_inside.proofs.Tapes.{past_default}
 
 -- ---- a new task's first step is pending
@@ -145,23 +145,19 @@ module _ {S : Type 0} (added : Extra S) (task : ℕ) (s : State S) (asked : Requ
     child_count : (id : ℕ) → next_task (with_child id s.loop.parts) ≡ next_task s.loop.parts + 1
     child_count id = (child_after id).same refl ∙ length-append s.loop.parts.tasks _
 
-    pub creates_in : (id : ℕ) → RepliesSound task (creates id coroutine arguments s) → RepliesInStep added false task (creates id coroutine arguments s)
-    creates_in id h = at (refusal (group_of s.loop id)) refl h
+    pub creates_in : (id : ℕ) → refusal (group_of s.loop id) ≡ None → RepliesSound task (creates_unless None id coroutine arguments s)
+        → RepliesInStep added false task (creates_unless None id coroutine arguments s)
+    creates_in id e h =
+        made_in plain named coroutine arguments given_ (create id s.loop)
+        (create_loop (names_made (next_task s.loop.parts)) refl (Some task) None None None id s.loop) (created (refusal (group_of s.loop id)) refl e) begun h
       where
         created : (o : Option Refusal) → refusal (group_of s.loop id) ≡ o → o ≡ None → next_task (create id s.loop).parts ≡ next_task s.loop.parts + 1
         created o e none = ap (λ r. next_task (create_unless r id s.loop).parts) (e ∙ none) ∙ child_count id
 
-        begun : refusal (group_of s.loop id) ≡ None → IsUnbegun (create id s.loop).parts (next_task s.loop.parts)
-        begun e =
+        begun : IsUnbegun (create id s.loop).parts (next_task s.loop.parts)
+        begun =
             subst (λ r. IsUnbegun (create_unless r id s.loop).parts (next_task s.loop.parts)) (sym e)
             (count_unbegun (with_child id s.loop.parts) (next_task s.loop.parts) (child_step id))
-
-        at : (o : Option Refusal) → refusal (group_of s.loop id) ≡ o → RepliesSound task (creates_unless o id coroutine arguments s)
-            → RepliesInStep added false task (creates_unless o id coroutine arguments s)
-        at (Some cause) e h = thrown added task s asked is (λ b f. plain b (Throw f)) (λ f. named (Throw f)) (refusal_fault cause)
-        at None e h =
-            made_in plain named coroutine arguments given_ (create id s.loop)
-            (create_loop (names_made (next_task s.loop.parts)) refl (Some task) None None None id s.loop) (created None e refl) (begun e) h
 
   -- ---- a timeout is entered
   module _ (delay : Value) (is_asked : asked ≡ request.TimeoutEnter delay) (when : Option ℤ) (h : RunsSound task (in_loop (enter_timeout task when) s)) where

@@ -1,6 +1,6 @@
 -- Requests that enter no block and leave none: what they come to is sound inside the step, or ends it.
-use Rattle.std.proofs.Common.{◌≡◌, ℕ, zero, suc, ◌<◌, ◌⊎◌, inl, inr, ℤ, pos, negsuc, Bool, true, false, cond, not, ◌&&◌, ◌==◌, List, [], ◌∷◌, ◌++◌, Option}
-use Rattle.std.proofs.Common.{Some, None, is_some, length, nat_lt, slice_get, refl, sym, ap, subst, ◌∙◌, le_refl, arith}
+use Rattle.std.proofs.Common.{◌≡◌, ℕ, suc, ◌<◌, ◌⊎◌, inl, inr, ℤ, pos, Bool, true, false, cond, not, ◌&&◌, ◌==◌, List, [], ◌∷◌, ◌++◌}
+use Rattle.std.proofs.Common.{Some, None, length, slice_get, refl, sym, ap, subst, ◌∙◌, le_refl, arith}
 use Rattle.std.specs.Option.{option_map_or}
 use Rattle.std.proofs.lemmas.Bool.{cases_eq, eq-eqb}
 use Rattle.model_value.specs.Input.{Input}
@@ -9,8 +9,6 @@ use Rattle.model_value.specs.declared.action.Action.TheVariants.{SleepDone, Step
 use Rattle.model_value.specs.Request.{Request}
 use Rattle.model_value.specs.Value.{Value, Nothing, Truth, Int, Fut, Exc, Outcome}
 use Rattle.model_says.specs.Blocks.{open_with}
-use Rattle.model_says.specs.Operations.{out_of_range}
-use Rattle.model_says.specs.Requests.{bad_argument}
 use Rattle.model_loop.specs.Entries.{entries}
 use Rattle.model_loop.specs.Futures.{new_plain, next_future, settle}
 use Rattle.model_loop.specs.Handles.{deadline}
@@ -21,8 +19,7 @@ use Rattle.model_loop.specs.Suspend.{suspend}
 use Rattle.model_loop.specs.Tasks.{cancelling, next_task, pause, uncancel}
 use Rattle.model_machine.specs.Extra.{Extra}
 use Rattle.model_machine.specs.Outcomes.{input_of}
-use Rattle.model_machine.specs.Replies.{RequestReply, alarmed, awaits, awaits_as, counted, ended, given, makes_future, most_ids, not_set, numbered, numbered_if}
-use Rattle.model_machine.specs.Replies.{pauses, replied, requests, result_of, settles, settles_if, sleeps, waits, invalid_state}
+use Rattle.model_machine.specs.Replies.{Answers, Rests, alarmed, counted, ended, makes_future, pauses, replied, requests, sleeps_for, waits}
 use Rattle.model_machine.specs.Sound.{AreScriptsFutures, NamesItsSleep, StandsRightly, names_block, names_made, sends_made, stands_at}
 use Rattle.model_machine.specs.State.{Standing, Asked, Sleeping, Leaving, State, generator_of, in_loop, resumed, stands, unbooked_in}
 use Rattle.law_cancel.proofs.Lookups.{get-push_last, get-push_other, get_within}
@@ -172,20 +169,6 @@ module _ {S : Type 0} (added : Extra S) (task : ℕ) (s : State S) (asked : Requ
         step_to added task Asked asked s is s (same_tapes s s.loop) is.others.futures refl refl self is.others.loop asked_leaves false (Throw fault)
         (λ b. throws b fault) (named fault) refl
 
-    pub given_in : {A : Type 0} (o : Option A) (next : A → State S → RequestReply S) → RepliesSound task (given o next s)
-        → ((a : A) → o ≡ Some a → RepliesSound task (next a s) → RepliesInStep added false task (next a s))
-        → RepliesInStep added false task (given o next s)
-    given_in None next h each = thrown bad_argument
-    given_in (Some a) next h each = each a refl h
-
-    pub numbered_in : (made : ℕ) (next : State S → RequestReply S) → RepliesSound task (numbered made next s)
-        → (RepliesSound task (next s) → RepliesInStep added false task (next s)) → RepliesInStep added false task (numbered made next s)
-    numbered_in made next h each = at (nat_lt made most_ids) h
-      where
-        at : (b : Bool) → RepliesSound task (numbered_if b next s) → RepliesInStep added false task (numbered_if b next s)
-        at true h = each h
-        at false h = thrown out_of_range
-
   module _ (plain : (blocks : List Value) (input : Input) → open_with blocks asked input ≡ blocks)
       (named : (input : Input) → names_block asked input ≡ true) where
     abbrev throw : (fault : Exc) → IsStepSound added task (resumed false task (Throw fault) s)
@@ -217,48 +200,35 @@ module _ {S : Type 0} (added : Extra S) (task : ℕ) (s : State S) (asked : Requ
           rest_to added task Asked asked s is (unbooked_in (pause task) s) (same_tapes s (in_parts (pause task) s.loop))
           (scripts (in_parts (pause task) s.loop) a) refl refl a h asked_leaves begun may
 
-      pub awaits_in : stands_at Asked asked ≡ true → (on : ℕ) → RepliesSound task (awaits task on s) → RepliesInStep added false task (awaits task on s)
-      awaits_in may on h = at (ended s on) refl h
-        where
-          at : (o : Option Outcome) → ended s on ≡ o → RepliesSound task (awaits_as o task on s) → RepliesInStep added false task (awaits_as o task on s)
-          at (Some outcome) e h =
-              replied_in (input_of outcome) (ended_made added (Some task) (Some task) s (half added task Asked asked s is) on outcome e)
-          at None e h =
-              let a = book_loop (names_made (next_task s.loop.parts)) refl false (Some task) None None None (suspend task on) s.loop
-              (suspend_after (names_made (next_task s.loop.parts)) false (Some task) task on s.loop.parts) in
-              rest_to added task Asked asked s is (waits task on s) (same_tapes s (book (suspend task on) s.loop))
-              (scripts (book (suspend task on) s.loop) a) refl (a.parts.same refl) a h asked_leaves begun may
+      pub waits_in : stands_at Asked asked ≡ true → (on : ℕ) → RepliesSound task (Rests (waits task on s))
+          → RepliesInStep added false task (Rests (waits task on s))
+      waits_in may on h =
+          let a = book_loop (names_made (next_task s.loop.parts)) refl false (Some task) None None None (suspend task on) s.loop
+          (suspend_after (names_made (next_task s.loop.parts)) false (Some task) task on s.loop.parts) in
+          rest_to added task Asked asked s is (waits task on s) (same_tapes s (book (suspend task on) s.loop))
+          (scripts (book (suspend task on) s.loop) a) refl (a.parts.same refl) a h asked_leaves begun may
 
-      pub sleeps_in : stands_at Asked asked ≡ true → ((tag : ℕ) → stands_at (Sleeping tag) asked ≡ true) → (delay : ℤ)
-          → RepliesSound task (sleeps task delay s) → RepliesInStep added false task (sleeps task delay s)
-      sleeps_in may may_sleep (negsuc before) h = pauses_in may h
-      sleeps_in may may_sleep (pos zero) h = pauses_in may h
-      sleeps_in may may_sleep (pos (suc delay)) h =
+      pub sleeps_in : ((tag : ℕ) → stands_at (Sleeping tag) asked ≡ true) → (delay : ℕ) → RepliesSound task (sleeps_for task (pos (suc delay)) s)
+          → RepliesInStep added false task (sleeps_for task (pos (suc delay)) s)
+      sleeps_in may delay h =
           let t = slept (pos (suc delay)) in
           let a = slept_after (pos (suc delay)) in
           rest_stood added task Asked asked s is t (same_tapes s t.loop) (scripts t.loop a) refl (a.parts.same refl) (Sleeping s.loop.parts.next_tag)
-          None a h (λ id f. refl) begun (may_sleep s.loop.parts.next_tag) (stands_sleeping (pos (suc delay)))
+          None a h (λ id f. refl) begun (may s.loop.parts.next_tag) (stands_sleeping (pos (suc delay)))
           (λ id e mine. absurd (asked_leaves id (is.exits id (left_before s t _ _ (Some task) None None None a id refl refl e) (mine ∙ (a.groups id).parent))))
 
     -- ---- futures
-    pub result_in : (on : ℕ) → RepliesInStep added false task (result_of (ended s on) s)
-    result_in on = at (ended s on) refl
-      where
-        at : (o : Option Outcome) → ended s on ≡ o → RepliesInStep added false task (result_of o s)
-        at (Some outcome) e =
-            replied_in (input_of outcome) (ended_made added (Some task) (Some task) s (half added task Asked asked s is) on outcome e)
-        at None e = throw not_set
+    pub hands_in : (on : ℕ) (outcome : Outcome) → ended s on ≡ Some outcome → RepliesInStep added false task (replied (input_of outcome) s)
+    hands_in on outcome e =
+        replied_in (input_of outcome) (ended_made added (Some task) (Some task) s (half added task Asked asked s is) on outcome e)
 
-    pub settles_in : (on : ℕ) (outcome : Outcome) → OutcomeIn (names_made (next_task s.loop.parts)) outcome → RepliesSound task (settles on outcome s)
-        → RepliesInStep added false task (settles on outcome s)
-    settles_in on outcome good h = at (is_some (ended s on)) h
-      where
-        at : (b : Bool) → RepliesSound task (settles_if b on outcome s) → RepliesInStep added false task (settles_if b on outcome s)
-        at true h = throw invalid_state
-        at false h =
-            answered (in_parts (settle on outcome) s.loop)
-            (in_these (settle on outcome s.loop.parts)
-            (settle_after (names_made (next_task s.loop.parts)) false (Some task) on outcome s.loop.parts good)) h Nothing refl
+    pub settles_in : (on : ℕ) (outcome : Outcome) → OutcomeIn (names_made (next_task s.loop.parts)) outcome
+        → RunsSound task (unbooked_in (settle on outcome) s)
+        → RepliesInStep added false task (Answers Nothing (unbooked_in (settle on outcome) s))
+    settles_in on outcome good h =
+        answered (in_parts (settle on outcome) s.loop)
+        (in_these (settle on outcome s.loop.parts)
+        (settle_after (names_made (next_task s.loop.parts)) false (Some task) on outcome s.loop.parts good)) h Nothing refl
 
     -- ---- cancels
     pub requests_in : (on : ℕ) → RepliesSound task (requests task on s) → RepliesInStep added false task (requests task on s)

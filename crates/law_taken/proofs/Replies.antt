@@ -9,12 +9,13 @@ use Rattle.model_value.specs.Input.{Input}
 use Rattle.model_value.specs.Request.{Request}
 use Rattle.model_value.specs.Value.{Value, Timeout, Exc, Outcome}
 use Rattle.model_value.specs.declared.input.Input.TheVariants.{Send, Throw}
+use Rattle.model_value.specs.declared.outcome.Outcome.TheVariants.{Value as Returned, Failed}
 use Rattle.model_value.specs.declared.request.Request.TheVariants as request
 use Rattle.model_tree.specs.Syntax.{Program}
 use Rattle.model_says.specs.Blocks.{open_blocks}
 use Rattle.model_says.specs.Endings.{Asks}
 use Rattle.model_says.specs.Says.{course, step_limit}
-use Rattle.model_loop.specs.Futures.{new_plain, next_future, settle}
+use Rattle.model_loop.specs.Futures.{new_plain, next_future}
 use Rattle.model_loop.specs.Groups.{GroupExit, Waits, Passes, Raises as RaisedBy, create, exit_begin, exit_woken, group_of, new_group}
 use Rattle.model_loop.specs.Ledger.{ByScript, ask_cancel}
 use Rattle.model_loop.specs.Loop.{TimeoutState, Created, Active, Expiring, Expired, Finished, Loop, book, in_parts}
@@ -33,8 +34,8 @@ use Rattle.model_machine.specs.Replies.{serves_as, serves, woken_within, woken, 
 use Rattle.model_machine.specs.Sound.{AreBlocksOf, AreBlocksOpen, blocks_of, has_open, is_open}
 use Rattle.model_machine.specs.State.{Standing, Asked, Sleeping, Leaving, Serving, Generator, State, generator, with_loop}
 use Rattle.model_machine.specs.Step.{says_of}
-use Rattle.law_reach.specs.Cases.{Replies, answers, raises, pauses_on, alarms, awaits, says, makes, settles_it, cancels, uncancels, spawns_it, enters}
-use Rattle.law_reach.specs.Cases.{leaves, moves, enters_one, exits, creates_it, serves_it}
+use Rattle.law_reach.specs.Cases.{Replies, raises, leaves_none, exits_none, tells, names_itself, hands_on, pauses_on, alarms, awaits, prints, makes, sets}
+use Rattle.law_reach.specs.Cases.{fails, cancels, uncancels, spawns_it, enters, leaves, moves, enters_one, exits, creates_it, serves_it}
 use Rattle.law_reach.proofs.Cases.{reply_is}
 use Rattle.law_machine.proofs.Kept.{reply_state}
 use Rattle.law_inside.specs.InStep.{IsStepSound}
@@ -242,24 +243,29 @@ module _ {S : Type 0} (added : Extra S) (task : ℕ) (s : State S) (step : IsSte
       (easy_suspend task on alarm)) right c
 
   case_in : (asked : Request) (it : RequestReply S) → says_of step_limit added task s ≡ Asks asked → Replies added task s asked it → Covers it
-  case_in asked it said (answers value) = c
-  case_in asked it said (raises fault) = c
-  case_in asked it said pauses_on = covers s.loop _ (easy_parts s.loop _ (later_same s.loop.parts _ refl refl) (λ other. le_refl _)) right c
-  case_in asked it said (alarms delay) = alarm_in delay
+  case_in asked it said (raises fault f) = c
+  case_in asked it said (leaves_none timeout raised fault e) = c
+  case_in asked it said (exits_none group raised fault e) = c
+  case_in asked it said (tells value none b) = c
+  case_in asked it said names_itself = c
+  case_in asked it said (hands_on on outcome e b) = replied_in (input_of outcome) s c
+  case_in asked it said (pauses_on may b) = covers s.loop _ (easy_parts s.loop _ (later_same s.loop.parts _ refl refl) (λ other. le_refl _)) right c
+  case_in asked it said (alarms x delay) = alarm_in delay
   case_in asked it said (awaits x on e none) = waits_in task on s right c
-  case_in asked it said (says values) = c
+  case_in asked it said (prints values) = c
   case_in asked it said (makes few) =
       covers s.loop _ (easy_parts s.loop (new_plain s.loop.parts) (later_plain s.loop.parts) (λ other. le_refl _)) right c
-  case_in asked it said (settles_it future on outcome e) = covers s.loop (in_parts (settle on outcome) s.loop) (easy_settle on outcome s.loop) right c
-  case_in asked it said (cancels on) = covers s.loop (book (ask_cancel (ByScript task) on) s.loop) (easy_request (ByScript task) on s.loop) right c
-  case_in asked it said (uncancels other) = hand_covers s.loop (ByScript task) other refl right c
+  case_in asked it said (sets future value on e) = covers s.loop _ (easy_settle on (Returned value) s.loop) right c
+  case_in asked it said (fails future fault on raised e) = covers s.loop _ (easy_settle on (Failed raised) s.loop) right c
+  case_in asked it said (cancels x on) = covers s.loop (book (ask_cancel (ByScript task) on) s.loop) (easy_request (ByScript task) on s.loop) right c
+  case_in asked it said (uncancels x other) = hand_covers s.loop (ByScript task) other refl right c
   case_in asked it said (spawns_it coroutine arguments few) = covers s.loop (in_parts spawn s.loop) (easy_spawn s.loop) right c
-  case_in asked it said (enters delay few) = enter_covers task delay s.loop few right c
+  case_in asked it said (enters x delay few) = enter_covers task delay s.loop few right c
   case_in asked it said (leaves timeout raised id e) = timeout_in timeout raised said id e
-  case_in asked it said (moves id when e) = covers s.loop (reschedule id when s.loop) (easy_reschedule id when s.loop) right c
+  case_in asked it said (moves timeout x id when e) = covers s.loop (reschedule id when s.loop) (easy_reschedule id when s.loop) right c
   case_in asked it said (enters_one few) = enter_group_covers task s.loop few right c
   case_in asked it said (exits group raised id e) = group_in group raised said id e
-  case_in asked it said (creates_it id coroutine arguments few e) = covers s.loop (create id s.loop) (easy_create id s.loop) right c
+  case_in asked it said (creates_it group id coroutine arguments few e) = covers s.loop (create id s.loop) (easy_create id s.loop) right c
   case_in asked it said (serves_it code arguments number items) =
       said_in (added.ask task number items s) (woken added task) task s (woken_in added task) (record { right = right; covered = c })
 

@@ -4,6 +4,7 @@ use Rattle.std.proofs.Common.{slice_index_or, refl, ap, ◌∙◌, length-append
 use Rattle.std.proofs.lemmas.Bool.{eq-eqb}
 use Rattle.std.proofs.lemmas.Option.{none-some}
 use Rattle.model_value.specs.declared.input.Input.TheVariants.{Send, Throw}
+use Rattle.model_value.specs.declared.outcome.Outcome.TheVariants.{Value as Returned, Failed}
 use Rattle.model_value.specs.Input.{Input}
 use Rattle.model_value.specs.Request.{Request}
 use Rattle.model_value.specs.Value.{Value, Fut, Exc}
@@ -20,6 +21,7 @@ use Rattle.model_loop.specs.Tasks.{lives}
 use Rattle.model_loop.specs.Timeouts.{exit_timeout}
 use Rattle.model_machine.specs.Arguments.{as_future}
 use Rattle.model_machine.specs.Extra.{Extra}
+use Rattle.model_machine.specs.Outcomes.{input_of}
 use Rattle.model_machine.specs.Replies.{RequestReply, replied, shown_all, alarmed, enters_group, exits_as, exits_group, timed_out_if, reply}
 use Rattle.model_machine.specs.State.{State, with_loop}
 use Rattle.model_machine.specs.Told.{told_by, told_in}
@@ -30,8 +32,8 @@ use Rattle.law_sound.proofs.Steps.{spawn_step_sound, later_step_sound}
 use Rattle.law_sound.proofs.GroupSteps.{make_group_sound, enter_group_sound, create_sound, exit_begin_sound}
 use Rattle.law_sound.proofs.TimeoutSteps.{enter_timeout_sound, reschedule_sound, exit_timeout_sound}
 use Rattle.law_groups.proofs.Waits.{exit_waits}
-use Rattle.law_reach.specs.Cases.{Replies, answers, raises, pauses_on, alarms, awaits, says, makes, settles_it, cancels, uncancels, spawns_it, enters}
-use Rattle.law_reach.specs.Cases.{leaves, moves, enters_one, exits, creates_it, serves_it}
+use Rattle.law_reach.specs.Cases.{Replies, raises, leaves_none, exits_none, tells, names_itself, hands_on, pauses_on, alarms, awaits, prints, makes, sets}
+use Rattle.law_reach.specs.Cases.{fails, cancels, uncancels, spawns_it, enters, leaves, moves, enters_one, exits, creates_it, serves_it}
 use Rattle.law_reach.proofs.Cases.{reply_is}
 use Rattle.law_turns.specs.Replied.{RunsSound, HasPlainFutures, RepliesSound, IsFit}
 use Rattle.law_turns.proofs.Turning.{as_told}
@@ -88,10 +90,14 @@ module _ {S : Type 0} (task : ℕ) where
   -- ---- each case
   case_sound : (added : Extra S) (asked : Request) (it : RequestReply S) (s : State S) → RunsSound task s → HasPlainFutures s → IsFit asked s
       → Replies added task s asked it → RepliesSound task it
-  case_sound added asked it s sound plain fit (answers value) = sound
-  case_sound added asked it s sound plain fit (raises fault) = sound
-  case_sound added asked it s sound plain fit pauses_on = pause_step_sound (told_in s.events) task s.loop sound
-  case_sound added asked it s sound plain fit (alarms delay) =
+  case_sound added asked it s sound plain fit (raises fault f) = sound
+  case_sound added asked it s sound plain fit (leaves_none timeout raised fault e) = sound
+  case_sound added asked it s sound plain fit (exits_none group raised fault e) = sound
+  case_sound added asked it s sound plain fit (tells value none b) = sound
+  case_sound added asked it s sound plain fit names_itself = sound
+  case_sound added asked it s sound plain fit (hands_on on outcome e b) = replied_sound (input_of outcome) s sound
+  case_sound added asked it s sound plain fit (pauses_on may b) = pause_step_sound (told_in s.events) task s.loop sound
+  case_sound added asked it s sound plain fit (alarms x delay) =
       suspend_step_sound (told_in s.events) task (next_future s.loop.parts) (in_parts (alarmed task (pos (suc delay))) s.loop)
       (ap is_pending_at (get-push_last s.loop.parts.futures _))
       (later_step_sound (Some task) (told_in s.events) (deadline s.loop.parts.time (pos (suc delay))) task (next_future s.loop.parts)
@@ -99,27 +105,29 @@ module _ {S : Type 0} (task : ℕ) where
       (plain_step_sound (Some task) (told_in s.events) s.loop sound))
   case_sound added asked it s sound plain fit (awaits x on e none) =
       suspend_step_sound (told_in s.events) task on s.loop (fit on e none) sound
-  case_sound added asked it s sound plain fit (says values) =
+  case_sound added asked it s sound plain fit (prints values) =
       as_told (Some task) (told_in s.events) (told_in (s.events ++ event.Said task (shown_all values) ∷ [])) s.loop
       (told_in-said s.events task (shown_all values)) sound
   case_sound added asked it s sound plain fit (makes few) = plain_step_sound (Some task) (told_in s.events) s.loop sound
-  case_sound added asked it s sound plain fit (settles_it future on outcome e) =
-      settle_step_sound (Some task) (told_in s.events) on outcome s.loop (future_plain s plain future on e) sound
-  case_sound added asked it s sound plain fit (cancels on) =
+  case_sound added asked it s sound plain fit (sets future value on e) =
+      settle_step_sound (Some task) (told_in s.events) on (Returned value) s.loop (future_plain s plain future on e) sound
+  case_sound added asked it s sound plain fit (fails future fault on raised e) =
+      settle_step_sound (Some task) (told_in s.events) on (Failed raised) s.loop (future_plain s plain future on e) sound
+  case_sound added asked it s sound plain fit (cancels x on) =
       request_step_sound (Some task) (told_in s.events) (ByScript task) on s.loop (by_script task) sound
-  case_sound added asked it s sound plain fit (uncancels other) =
+  case_sound added asked it s sound plain fit (uncancels x other) =
       uncancel_step_sound (Some task) (told_in s.events) (ByScript task) other s.loop (by_script task) sound
   case_sound added asked it s sound plain fit (spawns_it coroutine arguments few) = spawn_step_sound (Some task) (told_in s.events) s.loop sound
-  case_sound added asked it s sound plain fit (enters delay few) = enter_timeout_sound (Some task) (told_in s.events) task delay s.loop sound
+  case_sound added asked it s sound plain fit (enters x delay few) = enter_timeout_sound (Some task) (told_in s.events) task delay s.loop sound
   case_sound added asked it s sound plain fit (leaves timeout raised id e) = at (exit_timeout raised id s.loop).timed_out
     where
       at : (b : Bool) → RepliesSound task (timed_out_if b (with_loop (exit_timeout raised id s.loop).loop s))
       at true = exit_timeout_sound (Some task) (told_in s.events) raised id s.loop (fit id e).0 (fit id e).1 sound
       at false = exit_timeout_sound (Some task) (told_in s.events) raised id s.loop (fit id e).0 (fit id e).1 sound
-  case_sound added asked it s sound plain fit (moves id when e) = reschedule_sound (Some task) (told_in s.events) id when s.loop sound
+  case_sound added asked it s sound plain fit (moves timeout x id when e) = reschedule_sound (Some task) (told_in s.events) id when s.loop sound
   case_sound added asked it s sound plain fit (enters_one few) = enters_sound s sound
   case_sound added asked it s sound plain fit (exits group raised id e) = exits_sound raised id s sound (fit id e)
-  case_sound added asked it s sound plain fit (creates_it id coroutine arguments few e) = create_sound (Some task) (told_in s.events) id s.loop sound
+  case_sound added asked it s sound plain fit (creates_it group id coroutine arguments few e) = create_sound (Some task) (told_in s.events) id s.loop sound
   case_sound added asked it s sound plain fit (serves_it code arguments number items) = absurd fit
 
   pub reply_sound : (added : Extra S) (it : Request) (s : State S) → RunsSound task s → HasPlainFutures s → IsFit it s
