@@ -1,0 +1,2 @@
+pub mod Delivers
+pub mod Ends

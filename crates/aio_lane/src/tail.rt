@@ -1,0 +1,64 @@
+//! The end of a lane that receives.
+ghost use Rattle.std.specs.Prelude.{◌≡◌, [], true};
+ghost use Rattle.crossbeam_queue.specs.Passes.{view};
+ghost use Rattle.aio_lane.specs.Ends.{received, tail_seen};
+
+use crate::between::Between;
+use crate::command::Command;
+use crate::track::{LanePass, Takes};
+use std::alloc::Global;
+use std::marker::Model;
+use std::sync::{Arc, Wait};
+
+/// The end that receives. Contracts see the lane that it belongs to, and what it received.
+#[derive(Drop)]
+pub struct Tail {
+    pub(crate) between: Arc<Between, Global>,
+    pub(crate) pass: LanePass,
+}
+
+impl Model for Tail {
+    ghost use Rattle.std.specs.Arc.{arc_value};
+    ghost use Rattle.crossbeam_queue.specs.Passes.{IsPassOf};
+    ghost use Rattle.aio_lane.specs.Ends.{TailSeen, tail_seen, IsTail};
+
+    ghost Value = { TailSeen };
+
+    ghost view = { λ tail. tail_seen tail.pass };
+
+    ghost invariant = { λ tail. IsPassOf (arc_value tail.between).queue tail.pass × IsTail tail.pass };
+}
+
+impl Tail {
+    /// Waits for a command, and takes the first.
+    pub fn next<R: Wait>(&mut self, rt: &R) -> Command
+        ensures { self.new ≡ received self.old result }
+    {
+        for _ in rt.forever() {
+            let seen = self.between.parker.now(rt);
+            if let Some(command) = self.between.queue.pop_as::<Takes, R>(rt, &mut self.pass) {
+                return command;
+            }
+            self.between.parker.park(rt, seen);
+        }
+        unreachable!()
+    }
+
+    /// Its pass on the lane's queue. Its view keeps what this tail received.
+    pub fn pass(&self) -> &LanePass
+        ensures named { (result.now.table_id ≡ self.now.lane) × (result.now.me.1 ≡ []) }
+        ensures taken { (view result.now).taken ≡ self.now.taken }
+    {
+        &self.pass
+    }
+
+    // Its pass, for the head that takes it back.
+    pub(crate) fn into_pass(self) -> LanePass
+        ensures seen { tail_seen result ≡ self }
+        ensures takes { (view result).takes ≡ true }
+        ensures empty { result.me.1 ≡ [] }
+    {
+        let Tail { between: _, pass } = self;
+        pass
+    }
+}
