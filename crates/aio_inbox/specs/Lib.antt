@@ -1,0 +1,9 @@
+pub mod Numbers
+pub mod Views
+pub mod Names
+pub mod Delivers
+pub mod Accounts
+pub mod Steps
+pub mod Ends
+pub mod Answers
+pub mod Naming
