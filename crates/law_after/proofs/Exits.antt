@@ -9,10 +9,13 @@ use Rattle.model_loop.specs.Groups.{wait_or_end, wait_or_end_with}
 use Rattle.model_loop.specs.Loop.{Group, Loop, in_parts}
 use Rattle.model_loop.specs.Parts.{Plain}
 use Rattle.model_loop.specs.Ways.{is_running}
+use Rattle.law_changes.specs.Blocks.{OfEnding, in_ending, ends}
+use Rattle.law_changes.specs.Changes.{LoopChange, made_of_loop}
+use Rattle.law_changes.proofs.BlockRows.{wait_or_end_in}
 use Rattle.law_told.proofs.Holding.{group_same}
 use Rattle.law_after.specs.After.{IsLoopAfter}
 use Rattle.law_after.proofs.Made.{make_after}
-use Rattle.law_after.proofs.Loops.{loop_on, parts_loop, group_loop, exit_begun, exit_heard, begin_loop, begin_marks, heard_loop}
+use Rattle.law_after.proofs.Loops.{loop_on, parts_loop, group_change, group_loop, row_loop, exit_begun, exit_heard, begin_loop, begin_marks, heard_loop}
 
 module _ (test : Value → Bool) (nothing : test Nothing ≡ true) (grown : Bool) (excused timeout begun : Option ℕ) (id : ℕ) where
   -- one that waits ends nothing, and any other ends the group
@@ -31,10 +34,10 @@ module _ (test : Value → Bool) (nothing : test Nothing ≡ true) (grown : Bool
         still = λ h. exiting;
       })
 
-  end_loop : (kept : Option Exc) (errors : List Exc) (l : Loop) → IsLoopAfter test grown excused timeout (Some id) begun l (end_exit kept errors id l).loop
-  end_loop None errors l = ending _ l refl refl refl
-  end_loop (Some fault) [] l = ending _ l refl refl refl
-  end_loop (Some fault) (x ∷ xs) l = ending _ l refl refl refl
+  ending_change : (change : LoopChange) (l : Loop) → OfEnding id change l
+      → IsLoopAfter test grown excused timeout (Some id) begun l (made_of_loop change l)
+  ending_change change l (in_ending it) = group_change test nothing grown excused timeout (Some id) begun id change l it
+  ending_change _ l (ends errors) = ending _ l refl refl refl
 
   wait_loop : (l : Loop) → IsLoopAfter test grown excused timeout None begun l
       (set_group id (record (group_of l id) { exit_future = Some (next_future l.parts) }) (in_parts new_plain l))
@@ -55,11 +58,7 @@ module _ (test : Value → Bool) (nothing : test Nothing ≡ true) (grown : Bool
   }
 
   wait_or_end_loop : (l : Loop) → IsLoopAfter test grown excused timeout (Some id) begun l (wait_or_end id l).loop
-  wait_or_end_loop l = at (group_of l id).children
-    where
-      at : (children : List ℕ) → IsLoopAfter test grown excused timeout (Some id) begun l (wait_or_end_with children id l).loop
-      at [] = end_loop (group_of l id).kept (group_of l id).errors l
-      at (child ∷ children) = freed l _ (wait_loop l)
+  wait_or_end_loop l = row_loop test nothing grown excused timeout (Some id) begun ending_change (wait_or_end_in id l)
 
   raised_ends : (errors : List Exc) (l m : Loop) → (group_of m id).ended ≡ true → ExitLeaves l (raised_of errors) m
   raised_ends [] l m h = h

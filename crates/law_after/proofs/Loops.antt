@@ -1,30 +1,32 @@
 -- What steps of timeouts and groups leave of the loop.
-use Rattle.std.proofs.Common.{◌≡◌, ℕ, zero, suc, ◌<◌, ◌⊎◌, inl, inr, Bool, true, false, cond, not, ◌&&◌, ◌||◌, ◌==◌, List, [], ◌∷◌, ◌++◌, Option, Some, None}
-use Rattle.std.proofs.Common.{is_some, length, length-set, slice_set, slice_index_or, refl, sym, ap, subst, ◌∙◌}
+use Rattle.std.proofs.Common.{◌≡◌, ℕ, zero, suc, ◌<◌, ◌⊎◌, inl, inr, Bool, true, false, List, [], ◌∷◌, Option, None}
+use Rattle.std.proofs.Common.{length, length-set, slice_set, slice_index_or, refl, sym, ap, subst, ◌∙◌}
 use Rattle.std.proofs.lemmas.Bool.{cases_eq, false≢true}
 use Rattle.model_value.specs.Input.{Input}
-use Rattle.model_value.specs.declared.input.Input.TheVariants.{Send, Throw}
 use Rattle.model_value.specs.declared.action.Action.TheVariants.{GroupDone}
 use Rattle.model_value.specs.declared.outcome.Outcome.TheVariants.{Value as Returned}
 use Rattle.model_value.specs.Value.{Value, Nothing, Exc}
-use Rattle.model_loop.specs.Futures.{next_future}
-use Rattle.model_loop.specs.Groups.{Refusal, abort, abort_and_request_unless, abort_if_raised, abort_where, begin_exit, blame}
-use Rattle.model_loop.specs.Groups.{child_done, create, create_unless, failure_of, group_of, hear}
-use Rattle.model_loop.specs.Groups.{keep_and_abort_unless, new_group, only_cancelled, refusal, set_group, take_back, take_back_where}
-use Rattle.model_loop.specs.Groups.{wake_exit, wake_if_last, with_child, without_child}
-use Rattle.model_loop.specs.Ledger.{Booked, ByAbort, ByGroup, ask_cancel, request_each, uncancel_by}
-use Rattle.model_loop.specs.Loop.{Timeout, Group, Loop, book, in_parts}
-use Rattle.model_loop.specs.Parts.{Parts}
-use Rattle.model_loop.specs.Tasks.{cancelling, future_of, next_task, spawn, uncancel}
+use Rattle.model_loop.specs.Groups.{abort_if_raised, begin_exit}
+use Rattle.model_loop.specs.Groups.{child_done, create, group_of, hear}
+use Rattle.model_loop.specs.Groups.{new_group, only_cancelled, set_group, take_back}
+use Rattle.model_loop.specs.Ledger.{Booked, ByAbort, ByGroup, ask_cancel, uncancel_by}
+use Rattle.model_loop.specs.Loop.{Timeout, Group, Loop, book}
+use Rattle.model_loop.specs.Parts.{Parts, Plain}
 use Rattle.model_loop.specs.Timeouts.{no_timeout}
 use Rattle.model_loop.specs.Timeouts.{set_timeout, timeout_of}
 use Rattle.model_loop.specs.Ways.{is_running}
+use Rattle.law_changes.specs.Blocks.{GroupStage, OfGroup, changes, aborts, waits, wakes, OfTold, in_told, requests, asks, OfTaking, in_taking, takes}
+use Rattle.law_changes.specs.Blocks.{OfCreating, in_creating, spawns, registers}
+use Rattle.law_changes.specs.Changes.{LoopChange, made_of_loop}
+use Rattle.law_changes.specs.Reaches.{Reaches}
+use Rattle.law_changes.proofs.BlockRows.{child_done_in, create_in, heard_in, taken_in}
+use Rattle.law_changes.proofs.Folds.{fold}
 use Rattle.law_told.proofs.Holding.{group_same, group_other}
 use Rattle.law_timeouts.proofs.Tagging.{timeout_other}
 use Rattle.law_after.specs.After.{IsAfter, TimeoutAfter, GroupAfter, IsLoopAfter}
 use Rattle.law_after.proofs.Parts.{refl_after, after_on, change_after, settle_after}
-use Rattle.law_after.proofs.Made.{register_after, spawn_after}
-use Rattle.law_after.proofs.Requests.{cancel_after, each_after}
+use Rattle.law_after.proofs.Made.{make_after, register_after, spawn_after}
+use Rattle.law_after.proofs.Requests.{cancel_after}
 
 -- ---- fields
 same_timeout : (left : Bool) (t : Timeout) → TimeoutAfter left t t
@@ -132,75 +134,35 @@ module _ (test : Value → Bool) (nothing : test Nothing ≡ true) (grown : Bool
   quiet_group id new l parent entered ended exiting =
       group_loop id new l (record { parent = parent; entered = entered; ended = λ h. ended; exiting = λ h. exiting ∙ h; still = λ h. exiting })
 
+  -- ---- rows
+  module _ {May : LoopChange → Loop → Type 0}
+      (each : (change : LoopChange) (l : Loop) → May change l → IsLoopAfter test grown excused timeout group begun l (made_of_loop change l)) where
+    pub row_loop : {l m : Loop} → Reaches made_of_loop May l m → IsLoopAfter test grown excused timeout group begun l m
+    row_loop row = fold After refl_loop (λ l m n a b. loop_on l m n b a) each row
+
   -- ---- groups
-  abort_loop : (id : ℕ) (l : Loop) → IsLoopAfter test grown excused timeout group begun l (abort id l)
-  abort_loop id l =
-      loop_on l (set_group id (record (group_of l id) { aborting = true }) l) _
-      (book_loop (request_each (ByAbort id) (group_of l id).children) (set_group id (record (group_of l id) { aborting = true }) l)
-      (each_after test grown excused (ByAbort id) (group_of l id).children l.parts)) (quiet_group id _ l refl refl refl refl)
+  pub group_change : (id : ℕ) (change : LoopChange) (l : Loop) → OfGroup id change l
+      → IsLoopAfter test grown excused timeout group begun l (made_of_loop change l)
+  group_change id _ l (changes new same) =
+      quiet_group id new l (ap (λ (it : GroupStage). it.parent) same) (ap (λ (it : GroupStage). it.entered) same)
+      (ap (λ (it : GroupStage). it.ended) same) (ap (λ (it : GroupStage). it.exiting) same)
+  group_change id _ l (aborts future) = book_loop (ask_cancel (ByAbort id) future) l (cancel_after test grown excused future l.parts)
+  group_change id _ l waits = parts_loop l _ (make_after test grown excused l.parts Plain)
+  group_change id _ l (wakes future) = parts_loop l _ (settle_after test grown excused future (Returned Nothing) l.parts nothing)
 
-  wake_loop : (id : ℕ) (l : Loop) → IsLoopAfter test grown excused timeout group begun l (wake_exit id l)
-  wake_loop id l = parts_loop l _ (at (group_of l id).children (group_of l id).exit_future)
-    where
-      at : (children : List ℕ) (exit : Option ℕ) → IsAfter test grown excused l.parts (wake_if_last children exit l.parts)
-      at [] None = refl_after test grown excused l.parts
-      at [] (Some future) = settle_after test grown excused future (Returned Nothing) l.parts nothing
-      at (child ∷ children) exit = refl_after test grown excused l.parts
+  told_change : (id : ℕ) (change : LoopChange) (l : Loop) → OfTold id change l
+      → IsLoopAfter test grown excused timeout group begun l (made_of_loop change l)
+  told_change id change l (in_told it) = group_change id change l it
+  told_change id _ l requests = quiet_group id _ l refl refl refl refl
+  told_change id _ l (asks future) = book_loop (ask_cancel (ByGroup id) future) l (cancel_after test grown excused future l.parts)
 
-  blame_loop : (fault : Option Exc) (id : ℕ) (l : Loop) → IsLoopAfter test grown excused timeout group begun l (blame fault id l)
-  blame_loop None id l = refl_loop l
-  blame_loop (Some fault) id l =
-      loop_on l (set_group id (record (group_of l id) { errors = (group_of l id).errors ++ fault ∷ [] }) l) _
-      (at ((group_of l id).aborting || (group_of l id).requested)) (quiet_group id _ l refl refl refl refl)
-    where
-      at : (b : Bool) → IsLoopAfter test grown excused timeout group begun
-          (set_group id (record (group_of l id) { errors = (group_of l id).errors ++ fault ∷ [] }) l)
-          (abort_and_request_unless b id (set_group id (record (group_of l id) { errors = (group_of l id).errors ++ fault ∷ [] }) l))
-      at true = refl_loop _
-      at false =
-          let l1 = set_group id (record (group_of l id) { errors = (group_of l id).errors ++ fault ∷ [] }) l in
-          loop_on l1 (abort id l1) _
-          (loop_on (abort id l1) (set_group id (record (group_of (abort id l1) id) { requested = true }) (abort id l1)) _
-          (book_loop (ask_cancel (ByGroup id) (future_of (abort id l1).parts (group_of (abort id l1) id).parent))
-          (set_group id (record (group_of (abort id l1) id) { requested = true }) (abort id l1))
-          (cancel_after test grown excused (future_of (abort id l1).parts (group_of (abort id l1) id).parent) (abort id l1).parts))
-          (quiet_group id _ (abort id l1) refl refl refl refl))
-          (abort_loop id l1)
+  taking_change : (id : ℕ) (change : LoopChange) (l : Loop) → OfTaking id change l
+      → IsLoopAfter test grown excused timeout group begun l (made_of_loop change l)
+  taking_change id change l (in_taking it) = group_change id change l it
+  taking_change id _ l (takes task) = book_loop (uncancel_by (ByGroup id) task) l (change_after test grown excused task _ l.parts (λ t. refl))
 
   pub child_done_loop : (id task : ℕ) (l : Loop) → IsLoopAfter test grown excused timeout group begun l (child_done id task l)
-  child_done_loop id task l =
-      loop_on l (without_child id task l) _
-      (loop_on (without_child id task l) (wake_exit id (without_child id task l)) _
-      (blame_loop (failure_of l.parts task) id (wake_exit id (without_child id task l))) (wake_loop id (without_child id task l)))
-      (quiet_group id _ l refl refl refl refl)
-
-  hear_loop : (input : Input) (id : ℕ) (l : Loop) → IsLoopAfter test grown excused timeout group begun l (hear input id l)
-  hear_loop (Send value) id l = refl_loop l
-  hear_loop (Throw fault) id l = at (group_of l id).aborting
-    where
-      at : (b : Bool) → IsLoopAfter test grown excused timeout group begun l (keep_and_abort_unless b fault id l)
-      at true = refl_loop l
-      at false =
-          loop_on l (set_group id (record (group_of l id) { kept = Some fault }) l) _
-          (abort_loop id (set_group id (record (group_of l id) { kept = Some fault }) l)) (quiet_group id _ l refl refl refl refl)
-
-  take_back_loop : (id : ℕ) (l : Loop) → IsLoopAfter test grown excused timeout group begun l (take_back id l)
-  take_back_loop id l = at (group_of l id).requested
-    where
-      taken_loop : IsLoopAfter test grown excused timeout group begun l (book (uncancel_by (ByGroup id) (group_of l id).parent) l)
-      taken_loop =
-          book_loop (uncancel_by (ByGroup id) (group_of l id).parent) l (change_after test grown excused (group_of l id).parent _ l.parts (λ t. refl))
-
-      at : (requested : Bool) → IsLoopAfter test grown excused timeout group begun l (take_back_where requested id l)
-      at false = refl_loop l
-      at true =
-          elim (cancelling (uncancel (group_of l id).parent l.parts) (group_of l id).parent == 0) as (λ b.
-          IsLoopAfter test grown excused timeout group begun l (cond b (set_group id (record (group_of l id) { kept = None })
-          (book (uncancel_by (ByGroup id) (group_of l id).parent) l)) (book (uncancel_by (ByGroup id) (group_of l id).parent) l))) [
-            | true ↦ loop_on l (book (uncancel_by (ByGroup id) (group_of l id).parent) l) _
-                (quiet_group id _ (book (uncancel_by (ByGroup id) (group_of l id).parent) l) refl refl refl refl) taken_loop
-            | false ↦ taken_loop
-          ]
+  child_done_loop id task l = row_loop (told_change id) (child_done_in id task l)
 
   -- ---- an exit, up to its end
   abbrev pub exit_begun : Option Exc → ℕ → Loop → Loop
@@ -211,14 +173,7 @@ module _ (test : Value → Bool) (nothing : test Nothing ≡ true) (grown : Bool
 
   -- from where it is marked
   begun_loop : (raised : Option Exc) (id : ℕ) (l : Loop) → IsLoopAfter test grown excused timeout group begun (begin_exit raised id l) (exit_begun raised id l)
-  begun_loop raised id l =
-      let first = begin_exit raised id l in
-      let taken_ = take_back id first in
-      loop_on first taken_ _ (at (is_some raised && not (group_of taken_ id).aborting) taken_) (take_back_loop id first)
-    where
-      at : (b : Bool) (q : Loop) → IsLoopAfter test grown excused timeout group begun q (abort_where b id q)
-      at true q = abort_loop id q
-      at false q = refl_loop q
+  begun_loop raised id l = row_loop (taking_change id) (taken_in id raised (begin_exit raised id l))
 
   pub begin_loop : (raised : Option Exc) (id : ℕ) (l : Loop) → is_running begun id ≡ true → IsLoopAfter test grown excused timeout group begun l
       (exit_begun raised id l)
@@ -247,21 +202,15 @@ module _ (test : Value → Bool) (nothing : test Nothing ≡ true) (grown : Bool
       (ap (λ (g : Group). g.exiting) (group_same id (record (group_of l id) { exiting = true; body = raised; kept = only_cancelled raised }) l within))
 
   pub heard_loop : (input : Input) (id : ℕ) (l : Loop) → IsLoopAfter test grown excused timeout group begun l (exit_heard input id l)
-  heard_loop input id l =
-      let l1 = set_group id (record (group_of l id) { exit_future = None }) l in
-      loop_on l l1 _ (hear_loop input id l1) (quiet_group id _ l refl refl refl refl)
+  heard_loop input id l = row_loop (group_change id) (heard_in id input l)
 
 -- ---- a task is made in a group
 module _ (test : Value → Bool) (nothing : test Nothing ≡ true) (excused timeout group begun : Option ℕ) where
   pub create_loop : (id : ℕ) (l : Loop) → IsLoopAfter test true excused timeout group begun l (create id l)
-  create_loop id l = at (refusal (group_of l id))
+  create_loop id l = row_loop test nothing true excused timeout group begun each (create_in id l)
     where
-      at : (o : Option Refusal) → IsLoopAfter test true excused timeout group begun l (create_unless o id l)
-      at (Some why) = refl_loop test nothing true excused timeout group begun l
-      at None =
-          loop_on test nothing true excused timeout group begun l (in_parts (with_child id) l) _
-          (quiet_group test nothing true excused timeout group begun id _ (in_parts (with_child id) l) refl refl refl refl)
-          (parts_loop test nothing true excused timeout group begun l (with_child id l.parts)
-          (after_on test true excused l.parts (spawn l.parts) _
-          (register_after test true excused (next_future l.parts) (GroupDone id (next_task l.parts)) (spawn l.parts) refl)
-          (spawn_after test excused l.parts)))
+      each : (change : LoopChange) (m : Loop) → OfCreating id change m → IsLoopAfter test true excused timeout group begun m (made_of_loop change m)
+      each change m (in_creating it) = group_change test nothing true excused timeout group begun id change m it
+      each _ m spawns = parts_loop test nothing true excused timeout group begun m _ (spawn_after test excused m.parts)
+      each _ m (registers future task) =
+          parts_loop test nothing true excused timeout group begun m _ (register_after test true excused future (GroupDone id task) m.parts refl)

@@ -1,3 +1,4 @@
+pub mod BlockRows
 pub mod Folds
 pub mod LoopRows
 pub mod Parts

@@ -1,6 +1,5 @@
 -- What the loop does to its parts is a row of changes.
 use Rattle.std.proofs.Common.{ℕ, zero, suc, refl, Bool, true, false, List, [], ◌∷◌, ◌++◌, Option, Some, None, Result, Ok, Err, length, slice_get}
-use Rattle.std.proofs.Common.{nat_le, if◌then◌else◌}
 use Rattle.model_value.specs.declared.action.Action.TheVariants as action
 use Rattle.model_value.specs.declared.outcome.Outcome.TheVariants.{Cancelled}
 use Rattle.model_value.specs.Input.{Input}
@@ -9,12 +8,9 @@ use Rattle.model_loop.specs.Cancel.{CancelRequest, Canceller, cancel, cancel_at,
 use Rattle.model_loop.specs.Cancel.{cancel_unseen, cancel_until}
 use Rattle.model_loop.specs.Cancel.{cancel_waiter, cancel_within, asked_where, has_seen, marked_unless}
 use Rattle.model_loop.specs.Futures.{made_before}
-use Rattle.model_loop.specs.Groups.{with_child, wake_if_last}
-use Rattle.model_loop.specs.Handles.{later, soon}
 use Rattle.model_loop.specs.Parts.{Future, FutureKind, Plain, OfTask, Many, Parts, Task}
 use Rattle.model_loop.specs.Tasks.{begin_step, finish, future_of}
-use Rattle.model_loop.specs.Timeouts.{fires_at, give_up}
-use Rattle.law_changes.specs.Changes.{CallsSoon, CallsLater, Revokes, Settles, Registers, KeepsAsked, MakesTask, WaitsFor, Marks, Unmarks, Counts}
+use Rattle.law_changes.specs.Changes.{Settles, KeepsAsked, WaitsFor, Marks, Unmarks, Counts}
 use Rattle.law_changes.specs.Reaches.{ReachAlone, PartsReach, stays, goes}
 use Rattle.law_changes.proofs.Folds.{one, on}
 
@@ -76,26 +72,6 @@ module _ (r : Option ℕ) where
 
   pub cancel_row : (id : ℕ) (p : Parts) → PartsReach r p (cancel id p).parts
   cancel_row id p = within_row (suc (length p.tasks)) id [] p
-
-  -- ---- handles and groups
-  pub give_up_row : (o : Option ℕ) (p : Parts) → ReachAlone r p (give_up o p)
-  give_up_row None p = stays
-  give_up_row (Some tag) p = one (Revokes tag) tt
-
-  pub fires_row : (id when : ℕ) (p : Parts) → ReachAlone r p (fires_at id when p)
-  fires_row id when p = at (nat_le when p.time)
-    where
-      at : (b : Bool) → ReachAlone r p (if b then soon (action.Fires id) p else later when (action.Fires id) p)
-      at true = one (CallsSoon (action.Fires id)) refl
-      at false = one (CallsLater when (action.Fires id)) tt
-
-  pub child_row : (id : ℕ) (p : Parts) → ReachAlone r p (with_child id p)
-  child_row id p = goes (one MakesTask tt) (Registers _ _) refl
-
-  pub wake_row : (tasks : List ℕ) (o : Option ℕ) (p : Parts) → ReachAlone r p (wake_if_last tasks o p)
-  wake_row [] (Some future) p = one (Settles future _) tt
-  wake_row [] None p = stays
-  wake_row (task ∷ tasks) o p = stays
 
 -- ---- the task that runs
 module _ (task : ℕ) where

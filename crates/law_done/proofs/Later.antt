@@ -9,7 +9,7 @@ use Rattle.model_value.specs.Input.{Input}
 use Rattle.model_value.specs.Value.{Value, Exc, Outcome}
 use Rattle.model_loop.specs.Cancel.{cancel}
 use Rattle.model_loop.specs.Ending.{cancel_everything}
-use Rattle.model_loop.specs.Groups.{create, exit_begin, exit_woken}
+use Rattle.model_loop.specs.Groups.{exit_begin, exit_woken}
 use Rattle.model_loop.specs.Loop.{Loop}
 use Rattle.model_loop.specs.Suspend.{suspend}
 use Rattle.model_machine.specs.Extra.{ExtraStep, made_by}
@@ -17,14 +17,14 @@ use Rattle.law_cancel.proofs.Effects.{soon_all-futures, soon_all-tasks}
 use Rattle.law_changes.specs.Changes.{PartsChange, CallsSoon, CallsLater, Revokes, MakesFuture, Settles, Registers, KeepsAsked, MakesTask, WaitsFor}
 use Rattle.law_changes.specs.Changes.{Marks, Unmarks, Counts, Uncounts, Passes, FallsDue, LeavesPending, MayInParts, made_of_parts}
 use Rattle.law_changes.specs.Reaches.{ReachAlone, PartsReach}
-use Rattle.law_changes.proofs.LoopRows.{create_row, end_row, exit_begin_row, exit_woken_row, in_parts_row, suspend_row}
+use Rattle.law_changes.proofs.LoopRows.{end_row, exit_begin_row, exit_woken_row, in_parts_row, suspend_row}
 use Rattle.law_changes.proofs.Parts.{parts_of}
 use Rattle.law_changes.proofs.PartsRows.{begin_row, cancel_row, finish_row}
 use Rattle.law_reach.proofs.Extras.{all_row}
 use Rattle.law_changes.proofs.Folds.{fold}
-use Rattle.model_loop.specs.Futures.{is_pending, is_pending_at, next_future, new_plain, settle}
+use Rattle.model_loop.specs.Futures.{is_pending, is_pending_at, next_future, new_plain, register, settle}
 use Rattle.model_loop.specs.Handles.{due, by_deadline, soon_all}
-use Rattle.model_loop.specs.Owning.{OwnsFutures}
+use Rattle.model_loop.specs.Owning.{OwnsFutures, is_main_done}
 use Rattle.model_loop.specs.Parts.{Future, Parts, Plain, Task, Timer}
 use Rattle.model_loop.specs.Tasks.{begin_step, finish, future_of, lives, next_task, spawn, uncancel}
 use Rattle.law_after.specs.After.{IsAfter, OutcomeIn}
@@ -124,6 +124,9 @@ later_alone {p = p} row = later_row (parts_of (in_parts_row (record { parts = p;
 pub later_settle : (id : ℕ) (outcome : Outcome) (p : Parts) → IsLater p (settle id outcome p)
 later_settle id outcome p = later_change None (Settles id outcome) p tt
 
+pub later_register : (future : ℕ) (action : Action) (p : Parts) → is_main_done action ≡ false → IsLater p (register future action p)
+later_register future action p other = later_change None (Registers future action) p other
+
 pub later_plain : (p : Parts) → IsLater p (new_plain p)
 later_plain p = later_change None (MakesFuture Plain) p tt
 
@@ -144,9 +147,6 @@ later_finish task end p = later_alone (finish_row task end p)
 
 pub later_suspend : (task on : ℕ) (p : Parts) → IsLater p (suspend task on p).parts
 later_suspend task on p = later_row (parts_of (suspend_row task on (record { parts = p; timeouts = []; groups = []; ledger = [] })))
-
-pub later_create : (id : ℕ) (l : Loop) → IsLater l.parts (create id l).parts
-later_create id l = later_row (parts_of (create_row None id l))
 
 pub later_exit_begin : (raised : Option Exc) (id : ℕ) (l : Loop) → IsLater l.parts (exit_begin raised id l).loop.parts
 later_exit_begin raised id l = later_row (parts_of (exit_begin_row None raised id l))

@@ -1,6 +1,5 @@
 pub mod Counting
 pub mod Balancing
-pub mod GroupFrame
 pub mod LoopBalance
 pub mod Asked
 pub mod Quietly

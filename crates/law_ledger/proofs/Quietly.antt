@@ -3,18 +3,23 @@ use Rattle.std.proofs.Common.{◌≡◌, ℕ, Bool, List, None, Option, Some, []
 use Rattle.std.proofs.Common.{slice_index_or, slice_set, subst, suc, sym, true, zero, ℤ, ◌++◌, ◌∙◌, ◌∷◌, nat_lt}
 use Rattle.model_loop.specs.Handles.{deadline}
 use Rattle.model_loop.specs.Groups.{abort, create, exit_woken, group_of, make_group, new_group}
-use Rattle.model_loop.specs.Groups.{set_group, wait_or_end, wake_exit, with_child}
+use Rattle.model_loop.specs.Groups.{set_group, wait_or_end, wake_exit}
 use Rattle.model_loop.specs.Circles.{circle}
-use Rattle.model_loop.specs.Timeouts.{enter_timeout, fires_at, give_up, has_expired, is_active, make_timeout, moment, next_timeout, no_timeout, reschedule}
-use Rattle.model_loop.specs.Timeouts.{reschedule_where, schedule, set_timeout, timeout_of, with_deadline, without_handle}
+use Rattle.model_loop.specs.Timeouts.{enter_timeout, has_expired, is_active, make_timeout, moment, next_timeout, no_timeout, reschedule}
+use Rattle.model_loop.specs.Timeouts.{reschedule_where, schedule, set_timeout, timeout_of, without_handle}
 use Rattle.model_loop.specs.Tasks.{future_of, is_marked, lives, cancelling}
-use Rattle.model_loop.specs.Futures.{new_plain, settle}
-use Rattle.model_loop.specs.Loop.{Group, Loop, Timeout, book, in_parts}
+use Rattle.model_loop.specs.Loop.{Group, Loop, Timeout, book}
 use Rattle.model_loop.specs.Ledger.{Asked, Booked, ByAbort, ByWait, LedgerEntry, Origin, Raised, Took, ask_cancel, raised_among, request_each, request_where}
 use Rattle.model_loop.specs.Ledger.{uncancel_by}
 use Rattle.model_loop.specs.Suspend.{cancel_wait, suspend, suspend_unless, wait_on}
 use Rattle.std.specs.List.{count_by}
 use Rattle.model_loop.specs.Ways.{one_if}
+use Rattle.law_changes.specs.Blocks.{OfSchedule, gives_up, fires_soon, fires_later, tags, GroupStage, OfGroup, changes, aborts, waits, wakes, OfEnding}
+use Rattle.law_changes.specs.Blocks.{in_ending, ends, OfCreating, in_creating, spawns, registers}
+use Rattle.law_changes.specs.Changes.{LoopChange, made_of_loop}
+use Rattle.law_changes.specs.Reaches.{Reaches}
+use Rattle.law_changes.proofs.BlockRows.{abort_in, create_in, heard_in, schedule_in, wait_or_end_in, wake_in, without_in}
+use Rattle.law_changes.proofs.Folds.{fold}
 use Rattle.law_ledger.specs.Telling.{BooksNone, BooksQuietly, IsOther, Tells}
 use Rattle.model_value.specs.Action.{Circle}
 use Rattle.model_loop.specs.Cancel.{cancel}
@@ -22,11 +27,7 @@ use Rattle.model_loop.specs.Parts.{Parts}
 use Rattle.model_loop.specs.Balance.{GroupBalances, is_by_timeout, is_expired, takes, asks, begins, is_by_group}
 use Rattle.law_ledger.proofs.Asked.{quiet_asked}
 use Rattle.law_ledger.proofs.Counting.{count-append, count-no}
-use Rattle.law_ledger.proofs.GroupFrame.{IsKeptQuietly}
-use Rattle.law_ledger.proofs.GroupFrame as group
 use Rattle.model_value.specs.Input.{Input}
-use Rattle.model_value.specs.Value.{Nothing}
-use Rattle.model_value.specs.declared.outcome.Outcome.TheVariants.{Value as Returned}
 
 pub none_nil : BooksNone []
 none_nil = record {
@@ -225,25 +226,23 @@ make_timeout_quietly task l =
     (seen-push (λ (t : Timeout). has_expired t.state) l.timeouts _ no_timeout refl)
     (seen-push (λ (t : Timeout). is_expired t.state) l.timeouts _ no_timeout refl)
 
+-- ---- rows
+module _ {May : LoopChange → Loop → Type 0} (each : (change : LoopChange) (l : Loop) → May change l → BooksQuietly l (made_of_loop change l)) where
+  quiet_row : {l m : Loop} → Reaches made_of_loop May l m → BooksQuietly l m
+  quiet_row row = fold BooksQuietly refl_quietly (λ l q r a b. quietly_on l q r b a) each row
+
 -- ---- timeouts
+schedule_change : (id : ℕ) (change : LoopChange) (l : Loop) → OfSchedule id change l → BooksQuietly l (made_of_loop change l)
+schedule_change id _ l (gives_up tag) = parts_quietly l _
+schedule_change id _ l fires_soon = parts_quietly l _
+schedule_change id _ l (fires_later when) = parts_quietly l _
+schedule_change id _ l (tags tag) = timeout_quietly id (record (timeout_of l id) { tag = tag }) l refl refl
+
 pub without_quietly : (id : ℕ) (l : Loop) → BooksQuietly l (without_handle id l)
-without_quietly id l =
-    quietly_on l (in_parts (give_up (timeout_of l id).tag) l) _
-    (timeout_quietly id (record (timeout_of l id) { tag = None }) (in_parts (give_up (timeout_of l id).tag) l) refl refl)
-    (parts_quietly l (give_up (timeout_of l id).tag l.parts))
+without_quietly id l = quiet_row (schedule_change id) (without_in id l)
 
 pub schedule_quietly : (id : ℕ) (when : Option ℕ) (l : Loop) → BooksQuietly l (schedule id when l)
-schedule_quietly id when l = at when
-  where
-    at : (when : Option ℕ) → BooksQuietly l (with_deadline id when (without_handle id l))
-    at None = without_quietly id l
-    at (Some when) =
-        quietly_on l (without_handle id l) _
-        (quietly_on (without_handle id l) (in_parts (fires_at id when) (without_handle id l)) _
-        (timeout_quietly id (record (timeout_of (without_handle id l) id) { tag = Some (without_handle id l).parts.next_tag })
-        (in_parts (fires_at id when) (without_handle id l)) refl refl)
-        (parts_quietly (without_handle id l) (fires_at id when (without_handle id l).parts)))
-        (without_quietly id l)
+schedule_quietly id when l = quiet_row (schedule_change id) (schedule_in id when l)
 
 pub reschedule_quietly : (id : ℕ) (when : Option ℤ) (l : Loop) → BooksQuietly l (reschedule id when l)
 reschedule_quietly id when l = at (is_active (timeout_of l id).state)
@@ -258,27 +257,33 @@ enter_quietly task delay l =
     (schedule_quietly (next_timeout l) (option_map (deadline l.parts.time) delay) (make_timeout task l)) (make_timeout_quietly task l)
 
 -- ---- groups
-groups_quietly : (l : Loop) → IsKeptQuietly (BooksQuietly l)
-groups_quietly l = record {
-  changes = λ id new q requested exiting b. quietly_on l q _ (group_quietly id new q requested exiting) b;
-  aborts = λ id tasks q b.
-      quietly_on l q _ (book_quietly (request_each (ByAbort id) tasks) q (each_none (ByAbort id) tasks q.parts (by_abort id))) b;
-  makes = λ id q b. quietly_on l q _ (parts_quietly q (with_child id q.parts)) b;
-  waits = λ q b. quietly_on l q _ (parts_quietly q (new_plain q.parts)) b;
-  wakes = λ future q b. quietly_on l q _ (parts_quietly q (settle future (Returned Nothing) q.parts)) b;
-}
+group_change : (id : ℕ) (change : LoopChange) (l : Loop) → OfGroup id change l → BooksQuietly l (made_of_loop change l)
+group_change id _ l (changes new same) =
+    group_quietly id new l (ap (λ (it : GroupStage). it.requested) same) (ap (λ (it : GroupStage). it.exiting) same)
+group_change id _ l (aborts future) = book_quietly (ask_cancel (ByAbort id) future) l (request_none (ByAbort id) future l.parts (by_abort id))
+group_change id _ l waits = parts_quietly l _
+group_change id _ l (wakes future) = parts_quietly l _
+
+ending_change : (id : ℕ) (change : LoopChange) (l : Loop) → OfEnding id change l → BooksQuietly l (made_of_loop change l)
+ending_change id change l (in_ending it) = group_change id change l it
+ending_change id _ l (ends errors) = group_quietly id (record (group_of l id) { ended = true; errors = errors }) l refl refl
+
+creating_change : (id : ℕ) (change : LoopChange) (l : Loop) → OfCreating id change l → BooksQuietly l (made_of_loop change l)
+creating_change id change l (in_creating it) = group_change id change l it
+creating_change id _ l spawns = parts_quietly l _
+creating_change id _ l (registers future task) = parts_quietly l _
 
 pub create_quietly : (id : ℕ) (l : Loop) → BooksQuietly l (create id l)
-create_quietly id l = group.create_keeps (groups_quietly l) id l (refl_quietly l)
+create_quietly id l = quiet_row (creating_change id) (create_in id l)
 
 pub abort_quietly : (id : ℕ) (l : Loop) → BooksQuietly l (abort id l)
-abort_quietly id l = group.abort_keeps (groups_quietly l) id l (refl_quietly l)
+abort_quietly id l = quiet_row (group_change id) (abort_in id l)
 
 pub wake_quietly : (id : ℕ) (l : Loop) → BooksQuietly l (wake_exit id l)
-wake_quietly id l = group.wake_keeps (groups_quietly l) id l (refl_quietly l)
+wake_quietly id l = quiet_row (group_change id) (wake_in id l)
 
 pub wait_or_end_quietly : (id : ℕ) (l : Loop) → BooksQuietly l (wait_or_end id l).loop
-wait_or_end_quietly id l = group.wait_or_end_keeps (groups_quietly l) id l (refl_quietly l)
+wait_or_end_quietly id l = quiet_row (ending_change id) (wait_or_end_in id l)
 
 pub woken_quietly : (input : Input) (id : ℕ) (l : Loop) → BooksQuietly l (exit_woken input id l).loop
-woken_quietly input id l = group.exit_woken_keeps (groups_quietly l) input id l (refl_quietly l)
+woken_quietly input id l = quietly_on l _ _ (wait_or_end_quietly id _) (quiet_row (group_change id) (heard_in id input l))

@@ -1,40 +1,42 @@
 -- Steps of groups: what each of them owes, and what it takes back.
 use Rattle.std.proofs.Common.{◌≡◌, ℕ, ◌+◌, ◌≤◌, ◌<◌, Bool, true, false, cond, not, ◌&&◌, ◌||◌, ◌==◌, List, [], ◌∷◌, ◌++◌, Option, Some, None, filter, is_some}
-use Rattle.std.proofs.Common.{length, refl, sym, ap, subst, ◌∙◌, le_refl, append_assoc, length-append, length-set, arith}
+use Rattle.std.proofs.Common.{length, refl, sym, ap, ◌∙◌, le_refl, append_assoc, length-append, length-set, arith}
 use Rattle.std.specs.List.{count_by}
 use Rattle.std.proofs.lemmas.Bool.{eq-eqb, false≢true}
 use Rattle.std.proofs.lemmas.List.Sums.{sum_by_push}
 use Rattle.model_value.specs.Input.{Input}
 use Rattle.model_value.specs.Value.{Nothing, Exc}
 use Rattle.model_value.specs.declared.action.Action.TheVariants.{GroupDone}
-use Rattle.model_value.specs.declared.input.Input.TheVariants.{Send, Throw}
 use Rattle.model_value.specs.declared.outcome.Outcome.TheVariants.{Value as Returned, Cancelled}
-use Rattle.model_loop.specs.Futures.{new_plain, next_future, settle}
-use Rattle.model_loop.specs.Groups.{Refusal, abort, abort_and_request_unless, abort_where, begin_exit, blame, child_done, create, create_unless, end_exit}
-use Rattle.model_loop.specs.Groups.{enter_group, exit_begin, exit_woken, failure_of, group_of, hear, keep_and_abort_unless, make_group, new_group, next_group}
-use Rattle.model_loop.specs.Groups.{only_cancelled, refusal, request_parent, set_group, take_back, take_back_where, wait_or_end, wait_or_end_with, wake_exit}
-use Rattle.model_loop.specs.Groups.{wake_if_last, with_child, without_child}
+use Rattle.model_loop.specs.Futures.{new_plain, register, settle}
+use Rattle.model_loop.specs.Groups.{abort, abort_and_request_unless, abort_where, begin_exit, blame, child_done, create}
+use Rattle.model_loop.specs.Groups.{enter_group, exit_begin, exit_woken, failure_of, group_of, make_group, new_group, next_group}
+use Rattle.model_loop.specs.Groups.{only_cancelled, request_parent, set_group, take_back, take_back_where, wait_or_end, wake_exit}
+use Rattle.model_loop.specs.Groups.{wake_if_last, without_child}
 use Rattle.model_loop.specs.Ledger.{Began, ByAbort, ByGroup, Origin, request_each, request_where, uncancel_by}
-use Rattle.model_loop.specs.Loop.{Group, Loop, book, in_parts}
+use Rattle.model_loop.specs.Loop.{Group, Loop, book}
 use Rattle.model_loop.specs.Owning.{OwnsFutures}
 use Rattle.model_loop.specs.Parts.{Parts}
-use Rattle.model_loop.specs.Tasks.{cancelling, future_of, lives, next_task, spawn, uncancel}
+use Rattle.model_loop.specs.Tasks.{cancelling, future_of, lives, next_task, uncancel}
 use Rattle.model_machine.specs.Replies.{most_ids}
 use Rattle.law_cancel.proofs.Effects.{length-change_task, register-tasks, settle-tasks}
-use Rattle.law_ledger.proofs.Balancing.{request_each_balances}
-use Rattle.law_ledger.proofs.LoopBalance.{spawn_counts}
 use Rattle.law_settling.proofs.CancelSound.{settled_owns}
 use Rattle.law_settling.proofs.Looks.{asked_looks_same, change_looks_same, same_owns}
 use Rattle.law_settling.proofs.Settling.{settle_cases}
 use Rattle.law_settling.proofs.Spreading.{Spreads, begins, settles, asks, raises, marks, with_spread}
+use Rattle.law_changes.specs.Blocks.{GroupStage, stage_of, OfGroup, changes, aborts, waits, wakes, OfEnding, in_ending, ends, OfCreating, in_creating}
+use Rattle.law_changes.specs.Blocks.{spawns, registers}
+use Rattle.law_changes.specs.Changes.{LoopChange, made_of_loop}
+use Rattle.law_changes.proofs.BlockRows.{abort_in, abort_where_in, create_in, heard_in, wait_or_end_in, wake_in}
 use Rattle.law_told.proofs.Holding.{group_same}
 use Rattle.law_after.proofs.Exits.{exit_begin_loop, exit_woken_loop}
 use Rattle.law_after.proofs.Requests.{each_after}
-use Rattle.law_done.proofs.Later.{IsLater, any, later_create, later_exit_begin, later_exit_woken, later_of, later_plain, later_refl, later_settle}
+use Rattle.law_done.proofs.Later.{later_register, any, later_exit_begin, later_exit_woken, later_plain, later_refl}
 use Rattle.law_done.proofs.Later.{later_uncancel}
 use Rattle.law_inside.proofs.Tapes.{push_last}
-use Rattle.law_owed.proofs.Asking.{ask_covers, each_took, take_covers}
-use Rattle.law_owed.proofs.Owed.{IsEasy, covers, easy_book, easy_group, easy_parts, easy_refl, easy_then, group_owed, right_on, same_counts}
+use Rattle.law_owed.proofs.Asking.{ask_covers, take_covers}
+use Rattle.law_owed.proofs.Owed.{IsEasy, covers, easy_group, easy_parts, easy_row, easy_then, group_owed, right_on, same_counts}
+use Rattle.law_owed.proofs.Loops.{easy_request, easy_settle, easy_spawn}
 use Rattle.law_owed.specs.Owed.{IsCovered, IsRight, owed, owes_group}
 
 -- ---- who has which future stays
@@ -55,27 +57,37 @@ owns_each by (task ∷ tasks) p h = owns_each by tasks (request_where (lives p t
     at false = h
 
 -- ---- what changes nothing that is owed
-easy_abort : (id : ℕ) (l : Loop) → IsEasy l (abort id l)
-easy_abort id l =
-    let marked = set_group id (record (group_of l id) { aborting = true }) l in
-    let children = (group_of l id).children in
-    easy_then l marked (abort id l) (easy_group id (record (group_of l id) { aborting = true }) l (λ task. le_refl _))
-    (easy_book (request_each (ByAbort id) children) marked
-    (later_of false None l.parts _ (each_after any false None (ByAbort id) children l.parts))
-    (request_each_balances (ByAbort id) children l.parts) (each_took (ByAbort id) children l.parts))
+same_owes : (new old : Group) → stage_of new ≡ stage_of old → (task : ℕ) → cond (owes_group task new) 1 0 ≤ cond (owes_group task old) 1 0
+same_owes new old same task =
+    let e : ◌≡◌ {A = ℕ} (cond (owes_group task new) 1 0) (cond (owes_group task old) 1 0) =
+    ap (λ (it : GroupStage). cond (it.entered && (it.requested && (not it.exiting && (it.parent == task)))) 1 0) same in
+    omega (arith, e)
+
+group_easy : (id : ℕ) (change : LoopChange) (l : Loop) → OfGroup id change l → IsEasy l (made_of_loop change l)
+group_easy id _ l (changes new same) = easy_group id new l (same_owes new (group_of l id) same)
+group_easy id _ l (aborts future) = easy_request (ByAbort id) future l
+group_easy id _ l waits = easy_parts l (new_plain l.parts) (later_plain l.parts) (λ other. le_refl _)
+group_easy id _ l (wakes future) = easy_settle future (Returned Nothing) l
+
+ending_easy : (id : ℕ) (change : LoopChange) (l : Loop) → OfEnding id change l → IsEasy l (made_of_loop change l)
+ending_easy id change l (in_ending it) = group_easy id change l it
+ending_easy id _ l (ends errors) = easy_group id (record (group_of l id) { ended = true; errors = errors }) l (λ other. le_refl _)
+
+creating_easy : (id : ℕ) (change : LoopChange) (l : Loop) → OfCreating id change l → IsEasy l (made_of_loop change l)
+creating_easy id change l (in_creating it) = group_easy id change l it
+creating_easy id _ l spawns = easy_spawn l
+creating_easy id _ l (registers future task) =
+    easy_parts l (register future (GroupDone id task) l.parts) (later_register future (GroupDone id task) l.parts refl)
+    (same_counts l.parts (register future (GroupDone id task) l.parts) (register-tasks future (GroupDone id task) l.parts))
+
+pub easy_create : (id : ℕ) (l : Loop) → IsEasy l (create id l)
+easy_create id l = easy_row (creating_easy id) (create_in id l)
+
+pub easy_woken : (input : Input) (id : ℕ) (l : Loop) → IsEasy l (exit_woken input id l).loop
+easy_woken input id l = easy_then l _ _ (easy_row (group_easy id) (heard_in id input l)) (easy_row (ending_easy id) (wait_or_end_in id _))
 
 abort_tasks : (id : ℕ) (l : Loop) → next_task (abort id l).parts ≡ next_task l.parts
 abort_tasks id l = (each_after any false None (ByAbort id) (group_of l id).children l.parts).same refl
-
-easy_wake : (id : ℕ) (l : Loop) → IsEasy l (wake_exit id l)
-easy_wake id l = at (group_of l id).children (group_of l id).exit_future
-  where
-    at : (children : List ℕ) (exit : Option ℕ) → IsEasy l (in_parts (wake_if_last children exit) l)
-    at [] None = easy_refl l
-    at [] (Some future) =
-        easy_parts l _ (later_settle future (Returned Nothing) l.parts)
-        (same_counts l.parts (settle future (Returned Nothing) l.parts) (settle-tasks future (Returned Nothing) l.parts))
-    at (child ∷ children) exit = easy_refl l
 
 wake_tasks : (children : List ℕ) (exit : Option ℕ) (p : Parts) → next_task (wake_if_last children exit p) ≡ next_task p
 wake_tasks [] None p = refl
@@ -87,27 +99,6 @@ wake_owns [] None p h = h
 wake_owns [] (Some future) p h =
     settle_cases OwnsFutures future (Returned Nothing) p h (λ q s. settled_owns future p q s h)
 wake_owns (child ∷ children) exit p h = h
-
--- ---- a task is made in it
-child_counts : (id : ℕ) (p : Parts) (task : ℕ) → cancelling p task ≤ cancelling (with_child id p) task
-child_counts id p task =
-    let a = same_counts (spawn p) (with_child id p) (register-tasks (next_future p) (GroupDone id (next_task p)) (spawn p)) task in
-    let b = spawn_counts p task in
-    omega (arith, a, b)
-
-pub easy_create : (id : ℕ) (l : Loop) → IsEasy l (create id l)
-easy_create id l = at (refusal (group_of l id)) refl
-  where
-    at : (o : Option Refusal) → refusal (group_of l id) ≡ o → IsEasy l (create_unless o id l)
-    at (Some why) e = easy_refl l
-    at None e =
-        let made = in_parts (with_child id) l in
-        let it = group_of l id in
-        let new = record it { children = it.children ++ next_task l.parts ∷ []; made = it.made ++ next_task l.parts ∷ [] } in
-        easy_then l made (set_group id new made)
-        (easy_parts l (with_child id l.parts)
-        (subst (λ o. IsLater l.parts (create_unless o id l).parts) e (later_create id l)) (child_counts id l.parts))
-        (easy_group id new made (λ task. le_refl _))
 
 -- ---- a group is made and entered
 new_owed : (parent : ℕ) (l : Loop) (other : ℕ) → owed (make_group parent l) other ≡ owed l other
@@ -165,7 +156,7 @@ blame_covers (Some fault) id l owns right is = at ((group_of l id).aborting || (
     at true = covers l _ easy right is
     at false =
         let failing = set_group id (record (group_of l id) { errors = (group_of l id).errors ++ fault ∷ [] }) l in
-        let a = easy_then l failing (abort id failing) easy (easy_abort id failing) in
+        let a = easy_then l failing (abort id failing) easy (easy_row (group_easy id) (abort_in id failing)) in
         parent_covers id (abort id failing) (owns_each (ByAbort id) (group_of failing id).children l.parts owns)
         (right_on l (abort id failing) a.later (abort_tasks id failing) a.owes right) (covers l (abort id failing) a right is)
 
@@ -176,46 +167,9 @@ child_covers id task l owns right is =
     let group = group_of without id in
     let a = easy_then l without woken
     (easy_group id (record (group_of l id) { children = filter (λ child. not (child == task)) (group_of l id).children }) l (λ other. le_refl _))
-    (easy_wake id without) in
+    (easy_row (group_easy id) (wake_in id without)) in
     blame_covers (failure_of l.parts task) id woken (wake_owns group.children group.exit_future l.parts owns)
     (right_on l woken a.later (wake_tasks group.children group.exit_future l.parts) a.owes right) (covers l woken a right is)
-
--- ---- its exit ends, or waits
-easy_over : (kept : Option Exc) (errors : List Exc) (id : ℕ) (l : Loop) → IsEasy l (end_exit kept errors id l).loop
-easy_over (Some fault) [] id l = easy_group id (record (group_of l id) { ended = true }) l (λ other. le_refl _)
-easy_over (Some fault) (e ∷ errors) id l = easy_group id _ l (λ other. le_refl _)
-easy_over None errors id l = easy_group id _ l (λ other. le_refl _)
-
-easy_wait : (id : ℕ) (l : Loop) → IsEasy l (wait_or_end id l).loop
-easy_wait id l = at (group_of l id).children
-  where
-    at : (children : List ℕ) → IsEasy l (wait_or_end_with children id l).loop
-    at [] = easy_over (group_of l id).kept (group_of l id).errors id l
-    at (child ∷ children) =
-        let made = in_parts new_plain l in
-        easy_then l made (set_group id (record (group_of l id) { exit_future = Some (next_future l.parts) }) made)
-        (easy_parts l (new_plain l.parts) (later_plain l.parts) (λ other. le_refl _))
-        (easy_group id (record (group_of l id) { exit_future = Some (next_future l.parts) }) made (λ other. le_refl _))
-
-easy_hear : (input : Input) (id : ℕ) (l : Loop) → IsEasy l (hear input id l)
-easy_hear (Send value) id l = easy_refl l
-easy_hear (Throw fault) id l = at (group_of l id).aborting
-  where
-    at : (b : Bool) → IsEasy l (keep_and_abort_unless b fault id l)
-    at true = easy_refl l
-    at false =
-        let kept = set_group id (record (group_of l id) { kept = Some fault }) l in
-        easy_then l kept (abort id kept) (easy_group id (record (group_of l id) { kept = Some fault }) l (λ other. le_refl _)) (easy_abort id kept)
-
-pub easy_woken : (input : Input) (id : ℕ) (l : Loop) → IsEasy l (exit_woken input id l).loop
-easy_woken input id l =
-    let woken = set_group id (record (group_of l id) { exit_future = None }) l in
-    easy_then l woken (exit_woken input id l).loop (easy_group id (record (group_of l id) { exit_future = None }) l (λ other. le_refl _))
-    (easy_then woken (hear input id woken) (exit_woken input id l).loop (easy_hear input id woken) (easy_wait id (hear input id woken)))
-
-easy_raised : (b : Bool) (id : ℕ) (l : Loop) → IsEasy l (abort_where b id l)
-easy_raised true id l = easy_abort id l
-easy_raised false id l = easy_refl l
 
 -- ---- its exit begins: it takes its request back, where it made one
 owes_no_more : (a b d : Bool) → ◌≡◌ {A = ℕ} (cond (a && (b && (false && d))) 1 0) 0
@@ -313,7 +267,7 @@ module _ (raised : Option Exc) (id : ℕ) (l : Loop) (within : id < length l.gro
       let q = take_back id begun in
       let b = is_some raised && not (group_of q id).aborting in
       let r = abort_where b id q in
-      easy_then q r (wait_or_end id r).loop (easy_raised b id q) (easy_wait id r)
+      easy_then q r (wait_or_end id r).loop (easy_row (group_easy id) (abort_where_in id b q)) (easy_row (ending_easy id) (wait_or_end_in id r))
 
   pub begin_covers : IsCovered (exit_begin raised id l).loop
   begin_covers = covers (take_back id begun) (exit_begin raised id l).loop ended taken_back.0 taken_back.1

@@ -1,36 +1,39 @@
 -- Steps of tasks and timeouts: what each of them owes, and what it takes back.
 use Rattle.std.proofs.Common.{◌≡◌, ℕ, ◌+◌, ◌≤◌, ◌<◌, zero, suc, ℤ, Bool, true, false, cond, ◌&&◌, ◌==◌, List, [], ◌∷◌, ◌++◌, Option, Some, None, Result, Ok}
-use Rattle.std.proofs.Common.{Err, length, nat_le, option_map, slice_index_or, slice_set, if◌then◌else◌, refl, ap, ◌∙◌, le_refl, length-append, length-set}
+use Rattle.std.proofs.Common.{Err, length, option_map, slice_index_or, slice_set, if◌then◌else◌, refl, ap, ◌∙◌, le_refl, length-append, length-set}
 use Rattle.std.proofs.Common.{arith}
 use Rattle.std.specs.List.{count_by, range_with_len}
 use Rattle.std.specs.Option.{option_map_or}
 use Rattle.std.proofs.lemmas.List.Sums.{sum_by_push}
 use Rattle.model_value.specs.Input.{Input}
 use Rattle.model_value.specs.Value.{Value, Exc, Outcome}
-use Rattle.model_value.specs.declared.action.Action.TheVariants.{Fires, Extra as Added}
+use Rattle.model_value.specs.declared.action.Action.TheVariants.{Extra as Added}
 use Rattle.model_value.specs.declared.outcome.Outcome.TheVariants.{Value as Returned, Failed, Cancelled}
 use Rattle.model_loop.specs.Ending.{cancel_everything}
 use Rattle.model_loop.specs.Futures.{settle}
-use Rattle.model_loop.specs.Handles.{deadline, later, soon}
+use Rattle.model_loop.specs.Handles.{deadline, later}
 use Rattle.model_loop.specs.Ledger.{Origin, ByEnd, ByExtra, ByTimeout, ask_cancel, request_each, uncancel_by}
 use Rattle.model_loop.specs.Loop.{TimeoutState, Created, Active, Expiring, Expired, Finished, Timeout, Loop, book, in_parts}
 use Rattle.model_loop.specs.Owning.{OwnsFutures}
 use Rattle.model_loop.specs.Parts.{Parts, Task}
 use Rattle.model_loop.specs.Suspend.{suspend}
 use Rattle.model_loop.specs.Tasks.{begin_step, cancelling, finish, future_of, is_cancelled, is_marked, lives, next_task, set_waiter, spawn, unmark}
-use Rattle.model_loop.specs.Timeouts.{enter_timeout, exit_timeout, fire, fires_at, give_up, is_active, leave_from, make_timeout, moment, next_timeout}
-use Rattle.model_loop.specs.Timeouts.{no_timeout, reschedule, reschedule_where, schedule, set_timeout, timeout_of, with_deadline, without_handle}
+use Rattle.model_loop.specs.Timeouts.{enter_timeout, exit_timeout, fire, give_up, is_active, leave_from, make_timeout, moment, next_timeout}
+use Rattle.model_loop.specs.Timeouts.{no_timeout, reschedule, reschedule_where, schedule, set_timeout, timeout_of, without_handle}
 use Rattle.model_machine.specs.Extra.{ExtraStep, MakesPlain, MakesMany, Settles, Releases, Registers, CallsSoon, CallsLater, Revokes, Cancels, Uncancels}
 use Rattle.model_machine.specs.Extra.{made_by, made_by_all}
 use Rattle.model_machine.specs.Replies.{most_ids}
 use Rattle.law_cancel.proofs.Counting.{change_task-kept}
 use Rattle.law_cancel.proofs.Effects.{length-change_task, register-tasks, settle-tasks}
+use Rattle.law_changes.specs.Blocks.{OfSchedule, gives_up, fires_soon, fires_later, tags}
+use Rattle.law_changes.specs.Changes.{LoopChange, made_of_loop}
+use Rattle.law_changes.proofs.BlockRows.{schedule_in, without_in}
 use Rattle.law_ledger.proofs.Balancing.{request_balances, request_each_balances, suspend_balances}
 use Rattle.law_ledger.proofs.LoopBalance.{spawn_counts}
 use Rattle.law_after.proofs.Requests.{cancel_after}
 use Rattle.law_done.proofs.Later.{any, later_same, later_cancel, later_end, later_finish, later_made, later_settle, later_spawn, later_suspend, later_uncancel}
 use Rattle.law_owed.proofs.Asking.{ask_covers, take_covers, hand_covers, request_took, each_took, suspend_took}
-use Rattle.law_owed.proofs.Owed.{IsEasy, covers, easy_book, easy_parts, easy_refl, easy_then, easy_timeout, right_on, same_counts, timeout_owed}
+use Rattle.law_owed.proofs.Owed.{IsEasy, covers, easy_book, easy_parts, easy_refl, easy_row, easy_timeout, right_on, same_counts, timeout_owed}
 use Rattle.law_owed.specs.Owed.{IsCovered, IsRight, is_expiring, owed, owes_timeout}
 
 abbrev count_in : Option Task → ℕ
@@ -113,28 +116,17 @@ all_good [] l is = is
 all_good (step ∷ steps) l is = all_good steps (made_by step l) (made_good step l is)
 
 -- ---- timeouts
-given_up : (tag : Option ℕ) (l : Loop) → IsEasy l (in_parts (give_up tag) l)
-given_up None l = easy_refl l
-given_up (Some tag) l = easy_parts l _ (later_same _ _ refl refl) (λ task. le_refl _)
+schedule_easy : (id : ℕ) (change : LoopChange) (l : Loop) → OfSchedule id change l → IsEasy l (made_of_loop change l)
+schedule_easy id _ l (gives_up tag) = easy_parts l _ (later_same _ _ refl refl) (λ task. le_refl _)
+schedule_easy id _ l fires_soon = easy_parts l _ (later_same _ _ refl refl) (λ task. le_refl _)
+schedule_easy id _ l (fires_later when) = easy_parts l _ (later_same _ _ refl refl) (λ task. le_refl _)
+schedule_easy id _ l (tags tag) = easy_timeout id (record (timeout_of l id) { tag = tag }) l (λ task. le_refl _)
 
 easy_without : (id : ℕ) (l : Loop) → IsEasy l (without_handle id l)
-easy_without id l =
-    easy_then l (in_parts (give_up (timeout_of l id).tag) l) (without_handle id l) (given_up (timeout_of l id).tag l)
-    (easy_timeout id (record (timeout_of l id) { tag = None }) (in_parts (give_up (timeout_of l id).tag) l) (λ task. le_refl _))
-
-easy_deadline : (id : ℕ) (when : Option ℕ) (l : Loop) → IsEasy l (with_deadline id when l)
-easy_deadline id None l = easy_refl l
-easy_deadline id (Some when) l =
-    easy_then l (in_parts (fires_at id when) l) (with_deadline id (Some when) l) (at (nat_le when l.parts.time))
-    (easy_timeout id (record (timeout_of l id) { tag = Some l.parts.next_tag }) (in_parts (fires_at id when) l) (λ task. le_refl _))
-  where
-    at : (b : Bool) → IsEasy l (record l { parts = if b then soon (Fires id) l.parts else later when (Fires id) l.parts })
-    at true = easy_parts l _ (later_same _ _ refl refl) (λ task. le_refl _)
-    at false = easy_parts l _ (later_same _ _ refl refl) (λ task. le_refl _)
+easy_without id l = easy_row (schedule_easy id) (without_in id l)
 
 easy_schedule : (id : ℕ) (when : Option ℕ) (l : Loop) → IsEasy l (schedule id when l)
-easy_schedule id when l =
-    easy_then l (without_handle id l) (schedule id when l) (easy_without id l) (easy_deadline id when (without_handle id l))
+easy_schedule id when l = easy_row (schedule_easy id) (schedule_in id when l)
 
 pub easy_reschedule : (id : ℕ) (when : Option ℤ) (l : Loop) → IsEasy l (reschedule id when l)
 easy_reschedule id when l = at (is_active (timeout_of l id).state)

@@ -14,6 +14,9 @@ use Rattle.model_loop.specs.Parts.{Parts, Task}
 use Rattle.model_loop.specs.Tasks.{cancelling, future_of, lives, next_task}
 use Rattle.model_loop.specs.Timeouts.{no_timeout, set_timeout, timeout_of}
 pub use Rattle.law_ledger.proofs.Counting.{count-cons as count_cons}
+use Rattle.law_changes.specs.Changes.{LoopChange, made_of_loop}
+use Rattle.law_changes.specs.Reaches.{Reaches}
+use Rattle.law_changes.proofs.Folds.{fold}
 use Rattle.law_done.proofs.Later.{IsLater, later_refl, later_then}
 use Rattle.law_owed.specs.Owed.{AreFound, IsCovered, IsRight, owed, owes_group, owes_timeout, uncancels}
 use Rattle.law_owed.proofs.Found.{found_on, is_took, none_found}
@@ -62,6 +65,10 @@ easy_then l m q a b = record {
   timeouts_made = b.timeouts_made ∙ a.timeouts_made;
   groups_made = b.groups_made ∙ a.groups_made;
 }
+
+module _ {May : LoopChange → Loop → Type 0} (each : (change : LoopChange) (l : Loop) → May change l → IsEasy l (made_of_loop change l)) where
+  pub easy_row : {l m : Loop} → Reaches made_of_loop May l m → IsEasy l m
+  easy_row row = fold IsEasy easy_refl easy_then each row
 
 pub same_counts : (p q : Parts) → q.tasks ≡ p.tasks → (task : ℕ) → cancelling p task ≤ cancelling q task
 same_counts p q e task =

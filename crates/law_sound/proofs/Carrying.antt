@@ -2,24 +2,23 @@
 use Rattle.std.proofs.Common.{◌≡◌, ℕ, Bool, List, None, Option, Some, [], ap, arith, cond, false, inl, inr, length, not, refl, slice_get, sym, true}
 use Rattle.std.proofs.Common.{◌&&◌, ◌++◌, ◌∙◌, ◌∷◌, ◌⊎◌}
 use Rattle.model_loop.specs.Parts.{Future, FutureKind, Handle, OfTask, Parts, Plain, Task}
-use Rattle.model_loop.specs.Tasks.{change_task, future_of, lives, next_task, spawn, uncancel, waiter_of}
+use Rattle.model_loop.specs.Tasks.{change_task, future_of, lives, spawn, uncancel, waiter_of}
 use Rattle.model_loop.specs.Totals.{callbacks_at, callbacks_of}
 use Rattle.law_numbers.proofs.Falling.{new_plain_numbers, spawn_numbers}
 use Rattle.model_value.specs.Value.{Exc, Nothing, Outcome}
-use Rattle.model_loop.specs.Futures.{make_future, new_plain, next_future, register, registered, registered_on, settle}
+use Rattle.model_loop.specs.Futures.{make_future, new_plain, register, registered, registered_on, settle}
 use Rattle.model_loop.specs.Handles.{soon}
 use Rattle.law_timeouts.proofs.Quiet.{change_task_quiet, make_quiet, mark_asked_quiet, quiet_on, refl_quiet, register_quiet, settle_quiet, soon_quiet}
 use Rattle.law_timeouts.proofs.Quiet.{spawn_quiet, taken_quiet}
-use Rattle.model_loop.specs.Groups.{child_done, create}
+use Rattle.model_loop.specs.Groups.{begin_exit, child_done, create}
 use Rattle.model_loop.specs.Groups.{exit_begin, exit_woken, set_group}
-use Rattle.model_loop.specs.Groups.{with_child}
 use Rattle.std.specs.Option.{option_map_or, option_to_list}
 use Rattle.model_loop.specs.Numbered.{IsNumbered}
 use Rattle.law_cancel.proofs.Effects.{register-tasks}
 use Rattle.law_settling.proofs.CancelSound.{plain_within, settled_callbacks}
 use Rattle.model_loop.specs.Owning.{AreCallbacks, is_callback, is_no_callback, is_plain, is_plain_at}
 use Rattle.law_cancel.proofs.Lookups.{get-push_last, get-push_other, get-set_kept}
-use Rattle.model_loop.specs.Ledger.{Booked, ByAbort, ByGroup, Origin, request_each, request_where, uncancel_by}
+use Rattle.model_loop.specs.Ledger.{Booked, ByAbort, ByGroup, Origin, ask_cancel, request_each, request_where, uncancel_by}
 use Rattle.law_numbers.proofs.Numbering.{change_task_numbers, mark_asked_numbers, register_numbers, settle_numbers, soon_numbers, taken_numbers}
 use Rattle.model_loop.specs.Loop.{Group, Loop, book}
 use Rattle.model_loop.specs.Cancel.{cancel}
@@ -31,8 +30,12 @@ use Rattle.law_settling.proofs.Spreading.{Spreads, begins, settles, asks, raises
 use Rattle.law_cancel.proofs.Circling.{no_circle_kept, passes-same, register-view}
 use Rattle.law_timeouts.specs.Tags.{IsQuiet, is_deadline}
 use Rattle.law_settling.specs.Frames.{taken}
-use Rattle.law_ledger.proofs.GroupFrame.{IsKeptByGroups}
-use Rattle.law_ledger.proofs.GroupFrame as group
+use Rattle.law_changes.specs.Blocks.{OfGroup, changes, aborts, waits, wakes, OfTold, in_told, requests, OfTaking, in_taking, takes, OfEnding, in_ending}
+use Rattle.law_changes.specs.Blocks.{asks as asks_parent, ends, OfCreating, in_creating, spawns, registers}
+use Rattle.law_changes.specs.Changes.{LoopChange, made_of_loop}
+use Rattle.law_changes.specs.Reaches.{Reaches}
+use Rattle.law_changes.proofs.BlockRows.{child_done_in, create_in, heard_in, taken_in, wait_or_end_in}
+use Rattle.law_changes.proofs.Folds.{fold}
 use Rattle.std.proofs.lemmas.List.Sums.{sum_by_push}
 use Rattle.model_loop.specs.Deadlines.{fires}
 use Rattle.law_told.proofs.Holding.{settled_names}
@@ -240,10 +243,6 @@ register_carries id action p ok other = record {
   plains = λ j h. register-view is_plain_at (λ f a. refl) id action p j ∙ h;
 }
 
-pub child_carries : (id : ℕ) (p : Parts) → Carries p (with_child id p)
-child_carries id p =
-    carries_on p (spawn p) _ (register_carries (next_future p) (GroupDone id (next_task p)) (spawn p) refl refl) (spawn_carries p)
-
 -- ---- the loop: its timeouts stay
 pub record LoopCarries (l q : Loop) : Type 0 where
   pub parts : Carries l.parts q.parts
@@ -265,28 +264,46 @@ pub group_loop : (id : ℕ) (new : Group) (l : Loop) → LoopCarries l (set_grou
 group_loop id new l = record { parts = refl_carries l.parts; timeouts = refl }
 
 -- ---- groups
-groups_carry : (l : Loop) → IsKeptByGroups (LoopCarries l)
-groups_carry l = record {
-  quiet = record {
-    changes = λ id new q requested exiting c. loop_on l q _ (group_loop id new q) c;
-    aborts = λ id tasks q c. loop_on l q _ (book_loop (request_each (ByAbort id) tasks) q (each_carries (ByAbort id) tasks q.parts)) c;
-    makes = λ id q c. loop_on l q _ (parts_loop q _ (child_carries id q.parts)) c;
-    waits = λ q c. loop_on l q _ (parts_loop q _ (plain_carries q.parts)) c;
-    wakes = λ future q c. loop_on l q _ (parts_loop q _ (settle_carries future (Returned Nothing) q.parts)) c;
-  };
-  requests = λ id on q c. record { parts = carries_on l.parts q.parts _ (cancel_carries on q.parts) c.parts; timeouts = c.timeouts };
-  takes = λ id task q c. loop_on l q _ (book_loop (uncancel_by (ByGroup id) task) q (uncancel_carries task q.parts)) c;
-  begins = λ raised id q c. record { parts = c.parts; timeouts = c.timeouts };
-}
+module _ {May : LoopChange → Loop → Type 0} (each : (change : LoopChange) (l : Loop) → May change l → LoopCarries l (made_of_loop change l)) where
+  carry_row : {l m : Loop} → Reaches made_of_loop May l m → LoopCarries l m
+  carry_row row = fold LoopCarries refl_loop (λ l q r a b. loop_on l q r b a) each row
+
+group_carries : (id : ℕ) (change : LoopChange) (l : Loop) → OfGroup id change l → LoopCarries l (made_of_loop change l)
+group_carries id _ l (changes new same) = group_loop id new l
+group_carries id _ l (aborts future) = book_loop (ask_cancel (ByAbort id) future) l (cancel_carries future l.parts)
+group_carries id _ l waits = parts_loop l _ (plain_carries l.parts)
+group_carries id _ l (wakes future) = parts_loop l _ (settle_carries future (Returned Nothing) l.parts)
+
+told_carries : (id : ℕ) (change : LoopChange) (l : Loop) → OfTold id change l → LoopCarries l (made_of_loop change l)
+told_carries id change l (in_told it) = group_carries id change l it
+told_carries id _ l requests = group_loop id _ l
+told_carries id _ l (asks_parent future) = book_loop (ask_cancel (ByGroup id) future) l (cancel_carries future l.parts)
+
+taking_carries : (id : ℕ) (change : LoopChange) (l : Loop) → OfTaking id change l → LoopCarries l (made_of_loop change l)
+taking_carries id change l (in_taking it) = group_carries id change l it
+taking_carries id _ l (takes task) = book_loop (uncancel_by (ByGroup id) task) l (uncancel_carries task l.parts)
+
+ending_carries : (id : ℕ) (change : LoopChange) (l : Loop) → OfEnding id change l → LoopCarries l (made_of_loop change l)
+ending_carries id change l (in_ending it) = group_carries id change l it
+ending_carries id _ l (ends errors) = group_loop id _ l
+
+creating_carries : (id : ℕ) (change : LoopChange) (l : Loop) → OfCreating id change l → LoopCarries l (made_of_loop change l)
+creating_carries id change l (in_creating it) = group_carries id change l it
+creating_carries id _ l spawns = parts_loop l _ (spawn_carries l.parts)
+creating_carries id _ l (registers future task) = parts_loop l _ (register_carries future (GroupDone id task) l.parts refl refl)
 
 pub create_loop : (id : ℕ) (l : Loop) → LoopCarries l (create id l)
-create_loop id l = group.create_keeps (groups_carry l).quiet id l (refl_loop l)
+create_loop id l = carry_row (creating_carries id) (create_in id l)
 
 pub child_done_loop : (id task : ℕ) (l : Loop) → LoopCarries l (child_done id task l)
-child_done_loop id task l = group.child_done_keeps (groups_carry l) id task l (refl_loop l)
+child_done_loop id task l = carry_row (told_carries id) (child_done_in id task l)
 
 pub woken_loop : (input : Input) (id : ℕ) (l : Loop) → LoopCarries l (exit_woken input id l).loop
-woken_loop input id l = group.exit_woken_keeps (groups_carry l).quiet input id l (refl_loop l)
+woken_loop input id l =
+    loop_on l _ _ (carry_row (ending_carries id) (wait_or_end_in id _)) (carry_row (group_carries id) (heard_in id input l))
 
 pub begin_loop : (raised : Option Exc) (id : ℕ) (l : Loop) → LoopCarries l (exit_begin raised id l).loop
-begin_loop raised id l = group.exit_begin_keeps (groups_carry l) raised id l (refl_loop l)
+begin_loop raised id l =
+    let begun : LoopCarries l (begin_exit raised id l) = record { parts = refl_carries l.parts; timeouts = refl } in
+    loop_on l _ _ (carry_row (ending_carries id) (wait_or_end_in id _))
+    (loop_on l (begin_exit raised id l) _ (carry_row (taking_carries id) (taken_in id raised (begin_exit raised id l))) begun)
