@@ -1,6 +1,9 @@
+pub mod Counts
 pub mod Dead
 pub mod Held
 pub mod Journal
 pub mod JournalWire
+pub mod Listed
+pub mod Passed
 pub mod Reading
 pub mod Sums

@@ -1,7 +1,8 @@
 //! The calls that fail.
-ghost use Rattle.std.specs.Prelude.{◌≡◌, ◌==◌, ◌+◌, ◌-◌, ◌^◌, ◌≤◌, min, true, false};
-ghost use Rattle.model_wire.specs.Told.{Rose};
+ghost use Rattle.std.specs.Prelude.{◌≡◌, ◌==◌, ◌≤◌, true, false, if◌then◌else◌};
 ghost use Rattle.std.specs.List.{list_any};
+ghost use Rattle.model_wire.specs.Told.{Rose};
+ghost use Rattle.aio_memwire.specs.Counts.{one_more};
 
 /// A wire, a shelf, a source or a sink of which the calls with the listed numbers fail, counted
 /// from 1 over all calls. A call that fails isn't passed on; its count of failures rises by one and
@@ -32,8 +33,9 @@ impl<I> FailAt<I> {
 
 /// Counts a call, and a failure where it is a listed one.
 pub(crate) fn fails(calls: &[u64], made: &mut u64, faults: &mut u64) -> bool
-    ensures made { made.new ≡ min (made.old + 1) (2 ^ 64 - 1) }
-    ensures listed { result ≡ list_any (λ call. call == made.new) calls.now }
+    ensures made { made.new ≡ one_more made.old }
+    ensures listed { result ≡ list_any (λ call. call == one_more made.old) calls.now }
+    ensures failures { faults.new ≡ (if result then one_more faults.old else faults.old) }
     ensures rose { result ≡ true → Rose faults.old faults.new }
     ensures later { faults.old ≤ faults.new }
     ensures same { result ≡ false → faults.new ≡ faults.old }

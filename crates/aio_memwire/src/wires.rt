@@ -1,12 +1,16 @@
 //! Wires of which chosen calls fail.
+ghost use Rattle.std.specs.Prelude.{◌≡◌, IsOkAnd};
+ghost use Rattle.std.specs.Bool.{OnTrue, OnFalse};
+ghost use Rattle.aio_memwire.specs.Listed.{fails_next, Counted};
+ghost use Rattle.aio_memwire.specs.Passed.{WireAsked};
+ghost use Rattle.aio_memwire.specs.Sums.{wire_with};
+
 use crate::fail_at::{FailAt, fails};
 use aio_base::Memory;
 use aio_wire::{Call, Reply, Wire};
 use std::alloc::Global;
 
 impl<I: Wire> Wire for FailAt<I> {
-    ghost use Rattle.aio_memwire.specs.Sums.{wire_with};
-
     ghost seen = { λ wire. wire_with wire.faults (I.seen wire.inner) };
 
     ghost fails = { λ wire. I.fails wire.inner };
@@ -27,7 +31,19 @@ impl<I: Wire> Wire for FailAt<I> {
     ghost quiet_on = { λ before between after first second.
         I.quiet_on before.inner between.inner after.inner first second };
 
-    fn ask(&mut self, alloc: Global, call: &Call) -> Result<Reply, Memory> {
+    fn ask(&mut self, alloc: Global, call: &Call) -> Result<Reply, Memory>
+        ensures asked { WireAsked call.now (wire_with self.old.faults (I.seen self.old.inner))
+            (wire_with self.new.faults (I.seen self.new.inner))
+            (I.fails self.old.inner) (I.keeps self.old.inner self.new.inner)
+            (I.quiet self.old.inner self.new.inner) result }
+        ensures listed { OnTrue (fails_next self.old)
+            (IsOkAnd result (λ reply. reply ≡ Reply.Failed) × (self.new.inner ≡ self.old.inner)) }
+        ensures passed { OnFalse (fails_next self.old)
+            (WireAsked call.now (I.seen self.old.inner) (I.seen self.new.inner)
+            (I.fails self.old.inner) (I.keeps self.old.inner self.new.inner)
+            (I.quiet self.old.inner self.new.inner) result) }
+        ensures counted { Counted self.old self.new }
+    {
         if fails(self.calls.as_slice(), &mut self.made, &mut self.faults) {
             return Ok(Reply::Failed);
         }

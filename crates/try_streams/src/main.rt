@@ -1,8 +1,9 @@
-//! Runs worked cases of what streams rest on: a reader, a writer's flow, a source in memory, and
-//! the bytes that a journal's wire hands on. For each row that comes out otherwise it prints a
-//! line, and at the end how many rows there were.
+//! Runs worked cases of what streams rest on: a reader, a writer's flow, a source in memory, the
+//! bytes that a journal's wire hands on, and calls of the outside that are made to fail. For each
+//! row that comes out otherwise it prints a line, and at the end how many rows there were.
 #![tactic(auto)]
 
+mod failing;
 mod handed;
 mod row_count;
 mod sources;
@@ -83,5 +84,9 @@ fn run_others<R: Print>(rt: &R, alloc: Global, tally: &mut RowCount) -> Result<(
     let read = sources::is_read_in_order(alloc);
     tally.count(rt, "source read in order", read)?;
     let handed = handed::are_handed_on(alloc);
-    tally.count(rt, "bytes handed on", handed)
+    tally.count(rt, "bytes handed on", handed)?;
+    let failed = failing::listed_reads_fail(alloc);
+    tally.count(rt, "listed reads of a source fail", failed)?;
+    let failed = failing::listed_asks_fail(alloc);
+    tally.count(rt, "listed asks of a wire fail", failed)
 }

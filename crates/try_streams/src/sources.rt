@@ -15,7 +15,7 @@ pub fn is_read_in_order(alloc: Global) -> bool {
 }
 
 /// Whether a read of at most two bytes gives this, or the end where it is nothing.
-fn gives<S: Source>(alloc: Global, source: &mut S, wanted: &[u8]) -> bool {
+pub fn gives<S: Source>(alloc: Global, source: &mut S, wanted: &[u8]) -> bool {
     match source.read(alloc, 2) {
         Ok(SourceGot::Bytes(bytes)) => bytes.items() == wanted,
         Ok(SourceGot::End) => wanted.is_empty(),
