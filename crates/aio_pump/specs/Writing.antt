@@ -1,0 +1,76 @@
+-- What one call of `pump_in` did. What is said of bytes says something where the sink tells what it took.
+use Rattle.std.specs.Prelude.{◌≡◌, ℕ, ◌+◌, ◌<◌, List, [], ◌∷◌, ◌++◌, length, Option, Some, None, ◌⊎◌}
+use Rattle.model_wire.specs.Told.{Rose, SinkSeen, SinkFailed, grown, took}
+use Rattle.model_pump.specs.Posts.{PostKind}
+use Rattle.model_pump.specs.declared.post.PostKind.TheVariants.{Room, Broken, Starved}
+use Rattle.model_pump.specs.Commands.{Command}
+use Rattle.model_pump.specs.declared.command.Command.TheVariants.{Go, Write, Close, Stop}
+use Rattle.aio_lane.specs.Ends.{TailSeen}
+use Rattle.aio_pump.specs.declared.report.Ending.{Ending}
+use Rattle.aio_pump.specs.declared.report.Ending.TheVariants.{Ended, Stopped, Failed, Spent, Memory}
+use Rattle.aio_pump.specs.Moments.{Moment, Posts, IsSpent, told}
+use Rattle.aio_pump.specs.Received.{took_all, writes, IsLast, joined}
+
+-- a Room for each of these
+abbrev pub rooms : List (List ℕ) → List PostKind
+rooms [] = []
+rooms (bytes ∷ others) = Room ∷ rooms others
+
+-- after these Writes came one of which a part was written and the rest was not
+abbrev pub BreaksOff : List Command → List (List ℕ) → List ℕ → List ℕ → Type 0
+BreaksOff received whole part rest = writes received ≡ whole ++ (part ++ rest) ∷ []
+
+-- How the call ended, by the Writes that were written whole, the part that was written of one more, and the last post
+-- where it is no Room. A Write that is broken off is not whole, but where its Room found the poster spent.
+abbrev pub EndsIn : Moment SinkSeen → Moment SinkSeen → List Command → List (List ℕ) → List ℕ → List PostKind → Ending → Type 0
+EndsIn before after received whole part last Ended =
+    (last ≡ []) × (part ≡ []) × (writes received ≡ whole) × IsLast Close received × (after.served.faults ≡ before.served.faults)
+EndsIn before after received whole part last Stopped =
+    (last ≡ []) × (part ≡ []) × (writes received ≡ whole) × IsLast Stop received × (after.served.faults ≡ before.served.faults)
+EndsIn before after received whole part last Failed =
+    (last ≡ Broken ∷ []) × Rose before.served.faults after.served.faults
+    × ((rest : List ℕ) × (0 < length rest) × BreaksOff received whole part rest)
+EndsIn before after received whole part last Spent =
+    (last ≡ []) × IsSpent after.poster × ((after.served.faults ≡ before.served.faults) ⊎ Rose before.served.faults after.served.faults)
+    × ((rest : List ℕ) × BreaksOff received whole part rest)
+EndsIn before after received whole part last Memory =
+    (last ≡ Starved ∷ []) × (after.served.faults ≡ before.served.faults)
+    × ((rest : List ℕ) × (0 < length rest) × BreaksOff received whole part rest)
+
+-- The sink took the Writes in order, whole but perhaps for the last, and nothing else; the posts are a Room for each that
+-- was written whole, and then the last one.
+pub record PumpedIn (tail : TailSeen) (before after : Moment SinkSeen) (back : Option TailSeen) (ending : Ending) : Type 0 where
+  pub received : List Command
+  pub whole : List (List ℕ)
+  pub part : List ℕ
+  pub last : List PostKind
+  pub returned : back ≡ Some (took_all tail received)
+  pub posts : Posts (rooms whole ++ last) before after
+  pub taken : after.served.taken ≡ grown before.served.taken (joined whole ++ part)
+  pub moves : after.moved ≡ told (length (joined whole ++ part))
+  pub ends : EndsIn before after received whole part last ending
+
+-- ---- what one command did: where the pump goes on, and where it ends
+abbrev pub Writes : List ℕ → Moment SinkSeen → Moment SinkSeen → Option Ending → Type 0
+Writes bytes before after None =
+    Posts (Room ∷ []) before after × (after.served ≡ took before.served bytes)
+    × (after.moved ≡ told (before.moved + length bytes))
+Writes bytes before after (Some Failed) =
+    (part : List ℕ) × (rest : List ℕ) × (bytes ≡ part ++ rest) × (0 < length rest) × Posts (Broken ∷ []) before after
+    × SinkFailed part before.served after.served × (after.moved ≡ told (before.moved + length part))
+Writes bytes before after (Some Memory) =
+    (part : List ℕ) × (rest : List ℕ) × (bytes ≡ part ++ rest) × (0 < length rest) × Posts (Starved ∷ []) before after
+    × (after.served ≡ took before.served part) × (after.moved ≡ told (before.moved + length part))
+Writes bytes before after (Some Spent) =
+    (part : List ℕ) × (rest : List ℕ) × (bytes ≡ part ++ rest) × Posts [] before after × IsSpent before.poster
+    × (after.served.taken ≡ grown before.served.taken part)
+    × ((after.served.faults ≡ before.served.faults) ⊎ Rose before.served.faults after.served.faults)
+    × (after.moved ≡ told (before.moved + length part))
+Writes bytes before after (Some Ended) = ⊥
+Writes bytes before after (Some Stopped) = ⊥
+
+abbrev pub ObeysIn : Command → Moment SinkSeen → Moment SinkSeen → Option Ending → Type 0
+ObeysIn Go before after end = (end ≡ None) × (after ≡ before)
+ObeysIn (Write bytes) before after end = Writes bytes before after end
+ObeysIn Close before after end = (end ≡ Some Ended) × (after ≡ before)
+ObeysIn Stop before after end = (end ≡ Some Stopped) × (after ≡ before)
