@@ -100,9 +100,10 @@ pub record Left : Type 0 where
   pub loop : Loop
   pub timed_out : Bool
 
--- A timeout whose time was over takes its cancel back. It raises TimeoutError in place of a CancelledError, but not where
--- somebody else asked for the task's cancel too: of two nested timeouts whose time is over in one turn the outer one
--- raises, once the inner one has passed its CancelledError on.
+-- A timeout whose time was over takes its cancel back. It raises TimeoutError in place of a CancelledError, but only where
+-- the task's count is then no greater than it was as the block was entered. A cancel that the task swallowed before stands
+-- in both counts. One that somebody else asked for inside the block stands in the later one alone, so of two nested timeouts
+-- whose time is over in one turn the outer one raises, once the inner one has passed its CancelledError on.
 --
 --     with timeout(10) as outer
 --       with timeout(10) as inner

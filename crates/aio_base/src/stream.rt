@@ -1,6 +1,0 @@
-/// One of the two pipes that a child writes: its standard output or its standard error.
-#[derive(Clone, Copy, Debug, PartialEq, Eq)]
-pub enum Stream {
-    Out,
-    Errs,
-}
