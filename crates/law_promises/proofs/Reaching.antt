@@ -1,14 +1,15 @@
 -- A cancel goes on from each task that it comes to: the task is marked, or what it waits for was reached.
 use Rattle.std.proofs.Common.{◌≡◌, ℕ, Bool, List, None, Option, Some, [], ap, false, inl, inr, option_map, refl, slice_get, slice_set, subst, sym, true, ◌++◌}
-use Rattle.std.proofs.Common.{◌||◌, ◌∙◌, ◌∷◌, ◌⊎◌}
+use Rattle.std.proofs.Common.{◌||◌, ◌∙◌, ◌∷◌, ◌⊎◌, zero, suc, arith, is_none, Contains}
 use Rattle.model_loop.specs.Parts.{Future, FutureKind, Many, OfTask, Parts, Plain, Task}
 use Rattle.model_loop.specs.Tasks.{change_task, is_marked, mark, raise_count, waiter_of}
 use Rattle.law_cancel.proofs.Effects.{asked_as, change_task-futures, change_task-there, done_as, settle-futures, settle-tasks}
-use Rattle.law_promises.specs.Reached.{GoesOn, WasReached, asked_at, asked_in, was_asked}
+use Rattle.law_promises.specs.Reached.{GoesOn, WasReached, asked_at, asked_in, was_asked, members_at, members_in, members_of}
+use Rattle.law_promises.specs.Reached.{ended as ended_row, visited as came_row, asked as asked_row}
 use Rattle.model_loop.specs.Cancel.{CancelRequest, answers, asked_where, cancel, has_seen, marked_unless}
-use Rattle.model_loop.specs.Futures.{asked_kind, future_outcome, mark_asked, outcome_at, settle, with_future}
+use Rattle.model_loop.specs.Futures.{asked_kind, future_outcome, is_pending, is_pending_at, made_before, mark_asked, outcome_at, settle, with_future}
 use Rattle.model_loop.specs.Owning.{OwnsFutures, own_future, owner_at, owner_in, owner_of}
-use Rattle.std.proofs.lemmas.Bool.{cases_eq, false≢true, or_left}
+use Rattle.std.proofs.lemmas.Bool.{cases_eq, false≢true, or_cases, or_left}
 use Rattle.law_cancel.proofs.Seen.{has_seen-append, has_seen_last, has_seen_other}
 use Rattle.model_loop.specs.Cancelling.{IsPendingAs, Cancels, CancelsEach, CancelsWaiter, done as done_row, plain as plain_row, many as many_row}
 use Rattle.model_loop.specs.Cancelling.{visited as visited_row, task as task_row, no_task as no_task_row, none as none_row, each as each_row}
@@ -36,6 +37,8 @@ record Persists (s : List ℕ) (p : Parts) (t : List ℕ) (q : Parts) : Type 0 w
   cancelled : (id : ℕ) → future_outcome p id ≡ Some Cancelled → future_outcome q id ≡ Some Cancelled
   asked : (id : ℕ) → was_asked p id ≡ true → was_asked q id ≡ true
   manys : (id : ℕ) → kind_many_at (slice_get q.futures id) ≡ kind_many_at (slice_get p.futures id)
+  pending : (id : ℕ) → is_pending q id ≡ true → is_pending p id ≡ true
+  members : (id : ℕ) → members_of q id ≡ members_of p id
 
 stays : (s : List ℕ) (p : Parts) → Persists s p s p
 stays s p = record {
@@ -47,6 +50,8 @@ stays s p = record {
   cancelled = λ j h. h;
   asked = λ j h. h;
   manys = λ j. refl;
+  pending = λ j h. h;
+  members = λ j. refl;
 }
 
 persists_on : (s t u : List ℕ) (p q r : Parts) → Persists t q u r → Persists s p t q → Persists s p u r
@@ -59,6 +64,8 @@ persists_on s t u p q r b a = record {
   cancelled = λ j h. b.cancelled j (a.cancelled j h);
   asked = λ j h. b.asked j (a.asked j h);
   manys = λ j. b.manys j ∙ a.manys j;
+  pending = λ j h. a.pending j (b.pending j h);
+  members = λ j. b.members j ∙ a.members j;
 }
 
 -- a task's count or mark, where no mark falls
@@ -74,6 +81,8 @@ changed s id change p waiter future marked = record {
   cancelled = λ j h. ap (λ (fs : List Future). outcome_at (slice_get fs j)) (change_task-futures id change p) ∙ h;
   asked = λ j h. ap (λ (fs : List Future). asked_at (slice_get fs j)) (change_task-futures id change p) ∙ h;
   manys = λ j. ap (λ (fs : List Future). kind_many_at (slice_get fs j)) (change_task-futures id change p);
+  pending = λ j h. sym (ap (λ (fs : List Future). is_pending_at (slice_get fs j)) (change_task-futures id change p)) ∙ h;
+  members = λ j. ap (λ (fs : List Future). made_before j (members_at (slice_get fs j))) (change_task-futures id change p);
 }
 
 raise_stays : (s : List ℕ) (id : ℕ) (p : Parts) → Persists s p s (raise_count id p)
@@ -116,6 +125,8 @@ settle_stays s id p future e o = record {
   cancelled = λ j h. cancelled j h (cases_eq id j);
   asked = λ j h. see asked_at j refl ∙ h;
   manys = λ j. see kind_many_at j refl;
+  pending = λ j h. pending j h (cases_eq id j);
+  members = λ j. ap (made_before j) (see members_at j refl);
 }
   where
     tasks : (settle id Cancelled p).tasks ≡ p.tasks
@@ -126,6 +137,12 @@ settle_stays s id p future e o = record {
     see f j same =
         ap (λ (fs : List Future). f (slice_get fs j)) (settle-futures id Cancelled p future e o)
         ∙ get-set_kept f p.futures id j future (done_as Cancelled future) e same
+
+    pending : (j : ℕ) → is_pending (settle id Cancelled p) j ≡ true → (id ≡ j) ⊎ (id ≡ j → ⊥) → is_pending p j ≡ true
+    pending j h (inl same) = subst (λ i. is_pending p i ≡ true) same (ap is_pending_at e ∙ ap is_none o)
+    pending j h (inr n) =
+        sym (ap (λ (fs : List Future). is_pending_at (slice_get fs j)) (settle-futures id Cancelled p future e o)
+        ∙ ap is_pending_at (get-set_other p.futures id j (done_as Cancelled future) n)) ∙ h
 
     cancelled : (j : ℕ) → future_outcome p j ≡ Some Cancelled → (id ≡ j) ⊎ (id ≡ j → ⊥)
         → future_outcome (settle id Cancelled p) j ≡ Some Cancelled
@@ -148,10 +165,11 @@ ask_stays : (s : List ℕ) (id : ℕ) (p : Parts) → Persists s p s (mark_asked
 ask_stays s id p = at (slice_get p.futures id) refl
   where
     kinds : (k : FutureKind)
-        → (owner_in (asked_kind k) ≡ owner_in k) × (asked_in k ≡ true → asked_in (asked_kind k) ≡ true) × (kind_many (asked_kind k) ≡ kind_many k)
-    kinds Plain = (refl, λ h. h, refl)
-    kinds (OfTask task) = (refl, λ h. h, refl)
-    kinds (Many members asked) = (refl, λ h. refl, refl)
+        → (owner_in (asked_kind k) ≡ owner_in k) × (asked_in k ≡ true → asked_in (asked_kind k) ≡ true)
+        × (kind_many (asked_kind k) ≡ kind_many k) × (members_in (asked_kind k) ≡ members_in k)
+    kinds Plain = (refl, λ h. h, refl, refl)
+    kinds (OfTask task) = (refl, λ h. h, refl, refl)
+    kinds (Many members asked) = (refl, λ h. refl, refl, refl)
 
     with_it : (future : Future) → slice_get p.futures id ≡ Some future
         → Persists s p s (record p { futures = slice_set p.futures id (asked_as future) })
@@ -164,6 +182,8 @@ ask_stays s id p = at (slice_get p.futures id) refl
       cancelled = λ j h. get-set_kept outcome_at p.futures id j future (asked_as future) e refl ∙ h;
       asked = λ j h. asked j h (cases_eq id j);
       manys = λ j. get-set_kept kind_many_at p.futures id j future (asked_as future) e (kinds future.kind).2;
+      pending = λ j h. sym (get-set_kept is_pending_at p.futures id j future (asked_as future) e refl) ∙ h;
+      members = λ j. ap (made_before j) (get-set_kept members_at p.futures id j future (asked_as future) e (kinds future.kind).3);
     }
       where
         asked : (j : ℕ) → was_asked p j ≡ true → (id ≡ j) ⊎ (id ≡ j → ⊥)
@@ -193,14 +213,28 @@ asks_it id p h = at (slice_get p.futures id) refl h
     at (Some future) e h = ap asked_at (get-set_same p.futures id future (asked_as future) e) ∙ many future.kind h
 
 -- ---- what was reached stays so
-reached_stays : (s t : List ℕ) (p q : Parts) → Persists s p t q → (on : ℕ) → WasReached p s on → WasReached q t on
-reached_stays s t p q k on (inl c) = inl (k.cancelled on c)
-reached_stays s t p q k on (inr (inl a)) = inr (inl (k.asked on a))
-reached_stays s t p q k on (inr (inr w)) = inr (inr (w.0, k.owners on ∙ w.1, k.seen w.0 w.2))
+reached_stays : {on : ℕ} (old : Parts) (s t : List ℕ) (p q : Parts) → Persists s p t q → WasReached old p s on → WasReached old q t on
+reached_stays old s t p q k (ended_row {on = on} before now) = ended_row before (k.cancelled on now)
+reached_stays old s t p q k (came_row {task = task} before owner seen) = came_row before owner (k.seen task seen)
+reached_stays old s t p q k (asked_row {on = on} before among reached now) =
+    asked_row before among (reached_stays old s t p q k reached) (k.asked on now)
 
-goes_stays : (s t : List ℕ) (p q : Parts) → Persists s p t q → (task : ℕ) → GoesOn p s task → GoesOn q t task
-goes_stays s t p q k task (inl m) = inl (k.marked task m)
-goes_stays s t p q k task (inr w) = inr (w.0, k.waiters task ∙ w.1, reached_stays s t p q k w.0 w.2)
+-- and what was pending then was pending before
+reached_from : {on : ℕ} (new : Parts) (seen s t : List ℕ) (p q : Parts) → Persists s p t q → WasReached q new seen on → WasReached p new seen on
+reached_from new seen s t p q k (ended_row {on = on} before now) = ended_row (k.pending on before) now
+reached_from new seen s t p q k (came_row {on = on} before owner came) =
+    came_row (k.pending on before) (sym (k.owners on) ∙ owner) came
+reached_from new seen s t p q k (asked_row {on = on} {member = member} before among reached now) =
+    asked_row (k.pending on before) (subst (λ (ms : List ℕ). Contains ms member) (k.members on) among)
+    (reached_from new seen s t p q k reached) now
+
+goes_stays : (old : Parts) (s t : List ℕ) (p q : Parts) → Persists s p t q → (task : ℕ) → GoesOn old p s task → GoesOn old q t task
+goes_stays old s t p q k task (inl m) = inl (k.marked task m)
+goes_stays old s t p q k task (inr w) = inr (w.0, w.1, reached_stays old s t p q k w.2)
+
+goes_from : (new : Parts) (seen s t : List ℕ) (p q : Parts) → Persists s p t q → (task : ℕ) → GoesOn q new seen task → GoesOn p new seen task
+goes_from new seen s t p q k task (inl m) = inl m
+goes_from new seen s t p q k task (inr w) = inr (w.0, sym (k.waiters task) ∙ w.1, reached_from new seen s t p q k w.2)
 
 owns_stays : (s t : List ℕ) (p q : Parts) → Persists s p t q → OwnsFutures p → OwnsFutures q
 owns_stays s t p q k owns id task =
@@ -209,11 +243,14 @@ owns_stays s t p q k owns id task =
 -- ---- a request
 record Told (s : List ℕ) (p : Parts) (r : CancelRequest) : Type 0 where
   persists : Persists s p r.seen r.parts
-  visits : (task : ℕ) → has_seen r.seen task ≡ true → (has_seen s task ≡ true) ⊎ GoesOn r.parts r.seen task
+  visits : (task : ℕ) → has_seen r.seen task ≡ true → (has_seen s task ≡ true) ⊎ GoesOn p r.parts r.seen task
 
 record Reaches (id : ℕ) (s : List ℕ) (p : Parts) (r : CancelRequest) : Type 0 where
   told : Told s p r
-  answered : r.answer ≡ true → WasReached r.parts r.seen id
+  answered : r.answer ≡ true → WasReached p r.parts r.seen id
+
+pending_found : (p : Parts) (id : ℕ) (kind : FutureKind) → IsPendingAs p id kind → is_pending p id ≡ true
+pending_found p id kind is = ap is_pending_at is.found ∙ ap is_none is.pending
 
 owner_found : (p : Parts) (id task : ℕ) → IsPendingAs p id (OfTask task) → owner_of p id ≡ Some task
 owner_found p id task is = ap owner_at is.found ∙ ap owner_in is.kind_is
@@ -227,29 +264,33 @@ asked_told s p id true r t =
       visits = λ task h. go task (t.visits task h);
     }
   where
-    go : (task : ℕ) → (has_seen s task ≡ true) ⊎ GoesOn r.parts r.seen task → (has_seen s task ≡ true) ⊎ GoesOn (mark_asked id r.parts) r.seen task
+    go : (task : ℕ) → (has_seen s task ≡ true) ⊎ GoesOn p r.parts r.seen task
+        → (has_seen s task ≡ true) ⊎ GoesOn p (mark_asked id r.parts) r.seen task
     go task (inl x) = inl x
-    go task (inr x) = inr (goes_stays r.seen r.seen r.parts (mark_asked id r.parts) (ask_stays r.seen id r.parts) task x)
+    go task (inr x) = inr (goes_stays p r.seen r.seen r.parts (mark_asked id r.parts) (ask_stays r.seen id r.parts) task x)
+
+-- a task is visited, and counts the request
+visit_stays : (s : List ℕ) (task : ℕ) (p : Parts) → Persists s p (s ++ task ∷ []) (raise_count task p)
+visit_stays s task p =
+    let k = raise_stays s task p in
+    record {
+      seen = λ u h. has_seen-append s (task ∷ []) u ∙ or_left (has_seen s u) (has_seen (task ∷ []) u) h;
+      marked = k.marked;
+      waiters = k.waiters;
+      owned = k.owned;
+      owners = k.owners;
+      cancelled = k.cancelled;
+      asked = k.asked;
+      manys = k.manys;
+      pending = k.pending;
+      members = k.members;
+    }
 
 -- the task that is visited is marked unless what it waits for answers true
 module _ (s : List ℕ) (p : Parts) (id task : ℕ) (it : Task) (is : IsPendingAs p id (OfTask task)) (there : slice_get p.tasks task ≡ Some it) (r : CancelRequest)
     (t : Told (s ++ task ∷ []) (raise_count task p) r) where
-  raised : Persists s p (s ++ task ∷ []) (raise_count task p)
-  raised =
-      let k = raise_stays s task p in
-      record {
-        seen = λ u h. has_seen-append s (task ∷ []) u ∙ or_left (has_seen s u) (has_seen (task ∷ []) u) h;
-        marked = k.marked;
-        waiters = k.waiters;
-        owned = k.owned;
-        owners = k.owners;
-        cancelled = k.cancelled;
-        asked = k.asked;
-        manys = k.manys;
-      }
-
   whole : Persists s p r.seen r.parts
-  whole = persists_on s (s ++ task ∷ []) r.seen p (raise_count task p) r.parts t.persists raised
+  whole = persists_on s (s ++ task ∷ []) r.seen p (raise_count task p) r.parts t.persists (visit_stays s task p)
 
   still : (now : Task) × (slice_get r.parts.tasks task ≡ Some now)
   still = at (slice_get r.parts.tasks task) refl
@@ -263,6 +304,9 @@ module _ (s : List ℕ) (p : Parts) (id task : ℕ) (it : Task) (is : IsPendingA
   seen_it : has_seen r.seen task ≡ true
   seen_it = t.persists.seen task (has_seen_last s task)
 
+  from_start : (u : ℕ) → GoesOn (raise_count task p) r.parts r.seen u → GoesOn p r.parts r.seen u
+  from_start u = goes_from r.parts r.seen s (s ++ task ∷ []) p (raise_count task p) (visit_stays s task p) u
+
   -- its own way on
   old : (u : ℕ) → has_seen (s ++ task ∷ []) u ≡ true → (has_seen s u ≡ true) ⊎ (u ≡ task)
   old u h = go (cases_eq u task)
@@ -271,33 +315,34 @@ module _ (s : List ℕ) (p : Parts) (id task : ℕ) (it : Task) (is : IsPendingA
       go (inl e) = inr e
       go (inr n) = inl (sym (has_seen_other s task u n) ∙ h)
 
-  task_told : (answer : Bool) → (answer ≡ true → GoesOn r.parts r.seen task) → Reaches id s p (marked_unless answer task r)
+  task_told : (answer : Bool) → (answer ≡ true → GoesOn p r.parts r.seen task) → Reaches id s p (marked_unless answer task r)
   task_told true on = record {
     told = record { persists = whole; visits = λ u h. go u (t.visits u h) };
-    answered = λ e. inr (inr (task, whole.owners id ∙ owner_found p id task is, seen_it));
+    answered = λ e. came_row (pending_found p id (OfTask task) is) (owner_found p id task is) seen_it;
   }
     where
-      go : (u : ℕ) → (has_seen (s ++ task ∷ []) u ≡ true) ⊎ GoesOn r.parts r.seen u → (has_seen s u ≡ true) ⊎ GoesOn r.parts r.seen u
-      go u (inr x) = inr x
+      go : (u : ℕ) → (has_seen (s ++ task ∷ []) u ≡ true) ⊎ GoesOn (raise_count task p) r.parts r.seen u
+          → (has_seen s u ≡ true) ⊎ GoesOn p r.parts r.seen u
+      go u (inr x) = inr (from_start u x)
       go u (inl x) = at (old u x)
         where
-          at : (has_seen s u ≡ true) ⊎ (u ≡ task) → (has_seen s u ≡ true) ⊎ GoesOn r.parts r.seen u
+          at : (has_seen s u ≡ true) ⊎ (u ≡ task) → (has_seen s u ≡ true) ⊎ GoesOn p r.parts r.seen u
           at (inl y) = inl y
-          at (inr e) = inr (subst (GoesOn r.parts r.seen) (sym e) (on refl))
+          at (inr e) = inr (subst (GoesOn p r.parts r.seen) (sym e) (on refl))
   task_told false on = record {
     told = record {
       persists = persists_on s r.seen r.seen p r.parts (mark task r.parts) (mark_stays r.seen task r.parts) whole;
       visits = λ u h. go u (t.visits u h);
     };
-    answered = λ e. inr (inr (task, (mark_stays r.seen task r.parts).owners id ∙ whole.owners id ∙ owner_found p id task is, seen_it));
+    answered = λ e. came_row (pending_found p id (OfTask task) is) (owner_found p id task is) seen_it;
   }
     where
-      go : (u : ℕ) → (has_seen (s ++ task ∷ []) u ≡ true) ⊎ GoesOn r.parts r.seen u
-          → (has_seen s u ≡ true) ⊎ GoesOn (mark task r.parts) r.seen u
-      go u (inr x) = inr (goes_stays r.seen r.seen r.parts (mark task r.parts) (mark_stays r.seen task r.parts) u x)
+      go : (u : ℕ) → (has_seen (s ++ task ∷ []) u ≡ true) ⊎ GoesOn (raise_count task p) r.parts r.seen u
+          → (has_seen s u ≡ true) ⊎ GoesOn p (mark task r.parts) r.seen u
+      go u (inr x) = inr (goes_stays p r.seen r.seen r.parts (mark task r.parts) (mark_stays r.seen task r.parts) u (from_start u x))
       go u (inl x) = at (old u x)
         where
-          at : (has_seen s u ≡ true) ⊎ (u ≡ task) → (has_seen s u ≡ true) ⊎ GoesOn (mark task r.parts) r.seen u
+          at : (has_seen s u ≡ true) ⊎ (u ≡ task) → (has_seen s u ≡ true) ⊎ GoesOn p (mark task r.parts) r.seen u
           at (inl y) = inl y
           at (inr e) =
               inr (inl (subst (λ x. is_marked (mark task r.parts) x ≡ true) (sym e) (marks_it task r.parts still.0 still.1)))
@@ -312,37 +357,70 @@ each_told s p first others a b = record {
   visits = λ task h. go task (b.visits task h);
 }
   where
-    back : (task : ℕ) → (has_seen s task ≡ true) ⊎ GoesOn first.parts first.seen task
-        → (has_seen s task ≡ true) ⊎ GoesOn others.parts others.seen task
+    back : (task : ℕ) → (has_seen s task ≡ true) ⊎ GoesOn p first.parts first.seen task
+        → (has_seen s task ≡ true) ⊎ GoesOn p others.parts others.seen task
     back task (inl x) = inl x
-    back task (inr x) = inr (goes_stays first.seen others.seen first.parts others.parts b.persists task x)
+    back task (inr x) = inr (goes_stays p first.seen others.seen first.parts others.parts b.persists task x)
 
-    go : (task : ℕ) → (has_seen first.seen task ≡ true) ⊎ GoesOn others.parts others.seen task
-        → (has_seen s task ≡ true) ⊎ GoesOn others.parts others.seen task
-    go task (inr x) = inr x
+    go : (task : ℕ) → (has_seen first.seen task ≡ true) ⊎ GoesOn first.parts others.parts others.seen task
+        → (has_seen s task ≡ true) ⊎ GoesOn p others.parts others.seen task
+    go task (inr x) = inr (goes_from others.parts others.seen s first.seen p first.parts a.persists task x)
     go task (inl x) = back task (a.visits task x)
 
+-- ---- one of several futures was reached
+record ReachesOne (ids : List ℕ) (p : Parts) (r : CancelRequest) : Type 0 where
+  member : ℕ
+  among : Contains ids member
+  reached : WasReached p r.parts r.seen member
+
+one_of : (id : ℕ) (ids s : List ℕ) (p : Parts) (first others : CancelRequest) → Reaches id s p first → Told first.seen first.parts others
+    → (others.answer ≡ true → ReachesOne ids first.parts others) → (first.answer || others.answer) ≡ true
+    → ReachesOne (id ∷ ids) p (record others { answer = first.answer || others.answer })
+one_of id ids s p first others a b c e = go (or_cases first.answer others.answer e)
+  where
+    go : (first.answer ≡ true) ⊎ (others.answer ≡ true) → ReachesOne (id ∷ ids) p (record others { answer = first.answer || others.answer })
+    go (inl x) = record {
+      member = id;
+      among = (zero, omega arith, refl);
+      reached = reached_stays p first.seen others.seen first.parts others.parts b.persists (a.answered x);
+    }
+    go (inr x) = let one = c x in record {
+      member = one.member;
+      among = (suc one.among.0, omega (arith, one.among.1), one.among.2);
+      reached = reached_from others.parts others.seen s first.seen p first.parts a.told.persists one.reached;
+    }
+
 many_reaches : (id : ℕ) (s : List ℕ) (p : Parts) (members : List ℕ) (asked : Bool) → IsPendingAs p id (Many members asked)
-    → (r : CancelRequest) → Told s p r → Reaches id s p (asked_where r.answer id r)
-many_reaches id s p members asked is r t = at r.answer refl
+    → (r : CancelRequest) → Told s p r → (r.answer ≡ true → ReachesOne (made_before id members) p r)
+    → Reaches id s p (asked_where r.answer id r)
+many_reaches id s p members asked is r t one = at r.answer refl
   where
     kept : kind_many_at (slice_get r.parts.futures id) ≡ true
     kept = t.persists.manys id ∙ ap kind_many_at is.found ∙ ap kind_many is.kind_is
 
+    stand : members_of p id ≡ made_before id members
+    stand = ap (made_before id) (ap members_at is.found ∙ ap members_in is.kind_is)
+
     at : (answer : Bool) → r.answer ≡ answer → Reaches id s p (asked_where answer id r)
-    at true e = record { told = asked_told s p id true r t; answered = λ h. inr (inl (asks_it id r.parts kept)) }
+    at true e =
+        let found = one e in
+        record {
+          told = asked_told s p id true r t;
+          answered = λ h. asked_row (pending_found p id (Many members asked) is)
+              (subst (λ (ms : List ℕ). Contains ms found.member) (sym stand) found.among)
+              (reached_stays p r.seen r.seen r.parts (mark_asked id r.parts) (ask_stays r.seen id r.parts) found.reached)
+              (asks_it id r.parts kept);
+        }
     at false e = record { told = t; answered = λ h. absurd (false≢true (sym e ∙ h)) }
 
 -- what the task waits for was reached
 goes_to : (task : ℕ) (it : Task) (s : List ℕ) (p : Parts) (r : CancelRequest) → slice_get p.tasks task ≡ Some it
-    → Told (s ++ task ∷ []) (raise_count task p) r → ((on : ℕ) × (it.waiter ≡ Some on) × WasReached r.parts r.seen on)
-    → GoesOn r.parts r.seen task
-goes_to task it s p r e t w =
+    → ((on : ℕ) × (it.waiter ≡ Some on) × WasReached (raise_count task p) r.parts r.seen on) → GoesOn p r.parts r.seen task
+goes_to task it s p r e w =
     inr (
       w.0,
-      t.persists.waiters task ∙ (raise_stays s task p).waiters task
-          ∙ ap (λ (o : Option Task). option_map_or (λ (x : Task). x.waiter) o None) e ∙ w.1,
-      w.2,
+      ap (λ (o : Option Task). option_map_or (λ (x : Task). x.waiter) o None) e ∙ w.1,
+      reached_from r.parts r.seen s (s ++ task ∷ []) p (raise_count task p) (visit_stays s task p) w.2,
     )
 
 mutual
@@ -350,43 +428,44 @@ mutual
   reaches {s = s} {p = p} owns (done_row d) = record { told = nothing_told s p false; answered = λ e. absurd (false≢true e) }
   reaches {id = id} {s = s} {p = p} owns (plain_row is) = record {
     told = record { persists = settle_stays s id p is.future is.found is.pending; visits = λ task h. inl h };
-    answered = λ e. inl (settle_cancels id p is.future is.found is.pending);
+    answered = λ e. ended_row (pending_found p id Plain is) (settle_cancels id p is.future is.found is.pending);
   }
   reaches {id = id} {s = s} {p = p} owns (many_row {members = members} {asked = asked} {request = r} is e) =
-      many_reaches id s p members asked is r (reaches_each owns e)
+      let k = reaches_each owns e in many_reaches id s p members asked is r k.0 k.1
   reaches {id = id} {s = s} {p = p} owns (visited_row {task = t} is n) = record {
     told = nothing_told s p true;
-    answered = λ e. inr (inr (t, owner_found p id t is, n));
+    answered = λ e. came_row (pending_found p id (OfTask t) is) (owner_found p id t is) n;
   }
   reaches {id = id} {s = s} {p = p} owns (task_row {task = t} {it = it} {request = r} is n e w) =
       let k = reaches_waiter (owns_stays s s p (raise_count t p) (raise_stays s t p) owns) w in
-      task_told s p id t it is e r k.0 r.answer (λ a.
-      goes_to t it s p r e k.0 (k.1 a))
+      task_told s p id t it is e r k.0 r.answer (λ a. goes_to t it s p r e (k.1 a))
   reaches {id = id} {s = s} {p = p} owns (no_task_row {task = t} is n e) =
       absurd (none-some id (sym (ap (option_map (λ (x : Task). x.future)) e) ∙ (owns id t).0 (owner_found p id t is)))
 
-  reaches_each : {ids s : List ℕ} {p : Parts} {r : CancelRequest} → OwnsFutures p → CancelsEach ids s p r → Told s p r
-  reaches_each {s = s} {p = p} owns none_row = nothing_told s p false
+  reaches_each : {ids s : List ℕ} {p : Parts} {r : CancelRequest} → OwnsFutures p → CancelsEach ids s p r
+      → Told s p r × (r.answer ≡ true → ReachesOne ids p r)
+  reaches_each {s = s} {p = p} owns none_row = (nothing_told s p false, λ e. absurd (false≢true e))
   reaches_each {s = s} {p = p} owns (each_row {id = id} {ids = ids} {first = first} {others = others} c e) =
-      let a = (reaches owns c).told in
-      each_told s p first others a (reaches_each (owns_stays s first.seen p first.parts a.persists owns) e)
+      let a = reaches owns c in
+      let b = reaches_each (owns_stays s first.seen p first.parts a.told.persists owns) e in
+      (each_told s p first others a.told b.0, one_of id ids s p first others a b.0 b.1)
 
   reaches_waiter : {o : Option ℕ} {s : List ℕ} {p : Parts} {r : CancelRequest} → OwnsFutures p → CancelsWaiter o s p r
-      → Told s p r × (r.answer ≡ true → (on : ℕ) × (o ≡ Some on) × WasReached r.parts r.seen on)
+      → Told s p r × (r.answer ≡ true → (on : ℕ) × (o ≡ Some on) × WasReached p r.parts r.seen on)
   reaches_waiter {s = s} {p = p} owns waits_not_row = (nothing_told s p false, λ e. absurd (false≢true e))
   reaches_waiter owns (waits_row {on = on} c) = let k = reaches owns c in (k.told, λ e. (on, refl, k.answered e))
 
 -- the whole request
 pub cancel_goes_on : (id : ℕ) (p : Parts) → OwnsFutures p → (task : ℕ) → has_seen (cancel id p).seen task ≡ true
-    → GoesOn (cancel id p).parts (cancel id p).seen task
+    → GoesOn p (cancel id p).parts (cancel id p).seen task
 cancel_goes_on id p owns task h = go ((reaches owns (cancel_meets id [] p)).told.visits task h)
   where
-    go : (has_seen [] task ≡ true) ⊎ GoesOn (cancel id p).parts (cancel id p).seen task → GoesOn (cancel id p).parts (cancel id p).seen task
+    go : (has_seen [] task ≡ true) ⊎ GoesOn p (cancel id p).parts (cancel id p).seen task → GoesOn p (cancel id p).parts (cancel id p).seen task
     go (inl x) = absurd (false≢true x)
     go (inr x) = x
 
 pub cancel_reaches : (id : ℕ) (p : Parts) → OwnsFutures p → (cancel id p).answer ≡ true
-    → WasReached (cancel id p).parts (cancel id p).seen id
+    → WasReached p (cancel id p).parts (cancel id p).seen id
 cancel_reaches id p owns h = (reaches owns (cancel_meets id [] p)).answered h
 
 pub cancel_keeps_marks : (id : ℕ) (p : Parts) → OwnsFutures p → (task : ℕ) → is_marked p task ≡ true

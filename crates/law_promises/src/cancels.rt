@@ -7,19 +7,19 @@ ghost use Rattle.model_loop.specs.Cancel.{has_seen, cancel};
 ghost use Rattle.model_loop.specs.Owning.{OwnsFutures};
 ghost use Rattle.law_promises.specs.Reached.{WasReached, GoesOn};
 
-/// Each task that a request comes to is afterwards marked, or the request went on to what it waits
-/// for, which was cancelled, keeps that it was asked, or is the future of a task that the request
-/// came to.
+/// Each task that a request comes to is afterwards marked, or what it waits for was pending and this
+/// request reached it: that is cancelled now, or it is the future of a task that the request came
+/// to, or it stands for several of which the request reached one.
 pub fn a_cancel_goes_on()
     ensures { (id : ℕ) (p : Parts) → OwnsFutures p → (task : ℕ)
         → has_seen (cancel id p).seen task ≡ true
-        → GoesOn (cancel id p).parts (cancel id p).seen task }
+        → GoesOn p (cancel id p).parts (cancel id p).seen task }
 {}
 
-/// A request that answers true reached what it was made for.
+/// A request that answers true reached what it was made for, which was pending.
 pub fn an_answer_is_true()
     ensures { (id : ℕ) (p : Parts) → OwnsFutures p → (cancel id p).answer ≡ true
-        → WasReached (cancel id p).parts (cancel id p).seen id }
+        → WasReached p (cancel id p).parts (cancel id p).seen id }
 {}
 
 /// No request takes a mark away.
