@@ -14,7 +14,7 @@ pub fn listed_reads_fail(alloc: Global) -> bool {
     let Ok(calls) = Vec::from_slice(alloc, &[2, 4]) else {
         return false;
     };
-    let mut source = FailAt::new(MemSource::new(Blob::of(bytes)), calls);
+    let mut source = FailAt::new(MemSource::new(alloc, Blob::of(bytes)), calls);
     gives(alloc, &mut source, b"ab")
         && fails(alloc, &mut source)
         && gives(alloc, &mut source, b"c")

@@ -8,7 +8,7 @@ pub fn is_read_in_order(alloc: Global) -> bool {
     let Ok(bytes) = Vec::from_slice(alloc, b"abc") else {
         return false;
     };
-    let mut source = MemSource::new(Blob::of(bytes));
+    let mut source = MemSource::new(alloc, Blob::of(bytes));
     gives(alloc, &mut source, b"ab")
         && gives(alloc, &mut source, b"c")
         && gives(alloc, &mut source, b"")
