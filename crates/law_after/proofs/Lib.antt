@@ -1,6 +1,7 @@
-pub mod Parts
-pub mod Made
-pub mod Requests
-pub mod Loops
-pub mod Exits
 pub mod Deadlines
+pub mod Exits
+pub mod Frame
+pub mod Loops
+pub mod Made
+pub mod Parts
+pub mod Requests

@@ -1,5 +1,5 @@
 -- What requests, and a task's step, leave of the parts.
-use Rattle.std.proofs.Common.{ℕ, Bool, true, false, List, [], ◌∷◌, Option, Some, None, Result, Ok, Err, if◌then◌else◌, refl}
+use Rattle.std.proofs.Common.{ℕ, Bool, true, false, List, Option, Some, None, Result, Ok, Err, if◌then◌else◌, refl}
 use Rattle.model_value.specs.Action.{Circle}
 use Rattle.model_value.specs.Input.{Input}
 use Rattle.model_value.specs.declared.action.Action.TheVariants.{StepInCircle, Wakeup}
@@ -7,49 +7,38 @@ use Rattle.model_value.specs.declared.outcome.Outcome.TheVariants.{Value as Retu
 use Rattle.model_value.specs.Value.{Value, Exc}
 use Rattle.model_loop.specs.Cancel.{cancel}
 use Rattle.model_loop.specs.Circles.{circle}
-use Rattle.model_loop.specs.Futures.{register}
-use Rattle.model_loop.specs.Ledger.{Origin, request_each, request_where}
+use Rattle.model_loop.specs.Ledger.{Origin, request_each}
 use Rattle.model_loop.specs.Parts.{Parts}
 use Rattle.model_loop.specs.Suspend.{cancel_wait, suspend, suspend_unless, wait_on}
-use Rattle.model_loop.specs.Tasks.{begin_step, finish, future_of, is_cancelled, is_marked, lives, set_waiter, unmark}
-use Rattle.law_settling.proofs.Spreading.{Spreads, begins, settles, asks, raises, marks, with_spread}
-use Rattle.law_after.specs.After.{OutcomeIn, ResultIn, IsAfter}
+use Rattle.model_loop.specs.Tasks.{begin_step, finish, future_of, is_cancelled, is_marked, unmark}
+use Rattle.law_changes.specs.Blocks.{OfRequest, cancels, keeps_asked, counts, marks}
+use Rattle.law_changes.specs.Changes.{PartsChange, Registers, Unmarks, WaitsFor}
+use Rattle.law_changes.specs.Reaches.{goes}
+use Rattle.law_changes.proofs.Folds.{one, widen}
+use Rattle.law_changes.proofs.PartsRows.{cancel_in, each_in}
+use Rattle.law_after.specs.After.{OutcomeIn, ResultIn, IsAfter, MayLeave}
+use Rattle.law_after.proofs.Frame.{row_leaves}
 use Rattle.law_after.proofs.Parts.{refl_after, after_on, soon_after, change_after, settle_after}
-use Rattle.law_after.proofs.Made.{register_after, asked_after}
 
 module _ (test : Value → Bool) (grown : Bool) (excused : Option ℕ) where
-  spreads_after : {s : List ℕ} {p : Parts} {t : List ℕ} {q : Parts} → Spreads s p t q → IsAfter test grown excused p q
-  spreads_after {p = p} begins = refl_after test grown excused p
-  spreads_after {p = p} (settles {q = q} g id future e o k) =
-      after_on test grown excused p q _ (settle_after test grown excused id Cancelled q tt) (spreads_after g)
-  spreads_after {p = p} (asks {q = q} g id future members asked e o k) =
-      after_on test grown excused p q _ (asked_after test grown excused id q) (spreads_after g)
-  spreads_after {p = p} (raises {q = q} g id task n e) =
-      after_on test grown excused p q _ (change_after test grown excused id _ q (λ t. refl)) (spreads_after g)
-  spreads_after {p = p} (marks {q = q} g id can) =
-      after_on test grown excused p q _ (change_after test grown excused id _ q (λ t. refl)) (spreads_after g)
+  may_request : (change : PartsChange) (p : Parts) → OfRequest change p → MayLeave test grown change p
+  may_request _ p (cancels future) = tt
+  may_request _ p (keeps_asked future) = tt
+  may_request _ p (counts task) = tt
+  may_request _ p (marks task) = tt
 
   pub cancel_after : (id : ℕ) (p : Parts) → IsAfter test grown excused p (cancel id p).parts
-  cancel_after id p = spreads_after (with_spread id [] p)
+  cancel_after id p = row_leaves test grown excused (widen may_request (cancel_in id p))
 
   pub each_after : (by : Origin) (tasks : List ℕ) (p : Parts) → IsAfter test grown excused p (request_each by tasks p).parts
-  each_after by [] p = refl_after test grown excused p
-  each_after by (task ∷ tasks) p = after_on test grown excused p _ _ (each_after by tasks _) (at (lives p task))
-    where
-      at : (b : Bool) → IsAfter test grown excused p (request_where b by (future_of p task) p).parts
-      at true = cancel_after (future_of p task) p
-      at false = refl_after test grown excused p
+  each_after by tasks p = row_leaves test grown excused (widen may_request (each_in by tasks p))
 
   -- ---- a step
   pub begin_after : (task : ℕ) (input : Input) (p : Parts) → IsAfter test grown excused p (begin_step task input p).parts
-  begin_after task input p =
-      after_on test grown excused p (set_waiter task None p) _ (change_after test grown excused task _ (set_waiter task None p) (λ t. refl))
-      (change_after test grown excused task _ p (λ t. refl))
+  begin_after task input p = row_leaves test grown excused (goes (one (WaitsFor task None) tt) (Unmarks task) tt)
 
   waited_after : (task on : ℕ) (p : Parts) → IsAfter test grown excused p (wait_on task on p)
-  waited_after task on p =
-      after_on test grown excused p (register on (Wakeup task) p) _ (change_after test grown excused task _ (register on (Wakeup task) p) (λ t. refl))
-      (register_after test grown excused on (Wakeup task) p refl)
+  waited_after task on p = row_leaves test grown excused (goes (one (Registers on (Wakeup task)) refl) (WaitsFor task (Some on)) tt)
 
   pub suspend_after : (task on : ℕ) (p : Parts) → IsAfter test grown excused p (suspend task on p).parts
   suspend_after task on p = at (circle p task on)

@@ -5,17 +5,18 @@ use Rattle.model_value.specs.Action.{Action}
 use Rattle.model_value.specs.declared.action.Action.TheVariants.{Step}
 use Rattle.model_value.specs.declared.outcome.Outcome.TheVariants.{Value as Returned}
 use Rattle.model_value.specs.Value.{Value, Exc, Outcome}
-use Rattle.model_loop.specs.Entries.{entries}
+use Rattle.model_loop.specs.Entries.{AreTimed, entries}
 use Rattle.model_loop.specs.Futures.{future_outcome, is_pending, next_future}
 use Rattle.model_loop.specs.Groups.{group_of}
 use Rattle.model_loop.specs.Loop.{Group, Loop, Timeout}
-use Rattle.model_loop.specs.Owning.{is_plain}
+use Rattle.model_loop.specs.Owning.{is_main_done, is_plain}
 use Rattle.model_loop.specs.Parts.{Parts}
 use Rattle.model_loop.specs.Tasks.{future_of, next_task}
 use Rattle.model_loop.specs.Timeouts.{timeout_of}
 use Rattle.model_loop.specs.Totals.{pending_where}
 use Rattle.model_loop.specs.Ways.{is_running}
 use Rattle.model_machine.specs.Sound.{IsMainTold, is_open}
+use Rattle.law_changes.specs.Changes.{PartsChange, CallsSoon, FallsDue, LeavesPending, MakesTask, Registers, Revokes, Settles}
 use Rattle.law_timeouts.proofs.Entries.{of_tag}
 
 -- a task's first step, or one after a bare `yield`
@@ -75,3 +76,14 @@ pub record IsLoopAfter (test : Value → Bool) (grown : Bool) (excused timeout g
   pub groups_made : length m.groups ≡ length l.groups
   pub timeouts : (id : ℕ) → TimeoutAfter (is_running timeout id) (timeout_of l id) (timeout_of m id)
   pub groups : (id : ℕ) → GroupAfter (is_running group id) (is_running begun id) (group_of l id) (group_of m id)
+
+-- What a change needs so that the rest is left. A handle that is taken out is told of apart, since it runs.
+abbrev pub MayLeave : (test : Value → Bool) (grown : Bool) → PartsChange → Parts → Type 0
+MayLeave test grown (CallsSoon action) p = is_main_done action ≡ false
+MayLeave test grown (Registers future action) p = is_main_done action ≡ false
+MayLeave test grown (Revokes tag) p = (task : ℕ) → entries (of_tag tag (λ other. is_step task)) p ≡ 0
+MayLeave test grown (Settles future outcome) p = OutcomeIn test outcome
+MayLeave test grown MakesTask p = grown ≡ true
+MayLeave test grown FallsDue p = AreTimed p
+MayLeave test grown (LeavesPending rest) p = ⊥
+MayLeave test grown _ p = Unit {0}

@@ -10,7 +10,9 @@ ghost use Rattle.model_loop.specs.Ledger.{Origin, request_each};
 ghost use Rattle.model_loop.specs.Parts.{Parts};
 ghost use Rattle.model_loop.specs.Suspend.{suspend};
 ghost use Rattle.model_loop.specs.Tasks.{begin_step, finish, spawn};
-ghost use Rattle.law_after.specs.After.{IsAfter, OutcomeIn, ResultIn};
+ghost use Rattle.law_changes.specs.Changes.{PartsChange, made_of_parts};
+ghost use Rattle.law_changes.specs.Reaches.{Reaches};
+ghost use Rattle.law_after.specs.After.{IsAfter, MayLeave, OutcomeIn, ResultIn};
 
 /// An outcome, a request to cancel, and one for each of several tasks.
 pub fn outcomes_and_requests_leave_the_rest()
@@ -43,4 +45,13 @@ pub fn steps_of_tasks_leave_the_rest()
 pub fn timers_that_fall_due_leave_the_rest()
     ensures { (test : Value → Bool) (grown : Bool) (excused : Option ℕ) (p : Parts) → AreTimed p
         → IsAfter test grown excused p (due p) }
+{}
+
+/// So does each change of the parts that may be made so, and a row of them.
+pub fn changes_leave_the_rest()
+    ensures change { (test : Value → Bool) (grown : Bool) (excused : Option ℕ) (change : PartsChange)
+        (p : Parts) → MayLeave test grown change p
+        → IsAfter test grown excused p (made_of_parts change p) }
+    ensures row { (test : Value → Bool) (grown : Bool) (excused : Option ℕ) (p q : Parts)
+        → Reaches made_of_parts (MayLeave test grown) p q → IsAfter test grown excused p q }
 {}

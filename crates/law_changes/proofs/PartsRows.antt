@@ -8,70 +8,88 @@ use Rattle.model_loop.specs.Cancel.{CancelRequest, Canceller, cancel, cancel_at,
 use Rattle.model_loop.specs.Cancel.{cancel_unseen, cancel_until}
 use Rattle.model_loop.specs.Cancel.{cancel_waiter, cancel_within, asked_where, has_seen, marked_unless}
 use Rattle.model_loop.specs.Futures.{made_before}
+use Rattle.model_loop.specs.Ledger.{Origin, request_each, request_where}
 use Rattle.model_loop.specs.Parts.{Future, FutureKind, Plain, OfTask, Many, Parts, Task}
-use Rattle.model_loop.specs.Tasks.{begin_step, finish, future_of}
-use Rattle.law_changes.specs.Changes.{Settles, KeepsAsked, WaitsFor, Marks, Unmarks, Counts}
-use Rattle.law_changes.specs.Reaches.{ReachAlone, PartsReach, stays, goes}
-use Rattle.law_changes.proofs.Folds.{one, on}
+use Rattle.model_loop.specs.Tasks.{begin_step, finish, future_of, lives}
+use Rattle.law_changes.specs.Blocks.{OfRequest, cancels, keeps_asked, counts, marks}
+use Rattle.law_changes.specs.Changes.{PartsChange, MayInParts, made_of_parts, Settles, KeepsAsked, WaitsFor, Marks, Unmarks, Counts}
+use Rattle.law_changes.specs.Reaches.{Reaches, ReachAlone, PartsReach, stays, goes}
+use Rattle.law_changes.proofs.Folds.{one, on, widen}
 
-module _ (r : Option ℕ) where
-  -- ---- cancel requests
-  abbrev ByRows : Canceller → Type 0
-  ByRows c = (id : ℕ) (seen : List ℕ) (p : Parts) → PartsReach r p (c id seen p).parts
+-- ---- cancel requests
+abbrev ByRows : Canceller → Type 0
+ByRows c = (id : ℕ) (seen : List ℕ) (p : Parts) → Reaches made_of_parts OfRequest p (c id seen p).parts
 
-  each_row : (c : Canceller) → ByRows c → (ids seen : List ℕ) (p : Parts) → PartsReach r p (cancel_each c ids seen p).parts
-  each_row c rows [] seen p = stays
-  each_row c rows (id ∷ ids) seen p = on (rows id seen p) (each_row c rows ids (c id seen p).seen (c id seen p).parts)
+each_row : (c : Canceller) → ByRows c → (ids seen : List ℕ) (p : Parts) → Reaches made_of_parts OfRequest p (cancel_each c ids seen p).parts
+each_row c rows [] seen p = stays
+each_row c rows (id ∷ ids) seen p = on (rows id seen p) (each_row c rows ids (c id seen p).seen (c id seen p).parts)
 
-  module _ (member waiter : Canceller) (members : ByRows member) (waiters : ByRows waiter) where
-    waiter_row : (task : ℕ) (o : Option ℕ) (seen : List ℕ) (p : Parts) → PartsReach r p (cancel_waiter waiter task o seen p).parts
-    waiter_row task None seen p = one (Marks task) tt
-    waiter_row task (Some id) seen p = at (waiter id seen p).answer
-      where
-        at : (b : Bool) → PartsReach r p (marked_unless b task (waiter id seen p)).parts
-        at true = waiters id seen p
-        at false = goes (waiters id seen p) (Marks task) tt
+module _ (member waiter : Canceller) (members : ByRows member) (waiters : ByRows waiter) where
+  waiter_row : (task : ℕ) (o : Option ℕ) (seen : List ℕ) (p : Parts) → Reaches made_of_parts OfRequest p (cancel_waiter waiter task o seen p).parts
+  waiter_row task None seen p = one (Marks task) (marks task)
+  waiter_row task (Some id) seen p = at (waiter id seen p).answer
+    where
+      at : (b : Bool) → Reaches made_of_parts OfRequest p (marked_unless b task (waiter id seen p)).parts
+      at true = waiters id seen p
+      at false = goes (waiters id seen p) (Marks task) (marks task)
 
-    unseen_row : (task : ℕ) (o : Option Task) (seen : List ℕ) (p : Parts) → PartsReach r p (cancel_unseen waiter task o seen p).parts
-    unseen_row task None seen p = stays
-    unseen_row task (Some it) seen p = on (one (Counts task) tt) (waiter_row task it.waiter (seen ++ task ∷ []) _)
+  unseen_row : (task : ℕ) (o : Option Task) (seen : List ℕ) (p : Parts) → Reaches made_of_parts OfRequest p (cancel_unseen waiter task o seen p).parts
+  unseen_row task None seen p = stays
+  unseen_row task (Some it) seen p = on (one (Counts task) (counts task)) (waiter_row task it.waiter (seen ++ task ∷ []) _)
 
-    task_row : (b : Bool) (task : ℕ) (seen : List ℕ) (p : Parts) → PartsReach r p (cancel_task waiter b task seen p).parts
-    task_row true task seen p = stays
-    task_row false task seen p = unseen_row task (slice_get p.tasks task) seen p
+  task_row : (b : Bool) (task : ℕ) (seen : List ℕ) (p : Parts) → Reaches made_of_parts OfRequest p (cancel_task waiter b task seen p).parts
+  task_row true task seen p = stays
+  task_row false task seen p = unseen_row task (slice_get p.tasks task) seen p
 
-    asked_row : (b : Bool) (id : ℕ) (p : Parts) (it : CancelRequest) → PartsReach r p it.parts → PartsReach r p (asked_where b id it).parts
-    asked_row true id p it row = goes row (KeepsAsked id) tt
-    asked_row false id p it row = row
+  asked_row : (b : Bool) (id : ℕ) (p : Parts) (it : CancelRequest) → Reaches made_of_parts OfRequest p it.parts → Reaches made_of_parts OfRequest p (asked_where b id it).parts
+  asked_row true id p it row = goes row (KeepsAsked id) (keeps_asked id)
+  asked_row false id p it row = row
 
-    kind_row : (kind : FutureKind) → ByRows (cancel_kind member waiter kind)
-    kind_row Plain id seen p = one (Settles id Cancelled) tt
-    kind_row (OfTask task) id seen p = task_row (has_seen seen task) task seen p
-    kind_row (Many others asked) id seen p =
-        asked_row (cancel_each member (made_before id others) seen p).answer id p (cancel_each member (made_before id others) seen p)
-        (each_row member members (made_before id others) seen p)
+  kind_row : (kind : FutureKind) → ByRows (cancel_kind member waiter kind)
+  kind_row Plain id seen p = one (Settles id Cancelled) (cancels id)
+  kind_row (OfTask task) id seen p = task_row (has_seen seen task) task seen p
+  kind_row (Many others asked) id seen p =
+      asked_row (cancel_each member (made_before id others) seen p).answer id p (cancel_each member (made_before id others) seen p)
+      (each_row member members (made_before id others) seen p)
 
-    until_row : (o : Option Outcome) (kind : FutureKind) → ByRows (cancel_until member waiter o kind)
-    until_row (Some outcome) kind id seen p = stays
-    until_row None kind id seen p = kind_row kind id seen p
+  until_row : (o : Option Outcome) (kind : FutureKind) → ByRows (cancel_until member waiter o kind)
+  until_row (Some outcome) kind id seen p = stays
+  until_row None kind id seen p = kind_row kind id seen p
 
-    at_row : (o : Option Future) → ByRows (cancel_at member waiter o)
-    at_row None id seen p = stays
-    at_row (Some future) id seen p = until_row future.outcome future.kind id seen p
+  at_row : (o : Option Future) → ByRows (cancel_at member waiter o)
+  at_row None id seen p = stays
+  at_row (Some future) id seen p = until_row future.outcome future.kind id seen p
 
-    by_row : ByRows (cancel_by member waiter)
-    by_row id seen p = at_row (slice_get p.futures id) id seen p
+  by_row : ByRows (cancel_by member waiter)
+  by_row id seen p = at_row (slice_get p.futures id) id seen p
 
-  below_row : (bound : ℕ) (waiter : Canceller) → ByRows waiter → ByRows (cancel_below bound waiter)
-  below_row zero waiter rows id seen p = stays
-  below_row (suc bound) waiter rows id seen p = by_row (cancel_below bound waiter) waiter (below_row bound waiter rows) rows id seen p
+below_row : (bound : ℕ) (waiter : Canceller) → ByRows waiter → ByRows (cancel_below bound waiter)
+below_row zero waiter rows id seen p = stays
+below_row (suc bound) waiter rows id seen p = by_row (cancel_below bound waiter) waiter (below_row bound waiter rows) rows id seen p
 
-  within_row : (tasks : ℕ) → ByRows (cancel_within tasks)
-  within_row zero id seen p = stays
-  within_row (suc tasks) id seen p = below_row (suc id) (cancel_within tasks) (within_row tasks) id seen p
+within_row : (tasks : ℕ) → ByRows (cancel_within tasks)
+within_row zero id seen p = stays
+within_row (suc tasks) id seen p = below_row (suc id) (cancel_within tasks) (within_row tasks) id seen p
 
-  pub cancel_row : (id : ℕ) (p : Parts) → PartsReach r p (cancel id p).parts
-  cancel_row id p = within_row (suc (length p.tasks)) id [] p
+pub cancel_in : (id : ℕ) (p : Parts) → Reaches made_of_parts OfRequest p (cancel id p).parts
+cancel_in id p = within_row (suc (length p.tasks)) id [] p
+
+pub each_in : (by : Origin) (tasks : List ℕ) (p : Parts) → Reaches made_of_parts OfRequest p (request_each by tasks p).parts
+each_in by [] p = stays
+each_in by (task ∷ tasks) p = on (at (lives p task)) (each_in by tasks (request_where (lives p task) by (future_of p task) p).parts)
+  where
+    at : (b : Bool) → Reaches made_of_parts OfRequest p (request_where b by (future_of p task) p).parts
+    at true = cancel_in (future_of p task) p
+    at false = stays
+
+may_request : (r : Option ℕ) (change : PartsChange) (p : Parts) → OfRequest change p → MayInParts r change p
+may_request r _ p (cancels future) = tt
+may_request r _ p (keeps_asked future) = tt
+may_request r _ p (counts task) = tt
+may_request r _ p (marks task) = tt
+
+pub cancel_row : (r : Option ℕ) (id : ℕ) (p : Parts) → PartsReach r p (cancel id p).parts
+cancel_row r id p = widen (may_request r) (cancel_in id p)
 
 -- ---- the task that runs
 module _ (task : ℕ) where

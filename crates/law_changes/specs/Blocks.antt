@@ -1,15 +1,22 @@
--- What timeouts and groups change, exactly: a law about either is proved of these changes.
+-- What cancel requests, timeouts and groups change, exactly: a law about one of them is proved of these changes.
 use Rattle.std.specs.Prelude.{◌≡◌, ℕ, true, Bool, List, Option}
 use Rattle.model_value.specs.declared.action.Action.TheVariants.{Fires, GroupDone}
-use Rattle.model_value.specs.declared.outcome.Outcome.TheVariants.{Value as Returned}
+use Rattle.model_value.specs.declared.outcome.Outcome.TheVariants.{Value as Returned, Cancelled}
 use Rattle.model_value.specs.Value.{Nothing, Exc}
 use Rattle.model_loop.specs.Groups.{group_of}
 use Rattle.model_loop.specs.Ledger.{ByAbort, ByGroup}
 use Rattle.model_loop.specs.Loop.{Group, Loop}
-use Rattle.model_loop.specs.Parts.{Plain}
+use Rattle.model_loop.specs.Parts.{Plain, Parts}
 use Rattle.model_loop.specs.Timeouts.{timeout_of}
-use Rattle.law_changes.specs.Changes.{LoopChange, OfParts, CallsSoon, CallsLater, Revokes, MakesFuture, Settles, Registers, MakesTask, ChangesTimeout}
+use Rattle.law_changes.specs.Changes.{PartsChange, KeepsAsked, Counts, Marks, LoopChange, OfParts, CallsSoon, CallsLater, Revokes, MakesFuture, Settles, Registers, MakesTask, ChangesTimeout}
 use Rattle.law_changes.specs.Changes.{ChangesGroup, AsksCancel, TakesBack}
+
+-- ---- a request to cancel: futures are cancelled, or keep that they were asked; tasks are counted and marked
+pub data OfRequest : PartsChange → Parts → Type 0 where
+  cancels : {p : Parts} (future : ℕ) → OfRequest (Settles future Cancelled) p
+  keeps_asked : {p : Parts} (future : ℕ) → OfRequest (KeepsAsked future) p
+  counts : {p : Parts} (task : ℕ) → OfRequest (Counts task) p
+  marks : {p : Parts} (task : ℕ) → OfRequest (Marks task) p
 
 -- ---- a timeout is scheduled: its old handle is given up, and it gets a new one
 pub data OfSchedule (id : ℕ) : LoopChange → Loop → Type 0 where

@@ -13,20 +13,22 @@ use Rattle.model_loop.specs.Groups.{abort, abort_and_request_unless, abort_where
 use Rattle.model_loop.specs.Groups.{enter_group, exit_begin, exit_woken, failure_of, group_of, make_group, new_group, next_group}
 use Rattle.model_loop.specs.Groups.{only_cancelled, request_parent, set_group, take_back, take_back_where, wait_or_end, wake_exit}
 use Rattle.model_loop.specs.Groups.{wake_if_last, without_child}
-use Rattle.model_loop.specs.Ledger.{Began, ByAbort, ByGroup, Origin, request_each, request_where, uncancel_by}
+use Rattle.model_loop.specs.Ledger.{Began, ByAbort, ByGroup, Origin, request_each, uncancel_by}
 use Rattle.model_loop.specs.Loop.{Group, Loop, book}
 use Rattle.model_loop.specs.Owning.{OwnsFutures}
 use Rattle.model_loop.specs.Parts.{Parts}
-use Rattle.model_loop.specs.Tasks.{cancelling, future_of, lives, next_task, uncancel}
+use Rattle.model_loop.specs.Tasks.{cancelling, lives, next_task, uncancel}
 use Rattle.model_machine.specs.Replies.{most_ids}
 use Rattle.law_cancel.proofs.Effects.{length-change_task, register-tasks, settle-tasks}
 use Rattle.law_settling.proofs.CancelSound.{settled_owns}
-use Rattle.law_settling.proofs.Looks.{asked_looks_same, change_looks_same, same_owns}
+use Rattle.law_settling.proofs.Looks.{asked_looks, change_looks_same, same_owns}
 use Rattle.law_settling.proofs.Settling.{settle_cases}
-use Rattle.law_settling.proofs.Spreading.{Spreads, begins, settles, asks, raises, marks, with_spread}
+use Rattle.law_changes.specs.Blocks.{OfRequest, cancels, keeps_asked, counts, marks}
 use Rattle.law_changes.specs.Blocks.{GroupStage, stage_of, OfGroup, changes, aborts, waits, wakes, OfEnding, in_ending, ends, OfCreating, in_creating}
 use Rattle.law_changes.specs.Blocks.{spawns, registers}
-use Rattle.law_changes.specs.Changes.{LoopChange, made_of_loop}
+use Rattle.law_changes.specs.Changes.{LoopChange, PartsChange, made_of_loop, made_of_parts}
+use Rattle.law_changes.proofs.Folds.{keep}
+use Rattle.law_changes.proofs.PartsRows.{each_in}
 use Rattle.law_changes.proofs.BlockRows.{abort_in, abort_where_in, create_in, heard_in, wait_or_end_in, wake_in}
 use Rattle.law_told.proofs.Holding.{group_same}
 use Rattle.law_after.proofs.Exits.{exit_begin_loop, exit_woken_loop}
@@ -40,21 +42,14 @@ use Rattle.law_owed.proofs.Loops.{easy_request, easy_settle, easy_spawn}
 use Rattle.law_owed.specs.Owed.{IsCovered, IsRight, owed, owes_group}
 
 -- ---- who has which future stays
-owns_spread : {s : List ℕ} {p : Parts} {t : List ℕ} {q : Parts} → Spreads s p t q → OwnsFutures p → OwnsFutures q
-owns_spread begins h = h
-owns_spread (settles {q = q} g id future e o k) h =
-    settle_cases OwnsFutures id Cancelled q (owns_spread g h) (λ r s. settled_owns id q r s (owns_spread g h))
-owns_spread (asks {q = q} g id future members asked e o k) h = same_owns q _ (asked_looks_same id q future e) (owns_spread g h)
-owns_spread (raises {q = q} g id task n e) h = same_owns q _ (change_looks_same id _ q (λ t. refl) (λ t. refl)) (owns_spread g h)
-owns_spread (marks {q = q} g id can) h = same_owns q _ (change_looks_same id _ q (λ t. refl) (λ t. refl)) (owns_spread g h)
+owns_request : (change : PartsChange) (p : Parts) → OfRequest change p → OwnsFutures p → OwnsFutures (made_of_parts change p)
+owns_request _ p (cancels future) h = settle_cases OwnsFutures future Cancelled p h (λ q s. settled_owns future p q s h)
+owns_request _ p (keeps_asked future) h = same_owns p _ (asked_looks future p) h
+owns_request _ p (counts task) h = same_owns p _ (change_looks_same task _ p (λ t. refl) (λ t. refl)) h
+owns_request _ p (marks task) h = same_owns p _ (change_looks_same task _ p (λ t. refl) (λ t. refl)) h
 
 owns_each : (by : Origin) (tasks : List ℕ) (p : Parts) → OwnsFutures p → OwnsFutures (request_each by tasks p).parts
-owns_each by [] p h = h
-owns_each by (task ∷ tasks) p h = owns_each by tasks (request_where (lives p task) by (future_of p task) p).parts (at (lives p task))
-  where
-    at : (b : Bool) → OwnsFutures (request_where b by (future_of p task) p).parts
-    at true = owns_spread (with_spread (future_of p task) [] p) h
-    at false = h
+owns_each by tasks p = keep OwnsFutures owns_request (each_in by tasks p)
 
 -- ---- what changes nothing that is owed
 same_owes : (new old : Group) → stage_of new ≡ stage_of old → (task : ℕ) → cond (owes_group task new) 1 0 ≤ cond (owes_group task old) 1 0

@@ -1,8 +1,8 @@
 -- What each step of the loop carries on: what is numbered, that no circle is, what is called and scheduled.
-use Rattle.std.proofs.Common.{◌≡◌, ℕ, Bool, List, None, Option, Some, [], ap, arith, cond, false, inl, inr, length, not, refl, slice_get, sym, true}
+use Rattle.std.proofs.Common.{◌≡◌, ℕ, List, None, Option, Some, [], ap, arith, cond, false, inl, inr, length, not, refl, slice_get, sym, true}
 use Rattle.std.proofs.Common.{◌&&◌, ◌++◌, ◌∙◌, ◌∷◌, ◌⊎◌}
 use Rattle.model_loop.specs.Parts.{Future, FutureKind, Handle, OfTask, Parts, Plain, Task}
-use Rattle.model_loop.specs.Tasks.{change_task, future_of, lives, spawn, uncancel, waiter_of}
+use Rattle.model_loop.specs.Tasks.{change_task, spawn, uncancel, waiter_of}
 use Rattle.model_loop.specs.Totals.{callbacks_at, callbacks_of}
 use Rattle.law_numbers.proofs.Falling.{new_plain_numbers, spawn_numbers}
 use Rattle.model_value.specs.Value.{Exc, Nothing, Outcome}
@@ -18,24 +18,25 @@ use Rattle.law_cancel.proofs.Effects.{register-tasks}
 use Rattle.law_settling.proofs.CancelSound.{plain_within, settled_callbacks}
 use Rattle.model_loop.specs.Owning.{AreCallbacks, is_callback, is_no_callback, is_plain, is_plain_at}
 use Rattle.law_cancel.proofs.Lookups.{get-push_last, get-push_other, get-set_kept}
-use Rattle.model_loop.specs.Ledger.{Booked, ByAbort, ByGroup, Origin, ask_cancel, request_each, request_where, uncancel_by}
+use Rattle.model_loop.specs.Ledger.{Booked, ByAbort, ByGroup, Origin, ask_cancel, request_each, uncancel_by}
 use Rattle.law_numbers.proofs.Numbering.{change_task_numbers, mark_asked_numbers, register_numbers, settle_numbers, soon_numbers, taken_numbers}
 use Rattle.model_loop.specs.Loop.{Group, Loop, book}
 use Rattle.model_loop.specs.Cancel.{cancel}
 use Rattle.model_value.specs.Action.{Action}
 use Rattle.model_loop.specs.Circles.{passes, passes_at}
-use Rattle.law_settling.proofs.Looks.{LooksSame, asked_looks_same, change_looks_same, same_callbacks, same_no_circle}
+use Rattle.law_settling.proofs.Looks.{LooksSame, asked_looks, change_looks_same, same_callbacks, same_no_circle}
 use Rattle.law_made.proofs.Passing.{no_circle_more, same_tasks_no_circle, settle_no_circle}
-use Rattle.law_settling.proofs.Spreading.{Spreads, begins, settles, asks, raises, marks, with_spread}
 use Rattle.law_cancel.proofs.Circling.{no_circle_kept, passes-same, register-view}
 use Rattle.law_timeouts.specs.Tags.{IsQuiet, is_deadline}
 use Rattle.law_settling.specs.Frames.{taken}
+use Rattle.law_changes.specs.Blocks.{OfRequest, cancels, keeps_asked, counts, marks}
 use Rattle.law_changes.specs.Blocks.{OfGroup, changes, aborts, waits, wakes, OfTold, in_told, requests, OfTaking, in_taking, takes, OfEnding, in_ending}
-use Rattle.law_changes.specs.Blocks.{asks as asks_parent, ends, OfCreating, in_creating, spawns, registers}
-use Rattle.law_changes.specs.Changes.{LoopChange, made_of_loop}
+use Rattle.law_changes.specs.Blocks.{asks, ends, OfCreating, in_creating, spawns, registers}
+use Rattle.law_changes.specs.Changes.{LoopChange, PartsChange, made_of_loop, made_of_parts}
 use Rattle.law_changes.specs.Reaches.{Reaches}
 use Rattle.law_changes.proofs.BlockRows.{child_done_in, create_in, heard_in, taken_in, wait_or_end_in}
 use Rattle.law_changes.proofs.Folds.{fold}
+use Rattle.law_changes.proofs.PartsRows.{cancel_in, each_in}
 use Rattle.std.proofs.lemmas.List.Sums.{sum_by_push}
 use Rattle.model_loop.specs.Deadlines.{fires}
 use Rattle.law_told.proofs.Holding.{settled_names}
@@ -101,27 +102,20 @@ settle_carries id outcome p = record {
   plains = λ j h. settle_cases (λ q. is_plain q j ≡ true) id outcome p h (λ q s. (settled_names id p q s).plains j ∙ h);
 }
 
-spreads_carries : {s : List ℕ} {p : Parts} {t : List ℕ} {q : Parts} → Spreads s p t q → Carries p q
-spreads_carries {p = p} begins = refl_carries p
-spreads_carries {p = p} (settles {q = q} g id future e o k) = carries_on p q _ (settle_carries id Cancelled q) (spreads_carries g)
-spreads_carries {p = p} (asks {q = q} g id future members asked e o k) =
-    carries_on p q _
-    (looks_carries q _ (asked_looks_same id q future e) (mark_asked_numbers id q) (mark_asked_quiet id q)) (spreads_carries g)
-spreads_carries {p = p} (raises {q = q} g id task n e) =
-    carries_on p q _ (change_carries id _ q (λ t. refl) (λ t. refl)) (spreads_carries g)
-spreads_carries {p = p} (marks {q = q} g id can) =
-    carries_on p q _ (change_carries id _ q (λ t. refl) (λ t. refl)) (spreads_carries g)
+request_carries : (change : PartsChange) (p : Parts) → OfRequest change p → Carries p (made_of_parts change p)
+request_carries _ p (cancels future) = settle_carries future Cancelled p
+request_carries _ p (keeps_asked future) = looks_carries p _ (asked_looks future p) (mark_asked_numbers future p) (mark_asked_quiet future p)
+request_carries _ p (counts task) = change_carries task _ p (λ t. refl) (λ t. refl)
+request_carries _ p (marks task) = change_carries task _ p (λ t. refl) (λ t. refl)
+
+requests_carry : {p q : Parts} → Reaches made_of_parts OfRequest p q → Carries p q
+requests_carry row = fold Carries refl_carries (λ p q r a b. carries_on p q r b a) request_carries row
 
 pub cancel_carries : (id : ℕ) (p : Parts) → Carries p (cancel id p).parts
-cancel_carries id p = spreads_carries (with_spread id [] p)
+cancel_carries id p = requests_carry (cancel_in id p)
 
 pub each_carries : (by : Origin) (tasks : List ℕ) (p : Parts) → Carries p (request_each by tasks p).parts
-each_carries by [] p = refl_carries p
-each_carries by (task ∷ tasks) p = carries_on p _ _ (each_carries by tasks _) (at (lives p task))
-  where
-    at : (b : Bool) → Carries p (request_where b by (future_of p task) p).parts
-    at true = cancel_carries (future_of p task) p
-    at false = refl_carries p
+each_carries by tasks p = requests_carry (each_in by tasks p)
 
 -- ---- handles
 pub soon_carries : (action : Action) (p : Parts) → is_deadline action ≡ false → Carries p (soon action p)
@@ -277,7 +271,7 @@ group_carries id _ l (wakes future) = parts_loop l _ (settle_carries future (Ret
 told_carries : (id : ℕ) (change : LoopChange) (l : Loop) → OfTold id change l → LoopCarries l (made_of_loop change l)
 told_carries id change l (in_told it) = group_carries id change l it
 told_carries id _ l requests = group_loop id _ l
-told_carries id _ l (asks_parent future) = book_loop (ask_cancel (ByGroup id) future) l (cancel_carries future l.parts)
+told_carries id _ l (asks future) = book_loop (ask_cancel (ByGroup id) future) l (cancel_carries future l.parts)
 
 taking_carries : (id : ℕ) (change : LoopChange) (l : Loop) → OfTaking id change l → LoopCarries l (made_of_loop change l)
 taking_carries id change l (in_taking it) = group_carries id change l it

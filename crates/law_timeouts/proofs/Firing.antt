@@ -255,7 +255,7 @@ module _ (id : ℕ) (handle : Handle) (rest : List Handle) (l : Loop) (first : l
       let on = future_of (taken rest l.parts) (timeout_of l id).task in
       booked_tags _ _ (kept_tags (set_timeout id spent_ (in_parts (taken rest) l)) (cancel on (taken rest l.parts)).parts
       (cancel_numbers on (taken rest l.parts) fired_tags.numbered)
-      (cancel_quiet None None (λ task r. r) on (taken rest l.parts) sound).tags fired_tags)
+      (cancel_quiet on (taken rest l.parts) sound.callbacks).tags fired_tags)
 
 -- ---- one handle at most
 pub one_handle : (id : ℕ) (l : Loop) → HaveTags l → entries (fires_any id) l.parts ≤ one_if (is_active (timeout_of l id).state)

@@ -1,7 +1,7 @@
 -- Steps of tasks and requests schedule nothing.
 use Rattle.std.proofs.Common.{◌≡◌, ℕ, Bool, Err, List, None, Ok, Option, Result, Some, [], ap, arith, cond, false, not, refl, slice_get, slice_set, sym, true}
 use Rattle.std.proofs.Common.{◌&&◌, ◌++◌, ◌+◌, ◌==◌, ◌∙◌, ◌∷◌, ◌<◌, ◌≤◌}
-use Rattle.model_loop.specs.Tasks.{begin_step, change_task, finish, future_of, is_marked, lives, next_task, set_waiter, spawn, unmark}
+use Rattle.model_loop.specs.Tasks.{begin_step, change_task, finish, future_of, is_marked, next_task, set_waiter, spawn, unmark}
 use Rattle.model_loop.specs.Futures.{is_pending, make_future, mark_asked, next_future, register, registered, registered_on, settle, settled, settled_as}
 use Rattle.model_loop.specs.Futures.{with_future}
 use Rattle.model_loop.specs.Loop.{Timeout}
@@ -12,12 +12,16 @@ use Rattle.model_loop.specs.Suspend.{cancel_wait, suspend, suspend_unless, wait_
 use Rattle.model_loop.specs.Entries.{AreTimed, ends_sleep_on, entries, handles_where, timers_where, untimed}
 use Rattle.model_value.specs.Value.{Exc, Outcome, Value}
 use Rattle.model_loop.specs.Deadlines.{HasTag, entries_at, fires, fires_any, fires_as, others_as}
-use Rattle.law_settling.proofs.Looks.{change_looks_same, same_callbacks}
+use Rattle.law_settling.proofs.Looks.{asked_looks, change_looks_same, same_callbacks}
 use Rattle.model_value.specs.Action.{Action, Circle}
 use Rattle.model_loop.specs.Circles.{circle}
 use Rattle.model_loop.specs.Parts.{Future, FutureKind, Handle, OfTask, Parts, Task}
 use Rattle.model_value.specs.declared.outcome.Outcome.TheVariants.{Cancelled}
-use Rattle.law_settling.proofs.Spreading.{Spreads, asks, begins, marks, raises, settles, with_spread}
+use Rattle.law_changes.specs.Blocks.{OfRequest, cancels, keeps_asked, counts, marks}
+use Rattle.law_changes.specs.Changes.{PartsChange, made_of_parts}
+use Rattle.law_changes.proofs.Folds.{fold}
+use Rattle.law_changes.proofs.PartsRows.{cancel_in}
+use Rattle.law_settling.proofs.Settling.{settle_cases}
 use Rattle.model_loop.specs.Ways.{steps}
 use Rattle.model_value.specs.Input.{Input}
 use Rattle.model_value.specs.declared.action.Action.TheVariants.{Fires, SleepDone, Step, StepInCircle, Wakeup}
@@ -25,11 +29,10 @@ use Rattle.law_timeouts.specs.Tags.{AddsNoTimes, IsQuiet, KeepsTags, is_deadline
 use Rattle.law_steps.proofs.Ending.{pending_there}
 use Rattle.std.proofs.lemmas.List.Sums.{sum_by-cons}
 use Rattle.model_loop.specs.Cancel.{cancel}
-use Rattle.law_settling.proofs.CancelSound.{cancel_sound, cancels_sound}
+use Rattle.law_settling.proofs.CancelSound.{settled_callbacks}
 use Rattle.model_loop.specs.Owning.{AreCallbacks, is_no_callback, is_plain}
 use Rattle.model_loop.specs.Sound.{ArePartsSound}
-use Rattle.law_settling.specs.Frames.{Covers, taken}
-use Rattle.model_loop.specs.Ledger.{Origin, request_each, request_where}
+use Rattle.law_settling.specs.Frames.{taken}
 use Rattle.model_loop.specs.Totals.{callbacks_at}
 use Rattle.std.specs.Option.{option_map_or}
 use Rattle.std.proofs.lemmas.Bool.{eq-eqb, false≢true, ne_eqb}
@@ -186,35 +189,23 @@ mark_asked_quiet id p = at (slice_get p.futures id)
     at (Some future) = same_quiet p _ refl refl refl
 
 -- ---- a request
-cancels_quiet : (running excused : Option ℕ) → Covers running excused → {s : List ℕ} {p : Parts} {t : List ℕ} {q : Parts}
-    → Spreads s p t q → ArePartsSound running excused p → IsQuiet p q
-cancels_quiet running excused covers {p = p} begins is = refl_quiet p
-cancels_quiet running excused covers {p = p} (settles {q = q} g id future e o k) is =
-    quiet_on p q _ (settle_quiet id Cancelled q (cancels_sound running excused covers g is).callbacks) (cancels_quiet running excused covers g is)
-cancels_quiet running excused covers {p = p} (asks {q = q} g id future members asked e o k) is =
-    quiet_on p q _ (mark_asked_quiet id q) (cancels_quiet running excused covers g is)
-cancels_quiet running excused covers {p = p} (raises {q = q} g id task n e) is =
-    quiet_on p q _ (change_task_quiet id _ q) (cancels_quiet running excused covers g is)
-cancels_quiet running excused covers {p = p} (marks {q = q} g id can) is =
-    quiet_on p q _ (change_task_quiet id _ q) (cancels_quiet running excused covers g is)
+abbrev KeepsQuiet : Parts → Parts → Type 0
+KeepsQuiet p q = AreCallbacks p → AreCallbacks q × IsQuiet p q
 
-pub cancel_quiet : (running excused : Option ℕ) → Covers running excused → (id : ℕ) (p : Parts)
-    → ArePartsSound running excused p → IsQuiet p (cancel id p).parts
-cancel_quiet running excused covers id p is = cancels_quiet running excused covers (with_spread id [] p) is
+request_quiet : (change : PartsChange) (p : Parts) → OfRequest change p → KeepsQuiet p (made_of_parts change p)
+request_quiet _ p (cancels future) are = (
+  settle_cases AreCallbacks future Cancelled p are (λ q s. settled_callbacks future p q s are),
+  settle_quiet future Cancelled p are,
+)
+request_quiet _ p (keeps_asked future) are = (same_callbacks p _ (asked_looks future p) are, mark_asked_quiet future p)
+request_quiet _ p (counts task) are = (same_callbacks p _ (change_looks_same task _ p (λ t. refl) (λ t. refl)) are, change_task_quiet task _ p)
+request_quiet _ p (marks task) are = (same_callbacks p _ (change_looks_same task _ p (λ t. refl) (λ t. refl)) are, change_task_quiet task _ p)
 
-pub request_each_quiet : (running excused : Option ℕ) → Covers running excused → (by : Origin) (tasks : List ℕ) (p : Parts)
-    → ArePartsSound running excused p → IsQuiet p (request_each by tasks p).parts
-request_each_quiet running excused covers by [] p is = refl_quiet p
-request_each_quiet running excused covers by (task ∷ tasks) p is =
-    quiet_on p _ _ (request_each_quiet running excused covers by tasks _ (sound (lives p task))) (quiet (lives p task))
-  where
-    sound : (b : Bool) → ArePartsSound running excused (request_where b by (future_of p task) p).parts
-    sound true = cancel_sound running excused covers (future_of p task) p is
-    sound false = is
+quiet_then : (p q r : Parts) → KeepsQuiet p q → KeepsQuiet q r → KeepsQuiet p r
+quiet_then p q r a b are = let x = a are in let y = b x.0 in (y.0, quiet_on p q r y.1 x.1)
 
-    quiet : (b : Bool) → IsQuiet p (request_where b by (future_of p task) p).parts
-    quiet true = cancel_quiet running excused covers (future_of p task) p is
-    quiet false = refl_quiet p
+pub cancel_quiet : (id : ℕ) (p : Parts) → AreCallbacks p → IsQuiet p (cancel id p).parts
+cancel_quiet id p are = (fold KeepsQuiet (λ q h. (h, refl_quiet q)) quiet_then request_quiet (cancel_in id p) are).1
 
 -- ---- a step
 pub handles-first : (test : ℕ → Action → Bool) (handle : Handle) (rest : List Handle) (p : Parts) → p.pending ≡ handle ∷ rest
@@ -281,7 +272,7 @@ suspend_quiet task on p here is = at (circle p task on)
         waiting_sound task on p (wait_on task on p) (wait_effect task on p u.0 g.future u.1 g.there g.pending) here is
 
     asked : IsQuiet p (cancel on (wait_on task on p)).parts
-    asked = quiet_on p (wait_on task on p) _ (cancel_quiet None (Some task) (λ other r. absurd (false≢true r)) on (wait_on task on p) sound) waits
+    asked = quiet_on p (wait_on task on p) _ (cancel_quiet on (wait_on task on p) sound.callbacks) waits
 
     answered : (b : Bool) → IsQuiet p (cond b (unmark task (cancel on (wait_on task on p)).parts) (cancel on (wait_on task on p)).parts)
     answered true = quiet_on p (cancel on (wait_on task on p)).parts _ (change_task_quiet task _ _) asked
