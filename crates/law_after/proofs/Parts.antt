@@ -68,22 +68,6 @@ module _ (test : Value → Bool) (grown : Bool) where
       before id (inl h) = a.pends id h
       before id (inr h) = let n = a.futures in inr (omega (arith, n, h))
 
-  -- whom a step excuses no more
-  pub after_free : (excused : Option ℕ) (p q : Parts) → IsAfter test grown None p q → IsAfter test grown excused p q
-  after_free excused p q a = record {
-    next = a.next;
-    tags = a.tags;
-    steps = λ task h. a.steps task refl;
-    futures = a.futures;
-    tasks = a.tasks;
-    same = a.same;
-    owned = a.owned;
-    pends = a.pends;
-    plain = a.plain;
-    outcomes = a.outcomes;
-    main = a.main;
-  }
-
   -- ---- where futures and tasks' futures are the same
   main_same : (p q : Parts) → q.futures ≡ p.futures → next_task p ≤ next_task q → future_of q 0 ≡ future_of p 0
       → pending_where is_main_done q.pending ≤ pending_where is_main_done p.pending → IsMainTold p → IsMainTold q
@@ -195,16 +179,6 @@ module _ (test : Value → Bool) (grown : Bool) where
       let a = entries-soon (of_tag tag kind) x p in
       let b = new_tag kind tag p.next_tag x h in
       omega (arith, ih, a, b)
-
-  -- a callback stands on a future that there is
-  callbacks_there : (p : Parts) (id : ℕ) (kind : Action → Bool) → 0 < count_by kind (callbacks_of p id)
-      → (future : Future) × (slice_get p.futures id ≡ Some future)
-  callbacks_there p id kind h = at (slice_get p.futures id) refl h
-    where
-      at : (o : Option Future) → slice_get p.futures id ≡ o → 0 < count_by kind (callbacks_at o)
-          → (future : Future) × (slice_get p.futures id ≡ Some future)
-      at None e h = absurd (omega (arith, h))
-      at (Some future) e h = (future, e)
 
   module _ (id : ℕ) (outcome : Outcome) (p : Parts) (future : Future) (e : slice_get p.futures id ≡ Some future)
       (open_ : future.outcome ≡ None) where

@@ -49,8 +49,8 @@ pub fn timers_that_fall_due_leave_the_rest()
 
 /// So does each change of the parts that may be made so, and a row of them.
 pub fn changes_leave_the_rest()
-    ensures change { (test : Value → Bool) (grown : Bool) (excused : Option ℕ) (change : PartsChange)
-        (p : Parts) → MayLeave test grown change p
+    ensures change { (test : Value → Bool) (grown : Bool) (excused : Option ℕ)
+        (change : PartsChange) (p : Parts) → MayLeave test grown change p
         → IsAfter test grown excused p (made_of_parts change p) }
     ensures row { (test : Value → Bool) (grown : Bool) (excused : Option ℕ) (p q : Parts)
         → Reaches made_of_parts (MayLeave test grown) p q → IsAfter test grown excused p q }

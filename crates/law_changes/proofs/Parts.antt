@@ -9,7 +9,7 @@ use Rattle.law_changes.specs.Reaches.{LoopReaches, PartsReach, stays, goes}
 use Rattle.law_changes.proofs.PartsRows.{cancel_row}
 use Rattle.law_changes.proofs.Folds.{on}
 
-alone : (r : Option ℕ) (change : PartsChange) (p : Parts) → MayAlone r change p → MayInParts r change p
+pub alone : (r : Option ℕ) (change : PartsChange) (p : Parts) → MayAlone r change p → MayInParts r change p
 alone r (Counts task) p may = absurd may
 alone r (Uncounts task) p may = absurd may
 alone r (CallsSoon action) p may = may

@@ -41,7 +41,8 @@ module _ (member waiter : Canceller) (members : ByRows member) (waiters : ByRows
   task_row true task seen p = stays
   task_row false task seen p = unseen_row task (slice_get p.tasks task) seen p
 
-  asked_row : (b : Bool) (id : ℕ) (p : Parts) (it : CancelRequest) → Reaches made_of_parts OfRequest p it.parts → Reaches made_of_parts OfRequest p (asked_where b id it).parts
+  asked_row : (b : Bool) (id : ℕ) (p : Parts) (it : CancelRequest) → Reaches made_of_parts OfRequest p it.parts
+      → Reaches made_of_parts OfRequest p (asked_where b id it).parts
   asked_row true id p it row = goes row (KeepsAsked id) (keeps_asked id)
   asked_row false id p it row = row
 

@@ -8,7 +8,8 @@ use Rattle.model_loop.specs.Ledger.{ByAbort, ByGroup}
 use Rattle.model_loop.specs.Loop.{Group, Loop}
 use Rattle.model_loop.specs.Parts.{Plain, Parts}
 use Rattle.model_loop.specs.Timeouts.{timeout_of}
-use Rattle.law_changes.specs.Changes.{PartsChange, KeepsAsked, Counts, Marks, LoopChange, OfParts, CallsSoon, CallsLater, Revokes, MakesFuture, Settles, Registers, MakesTask, ChangesTimeout}
+use Rattle.law_changes.specs.Changes.{PartsChange, KeepsAsked, Counts, Marks, LoopChange, OfParts, CallsSoon, CallsLater, Revokes, MakesFuture}
+use Rattle.law_changes.specs.Changes.{Settles, Registers, MakesTask, ChangesTimeout}
 use Rattle.law_changes.specs.Changes.{ChangesGroup, AsksCancel, TakesBack}
 
 -- ---- a request to cancel: futures are cancelled, or keep that they were asked; tasks are counted and marked

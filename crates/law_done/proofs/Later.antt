@@ -1,32 +1,28 @@
 -- What each change of the loop leaves of tasks and futures: those that there were stay, and what is done stays done.
 use Rattle.std.proofs.Common.{◌≡◌, ℕ, ◌≤◌, ◌<◌, ◌⊎◌, inl, inr, Bool, true, false, Option, None, filter, length, nat_le}
-use Rattle.std.proofs.Common.{nat_lt, slice_get, refl, sym, ap, ◌∙◌, arith, List, [], ◌∷◌, Result}
+use Rattle.std.proofs.Common.{nat_lt, slice_get, refl, sym, ap, ◌∙◌, arith, List, []}
 use Rattle.std.specs.Option.{option_map_or}
 use Rattle.std.proofs.lemmas.Bool.{false≢true}
 use Rattle.model_value.specs.declared.outcome.Outcome.TheVariants.{Value as Returned, Failed, Cancelled}
 use Rattle.model_value.specs.Action.{Action}
-use Rattle.model_value.specs.Input.{Input}
 use Rattle.model_value.specs.Value.{Value, Exc, Outcome}
 use Rattle.model_loop.specs.Cancel.{cancel}
-use Rattle.model_loop.specs.Ending.{cancel_everything}
-use Rattle.model_loop.specs.Groups.{exit_begin, exit_woken}
+use Rattle.model_loop.specs.Groups.{exit_begin}
 use Rattle.model_loop.specs.Loop.{Loop}
 use Rattle.model_loop.specs.Suspend.{suspend}
-use Rattle.model_machine.specs.Extra.{ExtraStep, made_by}
 use Rattle.law_cancel.proofs.Effects.{soon_all-futures, soon_all-tasks}
 use Rattle.law_changes.specs.Changes.{PartsChange, CallsSoon, CallsLater, Revokes, MakesFuture, Settles, Registers, KeepsAsked, MakesTask, WaitsFor}
 use Rattle.law_changes.specs.Changes.{Marks, Unmarks, Counts, Uncounts, Passes, FallsDue, LeavesPending, MayInParts, made_of_parts}
-use Rattle.law_changes.specs.Reaches.{ReachAlone, PartsReach}
-use Rattle.law_changes.proofs.LoopRows.{end_row, exit_begin_row, exit_woken_row, in_parts_row, suspend_row}
+use Rattle.law_changes.specs.Reaches.{PartsReach}
+use Rattle.law_changes.proofs.LoopRows.{exit_begin_row, suspend_row}
 use Rattle.law_changes.proofs.Parts.{parts_of}
-use Rattle.law_changes.proofs.PartsRows.{begin_row, cancel_row, finish_row}
-use Rattle.law_reach.proofs.Extras.{all_row}
+use Rattle.law_changes.proofs.PartsRows.{cancel_row}
 use Rattle.law_changes.proofs.Folds.{fold}
-use Rattle.model_loop.specs.Futures.{is_pending, is_pending_at, next_future, new_plain, register, settle}
+use Rattle.model_loop.specs.Futures.{is_pending, is_pending_at, next_future}
 use Rattle.model_loop.specs.Handles.{due, by_deadline, soon_all}
-use Rattle.model_loop.specs.Owning.{OwnsFutures, is_main_done}
-use Rattle.model_loop.specs.Parts.{Future, Parts, Plain, Task, Timer}
-use Rattle.model_loop.specs.Tasks.{begin_step, finish, future_of, lives, next_task, spawn, uncancel}
+use Rattle.model_loop.specs.Owning.{OwnsFutures}
+use Rattle.model_loop.specs.Parts.{Future, Parts, Task, Timer}
+use Rattle.model_loop.specs.Tasks.{future_of, lives, next_task, uncancel}
 use Rattle.law_after.specs.After.{IsAfter, OutcomeIn}
 use Rattle.law_after.proofs.Made.{asked_after, make_after, register_after, spawn_after}
 use Rattle.law_after.proofs.Parts.{change_after, settle_after}
@@ -96,7 +92,7 @@ later_due p =
     later_same p (due p) (fall_due-futures ready rest) (due-tasks p)
 
 -- ---- one change, and a row of them
-later_change : (r : Option ℕ) (change : PartsChange) (p : Parts) → MayInParts r change p → IsLater p (made_of_parts change p)
+pub later_change : (r : Option ℕ) (change : PartsChange) (p : Parts) → MayInParts r change p → IsLater p (made_of_parts change p)
 later_change r (MakesFuture kind) p may = later_of false None p _ (make_after any false None p kind)
 later_change r (Settles future outcome) p may = later_of false None p _ (settle_after any false None future outcome p (any_outcome outcome))
 later_change r (Registers future action) p may = later_of false None p _ (register_after any false None future action p may)
@@ -118,47 +114,17 @@ pub later_row : {r : Option ℕ} {p q : Parts} → PartsReach r p q → IsLater 
 later_row row = fold IsLater later_refl later_then (later_change _) row
 
 -- ---- by their operations, for the laws that are not told by rows so far
-later_alone : {r : Option ℕ} {p q : Parts} → ReachAlone r p q → IsLater p q
-later_alone {p = p} row = later_row (parts_of (in_parts_row (record { parts = p; timeouts = []; groups = []; ledger = [] }) row))
-
-pub later_settle : (id : ℕ) (outcome : Outcome) (p : Parts) → IsLater p (settle id outcome p)
-later_settle id outcome p = later_change None (Settles id outcome) p tt
-
-pub later_register : (future : ℕ) (action : Action) (p : Parts) → is_main_done action ≡ false → IsLater p (register future action p)
-later_register future action p other = later_change None (Registers future action) p other
-
-pub later_plain : (p : Parts) → IsLater p (new_plain p)
-later_plain p = later_change None (MakesFuture Plain) p tt
-
-pub later_spawn : (p : Parts) → IsLater p (spawn p)
-later_spawn p = later_change None MakesTask p tt
-
 pub later_uncancel : (task : ℕ) (p : Parts) → IsLater p (uncancel task p)
 later_uncancel task p = later_change None (Uncounts task) p tt
 
 pub later_cancel : (id : ℕ) (p : Parts) → IsLater p (cancel id p).parts
 later_cancel id p = later_row (cancel_row None id p)
 
-pub later_begin : (task : ℕ) (input : Input) (p : Parts) → IsLater p (begin_step task input p).parts
-later_begin task input p = later_alone (begin_row task input p)
-
-pub later_finish : (task : ℕ) (end : Result Value Exc) (p : Parts) → IsLater p (finish task end p)
-later_finish task end p = later_alone (finish_row task end p)
-
 pub later_suspend : (task on : ℕ) (p : Parts) → IsLater p (suspend task on p).parts
 later_suspend task on p = later_row (parts_of (suspend_row task on (record { parts = p; timeouts = []; groups = []; ledger = [] })))
 
 pub later_exit_begin : (raised : Option Exc) (id : ℕ) (l : Loop) → IsLater l.parts (exit_begin raised id l).loop.parts
 later_exit_begin raised id l = later_row (parts_of (exit_begin_row None raised id l))
-
-pub later_exit_woken : (input : Input) (id : ℕ) (l : Loop) → IsLater l.parts (exit_woken input id l).loop.parts
-later_exit_woken input id l = later_row (parts_of (exit_woken_row None input id l))
-
-pub later_end : (l : Loop) → IsLater l.parts (cancel_everything l).parts
-later_end l = later_row (parts_of (end_row None l))
-
-pub later_made : (step : ExtraStep) (l : Loop) → IsLater l.parts (made_by step l).parts
-later_made step l = later_row (parts_of (all_row None (step ∷ []) l))
 
 pub later_soon_all : (actions : List Action) (p : Parts) → IsLater p (soon_all actions p)
 later_soon_all actions p = later_same p (soon_all actions p) (soon_all-futures actions p) (soon_all-tasks actions p)

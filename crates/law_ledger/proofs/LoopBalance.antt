@@ -60,7 +60,7 @@ spawn_counts p task = go (cases_eq task (length p.tasks))
 tasks_count : (change : Parts → Parts) (p : Parts) → (change p).tasks ≡ p.tasks → KeepsCounts change p
 tasks_count change p same task = ap (λ (ts : List Task). count_at (slice_get ts task)) same
 
-part_counts : (runner : ℕ) (change : PartsChange) (p : Parts) → MayAlone (Some runner) change p → KeepsCounts (made_of_parts change) p
+pub part_counts : (runner : ℕ) (change : PartsChange) (p : Parts) → MayAlone (Some runner) change p → KeepsCounts (made_of_parts change) p
 part_counts runner (Settles future outcome) p may = tasks_count (settle future outcome) p (settle-tasks future outcome p)
 part_counts runner (Registers future action) p may = tasks_count (register future action) p (register-tasks future action p)
 part_counts runner (KeepsAsked future) p may = tasks_count (mark_asked future) p (mark_asked-tasks future p)

@@ -15,7 +15,7 @@ use Rattle.model_loop.specs.Cancel.{Canceller, cancel, cancel_at, cancel_below, 
 use Rattle.model_loop.specs.Cancel.{has_seen, marked_unless}
 use Rattle.model_loop.specs.Circles.{circle}
 use Rattle.model_loop.specs.Futures.{is_pending_at, next_future}
-use Rattle.model_loop.specs.Ledger.{Origin, ByWait, LedgerEntry, Raised, Took, ask_cancel, raised_among, request_each, request_where, uncancel_by}
+use Rattle.model_loop.specs.Ledger.{Origin, ByWait, LedgerEntry, Raised, Took, ask_cancel, raised_among, uncancel_by}
 use Rattle.model_loop.specs.Loop.{Loop, book}
 use Rattle.model_loop.specs.Owning.{OwnsFutures, owner_at, owner_in, owner_of, own_future}
 use Rattle.model_loop.specs.Parts.{FutureKind, Plain, OfTask, Many, Future, Parts, Task}
@@ -40,17 +40,6 @@ raised_took by (t ∷ tasks) = raised_took by tasks
 
 pub request_took : (by : Origin) (id : ℕ) (p : Parts) → list_any is_took (ask_cancel by id p).entries ≡ false
 request_took by id p = raised_took by (raised_among p (cancel id p).seen)
-
-pub each_took : (by : Origin) (tasks : List ℕ) (p : Parts) → list_any is_took (request_each by tasks p).entries ≡ false
-each_took by [] p = refl
-each_took by (task ∷ tasks) p =
-    let first = request_where (lives p task) by (future_of p task) p in
-    list_any-append is_took first.entries (request_each by tasks first.parts).entries
-    ∙ ap (λ b. b || list_any is_took (request_each by tasks first.parts).entries) (at (lives p task)) ∙ each_took by tasks first.parts
-  where
-    at : (b : Bool) → list_any is_took (request_where b by (future_of p task) p).entries ≡ false
-    at true = request_took by (future_of p task) p
-    at false = refl
 
 pub suspend_took : (task on : ℕ) (p : Parts) → list_any is_took (suspend task on p).entries ≡ false
 suspend_took task on p = at (circle p task on)

@@ -8,7 +8,7 @@ use Rattle.model_value.specs.Input.{Input}
 use Rattle.model_value.specs.Value.{Nothing, Exc}
 use Rattle.model_value.specs.declared.action.Action.TheVariants.{GroupDone}
 use Rattle.model_value.specs.declared.outcome.Outcome.TheVariants.{Value as Returned, Cancelled}
-use Rattle.model_loop.specs.Futures.{new_plain, register, settle}
+use Rattle.model_loop.specs.Futures.{settle}
 use Rattle.model_loop.specs.Groups.{abort, abort_and_request_unless, abort_where, begin_exit, blame, child_done, create}
 use Rattle.model_loop.specs.Groups.{enter_group, exit_begin, exit_woken, failure_of, group_of, make_group, new_group, next_group}
 use Rattle.model_loop.specs.Groups.{only_cancelled, request_parent, set_group, take_back, take_back_where, wait_or_end, wake_exit}
@@ -16,29 +16,29 @@ use Rattle.model_loop.specs.Groups.{wake_if_last, without_child}
 use Rattle.model_loop.specs.Ledger.{Began, ByAbort, ByGroup, Origin, request_each, uncancel_by}
 use Rattle.model_loop.specs.Loop.{Group, Loop, book}
 use Rattle.model_loop.specs.Owning.{OwnsFutures}
-use Rattle.model_loop.specs.Parts.{Parts}
+use Rattle.model_loop.specs.Parts.{Parts, Plain}
 use Rattle.model_loop.specs.Tasks.{cancelling, lives, next_task, uncancel}
 use Rattle.model_machine.specs.Replies.{most_ids}
-use Rattle.law_cancel.proofs.Effects.{length-change_task, register-tasks, settle-tasks}
+use Rattle.law_cancel.proofs.Effects.{length-change_task, settle-tasks}
 use Rattle.law_settling.proofs.CancelSound.{settled_owns}
 use Rattle.law_settling.proofs.Looks.{asked_looks, change_looks_same, same_owns}
 use Rattle.law_settling.proofs.Settling.{settle_cases}
 use Rattle.law_changes.specs.Blocks.{OfRequest, cancels, keeps_asked, counts, marks}
 use Rattle.law_changes.specs.Blocks.{GroupStage, stage_of, OfGroup, changes, aborts, waits, wakes, OfEnding, in_ending, ends, OfCreating, in_creating}
 use Rattle.law_changes.specs.Blocks.{spawns, registers}
-use Rattle.law_changes.specs.Changes.{LoopChange, PartsChange, made_of_loop, made_of_parts}
+use Rattle.law_changes.specs.Changes.{LoopChange, MakesFuture, OfParts, Registers, PartsChange, made_of_loop, made_of_parts}
 use Rattle.law_changes.proofs.Folds.{keep}
 use Rattle.law_changes.proofs.PartsRows.{each_in}
 use Rattle.law_changes.proofs.BlockRows.{abort_in, abort_where_in, create_in, heard_in, wait_or_end_in, wake_in}
 use Rattle.law_told.proofs.Holding.{group_same}
 use Rattle.law_after.proofs.Exits.{exit_begin_loop, exit_woken_loop}
 use Rattle.law_after.proofs.Requests.{each_after}
-use Rattle.law_done.proofs.Later.{later_register, any, later_exit_begin, later_exit_woken, later_plain, later_refl}
+use Rattle.law_done.proofs.Later.{any, later_exit_begin, later_refl}
 use Rattle.law_done.proofs.Later.{later_uncancel}
 use Rattle.law_inside.proofs.Tapes.{push_last}
 use Rattle.law_owed.proofs.Asking.{ask_covers, take_covers}
-use Rattle.law_owed.proofs.Owed.{IsEasy, covers, easy_group, easy_parts, easy_row, easy_then, group_owed, right_on, same_counts}
-use Rattle.law_owed.proofs.Loops.{easy_request, easy_settle, easy_spawn}
+use Rattle.law_owed.proofs.Owed.{IsEasy, covers, easy_group, easy_row, easy_then, group_owed, right_on}
+use Rattle.law_owed.proofs.Loops.{easy_change, easy_request, easy_settle, easy_spawn}
 use Rattle.law_owed.specs.Owed.{IsCovered, IsRight, owed, owes_group}
 
 -- ---- who has which future stays
@@ -61,7 +61,7 @@ same_owes new old same task =
 group_easy : (id : ℕ) (change : LoopChange) (l : Loop) → OfGroup id change l → IsEasy l (made_of_loop change l)
 group_easy id _ l (changes new same) = easy_group id new l (same_owes new (group_of l id) same)
 group_easy id _ l (aborts future) = easy_request (ByAbort id) future l
-group_easy id _ l waits = easy_parts l (new_plain l.parts) (later_plain l.parts) (λ other. le_refl _)
+group_easy id _ l waits = easy_change 0 (OfParts (MakesFuture Plain)) l tt
 group_easy id _ l (wakes future) = easy_settle future (Returned Nothing) l
 
 ending_easy : (id : ℕ) (change : LoopChange) (l : Loop) → OfEnding id change l → IsEasy l (made_of_loop change l)
@@ -71,9 +71,7 @@ ending_easy id _ l (ends errors) = easy_group id (record (group_of l id) { ended
 creating_easy : (id : ℕ) (change : LoopChange) (l : Loop) → OfCreating id change l → IsEasy l (made_of_loop change l)
 creating_easy id change l (in_creating it) = group_easy id change l it
 creating_easy id _ l spawns = easy_spawn l
-creating_easy id _ l (registers future task) =
-    easy_parts l (register future (GroupDone id task) l.parts) (later_register future (GroupDone id task) l.parts refl)
-    (same_counts l.parts (register future (GroupDone id task) l.parts) (register-tasks future (GroupDone id task) l.parts))
+creating_easy id _ l (registers future task) = easy_change 0 (OfParts (Registers future (GroupDone id task))) l refl
 
 pub easy_create : (id : ℕ) (l : Loop) → IsEasy l (create id l)
 easy_create id l = easy_row (creating_easy id) (create_in id l)
@@ -275,5 +273,5 @@ module _ (raised : Option Exc) (id : ℕ) (l : Loop) (within : id < length l.gro
 
 pub woken_right : (input : Input) (id : ℕ) (l : Loop) → IsRight l → IsRight (exit_woken input id l).loop
 woken_right input id l right =
-    right_on l (exit_woken input id l).loop (later_exit_woken input id l)
+    right_on l (exit_woken input id l).loop (easy_woken input id l).later
     ((exit_woken_loop any refl false None None None id input l).parts.same refl) (easy_woken input id l).owes right

@@ -1,84 +1,92 @@
 -- Steps of tasks and timeouts: what each of them owes, and what it takes back.
-use Rattle.std.proofs.Common.{◌≡◌, ℕ, ◌+◌, ◌≤◌, ◌<◌, zero, suc, ℤ, Bool, true, false, cond, ◌&&◌, ◌==◌, List, [], ◌∷◌, ◌++◌, Option, Some, None, Result, Ok}
-use Rattle.std.proofs.Common.{Err, length, option_map, slice_index_or, slice_set, if◌then◌else◌, refl, ap, ◌∙◌, le_refl, length-append, length-set}
+use Rattle.std.proofs.Common.{◌≡◌, ℕ, ◌+◌, ◌≤◌, ◌<◌, zero, suc, ℤ, Bool, true, false, cond, ◌&&◌, ◌==◌, List, [], ◌∷◌, ◌++◌, Option, Some, None, Result}
+use Rattle.std.proofs.Common.{length, option_map, slice_index_or, slice_set, refl, ap, ◌∙◌, le_refl, length-append, length-set}
 use Rattle.std.proofs.Common.{arith}
 use Rattle.std.specs.List.{count_by, range_with_len}
-use Rattle.std.specs.Option.{option_map_or}
 use Rattle.std.proofs.lemmas.List.Sums.{sum_by_push}
-use Rattle.model_value.specs.Input.{Input}
 use Rattle.model_value.specs.Value.{Value, Exc, Outcome}
-use Rattle.model_value.specs.declared.action.Action.TheVariants.{Extra as Added}
-use Rattle.model_value.specs.declared.outcome.Outcome.TheVariants.{Value as Returned, Failed, Cancelled}
+use Rattle.model_value.specs.declared.action.Action.TheVariants.{Fires, Extra as Added}
 use Rattle.model_loop.specs.Ending.{cancel_everything}
+use Rattle.model_loop.specs.Groups.{group_of}
 use Rattle.model_loop.specs.Futures.{settle}
 use Rattle.model_loop.specs.Handles.{deadline, later}
-use Rattle.model_loop.specs.Ledger.{Origin, ByEnd, ByExtra, ByTimeout, ask_cancel, request_each, uncancel_by}
+use Rattle.model_loop.specs.Ledger.{Origin, ByEnd, ByExtra, ByTimeout, ask_cancel, uncancel_by}
 use Rattle.model_loop.specs.Loop.{TimeoutState, Created, Active, Expiring, Expired, Finished, Timeout, Loop, book, in_parts}
 use Rattle.model_loop.specs.Owning.{OwnsFutures}
-use Rattle.model_loop.specs.Parts.{Parts, Task}
+use Rattle.model_loop.specs.Parts.{Parts, Plain, Many}
 use Rattle.model_loop.specs.Suspend.{suspend}
-use Rattle.model_loop.specs.Tasks.{begin_step, cancelling, finish, future_of, is_cancelled, is_marked, lives, next_task, set_waiter, spawn, unmark}
+use Rattle.model_loop.specs.Tasks.{cancelling, finish, future_of, lives, next_task, spawn}
 use Rattle.model_loop.specs.Timeouts.{enter_timeout, exit_timeout, fire, give_up, is_active, leave_from, make_timeout, moment, next_timeout}
 use Rattle.model_loop.specs.Timeouts.{no_timeout, reschedule, reschedule_where, schedule, set_timeout, timeout_of, without_handle}
 use Rattle.model_machine.specs.Extra.{ExtraStep, MakesPlain, MakesMany, Settles, Releases, Registers, CallsSoon, CallsLater, Revokes, Cancels, Uncancels}
 use Rattle.model_machine.specs.Extra.{made_by, made_by_all}
 use Rattle.model_machine.specs.Replies.{most_ids}
-use Rattle.law_cancel.proofs.Counting.{change_task-kept}
 use Rattle.law_cancel.proofs.Effects.{length-change_task, register-tasks, settle-tasks}
 use Rattle.law_changes.specs.Blocks.{OfSchedule, gives_up, fires_soon, fires_later, tags}
-use Rattle.law_changes.specs.Changes.{LoopChange, made_of_loop}
-use Rattle.law_changes.proofs.BlockRows.{schedule_in, without_in}
-use Rattle.law_ledger.proofs.Balancing.{request_balances, request_each_balances, suspend_balances}
-use Rattle.law_ledger.proofs.LoopBalance.{spawn_counts}
+use Rattle.law_changes.specs.Changes.{CallsSoon as CallsActionSoon, CallsLater as CallsActionLater, Revokes as RevokesTag, Settles as SettlesFuture}
+use Rattle.law_changes.specs.Changes.{Registers as RegistersAction, MakesFuture, MakesTask, MayAlone, made_of_parts, LoopChange, OfParts, MakesTimeout}
+use Rattle.law_changes.specs.Changes.{ChangesTimeout, MakesGroup, ChangesGroup, AsksCancel, TakesBack, BeginsExit, made_of_loop}
+use Rattle.law_changes.specs.Reaches.{Reaches, stays, goes, ReachAlone}
+use Rattle.law_changes.proofs.BlockRows.{each_in, schedule_in, without_in}
+use Rattle.law_changes.proofs.Parts.{alone}
+use Rattle.law_changes.proofs.PartsRows.{finish_row}
+use Rattle.law_ledger.proofs.Balancing.{request_balances, suspend_balances}
+use Rattle.law_ledger.proofs.LoopBalance.{part_counts}
 use Rattle.law_after.proofs.Requests.{cancel_after}
-use Rattle.law_done.proofs.Later.{any, later_same, later_cancel, later_end, later_finish, later_made, later_settle, later_spawn, later_suspend, later_uncancel}
-use Rattle.law_owed.proofs.Asking.{ask_covers, take_covers, hand_covers, request_took, each_took, suspend_took}
-use Rattle.law_owed.proofs.Owed.{IsEasy, covers, easy_book, easy_parts, easy_refl, easy_row, easy_timeout, right_on, same_counts, timeout_owed}
-use Rattle.law_owed.specs.Owed.{IsCovered, IsRight, is_expiring, owed, owes_timeout}
+use Rattle.law_done.proofs.Later.{any, later_cancel, later_change, later_suspend, later_uncancel}
+use Rattle.law_owed.proofs.Asking.{ask_covers, take_covers, hand_covers, request_took, suspend_took}
+use Rattle.law_owed.proofs.Owed.{IsEasy, covers, easy_book, easy_group, easy_parts, easy_refl, easy_row, easy_timeout, right_on, timeout_owed}
+use Rattle.law_owed.specs.Owed.{IsCovered, IsRight, is_expiring, owed, owes_group, owes_timeout}
 
-abbrev count_in : Option Task → ℕ
-count_in o = option_map_or (λ (task : Task). task.cancels) o 0
+-- ---- one change, in a step of some task
+-- What takes nothing back, and after which no more is owed.
+abbrev pub MayEase : (task : ℕ) → LoopChange → Loop → Type 0
+MayEase task (OfParts change) l = MayAlone (Some task) change l.parts
+MayEase task (AsksCancel by future) l = Unit {0}
+MayEase task (ChangesTimeout id new) l = (other : ℕ) → cond (owes_timeout other new) 1 0 ≤ cond (owes_timeout other (timeout_of l id)) 1 0
+MayEase task (ChangesGroup id new) l = (other : ℕ) → cond (owes_group other new) 1 0 ≤ cond (owes_group other (group_of l id)) 1 0
+MayEase task _ l = ⊥
 
--- ---- parts
+pub easy_change : (task : ℕ) (change : LoopChange) (l : Loop) → MayEase task change l → IsEasy l (made_of_loop change l)
+easy_change task (OfParts change) l may =
+    easy_parts l (made_of_parts change l.parts) (later_change (Some task) change l.parts (alone (Some task) change l.parts may))
+    (λ other. let a = part_counts task change l.parts may other in omega (arith, a))
+easy_change task (AsksCancel by id) l may =
+    easy_book (ask_cancel by id) l (later_cancel id l.parts) (request_balances by id l.parts) (request_took by id l.parts)
+easy_change task (ChangesTimeout id new) l may = easy_timeout id new l may
+easy_change task (ChangesGroup id new) l may = easy_group id new l may
+easy_change task (MakesTimeout other) l may = absurd may
+easy_change task (MakesGroup parent) l may = absurd may
+easy_change task (TakesBack by other) l may = absurd may
+easy_change task (BeginsExit id) l may = absurd may
+
+ease_parts : (task : ℕ) (l : Loop) {p q : Parts} → ReachAlone (Some task) p q
+    → Reaches made_of_loop (MayEase task) (record l { parts = p }) (record l { parts = q })
+ease_parts task l stays = stays
+ease_parts task l (goes row change may) = goes (ease_parts task l row) (OfParts change) may
+
+-- what a step of the task does to the parts alone
+pub easy_alone : (task : ℕ) (l : Loop) {q : Parts} → ReachAlone (Some task) l.parts q → IsEasy l (record l { parts = q })
+easy_alone task l row = easy_row (easy_change task) (ease_parts task l row)
+
 pub easy_settle : (id : ℕ) (outcome : Outcome) (l : Loop) → IsEasy l (in_parts (settle id outcome) l)
-easy_settle id outcome l =
-    easy_parts l (settle id outcome l.parts) (later_settle id outcome l.parts)
-    (same_counts l.parts (settle id outcome l.parts) (settle-tasks id outcome l.parts))
+easy_settle id outcome l = easy_change 0 (OfParts (SettlesFuture id outcome)) l tt
+
+pub easy_request : (by : Origin) (id : ℕ) (l : Loop) → IsEasy l (book (ask_cancel by id) l)
+easy_request by id l = easy_change 0 (AsksCancel by id) l tt
+
+pub easy_spawn : (l : Loop) → IsEasy l (in_parts spawn l)
+easy_spawn l = easy_change 0 (OfParts MakesTask) l tt
+
+pub easy_finish : (task : ℕ) (end : Result Value Exc) (l : Loop) → IsEasy l (in_parts (finish task end) l)
+easy_finish task end l = easy_alone task l (finish_row task end l.parts)
 
 pub easy_suspend : (task on : ℕ) (l : Loop) → IsEasy l (book (suspend task on) l)
 easy_suspend task on l =
     easy_book (suspend task on) l (later_suspend task on l.parts) (suspend_balances task on l.parts) (suspend_took task on l.parts)
 
-pub easy_request : (by : Origin) (id : ℕ) (l : Loop) → IsEasy l (book (ask_cancel by id) l)
-easy_request by id l = easy_book (ask_cancel by id) l (later_cancel id l.parts) (request_balances by id l.parts) (request_took by id l.parts)
-
-pub begin_counts : (task : ℕ) (input : Input) (p : Parts) (other : ℕ) → cancelling p other ≤ cancelling (begin_step task input p).parts other
-begin_counts task input p other =
-    let a : cancelling (begin_step task input p).parts other ≡ cancelling p other =
-    change_task-kept count_in task _ (set_waiter task None p) (λ t. refl) other ∙ change_task-kept count_in task _ p (λ t. refl) other in
-    omega (arith, a)
-
-finish_counts : (task : ℕ) (end : Result Value Exc) (p : Parts) (other : ℕ) → cancelling p other ≤ cancelling (finish task end p) other
-finish_counts task (Ok value) p other =
-    let a = same_counts (unmark task p) (finish task (Ok value) p)
-    (settle-tasks (future_of p task) (if is_marked p task then Cancelled else Returned value) (unmark task p)) other in
-    let b : cancelling (unmark task p) other ≡ cancelling p other = change_task-kept count_in task _ p (λ t. refl) other in
-    omega (arith, a, b)
-finish_counts task (Err fault) p other =
-    same_counts p (finish task (Err fault) p)
-    (settle-tasks (future_of p task) (if is_cancelled fault then Cancelled else Failed fault) p) other
-
-pub easy_finish : (task : ℕ) (end : Result Value Exc) (l : Loop) → IsEasy l (in_parts (finish task end) l)
-easy_finish task end l = easy_parts l (finish task end l.parts) (later_finish task end l.parts) (finish_counts task end l.parts)
-
-pub easy_spawn : (l : Loop) → IsEasy l (in_parts spawn l)
-easy_spawn l =
-    easy_parts l (spawn l.parts) (later_spawn l.parts) (λ task. let a = spawn_counts l.parts task in omega (arith, a))
-
 pub easy_end : (l : Loop) → IsEasy l (cancel_everything l)
-easy_end l =
-    easy_book (request_each ByEnd (range_with_len 0 (next_task l.parts))) l (later_end l)
-    (request_each_balances ByEnd (range_with_len 0 (next_task l.parts)) l.parts) (each_took ByEnd (range_with_len 0 (next_task l.parts)) l.parts)
+easy_end l = easy_row (easy_change 0) (each_in ByEnd (λ future m. tt) (range_with_len 0 (next_task l.parts)) l)
 
 -- ---- what is added
 pub record IsGood (l : Loop) : Type 0 where
@@ -88,22 +96,16 @@ pub record IsGood (l : Loop) : Type 0 where
 easily : (l q : Loop) → IsEasy l q → next_task q.parts ≡ next_task l.parts → IsGood l → IsGood q
 easily l q a same is = record { right = right_on l q a.later same a.owes is.right; covered = covers l q a is.right is.covered }
 
-made_easily : (step : ExtraStep) (l : Loop) → (made_by step l).parts.tasks ≡ l.parts.tasks → IsEasy l (record l { parts = (made_by step l).parts })
-made_easily step l same = easy_parts l (made_by step l).parts (later_made step l) (same_counts l.parts (made_by step l).parts same)
-
 made_good : (step : ExtraStep) (l : Loop) → IsGood l → IsGood (made_by step l)
-made_good MakesPlain l is = easily l (made_by MakesPlain l) (made_easily MakesPlain l refl) refl is
-made_good (MakesMany members) l is = easily l (made_by (MakesMany members) l) (made_easily (MakesMany members) l refl) refl is
-made_good (Settles future outcome) l is =
-    let same = settle-tasks future outcome l.parts in
-    easily l (made_by (Settles future outcome) l) (made_easily (Settles future outcome) l same) (ap length same) is
+made_good MakesPlain l is = easily l _ (easy_change 0 (OfParts (MakesFuture Plain)) l tt) refl is
+made_good (MakesMany members) l is = easily l _ (easy_change 0 (OfParts (MakesFuture (Many members false))) l tt) refl is
+made_good (Settles future outcome) l is = easily l _ (easy_settle future outcome l) (ap length (settle-tasks future outcome l.parts)) is
 made_good (Releases future) l is = is
 made_good (Registers future key) l is =
-    let same = register-tasks future (Added key) l.parts in
-    easily l (made_by (Registers future key) l) (made_easily (Registers future key) l same) (ap length same) is
-made_good (CallsSoon key) l is = easily l (made_by (CallsSoon key) l) (made_easily (CallsSoon key) l refl) refl is
-made_good (CallsLater when key) l is = easily l (made_by (CallsLater when key) l) (made_easily (CallsLater when key) l refl) refl is
-made_good (Revokes tag) l is = easily l (made_by (Revokes tag) l) (made_easily (Revokes tag) l refl) refl is
+    easily l _ (easy_change 0 (OfParts (RegistersAction future (Added key))) l refl) (ap length (register-tasks future (Added key) l.parts)) is
+made_good (CallsSoon key) l is = easily l _ (easy_change 0 (OfParts (CallsActionSoon (Added key))) l refl) refl is
+made_good (CallsLater when key) l is = easily l _ (easy_change 0 (OfParts (CallsActionLater when (Added key))) l tt) refl is
+made_good (Revokes tag) l is = easily l _ (easy_change 0 (OfParts (RevokesTag tag)) l tt) refl is
 made_good (Cancels key future) l is =
     easily l (made_by (Cancels key future) l) (easy_request (ByExtra key) future l) ((cancel_after any false None future l.parts).same refl) is
 made_good (Uncancels key task) l is = record {
@@ -117,9 +119,9 @@ all_good (step ∷ steps) l is = all_good steps (made_by step l) (made_good step
 
 -- ---- timeouts
 schedule_easy : (id : ℕ) (change : LoopChange) (l : Loop) → OfSchedule id change l → IsEasy l (made_of_loop change l)
-schedule_easy id _ l (gives_up tag) = easy_parts l _ (later_same _ _ refl refl) (λ task. le_refl _)
-schedule_easy id _ l fires_soon = easy_parts l _ (later_same _ _ refl refl) (λ task. le_refl _)
-schedule_easy id _ l (fires_later when) = easy_parts l _ (later_same _ _ refl refl) (λ task. le_refl _)
+schedule_easy id _ l (gives_up tag) = easy_change 0 (OfParts (RevokesTag tag)) l tt
+schedule_easy id _ l fires_soon = easy_change 0 (OfParts (CallsActionSoon (Fires id))) l refl
+schedule_easy id _ l (fires_later when) = easy_change 0 (OfParts (CallsActionLater when (Fires id))) l tt
 schedule_easy id _ l (tags tag) = easy_timeout id (record (timeout_of l id) { tag = tag }) l (λ task. le_refl _)
 
 easy_without : (id : ℕ) (l : Loop) → IsEasy l (without_handle id l)

@@ -46,7 +46,7 @@ in_answer row = widen (more _) row
 parts_row : {S : Type 0} {r : Option ℕ} {q : Parts} (s : State S) → ReachAlone r s.loop.parts q → InCallback r s (unbooked_in (λ p. q) s)
 parts_row s row = in_answer (in_loop_row s (in_parts_row s.loop row))
 
-given_up_row : (task : ℕ) (standing : Standing) (p : Parts) → ReachAlone (Some task) p (given_up standing p)
+pub given_up_row : (task : ℕ) (standing : Standing) (p : Parts) → ReachAlone (Some task) p (given_up standing p)
 given_up_row task Asked p = stays
 given_up_row task (Sleeping tag) p = one (Revokes tag) tt
 given_up_row task (Leaving group) p = stays

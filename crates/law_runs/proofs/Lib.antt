@@ -3,3 +3,4 @@ pub mod Beginning
 pub mod Callbacks
 pub mod Turning
 pub mod Nothing
+pub mod Folding

@@ -1,6 +1,6 @@
 -- Each request of a task in its step leaves what is owed covered.
 use Rattle.std.proofs.Common.{◌≡◌, ℕ, zero, suc, ◌≤◌, ◌<◌, pos, Bool, true, false, cond, not, ◌&&◌, ◌==◌, List, [], ◌∷◌, Option, Some, None, length}
-use Rattle.std.proofs.Common.{slice_index_or, refl, sym, ap, subst, ◌∙◌, le_refl, arith}
+use Rattle.std.proofs.Common.{slice_index_or, refl, sym, ap, subst, ◌∙◌, arith}
 use Rattle.std.specs.List.{count_by, list_any}
 use Rattle.std.specs.Option.{option_map_or}
 use Rattle.std.proofs.lemmas.Bool.{eq-eqb, eqb-true, false≢true}
@@ -8,6 +8,7 @@ use Rattle.model_value.specs.Equality.{equal}
 use Rattle.model_value.specs.Input.{Input}
 use Rattle.model_value.specs.Request.{Request}
 use Rattle.model_value.specs.Value.{Value, Timeout, Exc, Outcome}
+use Rattle.model_value.specs.declared.action.Action.TheVariants.{Step}
 use Rattle.model_value.specs.declared.input.Input.TheVariants.{Send, Throw}
 use Rattle.model_value.specs.declared.outcome.Outcome.TheVariants.{Value as Returned, Failed}
 use Rattle.model_value.specs.declared.request.Request.TheVariants as request
@@ -20,6 +21,7 @@ use Rattle.model_loop.specs.Groups.{GroupExit, Waits, Passes, Raises as RaisedBy
 use Rattle.model_loop.specs.Ledger.{ByScript, ask_cancel}
 use Rattle.model_loop.specs.Loop.{TimeoutState, Created, Active, Expiring, Expired, Finished, Loop, book, in_parts}
 use Rattle.model_loop.specs.Sound.{IsSound}
+use Rattle.model_loop.specs.Parts.{Plain}
 use Rattle.model_loop.specs.Suspend.{suspend}
 use Rattle.model_loop.specs.Tasks.{lives, next_task, spawn}
 use Rattle.model_loop.specs.Timeouts.{exit_timeout, no_timeout, reschedule, timeout_of}
@@ -34,7 +36,9 @@ use Rattle.model_machine.specs.Replies.{serves_as, serves, woken_within, woken, 
 use Rattle.model_machine.specs.Sound.{AreBlocksOf, AreBlocksOpen, blocks_of, has_open, is_open}
 use Rattle.model_machine.specs.State.{Standing, Asked, Sleeping, Leaving, Serving, Generator, State, generator, with_loop}
 use Rattle.model_machine.specs.Step.{says_of}
-use Rattle.law_reach.specs.Cases.{Replies, raises, leaves_none, exits_none, tells, names_itself, hands_on, pauses_on, alarms, awaits, prints, makes, sets}
+use Rattle.law_changes.specs.Changes.{CallsSoon, CallsLater, MakesFuture, OfParts}
+use Rattle.law_reach.specs.Cases.{Replies, raises, leaves_none, exits_none, tells, names_itself, hands_on, pauses_on, alarms, awaits, prints, makes}
+use Rattle.law_reach.specs.Cases.{sets}
 use Rattle.law_reach.specs.Cases.{fails, cancels, uncancels, spawns_it, enters, leaves, moves, enters_one, exits, creates_it, serves_it}
 use Rattle.law_reach.proofs.Cases.{reply_is}
 use Rattle.law_machine.proofs.Kept.{reply_state}
@@ -43,11 +47,11 @@ use Rattle.law_inside.proofs.Counts.{own_there, lives_within}
 use Rattle.law_inside.proofs.Tapes.{past_default}
 use Rattle.law_replies.proofs.Innermost.{innermost_timeout}
 use Rattle.law_replies.proofs.Replying.{fits_in}
-use Rattle.law_done.proofs.Later.{later_plain, later_same, later_then}
 use Rattle.law_owed.proofs.Asking.{hand_covers}
 use Rattle.law_owed.proofs.Groups.{begin_covers, begin_right, easy_create, easy_woken, enter_group_covers, woken_right}
-use Rattle.law_owed.proofs.Loops.{IsGood, all_good, easy_request, easy_reschedule, easy_settle, easy_spawn, easy_suspend, enter_covers, exit_covers}
-use Rattle.law_owed.proofs.Owed.{count_cons, covers, easy_parts, easy_then}
+use Rattle.law_owed.proofs.Loops.{IsGood, all_good, easy_change, easy_request, easy_reschedule, easy_settle, easy_spawn, easy_suspend, enter_covers}
+use Rattle.law_owed.proofs.Loops.{exit_covers}
+use Rattle.law_owed.proofs.Owed.{count_cons, covers, easy_then}
 use Rattle.law_owed.specs.Owed.{IsCovered, IsRight, is_expiring, owed, owes_timeout, owes_group}
 
 -- ---- nothing is owed to a task that wasn't made
@@ -237,9 +241,8 @@ module _ {S : Type 0} (added : Extra S) (task : ℕ) (s : State S) (step : IsSte
       let on = next_future s.loop.parts in
       covers s.loop (book (suspend task on) alarm)
       (easy_then s.loop alarm (book (suspend task on) alarm)
-      (easy_parts s.loop (alarmed task (pos (suc delay)) s.loop.parts)
-      (later_then s.loop.parts (new_plain s.loop.parts) alarm.parts (later_plain s.loop.parts) (later_same (new_plain s.loop.parts) alarm.parts refl refl))
-      (λ other. le_refl _))
+      (easy_then s.loop (in_parts new_plain s.loop) alarm (easy_change 0 (OfParts (MakesFuture Plain)) s.loop tt)
+      (easy_change 0 (OfParts (CallsLater _ _)) (in_parts new_plain s.loop) tt))
       (easy_suspend task on alarm)) right c
 
   case_in : (asked : Request) (it : RequestReply S) → says_of step_limit added task s ≡ Asks asked → Replies added task s asked it → Covers it
@@ -249,12 +252,11 @@ module _ {S : Type 0} (added : Extra S) (task : ℕ) (s : State S) (step : IsSte
   case_in asked it said (tells value none b) = c
   case_in asked it said names_itself = c
   case_in asked it said (hands_on on outcome e b) = replied_in (input_of outcome) s c
-  case_in asked it said (pauses_on may b) = covers s.loop _ (easy_parts s.loop _ (later_same s.loop.parts _ refl refl) (λ other. le_refl _)) right c
+  case_in asked it said (pauses_on may b) = covers s.loop _ (easy_change 0 (OfParts (CallsSoon (Step task))) s.loop refl) right c
   case_in asked it said (alarms x delay) = alarm_in delay
   case_in asked it said (awaits x on e none) = waits_in task on s right c
   case_in asked it said (prints values) = c
-  case_in asked it said (makes few) =
-      covers s.loop _ (easy_parts s.loop (new_plain s.loop.parts) (later_plain s.loop.parts) (λ other. le_refl _)) right c
+  case_in asked it said (makes few) = covers s.loop _ (easy_change 0 (OfParts (MakesFuture Plain)) s.loop tt) right c
   case_in asked it said (sets future value on e) = covers s.loop _ (easy_settle on (Returned value) s.loop) right c
   case_in asked it said (fails future fault on raised e) = covers s.loop _ (easy_settle on (Failed raised) s.loop) right c
   case_in asked it said (cancels x on) = covers s.loop (book (ask_cancel (ByScript task) on) s.loop) (easy_request (ByScript task) on s.loop) right c

@@ -1,5 +1,5 @@
 -- Callbacks, turns and runs leave what is owed covered, so the ledger is right.
-use Rattle.std.proofs.Common.{◌≡◌, ℕ, zero, suc, ◌≤◌, Bool, true, false, not, ◌&&◌, List, [], ◌∷◌, Option, Some, None, Ok, Err, filter, length, nat_le, nat_lt}
+use Rattle.std.proofs.Common.{◌≡◌, ℕ, zero, suc, Bool, true, false, not, ◌&&◌, List, [], ◌∷◌, Option, Some, None, Ok, Err, filter, nat_le, nat_lt}
 use Rattle.std.proofs.Common.{refl, ap, subst, ◌∙◌, le_refl, arith}
 use Rattle.std.proofs.lemmas.Bool.{eq-eqb}
 use Rattle.model_value.specs.Action.{Action}
@@ -13,15 +13,14 @@ use Rattle.model_says.specs.Endings.{Saying, Asks, Returns, Raises as Raised, Ru
 use Rattle.model_says.specs.Says.{step_limit}
 use Rattle.model_wire.specs.declared.event.Event.TheVariants as event
 use Rattle.model_wire.specs.Call.{Answer}
-use Rattle.model_wire.specs.Fits.{fits}
-use Rattle.model_wire.specs.Journal.{Entry, Answered, Refused}
+use Rattle.model_wire.specs.Journal.{Entry}
 use Rattle.model_loop.specs.Circles.{circle_fault}
 use Rattle.model_loop.specs.Ending.{cancel_everything}
 use Rattle.model_loop.specs.Futures.{settle}
 use Rattle.model_loop.specs.Handles.{by_deadline, due, fall_due, soon_all}
 use Rattle.model_loop.specs.Loop.{Loop, in_parts}
 use Rattle.model_loop.specs.Parts.{Handle, Parts, Timer}
-use Rattle.model_loop.specs.Tasks.{begin_step, cancelling, finish, next_task}
+use Rattle.model_loop.specs.Tasks.{begin_step, finish, next_task}
 use Rattle.model_loop.specs.Ways.{steps}
 use Rattle.model_machine.specs.Extra.{Extra}
 use Rattle.model_machine.specs.Outcomes.{finished_as, woken_with}
@@ -30,32 +29,29 @@ use Rattle.model_machine.specs.Replies.{RequestReply, Answers, Raises, Rests, Ha
 use Rattle.model_machine.specs.Sound.{IsStateSound, sends_made}
 use Rattle.model_machine.specs.State.{Standing, Asked, Sleeping, Leaving, Serving, State, generator_of, noted, stands, start, unbooked_in}
 use Rattle.model_machine.specs.Step.{given_up, most_answers, says_of, serve, serve_all, served, step, taken_as}
-use Rattle.model_machine.specs.Turn.{at_time, call_of, cancelled_if, effect, finished_if, is_stalled, next_below, ran, run_below, run_first, run_if}
-use Rattle.model_machine.specs.Turn.{run_pending, turn, turn_over, turn_unless, turned_by, woken_by}
-use Rattle.model_machine.specs.Went.{Went, Goes, Stops, answered_by, fitted, state_of, went_on}
+use Rattle.model_machine.specs.Turn.{at_time, cancelled_if, effect, finished_if, ran, run_first}
+use Rattle.model_machine.specs.Turn.{turn, turn_over, woken_by}
+use Rattle.model_machine.specs.Went.{Went, Goes, Stops, state_of}
 use Rattle.law_cancel.proofs.Effects.{soon_all-tasks}
 use Rattle.law_after.proofs.Requests.{begin_after}
 use Rattle.law_replies.specs.Added.{KeepsSound}
 use Rattle.law_replies.proofs.Replying.{reply_in as replies_sound}
 use Rattle.law_inside.specs.InStep.{IsStepSound, LeavesStateSound, RepliesInStep}
+use Rattle.law_changes.proofs.Folds.{on}
+use Rattle.law_changes.proofs.PartsRows.{begin_row}
+use Rattle.law_reach.proofs.Running.{given_up_row}
 use Rattle.law_runs.proofs.Beginning.{begins_in}
-use Rattle.law_runs.proofs.Callbacks.{callback_in, woken_made}
-use Rattle.law_runs.proofs.Turning.{noted_in, pending_in, turn_in, woken_in}
-use Rattle.law_done.proofs.Later.{any, later_begin, later_due, later_same, later_soon_all, later_then}
-use Rattle.law_done.proofs.Replies.{later_given_up}
+use Rattle.law_runs.proofs.Callbacks.{woken_made}
+use Rattle.law_runs.proofs.Folding.{turn_through}
+use Rattle.law_runs.proofs.Turning.{turn_in}
+use Rattle.law_done.proofs.Later.{any, later_due, later_same, later_soon_all, later_then}
 use Rattle.law_taken.specs.Taken.{EachAfter, HasRightLedgers}
 use Rattle.law_taken.proofs.Reading.{reads_right}
 use Rattle.law_owed.proofs.Groups.{child_covers}
-use Rattle.law_owed.proofs.Loops.{IsGood, all_good, begin_counts, easy_end, easy_finish, easy_settle, fire_covers}
-use Rattle.law_owed.proofs.Owed.{covers, easy_parts, right_on, same_counts}
+use Rattle.law_owed.proofs.Loops.{IsGood, all_good, easy_alone, easy_end, easy_finish, easy_settle, fire_covers}
+use Rattle.law_owed.proofs.Owed.{covers, easy_parts, easy_then, right_on, same_counts}
 use Rattle.law_owed.specs.Owed.{IsCovered, IsRight}
 use Rattle.law_taken.proofs.Replies.{Covers, decides_in, reply_in, right_of}
-
-given_counts : (st : Standing) (p : Parts) (task : ℕ) → cancelling p task ≤ cancelling (given_up st p) task
-given_counts Asked p task = le_refl _
-given_counts (Sleeping tag) p task = le_refl _
-given_counts (Leaving group) p task = le_refl _
-given_counts (Serving key) p task = le_refl _
 
 given_tasks : (st : Standing) (p : Parts) → next_task (given_up st p) ≡ next_task p
 given_tasks Asked p = refl
@@ -99,13 +95,11 @@ module _ {S : Type 0} (added : Extra S) (keeps : KeepsSound added) (task : ℕ) 
       let gone = record l.parts { pending = rest } in
       let up = given_up st gone in
       let q = (begin_step task input up).parts in
-      let later =
-      later_then l.parts up q (later_then l.parts gone up (later_same l.parts gone refl refl) (later_given_up st gone))
-      (later_begin task input up) in
-      let a = easy_parts l q later (λ other.
-      let x = given_counts st gone other in let y = begin_counts task input up other in omega (arith, x, y)) in
+      let m = record l { parts = gone } in
+      let a = easy_then l m (record l { parts = q }) (easy_parts l gone (later_same l.parts gone refl refl) (λ other. le_refl _))
+      (easy_alone task m (on (given_up_row task st gone) (begin_row task input up))) in
       record {
-        right = right_on l (record l { parts = q }) later ((begin_after any false None task input up).same refl ∙ given_tasks st gone) (λ other. le_refl _)
+        right = right_on l (record l { parts = q }) a.later ((begin_after any false None task input up).same refl ∙ given_tasks st gone) (λ other. le_refl _)
             is.right;
         covered = covers l (record l { parts = q }) a is.right is.covered;
       }
@@ -178,34 +172,10 @@ due_tasks p =
     (record p { timers = filter (λ (timer : Timer). nat_lt p.time timer.when) p.timers })
 
 module _ {S : Type 0} (added : Extra S) where
-  went_in : (go_on : State S → Went S) → ((t : State S) → IsStateSound added t → IsCovered t.loop → IsCovered (state_of (go_on t)).loop)
-      → (w : Went S) → LeavesStateSound added w → IsCovered (state_of w).loop → IsCovered (state_of (went_on go_on w)).loop
-  went_in go_on each (Goes now) sound c = each now sound c
-  went_in go_on each (Stops end last) sound c = c
-
   state_right : (s : State S) → IsStateSound added s → IsRight s.loop
   state_right s sound = right_of s None _ sound.loop sound.blocks sound.generators
 
   module _ (keeps : KeepsSound added) where
-    next_in : (bar : ℕ) (go_on : State S → Went S) → ((t : State S) → IsStateSound added t → IsCovered t.loop → IsCovered (state_of (go_on t)).loop)
-        → (handles : List Handle) (s : State S) → s.loop.parts.pending ≡ handles → IsStateSound added s → IsCovered s.loop
-        → IsCovered (state_of (next_below step_limit added bar handles go_on s)).loop
-    next_in bar go_on each [] s e sound c = c
-    next_in bar go_on each (handle ∷ rest) s e sound c = at (nat_lt handle.stamp bar)
-      where
-        at : (b : Bool) → IsCovered (state_of (run_if step_limit added b handle rest go_on s)).loop
-        at false = c
-        at true =
-            went_in go_on each (run_first step_limit added handle rest s) (callback_in added keeps s handle rest e sound)
-            (first_in added keeps s handle rest e sound c)
-
-    below_in : (bar count : ℕ) (s : State S) → IsStateSound added s → IsCovered s.loop
-        → IsCovered (state_of (run_below step_limit added bar count s)).loop
-    unfolding run_below
-    below_in bar zero s sound c = c
-    below_in bar (suc count) s sound c =
-        next_in bar (run_below step_limit added bar count) (λ t h d. below_in bar count t h d) s.loop.parts.pending s refl sound c
-
     -- ---- a turn
     over_in : (done_before : Bool) (s : State S) → IsStateSound added s → IsCovered s.loop → IsCovered (state_of (turn_over done_before s)).loop
     over_in done_before s sound c = at (s.main_done && not done_before)
@@ -222,39 +192,27 @@ module _ {S : Type 0} (added : Extra S) where
         at : (b : Bool) → IsCovered (state_of (finished_if (finished_as (cancelled_if b s)) (cancelled_if b s))).loop
         at b = finished (finished_as (cancelled_if b s)) b
 
-    turned_in : (answer : Answer) (s : State S) → IsStateSound added s → IsCovered s.loop
-        → IsCovered (state_of (turned_by step_limit added answer s)).loop
-    turned_in answer s sound c =
+    woken_covers : (answer : Answer) (s : State S) → IsStateSound added s → IsCovered s.loop → IsCovered (unbooked_in (woken_by answer) s).loop
+    woken_covers answer s sound c =
         let woken = unbooked_in (woken_by answer) s in
         let p = at_time (time_of answer) s.loop.parts in
         let came = soon_all (news_of answer) p in
-        let it = woken_in added s answer sound in
         let later = later_then s.loop.parts p woken.loop.parts (later_same s.loop.parts p refl refl)
         (later_then p came woken.loop.parts (later_soon_all (news_of answer) p) (later_due came)) in
         let a = easy_parts s.loop woken.loop.parts later
         (same_counts s.loop.parts woken.loop.parts (due_tasks came ∙ soon_all-tasks (news_of answer) p)) in
-        went_in (turn_over s.main_done) (λ t h d. over_in s.main_done t h d) (run_pending step_limit added woken) (pending_in added keeps woken it)
-        (below_in woken.loop.parts.next_stamp (length woken.loop.parts.pending) woken it (covers s.loop woken.loop a (state_right s sound) c))
+        covers s.loop woken.loop a (state_right s sound) c
 
     turn_covers : (s : State S) → IsStateSound added s → IsCovered s.loop → IsCovered (state_of (turn step_limit added s)).loop
-    unfolding turn
-    turn_covers s sound c = unless (is_stalled added s)
-      where
-        fit : (b : Bool) (entries : List Entry) (answer : Answer)
-            → IsCovered (state_of (fitted b (call_of added s) answer (turned_by step_limit added)
-            (noted (event.Got answer) (record (noted (event.Called (call_of added s)) s) { answers = entries })))).loop
-        fit true entries answer = turned_in answer _ (noted_in added s entries (call_of added s) answer sound) c
-        fit false entries answer = c
-
-        by : (entries : List Entry)
-            → IsCovered (state_of (answered_by entries (call_of added s) (turned_by step_limit added) (noted (event.Called (call_of added s)) s))).loop
-        by [] = c
-        by (Refused line cause ∷ entries) = c
-        by (Answered answer ∷ entries) = fit (fits (call_of added s) answer) entries answer
-
-        unless : (b : Bool) → IsCovered (state_of (turn_unless step_limit added b s)).loop
-        unless true = c
-        unless false = by s.answers
+    turn_covers = turn_through added keeps (λ s t. IsCovered s.loop → IsCovered t.loop) (record {
+      same = λ s c. c;
+      next = λ s t u a b c. b (a c);
+      asked = λ call s sound c. c;
+      got = λ call answer entries s sound c. c;
+      woken = woken_covers;
+      first = λ s handle rest e sound c. first_in added keeps s handle rest e sound c;
+      over = over_in;
+    })
 
     -- ---- a run
     each_in : (each : State S → Type 0) (w : Went S) → LeavesStateSound added w → IsCovered (state_of w).loop

@@ -1,7 +1,7 @@
 -- Steps of tasks and requests schedule nothing.
-use Rattle.std.proofs.Common.{◌≡◌, ℕ, Bool, Err, List, None, Ok, Option, Result, Some, [], ap, arith, cond, false, not, refl, slice_get, slice_set, sym, true}
+use Rattle.std.proofs.Common.{◌≡◌, ℕ, Bool, List, None, Option, Some, [], ap, arith, cond, false, not, refl, slice_get, slice_set, sym, true}
 use Rattle.std.proofs.Common.{◌&&◌, ◌++◌, ◌+◌, ◌==◌, ◌∙◌, ◌∷◌, ◌<◌, ◌≤◌}
-use Rattle.model_loop.specs.Tasks.{begin_step, change_task, finish, future_of, is_marked, next_task, set_waiter, spawn, unmark}
+use Rattle.model_loop.specs.Tasks.{begin_step, change_task, is_marked, next_task, set_waiter, spawn, unmark}
 use Rattle.model_loop.specs.Futures.{is_pending, make_future, mark_asked, next_future, register, registered, registered_on, settle, settled, settled_as}
 use Rattle.model_loop.specs.Futures.{with_future}
 use Rattle.model_loop.specs.Loop.{Timeout}
@@ -10,7 +10,7 @@ use Rattle.model_loop.specs.Handles.{soon, soon_all}
 use Rattle.law_timeouts.proofs.Entries.{entries-soon, off}
 use Rattle.model_loop.specs.Suspend.{cancel_wait, suspend, suspend_unless, wait_on}
 use Rattle.model_loop.specs.Entries.{AreTimed, ends_sleep_on, entries, handles_where, timers_where, untimed}
-use Rattle.model_value.specs.Value.{Exc, Outcome, Value}
+use Rattle.model_value.specs.Value.{Outcome}
 use Rattle.model_loop.specs.Deadlines.{HasTag, entries_at, fires, fires_any, fires_as, others_as}
 use Rattle.law_settling.proofs.Looks.{asked_looks, change_looks_same, same_callbacks}
 use Rattle.model_value.specs.Action.{Action, Circle}
@@ -285,14 +285,6 @@ suspend_quiet task on p here is = at (circle p task on)
     at : (o : Option Circle) → IsQuiet p (suspend_unless o task on p).parts
     at (Some why) = soon_quiet (StepInCircle task why) p refl
     at None = marked (is_marked p task)
-
-pub finish_quiet : (task : ℕ) (end : Result Value Exc) (p : Parts) → AreCallbacks p → IsQuiet p (finish task end p)
-finish_quiet task (Err fault) p are = settle_quiet (future_of p task) _ p are
-finish_quiet task (Ok value) p are =
-    quiet_on p (unmark task p) _
-    (settle_quiet (future_of p task) _ (unmark task p)
-    (same_callbacks p (unmark task p) (change_looks_same task _ p (λ t. refl) (λ t. refl)) are))
-    (change_task_quiet task _ p)
 
 pub spawn_quiet : (p : Parts) → IsQuiet p (spawn p)
 spawn_quiet p = quiet_on p (record (make_future (OfTask (next_task p)) p) {
