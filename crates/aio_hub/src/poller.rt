@@ -1,0 +1,42 @@
+//! What polls sockets.
+ghost use Rattle.std.specs.Prelude.{◌≡◌, ◌≤◌, true, IfOk};
+ghost use Rattle.model_hub.specs.Told.{PollerSeen, is_socket};
+ghost use Rattle.aio_hub.specs.Polls.{Polls, Nets};
+
+use aio_base::Memory;
+use aio_wire::{Call, ItemList, Reply, WatchList};
+use std::alloc::Global;
+
+/// What a poll came to.
+#[derive(Drop)]
+pub enum Polled {
+    /// The time in milliseconds, and what came.
+    Ready { now: u64, items: ItemList },
+    /// The poller failed: its count of faults rose.
+    Failed,
+}
+
+/// What polls listeners, connections and added requests, and makes the calls on sockets.
+/// Source: `selectors.py`, `BaseSelector`; the library reference, `socket`.
+pub trait Poller {
+    /// The calls that it was asked and the answers that it gave, where it tells them, and how often it
+    /// failed.
+    ghost seen: { Self → PollerSeen };
+
+    /// Waits for what is watched, for at most so many milliseconds or without a bound. Want of memory
+    /// is no failure.
+    fn poll(
+        &mut self,
+        alloc: Global,
+        wait: Option<u64>,
+        watch: &WatchList,
+    ) -> Result<Polled, Memory>
+        ensures polled { IfOk result (Polls wait watch.now (seen self.old) (seen self.new)) }
+        ensures later { (seen self.old).faults ≤ (seen self.new).faults };
+
+    /// Makes a call on a socket. It never waits.
+    fn net(&mut self, alloc: Global, call: &Call) -> Result<Reply, Memory>
+        requires { is_socket call.now ≡ true }
+        ensures net { IfOk result (Nets call.now (seen self.old) (seen self.new)) }
+        ensures later { (seen self.old).faults ≤ (seen self.new).faults };
+}
