@@ -21,7 +21,7 @@ use Rattle.model_loop.specs.Tasks.{cancelling, lives, next_task, uncancel}
 use Rattle.model_machine.specs.Replies.{most_ids}
 use Rattle.law_cancel.proofs.Effects.{length-change_task, settle-tasks}
 use Rattle.law_settling.proofs.CancelSound.{settled_owns}
-use Rattle.law_settling.proofs.Looks.{asked_looks, change_looks_same, same_owns}
+use Rattle.law_settling.proofs.Looks.{change_looks_same, same_owns}
 use Rattle.law_settling.proofs.Settling.{settle_cases}
 use Rattle.law_changes.specs.Blocks.{OfRequest, cancels, keeps_asked, counts, marks}
 use Rattle.law_changes.specs.Blocks.{GroupStage, stage_of, OfGroup, changes, aborts, waits, wakes, OfEnding, in_ending, ends, OfCreating, in_creating}
@@ -30,6 +30,7 @@ use Rattle.law_changes.specs.Changes.{LoopChange, MakesFuture, OfParts, Register
 use Rattle.law_changes.proofs.Folds.{keep}
 use Rattle.law_changes.proofs.PartsRows.{each_in}
 use Rattle.law_changes.proofs.BlockRows.{abort_in, abort_where_in, create_in, heard_in, wait_or_end_in, wake_in}
+use Rattle.law_timeouts.proofs.Quiet.{asked_looks}
 use Rattle.law_told.proofs.Holding.{group_same}
 use Rattle.law_after.proofs.Exits.{exit_begin_loop, exit_woken_loop}
 use Rattle.law_after.proofs.Requests.{each_after}

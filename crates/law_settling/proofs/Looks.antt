@@ -292,11 +292,3 @@ asked_looks_same id p future e = record {
     passes j r None Plain = refl
     passes j r None (OfTask task) = refl
     passes j r None (Many members asked) = refl
-
--- whether there is such a future or not
-pub asked_looks : (id : ℕ) (p : Parts) → LooksSame p (mark_asked id p)
-asked_looks id p = at (slice_get p.futures id) refl
-  where
-    at : (o : Option Future) → slice_get p.futures id ≡ o → LooksSame p (mark_asked id p)
-    at (Some future) e = asked_looks_same id p future e
-    at None e = subst (λ o. LooksSame p (option_map_or (λ (f : Future). with_future id (asked_as f) p) o p)) (sym e) (refl_looks p)

@@ -8,7 +8,8 @@ use Rattle.law_numbers.proofs.Falling.{new_plain_numbers, spawn_numbers}
 use Rattle.model_value.specs.Value.{Exc, Nothing, Outcome}
 use Rattle.model_loop.specs.Futures.{make_future, new_plain, register, registered, registered_on, settle}
 use Rattle.model_loop.specs.Handles.{soon}
-use Rattle.law_timeouts.proofs.Quiet.{change_task_quiet, make_quiet, mark_asked_quiet, quiet_on, refl_quiet, register_quiet, settle_quiet, soon_quiet}
+use Rattle.law_timeouts.proofs.Quiet.{asked_looks, change_task_quiet, make_quiet, mark_asked_quiet, quiet_on, refl_quiet, register_quiet}
+use Rattle.law_timeouts.proofs.Quiet.{settle_quiet, soon_quiet}
 use Rattle.law_timeouts.proofs.Quiet.{spawn_quiet, taken_quiet}
 use Rattle.model_loop.specs.Groups.{begin_exit, child_done, create}
 use Rattle.model_loop.specs.Groups.{exit_begin, exit_woken, set_group}
@@ -24,13 +25,14 @@ use Rattle.model_loop.specs.Loop.{Group, Loop, book}
 use Rattle.model_loop.specs.Cancel.{cancel}
 use Rattle.model_value.specs.Action.{Action}
 use Rattle.model_loop.specs.Circles.{passes, passes_at}
-use Rattle.law_settling.proofs.Looks.{LooksSame, asked_looks, change_looks_same, same_callbacks, same_no_circle}
+use Rattle.law_settling.proofs.Looks.{LooksSame, change_looks_same, same_callbacks, same_no_circle}
 use Rattle.law_made.proofs.Passing.{no_circle_more, same_tasks_no_circle, settle_no_circle}
 use Rattle.law_cancel.proofs.Circling.{no_circle_kept, passes-same, register-view}
 use Rattle.law_timeouts.specs.Tags.{IsQuiet, is_deadline}
 use Rattle.law_settling.specs.Frames.{taken}
 use Rattle.law_changes.specs.Blocks.{OfRequest, cancels, keeps_asked, counts, marks}
-use Rattle.law_changes.specs.Blocks.{OfGroup, changes, aborts, waits, wakes, OfTold, in_told, requests, OfTaking, in_taking, takes, OfEnding, in_ending}
+use Rattle.law_changes.specs.Blocks.{OfGroup, changes, aborts, waits, wakes, OfTold, in_told, requests, OfTaking, in_taking, takes, OfEnding}
+use Rattle.law_changes.specs.Blocks.{in_ending}
 use Rattle.law_changes.specs.Blocks.{asks, ends, OfCreating, in_creating, spawns, registers}
 use Rattle.law_changes.specs.Changes.{LoopChange, PartsChange, made_of_loop, made_of_parts}
 use Rattle.law_changes.specs.Reaches.{Reaches}

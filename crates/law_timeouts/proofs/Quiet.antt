@@ -1,5 +1,5 @@
 -- Steps of tasks and requests schedule nothing.
-use Rattle.std.proofs.Common.{◌≡◌, ℕ, Bool, List, None, Option, Some, [], ap, arith, cond, false, not, refl, slice_get, slice_set, sym, true}
+use Rattle.std.proofs.Common.{◌≡◌, ℕ, Bool, List, None, Option, Some, [], ap, arith, cond, false, not, refl, slice_get, slice_set, subst, sym, true}
 use Rattle.std.proofs.Common.{◌&&◌, ◌++◌, ◌+◌, ◌==◌, ◌∙◌, ◌∷◌, ◌<◌, ◌≤◌}
 use Rattle.model_loop.specs.Tasks.{begin_step, change_task, is_marked, next_task, set_waiter, spawn, unmark}
 use Rattle.model_loop.specs.Futures.{is_pending, make_future, mark_asked, next_future, register, registered, registered_on, settle, settled, settled_as}
@@ -12,7 +12,7 @@ use Rattle.model_loop.specs.Suspend.{cancel_wait, suspend, suspend_unless, wait_
 use Rattle.model_loop.specs.Entries.{AreTimed, ends_sleep_on, entries, handles_where, timers_where, untimed}
 use Rattle.model_value.specs.Value.{Outcome}
 use Rattle.model_loop.specs.Deadlines.{HasTag, entries_at, fires, fires_any, fires_as, others_as}
-use Rattle.law_settling.proofs.Looks.{asked_looks, change_looks_same, same_callbacks}
+use Rattle.law_settling.proofs.Looks.{LooksSame, asked_looks_same, change_looks_same, refl_looks, same_callbacks}
 use Rattle.model_value.specs.Action.{Action, Circle}
 use Rattle.model_loop.specs.Circles.{circle}
 use Rattle.model_loop.specs.Parts.{Future, FutureKind, Handle, OfTask, Parts, Task}
@@ -189,6 +189,14 @@ mark_asked_quiet id p = at (slice_get p.futures id)
     at (Some future) = same_quiet p _ refl refl refl
 
 -- ---- a request
+-- whether there is such a future or not
+pub asked_looks : (id : ℕ) (p : Parts) → LooksSame p (mark_asked id p)
+asked_looks id p = at (slice_get p.futures id) refl
+  where
+    at : (o : Option Future) → slice_get p.futures id ≡ o → LooksSame p (mark_asked id p)
+    at (Some future) e = asked_looks_same id p future e
+    at None e = subst (λ o. LooksSame p (option_map_or (λ (f : Future). with_future id (asked_as f) p) o p)) (sym e) (refl_looks p)
+
 abbrev KeepsQuiet : Parts → Parts → Type 0
 KeepsQuiet p q = AreCallbacks p → AreCallbacks q × IsQuiet p q
 
