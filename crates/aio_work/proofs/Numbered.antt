@@ -1,5 +1,5 @@
 -- Texts of numbers in order, with one more at their end; a number that is drawn after others.
-use Rattle.std.proofs.Common.{◌≡◌, ℕ, zero, suc, ◌+◌, ◌*◌, ◌%◌, List, [], ◌∷◌, ◌++◌, flat_map, ap, sym, ◌∙◌, append_assoc, append-nil, add-one, add-zero, arith}
+use Rattle.std.proofs.Common.{◌≡◌, ℕ, zero, suc, ◌+◌, ◌*◌, ◌%◌, List, ◌++◌, flat_map, ap, sym, ◌∙◌, append_assoc, append-nil, add-one, add-zero, arith}
 use Rattle.model_work.specs.Work.{draw, numbers_from}
 
 pieces-push : (piece : ℕ → List ℕ) (first count : ℕ) → flat_map piece (numbers_from first (suc count))

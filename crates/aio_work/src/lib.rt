@@ -4,6 +4,8 @@
 mod journal;
 mod numbers;
 mod script;
+#[cfg(test)]
+mod tests;
 mod texts;
 
 pub use texts::work;

@@ -16,7 +16,7 @@ use Rattle.law_lines.specs.LineTexts.{line_text}
 use Rattle.law_lines.proofs.Printable.{line-allowed}
 use Rattle.law_nesting.proofs.Nested.{Nested}
 use Rattle.law_nesting.proofs.Passed.{Whole, whole}
-use Rattle.law_nesting.proofs.Parted.{forms_in, in_coroutine, part_forms, Coroutines, coroutines}
+use Rattle.law_nesting.proofs.Parted.{forms_in, in_coroutine, part_forms, AllFit, Coroutines, coroutines}
 use Rattle.law_nesting.proofs.Judged.{scope_of, LinesMean, PartMeans, PartsMean, Meaning, second-passed}
 use Rattle.law_nesting.proofs.Bodies.{lines-nested, bodies-spelled}
 use Rattle.law_canonical.specs.ProgramLines.{Indented, coroutines_lines}
@@ -124,23 +124,26 @@ own-lines meant forms written =
     ap text_lines (program-texts (program 1 meant))
     ∙ written-lines (coroutines_lines (map coroutine meant)) (written-clean forms (coroutines_lines (map coroutine meant)) written)
 
-rewritten : (parts : List (Part (Numbered Spelled))) (meant : List (Part Line)) → Coroutines parts → Meaning parts meant → Rewritten meant
-rewritten parts meant c m =
+rewritten : (parts : List (Part (Numbered Spelled))) (meant : List (Part Line)) → AllByRecursion (λ part. Nested in_coroutine part.lines) meant
+    → AllFit [] (flat_map part_forms parts) → Meaning parts meant → Rewritten meant
+rewritten parts meant nested fit m =
     let lines : List Indented = coroutines_lines (map coroutine meant) in
-    let nested : AllByRecursion (λ part. Nested in_coroutine part.lines) meant = lines-nested (map callee parts) [] parts meant c.fit m.each in
     let same : without_blocks lines ≡ flat_map part_lines meant = coroutines-again meant (bodies-spelled meant nested) in
     let written : AllZip Written (flat_map part_forms parts) (without_blocks lines) =
     subst (AllZip Written (flat_map part_forms parts)) (sym same) (parts-written (map callee parts) [] parts meant m.each) in
     record {
       forms = renumbered 1 (without_blocks lines);
-      passed = ap first_pass (own-lines meant (flat_map part_forms parts) written) ∙ replayed lines (flat_map part_forms parts) 1 [] c.forms written;
+      passed = ap first_pass (own-lines meant (flat_map part_forms parts) written) ∙ replayed lines (flat_map part_forms parts) 1 [] fit written;
       parted = parted-again (renumbered 1 (without_blocks lines)) meant nested
           (subst (Spelling (renumbered 1 (without_blocks lines))) same (renumbered-spelling 1 (without_blocks lines)));
     }
 
-spelled-again : (parts : List (Part (Numbered Spelled))) (meant : List (Part Line)) → Meaning parts meant → Rewritten meant
-    → length (canonical (program 1 meant)) ≤ most_bytes → script_of (canonical (program 1 meant)) ≡ Ok (program 1 meant)
-spelled-again parts meant m r h =
+-- Coroutines whose lines nest, fit where they stand and have these meanings are read from their canonical text.
+pub spelled-again : (parts : List (Part (Numbered Spelled))) (meant : List (Part Line)) → AllByRecursion (λ part. Nested in_coroutine part.lines) meant
+    → AllFit [] (flat_map part_forms parts) → Meaning parts meant → length (canonical (program 1 meant)) ≤ most_bytes
+    → script_of (canonical (program 1 meant)) ≡ Ok (program 1 meant)
+spelled-again parts meant nested fit m h =
+    let r : Rewritten meant = rewritten parts meant nested fit m in
     let last : ℕ = length (text_lines (canonical (program 1 meant))) + 1 in
     let a : Again last (parts_of r.forms).coroutines meant = judged-again last parts (parts_of r.forms).coroutines meant m r.parted.coroutines in
     spells (canonical (program 1 meant)) r.forms a.remade h r.passed (no-front (parts_of r.forms).front r.parted.front) a.judged
@@ -154,7 +157,7 @@ again text result s h =
     let m : Meaning parts s.meant = second-passed s.line parts s.meant c.fit (ap (second_pass s.line) (sym w.coroutines) ∙ s.judged) in
     let is : result ≡ program 1 s.meant = s.spelled ∙ ap (λ (p : ℕ). program p s.meant) w.profile in
     subst (λ (p : Program). length (canonical p) ≤ most_bytes → script_of (canonical p) ≡ Ok p) (sym is)
-    (spelled-again parts s.meant m (rewritten parts s.meant c m)) h
+    (spelled-again parts s.meant (lines-nested (map callee parts) [] parts s.meant c.fit m.each) c.forms m) h
 
 pub canonical-again : (text : List ℕ) (result : Program) → script_of text ≡ Ok result → length (canonical result) ≤ most_bytes → script_of (canonical result)
     ≡ Ok result

@@ -1,6 +1,7 @@
 //! What the definitions give. Each function has no body: its clauses are the equations.
-ghost use Rattle.std.specs.Prelude.{◌≡◌, [], ◌∷◌, length, take, drop, slice_range, codes};
-ghost use Rattle.model_work.specs.Work.{draw, group_size, delay, numbers_from, lines_text, create_text, script, arrival_text, quiet_text, journal};
+ghost use Rattle.std.specs.Prelude.{◌≡◌, [], ◌∷◌, ◌++◌, length, take, drop, slice_range, codes};
+ghost use Rattle.model_work.specs.Work.{draw, group_size, delay, numbers_from, lines_text};
+ghost use Rattle.model_work.specs.Work.{create_text, script, arrival_text, quiet_text, journal};
 
 /// The numbers that seed 0 draws.
 pub fn work_of_zero()
@@ -39,15 +40,28 @@ pub fn texts_of_work()
 /// rest.
 pub fn script_of_zero()
     ensures size { length (script 0) ≡ 6679 }
-    ensures task { take 152 (script 0) ≡ codes "def w(i, d)\n  try\n    with timeout(500) as o\n      yield from sleep(d)\n    end\n    print i, \"slept\"\n  except TimeoutError\n    print i, \"late\"\n  end\nend\n" }
-    ensures head { slice_range (script 0) 152 289 ≡ codes "def main()\n  c = yield from connect(9)\n  n = 0\n  with group as g\n    yield from create(g, w, 1, 794)\n    yield from create(g, w, 2, 886)\n" }
-    ensures rest { drop 6546 (script 0) ≡ codes "    yield from create(g, w, 171, 443)\n    while n < 300\n      b = yield from readline(c)\n      n = n + 1\n    end\n  end\n  print n\nend\n" }
+    ensures task { take 152 (script 0) ≡
+        codes "def w(i, d)\n  try\n    with timeout(500) as o\n      yield from sleep(d)\n"
+        ++ codes "    end\n    print i, \"slept\"\n  except TimeoutError\n    print i, \"late\"\n"
+        ++ codes "  end\nend\n" }
+    ensures head { slice_range (script 0) 152 289 ≡
+        codes "def main()\n  c = yield from connect(9)\n  n = 0\n  with group as g\n"
+        ++ codes "    yield from create(g, w, 1, 794)\n    yield from create(g, w, 2, 886)\n" }
+    ensures rest { drop 6546 (script 0) ≡
+        codes "    yield from create(g, w, 171, 443)\n    while n < 300\n"
+        ++ codes "      b = yield from readline(c)\n      n = n + 1\n    end\n"
+        ++ codes "  end\n  print n\nend\n" }
 {}
 
 /// The journal: the connection with the first lines, the last line with what follows, and the end.
 pub fn journal_of_work()
     ensures size { length journal ≡ 27641 }
-    ensures front { take 81 journal ≡ codes "turn 0\nconn\nturn 0 C0 up\nturn 0\nturn 1 C0 r\ndata b\"x\\n\"\nturn 2 C0 r\ndata b\"xx\\n\"\n" }
-    ensures middle { slice_range journal 16259 16349 ≡ codes "turn 300 C0 r\ndata b\"xxxxxxxxxxxxxxxxxxxxxxxxxxxxxxxxxxxxxxxxxxxxxxxxxxxxxxxx\\n\"\nturn 301\n" }
+    ensures front { take 81 journal ≡
+        codes "turn 0\nconn\nturn 0 C0 up\nturn 0\n"
+        ++ codes "turn 1 C0 r\ndata b\"x\\n\"\nturn 2 C0 r\ndata b\"xx\\n\"\n" }
+    ensures middle { slice_range journal 16259 16349 ≡
+        codes "turn 300 C0 r\n"
+        ++ codes "data b\"xxxxxxxxxxxxxxxxxxxxxxxxxxxxxxxxxxxxxxxxxxxxxxxxxxxxxxxx\\n\"\n"
+        ++ codes "turn 301\n" }
     ensures end { drop 27611 journal ≡ codes "turn 1498\nturn 1499\nturn 1500\n" }
 {}

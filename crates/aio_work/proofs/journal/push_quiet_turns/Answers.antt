@@ -1,4 +1,4 @@
-use Rattle.std.proofs.Common.{◌≡◌, ◌+◌, ◌++◌, ap, ◌∙◌, refl}
+use Rattle.std.proofs.Common.{◌+◌, ◌++◌, ap, ◌∙◌, refl}
 use Rattle.model_work.specs.Work.{quiet_text}
 use Rattle.aio_work.proofs.Numbered.{pieces-none, pieces-next}
 use Rattle.aio_work.proofs.journal.push_quiet_turns.Goals as goal

@@ -1,5 +1,5 @@
 use Rattle.std.proofs.Common.{◌≡◌, ℕ, ◌+◌, ◌*◌, ◌%◌, List, ◌++◌, flat_map, ap, sym, ◌∙◌, arith}
-use Rattle.model_work.specs.Work.{draw, delay, numbers_from, create_text}
+use Rattle.model_work.specs.Work.{delay, numbers_from, create_text}
 use Rattle.aio_work.proofs.Numbered.{pieces-none, pieces-next, draw-next}
 use Rattle.aio_work.proofs.script.push_creating.Goals as goal
 
