@@ -1,0 +1,35 @@
+-- What a roster is.
+use Rattle.std.specs.Prelude.{◌≡◌, ℕ, ◌≤◌, true, List, Option, Some, None, is_some, slice_get}
+use Rattle.model_hub.specs.declared.child.Child.{Child}
+use Rattle.model_hub.specs.Children.{pump_of}
+
+-- no count of a child passes this number
+abbrev pub IsShort : ℕ → Child → Type 0
+IsShort most child = (child.out.pieces ≤ most) × (child.errs.pieces ≤ most) × (child.rooms ≤ most)
+
+-- who a child is, whatever it noted
+pub record IsSameChild (old new : Child) : Type 0 where
+  pub number : new.number ≡ old.number
+  pub seats : new.seats ≡ old.seats
+  pub stay : new.stay ≡ old.stay
+
+-- The children by number; for each seat the child to which it is lent, if any; and how many posts were noted.
+pub record IsRoster (children : List Child) (holders : List (Option ℕ)) (noted : ℕ) : Type 0 where
+  pub numbered : (n : ℕ) (child : Child) → slice_get children n ≡ Some child → child.number ≡ n
+  pub held : (n seat : ℕ) (child : Child) → slice_get children n ≡ Some child → is_some (pump_of seat child) ≡ true
+      → slice_get holders seat ≡ Some (Some n)
+  pub short : (n : ℕ) (child : Child) → slice_get children n ≡ Some child → IsShort noted child
+
+-- what is seen of a roster
+pub record RosterSeen : Type 0 where
+  pub children : List Child
+  pub noted : ℕ
+
+-- nobody has this seat
+abbrev pub IsFree : ℕ → List Child → Type 0
+IsFree seat children = (n : ℕ) (child : Child) → slice_get children n ≡ Some child → pump_of seat child ≡ None
+
+-- nobody else has it
+abbrev pub IsHis : ℕ → List Child → ℕ → Type 0
+IsHis seat children number =
+    (n : ℕ) (child : Child) → slice_get children n ≡ Some child → (n ≡ number → ⊥) → pump_of seat child ≡ None
