@@ -13,8 +13,8 @@ use std::sync::Wait;
 use std::thread;
 use std::thread::Threads;
 
-/// Each poster posts so often while the taker takes. Then all posters are settled, and what was taken of each seat is what was
-/// posted on it.
+/// Each poster posts so often while the taker takes. Then all posters are settled, and what was taken
+/// of each seat is what was posted on it.
 pub fn exchange<N: InboxName + Send + Sync, R: Threads + Wait + Sync>(
     rt: &R,
     alloc: Global,
@@ -87,6 +87,7 @@ fn post_side<N: InboxName + Send + Sync, R: Threads + Wait + Sync>(
     Ok(thread::map_vec(rt, posters, &|poster| post_all(rt, inbox, poster, posts))?)
 }
 
+/// Gives all posters back.
 fn settle_all<N: InboxName, R>(
     rt: &R,
     inbox: &Inbox<N>,

@@ -1,4 +1,5 @@
-//! Posters that threads own. Of what such a thread gives back only the type is known, and that is enough.
+//! Posters that threads own. Of what such a thread gives back only the type is known, and that is
+//! enough.
 ghost use Rattle.std.specs.Prelude.{◌≡◌};
 ghost use Rattle.aio_inbox.specs.Naming.{table_of};
 
@@ -21,7 +22,8 @@ fn fill<N: InboxName, R: Wait>(rt: &R, inbox: &Inbox<N>, mut poster: Poster<N>) 
     poster
 }
 
-/// A thread fills the inbox, a second one finds it full, and both posters come back. As many posts are taken as the inbox holds.
+/// A thread fills the inbox, a second one finds it full, and both posters come back. As many posts
+/// are taken as the inbox holds.
 pub fn lend<N, R>(rt: R, alloc: Global, unnamed: UnnamedInbox) -> Result<bool, Memory>
 where
     N: InboxName + Send + Sync + 'static,

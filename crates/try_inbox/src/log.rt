@@ -4,7 +4,8 @@ use aio_base::Memory;
 use aio_inbox::{Post, PostKind};
 use std::alloc::Global;
 
-/// The number that comes next on each seat, how many posts came, and whether each was the one that was due.
+/// The number that comes next on each seat, how many posts came, and whether each was the one that
+/// was due.
 #[derive(Drop)]
 pub struct Log {
     next: Vec<u32>,

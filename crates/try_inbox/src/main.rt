@@ -1,5 +1,6 @@
-//! Posts and takes between threads. With no words it runs worked cases and prints a line for each: its name, and whether all
-//! came out as it must. With two words, a number of posts and one of posters, it only has each of so many posters post so often.
+//! Posts and takes between threads. With no words it runs worked cases and prints a line for each:
+//! its name, and whether all came out as it must. With two words, a number of posts and one of
+//! posters, it only has each of so many posters post so often.
 #![tactic(auto)]
 
 ghost use Rattle.std.specs.Prelude.{◌≤◌, IfSome};

@@ -7,8 +7,8 @@ use aio_inbox::{Inbox, InboxName, PostKind, Posting, UnnamedInbox};
 use std::alloc::Global;
 use std::sync::Wait;
 
-/// 1,024 posts of seat 0 are posted, and the next, of seat 1, finds the inbox full and comes back. After one take, of seat 0's
-/// number 0, it is posted as seat 1's number 0, and comes last.
+/// 1,024 posts of seat 0 are posted, and the next, of seat 1, finds the inbox full and comes back.
+/// After one take, of seat 0's number 0, it is posted as seat 1's number 0, and comes last.
 pub fn two_seats<N: InboxName, R: Wait>(
     rt: &R,
     alloc: Global,
