@@ -1,5 +1,5 @@
 -- An input, and then moves until something is asked or said.
-use Rattle.std.proofs.Common.{◌≡◌, ℕ, ◌-◌, List, [], ◌∷◌, ◌++◌, None, length, map, reverse, sym, subst, ap, ◌∙◌, append-nil}
+use Rattle.std.proofs.Common.{◌≡◌, ℕ, ◌-◌, List, [], ◌∷◌, ◌++◌, Option, Some, None, length, map, reverse, sym, subst, ap, ◌∙◌, append-nil}
 use Rattle.model_value.specs.declared.request.Request.TheVariants as request
 use Rattle.model_value.specs.Request.{Request}
 use Rattle.model_value.specs.Value.{Value}
@@ -18,6 +18,12 @@ use Rattle.law_flat.specs.Stands.{AllLaidOut}
 use Rattle.law_flat.specs.Tapes.{Waiting, way_of, after_input, renewed_by, MovesFor, WaitsFor, ComesTo}
 use Rattle.law_flat.proofs.Tapes.{input-moves, waits-says, unbegun-waits}
 use Rattle.aio_gen.specs.declared.frames.Frame.{Frame}
+use Rattle.aio_gen.specs.declared.generator.GenOut.{GenOut}
+use Rattle.aio_gen.specs.declared.generator.GenOut.TheVariants.{Asks, Returns, Raises, Runaway}
+use Rattle.aio_gen.specs.declared.generator.Waiting as code
+use Rattle.aio_flat.specs.declared.code.Code.{Code}
+use Rattle.aio_flat.specs.Code.{codes_of}
+use Rattle.aio_gen.specs.Gens.{SaysAfter, StandsAt, plain_waiting, saying_of_out}
 use Rattle.aio_gen.specs.Plain.{plain_frame}
 
 module _ (program : Program) (codes : ℕ → CoroutineCode) (coroutine : ℕ) (arguments : List Value) (tape : Tape) where
@@ -49,6 +55,25 @@ module _ (program : Program) (codes : ℕ → CoroutineCode) (coroutine : ℕ) (
   asks-so request waiting waits =
       sym (says-same program coroutine arguments tape)
       ∙ waits-says step_limit numbered codes coroutine arguments tape request waiting waits
+
+  -- by what was said, and what waits then
+  pub out-says : (out : GenOut) (next : Option code.Waiting) → SaysAfter step_limit numbered codes coroutine arguments tape out next →
+      says program coroutine arguments tape ≡ saying_of_out out
+  out-says (Asks request) (Some waiting) after = asks-so request (plain_waiting waiting) after
+  out-says (Asks request) None after = absurd after
+  out-says (Returns value) next after = says-so (endings.Returns value) after
+  out-says (Raises fault) next after = says-so (endings.Raises fault) after
+  out-says Runaway next after = says-so endings.Runaway after
+
+-- what waits then stands for the coroutine
+pub out-stands : (program : Program) (held : Code) (coroutine : ℕ) (arguments : List Value) (tape : Tape) (out : GenOut) (next : Option code.Waiting)
+    (request : Request) → out ≡ Asks request → SaysAfter step_limit (numbered_program program) (codes_of held) coroutine arguments tape out next →
+    StandsAt program held coroutine arguments tape next
+out-stands program held coroutine arguments tape (Asks asked) (Some waiting) request e after = (asked, after)
+out-stands program held coroutine arguments tape (Asks asked) None request e after = absurd after
+out-stands program held coroutine arguments tape (Returns value) next request e after = absurd (cc e)
+out-stands program held coroutine arguments tape (Raises fault) next request e after = absurd (cc e)
+out-stands program held coroutine arguments tape Runaway next request e after = absurd (cc e)
 
 -- before any input
 pub starts : (program : Program) (codes : ℕ → CoroutineCode) (coroutine : ℕ) (arguments : List Value) → AllLaidOut program codes →

@@ -8,7 +8,9 @@ use Rattle.model_says.specs.Endings as endings
 use Rattle.model_says.specs.Says.{step_limit}
 use Rattle.law_locals.specs.Numbered.{numbered_program}
 use Rattle.law_flat.specs.Tapes as plain
-use Rattle.law_flat.specs.Tapes.{WaitsFor}
+use Rattle.law_flat.specs.Moves.{Says}
+use Rattle.law_flat.specs.Ops.{CoroutineCode}
+use Rattle.law_flat.specs.Tapes.{ComesTo, WaitsFor}
 use Rattle.aio_flat.specs.declared.code.Code.{Code}
 use Rattle.aio_flat.specs.Code.{codes_of}
 use Rattle.aio_gen.specs.declared.generator.GenOut.{GenOut}
@@ -37,6 +39,18 @@ StandsAt program code coroutine arguments tape (Some waiting) =
 
 abbrev pub StandsFor : Program → Code → (coroutine : ℕ) → (arguments : List Value) → Tape → Gen → Type 0
 StandsFor program code coroutine arguments tape gen = StandsAt program code coroutine arguments tape gen.waiting
+
+-- What is said after moves, and what waits then, is what the coroutine says after its tape, whatever comes after.
+abbrev pub SaysAfter : (limit : ℕ) → Program → (codes : ℕ → CoroutineCode) → (coroutine : ℕ) → (arguments : List Value) → Tape → GenOut
+    → Option Waiting → Type 0
+SaysAfter limit program codes coroutine arguments tape (Asks request) (Some waiting) =
+    WaitsFor limit program codes coroutine arguments tape request (plain_waiting waiting)
+SaysAfter limit program codes coroutine arguments tape (Asks request) None = ⊥
+SaysAfter limit program codes coroutine arguments tape (Returns value) next =
+    ComesTo limit program codes coroutine arguments tape (Says (endings.Returns value))
+SaysAfter limit program codes coroutine arguments tape (Raises fault) next =
+    ComesTo limit program codes coroutine arguments tape (Says (endings.Raises fault))
+SaysAfter limit program codes coroutine arguments tape Runaway next = ComesTo limit program codes coroutine arguments tape (Says endings.Runaway)
 
 -- memory was refused, or the coroutine has returned, raised or run away
 abbrev pub IsOver : Gen → Type 0

@@ -8,8 +8,6 @@ use Rattle.model_says.specs.Requests.{bad_argument}
 use Rattle.law_flat.specs.Moves as plain
 use Rattle.aio_gen.specs.declared.frames.Frame.{Frame}
 use Rattle.aio_gen.specs.declared.frames.Frames.{Frames}
-use Rattle.aio_gen.specs.declared.types.LastMove.{LastMove}
-use Rattle.aio_gen.specs.declared.types.LastMove.TheVariants as stop
 use Rattle.aio_gen.specs.declared.types.Move.{Move}
 use Rattle.aio_gen.specs.declared.types.Move.TheVariants.{Goes, Asks, Returns, Raises, Runaway}
 
@@ -51,9 +49,3 @@ exit_request false = request.TimeoutExit
 -- a variable's first value
 abbrev pub value_at : List Value → ℕ → Value
 value_at values at = unwrap_or (slice_get values at) Nothing
-
-abbrev pub plain_stop : LastMove → Frames → plain.Move
-plain_stop (stop.Asks request use_of) frames = plain.Asks request use_of (plain_frames frames)
-plain_stop (stop.Returns value) frames = plain.Says (endings.Returns value)
-plain_stop (stop.Raises fault) frames = plain.Says (endings.Raises fault)
-plain_stop stop.Runaway frames = plain.Says endings.Runaway

@@ -13,7 +13,7 @@ use crate::calls::new_frame;
 use crate::frames::Frames;
 use crate::inputs::STEP_LIMIT;
 use crate::run::run;
-use crate::types::{AnswerUse, LastMove};
+use crate::types::AnswerUse;
 use aio_base::{Exc, Input, Memory, Request, Value};
 use aio_flat::Code;
 use std::alloc::Global;
@@ -134,13 +134,5 @@ fn resumed(
     let Waiting { mut frames, use_of } = waiting;
     frames.renew(fresh);
     let way = frames.take_input(input, use_of)?;
-    match run(alloc, code, way, &mut frames)? {
-        LastMove::Asks(request, use_of) => {
-            let next = Some(Waiting { frames, use_of });
-            Ok((GenOut::Asks(request), next))
-        }
-        LastMove::Returns(value) => Ok((GenOut::Returns(value), None)),
-        LastMove::Raises(fault) => Ok((GenOut::Raises(fault), None)),
-        LastMove::Runaway => Ok((GenOut::Runaway, None)),
-    }
+    run(alloc, code, way, frames)
 }

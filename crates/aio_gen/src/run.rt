@@ -5,13 +5,15 @@ ghost use Rattle.model_tree.specs.Syntax.{Program};
 ghost use Rattle.model_says.specs.Tape.{Tape};
 ghost use Rattle.law_flat.specs.Moves.{move_of};
 ghost use Rattle.law_flat.specs.Stands.{AllLaidOut};
-ghost use Rattle.law_flat.specs.Tapes.{MovesFor, ComesTo};
+ghost use Rattle.law_flat.specs.Tapes.{MovesFor};
 ghost use Rattle.aio_flat.specs.Code.{codes_of, plain_body};
-ghost use Rattle.aio_gen.specs.Plain.{plain_frames, plain_move, plain_stop};
+ghost use Rattle.aio_gen.specs.Gens.{SaysAfter};
+ghost use Rattle.aio_gen.specs.Plain.{plain_frames, plain_move};
 
 use crate::calls::body_at;
 use crate::frames::Frames;
-use crate::types::{LastMove, Move, Way};
+use crate::generator::{GenOut, Waiting};
+use crate::types::{Move, Way};
 use aio_base::Memory;
 use aio_flat::{Code, FlatBody, Name};
 use std::alloc::Global;
@@ -42,26 +44,33 @@ fn nothing(alloc: Global) -> Result<FlatBody, Memory>
     })
 }
 
-/// Runs until something is asked or said: what the coroutine does after each tape that the frames
-/// stand for.
-pub fn run(alloc: Global, code: &Code, entry: Way, frames: &mut Frames) -> Result<LastMove, Memory>
-    ensures { IfOk result (λ stop.
+/// Runs until something is asked or said: what the coroutine says after each tape that the frames
+/// stand for, and what waits for the answer.
+pub fn run(
+    alloc: Global,
+    code: &Code,
+    entry: Way,
+    frames: Frames,
+) -> Result<(GenOut, Option<Waiting>), Memory>
+    ensures { IfOk result (λ made.
         (limit : ℕ) (program : Program) (coroutine : ℕ) (arguments : List PlainValue)
         (tape : Tape) →
         AllLaidOut program (codes_of code.now) →
         MovesFor limit program (codes_of code.now) coroutine arguments tape entry
-        (plain_frames frames.old) →
-        ComesTo limit program (codes_of code.now) coroutine arguments tape
-        (plain_stop stop frames.new)) }
+        (plain_frames frames) →
+        SaysAfter limit program (codes_of code.now) coroutine arguments tape made.0 made.1) }
 {
+    let mut frames = frames;
     let mut way = entry;
     loop {
-        match step_in(alloc, code, way, frames)? {
+        match step_in(alloc, code, way, &mut frames)? {
             Move::Goes(next) => way = next,
-            Move::Asks(request, use_of) => return Ok(LastMove::Asks(request, use_of)),
-            Move::Returns(value) => return Ok(LastMove::Returns(value)),
-            Move::Raises(fault) => return Ok(LastMove::Raises(fault)),
-            Move::Runaway => return Ok(LastMove::Runaway),
+            Move::Asks(request, use_of) => {
+                return Ok((GenOut::Asks(request), Some(Waiting { frames, use_of })));
+            }
+            Move::Returns(value) => return Ok((GenOut::Returns(value), None)),
+            Move::Raises(fault) => return Ok((GenOut::Raises(fault), None)),
+            Move::Runaway => return Ok((GenOut::Runaway, None)),
         }
     }
 }

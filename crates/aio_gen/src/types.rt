@@ -20,12 +20,3 @@ pub enum Move {
     Raises(Exc),
     Runaway,
 }
-
-/// What moves come to in the end.
-#[derive(Drop)]
-pub enum LastMove {
-    Asks(Request, AnswerUse),
-    Returns(Value),
-    Raises(Exc),
-    Runaway,
-}

@@ -11,12 +11,12 @@ use Rattle.aio_gen.proofs.Running.{size_of}
 use Rattle.aio_gen.proofs.run.run.Given as goal
 
 -- the frames stand for each tape that they stood for
-abbrev pub invariant-loop-next : goal.invariant-loop-next
-invariant-loop-next l =
+abbrev pub invariant-loop-frames : goal.invariant-loop-frames
+invariant-loop-frames l =
     (limit : ℕ) (program : Program) (coroutine : ℕ) (arguments : List Value) (tape : Tape) →
     AllLaidOut program (codes_of l.fn.code) →
     MovesFor limit program (codes_of l.fn.code) coroutine arguments tape l.fn.entry (plain_frames l.fn.frames) →
     MovesFor limit program (codes_of l.code) coroutine arguments tape l.way (plain_frames l.frames)
 
-abbrev pub decreases-loop-next : goal.decreases-loop-next
-decreases-loop-next l = distance (size_of l.code.bodies.items) (plain_frames l.frames)
+abbrev pub decreases-loop-frames : goal.decreases-loop-frames
+decreases-loop-frames l = distance (size_of l.code.bodies.items) (plain_frames l.frames)
