@@ -29,6 +29,10 @@ use Rattle.aio_body.specs.declared.standing.Slot.{Slot}
 use Rattle.aio_body.specs.declared.standing.Standing.{Standing}
 use Rattle.aio_body.specs.declared.standing.Standing.TheVariants.{Asked, Sleeping, Leaving, Serving}
 
+-- The profile that a program runs by: its own. The parts have a byte for it.
+abbrev pub profile_of : Program → ℕ
+profile_of program = min program.profile (2 ^ 8 - 1)
+
 -- The future of a sleep, which nobody else waits for: no script names it, and it is no own one of what is added. `sleeper` is
 -- the task that sleeps, if it does still.
 pub record IsOwnSleep (p : Parts) (named : ℕ → Type 0) (sleeper : Option ℕ) (id : ℕ) : Type 0 where
@@ -90,6 +94,7 @@ holding coroutine c = record c { coroutine = Some coroutine }
 pub record Stands {X : Type 0} {a : Added X} (out : Option ℕ) (c : Setting a) (body : Body X) (s : State a.Kept) : Type 0 where
   pub ties : Ties
   pub code : IsCodeOf s.program body.code
+  pub profile : body.parts.profile ≡ profile_of s.program
   pub keeps : Keeps ties body.parts s.loop.parts
   pub left : length body.parts.queue.below ≡ c.left
   pub bar : ties.bar ≡ c.bar

@@ -34,7 +34,9 @@ use Rattle.law_body.proofs.Noting.{counted, stands_noted, telling_changes}
 use Rattle.aio_core.specs.declared.went.Went as code
 use Rattle.aio_core.specs.declared.went.Went.TheVariants as went
 use Rattle.aio_core.specs.Turning.{AliveIfWent, ComesTo, EndsFrom, EndsTelling, Is, IsAlive, IsAtRest, NoneLeft, OfFailing, StallsAs, Stood, Turned}
-use Rattle.aio_core.specs.Turning.{UnlessFailed, all_below, at_bar, resting, stood_by}
+use Rattle.aio_core.specs.Turning.{UnlessFailed, all_below, at_bar, changed_by, resting, stood_by}
+use Rattle.aio_core.specs.Asked.{Asks}
+use Rattle.aio_core.proofs.Asked.{asks_replied, noted_by}
 
 -- ---- the machine
 turn_asks : {S : Type 0} (added : Extra S) (s : State S) → is_stalled added s ≡ false
@@ -85,7 +87,7 @@ module _ {X : Type 0} {a : Added X} (old : Body X) (call : Call)
       ap (λ es. es ++ event.Called call ∷ []) told ∙ append_assoc past old.events.events (event.Called call ∷ [])
       ∙ ap (λ (l : EventList). past ++ l.events) (sym e)
 
-  told_got : (past : List Event) (s : State a.Kept) (answer : Answer) (rest : List Entry) (events : EventList) → s.events ≡ past ++ old.events.events
+  pub told_got : (past : List Event) (s : State a.Kept) (answer : Answer) (rest : List Entry) (events : EventList) → s.events ≡ past ++ old.events.events
       → events ≡ pushed (pushed old.events (event.Called call)) (event.Got answer) → (got_at call answer rest s).events ≡ past ++ events.events
   told_got past s answer rest events told e =
       ap (λ es. es ++ event.Got answer ∷ []) (told_call past [] rest s (pushed old.events (event.Called call)) told refl)
@@ -105,11 +107,11 @@ module _ {X : Type 0} {a : Added X} (old : Body X) (call : Call)
     }
 
     stops_over : Replied call before after reply.Over → events ≡ pushed old.events (event.Called call) → (new : Stood a.Kept)
-        → ComesTo a.meaning before.left after.left before.faults after.faults (stood_by a old) new events.events (went.Stopped (stop.Over call))
+        → ComesTo a.meaning before after (record { old = stood_by a old; new = new; untaken = events.events }) (went.Stopped (stop.Over call))
     stops_over replied e new = ([], (replied.left.0, ends_over e))
 
     stops_bad : (fault : JournalFault) → Replied call before after (reply.Bad fault) → events ≡ pushed old.events (event.Called call) → (new : Stood a.Kept)
-        → ComesTo a.meaning before.left after.left before.faults after.faults (stood_by a old) new events.events (went.Stopped (stop.Bad fault))
+        → ComesTo a.meaning before after (record { old = stood_by a old; new = new; untaken = events.events }) (went.Stopped (stop.Bad fault))
     stops_bad fault replied e new = (
       [],
       (
@@ -125,12 +127,12 @@ module _ {X : Type 0} {a : Added X} (old : Body X) (call : Call)
     )
 
     stops_failed : Replied call before after reply.Failed → events ≡ pushed old.events (event.Called call) → (new : Stood a.Kept)
-        → ComesTo a.meaning before.left after.left before.faults after.faults (stood_by a old) new events.events (went.Stopped (stop.Failed call))
+        → ComesTo a.meaning before after (record { old = stood_by a old; new = new; untaken = events.events }) (went.Stopped (stop.Failed call))
     stops_failed replied e new = ([], (replied.left, ends_over e, replied.failed))
 
     stops_misfit : (answer : Answer) → Replied call before after (reply.Got answer)
         → events ≡ pushed (pushed old.events (event.Called call)) (event.Got answer) → fits call answer ≡ false → (new : Stood a.Kept)
-        → ComesTo a.meaning before.left after.left before.faults after.faults (stood_by a old) new events.events
+        → ComesTo a.meaning before after (record { old = stood_by a old; new = new; untaken = events.events })
         (went.Stopped (stop.Mismatch events.answers call))
     stops_misfit answer replied e misfits new = (
       answer ∷ [],
@@ -160,9 +162,9 @@ module _ {X : Type 0} {a : Added X} (old : Body X) (call : Call)
         → ((said : Reply) × Exchanges call old.events events result said × Replied call before after said)
         ⊎ (StopsShort old.events events result × MayHaveReplied call before after)
         → (new : Stood a.Kept)
-        → ComesTo a.meaning before.left after.left before.faults after.faults (stood_by a old) new events.events (went.Stopped why)
+        → ComesTo a.meaning before after (record { old = stood_by a old; new = new; untaken = events.events }) (went.Stopped why)
     stops_so result why e (inr short) new =
-        subst (λ w. ComesTo a.meaning before.left after.left before.faults after.faults (stood_by a old) new events.events (went.Stopped w))
+        subst (λ w. ComesTo a.meaning before after (record { old = stood_by a old; new = new; untaken = events.events }) (went.Stopped w))
         (err_same stop.Memory why (sym short.0.0 ∙ e)) tt
       where
         err_same : (a b : Stop) → ◌≡◌ {A = Result Answer Stop} (Err a) (Err b) → a ≡ b
@@ -170,7 +172,7 @@ module _ {X : Type 0} {a : Added X} (old : Body X) (call : Call)
     stops_so result why e (inl (said, exchanged, replied)) new = at said exchanged replied
       where
         Comes : Stop → Type 0
-        Comes w = ComesTo a.meaning before.left after.left before.faults after.faults (stood_by a old) new events.events (went.Stopped w)
+        Comes w = ComesTo a.meaning before after (record { old = stood_by a old; new = new; untaken = events.events }) (went.Stopped w)
 
         err_same : (a b : Stop) → ◌≡◌ {A = Result Answer Stop} (Err a) (Err b) → a ≡ b
         err_same a b e = cc
@@ -194,6 +196,7 @@ module _ {X : Type 0} {a : Added X} (old : Body X) (call : Call)
     pub is_fit : fits call answer ≡ true
     pub was_left : (rest : List Entry) → Agrees after.left rest → Agrees before.left (Answered answer ∷ rest)
     pub is_noted : events ≡ pushed (pushed old.events (event.Called call)) (event.Got answer)
+    pub is_asked : Asks (noted_by call (reply.Got answer)) before after
 
   pub got_so : (result : Result Answer Stop) (answer : Answer) (events : EventList) (before after : WireSeen) → result ≡ Ok answer
       → ((said : Reply) × Exchanges call old.events events result said × Replied call before after said)
@@ -207,7 +210,12 @@ module _ {X : Type 0} {a : Added X} (old : Body X) (call : Call)
           → HasGot answer events before after
       fit it false f r es replied = absurd (let x = sym r ∙ e in cc)
       fit it true f r es replied =
-          subst (λ a. HasGot a events before after) (ok_same it answer (sym r ∙ e)) (record { is_fit = f; was_left = replied.left; is_noted = es })
+          subst (λ a. HasGot a events before after) (ok_same it answer (sym r ∙ e)) (record {
+            is_fit = f;
+            was_left = replied.left;
+            is_noted = es;
+            is_asked = asks_replied call (reply.Got it) before after replied;
+          })
         where
           ok_same : (a b : Answer) → ◌≡◌ {A = Result Answer Stop} (Ok a) (Ok b) → a ≡ b
           ok_same a b e = cc
@@ -219,7 +227,7 @@ module _ {X : Type 0} {a : Added X} (old : Body X) (call : Call)
       at reply.Failed x replied = absurd (let y = sym x.1 ∙ e in cc)
 
   -- what is stood for then
-  got_between : (answer : Answer) (events : EventList) → events ≡ pushed (pushed old.events (event.Called call)) (event.Got answer)
+  pub got_between : (answer : Answer) (events : EventList) → events ≡ pushed (pushed old.events (event.Called call)) (event.Got answer)
       → (c : Setting a) (s : State a.Kept) (rest : List Entry) → IsBetween c old s
       → IsBetween (record c { answers = rest }) (record old { events = events }) (got_at call answer rest s)
   got_between answer events e c s rest h = record {
@@ -250,11 +258,11 @@ module _ {X : Type 0} {a : Added X} (old : Body X) (call : Call)
         (c : Setting a) (s : State a.Kept) → IsBetween c (record old { events = events }) s
         → Turned (at_bar (all_below c (unbooked_in (woken_by answer) s))) new it (turned_by step_limit a.meaning answer s)
 
-    none_stalled : (c : Setting a) (w : Went a.Kept) → Turned c new went.Stalled w → ⊥
+    pub none_stalled : (c : Setting a) (w : Went a.Kept) → Turned c new went.Stalled w → ⊥
     none_stalled c (Goes now) t = t
     none_stalled c (Stops how last) t = t
 
-    none_stopped : (why : Stop) (c : Setting a) (w : Went a.Kept) → Turned c new (went.Stopped why) w → ⊥
+    pub none_stopped : (why : Stop) (c : Setting a) (w : Went a.Kept) → Turned c new (went.Stopped why) w → ⊥
     none_stopped why c (Goes now) t = t
     none_stopped why c (Stops how last) t = t
 
@@ -275,7 +283,7 @@ module _ {X : Type 0} {a : Added X} (old : Body X) (call : Call)
         (got_between answer events got.is_noted (resting a past (Answered answer ∷ rest) h.0) s rest h.1))
 
     pub comes_so : IsAlive a (record old { events = events })
-        → ComesTo a.meaning before.left after.left before.faults after.faults (stood_by a old) (stood_by a new) new.events.events said
+        → ComesTo a.meaning before after (changed_by a old new) said
     comes_so alive = at said (λ past rest s h. turned_at past rest s h) does
       where
         goes_at : (past : List Event) (rest : List Entry) (bar : ℕ) (w : Went a.Kept) → Turned (resting a past rest bar) new went.Went w
@@ -301,7 +309,7 @@ module _ {X : Type 0} {a : Added X} (old : Body X) (call : Call)
             → Turned (resting a past rest (barred past rest s)) new it (turn step_limit a.meaning s)
 
         at : (it : code.Went) → Each it → Does it
-            → ComesTo a.meaning before.left after.left before.faults after.faults (stood_by a old) (stood_by a new) new.events.events it
+            → ComesTo a.meaning before after (changed_by a old new) it
         at went.Went each both = (
           answer ∷ [],
           (
@@ -359,14 +367,14 @@ module _ {X : Type 0} {a : Added X} (old : Body X) (call : Call)
 
     -- what a turn with this answer comes to
     pub turned_so : IsAlive a (record old { events = events })
-        → ComesTo a.meaning before.left after.left before.faults after.faults (stood_by a old) (stood_by a new) new.events.events said
+        → ComesTo a.meaning before after (changed_by a old new) said
         × StallsAs false said × AliveIfWent a said new
     turned_so alive = (comes_so alive, stalls_after alive, alive_after alive)
 
 module _ {X : Type 0} {a : Added X} where
   -- ---- a turn that is stalled
   pub stalls_so : (old : Body X) (seen : WireSeen) → ((c : Setting a) (s : State a.Kept) → IsBetween c old s → true ≡ is_stalled a.meaning s)
-      → ComesTo a.meaning seen.left seen.left seen.faults seen.faults (stood_by a old) (stood_by a old) old.events.events went.Stalled
+      → ComesTo a.meaning seen seen (changed_by a old old) went.Stalled
   stalls_so old seen is = (
     refl,
     λ past rest s any h. record {

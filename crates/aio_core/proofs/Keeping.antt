@@ -1,12 +1,10 @@
 -- A kernel's turn by its body's.
-use Rattle.std.proofs.Common.{◌≡◌, inl, ℕ, List, [], ◌++◌, Option, Some, None, ◌∙◌, refl, sym, ap, subst, append-nil}
+use Rattle.std.proofs.Common.{◌≡◌, inl, List, [], ◌++◌, Option, Some, None, ◌∙◌, refl, sym, ap, subst, append-nil}
 use Rattle.std.proofs.Math.Logic.{∥∥₁_elim, ∥∥₁_map, ∥∥₁_prop}
 use Rattle.std.specs.Prelude.{IfSome}
-use Rattle.model_wire.specs.Call.{Answer}
 use Rattle.model_wire.specs.Event.{Event}
 use Rattle.model_wire.specs.Journal.{Entry}
 use Rattle.model_wire.specs.Told.{WireSeen}
-use Rattle.model_wire.specs.Trace.{End}
 use Rattle.model_machine.specs.State.{State}
 use Rattle.model_machine.specs.Turn.{is_stalled}
 use Rattle.aio_wire.specs.EventList.{EventList}
@@ -19,22 +17,17 @@ use Rattle.aio_core.specs.declared.kernel.Kernel.{Kernel}
 use Rattle.aio_core.specs.declared.went.Went as code
 use Rattle.aio_core.specs.declared.went.Went.TheVariants as went
 use Rattle.aio_core.specs.Again.{Again, IsKept}
-use Rattle.aio_core.specs.Turned.{KeepsEnd, StandsFor, TurnedBy, ended, stood_for, untaken}
-use Rattle.aio_core.specs.Turning.{AliveIfWent, AliveUnless, ComesTo, EndsFrom, IsAlive, IsAtRest, OfFailing, StallsAs, UnlessFailed, resting, stood_by}
+use Rattle.aio_core.specs.Turned.{KeepsEnd, StandsFor, TurnedBy, TurnsTo, WireTurn, ended, untaken}
+use Rattle.aio_core.specs.Turning.{AliveIfWent, AliveUnless, AsksBy, ComesTo, IsAlive, IsAtRest, OfFailing, StallsAs, UnlessFailed, changed_by, resting}
 
 module _ {X : Type 0} {a : Added X} where
   pub stands_up : {g : _} (past : List Event) (left : List Entry) (kernel : Kernel X g) (s : State a.Kept) → ended kernel ≡ None
       → IsAtRest a past left kernel.body s → StandsFor a past left kernel s
   stands_up past left kernel s goes h = record { events = h.1.stands.events; answers = h.1.stands.rest; goes = goes; rests = h }
 
-module _ {X : Type 0} (a : Added X) {g : _} (old new : Kernel X g) (before after : Option (List Entry)) (was is : ℕ) where
-  ends_up : (had : List Answer) (left : List Entry → Type 0) (ways : End → State a.Kept → Type 0)
-      → EndsFrom a.meaning had left ways (stood_by a old.body) (untaken new) → EndsFrom a.meaning had left ways (stood_for a old) (untaken new)
-  ends_up had left ways ends past rest s l h = ends past rest s l h.rests
-
+module _ {X : Type 0} (a : Added X) {g : _} (old new : Kernel X g) (before after : WireSeen) where
   pub comes_up : (said : code.Went) → (said ≡ went.Went → ended new ≡ None)
-      → ComesTo a.meaning before after was is (stood_by a old.body) (stood_by a new.body) (untaken new) said
-      → ComesTo a.meaning before after was is (stood_for a old) (stood_for a new) (untaken new) said
+      → ComesTo a.meaning before after (changed_by a old.body new.body) said → TurnsTo a before after old new said
   comes_up went.Went goes c = (
     c.0,
     (
@@ -54,14 +47,16 @@ module _ {X : Type 0} (a : Added X) {g : _} (old new : Kernel X g) (before after
 
 module _ {X : Type 0} {a : Added X} where
   -- a run that hasn't ended
-  pub turned_up : {g : _} (fails quiet : Type 0) (before after : WireSeen) (old new : Kernel X g) (result said : code.Went)
-      → (said ≡ went.Went → ended new ≡ None)
-      → ComesTo a.meaning before.left after.left before.faults after.faults (stood_by a old.body) (stood_by a new.body) (untaken new) said
+  pub turned_up : {g : _} (wire : WireTurn) (old new : Kernel X g) (result said : code.Went) → (said ≡ went.Went → ended new ≡ None)
+      → ComesTo a.meaning wire.before wire.after (changed_by a old.body new.body) said
       → ((past : List Event) (answers : List Entry) (s : State a.Kept) → IsAtRest a past answers old.body s → StallsAs (is_stalled a.meaning s) said)
-      → UnlessFailed quiet said → (fails → OfFailing said) → Again said result → TurnedBy a fails quiet before after old new result said
-  turned_up fails quiet before after old new result said goes comes stalls still failing either = record {
-    turns = comes_up a old new before.left after.left before.faults after.faults said goes comes;
+      → ((past : List Event) (answers : List Entry) (s : State a.Kept) → IsAtRest a past answers old.body s
+      → AsksBy (untaken old) (untaken new) wire.before wire.after said)
+      → UnlessFailed wire.quiet said → (wire.fails → OfFailing said) → Again said result → TurnedBy a wire old new result said
+  turned_up wire old new result said goes comes stalls asks still failing either = record {
+    turns = comes_up a old new wire.before wire.after said goes comes;
     stalls = λ past answers s h. stalls past answers s h.rests;
+    asks = λ past answers s h. asks past answers s h.rests;
     still = still;
     failing = failing;
     either = either;

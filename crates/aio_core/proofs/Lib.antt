@@ -5,7 +5,9 @@ pub mod Inputs
 pub mod Acting
 pub mod Waking
 pub mod Stopping
+pub mod Asked
 pub mod Asking
+pub mod AskedByTurn
 pub mod Following
 pub mod Opening
 pub mod Placing

@@ -29,7 +29,7 @@ use Rattle.aio_body.specs.declared.standing.Slot.{Slot}
 use Rattle.aio_body.specs.declared.standing.Standing.{Standing}
 use Rattle.aio_body.specs.declared.standing.Standing.TheVariants.{Asked}
 use Rattle.aio_body.specs.Slots.{HoldsMore}
-use Rattle.aio_body.specs.Stands.{Stands, HasSlot, StandsAt, WaitsAs}
+use Rattle.aio_body.specs.Stands.{profile_of, Stands, HasSlot, StandsAt, WaitsAs}
 use Rattle.aio_flat.specs.Code.{IsCodeOf}
 use Rattle.aio_timeout.specs.Kept.{AreTimeouts}
 use Rattle.aio_group.specs.Held.{Held}
@@ -124,30 +124,31 @@ module _ {X : Type 0} (a : Added X) (program : Program) (none held : Body X) (x 
     (e : IsEmpty program x none)
     (holds : HoldsMore (place_of program main_text) [] none held) where
   abbrev begun : Body X
-  begun = record held { parts = with_callback e.profile }
+  begun = record held { parts = with_callback (profile_of program) }
 
   one_slot : held.slots.items ≡ holds.slot ∷ []
   one_slot = holds.slots ∙ ap (λ (xs : List Slot). xs ++ holds.slot ∷ []) e.slots
 
-  begins_at : (answers : List Entry) → Stands None (resting a [] answers (callback_kept e.profile).ties.bar) begun (start kept program answers)
+  begins_at : (answers : List Entry) → Stands None (resting a [] answers (callback_kept (profile_of program)).ties.bar) begun (start kept program answers)
   begins_at answers = record {
-    ties = (callback_kept e.profile).ties;
+    ties = (callback_kept (profile_of program)).ties;
     code = subst (IsCodeOf program) (sym (ap (λ (b : Body X). b.code) holds.beside)) e.code;
-    keeps = (callback_kept e.profile).keeps;
+    profile = refl;
+    keeps = (callback_kept (profile_of program)).keeps;
     left = refl;
     bar = refl;
     blocks = record {
       timeouts =
-          subst (λ ts. AreTimeouts (callback_kept e.profile).ties first_parts ts []) (sym (ap (λ (b : Body X). b.timeouts) holds.beside ∙ e.timeouts)) tt;
+          subst (λ ts. AreTimeouts (callback_kept (profile_of program)).ties first_parts ts []) (sym (ap (λ (b : Body X). b.timeouts) holds.beside ∙ e.timeouts)) tt;
       groups =
-          subst (λ (gs : List Held). (id : ℕ) → KeepsAt (callback_kept e.profile).ties first_parts (slice_get gs id) (slice_get [] id))
+          subst (λ (gs : List Held). (id : ℕ) → KeepsAt (callback_kept (profile_of program)).ties first_parts (slice_get gs id) (slice_get [] id))
           (sym (ap (λ (b : Body X). b.groups) holds.beside ∙ e.groups)) (λ id. tt);
     };
     made = ap length one_slot;
     told = refl;
     few = subst (λ (xs : List Slot). length xs < 2 ^ 32) (sym one_slot) (omega arith);
     held = has;
-    gone = λ id gone. absurd (false≢true (sym (none_gone e.profile id) ∙ gone));
+    gone = λ id gone. absurd (false≢true (sym (none_gone (profile_of program) id) ∙ gone));
     futures = ap (λ (b : Body X). b.futures.items) holds.beside ∙ e.futures;
     few_futures = omega arith;
     main_done = ap (λ (b : Body X). b.main_done) holds.beside ∙ e.main_done;
@@ -156,8 +157,8 @@ module _ {X : Type 0} (a : Added X) (program : Program) (none held : Body X) (x 
     events = sym (ap (λ (b : Body X). b.events.events) holds.beside ∙ ap (λ (l : EventList). l.events) e.events);
     rest = refl;
     extra =
-        subst (λ y. a.stands (callback_kept e.profile).ties first_parts y kept) (sym (ap (λ (b : Body X). b.extra) holds.beside ∙ e.added))
-        (fresh (callback_kept e.profile).ties first_parts);
+        subst (λ y. a.stands (callback_kept (profile_of program)).ties first_parts y kept) (sym (ap (λ (b : Body X). b.extra) holds.beside ∙ e.added))
+        (fresh (callback_kept (profile_of program)).ties first_parts);
     count = ap (λ (b : Body X). b.events.answers) holds.beside ∙ ap (λ (l : EventList). l.answers) e.events;
   }
     where
@@ -166,12 +167,12 @@ module _ {X : Type 0} (a : Added X) (program : Program) (none held : Body X) (x 
       counts (suc task) = omega arith
 
       stand : (code : Standing) → code ≡ Asked
-          → StandsAt (callback_kept e.profile).ties first_parts (named_in a (start kept program answers)) 0 code machine.Asked
+          → StandsAt (callback_kept (profile_of program)).ties first_parts (named_in a (start kept program answers)) 0 code machine.Asked
       stand code is =
-          subst (λ (x : Standing). StandsAt (callback_kept e.profile).ties first_parts (named_in a (start kept program answers)) 0 x machine.Asked) (sym is) tt
+          subst (λ (x : Standing). StandsAt (callback_kept (profile_of program)).ties first_parts (named_in a (start kept program answers)) 0 x machine.Asked) (sym is) tt
 
       has : (task : ℕ) → lives first_parts task ≡ true
-          → HasSlot a None None (callback_kept e.profile).ties held.code held.slots.items (start kept program answers) task
+          → HasSlot a None None (callback_kept (profile_of program)).ties held.code held.slots.items (start kept program answers) task
       has zero l = record {
         slot = holds.slot;
         found = ap (λ (xs : List Slot). slice_get xs 0) one_slot;
@@ -184,10 +185,10 @@ module _ {X : Type 0} (a : Added X) (program : Program) (none held : Body X) (x 
       }
       has (suc task) l = absurd (false≢true l)
 
-  pub begins_so : (last : Body X) → last ≡ record held { parts = with_callback e.profile } → (answers : List Entry)
+  pub begins_so : (last : Body X) → last ≡ record held { parts = with_callback (profile_of program) } → (answers : List Entry)
       → IsAtRest a [] answers last (start kept program answers)
   begins_so last is answers = subst (λ b. IsAtRest a [] answers b (start kept program answers)) (sym is) (
-    (callback_kept e.profile).ties.bar,
+    (callback_kept (profile_of program)).ties.bar,
     record {
       stands = begins_at answers;
       called = refl;
@@ -210,25 +211,25 @@ module _ {X : Type 0} {a : Added X} where
       beside is_own on is answers =
       begins_so a program none held x kept fresh e held_main last (is ∙ ap (λ (x : View). record held { parts = x }) is_w) answers
     where
-      start_view : ticketed ≡ empty e.profile
+      start_view : ticketed ≡ empty (profile_of program)
       start_view = ticket ∙ ap (λ (b : Body X). b.parts) holds.beside ∙ e.parts
 
       held_main : HoldsMore (place_of program main_text) [] none held
       held_main =
           subst (λ n. HoldsMore n [] none held) at_place (subst (λ xs. HoldsMore place xs none held) no_arguments holds)
 
-      is_v : v ≡ with_main e.profile
+      is_v : v ≡ with_main (profile_of program)
       is_v =
-          spawned_so e.profile v (after ∙ ap (λ (x : View). spawn (parts x)) start_view)
+          spawned_so (profile_of program) v (after ∙ ap (λ (x : View). spawn (parts x)) start_view)
           (pending ∙ ap (λ (x : View). queue.soon (Step (length x.tasks)) x.queue) start_view)
           (beside ∙ ap (λ (x : View). record x { queue = v.queue; futures = v.futures; tasks = v.tasks }) start_view)
 
       first : task ≡ 0
       first = number ∙ ap (λ (x : View). length x.tasks) start_view
 
-      is_w : w ≡ with_callback e.profile
+      is_w : w ≡ with_callback (profile_of program)
       is_w =
-          registered_so e.profile v w is_v (on ∙ ap (λ id. record v {
+          registered_so (profile_of program) v w is_v (on ∙ ap (λ id. record v {
             futures = registered id MainDone v.futures;
             queue = soon_if_done id MainDone v.futures v.queue;
           }) (is_own ∙ ap (future_of (parts v)) first))

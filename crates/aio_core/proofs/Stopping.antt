@@ -153,7 +153,8 @@ module _ {X : Type 0} {a : Added X} where
               time = ap (λ (x : View). x.time) beside;
               schedule = ap (λ (x : View). x.schedule) beside;
             }))
-            (leaves_request ByEnd own p) (spares_none p (named_in a t)) (refl, refl) (below_appended body.parts.queue v.queue appended);
+            (leaves_request ByEnd own p) (spares_none p (named_in a t)) (refl, refl) (below_appended body.parts.queue v.queue appended)
+            (ap (λ (x : View). x.profile) beside);
         called = ap (λ (x : View). x.called) beside ∙ so.called;
         running = ap (λ (x : View). x.running) beside ∙ so.running;
       })

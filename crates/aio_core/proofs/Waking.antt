@@ -91,9 +91,10 @@ knows_timed t p now bar tag id k = record { given = k.given; known = k.known }
 module _ {X : Type 0} {a : Added X} where
   -- The time is set, and the bar stands here.
   pub stands_timed : (c : Setting a) (body : Body X) (s : State a.Kept) (v : View) (now bar : ℕ) (h : Stands None c body s) → now ≤ most
+      → v.profile ≡ body.parts.profile
       → Keeps (record h.ties { bar = bar }) v (record s.loop.parts { time = now })
       → Stands None (record c { left = length v.queue.below; bar = bar }) (record body { parts = v }) (unbooked_in (λ p. record p { time = now }) s)
-  stands_timed c body s v now bar h few keeps =
+  stands_timed c body s v now bar h few profile keeps =
       parts_change None c body s u v body.timeouts body.groups body.extra (in_parts (λ _. q) s.loop) s.extra (length v.queue.below) bar h (record {
         keeps = keeps;
         blocks = record {
@@ -108,7 +109,7 @@ module _ {X : Type 0} {a : Added X} where
         time = few;
         counts = h.counts;
         extra = a.goes_on h.ties u p q body.extra s.extra h.extra beside;
-      }) refl refl
+      }) refl refl profile
     where
       p : Parts
       p = s.loop.parts
@@ -180,7 +181,7 @@ module _ {X : Type 0} {a : Added X} (c : Setting a) (body : Body X) (s : State a
   timed_stands : (h : Stands None c body s)
       → Stands None (record c { left = length body.parts.queue.below; bar = h.ties.bar }) (record body { parts = timed_view now body.parts }) timed
   timed_stands h =
-      stands_timed c body s (timed_view now body.parts) now h.ties.bar h few (keeps_timed h.ties body.parts s.loop.parts now h.keeps)
+      stands_timed c body s (timed_view now body.parts) now h.ties.bar h few refl (keeps_timed h.ties body.parts s.loop.parts now h.keeps)
 
   fell_stands : (d : Setting a) (h : Stands None d (record body { parts = timed_view now body.parts }) timed)
       → Stands None (record d { left = length (due_view now (timed_view now body.parts)).queue.below })
@@ -194,6 +195,7 @@ module _ {X : Type 0} {a : Added X} (c : Setting a) (body : Body X) (s : State a
         extends = due_ties h.ties timed.loop.parts;
       })
       (leaves_handles timed.loop.parts (due timed.loop.parts) is.0 is.1 is.2) (spares_none timed.loop.parts (named_in a timed)) (refl, refl)
+      refl
 
   all_stand : (d : Setting a) (h : Stands None d (record body { parts = due_view now (timed_view now body.parts) }) fell)
       → Stands None (record d { left = length fell.loop.parts.pending; bar = fell.loop.parts.next_stamp })
@@ -203,7 +205,7 @@ module _ {X : Type 0} {a : Added X} (c : Setting a) (body : Body X) (s : State a
       (ap length (waiting_kept h.ties (due_view now (timed_view now body.parts)) fell.loop.parts h.keeps)
       ∙ length-map fell.loop.parts.pending (handle_as h.ties.known))
       (stands_timed d (record body { parts = due_view now (timed_view now body.parts) }) fell (woken_view now body.parts) fell.loop.parts.time
-      fell.loop.parts.next_stamp h h.time (keeps_barred h.ties (due_view now (timed_view now body.parts)) fell.loop.parts h.keeps))
+      fell.loop.parts.next_stamp h h.time refl (keeps_barred h.ties (due_view now (timed_view now body.parts)) fell.loop.parts h.keeps))
 
   pub wakes : Stands None c body s
       → Stands None (record c { left = length fell.loop.parts.pending; bar = fell.loop.parts.next_stamp })

@@ -1,14 +1,14 @@
 -- What a kernel keeps before there is a task.
-use Rattle.std.specs.Prelude.{◌≡◌, ℕ, false, []}
+use Rattle.std.specs.Prelude.{◌≡◌, false, []}
 use Rattle.model_tree.specs.Syntax.{Program}
 use Rattle.aio_flat.specs.Code.{IsCodeOf}
 use Rattle.aio_task.specs.View.{empty}
+use Rattle.aio_body.specs.Stands.{profile_of}
 use Rattle.aio_body.specs.declared.body.Body.{Body}
 
 pub record IsEmpty {X : Type 0} (program : Program) (extra : X) (body : Body X) : Type 0 where
   pub code : IsCodeOf program body.code
-  pub profile : ℕ
-  pub parts : body.parts ≡ empty profile
+  pub parts : body.parts ≡ empty (profile_of program)
   pub slots : body.slots.items ≡ []
   pub timeouts : body.timeouts ≡ []
   pub groups : body.groups ≡ []

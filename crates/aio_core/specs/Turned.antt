@@ -1,5 +1,5 @@
 -- What a turn of a kernel comes to, by the states of the machine that it stands for.
-use Rattle.std.specs.Prelude.{◌≡◌, ℕ, List, [], ◌++◌, Option, Some, None, ◌⊎◌}
+use Rattle.std.specs.Prelude.{◌≡◌, List, [], ◌++◌, Option, Some, None, ◌⊎◌}
 use Rattle.model_tree.specs.Syntax.{Program}
 use Rattle.model_wire.specs.Call.{Answer}
 use Rattle.model_wire.specs.Event.{Event}
@@ -13,7 +13,7 @@ use Rattle.aio_wire.specs.declared.stop.Stop.TheVariants as stop
 use Rattle.aio_core.specs.declared.kernel.Kernel.{Kernel}
 use Rattle.aio_core.specs.declared.went.Went as code
 use Rattle.aio_core.specs.declared.went.Went.TheVariants as went
-use Rattle.aio_core.specs.Turning.{ComesTo, EndsFrom, EndsTelling, GoesOnFrom, IsAtRest, OfFailing, StallsAs, Stood, UnlessFailed}
+use Rattle.aio_core.specs.Turning.{AsksBy, Change, ComesTo, EndsFrom, EndsTelling, GoesOnFrom, IsAtRest, OfFailing, StallsAs, Stood, UnlessFailed}
 
 -- the events that weren't taken out yet
 abbrev pub untaken : {X : Type 0} {g : _} → Kernel X g → List Event
@@ -51,21 +51,31 @@ abbrev pub EndsAs : {X : Type 0} {g : _} → (a : Added X) → List Answer → (
     → (ways : End → State a.Kept → Type 0) → (old new : Kernel X g) → Type 0
 EndsAs a had left ways old new = EndsFrom a.meaning had left ways (stood_for a old) (untaken new)
 
--- What a turn comes to. `before` and `after` are what the wire told of its answers, `was` and `is` how often it had failed.
-abbrev pub TurnsTo : {X : Type 0} {g : _} → Added X → (before after : Option (List Entry)) (was is : ℕ) (old new : Kernel X g)
-    → code.Went → Type 0
-TurnsTo a before after was is old new said =
-    ComesTo a.meaning before after was is (stood_for a old) (stood_for a new) (untaken new) said
+-- what a turn changes
+abbrev pub change_of : {X : Type 0} {g : _} → (a : Added X) → (old new : Kernel X g) → Change a.Kept
+change_of a old new = record { old = stood_for a old; new = stood_for a new; untaken = untaken new }
 
--- A turn of a run that hasn't ended, over a wire that fails always, and that keeps so much as long as it doesn't fail. `said` is
--- what it came to; memory may have been refused after it.
-pub record TurnedBy {X : Type 0} {g : _} (a : Added X) (fails quiet : Type 0) (before after : WireSeen) (old new : Kernel X g)
-    (result said : code.Went) : Type 0 where
-  pub turns : TurnsTo a before.left after.left before.faults after.faults old new said
+-- what a turn comes to, by what is seen of the wire before and after it
+abbrev pub TurnsTo : {X : Type 0} {g : _} → Added X → (before after : WireSeen) → (old new : Kernel X g) → code.Went → Type 0
+TurnsTo a before after old new said = ComesTo a.meaning before after (change_of a old new) said
+
+-- What clauses say of a wire over a turn: what is seen of it before and after, that each call of it fails, and what stays of it as
+-- long as none does.
+pub record WireTurn : Type 1 where
+  pub before : WireSeen
+  pub after : WireSeen
+  pub fails : Type 0
+  pub quiet : Type 0
+
+-- A turn of a run that hasn't ended. `said` is what it came to; memory may have been refused after it.
+pub record TurnedBy {X : Type 0} {g : _} (a : Added X) (wire : WireTurn) (old new : Kernel X g) (result said : code.Went) : Type 0 where
+  pub turns : TurnsTo a wire.before wire.after old new said
   pub stalls : (past : List Event) (answers : List Entry) (s : State a.Kept) → StandsFor a past answers old s
       → StallsAs (is_stalled a.meaning s) said
-  pub still : UnlessFailed quiet said
-  pub failing : fails → OfFailing said
+  pub asks : (past : List Event) (answers : List Entry) (s : State a.Kept) → StandsFor a past answers old s
+      → AsksBy (untaken old) (untaken new) wire.before wire.after said
+  pub still : UnlessFailed wire.quiet said
+  pub failing : wire.fails → OfFailing said
   pub either : (result ≡ said) ⊎ (result ≡ went.Stopped stop.Memory)
 
 -- Each answer is kept but `Went`.

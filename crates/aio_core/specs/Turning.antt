@@ -7,7 +7,7 @@ use Rattle.model_wire.specs.declared.event.End.TheVariants as end
 use Rattle.model_wire.specs.Call.{Answer, Call}
 use Rattle.model_wire.specs.Event.{Event}
 use Rattle.model_wire.specs.Journal.{Entry, Answered}
-use Rattle.model_wire.specs.Told.{Agrees, Rose}
+use Rattle.model_wire.specs.Told.{Agrees, Rose, WireSeen}
 use Rattle.model_wire.specs.Trace.{End}
 use Rattle.model_machine.specs.Extra.{Extra}
 use Rattle.model_machine.specs.Outcomes.{end_of}
@@ -23,6 +23,7 @@ use Rattle.aio_body.specs.declared.body.Body.{Body}
 use Rattle.aio_core.specs.declared.went.Went as code
 use Rattle.aio_core.specs.declared.went.Went.TheVariants as went
 use Rattle.aio_body.specs.Stands.{Setting, IsBetween}
+use Rattle.aio_core.specs.Asked.{AsksOnce}
 
 abbrev pub IsAlive : {X : Type 0} → Added X → Body X → Type 0
 IsAlive a body = ∥ ((c : Setting a) × ((s : State a.Kept) × IsBetween c body s)) ∥₁
@@ -115,25 +116,42 @@ NoneLeft rest = rest ≡ []
 abbrev pub NextIs : Entry → List Entry → Type 0
 NextIs entry rest = (others : List Entry) × (rest ≡ entry ∷ others)
 
--- What a turn comes to. `before` and `after` are what the wire told of its answers, `was` and `is` how often it had failed;
--- `old` and `new` say which states were stood for and are then, and `untaken` are the events that weren't taken out yet.
-abbrev pub ComesTo : {S : Type 0} → Extra S → (before after : Option (List Entry)) (was is : ℕ) (old new : Stood S) (untaken : List Event) → code.Went → Type 0
-ComesTo added before after was is old new untaken went.Went = (had : List Answer) × (Takes before after had × GoesOnFrom added had old new)
-ComesTo added before after was is old new untaken (went.Finished outcome) =
-    (had : List Answer) × (Takes before after had × EndsFrom added had AnyLeft (Is (end_of outcome)) old untaken)
-ComesTo added before after was is old new untaken went.Stalled = (before ≡ after) × EndsFrom added [] AnyLeft (Is end.Stalled) old untaken
-ComesTo added before after was is old new untaken (went.Runaway task) =
-    (had : List Answer) × (Takes before after had × EndsFrom added had AnyLeft (Is (end.Runaway task)) old untaken)
-ComesTo added before after was is old new untaken (went.Stopped (stop.Over call)) =
-    (had : List Answer) × (Agrees before (map Answered had) × EndsFrom added had NoneLeft (Is (end.Over call)) old untaken)
-ComesTo added before after was is old new untaken (went.Stopped (stop.Bad fault)) =
-    (had : List Answer) × (((rest : List Entry) × Agrees before (map Answered had ++ refused_of fault ∷ rest))
-    × EndsFrom added had (NextIs (refused_of fault)) (Is (end.JournalRefused fault.line fault.cause)) old untaken)
-ComesTo added before after was is old new untaken (went.Stopped (stop.Mismatch count call)) =
-    (had : List Answer) × (Takes before after had × EndsFrom added had AnyLeft (IsMismatch count call) old untaken)
-ComesTo added before after was is old new untaken (went.Stopped (stop.Failed call)) =
-    (had : List Answer) × (Takes before after had × EndsFrom added had NoneLeft (Is (end.Over call)) old untaken × Rose was is)
-ComesTo added before after was is old new untaken (went.Stopped stop.Memory) = Unit {0}
+-- What a turn changes: which states were stood for before it, which are then, and the events that weren't taken out yet.
+pub record Change (S : Type 0) : Type 1 where
+  pub old : Stood S
+  pub new : Stood S
+  pub untaken : List Event
+
+abbrev pub changed_by : {X : Type 0} → (a : Added X) → (old new : Body X) → Change a.Kept
+changed_by a old new = record { old = stood_by a old; new = stood_by a new; untaken = new.events.events }
+
+-- What a turn comes to, by what is seen of the wire before and after it, and by what it changes.
+abbrev pub ComesTo : {S : Type 0} → Extra S → (before after : WireSeen) → Change S → code.Went → Type 0
+ComesTo added before after it went.Went =
+    (had : List Answer) × (Takes before.left after.left had × GoesOnFrom added had it.old it.new)
+ComesTo added before after it (went.Finished outcome) =
+    (had : List Answer) × (Takes before.left after.left had × EndsFrom added had AnyLeft (Is (end_of outcome)) it.old it.untaken)
+ComesTo added before after it went.Stalled =
+    (before.left ≡ after.left) × EndsFrom added [] AnyLeft (Is end.Stalled) it.old it.untaken
+ComesTo added before after it (went.Runaway task) =
+    (had : List Answer) × (Takes before.left after.left had × EndsFrom added had AnyLeft (Is (end.Runaway task)) it.old it.untaken)
+ComesTo added before after it (went.Stopped (stop.Over call)) =
+    (had : List Answer) × (Agrees before.left (map Answered had) × EndsFrom added had NoneLeft (Is (end.Over call)) it.old it.untaken)
+ComesTo added before after it (went.Stopped (stop.Bad fault)) =
+    (had : List Answer) × (((rest : List Entry) × Agrees before.left (map Answered had ++ refused_of fault ∷ rest))
+    × EndsFrom added had (NextIs (refused_of fault)) (Is (end.JournalRefused fault.line fault.cause)) it.old it.untaken)
+ComesTo added before after it (went.Stopped (stop.Mismatch count call)) =
+    (had : List Answer) × (Takes before.left after.left had × EndsFrom added had AnyLeft (IsMismatch count call) it.old it.untaken)
+ComesTo added before after it (went.Stopped (stop.Failed call)) =
+    (had : List Answer) × (Takes before.left after.left had × EndsFrom added had NoneLeft (Is (end.Over call)) it.old it.untaken
+    × Rose before.faults after.faults)
+ComesTo added before after it (went.Stopped stop.Memory) = Unit {0}
+
+-- What a turn asked: what was noted in it, and no more than one call so far. `was` are the events that weren't taken out before it,
+-- and `is` those after it. Where memory was refused the call may not have been noted, or not been asked.
+abbrev pub AsksBy : (was is : List Event) → (before after : WireSeen) → code.Went → Type 0
+AsksBy was is before after (went.Stopped stop.Memory) = AsksOnce before after
+AsksBy was is before after _ = (it : AsksOnce before after) × (is ≡ was ++ it.0)
 
 -- where the run goes on there is a state that is stood for
 abbrev pub AliveIfWent : {X : Type 0} → Added X → code.Went → Body X → Type 0

@@ -5,6 +5,7 @@ ghost use Rattle.model_wire.specs.Journal.{Entry};
 ghost use Rattle.model_says.specs.Requests.{place_among, place_of};
 ghost use Rattle.model_machine.specs.State.{start};
 ghost use Rattle.aio_extra.specs.Added.{KeepsNothing};
+ghost use Rattle.aio_body.specs.Stands.{profile_of as plain_profile_of};
 ghost use Rattle.aio_core.specs.Empty.{IsEmpty};
 ghost use Rattle.aio_core.specs.Turning.{IsAtRest};
 
@@ -51,11 +52,10 @@ fn make_main<X: Extra>(alloc: Global, program: &Program, body: &mut Body<X>) -> 
 fn empty<X: Drop>(alloc: Global, program: &Program, extra: X) -> Result<Body<X>, Memory>
     ensures { IfOk result (IsEmpty program.now extra) }
 {
-    let profile = u8::try_from(program.profile()).unwrap_or(u8::MAX);
     let timeouts = Timeouts::new(alloc)?;
     let groups = Groups::new(alloc)?;
     let code = flatten(alloc, program)?;
-    let parts = Parts::new(alloc, profile)?;
+    let parts = Parts::new(alloc, profile_of(program))?;
     Ok(Body {
         code,
         parts,
@@ -67,6 +67,13 @@ fn empty<X: Drop>(alloc: Global, program: &Program, extra: X) -> Result<Body<X>,
         events: Events::new(alloc),
         extra,
     })
+}
+
+// The profile that the program runs by.
+fn profile_of(program: &Program) -> u8
+    ensures { result ≡ plain_profile_of program.now }
+{
+    u8::try_from(program.profile()).unwrap_or(u8::MAX)
 }
 
 // Main's place in the program: behind all coroutines where none is called so.

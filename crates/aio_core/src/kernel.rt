@@ -55,8 +55,14 @@ impl<X: Extra + Drop> Kernel<X> {
     /// asks nothing.
     pub fn turn<W: Wire>(&mut self, alloc: Global, wire: &mut W) -> Went
         ensures turned { ended self.old ≡ None
-            → (said : AnyWent) × TurnedBy X.added (W.fails wire.old) (W.quiet wire.old wire.new)
-            (W.seen wire.old) (W.seen wire.new) self.old self.new result said }
+            → (said : AnyWent) × TurnedBy X.added
+            (record {
+              before = W.seen wire.old;
+              after = W.seen wire.new;
+              fails = W.fails wire.old;
+              quiet = W.quiet wire.old wire.new;
+            })
+            self.old self.new result said }
         ensures sound { (past : List Event) (answers : List Entry) (s : State X.added.Kept)
             → StandsFor X.added past answers self.old s → IsTurnSound X.added s }
         ensures keeps { W.keeps wire.old wire.new }

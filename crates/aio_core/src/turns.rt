@@ -12,8 +12,8 @@ ghost use Rattle.aio_wire.specs.Port.{Exchanges, StopsShort, AlwaysFails, Unless
 ghost use Rattle.aio_wire.specs.Replied.{Replied, MayHaveReplied, Stays};
 ghost use Rattle.aio_wire.specs.declared.wire.Reply.{Reply as AnyReply};
 ghost use Rattle.aio_body.specs.Stands.{Setting, IsBetween};
-ghost use Rattle.aio_core.specs.Turning.{IsAlive, IsAtRest, IsSelect, IsTime, Turned, AliveIfWent, ComesTo, OfFailing, StallsAs, UnlessFailed};
-ghost use Rattle.aio_core.specs.Turning.{all_below, at_bar, said_by, stood_by};
+ghost use Rattle.aio_core.specs.Turning.{AsksBy, IsAlive, IsAtRest, IsSelect, IsTime, Turned, AliveIfWent, ComesTo, OfFailing, StallsAs, UnlessFailed};
+ghost use Rattle.aio_core.specs.Turning.{all_below, at_bar, changed_by, said_by};
 
 use crate::handles::run_below;
 use crate::went::{Went, copy_of_outcome};
@@ -36,13 +36,15 @@ pub fn turn<W: Wire, X: Extra>(
     seen: &mut u32,
 ) -> Result<Went, Stop>
     requires { IsAlive X.added body.old }
-    ensures comes { ComesTo X.added.meaning (W.seen wire.old).left (W.seen wire.new).left
-        (W.seen wire.old).faults (W.seen wire.new).faults
-        (stood_by X.added body.old) (stood_by X.added body.new) body.new.events.events
-        (said_by result) }
+    ensures comes { ComesTo X.added.meaning (W.seen wire.old) (W.seen wire.new)
+        (changed_by X.added body.old body.new) (said_by result) }
     ensures stalls { (past : List Event) (answers : List Entry) (s : State X.added.Kept)
         → IsAtRest X.added past answers body.old s
         → StallsAs (plain_is_stalled X.added.meaning s) (said_by result) }
+    ensures asked { (past : List Event) (answers : List Entry) (s : State X.added.Kept)
+        → IsAtRest X.added past answers body.old s
+        → AsksBy body.old.events.events body.new.events.events (W.seen wire.old) (W.seen wire.new)
+        (said_by result) }
     ensures alive { AliveIfWent X.added (said_by result) body.new }
     ensures fails { W.fails wire.old → OfFailing (said_by result) }
     ensures keeps { W.keeps wire.old wire.new }

@@ -1,5 +1,5 @@
 -- A run under way: what was written, what is left, and each way out.
-use Rattle.std.proofs.Common.{◌≡◌, ℕ, suc, ◌+◌, ◌-◌, ◌^◌, ◌≤◌, List, [], ◌∷◌, ◌++◌, Option, Some, None, map, min, inl, inr}
+use Rattle.std.proofs.Common.{◌≡◌, ℕ, suc, ◌+◌, ◌-◌, ◌^◌, ◌≤◌, List, [], ◌∷◌, ◌++◌, Option, Some, None, map, min}
 use Rattle.std.proofs.Common.{refl, ap, sym, ◌∙◌, subst, append_assoc, arith}
 use Rattle.model_tree.specs.Syntax.{Program}
 use Rattle.model_says.specs.Says.{step_limit}
@@ -8,14 +8,11 @@ use Rattle.model_wire.specs.Call.{Answer, Call}
 use Rattle.model_wire.specs.Event.{Event}
 use Rattle.model_wire.specs.Journal.{Entry, Answered}
 use Rattle.model_wire.specs.Told.{Agrees, Rose, SinkSeen, WireSeen, took}
-use Rattle.model_wire.specs.Trace.{End, end_text, line, lines_of_events}
+use Rattle.model_wire.specs.Trace.{End, lines_of_events}
 use Rattle.model_machine.specs.Extra.{no_extra}
 use Rattle.model_machine.specs.Outcomes.{end_of}
-use Rattle.model_machine.specs.Program.{output_of}
 use Rattle.model_machine.specs.Run.{Run, run, run_after, run_on, turns_over}
 use Rattle.model_machine.specs.State.{State, start}
-use Rattle.model_machine.specs.Theorem.{ProgramOutput, WritesWhole}
-use Rattle.model_machine.specs.Transcript.{status_of, transcript}
 use Rattle.model_machine.specs.Turn.{is_stalled, turn}
 use Rattle.model_machine.specs.Went.{Went, Goes, Stops, answers_in}
 use Rattle.law_machine.proofs.Turns.{run-grows}
@@ -24,19 +21,16 @@ use Rattle.aio_wire.specs.declared.stop.Stop.TheVariants as stop
 use Rattle.aio_extra.specs.Nothing.{nothing_added}
 use Rattle.aio_extra.specs.declared.nothing.NoExtra.{NoExtra}
 use Rattle.aio_core.specs.Turned.{Begins, Ends, EndsAs, GoesOn, StandsFor, TurnsTo, untaken}
-use Rattle.aio_core.specs.Turning.{AnyLeft, Is, IsMismatch, Takes}
+use Rattle.aio_core.specs.Asked.{Asks, AsksOnce}
+use Rattle.aio_core.specs.Turning.{AnyLeft, AsksBy, Is, IsMismatch, Takes}
+use Rattle.aio_core.proofs.Asked.{asks_none, asks_then}
 use Rattle.aio_core.specs.declared.kernel.Kernel.{Kernel}
 use Rattle.aio_core.specs.declared.went.Went as code
 use Rattle.aio_core.specs.declared.went.Went.TheVariants as went
-use Rattle.aio_drive.specs.Drive.{MayDrive}
 use Rattle.aio_drive.specs.Ending.{NextOf}
-use Rattle.aio_drive.specs.Outcome.{EndsEarly}
-use Rattle.aio_drive.specs.Writing.{StopsWriting}
 use Rattle.aio_drive.specs.declared.driver.Manner.{Manner}
 use Rattle.aio_drive.specs.declared.ending.AfterTurn.TheVariants as next
-use Rattle.aio_drive.specs.declared.halt.Halt.{Halt}
-use Rattle.aio_drive.specs.declared.halt.Halt.TheVariants.{Memory, Sink}
-use Rattle.aio_drive.proofs.Fronts.{append-nil, failed_on, took-nil, took_on}
+use Rattle.aio_drive.proofs.Fronts.{append-nil, took-nil, took_on}
 use Rattle.aio_drive.proofs.Turns.{got-one, lines-append, run_on-last, run_on-turn}
 
 -- The state of a run after some turns, over entries that are left: the kernel stands for it, and the run from the start is
@@ -49,13 +43,14 @@ pub record At {g : _} (program : Program) (how : Manner) (made left : ℕ) (kern
   pub begun : made ≡ 0 → s ≡ start tt program rest
 
 -- A run of a program, driven in this manner, in which some turns were made and others are left: the answers so far, the
--- events that were taken out, what the wire told first and tells now, and what the sink took.
+-- events that were taken out, what was seen of the wire first and is now, and what the sink took.
 pub record IsDriven {g : _} (program : Program) (how : Manner) (made left : ℕ) (kernel : Kernel NoExtra g) (past : List Entry) (taken : List Event)
-    (first_told now_told : Option (List Entry)) (first now : SinkSeen) : Type 0 where
+    (first_seen now_seen : WireSeen) (first now : SinkSeen) : Type 0 where
   pub at : (rest : List Entry) → At program how made left kernel past taken rest
   pub none : untaken kernel ≡ []
   pub turns : made + left ≡ how.turns
-  pub told : (rest : List Entry) → Agrees now_told rest → Agrees first_told (past ++ rest)
+  pub told : (rest : List Entry) → Agrees now_seen.left rest → Agrees first_seen.left (past ++ rest)
+  pub asked : Asks taken first_seen now_seen
   pub sink : now ≡ took first (lines_of_events how.trace taken)
   pub got : answers_in taken ≤ made
   pub begun : made ≡ 0 → taken ≡ []
@@ -64,15 +59,16 @@ none-taken : {g : _} (kernel : Kernel NoExtra g) (s : State (Unit {0})) → s.ev
 none-taken kernel s none is = sym is ∙ none
 
 -- a run that begins
-pub running_first : {g : _} (program : Program) (how : Manner) (kernel : Kernel NoExtra g) (told : Option (List Entry)) (sink : SinkSeen)
+pub running_first : {g : _} (program : Program) (how : Manner) (kernel : Kernel NoExtra g) (seen : WireSeen) (sink : SinkSeen)
     → Begins nothing_added tt program kernel
-    → IsDriven program how 0 how.turns kernel [] [] told told sink sink
-running_first program how kernel told sink begins =
+    → IsDriven program how 0 how.turns kernel [] [] seen seen sink sink
+running_first program how kernel seen sink begins =
     record {
       at = λ rest. record { s = start tt program rest; stands = begins rest; on = refl; begun = λ none. refl };
       none = none-taken kernel (start tt program []) refl (begins []).events;
       turns = omega arith;
       told = λ rest agrees. agrees;
+      asked = asks_none seen;
       sink = sym (took-nil sink);
       got = omega arith;
       begun = λ none. refl;
@@ -107,17 +103,17 @@ pub record GoesOnHere (program : Program) (how : Manner) (first_told : Option (L
   pub is : (run program entries how.turns).events ≡ events ++ more
 
 module _ {g : _} {program : Program} {how : Manner} {made left : ℕ} {kernel : Kernel NoExtra g} {past : List Entry} {taken : List Event}
-    {first_told now_told : Option (List Entry)} {first now : SinkSeen}
-    (running : IsDriven program how made left kernel past taken first_told now_told first now) where
+    {first_seen now_seen : WireSeen} {first now : SinkSeen}
+    (running : IsDriven program how made left kernel past taken first_seen now_seen first now) where
   -- no event is in the kernel
   pub told_all : (rest : List Entry) → (running.at rest).s.events ≡ taken
   told_all rest =
       (running.at rest).stands.events ∙ ap (λ (es : List Event). taken ++ es) running.none ∙ append-nil taken
 
   -- what was written is a front of the run
-  pub goes_on_here : GoesOnHere program how first_told taken
+  pub goes_on_here : GoesOnHere program how first_seen.left taken
   goes_on_here =
-      let (rest, agrees) = agreed now_told in
+      let (rest, agrees) = agreed now_seen.left in
       let here = running.at rest in
       let grew = run-grows step_limit no_extra how.turns left here.s in
       record {
@@ -131,9 +127,9 @@ module _ {g : _} {program : Program} {how : Manner} {made left : ℕ} {kernel : 
   pub ends_last : left ≡ 0 → (end : End)
       → ((past : List Event) (answers : List Entry) (s : State (Unit {0})) → StandsFor nothing_added past answers kernel s
       → end ≡ turns_over (is_stalled no_extra s) how.turns)
-      → EndsHere program how first_told taken end
+      → EndsHere program how first_seen.left taken end
   ends_last none end is =
-      let (rest, agrees) = agreed now_told in
+      let (rest, agrees) = agreed now_seen.left in
       let here = running.at rest in
       record {
         entries = past ++ rest;
@@ -146,8 +142,8 @@ module _ {g : _} {program : Program} {how : Manner} {made left : ℕ} {kernel : 
 
 -- a turn, by what was said of it
 module _ {g : _} {program : Program} {how : Manner} {made left : ℕ} {kernel : Kernel NoExtra g} {past : List Entry} {taken : List Event}
-    {first_told now_told : Option (List Entry)} {first sink : SinkSeen} (new : Kernel NoExtra g) (new_told : Option (List Entry))
-    (running : IsDriven program how made (suc left) kernel past taken first_told now_told first sink) where
+    {first_seen now_seen : WireSeen} {first sink : SinkSeen} (new : Kernel NoExtra g) (new_seen : WireSeen)
+    (running : IsDriven program how made (suc left) kernel past taken first_seen now_seen first sink) where
   -- what happened so far
   abbrev so_far : List Event
   so_far = taken ++ untaken new
@@ -162,8 +158,8 @@ module _ {g : _} {program : Program} {how : Manner} {made left : ℕ} {kernel : 
       on_turn entries (Stops it.end it.last) it.stops ∙ ap (λ (es : List Event). record { events = es; end = it.end }) it.told
 
   -- over entries that agree with what is told
-  ends_over : (entries : List Entry) (ways : End → State (Unit {0}) → Type 0) → Agrees now_told entries
-      → (it : Ends nothing_added ways taken new (running.at entries).s) → (end : End) → end ≡ it.end → EndsHere program how first_told so_far end
+  ends_over : (entries : List Entry) (ways : End → State (Unit {0}) → Type 0) → Agrees now_seen.left entries
+      → (it : Ends nothing_added ways taken new (running.at entries).s) → (end : End) → end ≡ it.end → EndsHere program how first_seen.left so_far end
   ends_over entries ways agrees it end is =
       record {
         entries = past ++ entries;
@@ -171,15 +167,15 @@ module _ {g : _} {program : Program} {how : Manner} {made left : ℕ} {kernel : 
         is = ends_with entries ways it ∙ ap (λ (e : End). record { events = so_far; end = e }) (sym is);
       }
 
-  ends_after : (had : List Answer) (ways : End → State (Unit {0}) → Type 0) → Takes now_told new_told had → EndsAs nothing_added had AnyLeft ways kernel new
-      → (rest : List Entry) → Agrees new_told rest → Ends nothing_added ways taken new (running.at (map Answered had ++ rest)).s
+  ends_after : (had : List Answer) (ways : End → State (Unit {0}) → Type 0) → Takes now_seen.left new_seen.left had → EndsAs nothing_added had AnyLeft ways kernel new
+      → (rest : List Entry) → Agrees new_seen.left rest → Ends nothing_added ways taken new (running.at (map Answered had ++ rest)).s
   ends_after had ways takes turns rest agrees =
       let here = running.at (map Answered had ++ rest) in turns taken rest here.s tt here.stands
 
-  ends_so : (had : List Answer) (wanted : End) → Takes now_told new_told had → EndsAs nothing_added had AnyLeft (Is wanted) kernel new
-      → (end : End) → end ≡ wanted → EndsHere program how first_told so_far end
+  ends_so : (had : List Answer) (wanted : End) → Takes now_seen.left new_seen.left had → EndsAs nothing_added had AnyLeft (Is wanted) kernel new
+      → (end : End) → end ≡ wanted → EndsHere program how first_seen.left so_far end
   ends_so had wanted takes turns end is =
-      let (rest, agrees) = agreed new_told in
+      let (rest, agrees) = agreed new_seen.left in
       let it = ends_after had (Is wanted) takes turns rest agrees in
       ends_over (map Answered had ++ rest) (Is wanted) (takes rest agrees) it end (is ∙ sym it.way)
 
@@ -193,79 +189,79 @@ module _ {g : _} {program : Program} {how : Manner} {made left : ℕ} {kernel : 
       let turns = running.turns in
       omega arith
 
-  ends_misfit : how.turns ≤ 2 ^ 64 - 1 → (had : List Answer) (count : ℕ) (call : Call) → Takes now_told new_told had
+  ends_misfit : how.turns ≤ 2 ^ 64 - 1 → (had : List Answer) (count : ℕ) (call : Call) → Takes now_seen.left new_seen.left had
       → EndsAs nothing_added had AnyLeft (IsMismatch count call) kernel new
-      → (end : End) → end ≡ ends.Mismatch count call → EndsHere program how first_told so_far end
+      → (end : End) → end ≡ ends.Mismatch count call → EndsHere program how first_seen.left so_far end
   ends_misfit fits had count call takes turns end is =
-      let (rest, agrees) = agreed new_told in
+      let (rest, agrees) = agreed new_seen.left in
       let it = ends_after had (IsMismatch count call) takes turns rest agrees in
       let count_is : count ≡ answers_in it.last.events = it.way.1 ∙ counted fits (map Answered had ++ rest) it.end it.last it.stops in
       ends_over (map Answered had ++ rest) (IsMismatch count call) (takes rest agrees) it end
       (is ∙ ap (λ n. ends.Mismatch n call) count_is ∙ sym it.way.0)
 
-  pub ended : how.turns ≤ 2 ^ 64 - 1 → (before after : ℕ) (said : code.Went) → TurnsTo nothing_added now_told new_told before after kernel new said
-      → (end : End) → NextOf said (next.Ends end) → EndsHere program how first_told so_far end
-  ended fits before after went.Went comes end is = absurd (cc is)
-  ended fits before after (went.Finished outcome) (had, (takes, turns)) end is = ends_so had (end_of outcome) takes turns end is
-  ended fits before after went.Stalled (same, turns) end is =
-      let (rest, agrees) = agreed now_told in
+  pub ended : how.turns ≤ 2 ^ 64 - 1 → (said : code.Went) → TurnsTo nothing_added now_seen new_seen kernel new said
+      → (end : End) → NextOf said (next.Ends end) → EndsHere program how first_seen.left so_far end
+  ended fits went.Went comes end is = absurd (cc is)
+  ended fits (went.Finished outcome) (had, (takes, turns)) end is = ends_so had (end_of outcome) takes turns end is
+  ended fits went.Stalled (same, turns) end is =
+      let (rest, agrees) = agreed now_seen.left in
       let it = turns taken rest (running.at rest).s tt (running.at rest).stands in
       ends_over rest (Is ends.Stalled) agrees it end (is ∙ sym it.way)
-  ended fits before after (went.Runaway task) (had, (takes, turns)) end is = ends_so had (ends.Runaway task) takes turns end is
-  ended fits before after (went.Stopped (stop.Mismatch count call)) (had, (takes, turns)) end is = ends_misfit fits had count call takes turns end is
-  ended fits before after (went.Stopped (stop.Over call)) (had, (agrees, turns)) end is =
+  ended fits (went.Runaway task) (had, (takes, turns)) end is = ends_so had (ends.Runaway task) takes turns end is
+  ended fits (went.Stopped (stop.Mismatch count call)) (had, (takes, turns)) end is = ends_misfit fits had count call takes turns end is
+  ended fits (went.Stopped (stop.Over call)) (had, (agrees, turns)) end is =
       let entries = map Answered had ++ [] in
       let it = turns taken [] (running.at entries).s refl (running.at entries).stands in
       ends_over entries (Is (ends.Over call))
-      (subst (λ (es : List Entry). Agrees now_told es) (sym (append-nil (map Answered had))) agrees) it end (is ∙ sym it.way)
-  ended fits before after (went.Stopped (stop.Bad fault)) (had, ((rest, agrees), turns)) end is =
+      (subst (λ (es : List Entry). Agrees now_seen.left es) (sym (append-nil (map Answered had))) agrees) it end (is ∙ sym it.way)
+  ended fits (went.Stopped (stop.Bad fault)) (had, ((rest, agrees), turns)) end is =
       let entries = map Answered had ++ refused_of fault ∷ rest in
       let it = turns taken (refused_of fault ∷ rest) (running.at entries).s (rest, refl) (running.at entries).stands in
       ends_over entries (Is (ends.JournalRefused fault.line fault.cause)) agrees it end (is ∙ sym it.way)
-  ended fits before after (went.Stopped (stop.Failed call)) comes end is = absurd (cc is)
-  ended fits before after (went.Stopped stop.Memory) comes end is = absurd (cc is)
+  ended fits (went.Stopped (stop.Failed call)) comes end is = absurd (cc is)
+  ended fits (went.Stopped stop.Memory) comes end is = absurd (cc is)
 
   had_so_far : (had : List Answer) (rest : List Entry) → past ++ (map Answered had ++ rest) ≡ (past ++ (map Answered had ++ [])) ++ rest
   had_so_far had rest = simp (append_assoc, append-nil)
 
-  pub fails_so : (before after : ℕ) (call : Call) → TurnsTo nothing_added now_told new_told before after kernel new (went.Stopped (stop.Failed call))
-      → FailsHere program how first_told so_far
-  fails_so before after call (had, (takes, turns, rose)) =
+  pub fails_so : (call : Call) → TurnsTo nothing_added now_seen new_seen kernel new (went.Stopped (stop.Failed call))
+      → FailsHere program how first_seen.left so_far
+  fails_so call (had, (takes, turns, rose)) =
       let entries = map Answered had ++ [] in
       let it = turns taken [] (running.at entries).s refl (running.at entries).stands in
-      let (rest, agrees) = agreed new_told in
+      let (rest, agrees) = agreed new_seen.left in
       record {
         had = past ++ entries;
         told = (
           rest,
-          subst (λ (es : List Entry). Agrees first_told es) (had_so_far had rest) (running.told (map Answered had ++ rest) (takes rest agrees)),
+          subst (λ (es : List Entry). Agrees first_seen.left es) (had_so_far had rest) (running.told (map Answered had ++ rest) (takes rest agrees)),
         );
         call = call;
         is = ends_with entries (Is (ends.Over call)) it ∙ ap (λ (e : End). record { events = so_far; end = e }) it.way;
       }
 
-  pub fails : (before after : ℕ) (said : code.Went) → TurnsTo nothing_added now_told new_told before after kernel new said → NextOf said next.Fails
-      → FailsHere program how first_told so_far × Rose before after
-  fails before after went.Went comes is = absurd (cc is)
-  fails before after (went.Finished outcome) comes is = absurd is
-  fails before after went.Stalled comes is = absurd is
-  fails before after (went.Runaway task) comes is = absurd is
-  fails before after (went.Stopped (stop.Mismatch count call)) comes is = absurd is
-  fails before after (went.Stopped (stop.Over call)) comes is = absurd is
-  fails before after (went.Stopped (stop.Bad fault)) comes is = absurd is
-  fails before after (went.Stopped (stop.Failed call)) comes is = (fails_so before after call comes, comes.1.2)
-  fails before after (went.Stopped stop.Memory) comes is = absurd (cc is)
+  pub fails : (said : code.Went) → TurnsTo nothing_added now_seen new_seen kernel new said → NextOf said next.Fails
+      → FailsHere program how first_seen.left so_far × Rose now_seen.faults new_seen.faults
+  fails went.Went comes is = absurd (cc is)
+  fails (went.Finished outcome) comes is = absurd is
+  fails went.Stalled comes is = absurd is
+  fails (went.Runaway task) comes is = absurd is
+  fails (went.Stopped (stop.Mismatch count call)) comes is = absurd is
+  fails (went.Stopped (stop.Over call)) comes is = absurd is
+  fails (went.Stopped (stop.Bad fault)) comes is = absurd is
+  fails (went.Stopped (stop.Failed call)) comes is = (fails_so call comes, comes.1.2)
+  fails (went.Stopped stop.Memory) comes is = absurd (cc is)
 
-  module _ (had : List Answer) (takes : Takes now_told new_told had) (goes : GoesOn nothing_added had kernel new) where
+  module _ (had : List Answer) (takes : Takes now_seen.left new_seen.left had) (goes : GoesOn nothing_added had kernel new) where
     goes_over : (rest : List Entry)
         → (now : State (Unit {0})) × ((turn step_limit no_extra (running.at (map Answered had ++ rest)).s ≡ Goes now)
         × StandsFor nothing_added taken rest new now)
     goes_over rest = let here = running.at (map Answered had ++ rest) in goes taken rest here.s here.stands
 
     -- the run goes on after it
-    pub goes_further : GoesOnHere program how first_told so_far
+    pub goes_further : GoesOnHere program how first_seen.left so_far
     goes_further =
-        let (rest, agrees) = agreed new_told in
+        let (rest, agrees) = agreed new_seen.left in
         let (now, (went, stands)) = goes_over rest in
         let grew = run-grows step_limit no_extra how.turns left now in
         record {
@@ -284,8 +280,9 @@ module _ {g : _} {program : Program} {how : Manner} {made left : ℕ} {kernel : 
         → ((past : List Event) (answers : List Entry) (s : State (Unit {0})) → StandsFor nothing_added past answers new s
         → StandsFor nothing_added (past ++ untaken new) answers after s)
         → untaken after ≡ [] → sink_after ≡ took sink (lines_of_events how.trace (untaken new))
-        → IsDriven program how (made + 1) left after (past ++ map Answered had) so_far first_told new_told first sink_after
-    turned_on after sink_after takes_out none wrote =
+        → Asks so_far first_seen new_seen
+        → IsDriven program how (made + 1) left after (past ++ map Answered had) so_far first_seen new_seen first sink_after
+    turned_on after sink_after takes_out none wrote asked =
         record {
           at = λ rest.
               let (now, (went, stands)) = goes_over rest in
@@ -299,7 +296,8 @@ module _ {g : _} {program : Program} {how : Manner} {made left : ℕ} {kernel : 
           none = none;
           turns = let turns = running.turns in omega arith;
           told = λ rest agrees.
-              subst (λ (es : List Entry). Agrees first_told es) (regrouped rest) (running.told (map Answered had ++ rest) (takes rest agrees));
+              subst (λ (es : List Entry). Agrees first_seen.left es) (regrouped rest) (running.told (map Answered had ++ rest) (takes rest agrees));
+          asked = asked;
           sink =
               took_on first sink sink_after (lines_of_events how.trace taken) (lines_of_events how.trace (untaken new)) running.sink wrote
               ∙ ap (took first) (sym (lines-append how.trace taken (untaken new)));
@@ -313,126 +311,43 @@ module _ {g : _} {program : Program} {how : Manner} {made left : ℕ} {kernel : 
           begun = λ none. absurd (omega arith);
         }
 
--- ---- what is written
-module _ (may : ProgramOutput → Type 0) (none : Type 0) (first now : SinkSeen) (shown : List ℕ) (had_shown : now ≡ took first shown) where
-  -- a text after what was shown stops short
-  pub early_by : (output : ProgramOutput) → may output → (text rest : List ℕ) → output.text ≡ shown ++ (text ++ rest) → (after : SinkSeen) (halt : Halt)
-      → StopsWriting text now after halt → EndsEarly may none first after halt
-  early_by output allowed text rest is after Memory (front, (others, whole), wrote) = (
-    shown ++ front,
-    inr (output, allowed, (others ++ rest, regrouped shown front others rest ∙ ap (λ (t : List ℕ). shown ++ (t ++ rest)) whole ∙ sym is)),
-    took_on first now after shown front had_shown wrote,
-  )
-    where
-      regrouped : (a b c d : List ℕ) → (a ++ b) ++ (c ++ d) ≡ a ++ ((b ++ c) ++ d)
-      regrouped a b c d = simp append_assoc
-  early_by output allowed text rest is after Sink (front, (others, whole), wrote) = (
-    shown ++ front,
-    inr (output, allowed, (others ++ rest, regrouped shown front others rest ∙ ap (λ (t : List ℕ). shown ++ (t ++ rest)) whole ∙ sym is)),
-    failed_on first now after shown front had_shown wrote,
-  )
-    where
-      regrouped : (a b c d : List ℕ) → (a ++ b) ++ (c ++ d) ≡ a ++ ((b ++ c) ++ d)
-      regrouped a b c d = simp append_assoc
+  -- ---- what the wire was asked
+  module _ (said : code.Went) (asks : AsksBy (untaken kernel) (untaken new) now_seen new_seen said) where
+    once_so : (it : code.Went) → AsksBy (untaken kernel) (untaken new) now_seen new_seen it → AsksOnce now_seen new_seen
+    once_so went.Went asked = asked.0
+    once_so (went.Finished outcome) asked = asked.0
+    once_so went.Stalled asked = asked.0
+    once_so (went.Runaway task) asked = asked.0
+    once_so (went.Stopped (stop.Over call)) asked = asked.0
+    once_so (went.Stopped (stop.Bad fault)) asked = asked.0
+    once_so (went.Stopped (stop.Mismatch count call)) asked = asked.0
+    once_so (went.Stopped (stop.Failed call)) asked = asked.0
+    once_so (went.Stopped stop.Memory) asked = asked
 
-  -- nothing more was written, for want of memory
-  pub nothing_more : (output : ProgramOutput) → may output → (rest : List ℕ) → output.text ≡ shown ++ rest → EndsEarly may none first now Memory
-  nothing_more output allowed rest is = early_by output allowed [] rest is now Memory ([], ([], refl), sym (took-nil now))
+    -- in it
+    pub asked_once : AsksOnce now_seen new_seen
+    asked_once = once_so said asks
 
-  pub nothing_at_all : shown ≡ [] → none → EndsEarly may none first now Memory
-  nothing_at_all empty holds = ([], inl (refl, holds), had_shown ∙ ap (took first) empty)
+    -- from the first on
+    pub asked_more : Asks (taken ++ asked_once.0) first_seen new_seen
+    asked_more = asks_then taken asked_once.0 first_seen now_seen new_seen running.asked asked_once.2
 
-module _ (program : Program) (how : Manner) (fault : End) (before after : WireSeen) (undisturbed quiet : Type 0) (first now last : SinkSeen)
-    (so_far more : List Event) (wrote : now ≡ took first (lines_of_events how.trace so_far)) where
-  abbrev May : ProgramOutput → Type 0
-  May = MayDrive program how fault before after undisturbed
-
-  abbrev shown : List ℕ
-  shown = lines_of_events how.trace so_far
-
-  abbrev text_of : End → List ℕ
-  text_of end = lines_of_events how.trace more ++ line (end_text end)
-
-  -- the text of a run with these events
-  text_is : (it : Run) → it.events ≡ so_far ++ more → transcript how.trace it ≡ shown ++ text_of it.end
-  text_is it is =
-      ap (λ (es : List Event). lines_of_events how.trace es ++ line (end_text it.end)) is
-      ∙ ap (λ (t : List ℕ). t ++ line (end_text it.end)) (lines-append how.trace so_far more)
-      ∙ append_assoc shown (lines_of_events how.trace more) (line (end_text it.end))
-
-  module _ {end : End} (here : EndsHere program how before.left (so_far ++ more) end) (still : undisturbed) where
-    whole_run : Run
-    whole_run = run program here.entries how.turns
-
-    may_end : May (output_of how.trace whole_run)
-    unfolding whole_run
-    may_end = inl (still, here.entries, here.agrees, refl)
-
-    whole_text : transcript how.trace whole_run ≡ shown ++ text_of end
-    unfolding whole_run
-    whole_text =
-        text_is whole_run (ap (λ (it : Run). it.events) here.is) ∙ ap (λ (it : Run). shown ++ text_of it.end) here.is
-
-    pub ends_whole : (status : ℕ) → status ≡ status_of end → last ≡ took now (text_of end) → WritesWhole May first last status
-    unfolding whole_run
-    ends_whole status is all = (
-      output_of how.trace whole_run,
-      may_end,
-      took_on first now last shown (text_of end) wrote all ∙ ap (took first) (sym whole_text),
-      is ∙ ap (λ (it : Run). status_of it.end) (sym here.is),
-    )
-
-    pub ends_early : (halt : Halt) → StopsWriting (text_of end) now last halt → EndsEarly May quiet first last halt
-    unfolding whole_run
-    ends_early halt stops =
-        early_by May quiet first now shown wrote (output_of how.trace whole_run) may_end (text_of end) []
-        (whole_text ∙ ap (λ (t : List ℕ). shown ++ t) (sym (append-nil (text_of end)))) last halt stops
-
-  module _ (here : FailsHere program how before.left (so_far ++ more)) (rose : Rose before.faults after.faults) where
-    failed_run : Run
-    failed_run = record (run program here.had how.turns) { end = fault }
-
-    may_fail : May (output_of how.trace failed_run)
-    unfolding failed_run
-    may_fail = inr (rose, here.had, here.told, (here.call, ap (λ (it : Run). it.end) here.is), refl)
-
-    failed_text : transcript how.trace failed_run ≡ shown ++ text_of fault
-    unfolding failed_run
-    failed_text = text_is failed_run (ap (λ (it : Run). it.events) here.is)
-
-    pub fails_whole : (status : ℕ) → status ≡ status_of fault → last ≡ took now (text_of fault) → WritesWhole May first last status
-    unfolding failed_run
-    fails_whole status is all = (
-      output_of how.trace failed_run,
-      may_fail,
-      took_on first now last shown (text_of fault) wrote all ∙ ap (took first) (sym failed_text),
-      is,
-    )
-
-    pub fails_early : (halt : Halt) → StopsWriting (text_of fault) now last halt → EndsEarly May quiet first last halt
-    unfolding failed_run
-    fails_early halt stops =
-        early_by May quiet first now shown wrote (output_of how.trace failed_run) may_fail (text_of fault) []
-        (failed_text ∙ ap (λ (t : List ℕ). shown ++ t) (sym (append-nil (text_of fault)))) last halt stops
-
-    pub fails_silent : EndsEarly May quiet first now Memory
-    unfolding failed_run
-    fails_silent = nothing_more May quiet first now shown wrote (output_of how.trace failed_run) may_fail (text_of fault) failed_text
-
-  module _ (here : GoesOnHere program how before.left (so_far ++ more)) (still : undisturbed) where
-    further_text : (it : Run) (others : List Event) → it.events ≡ (so_far ++ more) ++ others
-        → transcript how.trace it ≡ shown ++ (lines_of_events how.trace more ++ (lines_of_events how.trace others ++ line (end_text it.end)))
-    further_text it others is =
-        ap (λ (es : List Event). lines_of_events how.trace es ++ line (end_text it.end)) is
-        ∙ ap (λ (t : List ℕ). t ++ line (end_text it.end)) (lines-append how.trace (so_far ++ more) others)
-        ∙ ap (λ (t : List ℕ). (t ++ lines_of_events how.trace others) ++ line (end_text it.end)) (lines-append how.trace so_far more)
-        ∙ regrouped shown (lines_of_events how.trace more) (lines_of_events how.trace others) (line (end_text it.end))
+    pub asked_all : (said ≡ went.Stopped stop.Memory → ⊥) → Asks so_far first_seen new_seen
+    asked_all goes =
+        asks_then taken (untaken new) first_seen now_seen new_seen running.asked (at said goes asks)
       where
-        regrouped : (a b c d : List ℕ) → ((a ++ b) ++ c) ++ d ≡ a ++ (b ++ (c ++ d))
-        regrouped a b c d = simp append_assoc
+        told : (it : AsksOnce now_seen new_seen) × (untaken new ≡ untaken kernel ++ it.0) → Asks (untaken new) now_seen new_seen
+        told (it, is) =
+            subst (λ es. Asks es now_seen new_seen) (sym (is ∙ ap (λ es. es ++ it.0) running.none)) it.2
 
-    pub goes_early : (halt : Halt) → StopsWriting (lines_of_events how.trace more) now last halt → EndsEarly May quiet first last halt
-    goes_early halt stops =
-        let it = run program here.entries how.turns in
-        early_by May quiet first now shown wrote (output_of how.trace it) (inl (still, here.entries, here.agrees, refl))
-        (lines_of_events how.trace more) (lines_of_events how.trace here.more ++ line (end_text it.end)) (further_text it here.more here.is) last halt stops
+        at : (it : code.Went) → (it ≡ went.Stopped stop.Memory → ⊥) → AsksBy (untaken kernel) (untaken new) now_seen new_seen it
+            → Asks (untaken new) now_seen new_seen
+        at went.Went goes asked = told asked
+        at (went.Finished outcome) goes asked = told asked
+        at went.Stalled goes asked = told asked
+        at (went.Runaway task) goes asked = told asked
+        at (went.Stopped (stop.Over call)) goes asked = told asked
+        at (went.Stopped (stop.Bad fault)) goes asked = told asked
+        at (went.Stopped (stop.Mismatch count call)) goes asked = told asked
+        at (went.Stopped (stop.Failed call)) goes asked = told asked
+        at (went.Stopped stop.Memory) goes asked = absurd (goes refl)

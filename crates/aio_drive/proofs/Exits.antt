@@ -1,5 +1,5 @@
 -- What is known of a turn by what comes next.
-use Rattle.std.proofs.Common.{◌≡◌, ℕ, zero, suc, Bool, List, [], Option, ◌⊎◌, inl, inr, refl, ap, sym, ◌∙◌, subst}
+use Rattle.std.proofs.Common.{◌≡◌, ℕ, zero, suc, Bool, List, [], ◌++◌, ◌⊎◌, inl, inr, refl, ap, sym, ◌∙◌, subst}
 use Rattle.model_tree.specs.Syntax.{Program}
 use Rattle.model_says.specs.Says.{step_limit}
 use Rattle.model_wire.specs.declared.event.End.TheVariants as ends
@@ -11,26 +11,27 @@ use Rattle.model_wire.specs.Trace.{End, lines_of_events}
 use Rattle.model_machine.specs.Extra.{no_extra}
 use Rattle.model_machine.specs.Run.{turns_over}
 use Rattle.model_machine.specs.State.{State, start}
-use Rattle.model_machine.specs.Theorem.{ProgramOutput}
 use Rattle.model_machine.specs.Turn.{is_stalled, turn}
 use Rattle.model_machine.specs.Went.{Stops}
 use Rattle.aio_wire.specs.declared.stop.Stop.TheVariants as stop
 use Rattle.aio_extra.specs.Nothing.{nothing_added}
 use Rattle.aio_extra.specs.declared.nothing.NoExtra.{NoExtra}
-use Rattle.aio_core.specs.Turned.{StandsFor, TurnedBy, TurnsTo, untaken}
-use Rattle.aio_core.specs.Turning.{OfFailing, StallsAs, UnlessFailed}
+use Rattle.aio_core.specs.Asked.{Asks, AsksOnce}
+use Rattle.aio_core.specs.Turned.{StandsFor, TurnedBy, TurnsTo, WireTurn, untaken}
+use Rattle.aio_core.specs.Turning.{AsksBy, OfFailing, StallsAs, UnlessFailed}
 use Rattle.aio_core.specs.declared.kernel.Kernel.{Kernel}
 use Rattle.aio_core.specs.declared.went.Went as code
 use Rattle.aio_core.specs.declared.went.Went.TheVariants as went
-use Rattle.aio_drive.specs.Drive.{LastOf, MayDrive, Undisturbed}
+use Rattle.aio_drive.specs.Drive.{IsUnbegun, LastOf, MayDrive, Undisturbed, over_front}
 use Rattle.aio_drive.specs.Ending.{LastSays, NextOf}
 use Rattle.aio_drive.specs.Outcome.{EndsEarly}
 use Rattle.aio_drive.specs.declared.driver.Manner.{Manner}
 use Rattle.aio_drive.specs.declared.ending.AfterTurn.{AfterTurn}
 use Rattle.aio_drive.specs.declared.ending.AfterTurn.TheVariants as next
 use Rattle.aio_drive.specs.declared.halt.Halt.TheVariants.{Memory}
-use Rattle.aio_drive.proofs.Driving.{GoesOnHere, IsDriven, fails_silent, fails_so, goes_early, goes_on_here, nothing_at_all}
+use Rattle.aio_drive.proofs.Driving.{GoesOnHere, IsDriven, asked_all, asked_more, asked_once, fails_so, goes_on_here}
 use Rattle.aio_drive.proofs.Fronts.{append-nil, took-nil}
+use Rattle.aio_drive.proofs.Written.{fails_silent, goes_early, nothing_at_all}
 
 -- a run that begins asks
 pub start-asks : (program : Program) (last : State (Unit {0})) → turn step_limit no_extra (start tt program []) ≡ Stops ends.Stalled last → ⊥
@@ -86,8 +87,8 @@ last_by (went.Stopped (stop.Mismatch count call)) turns end stalled stalls is = 
 last_by (went.Stopped (stop.Failed call)) turns end stalled stalls is = is ∙ ap (λ b. turns_over b turns) (sym stalls)
 last_by (went.Stopped stop.Memory) turns end stalled stalls is = absurd is
 
-pub last_as : {g : _} {fails quiet : Type 0} {before after : WireSeen} {old new : Kernel NoExtra g} {result said : code.Went}
-    → TurnedBy nothing_added fails quiet before after old new result said → (turns : ℕ) (end : End) → LastSays result turns end → LastOf old turns end
+pub last_as : {g : _} {wire : WireTurn} {old new : Kernel NoExtra g} {result said : code.Went}
+    → TurnedBy nothing_added wire old new result said → (turns : ℕ) (end : End) → LastSays result turns end → LastOf old turns end
 last_as {old = old} {result = result} {said = said} by turns end is = λ past answers s stands. at past answers s stands by.either
   where
     at : (past : List Event) (answers : List Entry) (s : State (Unit {0})) → StandsFor nothing_added past answers old s
@@ -97,10 +98,10 @@ last_as {old = old} {result = result} {said = said} by turns end is = λ past an
     at past answers s stands (inr none) = absurd (subst (λ (w : code.Went). LastSays w turns end) none is)
 
 module _ {g : _} {program : Program} {how : Manner} {made left : ℕ} {kernel : Kernel NoExtra g} {past : List Entry} {taken : List Event}
-    {first_told now_told : Option (List Entry)} {first sink : SinkSeen} (new : Kernel NoExtra g) (new_told : Option (List Entry)) (before after : ℕ)
-    (running : IsDriven program how made (suc left) kernel past taken first_told now_told first sink) where
+    {first_seen now_seen : WireSeen} {first sink : SinkSeen} (new : Kernel NoExtra g) (new_seen : WireSeen)
+    (running : IsDriven program how made (suc left) kernel past taken first_seen now_seen first sink) where
   -- no run ends in its first turn over a wire that fails at each call
-  pub alive : (said : code.Went) → TurnsTo nothing_added now_told new_told before after kernel new said → (end : End) → NextOf said (next.Ends end)
+  pub alive : (said : code.Went) → TurnsTo nothing_added now_seen new_seen kernel new said → (end : End) → NextOf said (next.Ends end)
       → OfFailing said → made ≡ 0 → ⊥
   alive went.Went comes end is failing none = failing
   alive (went.Finished outcome) comes end is failing none = failing
@@ -119,28 +120,45 @@ module _ {g : _} {program : Program} {how : Manner} {made left : ℕ} {kernel : 
 
 -- memory was refused in the turn, or after it
 module _ {g : _} {program : Program} {how : Manner} {made left : ℕ} {kernel : Kernel NoExtra g} {past : List Entry} {taken : List Event}
-    {now_told : Option (List Entry)} {first sink : SinkSeen} (new : Kernel NoExtra g) (new_told : Option (List Entry)) (before after : ℕ)
-    (seen last : WireSeen) (fault : End) (fails quiet : Type 0)
-    (running : IsDriven program how made (suc left) kernel past taken seen.left now_told first sink) (rose : Rose before after → Rose seen.faults last.faults)
-    (first_turn : fails → made ≡ 0) where
-  abbrev May : ProgramOutput → Type 0
-  May = MayDrive program how fault seen last (Undisturbed fails quiet)
+    {now : WireSeen} {first sink : SinkSeen} (new : Kernel NoExtra g) (seen last : WireSeen) (fault : End) (fails quiet : Type 0)
+    (running : IsDriven program how made (suc left) kernel past taken seen now first sink) (rose : Rose now.faults last.faults → Rose seen.faults last.faults)
+    (first_turn : fails → made ≡ 0) (said : code.Went) (asks : AsksBy (untaken kernel) (untaken new) now last said) where
+  abbrev EndsUnsaid : SinkSeen → SinkSeen → Type 0
+  EndsUnsaid old late =
+      EndsEarly (MayDrive program how fault (over_front Memory seen last (Undisturbed fails quiet))) (IsUnbegun quiet seen last) old late Memory
 
-  by_turns : quiet → (n : ℕ) → made ≡ n → EndsEarly May quiet first sink Memory
+  -- what was asked so far, and one call at most
+  once_all : taken ≡ [] → AsksOnce seen last
+  once_all none =
+      let once = asked_once new last running said asks in
+      (once.0, once.1, subst (λ es. Asks (es ++ once.0) seen last) none (asked_more new last running said asks))
+
+  here : GoesOnHere program how seen.left (taken ++ [])
+  here = subst (λ (es : List Event). GoesOnHere program how seen.left es) (sym (append-nil taken)) (goes_on_here running)
+
+  by_turns : quiet → (n : ℕ) → made ≡ n → EndsUnsaid first sink
   by_turns holds zero none =
-      nothing_at_all May quiet first sink (lines_of_events how.trace taken) running.sink (ap (lines_of_events how.trace) (running.begun none)) holds
+      nothing_at_all (MayDrive program how fault (over_front Memory seen last (Undisturbed fails quiet))) (IsUnbegun quiet seen last) first sink
+      (lines_of_events how.trace taken) running.sink (ap (lines_of_events how.trace) (running.begun none)) (holds, once_all (running.begun none))
   by_turns holds (suc n) some =
-      goes_early program how fault seen last (Undisturbed fails quiet) quiet first sink sink taken [] running.sink
-      (subst (λ (es : List Event). GoesOnHere program how seen.left es) (sym (append-nil taken)) (goes_on_here running))
-      (λ is. absurd (cc (first_turn is)), holds) Memory ([], ([], refl), sym (took-nil sink))
+      let once = asked_once new last running said asks in
+      goes_early program how fault seen last (Undisturbed fails quiet) quiet first sink sink taken [] running.sink here
+      (λ is. absurd (cc (first_turn is)), holds) Memory (
+        taken,
+        here.more,
+        here.is ∙ ap (λ es. es ++ here.more) (append-nil taken),
+        once.0,
+        once.1,
+        asked_more new last running said asks,
+      ) ([], ([], refl), sym (took-nil sink))
 
-  pub refused : (said : code.Went) → TurnsTo nothing_added now_told new_told before after kernel new said → UnlessFailed quiet said
-      → EndsEarly May quiet first sink Memory
-  refused said comes still = at (failed_or said quiet still)
+  pub refused : TurnsTo nothing_added now last kernel new said → UnlessFailed quiet said → EndsUnsaid first sink
+  refused comes still = at (failed_or said quiet still)
     where
-      at : ((call : Call) × (said ≡ went.Stopped (stop.Failed call))) ⊎ quiet → EndsEarly May quiet first sink Memory
+      at : ((call : Call) × (said ≡ went.Stopped (stop.Failed call))) ⊎ quiet → EndsUnsaid first sink
       at (inl (call, failed)) =
-          let so = subst (λ (w : code.Went). TurnsTo nothing_added now_told new_told before after kernel new w) failed comes in
+          let so = subst (λ (w : code.Went). TurnsTo nothing_added now last kernel new w) failed comes in
           fails_silent program how fault seen last (Undisturbed fails quiet) quiet first sink sink taken (untaken new) running.sink
-          (fails_so new new_told running before after call so) (rose so.1.2)
+          (fails_so new last running call so) (rose so.1.2)
+          (asked_all new last running said asks (λ none. absurd (let e = sym failed ∙ none in cc e)))
       at (inr holds) = by_turns holds made refl

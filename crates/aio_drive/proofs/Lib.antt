@@ -3,3 +3,4 @@ pub mod Exits
 pub mod Fronts
 pub mod Rounds
 pub mod Turns
+pub mod Written

@@ -1,7 +1,7 @@
 //! The one loop that holds kernel, wire and sink.
 ghost use Rattle.std.specs.Prelude.{◌≤◌, IfOk, IfErr};
 ghost use Rattle.model_machine.specs.Theorem.{WritesWhole};
-ghost use Rattle.aio_drive.specs.Drive.{LastOf, MayDrive, Undisturbed};
+ghost use Rattle.aio_drive.specs.Drive.{IsUnbegun, LastOf, MayDrive, Undisturbed, over_all, over_front};
 ghost use Rattle.aio_drive.specs.Outcome.{EndsEarly};
 
 use crate::ending::{AfterTurn, last_says, next_of};
@@ -35,13 +35,14 @@ pub fn drive<W: Wire, K: Sink>(
 ) -> Result<u8, Halt>
     requires some { 1 ≤ manner.turns }
     ensures ok { IfOk result (WritesWhole
-        (MayDrive program.now manner fault.now (W.seen wire.old) (W.seen wire.new)
-        (Undisturbed (W.fails wire.old) (W.quiet wire.old wire.new)))
+        (MayDrive program.now manner fault.now (over_all (W.seen wire.old) (W.seen wire.new)
+        (Undisturbed (W.fails wire.old) (W.quiet wire.old wire.new))))
         (K.seen out.old) (K.seen out.new)) }
-    ensures err { IfErr result (EndsEarly
-        (MayDrive program.now manner fault.now (W.seen wire.old) (W.seen wire.new)
-        (Undisturbed (W.fails wire.old) (W.quiet wire.old wire.new)))
-        (W.quiet wire.old wire.new) (K.seen out.old) (K.seen out.new)) }
+    ensures err { IfErr result (λ halt. EndsEarly
+        (MayDrive program.now manner fault.now (over_front halt (W.seen wire.old) (W.seen wire.new)
+        (Undisturbed (W.fails wire.old) (W.quiet wire.old wire.new))))
+        (IsUnbegun (W.quiet wire.old wire.new) (W.seen wire.old) (W.seen wire.new))
+        (K.seen out.old) (K.seen out.new) halt) }
     ensures keeps { W.keeps wire.old wire.new }
 {
     let mut kernel = Kernel::new(alloc, program, NoExtra)?;

@@ -27,7 +27,7 @@ MayServe a running x v = ∥ ((t : Ties) × ((s : State a.Kept) × IsServed a ru
 
 -- A call came to what the machine's does: by ties that go on, the parts stand for the loop's after its steps, and the object
 -- for what the machine keeps then. What is its own then was so before, or was made since. The running task runs on, and as
--- many handles stand before the bar.
+-- many handles stand before the bar. The profile stays.
 pub record CallsAs {X : Type 0} (a : Added X) (t : Ties) (s : State a.Kept) (v w : View) (x : X) (call : ExtraCall a.Kept) : Type 0 where
   pub ties : Ties
   pub keeps : Keeps ties w (called call s).loop.parts
@@ -35,6 +35,7 @@ pub record CallsAs {X : Type 0} (a : Added X) (t : Ties) (s : State a.Kept) (v w
   pub stands : a.stands ties (called call s).loop.parts x call.state
   pub own : (id : ℕ) → a.owns call.state id → a.owns s.extra id ⊎ (next_future s.loop.parts ≤ id)
   pub below : length w.queue.below ≡ length v.queue.below
+  pub profile : w.profile ≡ v.profile
   pub called : w.called ≡ v.called
   pub running : w.running ≡ v.running
 

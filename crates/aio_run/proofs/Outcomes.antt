@@ -11,6 +11,7 @@ use Rattle.model_text.specs.FirstPass.{fault_at}
 use Rattle.model_text.specs.Scripts.{script_of}
 use Rattle.model_text.specs.SecondPass.{Judged}
 use Rattle.model_wire.specs.declared.event.End.TheVariants as end
+use Rattle.model_wire.specs.Event.{Event}
 use Rattle.model_wire.specs.Journal.{Entry}
 use Rattle.model_wire.specs.JournalText.{entries_of}
 use Rattle.model_wire.specs.Told.{Agrees, FileFailed, Rose, ShelfSeen, SinkSeen, WireSeen, NoneFailed}
@@ -22,7 +23,7 @@ use Rattle.model_machine.specs.Theorem.{ProgramOutput, MayBegin, WritesWhole}
 use Rattle.aio_memwire.specs.declared.buffers.Buffers.{Buffers}
 use Rattle.aio_memwire.specs.JournalWire.{left_of, seen_of}
 use Rattle.aio_memwire.specs.Reading.{IsFront}
-use Rattle.aio_drive.specs.Drive.{MayDrive, Undisturbed}
+use Rattle.aio_drive.specs.Drive.{DrivenWire, IsUnbegun, MayDrive, Undisturbed, over_all, over_front}
 use Rattle.aio_drive.specs.Outcome.{EndsEarly}
 use Rattle.aio_drive.specs.Writing.{StopsWriting}
 use Rattle.aio_drive.specs.declared.driver.Manner as code
@@ -60,17 +61,18 @@ none_failed old new same = ap (λ (s : ShelfSeen). s.faults) same
 -- A program's run that was driven over a journal of a shelf, by what is seen of the shelf before and after.
 pub may_run : (program : Program) (how : code.Manner) (journal : List ℕ) (old new : ShelfSeen) (before after : WireSeen) (fails quiet : Type 0)
     → before.left ≡ left_of (old.file journal) None → (old.file journal ≡ Some None → fails) → (quiet → new ≡ old)
-    → (Rose before.faults after.faults → FileFailed journal old new)
-    → (output : ProgramOutput) → MayDrive program how end.ShelfFault before after (Undisturbed fails quiet) output
+    → (Rose before.faults after.faults → FileFailed journal old new) → (asked : List Event → Type 0) (output : ProgramOutput)
+    → MayDrive program how end.ShelfFault
+    (record { before = before; after = after; undisturbed = Undisturbed fails quiet; asked = asked }) output
     → MayRun old new program (manner_of journal how) output
-may_run program how journal old new before after fails quiet told missing same failed output (inl ((alive, still), entries, agrees, is)) =
+may_run program how journal old new before after fails quiet told missing same failed asked output (inl ((alive, still), entries, agrees, is, asks)) =
     inl (
       none_failed old new (same still),
       entries,
       says_from (old.file journal) entries (λ gone. alive (missing gone)) (subst (λ (t : Option (List Entry)). Agrees t entries) told agrees),
       is,
     )
-may_run program how journal old new before after fails quiet told missing same failed output (inr (rose, had, (rest, agrees), over, is)) =
+may_run program how journal old new before after fails quiet told missing same failed asked output (inr (rose, had, (rest, agrees), over, is, asks)) =
     inr (
       failed rose,
       had,
@@ -131,13 +133,20 @@ module _ {F : Type 0} (seen : F → ShelfSeen) (first held now after : F) (name 
   abbrev Quiet : Type 0
   Quiet = seen now ≡ seen held
 
-  abbrev Drives : ProgramOutput → Type 0
-  Drives = MayDrive program how end.ShelfFault (seen_of (seen held) name own) (seen_of (seen now) late own_last) (Undisturbed Fails Quiet)
+  abbrev before : WireSeen
+  before = seen_of (seen held) name own
+
+  abbrev after_it : WireSeen
+  after_it = seen_of (seen now) late own_last
+
+  abbrev Drives : DrivenWire → ProgramOutput → Type 0
+  Drives wire = MayDrive program how end.ShelfFault wire
 
   abbrev Runs : ProgramOutput → Type 0
   Runs = MayRun (seen first) (seen after) program (manner_of journal how)
 
-  runs : (output : ProgramOutput) → Drives output → Runs output
+  runs : (asked : List Event → Type 0) (output : ProgramOutput)
+      → Drives (record { before = before; after = after_it; undisturbed = Undisturbed Fails Quiet; asked = asked }) output → Runs output
   runs =
       may_run program how journal (seen first) (seen after) (seen_of (seen held) name own) (seen_of (seen now) late own_last) Fails Quiet
       (told_first seen held first name journal own.journal kept named unread)
@@ -148,12 +157,18 @@ module _ {F : Type 0} (seen : F → ShelfSeen) (first held now after : F) (name 
   none_then : Quiet → NoneFailed (seen first) (seen after)
   none_then quiet = none_failed (seen first) (seen after) (seen_kept seen first held now after kept left quiet)
 
-  pub run_whole : (old new : SinkSeen) (status : ℕ) → WritesWhole Drives old new status → WritesWhole Runs old new status
-  run_whole = whole_wider Drives Runs Quiet (NoneFailed (seen first) (seen after)) runs none_then
+  pub run_whole : (old new : SinkSeen) (status : ℕ) → WritesWhole (Drives (over_all before after_it (Undisturbed Fails Quiet))) old new status
+      → WritesWhole Runs old new status
+  run_whole =
+      whole_wider (Drives (over_all before after_it (Undisturbed Fails Quiet))) Runs Quiet (NoneFailed (seen first) (seen after))
+      (runs ((over_all before after_it (Undisturbed Fails Quiet)).asked)) none_then
 
-  pub run_early : (halt : Halt) (old new : SinkSeen) → EndsEarly Drives Quiet old new halt
+  pub run_early : (halt : Halt) (old new : SinkSeen)
+      → EndsEarly (Drives (over_front halt before after_it (Undisturbed Fails Quiet))) (IsUnbegun Quiet before after_it) old new halt
       → EndsEarly Runs (NoneFailed (seen first) (seen after)) old new halt
-  run_early = early_wider Drives Runs Quiet (NoneFailed (seen first) (seen after)) runs none_then
+  run_early halt =
+      early_wider (Drives (over_front halt before after_it (Undisturbed Fails Quiet))) Runs (IsUnbegun Quiet before after_it)
+      (NoneFailed (seen first) (seen after)) (runs ((over_front halt before after_it (Undisturbed Fails Quiet)).asked)) (λ holds. none_then holds.0) halt
 
 -- nothing was written, for want of memory
 pub nothing_yet : (may : ProgramOutput → Type 0) (none : Type 0) (sink : SinkSeen) → none → EndsEarly may none sink sink Memory

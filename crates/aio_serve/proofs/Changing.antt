@@ -35,7 +35,8 @@ module _ {X : Type 0} {a : Added X} where
           time = ap (λ (x : View). x.time) beside;
           schedule = ap (λ (x : View). x.schedule) beside;
         }))
-        (leaves_uncancel other s.loop.parts) (spares_none s.loop.parts (named_in a s)) (refl, refl) (ap (λ (x : View). length x.queue.below) beside);
+        (leaves_uncancel other s.loop.parts) (spares_none s.loop.parts (named_in a s)) (refl, refl) (ap (λ (x : View). length x.queue.below) beside)
+        (ap (λ (x : View). x.profile) beside);
     called = ap (λ (x : View). x.called) beside ∙ h.called;
     running = ap (λ (x : View). x.running) beside ∙ h.running;
   }

@@ -143,6 +143,9 @@ module _ {X : Type 0} {a : Added X} (task id coroutine : ℕ) (arguments : List 
   running_is : mid.parts.running ≡ Some task
   running_is = ap (λ (v : View). v.running) moves.beside ∙ h.in_step.running
 
+  profile_is : mid.parts.profile ≡ old.parts.profile
+  profile_is = ap (λ (v : View). v.profile) moves.beside
+
   -- nothing changed
   refused_stands : (cause : Refusal) → refusal (group_of s.loop id) ≡ Some cause → IsInStep task c mid s
   refused_stands cause r = record {
@@ -150,7 +153,7 @@ module _ {X : Type 0} {a : Added X} (task id coroutine : ℕ) (arguments : List 
         subst (λ b. Stands (Some task) c b s) (sym beside)
         (subst (λ (l : Loop). Stands (Some task) c (record old { parts = mid.parts; groups = mid.groups }) (record s { loop = l })) same
         (stands_stepped (Some task) c old s mid.parts mid.groups (create id) h.in_step.stands came
-        (subst (λ l. StepLeaves s.loop l) (sym same) (step_same s.loop s.loop refl refl))));
+        (subst (λ l. StepLeaves s.loop l) (sym same) (step_same s.loop s.loop refl refl)) profile_is));
     called = called_is;
     running = running_is;
   }
@@ -178,7 +181,7 @@ module _ {X : Type 0} {a : Added X} (task id coroutine : ℕ) (arguments : List 
               subst (λ (b : Body X). WaitsAs program b.code (generator coroutine arguments) holds.slot.coroutine) beside
               (holds.waits program (subst (λ (b : Body X). IsCodeOf program b.code) (sym beside) code));
         })
-        few (runs_no_other task (next_task p) (λ e. let within = within_going task c old s h in omega (arith, within, e))));
+        few profile_is (runs_no_other task (next_task p) (λ e. let within = within_going task c old s h in omega (arith, within, e))));
     called = ap (λ (b : Body X). b.parts.called) holds.beside ∙ called_is;
     running = ap (λ (b : Body X). b.parts.running) holds.beside ∙ running_is;
   }

@@ -102,7 +102,8 @@ module _ {X : Type 0} {a : Added X} (task group : ℕ) (c : Setting a) (old mid 
   gone_stands = record {
     stands =
         subst (λ b. Stands (Some task) c b (with_loop exited.loop s)) (sym beside)
-        (stands_stepped (Some task) c old s mid.parts mid.groups (λ _. exited.loop) h.stands came leaves);
+        (stands_stepped (Some task) c old s mid.parts mid.groups (λ _. exited.loop) h.stands came leaves
+        (ap (λ (v : View). v.profile) moves.beside));
     called = ap (λ (v : View). v.called) moves.beside ∙ h.called;
     running = ap (λ (v : View). v.running) moves.beside ∙ h.running;
   }
@@ -138,6 +139,7 @@ module _ {X : Type 0} {a : Added X} (task group : ℕ) (c : Setting a) (old mid 
       (blocks_came h.stands.ties old.timeouts old.groups mid.groups mid.parts s.loop exited.loop came leaves.timeouts h.stands.blocks))
       (below_appended mid.parts.queue new.parts.queue is.queue
       ∙ below_kept h.stands.ties came.ties old.parts mid.parts s.loop.parts exited.loop.parts h.stands.keeps came.stands.keeps came.extends.bar leaves.handles)
+      (ap (λ (v : View). v.profile) is.parts ∙ ap (λ (v : View). v.profile) moves.beside)
 
   waits_at_exit : (future : ℕ) → next_future s.loop.parts ≤ future → WaitsAtExit task group future mid new
       → HasRested task c new (stands (standing.Leaving group) task (waits task future (with_loop exited.loop s)))

@@ -237,9 +237,9 @@ module _ {X : Type 0} {a : Added X} where
       (change : Loop → Loop) → (h : Stands out c old s) → (kept : Kept h.ties s.loop.parts v (change s.loop).parts)
       → Leaves new s.loop.parts (change s.loop).parts → Spares new s.loop.parts (named_in a s)
       → AreBlocks kept.ties old.timeouts groups (change s.loop) → length v.queue.below ≡ length old.parts.queue.below
-      → Stands out c (record old { parts = v; groups = groups }) (in_loop change s)
-  stands_blocks new out c old s v groups change h kept leaves spares blocks below =
-      stands_kept new out c old s v old.timeouts groups (change s.loop) c.left h kept leaves spares blocks (below ∙ h.left)
+      → v.profile ≡ old.parts.profile → Stands out c (record old { parts = v; groups = groups }) (in_loop change s)
+  stands_blocks new out c old s v groups change h kept leaves spares blocks below profile =
+      stands_kept new out c old s v old.timeouts groups (change s.loop) c.left h kept leaves spares blocks (below ∙ h.left) profile
 
   -- groups and parts of a body stand for its loop
   pub groups_stand : (out : Option ℕ) (c : Setting a) (body : Body X) (s : State a.Kept) → (h : Stands out c body s)
@@ -263,8 +263,9 @@ module _ {X : Type 0} {a : Added X} where
   -- a step of a group
   pub stands_stepped : (out : Option ℕ) (c : Setting a) (old : Body X) (s : State a.Kept) (v : View) (groups : List Held) (change : Loop → Loop)
       → (h : Stands out c old s) → Came h.ties s.loop groups v (change s.loop) → StepLeaves s.loop (change s.loop)
-      → Stands out c (record old { parts = v; groups = groups }) (in_loop change s)
-  stands_stepped out c old s v groups change h came leaves =
+      → v.profile ≡ old.parts.profile → Stands out c (record old { parts = v; groups = groups }) (in_loop change s)
+  stands_stepped out c old s v groups change h came leaves profile =
       stands_blocks None out c old s v groups change h (kept_of came) leaves.parts (spares_none s.loop.parts (named_in a s))
       (blocks_came h.ties old.timeouts old.groups groups v s.loop (change s.loop) came leaves.timeouts h.blocks)
       (below_kept h.ties came.ties old.parts v s.loop.parts (change s.loop).parts h.keeps came.stands.keeps came.extends.bar leaves.handles)
+      profile

@@ -67,7 +67,7 @@ module _ {X : Type 0} {a : Added X} where
         time = h.time;
         counts = h.counts;
         extra = a.goes_on h.ties (let_go id h.ties) s.loop.parts s.loop.parts body.extra s.extra h.extra beside;
-      }) h.left h.bar
+      }) h.left h.bar refl
     where
       gone_go : (other : ℕ) → (h.ties.gone other ≡ true) ⊎ ((other == id) ≡ true) → IsOwnSleep s.loop.parts (named_in a s) None other
       gone_go other (inl e) = h.gone other e

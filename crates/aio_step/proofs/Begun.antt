@@ -124,7 +124,7 @@ module _ {X : Type 0} {a : Added X} (task : ℕ) (input : Input) (c : Setting a)
         schedule = ap (λ (x : View). x.schedule) beside;
       }))
       (leaves_begin task input s.loop.parts) (spares_none s.loop.parts (named_in a s)) (refl, refl)
-      (ap (λ (x : View). length x.queue.below) beside)
+      (ap (λ (x : View). length x.queue.below) beside) (ap (λ (x : View). x.profile) beside)
 
   same_parts : given_up stood begun.loop.parts ≡ (begun_by task input s).parts
   same_parts = given_up_begun stood task input s.loop.parts

@@ -121,7 +121,7 @@ module _ {X : Type 0} {a : Added X} (running out : Option ℕ) (c : Setting a) (
       (record { ties = r.ties; keeps = r.keeps; extends = r.extends }) leaves
       (blocks_on h.ties r.ties old.timeouts old.groups s.loop (called call s).loop r.extends leaves.goes_on (steps_blocks call.steps s.loop).0
       (steps_blocks call.steps s.loop).1 h.blocks)
-      own_called r.stands (r.below ∙ h.left)
+      own_called r.stands (r.below ∙ h.left) r.profile
 
   pub ties_called : stands_called.ties ≡ r.ties
   unfolding stands_called stands_after parts_change

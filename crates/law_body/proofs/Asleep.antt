@@ -185,11 +185,14 @@ module _ {X : Type 0} {a : Added X} where
       below : length w.queue.below ≡ c.left
       below = below_appended v.queue w.queue appended ∙ ap (λ (x : View). length x.queue.below) alarm ∙ h.stands.left
 
+      profile : w.profile ≡ old.parts.profile
+      profile = ap (λ (x : View). x.profile) beside ∙ ap (λ (x : View). x.profile) alarm
+
       asleep : Stands (Some task) c (record old { parts = w }) (waits task on (unbooked_in (alarmed task (pos delay)) s))
-      asleep = stands_by (Some (task, on)) (Some task) c old s w (slept task delay on) h.stands kept leaves spares (refl, refl) c.left below
+      asleep = stands_by (Some (task, on)) (Some task) c old s w (slept task delay on) h.stands kept leaves spares (refl, refl) c.left below profile
 
       ties : asleep.ties ≡ kept.ties
-      ties = by_ties (Some (task, on)) (Some task) c old s w (slept task delay on) h.stands kept leaves spares (refl, refl) c.left below
+      ties = by_ties (Some (task, on)) (Some task) c old s w (slept task delay on) h.stands kept leaves spares (refl, refl) c.left below profile
 
       plain_on : is_plain r on ≡ true
       plain_on = (leaves_suspend task on q).plain on (of_plain q on (record { kind = Plain; outcome = None; callbacks = [] }) (get-push_last p.futures _) refl)

@@ -114,12 +114,13 @@ module _ {X : Type 0} {a : Added X} where
   unfoldable pub parts_change : (out : Option ℕ) (c : Setting a) (old : Body X) (s : State a.Kept) (u : Ties) (v : View) (timeouts : List Timeout)
       (groups : List Held) (x : X) (m : Loop) (it : a.Kept) (left bar : ℕ) (h : Stands out c old s)
       → GoesAs a h.ties u (record old { parts = v; timeouts = timeouts; groups = groups; extra = x }) s (record s { loop = m; extra = it })
-      → length v.queue.below ≡ left → u.bar ≡ bar
+      → length v.queue.below ≡ left → u.bar ≡ bar → v.profile ≡ old.parts.profile
       → Stands out (record c { left = left; bar = bar }) (record old { parts = v; timeouts = timeouts; groups = groups; extra = x })
       (record s { loop = m; extra = it })
-  parts_change out c old s u v timeouts groups x m it left bar h goes below at_bar = record {
+  parts_change out c old s u v timeouts groups x m it left bar h goes below at_bar same = record {
     ties = u;
     code = h.code;
+    profile = same ∙ h.profile;
     keeps = goes.keeps;
     left = below;
     bar = at_bar;
@@ -155,10 +156,10 @@ module _ {X : Type 0} {a : Added X} where
       → Leaves new s.loop.parts m.parts → AreBlocks kept.ties timeouts groups m
       → ((sleeper : Option ℕ) (id : ℕ) → IsOwnSleep s.loop.parts (named_in a s) sleeper id
       → IsOwnSleep m.parts (named_in a (record s { loop = m; extra = it })) sleeper id)
-      → a.stands kept.ties m.parts x it → length v.queue.below ≡ left
+      → a.stands kept.ties m.parts x it → length v.queue.below ≡ left → v.profile ≡ old.parts.profile
       → Stands out (record c { left = left }) (record old { parts = v; timeouts = timeouts; groups = groups; extra = x })
       (record s { loop = m; extra = it })
-  stands_after new out c old s v timeouts groups x m it left h kept leaves blocks own extra below =
+  stands_after new out c old s v timeouts groups x m it left h kept leaves blocks own extra below same =
       parts_change out c old s kept.ties v timeouts groups x m it left c.bar h (record {
         keeps = kept.keeps;
         blocks = blocks;
@@ -170,49 +171,52 @@ module _ {X : Type 0} {a : Added X} where
         time = subst (λ n. n ≤ most) (sym leaves.time) h.time;
         counts = leaves.counts h.counts;
         extra = extra;
-      }) below (kept.extends.bar ∙ h.bar)
+      }) below (kept.extends.bar ∙ h.bar) same
 
   -- Steps of the loop alone, after which timeouts and groups stand for its own, by whatever the code made of them.
   pub stands_kept : (new : Option (ℕ × ℕ)) (out : Option ℕ) (c : Setting a) (old : Body X) (s : State a.Kept) (v : View) (timeouts : List Timeout)
       (groups : List Held) (m : Loop) (left : ℕ) (h : Stands out c old s) (kept : Kept h.ties s.loop.parts v m.parts)
       → Leaves new s.loop.parts m.parts → Spares new s.loop.parts (named_in a s) → AreBlocks kept.ties timeouts groups m
-      → length v.queue.below ≡ left
+      → length v.queue.below ≡ left → v.profile ≡ old.parts.profile
       → Stands out (record c { left = left }) (record old { parts = v; timeouts = timeouts; groups = groups }) (with_loop m s)
-  stands_kept new out c old s v timeouts groups m left h kept leaves spares blocks below =
+  stands_kept new out c old s v timeouts groups m left h kept leaves spares blocks below same =
       stands_after new out c old s v timeouts groups old.extra m s.extra left h kept leaves blocks
       (λ sleeper id. own_on new s.loop.parts m.parts (named_in a s) sleeper id leaves spares)
       (a.goes_on h.ties kept.ties s.loop.parts m.parts old.extra s.extra h.extra
-      (goes_beside (a.owns s.extra) h.ties kept.ties s.loop.parts m.parts kept.extends leaves.plain leaves.goes_on)) below
+      (goes_beside (a.owns s.extra) h.ties kept.ties s.loop.parts m.parts kept.extends leaves.plain leaves.goes_on)) below same
 
   -- An operation on the parts alone, whose view is `v` then, with so many handles before the bar.
   pub stands_by : (new : Option (ℕ × ℕ)) (out : Option ℕ) (c : Setting a) (old : Body X) (s : State a.Kept) (v : View) (change : Loop → Loop)
       → (h : Stands out c old s) → Kept h.ties s.loop.parts v (change s.loop).parts → Leaves new s.loop.parts (change s.loop).parts
       → Spares new s.loop.parts (named_in a s) → SameBlocks s.loop (change s.loop) → (left : ℕ) → length v.queue.below ≡ left
+      → v.profile ≡ old.parts.profile
       → Stands out (record c { left = left }) (record old { parts = v }) (in_loop change s)
-  stands_by new out c old s v change h kept leaves spares same left below =
+  stands_by new out c old s v change h kept leaves spares same left below profile =
       stands_kept new out c old s v old.timeouts old.groups (change s.loop) left h kept leaves spares
-      (blocks_on h.ties kept.ties old.timeouts old.groups s.loop (change s.loop) kept.extends leaves.goes_on same.0 same.1 h.blocks) below
+      (blocks_on h.ties kept.ties old.timeouts old.groups s.loop (change s.loop) kept.extends leaves.goes_on same.0 same.1 h.blocks) below profile
 
   -- It stands by the ties that the parts stand by then.
   pub by_ties : (new : Option (ℕ × ℕ)) (out : Option ℕ) (c : Setting a) (old : Body X) (s : State a.Kept) (v : View) (change : Loop → Loop)
       (h : Stands out c old s) (kept : Kept h.ties s.loop.parts v (change s.loop).parts) (leaves : Leaves new s.loop.parts (change s.loop).parts)
       (spares : Spares new s.loop.parts (named_in a s)) (same : SameBlocks s.loop (change s.loop)) (left : ℕ) (below : length v.queue.below ≡ left)
-      → (stands_by new out c old s v change h kept leaves spares same left below).ties ≡ kept.ties
+      (profile : v.profile ≡ old.parts.profile)
+      → (stands_by new out c old s v change h kept leaves spares same left below profile).ties ≡ kept.ties
   unfolding stands_by stands_kept stands_after parts_change
-  by_ties new out c old s v change h kept leaves spares same left below = refl
+  by_ties new out c old s v change h kept leaves spares same left below profile = refl
 
   -- with as many handles before the bar as the view has
   pub stands_left : (new : Option (ℕ × ℕ)) (out : Option ℕ) (c : Setting a) (old : Body X) (s : State a.Kept) (v : View) (change : Loop → Loop)
       → (h : Stands out c old s) → Kept h.ties s.loop.parts v (change s.loop).parts → Leaves new s.loop.parts (change s.loop).parts
-      → Spares new s.loop.parts (named_in a s) → SameBlocks s.loop (change s.loop)
+      → Spares new s.loop.parts (named_in a s) → SameBlocks s.loop (change s.loop) → v.profile ≡ old.parts.profile
       → Stands out (record c { left = length v.queue.below }) (record old { parts = v }) (in_loop change s)
-  stands_left new out c old s v change h kept leaves spares same =
-      stands_by new out c old s v change h kept leaves spares same (length v.queue.below) refl
+  stands_left new out c old s v change h kept leaves spares same profile =
+      stands_by new out c old s v change h kept leaves spares same (length v.queue.below) refl profile
 
   -- where those stay as many
   pub stands_on : (new : Option (ℕ × ℕ)) (out : Option ℕ) (c : Setting a) (old : Body X) (s : State a.Kept) (v : View) (change : Loop → Loop)
       → (h : Stands out c old s) → Kept h.ties s.loop.parts v (change s.loop).parts → Leaves new s.loop.parts (change s.loop).parts
       → Spares new s.loop.parts (named_in a s) → SameBlocks s.loop (change s.loop) → length v.queue.below ≡ length old.parts.queue.below
+      → v.profile ≡ old.parts.profile
       → Stands out c (record old { parts = v }) (in_loop change s)
-  stands_on new out c old s v change h kept leaves spares same below =
-      stands_by new out c old s v change h kept leaves spares same c.left (below ∙ h.left)
+  stands_on new out c old s v change h kept leaves spares same below profile =
+      stands_by new out c old s v change h kept leaves spares same c.left (below ∙ h.left) profile

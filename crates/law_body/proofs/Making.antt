@@ -39,7 +39,8 @@ module _ {X : Type 0} {a : Added X} where
         (subst (λ x. Kept h.stands.ties s.loop.parts x (settle id outcome s.loop.parts)) (sym is)
         (kept_settle h.stands.ties old.parts s.loop.parts h.stands.keeps id outcome))
         (leaves_settle id outcome s.loop.parts none) (spares_none s.loop.parts (named_in a s)) (refl, refl)
-        (ap (λ (x : View). length x.queue.below) is ∙ ap length (below_soon_all (called id old.parts.futures) old.parts.queue));
+        (ap (λ (x : View). length x.queue.below) is ∙ ap length (below_soon_all (called id old.parts.futures) old.parts.queue))
+        (ap (λ (x : View). x.profile) is);
     called = ap (λ (x : View). x.called) is ∙ h.called;
     running = ap (λ (x : View). x.running) is ∙ h.running;
   }
@@ -107,7 +108,7 @@ module _ {X : Type 0} {a : Added X} where
             (subst (λ x. Kept named.ties s.loop.parts x (new_plain s.loop.parts)) (sym is) (kept_plain named.ties old.parts s.loop.parts named.keeps))
             (leaves_plain s.loop.parts (own_there s.loop.parts owns))
             (spares_none s.loop.parts (named_in a (record s { futures = s.futures ++ next_future s.loop.parts ∷ [] }))) (refl, refl)
-            (ap (λ (x : View). length x.queue.below) is);
+            (ap (λ (x : View). length x.queue.below) is) (ap (λ (x : View). x.profile) is);
         called = ap (λ (x : View). x.called) is ∙ h.called;
         running = ap (λ (x : View). x.running) is ∙ h.running;
       })

@@ -64,6 +64,7 @@ module _ {X : Type 0} {a : Added X} where
       (subst (λ (t : State a.Kept). Stands out setting body t) (sym same_state) (record {
         ties = h.ties;
         code = h.code;
+        profile = h.profile;
         keeps = h.keeps;
         left = h.left;
         bar = h.bar;

@@ -42,7 +42,8 @@ module _ {X : Type 0} {a : Added X} where
           time = ap (λ (x : View). x.time) beside;
           schedule = ap (λ (x : View). x.schedule) beside;
         }))
-        (leaves_pause task s.loop.parts) (spares_none s.loop.parts (named_in a s)) (refl, refl) (ap (λ (x : View). length x.queue.below) beside);
+        (leaves_pause task s.loop.parts) (spares_none s.loop.parts (named_in a s)) (refl, refl) (ap (λ (x : View). length x.queue.below) beside)
+        (ap (λ (x : View). x.profile) beside);
     called = ap (λ (x : View). x.called) beside ∙ h.called;
     running = ap (λ (x : View). x.running) beside;
   }
@@ -62,7 +63,8 @@ module _ {X : Type 0} {a : Added X} where
           time = ap (λ (x : View). x.time) beside;
           schedule = ap (λ (x : View). x.schedule) beside;
         }))
-        (leaves_suspend task on s.loop.parts) spares (refl, refl) (below_appended old.parts.queue v.queue appended);
+        (leaves_suspend task on s.loop.parts) spares (refl, refl) (below_appended old.parts.queue v.queue appended)
+        (ap (λ (x : View). x.profile) beside);
     called = ap (λ (x : View). x.called) beside ∙ h.called;
     running = ap (λ (x : View). x.running) beside;
   }
@@ -81,7 +83,8 @@ module _ {X : Type 0} {a : Added X} where
           time = ap (λ (x : View). x.time) beside;
           schedule = ap (λ (x : View). x.schedule) beside;
         }))
-        (leaves_request by id s.loop.parts) (spares_none s.loop.parts (named_in a s)) (refl, refl) (below_appended old.parts.queue v.queue appended);
+        (leaves_request by id s.loop.parts) (spares_none s.loop.parts (named_in a s)) (refl, refl) (below_appended old.parts.queue v.queue appended)
+        (ap (λ (x : View). x.profile) beside);
     called = ap (λ (x : View). x.called) beside ∙ h.called;
     running = ap (λ (x : View). x.running) beside ∙ h.running;
   }

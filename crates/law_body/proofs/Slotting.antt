@@ -87,6 +87,7 @@ module _ {X : Type 0} {a : Added X} where
       subst (λ b. Stands out (record c { coroutine = taken }) b now) (sym beside) (record {
         ties = h.ties;
         code = h.code;
+        profile = h.profile;
         keeps = h.keeps;
         blocks = h.blocks;
         left = h.left;

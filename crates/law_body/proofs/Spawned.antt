@@ -79,12 +79,13 @@ module _ {X : Type 0} {a : Added X} where
       (coroutine : ℕ) (arguments : List Value) (h : Stands out c old s) (kept : Kept h.ties s.loop.parts v (change s.loop).parts)
       → LeavesMore s.loop.parts (change s.loop).parts → AreBlocks kept.ties old.timeouts groups (change s.loop)
       → length v.queue.below ≡ length old.parts.queue.below → HoldsMore coroutine arguments old held → length old.slots.items + 1 < 2 ^ 32
-      → is_running out (next_task s.loop.parts) ≡ false
+      → v.profile ≡ old.parts.profile → is_running out (next_task s.loop.parts) ≡ false
       → Stands out c (record held { parts = v; groups = groups }) (with_coroutine coroutine arguments (in_loop change s))
-  stands_made out c old held s v groups change coroutine arguments h kept more blocks below holds few other =
+  stands_made out c old held s v groups change coroutine arguments h kept more blocks below holds few profile other =
       subst (λ (b : Body X). Stands out c (record b { parts = v; groups = groups }) now) (sym holds.beside) (record {
         ties = kept.ties;
         code = h.code;
+        profile = profile ∙ h.profile;
         keeps = kept.keeps;
         left = below ∙ h.left;
         bar = kept.extends.bar ∙ h.bar;

@@ -54,9 +54,9 @@ module _ {X : Type 0} {a : Added X} where
   -- ---- the state after a change of the timeouts and of the parts, whose view is `v` then
   pub stands_timed : (out : Option ℕ) (c : Setting a) (old : Body X) (s : State a.Kept) (v : View) (timeouts : List Timeout) (m : Loop)
       → (h : Stands out c old s) → KeptTimeouts h.ties s.loop timeouts v m → Leaves None s.loop.parts m.parts → m.groups ≡ s.loop.groups
-      → length v.queue.below ≡ length old.parts.queue.below
+      → length v.queue.below ≡ length old.parts.queue.below → v.profile ≡ old.parts.profile
       → Stands out c (record old { parts = v; timeouts = timeouts }) (with_loop m s)
-  stands_timed out c old s v timeouts m h kept leaves groups below =
+  stands_timed out c old s v timeouts m h kept leaves groups below profile =
       stands_kept None out c old s v timeouts old.groups m c.left h
       (record { ties = kept.ties; keeps = kept.keeps.parts; extends = kept.extends }) leaves (spares_none s.loop.parts (named_in a s))
       (record {
@@ -64,7 +64,7 @@ module _ {X : Type 0} {a : Added X} where
         groups =
             subst (λ (gs : List Group). (id : ℕ) → KeepsAt kept.ties m.parts (slice_get old.groups id) (slice_get gs id)) (sym groups)
             (groups_on h.ties kept.ties s.loop.parts m.parts leaves.goes_on kept.extends.gone old.groups s.loop.groups h.blocks.groups);
-      }) (below ∙ h.left)
+      }) (below ∙ h.left) profile
 
   pub timeouts_of : (out : Option ℕ) (c : Setting a) (body : Body X) (s : State a.Kept) → (h : Stands out c body s)
       → KeepsTimeouts h.ties body.timeouts body.parts s.loop
@@ -76,7 +76,7 @@ module _ {X : Type 0} {a : Added X} where
       → m.groups ≡ s.loop.groups → length v.queue.below ≡ length old.parts.queue.below → IsSameStep old.parts v
       → IsInStep task c (record old { parts = v; timeouts = timeouts }) (with_loop m s)
   goes_timed task c old s v timeouts m h kept leaves groups below same = record {
-    stands = stands_timed (Some task) c old s v timeouts m h.stands kept leaves groups below;
+    stands = stands_timed (Some task) c old s v timeouts m h.stands kept leaves groups below same.profile;
     called = same.called ∙ h.called;
     running = same.running ∙ h.running;
   }

@@ -97,7 +97,7 @@ change-on (NamesFuture future) s may = on_as s _ refl refl
 change-on EndsMain s may = on_as s _ refl refl
 change-on (ChangesExtra extra) s may = on_as s _ refl refl
 
-turned-on : {S : Type 0} (limit : ℕ) (added : Extra S) (answer : Answer) (s : State S) → IsOn s (state_of (turned_by limit added answer s))
+pub turned-on : {S : Type 0} (limit : ℕ) (added : Extra S) (answer : Answer) (s : State S) → IsOn s (state_of (turned_by limit added answer s))
 turned-on limit added answer s = fold IsOn (λ t. on_as t t refl refl) on_then change-on (turned_row limit added answer s)
 
 -- ---- turns. Each asks once. One that goes on took an answer.

@@ -98,6 +98,7 @@ module _ (running : Option ℕ) (t : Ties) (s : State next.MadeFutures) (x : Nex
     stands = h.stands;
     own = λ id own. inl own;
     below = refl;
+    profile = refl;
     called = refl;
     running = refl;
   }
@@ -151,6 +152,7 @@ module _ (running : Option ℕ) (t : Ties) (s : State next.MadeFutures) (x : Nex
       );
       own = λ id mine. since id (own_split s.extra (next_future p) id mine);
       below = ap (λ (z : View). length z.queue.below) is;
+      profile = ap (λ (z : View). z.profile) is;
       called = ap (λ (z : View). z.called) is;
       running = ap (λ (z : View). z.running) is;
     }
@@ -218,6 +220,7 @@ module _ (running : Option ℕ) (t : Ties) (s : State next.MadeFutures) (x : Nex
         );
         own = λ other own. inl own;
         below = ap (λ (z : View). length z.queue.below) is ∙ ap length (below_all (settled.called id v.futures) v.queue);
+        profile = ap (λ (z : View). z.profile) is;
         called = ap (λ (z : View). z.called) is;
         running = ap (λ (z : View). z.running) is;
       }

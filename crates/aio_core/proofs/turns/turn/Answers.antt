@@ -1,16 +1,20 @@
-use Rattle.std.proofs.Common.{Ok, Err, true, false, ◌≡◌, ◌∙◌, refl, sym, subst, arith}
+use Rattle.std.proofs.Common.{Ok, Err, true, false, List, ◌≡◌, ◌∙◌, refl, sym, subst, append-nil, arith}
 use Rattle.std.proofs.lemmas.Result.{err_from_is_err_and}
+use Rattle.model_wire.specs.Event.{Event}
 use Rattle.model_wire.specs.Fits.{fits}
+use Rattle.model_wire.specs.Journal.{Entry}
 use Rattle.model_says.specs.Says.{step_limit}
 use Rattle.model_machine.specs.State.{State, unbooked_in}
 use Rattle.model_machine.specs.Turn.{is_stalled, turned_by, woken_by}
 use Rattle.aio_body.specs.declared.body.Body.{Body}
 use Rattle.aio_body.specs.Stands.{IsBetween, Setting}
-use Rattle.aio_core.specs.Turning.{AliveIfWent, ComesTo, IsAlive, StallsAs, Turned, all_below, at_bar, resting, said_by, stood_by}
+use Rattle.aio_core.specs.Turning.{AliveIfWent, AsksBy, ComesTo, IsAlive, IsAtRest, StallsAs, Turned, all_below, at_bar, changed_by, resting, said_by, stood_by}
 use Rattle.aio_core.specs.declared.went.Went as code
 use Rattle.aio_core.specs.declared.went.Went.TheVariants as went
 use Rattle.aio_core.proofs.Asking.{HasGot, failing_answered, failing_stopped, got_alive, got_so, stalls_so, stalls_stopped}
 use Rattle.aio_core.proofs.Asking.{still_after, still_stopped, stops_so, turned_so}
+use Rattle.aio_core.proofs.Asked.{had_once, none_once}
+use Rattle.aio_core.proofs.AskedByTurn.{stop_asks, turn_asks}
 use Rattle.aio_core.proofs.Waking.{fits_time}
 use Rattle.aio_core.proofs.turns.turn.Goals as goal
 use Rattle.aio_core.proofs.turns.turn.Goals.{In_ok-answer}
@@ -22,6 +26,10 @@ returns-then-is_stalled-clause-comes g c =
 pub returns-then-is_stalled-clause-stalls : goal.returns-then-is_stalled-clause-stalls
 returns-then-is_stalled-clause-stalls g c =
     λ past answers s h. sym (c.is_stalled.ensures (resting g.X.Extra.added past answers h.0) s h.1) ∙ c.if-is_stalled.true
+
+pub returns-then-is_stalled-clause-asked : goal.returns-then-is_stalled-clause-asked
+returns-then-is_stalled-clause-asked g c =
+    λ past answers s h. (none_once (g.W.Wire.seen c.args.wire.now), sym (append-nil c.args.body.now.events.events))
 
 pub returns-then-is_stalled-clause-keeps : goal.returns-then-is_stalled-clause-keeps
 returns-then-is_stalled-clause-keeps g c = g.met.W.Wire.keeps_same c.args.wire.now
@@ -40,6 +48,13 @@ returns-in_err-answer-clause-comes g c =
     rw (p.1, p.2) (stops_so c.args.body.now c.first_call-call.result c.first_call-call.ensures.call
     (λ d s h. sym c.if-is_stalled.false ∙ c.is_stalled.ensures d s h) c.ask.new.body.events (g.W.Wire.seen c.args.wire.now) (g.W.Wire.seen c.ask.new.wire)
     (Err why) why refl c.in_err-answer.ensures.asks (stood_by g.X.Extra.added c.ask.new.body))
+
+pub returns-in_err-answer-clause-asked : goal.returns-in_err-answer-clause-asked
+returns-in_err-answer-clause-asked g c =
+    let p = err_from_is_err_and c.from_residual.result c.from_residual.ensures.1 in
+    let why = c.in_err-answer.field-0.0 in
+    rw (p.1, p.2) (λ past answers s h. stop_asks c.first_call-call.result c.args.body.now.events c.ask.new.body.events
+    (g.W.Wire.seen c.args.wire.now) (g.W.Wire.seen c.ask.new.wire) (Err why) why refl c.in_err-answer.ensures.asks)
 
 pub returns-in_err-answer-clause-stalls : goal.returns-in_err-answer-clause-stalls
 returns-in_err-answer-clause-stalls g c =
@@ -95,13 +110,18 @@ module _ (g : _) (c : In_ok-answer g) (new : Body _) (said : code.Went) (does : 
     → IsBetween d (record c.args.body.now { events = c.ask.new.body.events }) s
     → Turned (at_bar (all_below d (unbooked_in (woken_by c.in_ok-answer.answer) s))) new said
     (turned_by step_limit g.X.Extra.added.meaning c.in_ok-answer.answer s)) where
-  turned : ComesTo g.X.Extra.added.meaning (g.W.Wire.seen c.args.wire.now).left (g.W.Wire.seen c.ask.new.wire).left
-      (g.W.Wire.seen c.args.wire.now).faults (g.W.Wire.seen c.ask.new.wire).faults (stood_by g.X.Extra.added c.args.body.now)
-      (stood_by g.X.Extra.added new) new.events.events said
+  turned : ComesTo g.X.Extra.added.meaning (g.W.Wire.seen c.args.wire.now) (g.W.Wire.seen c.ask.new.wire)
+      (changed_by g.X.Extra.added c.args.body.now new) said
       × StallsAs false said × AliveIfWent g.X.Extra.added said new
   turned =
       turned_so c.args.body.now c.first_call-call.result c.first_call-call.ensures.call (goes g c) c.in_ok-answer.answer c.ask.new.body.events
       (g.W.Wire.seen c.args.wire.now) (g.W.Wire.seen c.ask.new.wire) (got g c) new said does (alive g c)
+
+  asked : (past : List Event) (answers : List Entry) (s : State _) → IsAtRest g.X.Extra.added past answers c.args.body.now s
+      → AsksBy c.args.body.now.events.events new.events.events (g.W.Wire.seen c.args.wire.now) (g.W.Wire.seen c.ask.new.wire) said
+  asked past answers s h =
+      turn_asks c.args.body.now c.first_call-call.result c.first_call-call.ensures.call (goes g c) c.in_ok-answer.answer c.ask.new.body.events
+      (g.W.Wire.seen c.args.wire.now) (g.W.Wire.seen c.ask.new.wire) (got g c) new said does past answers s h
 
 pub after-requires-clause-alive : goal.after-requires-clause-alive
 after-requires-clause-alive g c =
@@ -124,6 +144,12 @@ pub returns-in_err-after-clause-stalls : goal.returns-in_err-after-clause-stalls
 returns-in_err-after-clause-stalls g c =
     let p = err_from_is_err_and c.from_residual-in_err-after.result c.from_residual-in_err-after.ensures.1 in
     rw (p.1, p.2) (λ past answers s h. tt)
+
+pub returns-in_err-after-clause-asked : goal.returns-in_err-after-clause-asked
+returns-in_err-after-clause-asked g c =
+    let p = err_from_is_err_and c.from_residual-in_err-after.result c.from_residual-in_err-after.ensures.1 in
+    rw (p.1, p.2) (λ past answers s h. had_once c.first_call-call.result c.in_ok-answer.answer (g.W.Wire.seen c.args.wire.now)
+    (g.W.Wire.seen c.ask.new.wire) (got g (goal.at.returns-in_err-after-clause-asked g c).In_ok-answer).is_asked)
 
 pub returns-in_err-after-clause-alive : goal.returns-in_err-after-clause-alive
 returns-in_err-after-clause-alive g c =
@@ -152,6 +178,11 @@ pub returns-clause-comes : goal.returns-clause-comes
 returns-clause-comes g c =
     (turned g (goal.at.returns-clause-comes g c).In_ok-answer c.after.new.body c.in_ok-after.field-0
     (λ d s h. c.in_ok-after.ensures d s (subst (λ b. IsBetween d b s) (sym c.in_ok-answer.ensures.beside) h))).0
+
+pub returns-clause-asked : goal.returns-clause-asked
+returns-clause-asked g c =
+    asked g (goal.at.returns-clause-asked g c).In_ok-answer c.after.new.body c.in_ok-after.field-0
+    (λ d s h. c.in_ok-after.ensures d s (subst (λ b. IsBetween d b s) (sym c.in_ok-answer.ensures.beside) h))
 
 pub returns-clause-stalls : goal.returns-clause-stalls
 returns-clause-stalls g c =

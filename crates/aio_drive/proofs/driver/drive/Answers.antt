@@ -1,10 +1,13 @@
 use Rattle.std.proofs.Common.{◌-◌, ◌^◌, ◌≤◌, [], ap, refl, sym, subst, arith}
 use Rattle.std.proofs.lemmas.Result.{err_from_is_err_and, IfOk-weaker, IfErr-weaker}
 use Rattle.aio_wire.specs.EventList.{EventList}
-use Rattle.aio_drive.specs.Drive.{MayDrive, Undisturbed}
+use Rattle.aio_core.proofs.Asked.{none_once}
+use Rattle.aio_drive.specs.Drive.{IsUnbegun, MayDrive, Undisturbed, over_front}
+use Rattle.aio_drive.specs.declared.halt.Halt.TheVariants.{Memory}
 use Rattle.aio_drive.specs.Ending.{NextOf}
 use Rattle.aio_drive.specs.declared.ending.AfterTurn.{AfterTurn}
-use Rattle.aio_drive.proofs.Driving.{nothing_at_all, running_first}
+use Rattle.aio_drive.proofs.Driving.{running_first}
+use Rattle.aio_drive.proofs.Written.{nothing_at_all}
 use Rattle.aio_drive.proofs.Fronts.{took-nil}
 use Rattle.aio_drive.proofs.Rounds.{ends_err, ends_ok, fails_err, fails_ok, goes_at, goes_err, goes_on, last_err, last_ok, last_unsaid, refused_at, with_turn}
 use Rattle.aio_drive.proofs.driver.drive.Goals as goal
@@ -13,11 +16,11 @@ pub returns-in_err-kernel-clause-err : goal.returns-in_err-kernel-clause-err
 returns-in_err-kernel-clause-err g c =
     let p = err_from_is_err_and c.from_residual.result c.from_residual.ensures.1 in
     rw (p.1, p.2) (nothing_at_all
-    (MayDrive c.args.program.now c.args.manner c.args.fault.now (g.W.Wire.seen c.args.wire.now) (g.W.Wire.seen c.args.wire.now)
-    (Undisturbed (g.W.Wire.fails c.args.wire.now) (g.W.Wire.quiet c.args.wire.now c.args.wire.now)))
-    (g.W.Wire.quiet c.args.wire.now c.args.wire.now)
+    (MayDrive c.args.program.now c.args.manner c.args.fault.now (over_front Memory (g.W.Wire.seen c.args.wire.now) (g.W.Wire.seen c.args.wire.now)
+    (Undisturbed (g.W.Wire.fails c.args.wire.now) (g.W.Wire.quiet c.args.wire.now c.args.wire.now))))
+    (IsUnbegun (g.W.Wire.quiet c.args.wire.now c.args.wire.now) (g.W.Wire.seen c.args.wire.now) (g.W.Wire.seen c.args.wire.now))
     (g.K.Sink.seen c.args.out.now) (g.K.Sink.seen c.args.out.now) [] (sym (took-nil (g.K.Sink.seen c.args.out.now))) refl
-    (g.met.W.Wire.quiet_same c.args.wire.now))
+    (g.met.W.Wire.quiet_same c.args.wire.now, none_once (g.W.Wire.seen c.args.wire.now)))
 
 pub new-requires : goal.new-requires
 new-requires g c = record { fresh = ∣ (tt, λ t p. tt) ∣₁ }
@@ -28,7 +31,7 @@ loop-made-init g c = record {
     c.args.manner.turns,
     [],
     [],
-    running_first c.args.program.now c.args.manner c.in_ok-kernel.kernel (g.W.Wire.seen c.args.wire.now).left (g.K.Sink.seen c.args.out.now)
+    running_first c.args.program.now c.args.manner c.in_ok-kernel.kernel (g.W.Wire.seen c.args.wire.now) (g.K.Sink.seen c.args.out.now)
         (c.in_ok-kernel.ensures tt (λ t p. tt)),
   );
   fails = λ fails. (refl, fails);
