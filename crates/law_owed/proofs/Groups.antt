@@ -8,7 +8,6 @@ use Rattle.model_value.specs.Input.{Input}
 use Rattle.model_value.specs.Value.{Nothing, Exc}
 use Rattle.model_value.specs.declared.action.Action.TheVariants.{GroupDone}
 use Rattle.model_value.specs.declared.outcome.Outcome.TheVariants.{Value as Returned, Cancelled}
-use Rattle.model_loop.specs.Futures.{settle}
 use Rattle.model_loop.specs.Groups.{abort, abort_and_request_unless, abort_where, begin_exit, blame, child_done, create}
 use Rattle.model_loop.specs.Groups.{enter_group, exit_begin, exit_woken, failure_of, group_of, make_group, new_group, next_group}
 use Rattle.model_loop.specs.Groups.{only_cancelled, request_parent, set_group, take_back, take_back_where, wait_or_end, wake_exit}

@@ -9,7 +9,7 @@ use Rattle.model_value.specs.declared.action.Action.TheVariants.{Fires, Extra as
 use Rattle.model_loop.specs.Ending.{cancel_everything}
 use Rattle.model_loop.specs.Groups.{group_of}
 use Rattle.model_loop.specs.Futures.{settle}
-use Rattle.model_loop.specs.Handles.{deadline, later}
+use Rattle.model_loop.specs.Handles.{deadline}
 use Rattle.model_loop.specs.Ledger.{Origin, ByEnd, ByExtra, ByTimeout, ask_cancel, uncancel_by}
 use Rattle.model_loop.specs.Loop.{TimeoutState, Created, Active, Expiring, Expired, Finished, Timeout, Loop, book, in_parts}
 use Rattle.model_loop.specs.Owning.{OwnsFutures}
