@@ -1,3 +1,4 @@
 pub mod Polls
 pub mod InMemory
 pub mod MemPolls
+pub mod Launches
