@@ -1,3 +1,4 @@
+pub use Rattle.model_pump.specs.Posts
 pub mod Numbers
 pub mod Views
 pub mod Names

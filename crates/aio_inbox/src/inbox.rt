@@ -40,8 +40,8 @@ impl<N: InboxName> Inbox<N> {
     /// Makes it the inbox that `N` names, with its taker and a poster for each seat, from seat 0 on.
     /// `Memory` where memory was refused.
     pub fn make(
-        unnamed: UnnamedInbox,
         alloc: Global,
+        unnamed: UnnamedInbox,
         seats: u32,
     ) -> Result<(Inbox<N>, Taker<N>, Vec<Poster<N>>), Memory>
         requires seats { (1 ≤ seats) × (seats ≤ 1024) }

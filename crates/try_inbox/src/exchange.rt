@@ -51,7 +51,7 @@ fn make_new<N: InboxName>(
     requires seats { (1 ≤ seats) × (seats ≤ 1024) }
     ensures { IfOk result (λ made. All (λ p. p.posted ≡ []) made.2.items) }
 {
-    Inbox::<N>::make(unnamed, alloc, seats)
+    Inbox::<N>::make(alloc, unnamed, seats)
 }
 
 /// Takes so many posts, as they come.

@@ -30,7 +30,7 @@ where
     R: Threads + Wait + Copy + Send + 'static,
     requires { table_of unnamed ≡ N.table }
 {
-    let (inbox, mut taker, mut posters) = Inbox::<N>::make(unnamed, alloc, 2)?;
+    let (inbox, mut taker, mut posters) = Inbox::<N>::make(alloc, unnamed, 2)?;
     let inbox = Arc::new(alloc, inbox)?;
     for _ in 0..2 {
         let Some(poster) = posters.pop() else {

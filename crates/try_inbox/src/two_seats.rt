@@ -16,7 +16,7 @@ pub fn two_seats<N: InboxName, R: Wait>(
 ) -> Result<bool, Memory>
     requires { table_of unnamed ≡ N.table }
 {
-    let (inbox, mut taker, mut posters) = Inbox::<N>::make(unnamed, alloc, 2)?;
+    let (inbox, mut taker, mut posters) = Inbox::<N>::make(alloc, unnamed, 2)?;
     let (Some(mut second), Some(mut first)) = (posters.pop(), posters.pop()) else {
         return Ok(false);
     };
