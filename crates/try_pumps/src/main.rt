@@ -108,7 +108,7 @@ fn run_row<N: InboxName + Send + Sync, R: Threads + Wait + Sync>(
 ) -> bool
     requires { table_of unnamed ≡ N.table }
 {
-    match Inbox::<N>::make(unnamed, alloc, 2) {
+    match Inbox::<N>::make(alloc, unnamed, 2) {
         Ok((inbox, taker, posters)) => run_with(rt, alloc, &inbox, taker, posters, row),
         Err(_) => false,
     }
