@@ -1,6 +1,6 @@
 -- The course of `pump_in`: what is so at each turn of its loop, and how a command leads on from there.
-use Rattle.std.proofs.Common.{◌≡◌, ℕ, ◌+◌, ◌-◌, ◌^◌, ◌≤◌, ◌⊎◌, inl, inr, ⊎_elim, List, [], ◌∷◌, ◌++◌, length, Option, Some, None, refl, sym, ap, ◌∙◌, subst, append_assoc, append-nil, length-append, arith}
-use Rattle.model_wire.specs.Told.{Rose, SinkSeen, SinkFailed, grown, took}
+use Rattle.std.proofs.Common.{◌≡◌, ℕ, ◌+◌, inl, inr, ⊎_elim, List, [], ◌∷◌, ◌++◌, length, Option, Some, None, refl, sym, ap, ◌∙◌, subst, append-nil, length-append}
+use Rattle.model_wire.specs.Told.{Rose, SinkSeen, grown, took}
 use Rattle.model_pump.specs.Posts.{PostKind}
 use Rattle.model_pump.specs.declared.post.PostKind.TheVariants.{Room, Broken, Starved}
 use Rattle.model_pump.specs.Commands.{Command}
@@ -44,7 +44,8 @@ module _ (tail hears : TailSeen) (before now after : Moment SinkSeen) (going : G
       moved ∙ ap (λ x. told (x + length part)) going.moves ∙ told_add (length (joined so_far)) (length part)
       ∙ ap told (sym (length-append (joined so_far) part))
 
-  taken_on : (part : List ℕ) → after.served.taken ≡ grown now.served.taken part → after.served.taken ≡ grown before.served.taken (joined so_far ++ part)
+  taken_on : (part : List ℕ) → after.served.taken ≡ grown now.served.taken part
+      → after.served.taken ≡ grown before.served.taken (joined so_far ++ part)
   unfolding so_far
   taken_on part taken =
       taken ∙ ap (λ (s : SinkSeen). grown s.taken part) going.takes ∙ grown-grown before.served.taken (joined so_far) part
@@ -75,7 +76,8 @@ module _ (tail hears : TailSeen) (before now after : Moment SinkSeen) (going : G
         moves = moved_on bytes went.2 ∙ ap (λ (l : List ℕ). told (length l)) (sym all);
       }
 
-  broken : (bytes part rest : List ℕ) → bytes ≡ part ++ rest → writes (going.received ++ Write bytes ∷ []) ≡ so_far ++ (part ++ rest) ∷ []
+  broken : (bytes part rest : List ℕ) → bytes ≡ part ++ rest
+      → writes (going.received ++ Write bytes ∷ []) ≡ so_far ++ (part ++ rest) ∷ []
   broken bytes part rest is = more bytes ∙ ap (λ (b : List ℕ). so_far ++ b ∷ []) is
 
   -- a Write at which the pump ends

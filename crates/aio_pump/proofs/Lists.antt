@@ -1,7 +1,6 @@
 -- Lists of commands, and what they ask.
 use Rattle.std.proofs.Common.{◌≡◌, ℕ, ◌+◌, List, [], ◌∷◌, ◌++◌, length, refl, sym, ap, ◌∙◌, append_assoc, append-nil, length-append, zero-add, add-zero, arith}
 use Rattle.model_pump.specs.declared.stream.Stream.{Stream}
-use Rattle.model_pump.specs.Posts.{PostKind}
 use Rattle.model_pump.specs.declared.post.PostKind.TheVariants.{Piece, Room}
 use Rattle.model_pump.specs.Commands.{Command}
 use Rattle.model_pump.specs.declared.command.Command.TheVariants.{Go, Write, Close, Stop}

@@ -1,5 +1,5 @@
 -- The exit in memory answers as every exit does.
-use Rattle.std.proofs.Common.{◌≡◌, ℕ, ◌≤◌, Bool, true, false, if◌then◌else◌, Option, Some, refl, arith}
+use Rattle.std.proofs.Common.{◌≤◌, Bool, true, false, if◌then◌else◌, Some, refl, arith}
 use Rattle.aio_pump.specs.declared.exit.Exited.TheVariants.{Code, Failed}
 use Rattle.aio_pump.specs.Exits.{ExitSeen, ExitAnswers, ExitPlan, one_more, fails, exited, waited}
 

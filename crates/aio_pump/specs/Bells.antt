@@ -1,5 +1,5 @@
 -- How often a bell was rung, where that is told.
-use Rattle.std.specs.Prelude.{◌≡◌, ℕ, ◌+◌, ◌-◌, ◌^◌, Option, Some, None, min}
+use Rattle.std.specs.Prelude.{ℕ, ◌+◌, ◌-◌, ◌^◌, Option, Some, None, min}
 
 -- once more: the number rises, unless it stands at the last value of its type
 abbrev pub rung : Option ℕ → Option ℕ

@@ -1,3 +1,8 @@
+pub use Rattle.model_wire.specs.Told
+pub use Rattle.model_pump.specs.Posts
+pub use Rattle.model_pump.specs.Commands
+pub use Rattle.aio_inbox.specs.Views
+pub use Rattle.aio_lane.specs.Ends
 pub mod Bells
 pub mod Moments
 pub mod Exits

@@ -1,5 +1,5 @@
 -- A pump at one moment, and what its posts make of it.
-use Rattle.std.specs.Prelude.{◌≡◌, ℕ, ◌-◌, ◌^◌, Bool, true, false, List, [], ◌∷◌, ◌++◌, length, min, Option}
+use Rattle.std.specs.Prelude.{◌≡◌, ℕ, ◌-◌, ◌^◌, Bool, true, false, List, [], ◌∷◌, length, min, Option}
 use Rattle.model_pump.specs.Posts.{PostKind}
 use Rattle.aio_inbox.specs.declared.view.PosterView.{PosterView}
 use Rattle.aio_inbox.specs.Views.{with_posted}

@@ -28,7 +28,8 @@ Gave old bytes new = ((rest : List ℕ) → Agrees new.left rest → Agrees old.
 
 -- How the call ended, by the parts that were posted, the bytes that the source gave, and the last post where it is no
 -- piece. Each Go but the last was answered by a piece; the last too, where the pump ends at Close or Stop.
-abbrev pub EndsOut : Stream → Moment SourceSeen → Moment SourceSeen → List Command → List (List ℕ) → List ℕ → List PostKind → Ending → Type 0
+abbrev pub EndsOut : Stream → Moment SourceSeen → Moment SourceSeen → List Command → List (List ℕ) → List ℕ → List PostKind
+    → Ending → Type 0
 EndsOut stream before after received parts given last Ended =
     (given ≡ joined parts)
     × (((last ≡ []) × IsLast Close received × (length parts ≡ gos received))
@@ -45,7 +46,8 @@ EndsOut stream before after received parts given last Memory =
 
 -- The posts are the parts in order, each at its offset, and then the last one. The parts, joined, are a prefix of what the
 -- source gave in this call.
-pub record PumpedOut (stream : Stream) (tail : TailSeen) (before after : Moment SourceSeen) (back : Option TailSeen) (ending : Ending) : Type 0 where
+pub record PumpedOut (stream : Stream) (tail : TailSeen) (before after : Moment SourceSeen) (back : Option TailSeen)
+    (ending : Ending) : Type 0 where
   pub received : List Command
   pub parts : List (List ℕ)
   pub given : List ℕ

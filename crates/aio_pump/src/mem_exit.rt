@@ -31,7 +31,12 @@ impl Model for MemExit {
 
 impl MemExit {
     pub fn new(code: i32, failing: Vec<u64>) -> MemExit
-        ensures { result ≡ record { code = code; failing = failing.items; waits = 0; faults = 0 } }
+        ensures { result ≡ record {
+          code = code;
+          failing = failing.items;
+          waits = 0;
+          faults = 0;
+        } }
     {
         MemExit {
             code,

@@ -64,7 +64,8 @@ fn obey<R: Wait, N: InboxName, S: Source, B: Bell>(
     bell: &mut B,
     moved: u64,
 ) -> (u64, Option<Ending>)
-    ensures { ObeysOut stream command (moment (S.seen source.old) poster.old (B.rings bell.old) moved)
+    ensures { ObeysOut stream command
+        (moment (S.seen source.old) poster.old (B.rings bell.old) moved)
         (moment (S.seen source.new) poster.new (B.rings bell.new) result.0) result.1 }
 {
     match command {
