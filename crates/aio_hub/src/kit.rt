@@ -30,7 +30,7 @@ pub struct PumpReports<N: InboxName> {
 }
 
 /// How a pump of a child ended: how many bytes it moved, at most 2^64 - 1, and why it ended.
-#[derive(Clone, Copy, Debug, PartialEq, Eq)]
+#[derive(Clone, Copy, PartialEq, Eq)]
 pub struct PumpEnd {
     pub child: u32,
     pub moved: u64,

@@ -115,7 +115,8 @@ goes_when_not_halted is.Faulted h = absurd (false≢true (sym h))
 goes_when_not_halted is.Starving h = absurd (false≢true (sym h))
 
 -- ---- a post that was taken
-module _ (watched : List Watch) (items kept items_now kept_now : List Item) (children children_now : List Child) (taken taken_now : List Post) (count : ℕ) (noted : Noted) where
+module _ (watched : List Watch) (items kept items_now kept_now : List Item) (children children_now : List Child)
+    (taken taken_now : List Post) (count : ℕ) (noted : Noted) where
   pub after_take : (took : TakesPost noted children taken children_now taken_now)
       → OffersAll watched items kept (list_of noted.item) items_now kept_now
       → gathering items_now kept_now children_now taken_now (count + 1) noted.halt

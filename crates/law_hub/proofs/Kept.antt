@@ -248,7 +248,8 @@ module _ (from : Pump) (child : ℕ) (teller : is_teller from ≡ true) where
         of_two (λ next. line next ≡ line g ++ of (came ∷ [])) (goes_in watched g came)
         (record g { items = g.items ++ came ∷ [] }) (record g { kept = g.kept ++ kept_of came })
         (λ goes.
-        let none = not_true (list_any (clashes came) g.kept) (and_first (not (list_any (clashes came) g.kept)) (turn_fits watched 0 (g.items ++ came ∷ [])) goes) in
+        let none = not_true (list_any (clashes came) g.kept)
+        (and_first (not (list_any (clashes came) g.kept)) (turn_fits watched 0 (g.items ++ came ∷ [])) goes) in
         ap (λ l. l ++ of g.kept) (filter-append (is_of from child) g.items (came ∷ []))
         ∙ past_kept (is_of from child came) came (of g.items) (of g.kept) (none_kept came g.kept none))
         (ap (λ l. of g.items ++ l) (filter-append (is_of from child) g.kept (kept_of came))

@@ -14,13 +14,15 @@ of_list watched slice items came answer known same is knows =
 pub returns-then-is_apart : goal.returns-then-is_apart
 returns-then-is_apart c =
     let items = c.args.self.now.items.items in
-    let apart = of_list c.args.watch.now c.as_slice.result.now items c.args.item.now c.is_apart.result true c.as_slice.ensures.value c.is_apart.ensures c.if-is_apart.true in
+    let apart = of_list c.args.watch.now c.as_slice.result.now items c.args.item.now c.is_apart.result true
+    c.as_slice.ensures.value c.is_apart.ensures c.if-is_apart.true in
     c.has_room_for.ensures ∙ ap (λ b. b && has_room items c.args.item.now) (sym apart)
     ∙ fits_more c.args.watch.now items c.args.item.now c.requires
 
 pub returns-else-is_apart : goal.returns-else-is_apart
 returns-else-is_apart c =
     let items = c.args.self.now.items.items in
-    let apart = of_list c.args.watch.now c.as_slice.result.now items c.args.item.now c.is_apart.result false c.as_slice.ensures.value c.is_apart.ensures c.if-is_apart.false in
+    let apart = of_list c.args.watch.now c.as_slice.result.now items c.args.item.now c.is_apart.result false
+    c.as_slice.ensures.value c.is_apart.ensures c.if-is_apart.false in
     c.if-is_apart.false ∙ ap (λ b. b && has_room items c.args.item.now) (sym apart)
     ∙ fits_more c.args.watch.now items c.args.item.now c.requires
