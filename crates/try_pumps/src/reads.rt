@@ -137,7 +137,7 @@ impl ReadRow {
         }
         bytes.extend_from_slice(self.bytes)?;
         let failing = Vec::from_slice(alloc, self.failing)?;
-        Ok(FailAt::new(MemSource::new(Blob::of(bytes)), failing))
+        Ok(FailAt::new(MemSource::new(alloc, Blob::of(bytes)), failing))
     }
 
     // What the pump tells, which has a thread of its own.
