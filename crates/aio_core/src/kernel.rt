@@ -3,7 +3,7 @@ ghost use Rattle.aio_core.specs.Turning.{AliveUnless};
 
 use crate::begin::begin;
 use crate::ending::{end, keep};
-use crate::turns::turn;
+use crate::turns::{is_stalled, turn};
 use crate::went::Went;
 use aio_base::Memory;
 use aio_body::Body;
@@ -30,6 +30,7 @@ impl<X: Extra + Drop> Kernel<X> {
     ghost use Rattle.model_wire.specs.Journal.{Entry};
     ghost use Rattle.model_loop.specs.Tasks.{next_task};
     ghost use Rattle.model_machine.specs.State.{State};
+    ghost use Rattle.model_machine.specs.Turn.{is_stalled};
     ghost use Rattle.aio_extra.specs.Added.{KeepsNothing};
     ghost use Rattle.aio_core.specs.declared.went.Went.{Went as AnyWent};
     ghost use Rattle.aio_core.specs.Turned.{StandsFor, Begins, TurnedBy, KeepsEnd, ended, untaken};
@@ -90,6 +91,14 @@ impl<X: Extra + Drop> Kernel<X> {
             → StandsFor X.added (past ++ untaken self.old) answers self.new s }
     {
         self.body.events.take()
+    }
+
+    /// Whether nothing is pending and nothing can come, so that the next turn is stalled.
+    pub fn is_stalled(&self) -> bool
+        ensures { (past : List Event) (answers : List Entry) (s : State X.added.Kept)
+            → StandsFor X.added past answers self.now s → result ≡ is_stalled X.added.meaning s }
+    {
+        is_stalled(&self.body)
     }
 
     /// How many tasks were made so far.

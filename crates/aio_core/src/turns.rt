@@ -59,8 +59,8 @@ pub fn turn<W: Wire, X: Extra>(
     Ok(after(body, alloc, &answer, seen)?)
 }
 
-// Nothing is pending, and nothing can come.
-fn is_stalled<X: Extra>(body: &Body<X>) -> bool
+/// Nothing is pending, and nothing can come.
+pub fn is_stalled<X: Extra>(body: &Body<X>) -> bool
     ensures { (c : Setting X.added) (s : State X.added.Kept) → IsBetween c body.now s
         → result ≡ plain_is_stalled X.added.meaning s }
 {

@@ -45,7 +45,7 @@ invariant_of-self-in-Ok g c = record {
 
 pub invariant_of-self-in-Err : goal.invariant_of-self-in-Err
 invariant_of-self-in-Err g c = record {
-  alive = kept_alive (went.Stopped c.in-Err.stop) c.keep-in-Err.result c.take.new.self c.keep-in-Err.new.kept c.take.ensures.after c.keep-in-Err.ensures
+  alive = kept_alive (went.Stopped _) c.keep-in-Err.result c.take.new.self c.keep-in-Err.new.kept c.take.ensures.after c.keep-in-Err.ensures
       g.X.Extra.added c.turn.new.body tt;
 }
 
