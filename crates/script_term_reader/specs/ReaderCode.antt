@@ -75,4 +75,3 @@ coded_open =
     (λ innermost. (innermost.bracket, (innermost.loose, innermost.tight)))
     (λ parts. record { bracket = parts.0; loose = parts.1.0; tight = parts.1.1 })
     (λ _. refl)
-
