@@ -77,7 +77,8 @@ fn pumped<N: InboxName, R: Wait>(
     told_of(report, &bell)
 }
 
-// Takes until both seats have ended, and sets the word of each seat of which a post was taken.
+// Takes until each seat posted what is no piece, which is its last, and sets the word of each seat of which a post was
+// taken.
 fn take_both<N: InboxName, R: Wait>(
     rt: &R,
     inbox: &Inbox<N>,
@@ -95,7 +96,7 @@ fn take_both<N: InboxName, R: Wait>(
             Some(post) => {
                 let word = if post.seat == 0 { of_first } else { of_second };
                 word.store(1, Ordering::SeqCst);
-                if matches!(&post.kind, PostKind::End(_)) {
+                if !matches!(&post.kind, PostKind::Piece { .. }) {
                     ends = ends.saturating_add(1);
                 }
             }
