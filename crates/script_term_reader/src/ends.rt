@@ -13,8 +13,8 @@ ghost use Rattle.script_term_reader.specs.Made.{Makes};
 ghost use Rattle.script_term_reader.specs.Next.{Lands};
 ghost use Rattle.script_term_reader.specs.Reader.{plain_bracket};
 
-use crate::pending::{Gained, Loose, Tight, disjunction_of, no_loose};
-use crate::reader::{Bracket, Open, Position, TermProgress, at, before, forget, forget_loose};
+use crate::pending::{Gained, Loose, Tight, disjunction_of, forget_loose, no_loose};
+use crate::reader::{Bracket, Open, Position, TermProgress, at, before, forget};
 use script_term::{Join, Operand, Symbol, Term, TermList, all_that_fit, capped, joined};
 use std::alloc::Global;
 use std::rc::RcStr;

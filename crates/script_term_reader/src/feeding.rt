@@ -16,12 +16,9 @@ ghost use Rattle.script_term_reader.specs.Next.{applied, Arrives, Sends, Lands};
 use crate::ends::{at_closing, at_comma, named};
 use crate::pending::{
     Gained, Loose, Tight, behind_and, behind_compared, behind_minus, behind_not, behind_or,
-    behind_product, behind_sum, no_loose, no_tight,
+    behind_product, behind_sum, forget_loose, forget_operand, no_loose, no_tight,
 };
-use crate::reader::{
-    AfterLexeme, Bracket, Open, Position, TermProgress, at, forget, forget_loose, forget_operand,
-    goes, opens,
-};
+use crate::reader::{AfterLexeme, Bracket, Open, Position, TermProgress, at, forget, goes, opens};
 use script_term::{Comparison, Constant, Lexeme, Operand, Operator, ReservedWord, Symbol, Term};
 use std::alloc::Global;
 use std::rc::RcStr;

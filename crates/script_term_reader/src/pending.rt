@@ -150,24 +150,65 @@ fn product_of(
     ensures { Makes plain_operand (calculated (plain_left left)
         (with_minuses minuses (plain_operand operand))) result }
 {
-    let right = with_minuses(alloc, minuses, operand)?;
-    calculated(alloc, left, right)
+    match with_minuses(alloc, minuses, operand) {
+        Ok(right) => calculated(alloc, left, right),
+        Err(refused) => {
+            forget_calculated(left);
+            Err(refused)
+        }
+    }
 }
 
 /// Forgets what stands left of a comparison.
 fn sum_of(alloc: Global, tight: Tight, operand: Operand) -> Gained<Operand>
     ensures { Makes plain_operand (sum_of tight (plain_operand operand)) result }
 {
-    let product = product_of(alloc, tight.product_left, tight.minuses, operand)?;
-    calculated(alloc, tight.sum_left, product)
+    let Tight {
+        compare_left,
+        sum_left,
+        product_left,
+        minuses,
+    } = tight;
+    forget_compared(compare_left);
+    sum_of_parts(alloc, sum_left, product_left, minuses, operand)
+}
+
+fn sum_of_parts(
+    alloc: Global,
+    sum_left: Option<(Operator, Operand)>,
+    product_left: Option<(Operator, Operand)>,
+    minuses: usize,
+    operand: Operand,
+) -> Gained<Operand>
+    ensures { Makes plain_operand (calculated (plain_left sum_left)
+        (calculated (plain_left product_left) (with_minuses minuses (plain_operand operand))))
+        result }
+{
+    match product_of(alloc, product_left, minuses, operand) {
+        Ok(product) => calculated(alloc, sum_left, product),
+        Err(refused) => {
+            forget_calculated(sum_left);
+            Err(refused)
+        }
+    }
 }
 
 fn comparison_of(alloc: Global, tight: Tight, operand: Operand) -> Gained<Operand>
     ensures { Makes plain_operand (comparison_of tight (plain_operand operand)) result }
 {
-    let product = product_of(alloc, tight.product_left, tight.minuses, operand)?;
-    let sum = calculated(alloc, tight.sum_left, product)?;
-    compared(alloc, tight.compare_left, sum)
+    let Tight {
+        compare_left,
+        sum_left,
+        product_left,
+        minuses,
+    } = tight;
+    match sum_of_parts(alloc, sum_left, product_left, minuses, operand) {
+        Ok(sum) => compared(alloc, compare_left, sum),
+        Err(refused) => {
+            forget_compared(compare_left);
+            Err(refused)
+        }
+    }
 }
 
 fn conjunction_of(
@@ -180,9 +221,21 @@ fn conjunction_of(
     ensures { Makes plain_operand (and_of (option_map plain_operand left)
         (with_nots nots (comparison_of tight (plain_operand operand)))) result }
 {
+    match denied_comparison(alloc, nots, tight, operand) {
+        Ok(right) => and_of(alloc, left, right),
+        Err(refused) => {
+            forget_left(left);
+            Err(refused)
+        }
+    }
+}
+
+fn denied_comparison(alloc: Global, nots: usize, tight: Tight, operand: Operand) -> Gained<Operand>
+    ensures { Makes plain_operand (with_nots nots (comparison_of tight (plain_operand operand)))
+        result }
+{
     let comparison = comparison_of(alloc, tight, operand)?;
-    let right = with_nots(alloc, nots, comparison)?;
-    and_of(alloc, left, right)
+    with_nots(alloc, nots, comparison)
 }
 
 /// What all levels make of the operand.
@@ -194,8 +247,18 @@ pub fn disjunction_of(
 ) -> Gained<Operand>
     ensures { Makes plain_operand (disjunction_of loose tight (plain_operand operand)) result }
 {
-    let conjunction = conjunction_of(alloc, loose.and_left, loose.nots, tight, operand)?;
-    or_of(alloc, loose.or_left, conjunction)
+    let Loose {
+        or_left,
+        and_left,
+        nots,
+    } = loose;
+    match conjunction_of(alloc, and_left, nots, tight, operand) {
+        Ok(conjunction) => or_of(alloc, or_left, conjunction),
+        Err(refused) => {
+            forget_left(or_left);
+            Err(refused)
+        }
+    }
 }
 
 // ---- what is pending behind an operator that stands behind an operand
@@ -214,13 +277,19 @@ pub fn behind_product(
         product_left,
         minuses,
     } = tight;
-    let left = product_of(alloc, product_left, minuses, operand)?;
-    Ok(Tight {
-        compare_left,
-        sum_left,
-        product_left: Some((operator, left)),
-        minuses: 0,
-    })
+    match product_of(alloc, product_left, minuses, operand) {
+        Ok(left) => Ok(Tight {
+            compare_left,
+            sum_left,
+            product_left: Some((operator, left)),
+            minuses: 0,
+        }),
+        Err(refused) => {
+            forget_compared(compare_left);
+            forget_calculated(sum_left);
+            Err(refused)
+        }
+    }
 }
 
 pub fn behind_sum(
@@ -237,14 +306,18 @@ pub fn behind_sum(
         product_left,
         minuses,
     } = tight;
-    let product = product_of(alloc, product_left, minuses, operand)?;
-    let left = calculated(alloc, sum_left, product)?;
-    Ok(Tight {
-        compare_left,
-        sum_left: Some((operator, left)),
-        product_left: None,
-        minuses: 0,
-    })
+    match sum_of_parts(alloc, sum_left, product_left, minuses, operand) {
+        Ok(left) => Ok(Tight {
+            compare_left,
+            sum_left: Some((operator, left)),
+            product_left: None,
+            minuses: 0,
+        }),
+        Err(refused) => {
+            forget_compared(compare_left);
+            Err(refused)
+        }
+    }
 }
 
 /// At most one comparison.
@@ -258,7 +331,11 @@ pub fn behind_compared(
         (plain_operand operand)) result }
 {
     match &tight.compare_left {
-        Some(_) => Ok(None),
+        Some(_) => {
+            forget_tight(tight);
+            forget_operand(operand);
+            Ok(None)
+        }
         None => Ok(Some(behind_comparison(alloc, tight, comparison, operand)?)),
     }
 }
@@ -288,12 +365,17 @@ pub fn behind_and(alloc: Global, loose: Loose, tight: Tight, operand: Operand) -
         and_left,
         nots,
     } = loose;
-    let left = conjunction_of(alloc, and_left, nots, tight, operand)?;
-    Ok(Loose {
-        or_left,
-        and_left: Some(left),
-        nots: 0,
-    })
+    match conjunction_of(alloc, and_left, nots, tight, operand) {
+        Ok(left) => Ok(Loose {
+            or_left,
+            and_left: Some(left),
+            nots: 0,
+        }),
+        Err(refused) => {
+            forget_left(or_left);
+            Err(refused)
+        }
+    }
 }
 
 pub fn behind_or(alloc: Global, loose: Loose, tight: Tight, operand: Operand) -> Gained<Loose>
@@ -312,8 +394,16 @@ pub fn behind_not(loose: Loose) -> Gained<Loose>
     ensures { Makes (λ a. a) (record loose { nots = suc loose.nots }) result }
 {
     let mut loose = loose;
-    loose.nots = one_more(loose.nots)?;
-    Ok(loose)
+    match one_more(loose.nots) {
+        Ok(nots) => {
+            loose.nots = nots;
+            Ok(loose)
+        }
+        Err(refused) => {
+            forget_loose(loose);
+            Err(refused)
+        }
+    }
 }
 
 /// One unary `-` more.
@@ -321,8 +411,16 @@ pub fn behind_minus(tight: Tight) -> Gained<Tight>
     ensures { Makes (λ a. a) (record tight { minuses = suc tight.minuses }) result }
 {
     let mut tight = tight;
-    tight.minuses = one_more(tight.minuses)?;
-    Ok(tight)
+    match one_more(tight.minuses) {
+        Ok(minuses) => {
+            tight.minuses = minuses;
+            Ok(tight)
+        }
+        Err(refused) => {
+            forget_tight(tight);
+            Err(refused)
+        }
+    }
 }
 
 /// No memory holds as many lexemes as would take the count to its type's end.
@@ -331,3 +429,37 @@ fn one_more(count: usize) -> Gained<usize>
 {
     count.checked_add(1).ok_or(AllocError)
 }
+
+// ---- What is let go is taken apart first, and each kind of part is let go in one place.
+
+/// Lets go what is pending loosely.
+pub fn forget_loose(loose: Loose) {
+    let Loose {
+        or_left,
+        and_left,
+        nots: _,
+    } = loose;
+    forget_left(or_left);
+    forget_left(and_left);
+}
+
+/// Lets go what is pending tightly.
+pub fn forget_tight(tight: Tight) {
+    let Tight {
+        compare_left,
+        sum_left,
+        product_left,
+        minuses: _,
+    } = tight;
+    forget_compared(compare_left);
+    forget_calculated(sum_left);
+    forget_calculated(product_left);
+}
+
+fn forget_left(_left: Option<Operand>) {}
+
+fn forget_compared(_left: Option<(Comparison, Operand)>) {}
+
+fn forget_calculated(_left: Option<(Operator, Operand)>) {}
+
+pub fn forget_operand(_operand: Operand) {}

@@ -6,7 +6,7 @@ ghost use Rattle.law_reading.specs.Feeding.{opening};
 ghost use Rattle.script_term_reader.specs.Next.{Arrives};
 ghost use Rattle.script_term_reader.specs.Reader.{plain_bracket, plain_progress};
 
-use crate::pending::{Loose, Tight};
+use crate::pending::{Loose, Tight, forget_loose, forget_operand, forget_tight};
 use script_term::Operand;
 use std::marker::Model;
 use std::rc::RcStr;
@@ -183,10 +183,4 @@ pub fn forget(loose: Loose, tight: Tight) {
     forget_tight(tight);
 }
 
-pub fn forget_loose(_loose: Loose) {}
-
-fn forget_tight(_tight: Tight) {}
-
 fn forget_bracket(_bracket: Bracket) {}
-
-pub fn forget_operand(_operand: Operand) {}
