@@ -12,7 +12,7 @@ use std::rc::{Rc, RcSlice, RcStr};
 /// An exception: its kind, its text, its bytes and the members of a group. Contracts see it as plain data, in which
 /// `None` and an empty text, byte value or list are the same.
 #[cycle(exc)]
-#[derive(Debug, Drop)]
+#[derive(Drop)]
 pub struct Exc {
     pub kind: Kind,
     pub text: Option<RcStr>,
@@ -22,7 +22,7 @@ pub struct Exc {
 
 /// Exceptions in order. Contracts see them as a list.
 #[cycle(exc)]
-#[derive(Debug, Drop)]
+#[derive(Drop)]
 pub struct ExcList {
     items: Vec<Exc>,
 }

@@ -12,13 +12,13 @@ use std::rc::{Rc, RcSlice, RcStr};
 
 /// A value of a script. Contracts see it as plain data.
 #[cycle(value)]
-#[derive(Debug, Drop)]
+#[derive(Drop)]
 pub struct Value {
     node: ValueNode,
 }
 
 #[cycle(value)]
-#[derive(Debug, Drop)]
+#[derive(Drop)]
 enum ValueNode {
     Nothing,
     Bool(bool),
@@ -39,7 +39,7 @@ enum ValueNode {
 
 /// A list of values.
 #[cycle(value)]
-#[derive(Debug, Drop)]
+#[derive(Drop)]
 pub struct ValueList {
     items: Vec<Value>,
 }

@@ -6,7 +6,7 @@ use aio_wire::{Stop, copy_of_call};
 use std::alloc::Global;
 
 /// What a turn comes to: the run goes on, or how it ended.
-#[derive(Debug, Drop)]
+#[derive(Drop)]
 pub enum Went {
     Went,
     /// Main is done, in this way, and no task lives.

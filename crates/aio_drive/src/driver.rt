@@ -17,7 +17,7 @@ use aio_wire::{Events, Sink, Wire};
 use std::alloc::Global;
 
 /// How a run is driven: with the trace or without it, and of at most so many turns.
-#[derive(Clone, Copy, Debug, PartialEq, Eq)]
+#[derive(Clone, Copy, PartialEq, Eq)]
 pub struct Manner {
     pub trace: bool,
     pub turns: u64,

@@ -10,7 +10,7 @@ use aio_trace::End;
 use aio_wire::Stop;
 
 /// What comes after a turn.
-#[derive(Debug, Drop)]
+#[derive(Drop)]
 pub enum AfterTurn {
     /// A further turn.
     Turn,

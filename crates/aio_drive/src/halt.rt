@@ -6,7 +6,7 @@ use aio_base::Memory;
 use std::alloc::AllocError;
 
 /// Why writing stops before all is written.
-#[derive(Clone, Copy, Debug, PartialEq, Eq)]
+#[derive(Clone, Copy, PartialEq, Eq)]
 pub enum Halt {
     /// Memory was refused.
     Memory,

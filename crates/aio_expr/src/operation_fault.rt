@@ -6,7 +6,7 @@ use aio_base::Memory as WantOfMemory;
 use std::alloc::{AllocError, AllocFailed};
 
 /// Why an operation has no value: the exception that it raises, or want of memory.
-#[derive(Clone, Copy, Debug, PartialEq, Eq)]
+#[derive(Clone, Copy, PartialEq, Eq)]
 pub enum OperationFault {
     BadOperand,
     OutOfRange,

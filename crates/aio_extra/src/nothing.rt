@@ -9,7 +9,7 @@ use aio_task::Parts;
 use std::alloc::Global;
 
 /// Nothing is added: each code is unknown.
-#[derive(Clone, Copy, Debug)]
+#[derive(Clone, Copy)]
 pub struct NoExtra;
 
 impl Extra for NoExtra {

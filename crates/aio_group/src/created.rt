@@ -7,7 +7,7 @@ use aio_base::{Exc, Kind, Memory, exception};
 use std::alloc::Global;
 
 /// A task is made, or why none is: the first cause that holds.
-#[derive(Clone, Copy, Debug, PartialEq, Eq)]
+#[derive(Clone, Copy, PartialEq, Eq)]
 pub enum Created {
     Task(u32),
     NotEntered,

@@ -3,7 +3,7 @@ use aio_base::Exc;
 use aio_task::FutureId;
 
 /// An exit waits, or has ended.
-#[derive(Debug, Drop)]
+#[derive(Drop)]
 pub enum GroupExit {
     /// Children are left: the exit goes on once this future is done.
     Waits(FutureId),

@@ -2,7 +2,7 @@ use model_text::Symbol;
 use std::marker::Model;
 
 /// What a token is, with its value.
-#[derive(Clone, Copy, Debug, PartialEq, Eq)]
+#[derive(Clone, Copy, PartialEq, Eq)]
 pub enum TokenClass<'a> {
     /// A letter or `_`, then letters, digits and `_`.
     Name(&'a str),
@@ -17,7 +17,7 @@ pub enum TokenClass<'a> {
 
 /// Where a token stands in its line: the column of its first byte, from 1, and the
 /// column behind its last.
-#[derive(Clone, Copy, Debug, PartialEq, Eq)]
+#[derive(Clone, Copy, PartialEq, Eq)]
 pub struct Span {
     pub start: usize,
     pub end: usize,

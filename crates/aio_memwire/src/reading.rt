@@ -12,7 +12,7 @@ use std::alloc::{AllocError, Global};
 const CHUNK: usize = 65_536;
 
 /// Why a file could not be read.
-#[derive(Clone, Copy, Debug, PartialEq, Eq)]
+#[derive(Clone, Copy, PartialEq, Eq)]
 pub enum ReadFault {
     Memory,
     /// The shelf failed.

@@ -2,7 +2,7 @@
 ghost use Rattle.aio_pump.specs.Exits.{ExitSeen, ExitAnswers};
 
 /// What waiting for an exit gave.
-#[derive(Clone, Copy, Debug, PartialEq, Eq)]
+#[derive(Clone, Copy, PartialEq, Eq)]
 pub enum Exited {
     /// The child ended with this code.
     Code(i32),

@@ -4,7 +4,7 @@ use aio_inbox::{InboxName, Poster};
 use aio_lane::Tail;
 
 /// Why a pump ended.
-#[derive(Clone, Copy, Debug, PartialEq, Eq)]
+#[derive(Clone, Copy, PartialEq, Eq)]
 pub enum Ending {
     /// The source ended, Close came, or the exit was posted.
     Ended,

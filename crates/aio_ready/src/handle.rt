@@ -6,7 +6,7 @@ ghost use Rattle.aio_ready.specs.Untimed.{is_timed};
 use aio_base::Action;
 
 /// What a handle can be cancelled by.
-#[derive(Clone, Copy, Debug)]
+#[derive(Clone, Copy)]
 pub enum HandleName {
     /// Nothing: no number was left.
     Nameless,
@@ -17,13 +17,13 @@ pub enum HandleName {
 }
 
 /// What `Ready::soon` answers.
-#[derive(Clone, Copy, Debug)]
+#[derive(Clone, Copy)]
 pub struct HandleId {
     pub name: HandleName,
 }
 
 /// A handle that waits to run: what it runs, and whether it was cancelled.
-#[derive(Debug, Drop)]
+#[derive(Drop)]
 pub struct Handle {
     pub name: HandleName,
     pub action: Action,

@@ -15,7 +15,7 @@ use std::alloc::{AllocError, Global};
 const FRONT: usize = 1_048_577;
 
 /// Why there is no script.
-#[derive(Clone, Copy, Debug, PartialEq, Eq)]
+#[derive(Clone, Copy, PartialEq, Eq)]
 pub enum NoScript {
     /// The text has its first fault at this line, and of this cause.
     Refused { line: u64, cause: u8 },

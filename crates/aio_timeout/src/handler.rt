@@ -16,7 +16,7 @@ use std::alloc::Global;
 const MOST_GIVEN: u64 = 1 << 62;
 
 /// What waits for a deadline, and asks for the cancel of the timeout's task.
-#[derive(Clone, Copy, Debug)]
+#[derive(Clone, Copy)]
 pub enum TimeoutHandler {
     /// A pending handle, of a deadline that wasn't later than the time.
     Soon(HandleId),

@@ -7,7 +7,7 @@ use aio_base::{Exc, Kind, Memory, exception};
 use std::alloc::Global;
 
 /// How far a timeout has come.
-#[derive(Clone, Copy, Debug, PartialEq, Eq)]
+#[derive(Clone, Copy, PartialEq, Eq)]
 pub enum TimeoutState {
     /// Its block wasn't entered. No timeout that has a number stands so, since it is made as its
     /// block is entered.
@@ -23,7 +23,7 @@ pub enum TimeoutState {
 }
 
 /// What becomes of a new deadline.
-#[derive(Clone, Copy, Debug, PartialEq, Eq)]
+#[derive(Clone, Copy, PartialEq, Eq)]
 pub enum Rescheduled {
     Set,
     /// The timeout isn't active. `TimeoutState::fault` is what is raised.
@@ -31,7 +31,7 @@ pub enum Rescheduled {
 }
 
 /// What becomes of the way in which a block was left.
-#[derive(Clone, Copy, Debug, PartialEq, Eq)]
+#[derive(Clone, Copy, PartialEq, Eq)]
 pub enum TimeoutExit {
     /// It goes on as it was.
     Passes,

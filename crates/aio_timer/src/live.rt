@@ -11,7 +11,7 @@ use std::collections::BTreeMap;
 use std::marker::Model;
 
 /// What `Timers::at` answers: the timer's number, which is given once, and its deadline.
-#[derive(Clone, Copy, Debug)]
+#[derive(Clone, Copy)]
 pub struct TimerId {
     pub number: u64,
     pub when: u64,

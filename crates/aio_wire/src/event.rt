@@ -12,7 +12,7 @@ pub type Event = model_wire::Event<Call, Answer, Action, Blob>;
 
 /// The events of a run that weren't taken out yet, in order, and how many answers the run has had
 /// so far. Contracts see them as the list and the number.
-#[derive(Debug, Drop)]
+#[derive(Drop)]
 pub struct Events {
     list: Vec<Event>,
     answers: u64,

@@ -11,7 +11,7 @@ use std::rc::RcStr;
 pub type Item = model_wire::Item<Blob>;
 
 /// The items of a turn. Contracts see them as a list.
-#[derive(Debug, Drop)]
+#[derive(Drop)]
 pub struct ItemList {
     items: Vec<Item>,
 }
@@ -40,7 +40,7 @@ impl ItemList {
 }
 
 /// What a select watches, in order of opening. Contracts see it as a list.
-#[derive(Debug, Drop)]
+#[derive(Drop)]
 pub struct WatchList {
     items: Vec<Watch>,
 }
@@ -69,7 +69,7 @@ impl WatchList {
 }
 
 /// The words of a launch: a program and its arguments. Contracts see them as a list of texts.
-#[derive(Debug, Drop)]
+#[derive(Drop)]
 pub struct WordList {
     items: Vec<RcStr>,
 }

@@ -7,7 +7,7 @@ use aio_base::Memory;
 use std::alloc::Global;
 
 /// What a write gave.
-#[derive(Clone, Copy, Debug, PartialEq, Eq)]
+#[derive(Clone, Copy, PartialEq, Eq)]
 pub enum SinkTook {
     /// So many bytes of the piece's front were taken: at least one of a piece that is not empty.
     Took(usize),

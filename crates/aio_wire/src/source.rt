@@ -7,7 +7,7 @@ use aio_base::{Blob, Memory};
 use std::alloc::Global;
 
 /// What a read gave.
-#[derive(Debug, Drop)]
+#[derive(Drop)]
 pub enum SourceGot {
     /// The next bytes, at least one.
     Bytes(Blob),

@@ -8,7 +8,7 @@ use aio_base::Memory;
 use std::alloc::AllocError;
 
 /// Why a call has no answer that fits, and why the run stops there.
-#[derive(Debug, Drop)]
+#[derive(Drop)]
 pub enum Stop {
     /// No answer was left for this call.
     Over(Call),

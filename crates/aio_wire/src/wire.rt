@@ -15,7 +15,7 @@ pub struct JournalFault {
 }
 
 /// What a wire replies to a call.
-#[derive(Debug, Drop)]
+#[derive(Drop)]
 pub enum Reply {
     Got(Answer),
     /// No answer is left.

@@ -7,7 +7,7 @@ ghost use Rattle.aio_words.specs.Commands.{AllowsSome, plain_command};
 use crate::given::{Given, command_from};
 
 /// What the words ask for.
-#[derive(Clone, Copy, Debug)]
+#[derive(Clone, Copy)]
 pub enum Command<'a> {
     /// Writes a script's canonical text.
     Check {

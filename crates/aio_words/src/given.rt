@@ -12,7 +12,7 @@ use aio_text::number;
 const MOST_TURNS: u64 = 1 << 40;
 
 /// The names of files, as far as they came.
-#[derive(Clone, Copy, Debug)]
+#[derive(Clone, Copy)]
 pub enum Names<'a> {
     None,
     Script(&'a str),
@@ -20,7 +20,7 @@ pub enum Names<'a> {
 }
 
 /// The words of a replay that were taken so far: names, whether `--trace` stood among them, and the value of `--turns`.
-#[derive(Clone, Copy, Debug)]
+#[derive(Clone, Copy)]
 pub struct Given<'a> {
     names: Names<'a>,
     trace: bool,

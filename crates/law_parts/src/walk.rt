@@ -1,7 +1,7 @@
 //! What a walk over futures works on.
 
 /// How a future stands.
-#[derive(Clone, Copy, Debug)]
+#[derive(Clone, Copy)]
 pub enum FutureState {
     Done,
     Plain,
@@ -12,7 +12,7 @@ pub enum FutureState {
 }
 
 /// What waits for an answer.
-#[derive(Clone, Copy, Debug)]
+#[derive(Clone, Copy)]
 pub enum WalkFrame {
     /// A task, which is marked where the answer is false, and its own future.
     Waits { id: u64, task: u32 },
@@ -21,7 +21,7 @@ pub enum WalkFrame {
 }
 
 /// What is done next.
-#[derive(Clone, Copy, Debug)]
+#[derive(Clone, Copy)]
 pub enum Go {
     Visit(u64),
     Next { id: u64, place: usize, any: bool },

@@ -21,7 +21,7 @@ pub struct Flow {
 }
 
 /// What became of the Close of a child's standard input.
-#[derive(Clone, Copy, Debug, PartialEq, Eq)]
+#[derive(Clone, Copy, PartialEq, Eq)]
 pub enum Closing {
     /// It was not asked for.
     Open,
@@ -34,7 +34,7 @@ pub enum Closing {
 }
 
 /// How far a child has come.
-#[derive(Clone, Copy, Debug, PartialEq, Eq)]
+#[derive(Clone, Copy, PartialEq, Eq)]
 pub enum Stay {
     /// It was launched, and not taken in.
     Running,

@@ -1,5 +1,5 @@
 /// The four pumps of a child.
-#[derive(Clone, Copy, Debug, PartialEq, Eq)]
+#[derive(Clone, Copy, PartialEq, Eq)]
 pub enum Pump {
     /// Writes its standard input.
     Stdin,

@@ -1,5 +1,5 @@
 /// What a write answers.
-#[derive(Clone, Copy, Debug, PartialEq, Eq)]
+#[derive(Clone, Copy, PartialEq, Eq)]
 pub enum Wrote {
     Done,
     /// The end was written before.
@@ -8,7 +8,7 @@ pub enum Wrote {
 
 /// What a drain does next. `E` is the type of exceptions.
 /// Source: `streams.py`, `StreamWriter.drain` and `FlowControlMixin._drain_helper`.
-#[derive(Debug, Drop)]
+#[derive(Drop)]
 pub enum Drain<E> {
     /// Writing isn't paused.
     Goes,
@@ -20,7 +20,7 @@ pub enum Drain<E> {
 }
 
 /// What a read of a stream does next. `B` is the type of bytes and `E` that of exceptions.
-#[derive(Debug, Drop)]
+#[derive(Drop)]
 pub enum StreamGot<B, E> {
     Bytes(B),
     Raises(E),
@@ -29,7 +29,7 @@ pub enum StreamGot<B, E> {
 }
 
 /// What a wait for a child's exit does next.
-#[derive(Clone, Copy, Debug, PartialEq, Eq)]
+#[derive(Clone, Copy, PartialEq, Eq)]
 pub enum ChildWait {
     /// The exit code; -N where signal N ended the child.
     Code(i64),

@@ -1,6 +1,6 @@
 /// What becomes of a piece that is written.
 /// Source: `selector_events.py`, `_SelectorSocketTransport.write`.
-#[derive(Clone, Copy, Debug, PartialEq, Eq)]
+#[derive(Clone, Copy, PartialEq, Eq)]
 pub enum Put {
     /// Nothing was unsent: the piece is to be offered at once.
     Offer,
@@ -16,7 +16,7 @@ pub enum Put {
 
 /// What becomes of marks that are asked for.
 /// Source: `transports.py`, `_FlowControlMixin._set_write_buffer_limits`.
-#[derive(Clone, Copy, Debug, PartialEq, Eq)]
+#[derive(Clone, Copy, PartialEq, Eq)]
 pub enum Limited {
     Set,
     BadLimits,

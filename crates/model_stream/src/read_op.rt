@@ -1,6 +1,6 @@
 /// An operation on a reader. `B` is the type of bytes: a list in definitions, and a type of its own in code.
 /// Source: `streams.py`, StreamReader: `read`, `readexactly`, `readuntil`, `readline`.
-#[derive(Debug, Drop)]
+#[derive(Drop)]
 pub enum ReadOp<B> {
     UpTo(u64),
     Exactly(i64),
@@ -9,7 +9,7 @@ pub enum ReadOp<B> {
 }
 
 /// What an operation on a reader answers. `B` is the type of bytes and `E` that of exceptions.
-#[derive(Debug, Drop)]
+#[derive(Drop)]
 pub enum Taken<B, E> {
     Bytes(B),
     Raises(E),

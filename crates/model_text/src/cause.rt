@@ -1,5 +1,5 @@
 /// Why a line of a text is refused.
-#[derive(Clone, Copy, Debug, PartialEq, Eq)]
+#[derive(Clone, Copy, PartialEq, Eq)]
 pub enum Cause {
     /// 1: the line has no tokens for a byte, a number or a literal that is wrong.
     Token,

@@ -1,6 +1,6 @@
 /// The two sorts of literals.
 /// Source: the Python language reference, "String and Bytes literals".
-#[derive(Clone, Copy, Debug, PartialEq, Eq)]
+#[derive(Clone, Copy, PartialEq, Eq)]
 pub enum Literal {
     /// `"..."`
     OfText,

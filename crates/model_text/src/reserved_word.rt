@@ -1,7 +1,7 @@
 /// The words that a script can't use as names.
 /// Source: the Python language reference, "Keywords", cut to those that scripts have, with `profile`, `print`, `group` and
 /// `timeout`.
-#[derive(Clone, Copy, Debug, PartialEq, Eq)]
+#[derive(Clone, Copy, PartialEq, Eq)]
 pub enum ReservedWord {
     Profile,
     Def,

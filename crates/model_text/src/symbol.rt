@@ -1,6 +1,6 @@
 /// The symbols of a script.
 /// Source: the Python language reference, "Operators" and "Delimiters", cut to those that scripts have.
-#[derive(Clone, Copy, Debug, PartialEq, Eq)]
+#[derive(Clone, Copy, PartialEq, Eq)]
 pub enum Symbol {
     LeftParenthesis,
     RightParenthesis,

@@ -1,6 +1,6 @@
 /// The arithmetic operators with two operands: `+`, `-`, `*`, `//` and `%`.
 /// Source: the language reference, "Binary arithmetic operations".
-#[derive(Clone, Copy, Debug, PartialEq, Eq)]
+#[derive(Clone, Copy, PartialEq, Eq)]
 pub enum Operator {
     Add,
     Subtract,
@@ -11,7 +11,7 @@ pub enum Operator {
 
 /// The comparisons: `==`, `!=`, `<`, `<=`, `>` and `>=`.
 /// Source: the language reference, "Comparisons".
-#[derive(Clone, Copy, Debug, PartialEq, Eq)]
+#[derive(Clone, Copy, PartialEq, Eq)]
 pub enum Comparison {
     Equal,
     NotEqual,

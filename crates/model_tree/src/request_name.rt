@@ -1,6 +1,6 @@
 /// The requests whose arguments are all values. `spawn`, `create` and `listen`, which take a coroutine, are none of
 /// them.
-#[derive(Clone, Copy, Debug, PartialEq, Eq)]
+#[derive(Clone, Copy, PartialEq, Eq)]
 pub enum RequestName {
     /// `future()`.
     MakeFuture,

@@ -1,5 +1,5 @@
 /// Why an await would never end: the task awaits itself, or something that waits for it.
-#[derive(Clone, Copy, Debug, PartialEq, Eq)]
+#[derive(Clone, Copy, PartialEq, Eq)]
 pub enum Circle {
     Itself,
     ItsWaiter,
@@ -9,7 +9,7 @@ pub enum Circle {
 /// own in code.
 /// Source: `events.py`, Handle; the callbacks of `tasks.py`, `timeouts.py`, `taskgroups.py`, `selector_events.py` and
 /// `base_subprocess.py`.
-#[derive(Debug, Drop)]
+#[derive(Drop)]
 pub enum Action<B> {
     /// A task's step that nothing was awaited for: its first, and the one after a bare `yield`.
     Step(u32),
@@ -56,7 +56,7 @@ pub enum Action<B> {
 }
 
 /// What a child or one of its pipes tells.
-#[derive(Debug, Drop)]
+#[derive(Drop)]
 pub enum ChildItem<B> {
     /// Its standard input broke.
     Broken,

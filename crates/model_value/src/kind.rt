@@ -1,6 +1,6 @@
 /// The kinds of exceptions, of which each but `BaseException` has one parent.
 /// Source: the library reference, "Built-in Exceptions", cut to those that the loop and its scripts raise.
-#[derive(Clone, Copy, Debug, PartialEq, Eq)]
+#[derive(Clone, Copy, PartialEq, Eq)]
 pub enum Kind {
     BaseException,
     CancelledError,

@@ -1,5 +1,5 @@
 /// Where a byte stands when it is printed: in a text without quotes, in `".."`, or in `b".."`.
-#[derive(Clone, Copy, Debug, PartialEq, Eq)]
+#[derive(Clone, Copy, PartialEq, Eq)]
 pub enum Place {
     Bare,
     InText,

@@ -2,7 +2,7 @@
 /// values and `E` that of exceptions: plain data in definitions, and types that share their content in code.
 ///
 /// The loop checks the kinds of the arguments. A coroutine of the script is told by its place in the script, from 0.
-#[derive(Debug, Drop)]
+#[derive(Drop)]
 pub enum Request<V, L, E> {
     /// A bare `yield`.
     Pause,

@@ -1,7 +1,7 @@
 /// What the outside answers. `B` is the type of bytes and `I` that of lists of items: lists in
 /// definitions, and types of their own in code.
 /// Source: `selectors.py`, `select`; the library reference, `socket` and `subprocess`.
-#[derive(Debug, Drop)]
+#[derive(Drop)]
 pub enum Answer<B, I> {
     /// To a select: the time in milliseconds, and what came.
     Turn { now: u64, items: I },

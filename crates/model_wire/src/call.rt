@@ -1,7 +1,7 @@
 /// What the loop asks of the outside. `B` is the type of bytes, `W` that of watch lists and `L`
 /// that of lists of words: lists in definitions, and types of their own in code.
 /// Source: `selectors.py`, `select`; the library reference, `socket` and `subprocess`.
-#[derive(Debug, Drop)]
+#[derive(Drop)]
 pub enum Call<B, W, L> {
     /// Waits for what is watched, for at most so many milliseconds or without a bound.
     Select { wait: Option<u64>, watch: W },

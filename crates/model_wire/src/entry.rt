@@ -1,5 +1,5 @@
 /// The words of a journal's entries.
-#[derive(Clone, Copy, Debug, PartialEq, Eq)]
+#[derive(Clone, Copy, PartialEq, Eq)]
 pub enum EntryWord {
     Turn,
     Done,
@@ -27,7 +27,7 @@ pub enum EntryWord {
 }
 
 /// What an id names.
-#[derive(Clone, Copy, Debug, PartialEq, Eq)]
+#[derive(Clone, Copy, PartialEq, Eq)]
 pub enum IdLetter {
     Server,
     Conn,
@@ -36,7 +36,7 @@ pub enum IdLetter {
 
 /// What stands in an entry between spaces. `B` is the type of bytes: a list in definitions, and a
 /// type of its own in code.
-#[derive(Debug, Drop)]
+#[derive(Drop)]
 pub enum EntryToken<B> {
     Word(EntryWord),
     Id { letter: IdLetter, number: u32 },

@@ -1,6 +1,6 @@
 /// What happens in a run, in order. `C` is the type of calls, `A` that of answers, `R` that of
 /// actions and `B` that of bytes: plain data in definitions, and types of their own in code.
-#[derive(Debug, Drop)]
+#[derive(Drop)]
 pub enum Event<C, A, R, B> {
     /// The loop asked the outside.
     Called(C),
@@ -13,7 +13,7 @@ pub enum Event<C, A, R, B> {
 }
 
 /// Whose bytes are counted: those that a connection was handed, or a child's standard input.
-#[derive(Clone, Copy, Debug, PartialEq, Eq)]
+#[derive(Clone, Copy, PartialEq, Eq)]
 pub enum Handed {
     Conn(u32),
     Child(u32),
@@ -21,7 +21,7 @@ pub enum Handed {
 
 /// What the last line of a transcript tells. `V` is the type of values, `E` that of exceptions and
 /// `C` that of calls.
-#[derive(Debug, Drop)]
+#[derive(Drop)]
 pub enum End<V, E, C> {
     /// Main returned this value.
     Returned(V),

@@ -1,7 +1,7 @@
 use model_value::ChildItem;
 
 /// What a connection is ready for.
-#[derive(Clone, Copy, Debug, PartialEq, Eq)]
+#[derive(Clone, Copy, PartialEq, Eq)]
 pub enum Readiness {
     Read,
     Write,
@@ -12,7 +12,7 @@ pub enum Readiness {
 /// its own in code.
 /// Source: `base_events.py`, `_process_events`; `base_subprocess.py`, `_pipe_data_received` and
 /// `_process_exited`.
-#[derive(Debug, Drop)]
+#[derive(Drop)]
 pub enum Item<B> {
     /// A listener may accept.
     ReadableServer(u32),
@@ -32,7 +32,7 @@ pub enum Item<B> {
 
 /// What an item takes up. No two items of one turn take up the same of one listener, connection or
 /// child.
-#[derive(Clone, Copy, Debug, PartialEq, Eq)]
+#[derive(Clone, Copy, PartialEq, Eq)]
 pub enum Interest {
     Server,
     Conn,

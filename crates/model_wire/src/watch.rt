@@ -1,7 +1,7 @@
 /// What a select waits for on one listener, connection or child, or for the requests that are added
 /// to the loop's own.
 /// Source: `selectors.py`, `SelectorKey`; `selector_events.py`, `_add_reader` and `_add_writer`.
-#[derive(Clone, Copy, Debug, PartialEq, Eq)]
+#[derive(Clone, Copy, PartialEq, Eq)]
 pub enum Watch {
     /// A listener that is open.
     Server(u32),

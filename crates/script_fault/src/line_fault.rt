@@ -8,7 +8,7 @@ use model_text::Cause;
 use std::alloc::{AllocError, AllocFailed};
 
 /// Why a line is refused, or a part of it, by whoever needn't know its number.
-#[derive(Clone, Copy, Debug)]
+#[derive(Clone, Copy)]
 pub enum LineFault {
     Refused(Cause),
     Memory,
