@@ -16,17 +16,14 @@ use Rattle.law_settling.proofs.Looks.{handles_look_same}
 use Rattle.law_timeouts.specs.Tags.{IsQuiet}
 use Rattle.law_timeouts.proofs.Entries.{entries-later}
 use Rattle.law_told.proofs.Holding.{looks_holds}
-use Rattle.law_sound.proofs.Carrying.{looks_carries, soon_carries}
-use Rattle.law_sound.proofs.Registering.{register_step_sound, soon_looks}
+use Rattle.law_sound.proofs.Carrying.{looks_carries}
+use Rattle.law_sound.proofs.Registering.{register_step_sound, soon_step_sound}
 use Rattle.law_sound.proofs.Steps.{holds_of, parts_sound}
 
 -- ---- called soon
 pub soon_sound : (running : Option ℕ) (told : ℕ → List ℕ) (key : ℕ) (l : Loop) → IsSound running told l
     → IsSound running told (in_parts (soon (action.Extra key)) l)
-soon_sound running told key l s =
-    parts_sound running running told l (soon (action.Extra key) l.parts) s (soon_carries (action.Extra key) l.parts refl)
-    (looks_holds running running told told (group_of l) l.parts (soon (action.Extra key) l.parts) (soon_looks (action.Extra key) refl l.parts)
-    (λ t m. m) (holds_of running told l s)) (λ t. refl)
+soon_sound running told key l s = soon_step_sound (action.Extra key) refl refl running told l s
 
 -- ---- called later
 later_quiet : (when key : ℕ) (p : Parts) → IsQuiet p (later when (action.Extra key) p)

@@ -32,7 +32,7 @@ use Rattle.model_machine.specs.Told.{told_by, told_in}
 use Rattle.model_machine.specs.Turn.{effect, ran, run_first}
 use Rattle.model_machine.specs.Went.{Went}
 use Rattle.law_settling.specs.Frames.{taken, is_followed}
-use Rattle.law_sound.proofs.Steps.{dead_sound, idle_sound, off, tags_of_sound}
+use Rattle.law_sound.proofs.Steps.{dead_sound, off, tags_of_sound, unfollowed_sound}
 use Rattle.law_steps.proofs.Stepping.{taken-where}
 use Rattle.law_timeouts.proofs.Firing.{was_active}
 use Rattle.law_turns.specs.FitsTurn.{FitsAction, FitsLive}
@@ -133,9 +133,7 @@ module _ {S : Type 0} (added : Extra S) (keeps : KeepsSound added) (s : State S)
   idle_loop it is unfollowed no_fire none =
       as_told None (told_in s.events) (told_in (s.events ++ event.Ran it ∷ [])) (in_parts (taken rest) s.loop)
       (tells_none s.events it none)
-      (idle_sound (told_in s.events) handle rest s.loop first
-      (λ test follows. ap (λ a. not handle.dead && test a) is ∙ ap (λ b. not handle.dead && b) (follows it unfollowed) ∙ off (not handle.dead))
-      (λ id. ap (λ a. not handle.dead && fires id a) is ∙ ap (λ b. not handle.dead && b) (no_fire id) ∙ off (not handle.dead)) sound.loop)
+      (unfollowed_sound it unfollowed no_fire (told_in s.events) handle rest s.loop first is sound.loop)
 
   idle_in : (it : Action) → handle.action ≡ it → is_followed it ≡ false → ((id : ℕ) → fires id it ≡ false)
       → ((group : ℕ) → told_by group it [] ≡ []) → ((other : ℕ) → is_step other it ≡ false) → IsStateSound added (noted (event.Ran it) out)

@@ -1,4 +1,4 @@
--- An action that steps no task and tells no group is registered on a future: the loop stays sound.
+-- An action that steps no task and tells no group is called soon, or registered on a future: the loop stays sound.
 use Rattle.std.proofs.Common.{◌≡◌, ℕ, Bool, true, false, cond, List, [], ◌∷◌, ◌++◌, Option, Some, None, slice_get, slice_set, refl, ap, arith}
 use Rattle.std.proofs.Math.ListN.{length-set}
 use Rattle.std.proofs.lemmas.List.Sums.{sum_by_push}
@@ -26,7 +26,7 @@ use Rattle.law_timeouts.specs.Tags.{is_deadline}
 use Rattle.law_told.specs.Holds.{Holds}
 use Rattle.law_told.proofs.Holding.{holds_on, looks_holds}
 use Rattle.law_told.proofs.Told.{framed_told}
-use Rattle.law_sound.proofs.Carrying.{register_carries}
+use Rattle.law_sound.proofs.Carrying.{register_carries, soon_carries}
 use Rattle.law_sound.proofs.Steps.{holds_of, parts_sound}
 
 module _ (action : Action) (unfollowed : is_followed action ≡ false) where
@@ -38,6 +38,13 @@ module _ (action : Action) (unfollowed : is_followed action ≡ false) where
           let a = soon-where test action p in
           let z : ◌≡◌ {A = ℕ} (cond (test action) 1 0) 0 = ap (λ b. cond b 1 0) (follows action unfollowed) in
           omega (arith, a, z)
+
+  pub soon_step_sound : is_deadline action ≡ false → (running : Option ℕ) (told : ℕ → List ℕ) (l : Loop) → IsSound running told l
+      → IsSound running told (in_parts (soon action) l)
+  soon_step_sound timeless running told l s =
+      parts_sound running running told l (soon action l.parts) s (soon_carries action l.parts timeless)
+      (looks_holds running running told told (group_of l) l.parts (soon action l.parts) (soon_looks l.parts) (λ t m. m) (holds_of running told l s))
+      (λ t. refl)
 
   -- on a pending future it tells no group, on a done one it is called soon
   module _ (called : is_callback action ≡ true) (running : Option ℕ) (told : ℕ → List ℕ) where

@@ -30,7 +30,7 @@ use Rattle.model_loop.specs.Timeouts.{no_timeout, timeout_of}
 use Rattle.law_timeouts.proofs.Quiet.{begin_quiet, handles-first, make_quiet, suspend_quiet, tag_kept, timed_kept}
 use Rattle.law_told.proofs.SpawnHolds.{spawn_holds}
 use Rattle.model_loop.specs.Deadlines.{HasTag, fires, fires_any, fires_as, others_as}
-use Rattle.law_settling.specs.Frames.{Follows, taken}
+use Rattle.law_settling.specs.Frames.{Follows, is_followed, taken}
 use Rattle.model_loop.specs.Futures.{is_pending, new_many, new_plain, next_future, settle}
 use Rattle.std.proofs.lemmas.Bool.{cases_eq, eq-eqb, ne_eqb}
 use Rattle.model_loop.specs.Suspend.{suspend}
@@ -50,7 +50,7 @@ use Rattle.law_cancel.proofs.Circling.{suspend_makes_none}
 use Rattle.model_loop.specs.Groups.{group_of}
 use Rattle.law_timeouts.proofs.Due.{due-tasks, due_looks_same, due_quiet}
 use Rattle.law_numbers.proofs.StepNumbers.{begin_step_numbers, suspend_numbers}
-use Rattle.model_value.specs.declared.action.Action.TheVariants.{MainDone, SleepDone, Step}
+use Rattle.model_value.specs.declared.action.Action.TheVariants.{SleepDone, Step}
 use Rattle.model_loop.specs.Ways.{steps}
 use Rattle.model_loop.specs.Ending.{cancel_everything}
 use Rattle.law_ledger.proofs.LoopBalance.{book_keeps, spawn_counts}
@@ -168,12 +168,14 @@ pub off : (b : Bool) → (b && false) ≡ false
 off true = refl
 off false = refl
 
-pub main_done_sound : (told : ℕ → List ℕ) (handle : Handle) (rest : List Handle) (l : Loop) → l.parts.pending ≡ handle ∷ rest
-    → handle.action ≡ MainDone → IsSound None told l → IsSound None told (in_parts (taken rest) l)
-main_done_sound told handle rest l first action s =
+-- its action steps no task, tells no group and fires no timeout
+pub unfollowed_sound : (it : Action) → is_followed it ≡ false → ((id : ℕ) → fires id it ≡ false) → (told : ℕ → List ℕ) (handle : Handle)
+    (rest : List Handle) (l : Loop) → l.parts.pending ≡ handle ∷ rest → handle.action ≡ it → IsSound None told l
+    → IsSound None told (in_parts (taken rest) l)
+unfollowed_sound it unfollowed no_fire told handle rest l first is s =
     idle_sound told handle rest l first
-    (λ test follows. ap (λ a. not handle.dead && test a) action ∙ ap (λ b. not handle.dead && b) (follows MainDone refl) ∙ off (not handle.dead))
-    (λ id. ap (λ a. not handle.dead && fires id a) action ∙ off (not handle.dead)) s
+    (λ test follows. ap (λ a. not handle.dead && test a) is ∙ ap (λ b. not handle.dead && b) (follows it unfollowed) ∙ off (not handle.dead))
+    (λ id. ap (λ a. not handle.dead && fires id a) is ∙ ap (λ b. not handle.dead && b) (no_fire id) ∙ off (not handle.dead)) s
 
 -- ---- a plain future is resolved, by whoever has it
 pub settle_step_sound : (running : Option ℕ) (told : ℕ → List ℕ) (id : ℕ) (outcome : Outcome) (l : Loop) → is_plain l.parts id ≡ true
@@ -188,10 +190,7 @@ pub sleep_done_sound : (told : ℕ → List ℕ) (task future : ℕ) (outcome : 
     → IsSound None told (in_parts (settle future outcome) (in_parts (taken rest) l))
 sleep_done_sound told task future outcome handle rest l first live action s =
     settle_step_sound None told future outcome (in_parts (taken rest) l) plain
-    (idle_sound told handle rest l first
-    (λ test follows. ap (λ a. not handle.dead && test a) action ∙ ap (λ b. not handle.dead && b) (follows (SleepDone task future) refl)
-    ∙ off (not handle.dead))
-    (λ id. ap (λ a. not handle.dead && fires id a) action ∙ off (not handle.dead)) s)
+    (unfollowed_sound (SleepDone task future) refl (λ id. refl) told handle rest l first action s)
   where
     plain : is_plain l.parts future ≡ true
     plain = s.timed.sleeps future (

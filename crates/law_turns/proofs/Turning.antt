@@ -26,19 +26,18 @@ use Rattle.model_wire.specs.declared.item.Item.TheVariants as item
 use Rattle.model_wire.specs.declared.item.Readiness.{Readiness}
 use Rattle.model_wire.specs.declared.item.Readiness.TheVariants as ready
 use Rattle.model_loop.specs.Handles.{soon, soon_all}
-use Rattle.model_loop.specs.Totals.{pending_where}
-use Rattle.law_settling.proofs.Settling.{soon-where}
 use Rattle.model_machine.specs.State.{State, noted, start, unbooked_in}
 use Rattle.model_machine.specs.Told.{told_by, told_in}
 use Rattle.model_machine.specs.Turn.{at_time, woken_by, cancelled_if, finished_if, turn_over, effect, ran, run_first}
-use Rattle.law_settling.specs.Frames.{taken, is_followed, Follows}
+use Rattle.law_settling.specs.Frames.{taken, is_followed}
 use Rattle.law_settling.proofs.Looks.{handles_look_same}
 use Rattle.law_told.proofs.Holding.{looks_holds}
 use Rattle.law_timeouts.proofs.Quiet.{same_quiet}
 use Rattle.law_timeouts.specs.Tags.{is_deadline}
 use Rattle.law_sound.proofs.Beginning.{first_sound}
-use Rattle.law_sound.proofs.Carrying.{looks_carries, soon_carries}
-use Rattle.law_sound.proofs.Steps.{holds_of, parts_sound, dead_sound, main_done_sound, sleep_done_sound, due_step_sound, end_of_run_sound}
+use Rattle.law_sound.proofs.Carrying.{looks_carries}
+use Rattle.law_sound.proofs.Registering.{soon_step_sound}
+use Rattle.law_sound.proofs.Steps.{holds_of, parts_sound, dead_sound, unfollowed_sound, sleep_done_sound, due_step_sound, end_of_run_sound}
 use Rattle.law_sound.proofs.GroupSteps.{child_done_step_sound}
 use Rattle.law_sound.proofs.TimeoutSteps.{fire_sound}
 use Rattle.law_turns.specs.SoundState.{HasSoundLoop, LeavesSoundLoop}
@@ -107,16 +106,7 @@ at_time_sound told now l s =
 -- ---- what came appends handles that step no task and tell no group
 news_sound : (told : ℕ → List ℕ) (it : Action) (l : Loop) → is_followed it ≡ false → is_deadline it ≡ false → IsSound None told l
     → IsSound None told (in_parts (soon it) l)
-news_sound told it l unfollowed other s =
-    parts_sound None None told l (soon it l.parts) s (soon_carries it l.parts other)
-    (looks_holds None None told told (group_of l) l.parts (soon it l.parts) (handles_look_same l.parts (soon it l.parts) refl refl looks)
-    (λ t m. m) (holds_of None told l s)) (λ t. refl)
-  where
-    looks : (test : Action → Bool) → Follows test → pending_where test (soon it l.parts).pending ≡ pending_where test l.parts.pending
-    looks test follows =
-        let a = soon-where test it l.parts in
-        let z : ◌≡◌ {A = ℕ} (cond (test it) 1 0) 0 = ap (λ b. cond b 1 0) (follows it unfollowed) in
-        omega (arith, a, z)
+news_sound told it l unfollowed other s = soon_step_sound it unfollowed other None told l s
 
 pub soon_all-append : (xs ys : List Action) (p : Parts) → soon_all (xs ++ ys) p ≡ soon_all ys (soon_all xs p)
 soon_all-append [] ys p = refl
@@ -173,7 +163,7 @@ module _ {S : Type 0} (limit : ℕ) (added : Extra S) (s : State S) (handle : Ha
   main_done_handle live is =
       live_as MainDone live is
       (as_told None (told_in s.events) (told_in (s.events ++ event.Ran MainDone ∷ [])) (in_parts (taken rest) s.loop)
-      (tells_none s.events MainDone (λ g. refl)) (main_done_sound (told_in s.events) handle rest s.loop first is sound))
+      (tells_none s.events MainDone (λ g. refl)) (unfollowed_sound MainDone refl (λ id. refl) (told_in s.events) handle rest s.loop first is sound))
 
   pub sleep_done_handle : (task future : ℕ) → handle.dead ≡ false → handle.action ≡ SleepDone task future
       → LeavesSoundLoop (run_first limit added handle rest s)

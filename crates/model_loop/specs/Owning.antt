@@ -1,10 +1,10 @@
 -- Futures and whose they are: each task has its own future, and each task's future its task. What is called when a future
--- is done wakes a task, tells a group, notes that main is done, or is a handle of what is added to the loop's own requests;
--- a future that is done has been called for.
+-- is done wakes a task, tells a group, notes that main is done, sees to the connection of a handler that is done, or is a
+-- handle of what is added to the loop's own requests; a future that is done has been called for.
 use Rattle.std.specs.Prelude.{◌≡◌, ◌↔◌, ℕ, Bool, true, false, not, [], Option, Some, None, option_map, slice_get}
 use Rattle.std.specs.List.{count_by}
 use Rattle.model_value.specs.Action.{Action}
-use Rattle.model_value.specs.declared.action.Action.TheVariants.{Wakeup, GroupDone, MainDone, Extra}
+use Rattle.model_value.specs.declared.action.Action.TheVariants.{Wakeup, GroupDone, MainDone, HandlerDone, Extra}
 use Rattle.model_loop.specs.Parts.{FutureKind, Plain, OfTask, Future, Task, Parts}
 use Rattle.model_loop.specs.Futures.{is_pending}
 use Rattle.model_loop.specs.Totals.{callbacks_of}
@@ -35,6 +35,7 @@ abbrev pub is_callback : Action → Bool
 is_callback (Wakeup task) = true
 is_callback (GroupDone group task) = true
 is_callback MainDone = true
+is_callback (HandlerDone conn task) = true
 is_callback (Extra key) = true
 is_callback _ = false
 
