@@ -152,6 +152,7 @@ module _ {X : Type 0} (a : Added X) (program : Program) (none held : Body X) (x 
     futures = ap (λ (b : Body X). b.futures.items) holds.beside ∙ e.futures;
     few_futures = omega arith;
     main_done = ap (λ (b : Body X). b.main_done) holds.beside ∙ e.main_done;
+    streams = refl;
     time = omega arith;
     counts = counts;
     events = sym (ap (λ (b : Body X). b.events.events) holds.beside ∙ ap (λ (l : EventList). l.events) e.events);

@@ -14,9 +14,10 @@ use Rattle.model_wire.specs.Fits.{fits, are_few, are_awaited}
 use Rattle.model_loop.specs.Handles.{by_deadline, due, fall_due}
 use Rattle.model_loop.specs.Loop.{in_parts}
 use Rattle.model_loop.specs.Parts.{Parts, Timer}
-use Rattle.model_machine.specs.Outside.{select, time_of, watch_list}
+use Rattle.model_stream.specs.Streams.{no_streams}
+use Rattle.model_machine.specs.Outside.{select, time_of, watched}
 use Rattle.model_machine.specs.State.{State, unbooked_in}
-use Rattle.model_machine.specs.Turn.{call_of, is_stalled, longest_wait, nothing_comes, wait_of, woken_by}
+use Rattle.model_machine.specs.Turn.{call_of, is_stalled, longest_wait, nothing_comes, wait_of, watched_by, woken_by}
 use Rattle.law_handles.proofs.Appending.{waiting_kept}
 use Rattle.law_handles.proofs.Running.{keeps_barred}
 use Rattle.law_handles.proofs.Scheduling.{due_ties, keeps_fallen, stall_kept, wait_kept}
@@ -258,17 +259,17 @@ module _ {X : Type 0} {a : Added X} where
 
 -- ---- what a turn asks first
 pub stall_then : (idle : Bool) (first : Option ℕ) (none : Bool) → idle ≡ true → (told : Option ℕ) → told ≡ first → is_some told ≡ not none
-    → none ≡ stalls_by idle first false
+    → none ≡ stalls_by idle first []
 stall_then false first none e told same is = absurd (false≢true e)
 stall_then true first none e told same is = at first none (ap is_some (sym same) ∙ is)
   where
-    at : (o : Option ℕ) (b : Bool) → is_some o ≡ not b → b ≡ stalls_by true o false
+    at : (o : Option ℕ) (b : Bool) → is_some o ≡ not b → b ≡ stalls_by true o []
     at None true x = refl
     at None false x = absurd (false≢true x)
     at (Some when) true x = absurd (false≢true (sym x))
     at (Some when) false x = refl
 
-pub stall_else : (idle : Bool) (first : Option ℕ) → idle ≡ false → false ≡ stalls_by idle first false
+pub stall_else : (idle : Bool) (first : Option ℕ) → idle ≡ false → false ≡ stalls_by idle first []
 stall_else true first e = absurd (false≢true (sym e))
 stall_else false first e = refl
 
@@ -281,15 +282,20 @@ wait_idle true first time e = refl
 wait_idle false first time e = absurd (false≢true e)
 
 module _ {X : Type 0} {a : Added X} where
+  -- nothing is open, and what is added watches nothing
+  watches_none : (c : Setting a) (body : Body X) (s : State a.Kept) → IsBetween c body s → [] ≡ watched_by a.meaning s
+  watches_none c body s h =
+      ap (λ b. watched no_streams b) (sym (a.quiet s.extra)) ∙ ap (λ streams. watched streams (a.meaning.watches s.extra)) (sym h.stands.streams)
+
   pub stalls_so : (c : Setting a) (body : Body X) (s : State a.Kept) → IsBetween c body s
-      → stalls_by (queue.is_empty (waiting body.parts.queue)) (schedule.first_when body.parts.schedule.live) false ≡ is_stalled a.meaning s
+      → stalls_by (queue.is_empty (waiting body.parts.queue)) (schedule.first_when body.parts.schedule.live) [] ≡ is_stalled a.meaning s
   stalls_so c body s h =
-      sym (stall_kept h.stands.ties body.parts s.loop.parts h.stands.keeps false)
-      ∙ ap (nothing_comes s.loop.parts.pending s.loop.parts.timers) (sym (a.quiet s.extra))
+      sym (stall_kept h.stands.ties body.parts s.loop.parts h.stands.keeps [])
+      ∙ ap (nothing_comes s.loop.parts.pending s.loop.parts.timers) (watches_none c body s h)
 
   pub waits_for : (c : Setting a) (body : Body X) (s : State a.Kept) → IsBetween c body s
       → select (wait_by (queue.is_empty (waiting body.parts.queue)) (schedule.first_when body.parts.schedule.live) body.parts.time) []
       ≡ call_of a.meaning s
   waits_for c body s h =
       ap (λ w. select w []) (sym (wait_kept h.stands.ties body.parts s.loop.parts h.stands.keeps))
-      ∙ ap (λ b. select (wait_of s.loop.parts) (watch_list b)) (sym (a.quiet s.extra))
+      ∙ ap (select (wait_of s.loop.parts)) (watches_none c body s h)

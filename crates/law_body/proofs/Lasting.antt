@@ -142,6 +142,7 @@ module _ {X : Type 0} {a : Added X} where
     futures = h.futures;
     few_futures = h.few_futures;
     main_done = h.main_done;
+    streams = h.streams;
     time = goes.time;
     counts = goes.counts;
     events = h.events;

@@ -86,6 +86,7 @@ module _ {X : Type 0} {a : Added X} where
         futures = tells.futures;
         few_futures = tells.few_futures;
         main_done = tells.main_done;
+        streams = h.streams;
         time = h.time;
         counts = h.counts;
         events = tells.events;

@@ -98,6 +98,7 @@ module _ {X : Type 0} {a : Added X} where
         futures = h.futures;
         few_futures = h.few_futures;
         main_done = h.main_done;
+        streams = h.streams;
         time = subst (λ n. n ≤ most) (sym more.time) h.time;
         counts = more.counts h.counts;
         events = h.events;

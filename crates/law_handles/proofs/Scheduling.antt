@@ -7,6 +7,7 @@ use Rattle.std.proofs.lemmas.Bool.{cases_eq, eq-eqb, ne_eqb, eqb-true, false_fro
 use Rattle.std.proofs.lemmas.List.{map-append}
 use Rattle.std.proofs.lemmas.Option.{none-some, same_Some}
 use Rattle.model_value.specs.Action.{Action}
+use Rattle.model_wire.specs.declared.watch.Watch.{Watch}
 use Rattle.model_loop.specs.Parts as plain
 use Rattle.model_loop.specs.Parts.{Timer, Parts}
 use Rattle.model_loop.specs.Handles.{later, revoke, due, fall_due, by_deadline, cancelled_if}
@@ -447,16 +448,16 @@ module _ (t : Ties) (v : View) (p : Parts) (k : Keeps t v p) where
       go [] timers = timed timers
       go (h ∷ handles) timers = refl
 
-  pub stall_kept : (watches : Bool) → nothing_comes p.pending p.timers watches
-      ≡ stalls_by (is_empty (waiting v.queue)) (first_when v.schedule.live) watches
-  stall_kept watches =
-      go p.pending p.timers watches
-      ∙ sym (ap (λ b. stalls_by b (first_when v.schedule.live) watches) seen
-      ∙ ap (λ o. stalls_by (is_empty_row p.pending) o watches) first_kept)
+  pub stall_kept : (watched : List Watch) → nothing_comes p.pending p.timers watched
+      ≡ stalls_by (is_empty (waiting v.queue)) (first_when v.schedule.live) watched
+  stall_kept watched =
+      go p.pending p.timers watched
+      ∙ sym (ap (λ b. stalls_by b (first_when v.schedule.live) watched) seen
+      ∙ ap (λ o. stalls_by (is_empty_row p.pending) o watched) first_kept)
     where
-      go : (handles : List plain.Handle) (timers : List Timer) (watches : Bool)
-          → nothing_comes handles timers watches ≡ stalls_by (is_empty_row handles) (first_when (by_deadline timers)) watches
-      go (h ∷ handles) timers watches = refl
-      go [] (x ∷ timers) watches = ap (λ o. stalls_by true o watches) (sym (first_least x timers))
-      go [] [] true = refl
-      go [] [] false = refl
+      go : (handles : List plain.Handle) (timers : List Timer) (watched : List Watch)
+          → nothing_comes handles timers watched ≡ stalls_by (is_empty_row handles) (first_when (by_deadline timers)) watched
+      go (h ∷ handles) timers watched = refl
+      go [] (x ∷ timers) watched = ap (λ o. stalls_by true o watched) (sym (first_least x timers))
+      go [] [] (entry ∷ entries) = refl
+      go [] [] [] = refl

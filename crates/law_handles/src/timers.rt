@@ -1,6 +1,7 @@
 //! Laws of the time and of timers. Each function has no body: its clauses are the laws.
 ghost use Rattle.std.specs.Prelude.{◌≡◌, ◌+◌, ℕ, Bool, [], ◌∷◌, List, None, Some, if◌then◌else◌};
 ghost use Rattle.model_value.specs.Action.{Action};
+ghost use Rattle.model_wire.specs.declared.watch.Watch.{Watch};
 ghost use Rattle.model_loop.specs.Parts.{Parts, Timer};
 ghost use Rattle.model_loop.specs.Handles.{later, revoke, due};
 ghost use Rattle.model_machine.specs.Turn.{least, wait_of, nothing_comes};
@@ -68,7 +69,7 @@ pub fn the_earliest_deadline_is_kept()
         × (when ≡ least first.when others) }
     ensures wait { (t : Ties) (v : View) (p : Parts) → Keeps t v p
         → wait_of p ≡ wait_by (is_empty (waiting v.queue)) (first_when v.schedule.live) v.time }
-    ensures stall { (t : Ties) (v : View) (p : Parts) (watches : Bool) → Keeps t v p
-        → nothing_comes p.pending p.timers watches
-        ≡ stalls_by (is_empty (waiting v.queue)) (first_when v.schedule.live) watches }
+    ensures stall { (t : Ties) (v : View) (p : Parts) (watched : List Watch) → Keeps t v p
+        → nothing_comes p.pending p.timers watched
+        ≡ stalls_by (is_empty (waiting v.queue)) (first_when v.schedule.live) watched }
 {}

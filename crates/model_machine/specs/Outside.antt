@@ -1,5 +1,5 @@
 -- What a turn asks the outside, and what it takes from the answer. Source: `base_events.py`, `_run_once`, `_process_events`.
-use Rattle.std.specs.Prelude.{ℕ, Bool, true, false, List, [], ◌∷◌, Option}
+use Rattle.std.specs.Prelude.{ℕ, Bool, List, [], ◌∷◌, ◌++◌, Option}
 use Rattle.std.specs.List.{flat_map}
 use Rattle.model_value.specs.declared.action.Action.TheVariants as action
 use Rattle.model_value.specs.Action.{Action}
@@ -11,11 +11,12 @@ use Rattle.model_wire.specs.declared.item.Readiness.TheVariants as ready
 use Rattle.model_wire.specs.declared.watch.Watch.{Watch}
 use Rattle.model_wire.specs.declared.watch.Watch.TheVariants as watch
 use Rattle.model_wire.specs.Call.{Call, Answer, Item}
+use Rattle.model_stream.specs.Streams.{Streams}
+use Rattle.model_stream.specs.Watching.{entry_if, watch_list}
 
--- what is watched: so far what is added alone, where it watches
-abbrev pub watch_list : (added : Bool) → List Watch
-watch_list true = watch.Extra ∷ []
-watch_list false = []
+-- what is watched: listeners, connections and children in order of opening, and then what is added, where it watches
+abbrev pub watched : Streams → (added : Bool) → List Watch
+watched streams added = watch_list streams ++ entry_if added watch.Extra
 
 abbrev pub select : Option ℕ → List Watch → Call
 select wait watched = call.Select wait watched

@@ -11,6 +11,7 @@ use Rattle.model_wire.specs.Journal.{Entry}
 use Rattle.model_loop.specs.Parts.{Parts}
 use Rattle.model_loop.specs.Loop.{Loop, in_parts}
 use Rattle.model_loop.specs.Start.{first_loop}
+use Rattle.model_stream.specs.Streams.{Streams, no_streams}
 
 -- What decides, as a task's step begins, what the input means.
 pub data Standing : Type 0 where
@@ -37,6 +38,7 @@ pub record State (S : Type 0) : Type 0 where
   pub program : Program
   pub extra : S
   pub loop : Loop
+  pub streams : Streams
   pub generators : List Generator
   pub futures : List ℕ
   pub main_done : Bool
@@ -55,6 +57,7 @@ start extra program answers =
       program = program;
       extra = extra;
       loop = first_loop;
+      streams = no_streams;
       generators = generator (place_of program main_text) [] ∷ [];
       futures = [];
       main_done = false;

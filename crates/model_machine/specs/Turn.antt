@@ -8,6 +8,7 @@ use Rattle.model_value.specs.Value.{Nothing, Outcome}
 use Rattle.model_wire.specs.declared.event.End.TheVariants as end
 use Rattle.model_wire.specs.declared.event.Event.TheVariants as event
 use Rattle.model_wire.specs.Call.{Call, Answer}
+use Rattle.model_wire.specs.declared.watch.Watch.{Watch}
 use Rattle.model_loop.specs.Circles.{circle_fault}
 use Rattle.model_loop.specs.Ending.{cancel_everything}
 use Rattle.model_loop.specs.Futures.{settle}
@@ -16,7 +17,7 @@ use Rattle.model_loop.specs.Handles.{due, soon_all}
 use Rattle.model_loop.specs.Parts.{Handle, Parts, Timer}
 use Rattle.model_loop.specs.Timeouts.{fire}
 use Rattle.model_machine.specs.Extra.{Extra, called}
-use Rattle.model_machine.specs.Outside.{news_of, select, time_of, watch_list}
+use Rattle.model_machine.specs.Outside.{news_of, select, time_of, watched}
 use Rattle.model_machine.specs.Outcomes.{end_of, finished_as, woken_with}
 use Rattle.model_machine.specs.State.{State, in_loop, noted, unbooked_in}
 use Rattle.model_machine.specs.Step.{step}
@@ -45,17 +46,21 @@ wait_with (handle ∷ handles) p = Some 0
 abbrev pub wait_of : Parts → Option ℕ
 wait_of p = wait_with p.pending p
 
+-- what a turn watches
+abbrev pub watched_by : {S : Type 0} → Extra S → State S → List Watch
+watched_by added s = watched s.streams (added.watches s.extra)
+
 -- what a turn asks first
 abbrev pub call_of : {S : Type 0} → Extra S → State S → Call
-call_of added s = select (wait_of s.loop.parts) (watch_list (added.watches s.extra))
+call_of added s = select (wait_of s.loop.parts) (watched_by added s)
 
-abbrev pub nothing_comes : List Handle → List Timer → (watches : Bool) → Bool
-nothing_comes [] [] false = true
+abbrev pub nothing_comes : List Handle → List Timer → List Watch → Bool
+nothing_comes [] [] [] = true
 nothing_comes _ _ _ = false
 
 -- nothing is pending, and nothing can come
 abbrev pub is_stalled : {S : Type 0} → Extra S → State S → Bool
-is_stalled added s = nothing_comes s.loop.parts.pending s.loop.parts.timers (added.watches s.extra)
+is_stalled added s = nothing_comes s.loop.parts.pending s.loop.parts.timers (watched_by added s)
 
 -- ---- what an answer appends
 abbrev pub at_time : ℕ → Parts → Parts

@@ -11,4 +11,4 @@ pub returns-clause-wait : goal.returns-clause-wait
 returns-clause-wait c = wait_kept
 
 pub returns-clause-stall : goal.returns-clause-stall
-returns-clause-stall c = λ t v p watches k. stall_kept t v p k watches
+returns-clause-stall c = λ t v p watched k. stall_kept t v p k watched
