@@ -1,4 +1,4 @@
 pub mod Names
 pub mod Stacks
 pub mod Queue
-pub mod Untimed
+pub mod Reach

@@ -1,7 +1,6 @@
 //! One handle.
 ghost use Rattle.std.specs.Prelude.{◌≡◌};
 ghost use Rattle.aio_ready.specs.Names.{is_same, marked};
-ghost use Rattle.aio_ready.specs.Untimed.{is_timed};
 
 use aio_base::Action;
 
@@ -40,13 +39,6 @@ impl HandleName {
             (HandleName::Timer(own), HandleName::Timer(others)) => own == others,
             _ => false,
         }
-    }
-
-    /// Whether it is a timer's number.
-    pub fn is_timed(self) -> bool
-        ensures { result ≡ is_timed self }
-    {
-        matches!(self, HandleName::Timer(_))
     }
 }
 

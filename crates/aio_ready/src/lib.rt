@@ -3,6 +3,7 @@
 
 mod callbacks;
 mod handle;
+mod least;
 mod ready;
 mod stack;
 mod ticket;

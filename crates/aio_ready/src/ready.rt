@@ -1,12 +1,13 @@
 //! The pending queue.
-ghost use Rattle.std.specs.Prelude.{◌≡◌, ◌++◌, [], true, false, map};
+ghost use Rattle.std.specs.Prelude.{◌≡◌, ◌++◌, [], true, map};
 ghost use Rattle.std.specs.Option.{option_map};
 ghost use Rattle.aio_ready.specs.Names.{marked};
-ghost use Rattle.aio_ready.specs.Untimed.{are_untimed};
+ghost use Rattle.aio_ready.specs.Reach.{all_reach, IsBelow};
 ghost use Rattle.aio_ready.specs.Queue.{no_handles, soon, soon_all, next_name, appended, cancelled, barred, next_action, given_after, taken, is_empty};
 
 use crate::callbacks::Callbacks;
 use crate::handle::{Handle, HandleId, HandleName};
+use crate::least::Least;
 use crate::stack::Stack;
 use crate::ticket::Ticket;
 use aio_base::{Action, Memory};
@@ -25,32 +26,45 @@ pub struct Ready {
     // the last is on top
     late: Stack,
     given: u64,
-    // whether some handle of a timer may be among them
-    falls_below: bool,
-    falls_late: bool,
+    // what their numbers do not fall below
+    least_below: Least,
+    least_late: Least,
 }
 
 impl Model for Ready {
-    ghost use Rattle.std.specs.Prelude.{◌≡◌, reverse, true, false, ◌≤◌};
+    ghost use Rattle.std.specs.Prelude.{◌≡◌, reverse, true, ◌≤◌};
     ghost use Rattle.aio_ready.specs.Queue.{Queue, most_given};
-    ghost use Rattle.aio_ready.specs.Untimed.{are_untimed};
+    ghost use Rattle.aio_ready.specs.Reach.{all_reach};
 
     ghost Value = { Queue };
 
     ghost view = { λ a. record { below = a.below; after = reverse a.late; given = a.given } };
 
     ghost invariant = { λ a. (a.given ≤ most_given)
-        × ((a.falls_below ≡ false → are_untimed a.below ≡ true)
-        × (a.falls_late ≡ false → are_untimed a.late ≡ true)) };
+        × ((all_reach a.least_below a.below ≡ true)
+        × (all_reach a.least_late a.late ≡ true)) };
 }
 
-// A timer's handle is dead, where some handle of a timer may be among them.
-fn mark_due(handles: &mut Stack, falls: bool, timer: u64)
-    requires { falls ≡ false → are_untimed handles.old ≡ true }
-    ensures { handles.new ≡ map (marked (HandleName.Timer timer)) handles.old }
+// Those with this name are dead. They are looked through only where its number does not fall below.
+fn mark(handles: &mut Stack, least: Least, name: HandleName)
+    requires { all_reach least handles.old ≡ true }
+    ensures { handles.new ≡ map (marked name) handles.old }
 {
-    if falls {
-        handles.mark(HandleName::Timer(timer));
+    if least.reaches(name) {
+        handles.mark(name);
+    }
+}
+
+// What serves for those before the bar, once those after it stand there too.
+fn least_at_bar(below: &Stack, least_below: Least, least_late: Least) -> Least
+    requires { all_reach least_below below.now ≡ true }
+    ensures below { all_reach result below.now ≡ true }
+    ensures late { IsBelow result least_late }
+{
+    if below.is_empty() {
+        least_late
+    } else {
+        least_below.and(least_late)
     }
 }
 
@@ -63,8 +77,8 @@ impl Ready {
             below: Stack::new(),
             late: Stack::new(),
             given: 0,
-            falls_below: false,
-            falls_late: false,
+            least_below: Least::of_none(),
+            least_late: Least::of_none(),
         }
     }
 
@@ -119,13 +133,11 @@ impl Ready {
         self.append(ticket, HandleName::Timer(timer), action);
     }
 
-    /// As `cancel`, of what `soon_due` appended under this number. It looks through no handles
-    /// where none of a timer waits.
+    /// As `cancel`, of what `soon_due` appended under this number.
     pub fn cancel_due(&mut self, timer: u64)
         ensures { self.new ≡ cancelled (HandleName.Timer timer) self.old }
     {
-        mark_due(&mut self.below, self.falls_below, timer);
-        mark_due(&mut self.late, self.falls_late, timer);
+        self.mark(HandleName::Timer(timer));
     }
 
     /// Whether nothing waits. Cancelled handles count.
@@ -139,8 +151,8 @@ impl Ready {
     pub fn set_bar(&mut self)
         ensures { self.new ≡ barred self.old }
     {
-        self.falls_below = self.falls_late | (self.falls_below & !self.below.is_empty());
-        self.falls_late = false;
+        self.least_below = least_at_bar(&self.below, self.least_below, self.least_late);
+        self.least_late = Least::of_none();
         let mut turned = Stack::new();
         self.below.turn_onto(&mut turned);
         self.late.turn_onto(&mut self.below);
@@ -182,14 +194,14 @@ impl Ready {
         ensures { self.new ≡ appended name action self.old }
     {
         let dead = false;
-        self.falls_late = self.falls_late | name.is_timed();
+        self.least_late = self.least_late.with(name);
         self.late.push(ticket, Handle { name, action, dead });
     }
 
     fn mark(&mut self, name: HandleName)
         ensures { self.new ≡ cancelled name self.old }
     {
-        self.below.mark(name);
-        self.late.mark(name);
+        mark(&mut self.below, self.least_below, name);
+        mark(&mut self.late, self.least_late, name);
     }
 }

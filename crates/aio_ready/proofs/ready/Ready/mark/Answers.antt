@@ -2,16 +2,16 @@
 use Rattle.std.proofs.Common.{refl}
 use Rattle.aio_ready.specs.Names.{marked}
 use Rattle.aio_ready.proofs.Turning.{reverse-map}
-use Rattle.aio_ready.proofs.Untiming.{marks_leave}
+use Rattle.aio_ready.proofs.Reaching.{marks_leave}
 use Rattle.aio_ready.proofs.ready.Ready.mark.Goals as goal
 
 pub invariant_of-self : goal.invariant_of-self
 invariant_of-self c =
-    let falls = c.self.invariant.1 in (
+    let reach = c.self.invariant.1 in (
       c.self.invariant.0,
       (
-        (λ h. rw (c.mark.ensures, marks_leave c.args.name c.self.inside.below) (falls.0 h)),
-        (λ h. rw (c.mark-2.ensures, marks_leave c.args.name c.self.inside.late) (falls.1 h)),
+        rw (c.mark.ensures, marks_leave c.self.inside.least_below c.args.name c.self.inside.below) reach.0,
+        rw (c.mark-2.ensures, marks_leave c.self.inside.least_late c.args.name c.self.inside.late) reach.1,
       ),
     )
 

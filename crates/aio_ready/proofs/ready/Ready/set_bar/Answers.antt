@@ -1,22 +1,23 @@
--- None of a timer comes to stand before the bar where none was there.
+-- What serves for both serves for those before the bar.
 use Rattle.std.proofs.Common.{refl}
-use Rattle.aio_ready.proofs.Untiming.{at_the_bar}
+use Rattle.aio_ready.proofs.Reaching.{at_the_bar, lowered}
 use Rattle.aio_ready.proofs.ready.Ready.set_bar.Goals as goal
 
 pub invariant_of-self : goal.invariant_of-self
 invariant_of-self c =
-    let falls = c.self.invariant.1 in (
+    let reach = c.self.invariant.1 in (
       c.self.invariant.0,
       (
-        (λ h. rw (
+        rw (
           c.turn_onto-3.ensures.onto,
           c.turn_onto-2.ensures.onto,
           c.turn_onto.ensures.onto,
           c.turn_onto.ensures.from,
           c.new-turned.ensures,
         )
-            (at_the_bar c.self.inside.falls_below c.self.inside.falls_late c.is_empty.result c.self.inside.below c.self.inside.late
-            c.is_empty.ensures falls.0 falls.1 h)),
-        (λ h. rw c.turn_onto-2.ensures.from refl),
+            (at_the_bar c.least_at_bar-self-inside.result c.self.inside.below c.self.inside.late
+            c.least_at_bar-self-inside.ensures.below
+            (lowered c.least_at_bar-self-inside.result c.self.inside.least_late c.self.inside.late c.least_at_bar-self-inside.ensures.late reach.1)),
+        rw c.turn_onto-2.ensures.from refl,
       ),
     )

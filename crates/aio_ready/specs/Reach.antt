@@ -1,0 +1,20 @@
+-- Numbers that those of some handles do not fall below.
+use Rattle.std.specs.Prelude.{Bool, true, List, ◌≤◌, nat_le}
+use Rattle.std.specs.List.{list_all}
+use Rattle.aio_ready.specs.declared.handle.HandleName.{HandleName}
+use Rattle.aio_ready.specs.declared.handle.HandleName.TheVariants.{Nameless, Given, Timer}
+use Rattle.aio_ready.specs.declared.handle.Handle.{Handle}
+use Rattle.aio_ready.specs.declared.least.Least.{Least}
+
+-- whether a name's number does not fall below
+abbrev pub reaches : Least → HandleName → Bool
+reaches least Nameless = true
+reaches least (Given number) = nat_le least.given number
+reaches least (Timer number) = nat_le least.timer number
+
+abbrev pub all_reach : Least → List Handle → Bool
+all_reach least = list_all (λ (handle : Handle). reaches least handle.name)
+
+-- whether what does not fall below the other does not fall below this
+abbrev pub IsBelow : Least → Least → Type 0
+IsBelow least other = (least.given ≤ other.given) × (least.timer ≤ other.timer)
