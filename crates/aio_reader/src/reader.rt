@@ -24,7 +24,7 @@ pub type Taken = model_stream::Taken<Blob, Exc>;
 #[derive(Drop)]
 pub struct Reader {
     held: Buffer,
-    ended: bool,
+    eof: bool,
     failed: Option<Exc>,
     limit: usize,
     paused: bool,
@@ -40,7 +40,7 @@ impl Model for Reader {
 
     ghost view = { λ r. record {
       held = r.held;
-      ended = r.ended;
+      eof = r.eof;
       failed = r.failed;
       limit = r.limit;
       paused = r.paused;
@@ -55,7 +55,7 @@ impl Reader {
     {
         Reader {
             held: Buffer::new(alloc),
-            ended: false,
+            eof: false,
             failed: None,
             limit,
             paused: false,
@@ -64,7 +64,7 @@ impl Reader {
 
     /// A piece came.
     pub fn feed(&mut self, _alloc: Global, piece: &[u8]) -> Result<(), Memory>
-        requires not_ended { self.old.ended ≡ false }
+        requires not_ended { self.old.eof ≡ false }
         requires not_failed { self.old.failed ≡ None }
         ensures after { OnOk result (self.new ≡ reading.feed piece.now self.old) }
         ensures unchanged { OnErr result (self.new ≡ self.old) }
@@ -78,7 +78,7 @@ impl Reader {
     pub fn feed_eof(&mut self)
         ensures { self.new ≡ reading.feed_eof self.old }
     {
-        self.ended = true;
+        self.eof = true;
     }
 
     /// The connection was lost, with this exception.
@@ -127,7 +127,7 @@ impl Reader {
         if let Some(fault) = &self.failed {
             return Ok(Taken::Raises(fault.clone()?));
         }
-        if count > 0 && self.held.len() == 0 && !self.ended {
+        if count > 0 && self.held.len() == 0 && !self.eof {
             return Ok(Taken::Needs);
         }
         self.give(alloc, count as usize)
@@ -151,7 +151,7 @@ impl Reader {
         if count <= self.held.len() {
             return self.give(alloc, count);
         }
-        if !self.ended {
+        if !self.eof {
             return Ok(Taken::Needs);
         }
         let wanted = count.to_string(alloc)?;
@@ -205,7 +205,7 @@ impl Reader {
     {
         if self.held.len().saturating_sub(separator - 1) > self.limit {
             overrun(alloc, NOT_FOUND_SO_FAR)
-        } else if self.ended {
+        } else if self.eof {
             self.give_up(alloc, "undefined")
         } else {
             Ok(Taken::Needs)
@@ -250,7 +250,7 @@ impl Reader {
         let held = self.held.len();
         if held > self.limit {
             self.remove(alloc, held, NOT_FOUND_SO_FAR)
-        } else if self.ended {
+        } else if self.eof {
             self.give(alloc, held)
         } else {
             Ok(Taken::Needs)

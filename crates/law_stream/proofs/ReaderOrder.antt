@@ -47,14 +47,14 @@ front_up_to : (count : ℕ) (r : Reading) → TakesFront (take_up_to count r) r.
 front_up_to count r =
     front_unless r _
     (front_if (eqb count 0) _ _ r.held (front_given 0 r.held)
-    (front_if (is_nothing r.held && not r.ended) _ _ r.held (front_needed r.held) (front_given count r.held)))
+    (front_if (is_nothing r.held && not r.eof) _ _ r.held (front_needed r.held) (front_given count r.held)))
 
 front_exactly : (count : ℤ) (r : Reading) → TakesFront (take_exactly count r) r.held
 front_exactly (negsuc n) r = front_kept _ r.held
 front_exactly (pos count) r =
     front_unless r _
     (front_if (leb count (length r.held)) _ _ r.held (front_given count r.held)
-    (front_if r.ended _ _ r.held (front_incomplete _ r.held) (front_needed r.held)))
+    (front_if r.eof _ _ r.held (front_incomplete _ r.held) (front_needed r.held)))
 
 front_found : (at separator : ℕ) (r : Reading) → TakesFront (until_found at separator r) r.held
 front_found at separator r =
@@ -63,7 +63,7 @@ front_found at separator r =
 front_unfound : (separator : ℕ) (r : Reading) → TakesFront (until_unfound separator r) r.held
 front_unfound separator r =
     front_if (ltb r.limit (length r.held + 1 - separator)) _ _ r.held (front_kept _ r.held)
-    (front_if r.ended _ _ r.held (front_incomplete (codes "undefined") r.held) (front_needed r.held))
+    (front_if r.eof _ _ r.held (front_incomplete (codes "undefined") r.held) (front_needed r.held))
 
 front_until : (separator : List ℕ) (r : Reading) → TakesFront (take_until separator r) r.held
 front_until separator r =
@@ -80,7 +80,7 @@ front_line_at at r =
 front_unended : (r : Reading) → TakesFront (unended_line r) r.held
 front_unended r =
     front_if (ltb r.limit (length r.held)) _ _ r.held (front_removed_all _ r.held)
-    (front_if r.ended _ _ r.held (front_given (length r.held) r.held) (front_needed r.held))
+    (front_if r.eof _ _ r.held (front_given (length r.held) r.held) (front_needed r.held))
 
 front_line : (r : Reading) → TakesFront (take_line r) r.held
 front_line r =

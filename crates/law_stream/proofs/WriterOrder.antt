@@ -4,8 +4,8 @@ use Rattle.std.proofs.Common.{ap, sym, ◌∙◌, inl, inr, ◌⊎◌}
 use Rattle.std.proofs.lemmas.List.{append_assoc, append-nil, take-append-drop, take-take, length-take}
 use Rattle.model_stream.specs.declared.put.Put.{Put}
 use Rattle.model_stream.specs.declared.put.Put.TheVariants.{Offer, Kept, Empty, AfterEof, Dropped}
-use Rattle.model_stream.specs.Sending.{Writer, put_as, put_answer, took, resume_mark, resumed_under, paused_over, with_marks, marks_of, is_nothing}
-use Rattle.law_stream.specs.WriterSteps.{WriterStep, Writes, Takes, SetsMarks, WritesEnd, IsLost, after, written_as, written_in, handed_in, dropped_in}
+use Rattle.model_stream.specs.Sending.{Writer, put_as, put_answer, written_of, took, resume_mark, resumed_under, paused_over, with_marks, marks_of, is_nothing}
+use Rattle.law_stream.specs.WriterSteps.{WriterStep, Writes, Takes, SetsMarks, WritesEnd, IsLost, after, written_in, handed_in, dropped_in}
 use Rattle.law_stream.specs.WriterSteps.{after_all, written, handed, dropped}
 
 -- ---- what is unsent after each step, and that it ended
@@ -13,7 +13,7 @@ record LeftUnsent (w after : Writer) (unsent : List ℕ) : Type 0 where
   unsent_is : after.unsent ≡ unsent
   ended_is : after.ended ≡ w.ended
 
-put_left : (answer : Put) (piece : List ℕ) (w : Writer) → LeftUnsent w (put_as answer piece w) (w.unsent ++ written_as answer piece)
+put_left : (answer : Put) (piece : List ℕ) (w : Writer) → LeftUnsent w (put_as answer piece w) (w.unsent ++ written_of answer piece)
 put_left Offer piece w = record { unsent_is = refl; ended_is = refl }
 put_left Kept piece w = record { unsent_is = refl; ended_is = refl }
 put_left Empty piece w = record { unsent_is = sym (append-nil w.unsent); ended_is = refl }
@@ -39,14 +39,14 @@ marks_left (Some marks) w = record { unsent_is = refl; ended_is = refl }
 -- ---- after the loss
 none_by :
     (eof nothing ended empty : Bool) (piece : List ℕ) → ended ≡ true
-    → written_as (cond eof AfterEof (cond nothing Empty (cond ended Dropped (cond empty Offer Kept)))) piece ≡ []
+    → written_of (cond eof AfterEof (cond nothing Empty (cond ended Dropped (cond empty Offer Kept)))) piece ≡ []
 none_by true nothing ended empty piece is = refl
 none_by false true ended empty piece is = refl
 none_by false false true empty piece is = refl
 none_by false false false empty piece is = absurd (let bad : ⊥ = cc in bad)
 
 -- an ended writer takes nothing that is written
-ended_takes_none : (piece : List ℕ) (w : Writer) → w.ended ≡ true → written_as (put_answer piece w) piece ≡ []
+ended_takes_none : (piece : List ℕ) (w : Writer) → w.ended ≡ true → written_of (put_answer piece w) piece ≡ []
 ended_takes_none piece w is = none_by w.eof (is_nothing piece) w.ended (is_nothing w.unsent) piece is
 
 -- a writer whose loss was scheduled, and that dropped what was unsent
@@ -71,7 +71,7 @@ take_none (suc count) (byte ∷ bytes) is = absurd (let bad : ⊥ = cc in bad)
 stays_over : (step : WriterStep) (w : Writer) → IsOver w → IsOver (after step w)
 stays_over (Writes piece) w over =
     over_from w (after (Writes piece) w) _ over (put_left (put_answer piece w) piece w)
-    (ap (λ bytes. bytes ++ written_as (put_answer piece w) piece) over.nothing ∙ ended_takes_none piece w over.ended)
+    (ap (λ bytes. bytes ++ written_of (put_answer piece w) piece) over.nothing ∙ ended_takes_none piece w over.ended)
 stays_over (Takes count) w over =
     over_from w (after (Takes count) w) _ over (took_left count w) (drop_none count w.unsent over.nothing)
 stays_over (SetsMarks high low) w over =

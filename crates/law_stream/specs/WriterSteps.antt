@@ -1,8 +1,6 @@
 -- What happens to a writer, step by step, and what is written and handed on in the steps.
 use Rattle.std.specs.Prelude.{ℕ, ℤ, List, [], ◌∷◌, ◌++◌, Option, take}
-use Rattle.model_stream.specs.declared.put.Put.{Put}
-use Rattle.model_stream.specs.declared.put.Put.TheVariants.{Offer, Kept, Empty, AfterEof, Dropped}
-use Rattle.model_stream.specs.Sending.{Writer, put, put_answer, took, limits, set_eof, set_ended}
+use Rattle.model_stream.specs.Sending.{Writer, put, put_answer, written_of, took, limits, set_eof, set_ended}
 
 pub data WriterStep : Type 0 where
   Writes : (piece : List ℕ) → WriterStep
@@ -20,16 +18,8 @@ after (SetsMarks high low) w = limits high low w
 after WritesEnd w = set_eof w
 after IsLost w = set_ended w
 
--- a piece that was neither refused nor empty nor dropped was written
-abbrev pub written_as : Put → List ℕ → List ℕ
-written_as Offer piece = piece
-written_as Kept piece = piece
-written_as Empty piece = []
-written_as AfterEof piece = []
-written_as Dropped piece = []
-
 abbrev pub written_in : WriterStep → Writer → List ℕ
-written_in (Writes piece) w = written_as (put_answer piece w) piece
+written_in (Writes piece) w = written_of (put_answer piece w) piece
 written_in _ w = []
 
 abbrev pub handed_in : WriterStep → Writer → List ℕ

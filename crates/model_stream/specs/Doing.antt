@@ -33,3 +33,17 @@ asks call rest = Asks call (λ answer. rest)
 abbrev pub settles : {A : Type 0} → List ℕ → Outcome → Doing A → Doing A
 settles [] outcome rest = rest
 settles (future ∷ futures) outcome rest = Changes (Settle future outcome) (settles futures outcome rest)
+
+-- ---- what is done to a part
+-- a part of a whole: how it is got, and how it is put back
+pub record Part (Whole Inner : Type 0) : Type 0 where
+  pub get : Whole → Inner
+  pub put : Inner → Whole → Whole
+
+-- a part changes
+abbrev pub on : {Whole Inner : Type 0} → Part Whole Inner → (Inner → Doing Inner) → Whole → Doing Whole
+on part change whole = and_then (change (part.get whole)) (λ after. Ends (part.put after whole))
+
+-- a part changes, with an answer
+abbrev pub asked_on : {Whole Inner A : Type 0} → Part Whole Inner → (Inner → Doing (Inner × A)) → Whole → Doing (Whole × A)
+asked_on part change whole = and_then (change (part.get whole)) (λ done. Ends (part.put done.0 whole, done.1))

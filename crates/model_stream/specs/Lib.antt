@@ -1,9 +1,12 @@
+pub mod Answers
 pub mod Children
 pub mod Connections
 pub mod Doing
+pub mod History
 pub mod Listeners
 pub mod Reading
 pub mod Receivers
+pub mod Requests
 pub mod Senders
 pub mod Sending
 pub mod Streams

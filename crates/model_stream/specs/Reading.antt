@@ -21,17 +21,17 @@ ReadOp = op.ReadOp (List ℕ)
 abbrev pub Taken : Type 0
 Taken = taken.Taken (List ℕ) Exc
 
--- `ended` says that the end came, `failed` holds the exception with which the connection was lost, and `paused` says that
+-- `eof` says that the end came, `failed` holds the exception with which the connection was lost, and `paused` says that
 -- no more is received for now.
 pub record Reading : Type 0 where
   pub held : List ℕ
-  pub ended : Bool
+  pub eof : Bool
   pub failed : Option Exc
   pub limit : ℕ
   pub paused : Bool
 
 abbrev pub new_reading : ℕ → Reading
-new_reading limit = record { held = []; ended = false; failed = None; limit = limit; paused = false }
+new_reading limit = record { held = []; eof = false; failed = None; limit = limit; paused = false }
 
 -- ---- what comes
 -- reading is paused where more than twice the limit is held
@@ -40,7 +40,7 @@ feed piece r =
     record r { held = r.held ++ piece; paused = r.paused || nat_lt (2 * r.limit) (length (r.held ++ piece)) }
 
 abbrev pub feed_eof : Reading → Reading
-feed_eof r = record r { ended = true }
+feed_eof r = record r { eof = true }
 
 abbrev pub fail : Exc → Reading → Reading
 fail fault r = record r { failed = Some fault }
@@ -96,7 +96,7 @@ abbrev pub take_up_to : ℕ → Reading → Take
 take_up_to count r =
     unless_failed r
     (if nat_eq count 0 then gives 0 r.held
-    else (if is_nothing r.held && not r.ended then needs r.held else gives count r.held))
+    else (if is_nothing r.held && not r.eof then needs r.held else gives count r.held))
 
 -- `readexactly(n)`
 abbrev pub take_exactly : ℤ → Reading → Take
@@ -105,7 +105,7 @@ take_exactly (negsuc n) r =
 take_exactly (pos count) r =
     unless_failed r
     (if nat_le count (length r.held) then gives count r.held
-    else (if r.ended then incomplete (decimal count) r.held else needs r.held))
+    else (if r.eof then incomplete (decimal count) r.held else needs r.held))
 
 -- a separator of this length begins at this place
 abbrev pub until_found : (at separator : ℕ) → Reading → Take
@@ -118,7 +118,7 @@ abbrev pub until_unfound : (separator : ℕ) → Reading → Take
 until_unfound separator r =
     if nat_lt r.limit (length r.held + 1 - separator)
     then raises (exception_of LimitOverrunError not_found_so_far) r.held
-    else (if r.ended then incomplete (codes "undefined") r.held else needs r.held)
+    else (if r.eof then incomplete (codes "undefined") r.held else needs r.held)
 
 -- `readuntil(separator)`
 abbrev pub take_until : List ℕ → Reading → Take
@@ -141,7 +141,7 @@ line_at at r =
 abbrev pub unended_line : Reading → Take
 unended_line r =
     if nat_lt r.limit (length r.held) then removes not_found_so_far []
-    else (if r.ended then gives (length r.held) r.held else needs r.held)
+    else (if r.eof then gives (length r.held) r.held else needs r.held)
 
 abbrev pub newline : List ℕ
 newline = 10 ∷ []

@@ -8,7 +8,8 @@ use Rattle.model_value.specs.declared.outcome.Outcome.TheVariants.{Value as Retu
 use Rattle.model_value.specs.Action.{Action}
 use Rattle.model_value.specs.Value.{Nothing, Outcome, Exc, exception_of}
 use Rattle.model_wire.specs.Call.{Call, Answer}
-use Rattle.model_wire.specs.declared.answer.Answer.TheVariants.{Took, Again}
+use Rattle.model_stream.specs.declared.phase.Phase.{Phase}
+use Rattle.model_stream.specs.declared.phase.Phase.TheVariants as phase
 use Rattle.model_stream.specs.declared.answers.Wrote.{Wrote}
 use Rattle.model_stream.specs.declared.answers.Wrote.TheVariants as wrote
 use Rattle.model_stream.specs.declared.answers.Drain as drain
@@ -16,24 +17,43 @@ use Rattle.model_stream.specs.declared.answers.Drain.TheVariants as drain_as
 use Rattle.model_stream.specs.declared.put.Limited.{Limited}
 use Rattle.model_stream.specs.declared.put.Put.{Put}
 use Rattle.model_stream.specs.declared.put.Put.TheVariants.{Offer, Kept, Empty, AfterEof, Dropped}
+use Rattle.model_stream.specs.Answers.{SentSome, SentNone, SendFailed, sent_by}
 use Rattle.model_stream.specs.Doing.{Doing, Ends, Changes, Asks, MakeFuture, CallSoon, and_then, asks, settles}
 use Rattle.model_stream.specs.Sending.{Writer, new_writer, is_nothing, offer, put, put_answer, took, set_ended, limits, limits_answer}
 
 abbrev pub Drain : Type 0
 Drain = drain.Drain Exc
 
--- `drains` are the futures that drains wait on, in order, and `closed` is the one that `wait_closed` awaits. `lost` says
--- that loss is done.
+-- `drains` are the futures that drains wait on, in order, and `closed_future` is the one that `wait_closed` awaits.
 pub record Sender : Type 0 where
   pub writer : Writer
   pub drains : List ℕ
-  pub closing : Bool
-  pub closed : ℕ
-  pub lost : Bool
+  pub phase : Phase
+  pub closed_future : ℕ
 
-abbrev pub new_sender : (whole : Bool) (closed : ℕ) → Sender
-new_sender whole closed =
-    record { writer = new_writer whole; drains = []; closing = false; closed = closed; lost = false }
+abbrev pub new_sender : (whole : Bool) (closed_future : ℕ) → Sender
+new_sender whole closed_future =
+    record { writer = new_writer whole; drains = []; phase = phase.Open; closed_future = closed_future }
+
+-- closed or lost, or about to be
+abbrev pub is_closing : Sender → Bool
+is_closing s =
+    elim s.phase [
+      | phase.Open ↦ false
+      | phase.Closing ↦ true
+      | phase.Losing broken ↦ true
+      | phase.Lost broken ↦ true
+    ]
+
+-- loss is done
+abbrev pub is_lost : Sender → Bool
+is_lost s =
+    elim s.phase [
+      | phase.Open ↦ false
+      | phase.Closing ↦ false
+      | phase.Losing broken ↦ false
+      | phase.Lost broken ↦ true
+    ]
 
 -- What a connection and a child's standard input don't share: the calls that send and close, the callback of the loss,
 -- and the exception of a loss by failure.
@@ -50,12 +70,14 @@ abbrev pub has_unsent : Sender → Bool
 has_unsent s = not (is_nothing s.writer.unsent)
 
 -- ---- loss
-abbrev pub ended_sender : Sender → Sender
-ended_sender s = record s { writer = set_ended s.writer; closing = true }
+-- what is unsent is dropped
+abbrev pub ended_sender : Phase → Sender → Sender
+ended_sender now s = record s { writer = set_ended s.writer; phase = now }
 
--- loss is scheduled, and what is unsent is dropped
+-- loss is scheduled
 abbrev pub schedule_loss : Outlet → (broken : Bool) → Sender → Doing Sender
-schedule_loss outlet broken s = Changes (CallSoon (outlet.loses broken)) (Ends (ended_sender s))
+schedule_loss outlet broken s =
+    Changes (CallSoon (outlet.loses broken)) (Ends (ended_sender (phase.Losing broken) s))
 
 -- A failure of the outside. Where loss is scheduled or done it does nothing.
 abbrev pub fail_sender : Outlet → Sender → Doing Sender
@@ -64,8 +86,8 @@ fail_sender outlet s = if s.writer.ended then Ends s else schedule_loss outlet t
 -- Closing waits for what is unsent; a closing one is closed no more.
 abbrev pub close_sender : Outlet → Sender → Doing Sender
 close_sender outlet s =
-    if s.closing then Ends s
-    else (if has_unsent s then Ends (record s { closing = true }) else schedule_loss outlet false s)
+    if is_closing s then Ends s
+    else (if has_unsent s then Ends (record s { phase = phase.Closing }) else schedule_loss outlet false s)
 
 abbrev pub loss_of : Outlet → (broken : Bool) → Option Exc
 loss_of outlet broken = if broken then Some outlet.fault else None
@@ -75,20 +97,23 @@ outcome_of None = Returned Nothing
 outcome_of (Some fault) = Failed fault
 
 abbrev pub waiting_for_loss : Sender → List ℕ
-waiting_for_loss s = s.closed ∷ (if s.writer.paused then s.drains else [])
+waiting_for_loss s = s.closed_future ∷ (if s.writer.paused then s.drains else [])
 
 -- The loss is done: those who wait are told, and the outside is asked to close.
 abbrev pub lose_sender : Outlet → (broken : Bool) → Sender → Doing Sender
 lose_sender outlet broken s =
     settles (waiting_for_loss s) (outcome_of (loss_of outlet broken))
-    (asks outlet.closes (Ends (record (ended_sender s) { drains = []; lost = true })))
+    (asks outlet.closes (Ends (record (ended_sender (phase.Lost broken) s) { drains = [] })))
 
 -- ---- sending
--- how an offer at a write went; an answer that is neither is a failure
+-- how an offer at a write went
 abbrev pub offered : Outlet → Sender → Answer → Doing Sender
-offered outlet s (Took count) = Ends (with_writer (took count s.writer) s)
-offered outlet s Again = Ends (with_writer (took 0 s.writer) s)
-offered outlet s _ = fail_sender outlet s
+offered outlet s came =
+    elim (sent_by came) [
+      | SentSome count ↦ Ends (with_writer (took count s.writer) s)
+      | SentNone ↦ Ends (with_writer (took 0 s.writer) s)
+      | SendFailed ↦ fail_sender outlet s
+    ]
 
 abbrev pub write_as : Put → Outlet → Sender → Doing (Sender × Wrote)
 write_as AfterEof outlet s = Ends (s, wrote.AfterEof)
@@ -110,14 +135,18 @@ sent count s =
     then settles s.drains (Returned Nothing) (Ends (record s { writer = after; drains = [] }))
     else Ends (with_writer after s)
 
-abbrev pub sent_by : Outlet → Sender → Answer → Doing Sender
-sent_by outlet s (Took count) = sent count s
-sent_by outlet s Again = Ends s
-sent_by outlet s _ = fail_sender outlet s
+-- how a send of what is unsent went
+abbrev pub sent_more : Outlet → Sender → Answer → Doing Sender
+sent_more outlet s came =
+    elim (sent_by came) [
+      | SentSome count ↦ sent count s
+      | SentNone ↦ Ends s
+      | SendFailed ↦ fail_sender outlet s
+    ]
 
 -- more may be sent
 abbrev pub send_more : Outlet → Sender → Doing Sender
-send_more outlet s = Asks (outlet.sends (offer s.writer)) (sent_by outlet s)
+send_more outlet s = Asks (outlet.sends (offer s.writer)) (sent_more outlet s)
 
 -- all was sent, and nothing failed
 abbrev pub is_flushed : Sender → Bool
@@ -130,11 +159,11 @@ lost_text = codes "Connection lost"
 -- `drain` behind the reader's exception. `yielded` says that it comes after the bare `yield`.
 abbrev pub drain_sender : (yielded : Bool) (next : ℕ) → Sender → Doing (Sender × Drain)
 drain_sender yielded next s =
-    if s.closing && not yielded then Ends (s, drain_as.Yields)
-    else (if s.lost then Ends (s, drain_as.Raises (exception_of ConnectionResetError lost_text))
+    if is_closing s && not yielded then Ends (s, drain_as.Yields)
+    else (if is_lost s then Ends (s, drain_as.Raises (exception_of ConnectionResetError lost_text))
     else (if s.writer.paused
     then Changes MakeFuture (Ends (record s { drains = s.drains ++ next ∷ [] }, drain_as.Waits next))
     else Ends (s, drain_as.Goes)))
 
-abbrev pub limits_sender : (high low : Option ℤ) → Sender → Sender × Limited
-limits_sender high low s = (with_writer (limits high low s.writer) s, limits_answer high low)
+abbrev pub limits_sender : (high low : Option ℤ) → Sender → Doing (Sender × Limited)
+limits_sender high low s = Ends (with_writer (limits high low s.writer) s, limits_answer high low)

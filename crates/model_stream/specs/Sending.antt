@@ -67,6 +67,14 @@ put_as Empty piece w = w
 put_as AfterEof piece w = w
 put_as Dropped piece w = w
 
+-- what of a piece is written: all of it, unless it is refused, empty or dropped
+abbrev pub written_of : Put → List ℕ → List ℕ
+written_of Offer piece = piece
+written_of Kept piece = piece
+written_of Empty piece = []
+written_of AfterEof piece = []
+written_of Dropped piece = []
+
 -- A piece that is to be offered is tested against the marks by the `took` that follows it.
 abbrev pub put : List ℕ → Writer → Writer
 put piece w = put_as (put_answer piece w) piece w

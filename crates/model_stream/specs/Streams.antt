@@ -1,15 +1,16 @@
 -- All listeners, connections and children of a run, each kind numbered from 0 in order of making; and how each callback
--- and each request changes them.
+-- changes them, and what opens one.
 use Rattle.std.specs.Prelude.{ℕ, zero, suc, ◌+◌, Bool, true, false, if◌then◌else◌, List, [], ◌∷◌, ◌++◌, Option, Some, None, length, nat_lt, slice_get}
 use Rattle.std.specs.Prelude.{slice_set}
 use Rattle.model_value.specs.declared.action.Action.TheVariants as action
 use Rattle.model_value.specs.Action.{Action}
-use Rattle.model_wire.specs.declared.answer.Answer.TheVariants as answer
 use Rattle.model_wire.specs.declared.call.Call.TheVariants as call
+use Rattle.model_wire.specs.declared.event.Handed.{Handed}
 use Rattle.model_wire.specs.Call.{Answer}
+use Rattle.model_stream.specs.Answers.{is_child, is_conn, is_done}
 use Rattle.model_stream.specs.Children.{Child, new_child, feed_more, tell_child, lose_child}
 use Rattle.model_stream.specs.Connections.{Connection, connecting, accepted, start_read, readable, writable, up, down, lose, handler_done}
-use Rattle.model_stream.specs.Doing.{Doing, Ends, Changes, Asks, MakeFuture, CallSoon, and_then, asks}
+use Rattle.model_stream.specs.Doing.{Doing, Ends, Changes, Asks, MakeFuture, CallSoon, Part, and_then, asks}
 use Rattle.model_stream.specs.Listeners.{Server}
 
 -- what was opened
@@ -18,39 +19,50 @@ pub data Opened : Type 0 where
   OpenedConn : (id : ℕ) → Opened
   OpenedChild : (id : ℕ) → Opened
 
+-- a piece that was written to a connection or to a child's standard input
+pub record Written : Type 0 where
+  pub to : Handed
+  pub piece : List ℕ
+
+-- `opened` is in order of opening. `written` is all that was written so far, in order, and neither refused, empty nor
+-- dropped. `most` is how many of each kind can be numbered.
 pub record Streams : Type 0 where
   pub servers : List Server
   pub connections : List Connection
   pub children : List Child
-  -- in order of opening
   pub opened : List Opened
+  pub written : List Written
+  pub most : ℕ
 
-abbrev pub no_streams : Streams
-no_streams = record { servers = []; connections = []; children = []; opened = [] }
+-- nothing was opened so far, and `most` of each kind can be numbered
+abbrev pub no_streams : (most : ℕ) → Streams
+no_streams most = record { servers = []; connections = []; children = []; opened = []; written = []; most = most }
+
+-- whether one more can be numbered
+abbrev pub may_listen : Streams → Bool
+may_listen s = nat_lt (length s.servers) s.most
+
+abbrev pub may_connect : Streams → Bool
+may_connect s = nat_lt (length s.connections) s.most
+
+abbrev pub may_launch : Streams → Bool
+may_launch s = nat_lt (length s.children) s.most
 
 -- ---- one of them changes; a number that none has changes nothing
-abbrev pub on_connection : ℕ → (Connection → Doing Connection) → Streams → Doing Streams
-on_connection id change s =
-    elim (slice_get s.connections id) [
-      | None ↦ Ends s
-      | Some c ↦ and_then (change c) (λ after. Ends (record s { connections = slice_set s.connections id after }))
-    ]
+abbrev pub its_connections : Part Streams (List Connection)
+its_connections = record { get = λ s. s.connections; put = λ connections s. record s { connections = connections } }
 
-abbrev pub on_child : ℕ → (Child → Doing Child) → Streams → Doing Streams
-on_child id change s =
-    elim (slice_get s.children id) [
+abbrev pub its_children : Part Streams (List Child)
+its_children = record { get = λ s. s.children; put = λ children s. record s { children = children } }
+
+abbrev pub on_one : {A : Type 0} → Part Streams (List A) → (id : ℕ) → (A → Doing A) → Streams → Doing Streams
+on_one kind id change s =
+    elim (slice_get (kind.get s) id) [
       | None ↦ Ends s
-      | Some p ↦ and_then (change p) (λ after. Ends (record s { children = slice_set s.children id after }))
+      | Some one ↦ and_then (change one) (λ after. Ends (kind.put (slice_set (kind.get s) id after) s))
     ]
 
 -- ---- listeners
--- how many connections a run numbers at most
-abbrev pub most_connections : ℕ
-most_connections = 4294967295
-
-abbrev pub may_open : Streams → Bool
-may_open s = nat_lt (length s.connections) most_connections
-
 -- a connection is made, with the next number
 abbrev pub add_connection : Connection → Streams → Streams
 add_connection c s =
@@ -64,23 +76,20 @@ abbrev pub most_accepts : ℕ
 most_accepts = 100
 
 -- an accepted connection is made, and begins to read, soon; `next` is the number of its closed future
-abbrev pub accept : (handler next : ℕ) → Streams → (Streams → Doing Streams) → Doing Streams
-accept handler next s on =
+abbrev pub accept : (handler next : ℕ) → Streams → Doing Streams
+accept handler next s =
     let id = length s.connections in
     Changes MakeFuture
     (Changes (CallSoon (action.Made id))
-    (Changes (CallSoon (action.StartRead id)) (on (add_connection (accepted next handler) s))))
-
-abbrev pub accepted_by : Answer → (handler next : ℕ) → Streams → (Streams → Doing Streams) → Doing Streams
-accepted_by answer.Conn handler next s on = accept handler next s on
-accepted_by _ handler next s on = Ends s
+    (Changes (CallSoon (action.StartRead id)) (Ends (add_connection (accepted next handler) s))))
 
 -- It accepts until another answer comes.
 abbrev pub accept_most : (more server handler next : ℕ) → Streams → Doing Streams
 accept_most zero server handler next s = Ends s
 accept_most (suc more) server handler next s =
-    if may_open s
-    then Asks (call.Accept server) (λ came. accepted_by came handler next s (accept_most more server handler (next + 1)))
+    if may_connect s
+    then Asks (call.Accept server) (λ came.
+    if is_conn came then and_then (accept handler next s) (accept_most more server handler (next + 1)) else Ends s)
     else Ends s
 
 -- `readable` of a listener that is open
@@ -91,17 +100,16 @@ readable_server next id s =
       | Some server ↦ if server.is_open then accept_most most_accepts id server.handler next s else Ends s
     ]
 
+-- a listener is made, with the next number
+abbrev pub add_server : Server → Streams → Streams
+add_server server s =
+    record s { servers = s.servers ++ server ∷ []; opened = s.opened ++ OpenedServer (length s.servers) ∷ [] }
+
 abbrev pub listened : (handler : ℕ) → Streams → Answer → Doing (Streams × Option ℕ)
-listened handler s answer.Done =
-    let id = length s.servers in
-    Ends (
-      record s {
-        servers = s.servers ++ record { handler = handler; is_open = true } ∷ [];
-        opened = s.opened ++ OpenedServer id ∷ [];
-      },
-      Some id,
-    )
-listened handler s _ = Ends (s, None)
+listened handler s came =
+    if is_done came
+    then Ends (add_server (record { handler = handler; is_open = true }) s, Some (length s.servers))
+    else Ends (s, None)
 
 -- `listen`: the listener's number, or none where it is refused
 abbrev pub listen : (port handler : ℕ) → Streams → Doing (Streams × Option ℕ)
@@ -123,23 +131,27 @@ close_server id s =
 -- ---- connections and children that a request makes
 -- `Connecting`: the connection's number, and the future that the connect waits on
 abbrev pub begun : (next : ℕ) → Streams → Answer → Doing (Streams × Option (ℕ × ℕ))
-begun next s answer.Conn =
-    Changes MakeFuture
+begun next s came =
+    if is_conn came
+    then Changes MakeFuture
     (Changes MakeFuture
     (Ends (add_connection (connecting next (next + 1)) s, Some (length s.connections, next + 1))))
-begun next s _ = Ends (s, None)
+    else Ends (s, None)
 
 -- `connect`, or none where it is refused. The closed future has the next number, and the connect's own the one after.
 abbrev pub connect : (port next : ℕ) → Streams → Doing (Streams × Option (ℕ × ℕ))
 connect port next s = Asks (call.Connect port) (begun next s)
 
+-- a child is made, with the next number
+abbrev pub add_child : Child → Streams → Streams
+add_child p s =
+    record s { children = s.children ++ p ∷ []; opened = s.opened ++ OpenedChild (length s.children) ∷ [] }
+
 abbrev pub launched : (next : ℕ) → Streams → Answer → Doing (Streams × Option ℕ)
-launched next s answer.Child =
-    let id = length s.children in
-    Changes MakeFuture
-    (Ends
-    (record s { children = s.children ++ new_child next ∷ []; opened = s.opened ++ OpenedChild id ∷ [] }, Some id))
-launched next s _ = Ends (s, None)
+launched next s came =
+    if is_child came
+    then Changes MakeFuture (Ends (add_child (new_child next) s, Some (length s.children)))
+    else Ends (s, None)
 
 -- `launch`: the child's number, or none where it is refused
 abbrev pub launch : (words : List (List ℕ)) (next : ℕ) → Streams → Doing (Streams × Option ℕ)
@@ -150,23 +162,29 @@ launch words next s = Asks (call.Launch words) (launched next s)
 -- `returned` says of a handler that is done that it neither failed nor was cancelled.
 abbrev pub act : (next : ℕ) (returned : Bool) → Action → Streams → Doing Streams
 act next returned (action.ReadableServer id) s = readable_server next id s
-act next returned (action.StartRead id) s = on_connection id (λ c. Ends (start_read c)) s
-act next returned (action.Readable id) s = on_connection id (readable id) s
-act next returned (action.Writable id) s = on_connection id (writable id) s
-act next returned (action.Up id) s = on_connection id (up id) s
-act next returned (action.Down id) s = on_connection id (down id) s
-act next returned (action.Lost id broken) s = on_connection id (lose id broken) s
-act next returned (action.HandlerDone id task) s = on_connection id (handler_done id returned) s
-act next returned (action.WritableChild id) s = on_child id (feed_more id) s
-act next returned (action.ChildItem id item) s = on_child id (tell_child id item) s
-act next returned (action.LostChild id broken) s = on_child id (lose_child id broken) s
-act next returned _ s = Ends s
+act next returned (action.StartRead id) s = on_one its_connections id (λ c. Ends (start_read c)) s
+act next returned (action.Readable id) s = on_one its_connections id (readable id) s
+act next returned (action.Writable id) s = on_one its_connections id (writable id) s
+act next returned (action.Up id) s = on_one its_connections id (up id) s
+act next returned (action.Down id) s = on_one its_connections id (down id) s
+act next returned (action.Lost id broken) s = on_one its_connections id (lose id broken) s
+act next returned (action.HandlerDone id task) s = on_one its_connections id (handler_done id returned) s
+act next returned (action.WritableChild id) s = on_one its_children id (feed_more id) s
+act next returned (action.ChildItem id item) s = on_one its_children id (tell_child id item) s
+act next returned (action.LostChild id broken) s = on_one its_children id (lose_child id broken) s
+-- `made` starts a handler, which is the machine's
+act next returned (action.Made id) s = Ends s
+-- the others are the loop's
+act next returned (action.Step task) s = Ends s
+act next returned (action.StepInCircle task circle) s = Ends s
+act next returned (action.Wakeup task) s = Ends s
+act next returned (action.SleepDone task future) s = Ends s
+act next returned (action.GroupDone group task) s = Ends s
+act next returned (action.Fires timeout) s = Ends s
+act next returned action.MainDone s = Ends s
+act next returned (action.ExtraItem code bytes) s = Ends s
+act next returned (action.Extra key) s = Ends s
 
-abbrev pub handler_at : Option Connection → Option ℕ
-handler_at None = None
-handler_at (Some c) = c.handler
-
--- `made`: the coroutine that handles an accepted connection, which is then started
-abbrev pub starts : Action → Streams → Option ℕ
-starts (action.Made id) s = handler_at (slice_get s.connections id)
-starts _ s = None
+-- `made`: the coroutine that handles a connection that was accepted, which is then started
+abbrev pub handler_of : (id : ℕ) → Streams → Option ℕ
+handler_of id s = elim (slice_get s.connections id) [ None ↦ None | Some c ↦ c.handler ]

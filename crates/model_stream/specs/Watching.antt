@@ -8,8 +8,8 @@ use Rattle.model_stream.specs.Children.{Child}
 use Rattle.model_stream.specs.Connections.{Connection, reads}
 use Rattle.model_stream.specs.Listeners.{Server}
 use Rattle.model_stream.specs.Receivers.{takes_more}
-use Rattle.model_stream.specs.Senders.{has_unsent}
-use Rattle.model_stream.specs.Streams.{Streams, Opened, OpenedServer, OpenedConn, OpenedChild, may_open}
+use Rattle.model_stream.specs.Senders.{has_unsent, is_lost}
+use Rattle.model_stream.specs.Streams.{Streams, Opened, OpenedServer, OpenedConn, OpenedChild, may_connect}
 
 abbrev pub entry_if : Bool → Watch → List Watch
 entry_if holds entry = if holds then entry ∷ [] else []
@@ -34,14 +34,14 @@ abbrev pub watched_child : ℕ → Option Child → List Watch
 watched_child id None = []
 watched_child id (Some p) =
     let feeds = has_unsent p.stdin in
-    let stdin = not p.stdin.lost in
+    let stdin = not (is_lost p.stdin) in
     let out = takes_more p.out in
     let errs = takes_more p.errs in
     let exit = is_none p.code in
     entry_if (feeds || stdin || out || errs || exit) (watch.Child id feeds stdin out errs exit)
 
 abbrev pub watched : Streams → Opened → List Watch
-watched s (OpenedServer id) = watched_server (may_open s) id (slice_get s.servers id)
+watched s (OpenedServer id) = watched_server (may_connect s) id (slice_get s.servers id)
 watched s (OpenedConn id) = watched_connection id (slice_get s.connections id)
 watched s (OpenedChild id) = watched_child id (slice_get s.children id)
 

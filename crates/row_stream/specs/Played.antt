@@ -1,8 +1,9 @@
 -- What a callback or a request does over a list of answers: what happened, in order, and what it ended with. It didn't end
 -- where it asked for more answers than there are.
-use Rattle.std.specs.Prelude.{List, [], ◌∷◌, Option, Some, None}
+use Rattle.std.specs.Prelude.{ℕ, suc, length, List, [], ◌∷◌, Option, Some, None}
 use Rattle.model_wire.specs.Call.{Call, Answer}
 use Rattle.model_stream.specs.Doing.{Doing, Ends, Changes, Asks, Change}
+use Rattle.model_stream.specs.Streams.{Streams}
 
 pub data Happened : Type 0 where
   Asked : (call : Call) → Happened
@@ -23,3 +24,14 @@ play (Asks call rest) (answer ∷ answers) = first (Asked call) (play (rest answ
 
 abbrev pub played : {A : Type 0} → List Happened → A → Played A
 played happened result = record { happened = happened; ended = Some result }
+
+-- how many calls were asked
+abbrev pub calls_in : List Happened → ℕ
+calls_in [] = 0
+calls_in (Asked call ∷ happened) = suc (calls_in happened)
+calls_in (Changed change ∷ happened) = calls_in happened
+
+-- how many connections there are in the end
+abbrev pub connected : Option Streams → ℕ
+connected None = 0
+connected (Some s) = length s.connections

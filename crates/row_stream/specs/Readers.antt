@@ -5,11 +5,11 @@ use Rattle.model_stream.specs.Reading.{Reading}
 
 -- one that holds these bytes
 abbrev pub reader : List ℕ → Reading
-reader held = record { held = held; ended = false; failed = None; limit = 4; paused = false }
+reader held = record { held = held; eof = false; failed = None; limit = 4; paused = false }
 
 -- the end came behind them
 abbrev pub ended : List ℕ → Reading
-ended held = record (reader held) { ended = true }
+ended held = record (reader held) { eof = true }
 
 -- no more is received for now
 abbrev pub paused : List ℕ → Reading

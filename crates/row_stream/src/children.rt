@@ -1,5 +1,6 @@
 //! Children.
 ghost use Rattle.std.specs.Prelude.{◌≡◌, [], ◌∷◌, true, false, Some, None, pos, negsuc, codes};
+ghost use Rattle.model_pump.specs.declared.stream.Stream.TheVariants as stream;
 ghost use Rattle.model_value.specs.declared.action.Action.TheVariants.{LostChild};
 ghost use Rattle.model_value.specs.declared.action.ChildItem.TheVariants as item;
 ghost use Rattle.model_value.specs.declared.kind.Kind.TheVariants.{BrokenPipeError};
@@ -11,36 +12,37 @@ ghost use Rattle.model_wire.specs.declared.watch.Watch.TheVariants as watch;
 ghost use Rattle.model_stream.specs.declared.answers.ChildWait.TheVariants as wait;
 ghost use Rattle.model_stream.specs.declared.answers.StreamGot.TheVariants as got;
 ghost use Rattle.model_stream.specs.declared.answers.Wrote.TheVariants as wrote;
+ghost use Rattle.model_stream.specs.declared.phase.Phase.TheVariants.{Open, Closing, Losing, Lost};
 ghost use Rattle.model_stream.specs.declared.read_op.ReadOp.TheVariants.{UpTo};
-ghost use Rattle.model_stream.specs.Children.{feed_more, tell_child, lose_child, close_child, write_child, read_out, wait_child, kill, new_child};
-ghost use Rattle.model_stream.specs.Doing.{MakeFuture, CallSoon, Settle};
+ghost use Rattle.model_stream.specs.Children.{feed_more, tell_child, lose_child, close_child, write_child, wait_child, kill, new_child, its_pipe};
+ghost use Rattle.model_stream.specs.Doing.{MakeFuture, CallSoon, Settle, asked_on};
+ghost use Rattle.model_stream.specs.Receivers.{read};
 ghost use Rattle.model_stream.specs.Streams.{launch, no_streams, OpenedChild};
 ghost use Rattle.model_stream.specs.Watching.{watched_child};
-ghost use Rattle.row_stream.specs.Made.{feeding, fed_out, child_of, sender_of};
+ghost use Rattle.row_stream.specs.Made.{feeding, fed_out, over_input};
 ghost use Rattle.row_stream.specs.Played.{Asked, Changed, play, played};
 ghost use Rattle.row_stream.specs.Readers as reader;
-ghost use Rattle.row_stream.specs.Writers.{child_writer};
 
 /// A child that writes what it reads, fed by pieces of 8 bytes and less.
 pub fn child_cat()
-    ensures is_launched { play (launch (codes "cat" ∷ []) 5 no_streams) (answer.Child ∷ [])
+    ensures is_launched { play (launch (codes "cat" ∷ []) 5 (no_streams 100)) (answer.Child ∷ [])
         ≡ played (Asked (call.Launch (codes "cat" ∷ [])) ∷ Changed MakeFuture ∷ [])
-        (record no_streams { children = new_child 5 ∷ []; opened = OpenedChild 0 ∷ [] }, Some 0) }
-    ensures is_refused { play (launch (codes "cat" ∷ []) 5 no_streams) (answer.Refused ∷ [])
-        ≡ played (Asked (call.Launch (codes "cat" ∷ [])) ∷ []) (no_streams, None) }
-    ensures first { play (write_child 0 (codes "0123456789abcdef") (feeding [] false false))
+        (record (no_streams 100) { children = new_child 5 ∷ []; opened = OpenedChild 0 ∷ [] }, Some 0) }
+    ensures is_refused { play (launch (codes "cat" ∷ []) 5 (no_streams 100)) (answer.Refused ∷ [])
+        ≡ played (Asked (call.Launch (codes "cat" ∷ [])) ∷ []) (no_streams 100, None) }
+    ensures first { play (write_child 0 (codes "0123456789abcdef") (feeding [] false Open))
         (answer.Took 6 ∷ [])
         ≡ played (Asked (call.Feed 0 (codes "0123456789abcdef")) ∷ [])
-        (feeding (codes "6789abcdef") true false, wrote.Done) }
-    ensures closes { play (close_child 0 (feeding (codes "6789abcdef") true false)) []
-        ≡ played [] (feeding (codes "6789abcdef") true true) }
-    ensures drops { play (write_child 0 (codes "x") (feeding (codes "6789abcdef") true true)) []
-        ≡ played [] (feeding (codes "6789abcdef") true true, wrote.Done) }
-    ensures watched { watched_child 0 (Some (feeding (codes "6789abcdef") true true))
+        (feeding (codes "6789abcdef") true Open, wrote.Done) }
+    ensures closes { play (close_child 0 (feeding (codes "6789abcdef") true Open)) []
+        ≡ played [] (feeding (codes "6789abcdef") true Closing) }
+    ensures drops { play (write_child 0 (codes "x") (feeding (codes "6789abcdef") true Closing)) []
+        ≡ played [] (feeding (codes "6789abcdef") true Closing, wrote.Done) }
+    ensures watched { watched_child 0 (Some (feeding (codes "6789abcdef") true Closing))
         ≡ watch.Child 0 true true true true true ∷ [] }
-    ensures more { play (feed_more 0 (feeding (codes "6789abcdef") true true)) (answer.Took 8 ∷ [])
-        ≡ played (Asked (call.Feed 0 (codes "6789abcdef")) ∷ []) (feeding (codes "ef") true true) }
-    ensures all { play (feed_more 0 (feeding (codes "ef") true true))
+    ensures more { play (feed_more 0 (feeding (codes "6789abcdef") true Closing)) (answer.Took 8 ∷ [])
+        ≡ played (Asked (call.Feed 0 (codes "6789abcdef")) ∷ []) (feeding (codes "ef") true Closing) }
+    ensures all { play (feed_more 0 (feeding (codes "ef") true Closing))
         (answer.Took 2 ∷ answer.Done ∷ [])
         ≡ played (Asked (call.Feed 0 (codes "ef")) ∷ Changed (Settle 5 (Returned Nothing))
         ∷ Asked (call.End 0) ∷ []) fed_out }
@@ -50,7 +52,7 @@ pub fn child_cat()
 
 /// A child's pipes are read, and its exit is told to those who wait.
 pub fn reads_and_exit()
-    ensures waits { play (read_out 7 (UpTo 4) fed_out) []
+    ensures waits { play (asked_on (its_pipe stream.Out) (read 7 (UpTo 4)) fed_out) []
         ≡ played (Changed MakeFuture ∷ []) (
           record fed_out { out = record { reader = reader.reader []; waiter = Some 7 } },
           got.Waits 7,
@@ -82,24 +84,24 @@ pub fn reads_and_exit()
 
 /// A standard input that breaks.
 pub fn breaks()
-    ensures with_unsent { play (tell_child 0 item.Broken (feeding (codes "ab") false false)) []
+    ensures with_unsent { play (tell_child 0 item.Broken (feeding (codes "ab") false Open)) []
         ≡ played (Changed (CallSoon (LostChild 0 true)) ∷ [])
-        (child_of (sender_of (record (child_writer [] false) { ended = true }) [] true) [] None) }
-    ensures with_nothing { play (tell_child 0 item.Broken (feeding [] false false)) []
+        (over_input (Losing true)) }
+    ensures with_nothing { play (tell_child 0 item.Broken (feeding [] false Open)) []
         ≡ played (Changed (CallSoon (LostChild 0 false)) ∷ [])
-        (child_of (sender_of (record (child_writer [] false) { ended = true }) [] true) [] None) }
+        (over_input (Losing false)) }
     ensures afterwards { play (tell_child 0 item.Broken fed_out) [] ≡ played [] fed_out }
-    ensures at_a_feed { play (write_child 0 (codes "ab") (feeding [] false false))
+    ensures at_a_feed { play (write_child 0 (codes "ab") (feeding [] false Open))
         (answer.Broken ∷ [])
         ≡ played (Asked (call.Feed 0 (codes "ab")) ∷ Changed (CallSoon (LostChild 0 true)) ∷ []) (
-          child_of (sender_of (record (child_writer [] false) { ended = true }) [] true) [] None,
+          over_input (Losing true),
           wrote.Done,
         ) }
     ensures is_lost { play
         (lose_child 0 true
-        (child_of (sender_of (record (child_writer [] false) { ended = true }) [] true) [] None))
+        (over_input (Losing true)))
         (answer.Done ∷ [])
         ≡ played (Changed
         (Settle 5 (Failed (exception_of BrokenPipeError (codes "Connection lost"))))
-        ∷ Asked (call.End 0) ∷ []) fed_out }
+        ∷ Asked (call.End 0) ∷ []) (over_input (Lost true)) }
 {}

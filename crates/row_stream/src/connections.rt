@@ -10,8 +10,9 @@ ghost use Rattle.model_stream.specs.declared.answers.Drain.TheVariants as drain;
 ghost use Rattle.model_stream.specs.declared.answers.StreamGot.TheVariants as got;
 ghost use Rattle.model_stream.specs.declared.answers.Wrote.TheVariants as wrote;
 ghost use Rattle.model_stream.specs.declared.read_op.ReadOp.TheVariants.{UpTo, Line};
-ghost use Rattle.model_stream.specs.Doing.{MakeFuture, CallSoon, Settle};
-ghost use Rattle.model_stream.specs.Connections.{connecting, unmade, start_read, readable, writable, lose, up, down, close, drop_connect, write_to, write_eof, drain_of, read_from, give_up_reading};
+ghost use Rattle.model_stream.specs.Doing.{MakeFuture, CallSoon, Settle, asked_on};
+ghost use Rattle.model_stream.specs.Connections.{connecting, unmade, start_read, readable, writable, lose, up, down, close, drop_connect, write_to, write_eof, drain_of, its_receiver};
+ghost use Rattle.model_stream.specs.Receivers.{read, give_up_read};
 ghost use Rattle.row_stream.specs.Made.{reading, unsent, closing, dying, dead, with_end, receiver_of};
 ghost use Rattle.row_stream.specs.Played.{Asked, Changed, play, played};
 ghost use Rattle.row_stream.specs.Readers as reader;
@@ -50,11 +51,11 @@ pub fn write_after_eof()
         ≡ played [] (with_end (unsent [] false [])) }
     ensures closes { play (close 0 (unsent [] false [])) []
         ≡ played (Changed (CallSoon (Lost 0 false)) ∷ [])
-        (dying false [] (receiver_of (reader.reader []) None)) }
-    ensures is_lost { play (lose 0 false (dying false [] (receiver_of (reader.reader []) None)))
+        (dying false false [] (receiver_of (reader.reader []) None)) }
+    ensures is_lost { play (lose 0 false (dying false false [] (receiver_of (reader.reader []) None)))
         (answer.Done ∷ [])
         ≡ played (Changed (Settle 5 (Returned Nothing)) ∷ Asked (call.Close 0) ∷ [])
-        (dead false (reader.ended [])) }
+        (dead false false (reader.ended [])) }
     ensures waits_for_what_is_unsent { play (write_eof 0 (unsent (codes "ab") false [])) []
         ≡ played [] (with_end (unsent (codes "ab") false [])) }
     ensures shuts_behind_it { play (writable 0 (with_end (unsent (codes "ab") false [])))
@@ -78,7 +79,7 @@ pub fn closes_behind_what_is_unsent()
     ensures is_lost { play (writable 0 (closing (codes "b") false))
         (answer.Took 1 ∷ answer.Done ∷ [])
         ≡ played (Asked (call.Send 0 (codes "b")) ∷ Changed (Settle 5 (Returned Nothing))
-        ∷ Asked (call.Close 0) ∷ []) (dead false (reader.ended [])) }
+        ∷ Asked (call.Close 0) ∷ []) (dead false false (reader.ended [])) }
     ensures reads_no_more { play (readable 0 (closing (codes "b") false)) []
         ≡ played [] (closing (codes "b") false) }
 {}
@@ -88,15 +89,15 @@ pub fn fails()
     ensures at_a_send { play (writable 0 (unsent (codes "012345678") true (9 ∷ [])))
         (answer.Broken ∷ [])
         ≡ played (Asked (call.Send 0 (codes "012345678")) ∷ Changed (CallSoon (Lost 0 true)) ∷ [])
-        (dying true (9 ∷ []) (receiver_of (reader.reader []) None)) }
+        (dying true true (9 ∷ []) (receiver_of (reader.reader []) None)) }
     ensures at_a_receive { play (readable 0 (reading (codes "a") (Some 7))) (answer.Broken ∷ [])
         ≡ played (Asked (call.Recv 0) ∷ Changed (CallSoon (Lost 0 true)) ∷ [])
-        (dying false [] (receiver_of (reader.reader (codes "a")) (Some 7))) }
+        (dying true false [] (receiver_of (reader.reader (codes "a")) (Some 7))) }
     ensures drops_writes { play
-        (write_to 0 (codes "b") (dying false [] (receiver_of (reader.reader []) None))) []
-        ≡ played [] (dying false [] (receiver_of (reader.reader []) None), wrote.Done) }
+        (write_to 0 (codes "b") (dying true false [] (receiver_of (reader.reader []) None))) []
+        ≡ played [] (dying true false [] (receiver_of (reader.reader []) None), wrote.Done) }
     ensures is_lost { play
-        (lose 0 true (dying true (9 ∷ 8 ∷ []) (receiver_of (reader.reader (codes "a")) (Some 7))))
+        (lose 0 true (dying true true (9 ∷ 8 ∷ []) (receiver_of (reader.reader (codes "a")) (Some 7))))
         (answer.Done ∷ [])
         ≡ played
         (Changed (Settle 7 (Returned Nothing))
@@ -104,46 +105,48 @@ pub fn fails()
         ∷ Changed (Settle 9 (Failed (exception_of ConnectionResetError (codes "Connection lost"))))
         ∷ Changed (Settle 8 (Failed (exception_of ConnectionResetError (codes "Connection lost"))))
         ∷ Asked (call.Close 0) ∷ [])
-        (dead true
+        (dead true true
         (reader.failed (codes "a") (exception_of ConnectionResetError (codes "Connection lost")))) }
     ensures reads_raise { play
-        (read_from 9 Line
-        (dead true
+        (asked_on its_receiver (read 9 Line)
+        (dead true true
         (reader.failed (codes "a\n")
         (exception_of ConnectionResetError (codes "Connection lost"))))) []
         ≡ played [] (
-          dead true
+          dead true true
               (reader.failed (codes "a\n")
               (exception_of ConnectionResetError (codes "Connection lost"))),
           got.Raises (exception_of ConnectionResetError (codes "Connection lost")),
         ) }
-    ensures drains_raise { play (drain_of true 9 (dead false (reader.ended []))) []
+    ensures drains_raise { play (drain_of true 9 (dead false false (reader.ended []))) []
         ≡ played [] (
-          dead false (reader.ended []),
+          dead false false (reader.ended []),
           drain.Raises (exception_of ConnectionResetError (codes "Connection lost")),
         ) }
 {}
 
 /// A read waits on a future of its own until it is woken; a second one at a time is refused.
 pub fn reads()
-    ensures waits { play (read_from 7 (UpTo 9) (reading [] None)) []
+    ensures waits { play (asked_on its_receiver (read 7 (UpTo 9)) (reading [] None)) []
         ≡ played (Changed MakeFuture ∷ []) (reading [] (Some 7), got.Waits 7) }
-    ensures second { play (read_from 8 (UpTo 9) (reading [] (Some 7))) []
+    ensures second { play (asked_on its_receiver (read 8 (UpTo 9)) (reading [] (Some 7))) []
         ≡ played [] (
           reading [] (Some 7),
           got.Raises
               (exception_of RuntimeError
               (codes "read called while another coroutine is already waiting for incoming data")),
         ) }
-    ensures second_finds { play (read_from 8 (UpTo 9) (reading (codes "ab") (Some 7))) []
+    ensures second_finds { play (asked_on its_receiver (read 8 (UpTo 9)) (reading (codes "ab") (Some 7))) []
         ≡ played [] (reading [] (Some 7), got.Bytes (codes "ab")) }
     ensures is_woken { play (readable 0 (reading [] (Some 7))) (answer.Data (codes "ab") ∷ [])
         ≡ played (Asked (call.Recv 0) ∷ Changed (Settle 7 (Returned Nothing)) ∷ [])
         (reading (codes "ab") None) }
     ensures not_now { play (readable 0 (reading [] (Some 7))) (answer.Again ∷ [])
         ≡ played (Asked (call.Recv 0) ∷ []) (reading [] (Some 7)) }
-    ensures given_up { give_up_reading 7 (reading [] (Some 7)) ≡ reading [] None }
-    ensures another { give_up_reading 6 (reading [] (Some 7)) ≡ reading [] (Some 7) }
+    ensures given_up { give_up_read 7 (receiver_of (reader.reader []) (Some 7))
+        ≡ receiver_of (reader.reader []) None }
+    ensures another { give_up_read 6 (receiver_of (reader.reader []) (Some 7))
+        ≡ receiver_of (reader.reader []) (Some 7) }
 {}
 
 /// A connection that is being made: the closed future is future 3, and the connect waits on future

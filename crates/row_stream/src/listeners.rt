@@ -6,7 +6,7 @@ ghost use Rattle.model_wire.specs.declared.call.Call.TheVariants as call;
 ghost use Rattle.model_wire.specs.declared.watch.Watch.TheVariants as watch;
 ghost use Rattle.model_stream.specs.Connections.{accepted, connecting, start_read};
 ghost use Rattle.model_stream.specs.Doing.{MakeFuture, CallSoon};
-ghost use Rattle.model_stream.specs.Streams.{act, starts, listen, connect, close_server, no_streams, OpenedServer, OpenedConn};
+ghost use Rattle.model_stream.specs.Streams.{act, handler_of, listen, connect, close_server, no_streams, OpenedServer, OpenedConn};
 ghost use Rattle.model_stream.specs.Watching.{watch_list};
 ghost use Rattle.row_stream.specs.Made.{reading, unsent, closing, dying, dead, receiver_of};
 ghost use Rattle.row_stream.specs.Opened.{listening, open_with, one_open, not_listening};
@@ -15,10 +15,10 @@ ghost use Rattle.row_stream.specs.Readers as reader;
 
 /// Listener 0 starts coroutine 3 for each connection. Futures are numbered from 5 on.
 pub fn listener()
-    ensures is_opened { play (listen 9 3 no_streams) (answer.Done ∷ [])
+    ensures is_opened { play (listen 9 3 (no_streams 100)) (answer.Done ∷ [])
         ≡ played (Asked (call.Listen 9) ∷ []) (listening, Some 0) }
-    ensures is_refused { play (listen 9 3 no_streams) (answer.Refused ∷ [])
-        ≡ played (Asked (call.Listen 9) ∷ []) (no_streams, None) }
+    ensures is_refused { play (listen 9 3 (no_streams 100)) (answer.Refused ∷ [])
+        ≡ played (Asked (call.Listen 9) ∷ []) (no_streams 100, None) }
     ensures watched { watch_list listening ≡ watch.Server 0 ∷ [] }
     ensures accepts { play (act 5 true (ReadableServer 0) listening)
         (answer.Conn ∷ answer.Again ∷ [])
@@ -27,7 +27,7 @@ pub fn listener()
         ∷ Changed (CallSoon (StartRead 0))
         ∷ Asked (call.Accept 0) ∷ [])
         (one_open (accepted 5 3)) }
-    ensures starts { starts (Made 0) (one_open (accepted 5 3)) ≡ Some 3 }
+    ensures starts { handler_of 0 (one_open (accepted 5 3)) ≡ Some 3 }
     ensures not_yet { watch_list (one_open (accepted 5 3)) ≡ watch.Server 0 ∷ [] }
     ensures begins { play (act 6 true (StartRead 0) (one_open (accepted 5 3))) []
         ≡ played [] (one_open (start_read (accepted 5 3))) }
@@ -47,7 +47,7 @@ pub fn handlers()
         ≡ played [] (one_open (reading [] None)) }
     ensures failed { play (act 6 false (HandlerDone 0 1) (one_open (reading [] None))) []
         ≡ played (Changed (CallSoon (Lost 0 false)) ∷ [])
-        (one_open (dying false [] (receiver_of (reader.reader []) None))) }
+        (one_open (dying false false [] (receiver_of (reader.reader []) None))) }
 {}
 
 /// What is watched of a connection.
@@ -58,7 +58,7 @@ pub fn watches()
         ≡ watch.Server 0 ∷ watch.Conn 0 true true ∷ [] }
     ensures closing { watch_list (one_open (closing (codes "a") false))
         ≡ watch.Server 0 ∷ watch.Conn 0 false true ∷ [] }
-    ensures lost { watch_list (one_open (dead false (reader.ended []))) ≡ watch.Server 0 ∷ [] }
+    ensures lost { watch_list (one_open (dead false false (reader.ended []))) ≡ watch.Server 0 ∷ [] }
     ensures in_order { watch_list
         (open_with (reading [] None ∷ []) (OpenedConn 0 ∷ OpenedServer 0 ∷ []))
         ≡ watch.Conn 0 true false ∷ watch.Server 0 ∷ [] }

@@ -177,7 +177,7 @@ fn is_wanted(taken: &Taken, wanted: &TakeAnswer) -> bool {
 
 /// Whether a reader answers an operation so.
 fn answers(alloc: Global, reader: &mut Reader, op: &TakeOp, wanted: &TakeAnswer) -> bool
-    ensures ended { reader.new.ended ≡ reader.old.ended }
+    ensures ended { reader.new.eof ≡ reader.old.eof }
     ensures failed { reader.new.failed ≡ reader.old.failed }
 {
     let Ok(asked) = asked(alloc, op) else {
@@ -191,9 +191,9 @@ fn answers(alloc: Global, reader: &mut Reader, op: &TakeOp, wanted: &TakeAnswer)
 
 /// Whether a reader that is fed a piece answers then so, asked for what goes up to `--`.
 fn answers_after(alloc: Global, reader: &mut Reader, piece: &str, wanted: &TakeAnswer) -> bool
-    requires not_ended { reader.old.ended ≡ false }
+    requires not_ended { reader.old.eof ≡ false }
     requires not_failed { reader.old.failed ≡ None }
-    ensures not_ended { reader.new.ended ≡ false }
+    ensures not_ended { reader.new.eof ≡ false }
     ensures not_failed { reader.new.failed ≡ None }
 {
     if reader.feed(alloc, piece.as_bytes()).is_err() {

@@ -3,4 +3,4 @@ use Rattle.try_streams.proofs.takes.finds_across_pieces.Given as goal
 
 -- more may be fed
 abbrev pub invariant-loop : goal.invariant-loop
-invariant-loop l = record { not_ended : l.reader.ended ≡ false; not_failed : l.reader.failed ≡ None }
+invariant-loop l = record { not_ended : l.reader.eof ≡ false; not_failed : l.reader.failed ≡ None }
