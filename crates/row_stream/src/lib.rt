@@ -5,6 +5,8 @@
 
 pub mod children;
 pub mod connections;
+pub mod limits;
 pub mod listeners;
 pub mod readers;
+pub mod requests;
 pub mod writers;
