@@ -8,19 +8,20 @@ use Rattle.model_value.specs.Value.{Value, Nothing, Exc}
 use Rattle.model_loop.specs.Deadlines.{fires, others_as}
 use Rattle.model_loop.specs.Entries.{entries}
 use Rattle.model_loop.specs.Handles.{later, soon}
-use Rattle.model_loop.specs.Ledger.{ByTimeout, ask_cancel, uncancel_by}
+use Rattle.model_loop.specs.Ledger.{ByTimeout, uncancel_by}
 use Rattle.model_loop.specs.Loop.{TimeoutState, Created, Active, Expiring, Expired, Finished, Timeout, Loop, book, in_parts}
 use Rattle.model_loop.specs.Tasks.{future_of}
-use Rattle.model_loop.specs.Timeouts.{exit_timeout, fire, fires_at, give_up, is_active, leave_from, moment, reschedule, reschedule_where, schedule, set_timeout}
+use Rattle.model_loop.specs.Timeouts.{exit_timeout, fire, give_up, is_active, leave_from, moment, reschedule, reschedule_where, schedule}
 use Rattle.model_loop.specs.Timeouts.{timeout_of, with_deadline, without_handle}
 use Rattle.model_machine.specs.Sound.{is_open}
 use Rattle.law_timeouts.proofs.Entries.{entries-fewer, of_tag}
 use Rattle.law_timeouts.proofs.Tagging.{timeout_same}
 use Rattle.law_timeouts.specs.Tags.{HaveTags}
-use Rattle.law_after.specs.After.{is_step, IsAfter, IsLoopAfter}
-use Rattle.law_after.proofs.Parts.{refl_after, soon_after, later_after, revoke_after, change_after}
-use Rattle.law_after.proofs.Requests.{cancel_after}
-use Rattle.law_after.proofs.Loops.{refl_loop, loop_on, parts_loop, book_loop, timeout_loop}
+use Rattle.law_changes.specs.Changes.{AsksCancel, CallsLater, CallsSoon, ChangesTimeout, OfParts, Revokes, TakesBack, made_of_loop}
+use Rattle.law_changes.specs.Reaches.{Reaches, stays, goes}
+use Rattle.law_changes.proofs.Folds.{one, on}
+use Rattle.law_after.specs.After.{is_step, IsLoopAfter, MayLeaveLoop, TimeoutAfter}
+use Rattle.law_after.proofs.Loops.{refl_loop, row_loop}
 
 step_fires_none : (task : ℕ) (action : Action) → is_step task action ≡ true → (id : ℕ) → not (fires id action) ≡ true
 step_fires_none task (Fires other) h id = absurd (false≢true h)
@@ -40,31 +41,27 @@ tag_no_step id tag l is e task =
     omega (arith, a, b)
 
 module _ (test : Value → Bool) (nothing : test Nothing ≡ true) (grown : Bool) (excused timeout group begun : Option ℕ) where
-  bare_loop : (id : ℕ) (l : Loop) → HaveTags l → IsLoopAfter test grown excused timeout group begun l (without_handle id l)
-  bare_loop id l is =
-      loop_on test nothing grown excused timeout group begun l (in_parts (give_up (timeout_of l id).tag) l) _
-      (timeout_loop test nothing grown excused timeout group begun id _ (in_parts (give_up (timeout_of l id).tag) l)
-      (record { task = refl; open_ = λ h. refl }))
-      (parts_loop test nothing grown excused timeout group begun l _ (at (timeout_of l id).tag refl))
-    where
-      at : (o : Option ℕ) → (timeout_of l id).tag ≡ o → IsAfter test grown excused l.parts (give_up o l.parts)
-      at None e = refl_after test grown excused l.parts
-      at (Some tag) e = revoke_after test grown excused tag l.parts (tag_no_step id tag l is e)
+  abbrev Row : Loop → Loop → Type 0
+  Row l m = Reaches made_of_loop (MayLeaveLoop test grown timeout group begun) l m
 
-  deadline_loop : (id : ℕ) (when : Option ℕ) (l : Loop) → IsLoopAfter test grown excused timeout group begun l (with_deadline id when l)
-  deadline_loop id None l = refl_loop test nothing grown excused timeout group begun l
-  deadline_loop id (Some when) l =
-      loop_on test nothing grown excused timeout group begun l (in_parts (fires_at id when) l) _
-      (timeout_loop test nothing grown excused timeout group begun id _ (in_parts (fires_at id when) l) (record { task = refl; open_ = λ h. refl }))
-      (parts_loop test nothing grown excused timeout group begun l (fires_at id when l.parts) (at (nat_le when l.parts.time)))
+  pub bare_row : (id : ℕ) (l : Loop) → HaveTags l → Reaches made_of_loop (MayLeaveLoop test grown timeout group begun) l (without_handle id l)
+  bare_row id l is = goes (at (timeout_of l id).tag refl) (ChangesTimeout id _) (record { task = refl; open_ = λ h. refl })
     where
-      at : (b : Bool) → IsAfter test grown excused l.parts (if b then soon (Fires id) l.parts else later when (Fires id) l.parts)
-      at true = soon_after test grown excused (Fires id) l.parts refl
-      at false = later_after test grown excused when (Fires id) l.parts
+      at : (o : Option ℕ) → (timeout_of l id).tag ≡ o → Row l (in_parts (give_up o) l)
+      at None e = stays
+      at (Some tag) e = one (OfParts (Revokes tag)) (tag_no_step id tag l is e)
+
+  deadline_row : (id : ℕ) (when : Option ℕ) (l : Loop) → Row l (with_deadline id when l)
+  deadline_row id None l = stays
+  deadline_row id (Some when) l = goes (at (nat_le when l.parts.time)) (ChangesTimeout id _) (record { task = refl; open_ = λ h. refl })
+    where
+      at : (b : Bool) → Row l (record l { parts = if b then soon (Fires id) l.parts else later when (Fires id) l.parts })
+      at true = one (OfParts (CallsSoon (Fires id))) refl
+      at false = one (OfParts (CallsLater when (Fires id))) tt
 
   pub schedule_loop : (id : ℕ) (when : Option ℕ) (l : Loop) → HaveTags l → IsLoopAfter test grown excused timeout group begun l (schedule id when l)
   schedule_loop id when l is =
-      loop_on test nothing grown excused timeout group begun l (without_handle id l) _ (deadline_loop id when (without_handle id l)) (bare_loop id l is)
+      row_loop test nothing grown excused timeout group begun (on (bare_row id l is) (deadline_row id when (without_handle id l)))
 
   pub reschedule_loop : (id : ℕ) (when : Option ℤ) (l : Loop) → HaveTags l → IsLoopAfter test grown excused timeout group begun l (reschedule id when l)
   reschedule_loop id when l is = at (is_active (timeout_of l id).state)
@@ -76,43 +73,35 @@ module _ (test : Value → Bool) (nothing : test Nothing ≡ true) (grown : Bool
   -- an open one fires, and stays open
   pub fire_loop : (id : ℕ) (l : Loop) → is_open (timeout_of l id).state ≡ true → IsLoopAfter test grown excused timeout group begun l (fire id l)
   fire_loop id l open_ =
-      loop_on test nothing grown excused timeout group begun l (book (ask_cancel (ByTimeout id) (future_of l.parts (timeout_of l id).task)) l) _
-      (timeout_loop test nothing grown excused timeout group begun id _ (book (ask_cancel (ByTimeout id) (future_of l.parts (timeout_of l id).task)) l)
+      row_loop test nothing grown excused timeout group begun
+      (goes (one (AsksCancel (ByTimeout id) (future_of l.parts (timeout_of l id).task)) tt) (ChangesTimeout id _)
       (record { task = refl; open_ = λ h. sym open_ }))
-      (book_loop test nothing grown excused timeout group begun (ask_cancel (ByTimeout id) (future_of l.parts (timeout_of l id).task)) l
-      (cancel_after test grown excused (future_of l.parts (timeout_of l id).task) l.parts))
 
 -- ---- the block is left
 module _ (test : Value → Bool) (nothing : test Nothing ≡ true) (grown : Bool) (excused group begun : Option ℕ) (raised : Option Exc) (id : ℕ) (l : Loop)
     (is : HaveTags l) where
-  left : (new : Timeout) (m : Loop) → new.task ≡ (timeout_of m id).task → IsLoopAfter test grown excused (Some id) group begun m (set_timeout id new m)
-  left new m task =
-      timeout_loop test nothing grown excused (Some id) group begun id new m
-      (record { task = task; open_ = λ h. absurd (false≢true (sym h ∙ eq-eqb id id refl)) })
+  bare : Reaches made_of_loop (MayLeaveLoop test grown (Some id) group begun) l (without_handle id l)
+  bare = bare_row test nothing grown excused (Some id) group begun id l is
+
+  left : (new : Timeout) (m : Loop) → new.task ≡ (timeout_of m id).task → TimeoutAfter (id == id) (timeout_of m id) new
+  left new m task = record { task = task; open_ = λ h. absurd (false≢true (sym h ∙ eq-eqb id id refl)) }
 
   pub leave_loop : IsLoopAfter test grown excused (Some id) group begun l (exit_timeout raised id l).loop
-  leave_loop =
-      loop_on test nothing grown excused (Some id) group begun l (without_handle id l) _ (at (timeout_of l id).state)
-      (bare_loop test nothing grown excused (Some id) group begun id l is)
+  leave_loop = row_loop test nothing grown excused (Some id) group begun (on bare (at (timeout_of l id).state (without_handle id l)))
     where
-      at : (state : TimeoutState)
-          → IsLoopAfter test grown excused (Some id) group begun (without_handle id l) (leave_from state raised id (without_handle id l)).loop
-      at Created = left _ (without_handle id l) refl
-      at Active = left _ (without_handle id l) refl
-      at Expired = left _ (without_handle id l) refl
-      at Finished = left _ (without_handle id l) refl
-      at Expiring =
-          let m = without_handle id l in
-          let taken = book (uncancel_by (ByTimeout id) (timeout_of m id).task) m in
-          loop_on test nothing grown excused (Some id) group begun m taken _ (left _ taken refl)
-          (book_loop test nothing grown excused (Some id) group begun (uncancel_by (ByTimeout id) (timeout_of m id).task) m
-          (change_after test grown excused (timeout_of m id).task _ m.parts (λ t. refl)))
+      at : (state : TimeoutState) (m : Loop)
+          → Reaches made_of_loop (MayLeaveLoop test grown (Some id) group begun) m (leave_from state raised id m).loop
+      at Created m = one (ChangesTimeout id _) (left _ m refl)
+      at Active m = one (ChangesTimeout id _) (left _ m refl)
+      at Expired m = one (ChangesTimeout id _) (left _ m refl)
+      at Finished m = one (ChangesTimeout id _) (left _ m refl)
+      at Expiring m = goes (one (TakesBack (ByTimeout id) (timeout_of m id).task) tt) (ChangesTimeout id _) (left _ m refl)
 
   pub leave_closes : id < length l.timeouts → is_open (timeout_of (exit_timeout raised id l).loop id).state ≡ false
   leave_closes within = at (timeout_of l id).state
     where
       there : id < length (without_handle id l).timeouts
-      there = let e = (bare_loop test nothing grown excused (Some id) group begun id l is).timeouts_made in omega (arith, e, within)
+      there = let e = (row_loop test nothing grown excused (Some id) group begun bare).timeouts_made in omega (arith, e, within)
 
       at : (state : TimeoutState) → is_open (timeout_of (leave_from state raised id (without_handle id l)).loop id).state ≡ false
       at Created = ap (λ (t : Timeout). is_open t.state) (timeout_same id _ (without_handle id l) there)

@@ -10,12 +10,13 @@ use Rattle.model_loop.specs.Loop.{Group, Loop, in_parts}
 use Rattle.model_loop.specs.Parts.{Plain}
 use Rattle.model_loop.specs.Ways.{is_running}
 use Rattle.law_changes.specs.Blocks.{OfEnding, in_ending, ends}
-use Rattle.law_changes.specs.Changes.{LoopChange, made_of_loop}
+use Rattle.law_changes.specs.Changes.{LoopChange, ChangesGroup, MakesFuture, OfParts}
+use Rattle.law_changes.specs.Reaches.{goes}
 use Rattle.law_changes.proofs.BlockRows.{wait_or_end_in}
+use Rattle.law_changes.proofs.Folds.{one, widen}
 use Rattle.law_told.proofs.Holding.{group_same}
-use Rattle.law_after.specs.After.{IsLoopAfter}
-use Rattle.law_after.proofs.Made.{make_after}
-use Rattle.law_after.proofs.Loops.{loop_on, parts_loop, group_change, group_loop, row_loop, exit_begun, exit_heard, begin_loop, begin_marks, heard_loop}
+use Rattle.law_after.specs.After.{IsLoopAfter, MayLeaveLoop}
+use Rattle.law_after.proofs.Loops.{loop_on, may_group, quiet_group, row_loop, exit_begun, exit_heard, begin_loop, begin_marks, heard_loop}
 
 module _ (test : Value → Bool) (nothing : test Nothing ≡ true) (grown : Bool) (excused timeout begun : Option ℕ) (id : ℕ) where
   -- one that waits ends nothing, and any other ends the group
@@ -23,42 +24,24 @@ module _ (test : Value → Bool) (nothing : test Nothing ≡ true) (grown : Bool
   ExitLeaves l (Waits on) m = IsLoopAfter test grown excused timeout None begun l m
   ExitLeaves l _ m = (group_of m id).ended ≡ true
 
-  ending : (new : Group) (l : Loop) → new.parent ≡ (group_of l id).parent → new.entered ≡ (group_of l id).entered
-      → new.exiting ≡ (group_of l id).exiting → IsLoopAfter test grown excused timeout (Some id) begun l (set_group id new l)
-  ending new l parent entered exiting =
-      group_loop test nothing grown excused timeout (Some id) begun id new l (record {
-        parent = parent;
-        entered = entered;
-        ended = λ h. absurd (false≢true (sym h ∙ eq-eqb id id refl));
-        exiting = λ h. exiting ∙ h;
-        still = λ h. exiting;
-      })
-
-  ending_change : (change : LoopChange) (l : Loop) → OfEnding id change l
-      → IsLoopAfter test grown excused timeout (Some id) begun l (made_of_loop change l)
-  ending_change change l (in_ending it) = group_change test nothing grown excused timeout (Some id) begun id change l it
-  ending_change _ l (ends errors) = ending _ l refl refl refl
+  may_end : (change : LoopChange) (l : Loop) → OfEnding id change l → MayLeaveLoop test grown timeout (Some id) begun change l
+  may_end change l (in_ending it) = may_group test nothing grown excused timeout (Some id) begun id change l it
+  may_end _ l (ends errors) = record {
+    parent = refl;
+    entered = refl;
+    ended = λ h. absurd (false≢true (sym h ∙ eq-eqb id id refl));
+    exiting = λ h. h;
+    still = λ h. refl;
+  }
 
   wait_loop : (l : Loop) → IsLoopAfter test grown excused timeout None begun l
       (set_group id (record (group_of l id) { exit_future = Some (next_future l.parts) }) (in_parts new_plain l))
   wait_loop l =
-      loop_on test nothing grown excused timeout None begun l (in_parts new_plain l) _
-      (group_loop test nothing grown excused timeout None begun id _ (in_parts new_plain l)
-      (record { parent = refl; entered = refl; ended = λ h. refl; exiting = λ h. h; still = λ h. refl }))
-      (parts_loop test nothing grown excused timeout None begun l (new_plain l.parts) (make_after test grown excused l.parts Plain))
-
-  -- where this group may end, the others stay
-  freed : (l m : Loop) → IsLoopAfter test grown excused timeout None begun l m → IsLoopAfter test grown excused timeout (Some id) begun l m
-  freed l m a = record {
-    parts = a.parts;
-    timeouts_made = a.timeouts_made;
-    groups_made = a.groups_made;
-    timeouts = a.timeouts;
-    groups = λ j. let g = a.groups j in record { parent = g.parent; entered = g.entered; ended = λ h. g.ended refl; exiting = g.exiting; still = g.still };
-  }
+      row_loop test nothing grown excused timeout None begun
+      (goes (one (OfParts (MakesFuture Plain)) tt) (ChangesGroup id _) (quiet_group _ _ _ _ refl refl refl refl))
 
   wait_or_end_loop : (l : Loop) → IsLoopAfter test grown excused timeout (Some id) begun l (wait_or_end id l).loop
-  wait_or_end_loop l = row_loop test nothing grown excused timeout (Some id) begun ending_change (wait_or_end_in id l)
+  wait_or_end_loop l = row_loop test nothing grown excused timeout (Some id) begun (widen may_end (wait_or_end_in id l))
 
   raised_ends : (errors : List Exc) (l m : Loop) → (group_of m id).ended ≡ true → ExitLeaves l (raised_of errors) m
   raised_ends [] l m h = h
@@ -91,7 +74,7 @@ module _ (test : Value → Bool) (nothing : test Nothing ≡ true) (grown : Bool
   exit_begin_loop may raised l =
       loop_on test nothing grown excused timeout (Some id) begun l (exit_begun test nothing grown excused timeout None begun raised id l) _
       (wait_or_end_loop (exit_begun test nothing grown excused timeout None begun raised id l))
-      (freed l _ (begin_loop test nothing grown excused timeout None begun raised id l may))
+      (begin_loop test nothing grown excused timeout (Some id) begun raised id l may)
 
   pub exit_begin_leaves : is_running begun id ≡ true → (raised : Option Exc) (l : Loop) → id < length l.groups
       → ExitLeaves l (exit_begin raised id l).answer (exit_begin raised id l).loop
@@ -109,7 +92,7 @@ module _ (test : Value → Bool) (nothing : test Nothing ≡ true) (grown : Bool
   exit_woken_loop input l =
       loop_on test nothing grown excused timeout (Some id) begun l (exit_heard test nothing grown excused timeout None begun input id l) _
       (wait_or_end_loop (exit_heard test nothing grown excused timeout None begun input id l))
-      (freed l _ (heard_loop test nothing grown excused timeout None begun input id l))
+      (heard_loop test nothing grown excused timeout (Some id) begun input id l)
 
   pub exit_woken_leaves : (input : Input) (l : Loop) → id < length l.groups
       → ExitLeaves l (exit_woken input id l).answer (exit_woken input id l).loop

@@ -3,29 +3,28 @@ use Rattle.std.proofs.Common.{◌≡◌, ℕ, zero, suc, ◌<◌, ◌⊎◌, inl
 use Rattle.std.proofs.Common.{length, length-set, slice_set, slice_index_or, refl, sym, ap, subst, ◌∙◌}
 use Rattle.std.proofs.lemmas.Bool.{cases_eq, false≢true}
 use Rattle.model_value.specs.Input.{Input}
-use Rattle.model_value.specs.declared.action.Action.TheVariants.{GroupDone}
-use Rattle.model_value.specs.declared.outcome.Outcome.TheVariants.{Value as Returned}
 use Rattle.model_value.specs.Value.{Value, Nothing, Exc}
 use Rattle.model_loop.specs.Groups.{abort_if_raised, begin_exit}
 use Rattle.model_loop.specs.Groups.{child_done, create, group_of, hear}
 use Rattle.model_loop.specs.Groups.{new_group, only_cancelled, set_group, take_back}
-use Rattle.model_loop.specs.Ledger.{Booked, ByAbort, ByGroup, ask_cancel, uncancel_by}
+use Rattle.model_loop.specs.Ledger.{Began, Booked, ask_cancel, uncancel_by}
 use Rattle.model_loop.specs.Loop.{Timeout, Group, Loop, book}
-use Rattle.model_loop.specs.Parts.{Parts, Plain}
+use Rattle.model_loop.specs.Parts.{Parts}
 use Rattle.model_loop.specs.Timeouts.{no_timeout}
 use Rattle.model_loop.specs.Timeouts.{set_timeout, timeout_of}
 use Rattle.model_loop.specs.Ways.{is_running}
 use Rattle.law_changes.specs.Blocks.{GroupStage, OfGroup, changes, aborts, waits, wakes, OfTold, in_told, requests, asks, OfTaking, in_taking, takes}
 use Rattle.law_changes.specs.Blocks.{OfCreating, in_creating, spawns, registers}
-use Rattle.law_changes.specs.Changes.{LoopChange, made_of_loop}
-use Rattle.law_changes.specs.Reaches.{Reaches}
+use Rattle.law_changes.specs.Changes.{LoopChange, OfParts, MakesTimeout, ChangesTimeout, MakesGroup, ChangesGroup, AsksCancel, TakesBack, BeginsExit}
+use Rattle.law_changes.specs.Changes.{made_of_loop}
+use Rattle.law_changes.specs.Reaches.{Reaches, goes}
 use Rattle.law_changes.proofs.BlockRows.{child_done_in, create_in, heard_in, taken_in}
-use Rattle.law_changes.proofs.Folds.{fold}
+use Rattle.law_changes.proofs.Folds.{fold, one, widen}
 use Rattle.law_told.proofs.Holding.{group_same, group_other}
 use Rattle.law_timeouts.proofs.Tagging.{timeout_other}
-use Rattle.law_after.specs.After.{IsAfter, TimeoutAfter, GroupAfter, IsLoopAfter}
-use Rattle.law_after.proofs.Parts.{refl_after, after_on, change_after, settle_after}
-use Rattle.law_after.proofs.Made.{make_after, register_after, spawn_after}
+use Rattle.law_after.specs.After.{IsAfter, TimeoutAfter, GroupAfter, IsLoopAfter, MayLeaveLoop}
+use Rattle.law_after.proofs.Frame.{change_leaves}
+use Rattle.law_after.proofs.Parts.{refl_after, after_on, change_after}
 use Rattle.law_after.proofs.Requests.{cancel_after}
 
 -- ---- fields
@@ -35,8 +34,14 @@ same_timeout left t = record { task = refl; open_ = λ h. refl }
 timeout_then : (left : Bool) (a b c : Timeout) → TimeoutAfter left b c → TimeoutAfter left a b → TimeoutAfter left a c
 timeout_then left a b c y x = record { task = y.task ∙ x.task; open_ = λ h. y.open_ h ∙ x.open_ h }
 
+-- what is looked at of it is left
+pub quiet_group : (left begun : Bool) (g h : Group) → h.parent ≡ g.parent → h.entered ≡ g.entered → h.ended ≡ g.ended → h.exiting ≡ g.exiting
+    → GroupAfter left begun g h
+quiet_group left begun g h parent entered ended exiting =
+    record { parent = parent; entered = entered; ended = λ x. ended; exiting = λ x. exiting ∙ x; still = λ x. exiting }
+
 same_group : (left begun : Bool) (g : Group) → GroupAfter left begun g g
-same_group left begun g = record { parent = refl; entered = refl; ended = λ h. refl; exiting = λ h. h; still = λ h. refl }
+same_group left begun g = quiet_group left begun g g refl refl refl refl
 
 group_then : (left begun : Bool) (a b c : Group) → GroupAfter left begun b c → GroupAfter left begun a b → GroupAfter left begun a c
 group_then left begun a b c y x = record {
@@ -128,41 +133,42 @@ module _ (test : Value → Bool) (nothing : test Nothing ≡ true) (grown : Bool
           (set_there (TimeoutAfter (is_running timeout id)) (same_timeout (is_running timeout id)) l.timeouts id new no_timeout it)
       at j (inr n) = subst (TimeoutAfter (is_running timeout j) (timeout_of l j)) (sym (timeout_other id j new l n)) (same_timeout _ _)
 
-  -- a group's change that leaves what is looked at
-  quiet_group : (id : ℕ) (new : Group) (l : Loop) → new.parent ≡ (group_of l id).parent → new.entered ≡ (group_of l id).entered
-      → new.ended ≡ (group_of l id).ended → new.exiting ≡ (group_of l id).exiting → IsLoopAfter test grown excused timeout group begun l (set_group id new l)
-  quiet_group id new l parent entered ended exiting =
-      group_loop id new l (record { parent = parent; entered = entered; ended = λ h. ended; exiting = λ h. exiting ∙ h; still = λ h. exiting })
+  -- ---- changes
+  pub change_loop : (change : LoopChange) (l : Loop) → MayLeaveLoop test grown timeout group begun change l
+      → IsLoopAfter test grown excused timeout group begun l (made_of_loop change l)
+  change_loop (OfParts change) l may = parts_loop l _ (change_leaves test grown excused change l.parts may)
+  change_loop (MakesTimeout task) l may = absurd may
+  change_loop (ChangesTimeout id new) l may = timeout_loop id new l may
+  change_loop (MakesGroup parent) l may = absurd may
+  change_loop (ChangesGroup id new) l may = group_loop id new l may
+  change_loop (AsksCancel by future) l may = book_loop (ask_cancel by future) l (cancel_after test grown excused future l.parts)
+  change_loop (TakesBack by task) l may = book_loop (uncancel_by by task) l (change_after test grown excused task _ l.parts (λ t. refl))
+  change_loop (BeginsExit id) l may = book_loop (λ p. record { parts = p; entries = Began id ∷ [] }) l (refl_after test grown excused l.parts)
 
-  -- ---- rows
-  module _ {May : LoopChange → Loop → Type 0}
-      (each : (change : LoopChange) (l : Loop) → May change l → IsLoopAfter test grown excused timeout group begun l (made_of_loop change l)) where
-    pub row_loop : {l m : Loop} → Reaches made_of_loop May l m → IsLoopAfter test grown excused timeout group begun l m
-    row_loop row = fold After refl_loop (λ l m n a b. loop_on l m n b a) each row
+  pub row_loop : {l m : Loop} → Reaches made_of_loop (MayLeaveLoop test grown timeout group begun) l m
+      → IsLoopAfter test grown excused timeout group begun l m
+  row_loop row = fold After refl_loop (λ l m n a b. loop_on l m n b a) change_loop row
 
   -- ---- groups
-  pub group_change : (id : ℕ) (change : LoopChange) (l : Loop) → OfGroup id change l
-      → IsLoopAfter test grown excused timeout group begun l (made_of_loop change l)
-  group_change id _ l (changes new same) =
-      quiet_group id new l (ap (λ (it : GroupStage). it.parent) same) (ap (λ (it : GroupStage). it.entered) same)
+  pub may_group : (id : ℕ) (change : LoopChange) (l : Loop) → OfGroup id change l → MayLeaveLoop test grown timeout group begun change l
+  may_group id _ l (changes new same) =
+      quiet_group _ _ _ new (ap (λ (it : GroupStage). it.parent) same) (ap (λ (it : GroupStage). it.entered) same)
       (ap (λ (it : GroupStage). it.ended) same) (ap (λ (it : GroupStage). it.exiting) same)
-  group_change id _ l (aborts future) = book_loop (ask_cancel (ByAbort id) future) l (cancel_after test grown excused future l.parts)
-  group_change id _ l waits = parts_loop l _ (make_after test grown excused l.parts Plain)
-  group_change id _ l (wakes future) = parts_loop l _ (settle_after test grown excused future (Returned Nothing) l.parts nothing)
+  may_group id _ l (aborts future) = tt
+  may_group id _ l waits = tt
+  may_group id _ l (wakes future) = nothing
 
-  told_change : (id : ℕ) (change : LoopChange) (l : Loop) → OfTold id change l
-      → IsLoopAfter test grown excused timeout group begun l (made_of_loop change l)
-  told_change id change l (in_told it) = group_change id change l it
-  told_change id _ l requests = quiet_group id _ l refl refl refl refl
-  told_change id _ l (asks future) = book_loop (ask_cancel (ByGroup id) future) l (cancel_after test grown excused future l.parts)
+  may_tell : (id : ℕ) (change : LoopChange) (l : Loop) → OfTold id change l → MayLeaveLoop test grown timeout group begun change l
+  may_tell id change l (in_told it) = may_group id change l it
+  may_tell id _ l requests = quiet_group _ _ _ _ refl refl refl refl
+  may_tell id _ l (asks future) = tt
 
-  taking_change : (id : ℕ) (change : LoopChange) (l : Loop) → OfTaking id change l
-      → IsLoopAfter test grown excused timeout group begun l (made_of_loop change l)
-  taking_change id change l (in_taking it) = group_change id change l it
-  taking_change id _ l (takes task) = book_loop (uncancel_by (ByGroup id) task) l (change_after test grown excused task _ l.parts (λ t. refl))
+  may_take : (id : ℕ) (change : LoopChange) (l : Loop) → OfTaking id change l → MayLeaveLoop test grown timeout group begun change l
+  may_take id change l (in_taking it) = may_group id change l it
+  may_take id _ l (takes task) = tt
 
   pub child_done_loop : (id task : ℕ) (l : Loop) → IsLoopAfter test grown excused timeout group begun l (child_done id task l)
-  child_done_loop id task l = row_loop (told_change id) (child_done_in id task l)
+  child_done_loop id task l = row_loop (widen (may_tell id) (child_done_in id task l))
 
   -- ---- an exit, up to its end
   abbrev pub exit_begun : Option Exc → ℕ → Loop → Loop
@@ -173,28 +179,19 @@ module _ (test : Value → Bool) (nothing : test Nothing ≡ true) (grown : Bool
 
   -- from where it is marked
   begun_loop : (raised : Option Exc) (id : ℕ) (l : Loop) → IsLoopAfter test grown excused timeout group begun (begin_exit raised id l) (exit_begun raised id l)
-  begun_loop raised id l = row_loop (taking_change id) (taken_in id raised (begin_exit raised id l))
+  begun_loop raised id l = row_loop (widen (may_take id) (taken_in id raised (begin_exit raised id l)))
 
   pub begin_loop : (raised : Option Exc) (id : ℕ) (l : Loop) → is_running begun id ≡ true → IsLoopAfter test grown excused timeout group begun l
       (exit_begun raised id l)
   begin_loop raised id l may =
-      let marked : IsLoopAfter test grown excused timeout group begun l
-      (set_group id (record (group_of l id) { exiting = true; body = raised; kept = only_cancelled raised }) l) =
-      group_loop id _ l (record {
+      loop_on l (begin_exit raised id l) _ (begun_loop raised id l)
+      (row_loop (goes (one (BeginsExit id) tt) (ChangesGroup id _) (record {
         parent = refl;
         entered = refl;
         ended = λ h. refl;
         exiting = λ h. refl;
         still = λ h. absurd (false≢true (sym h ∙ may));
-      }) in
-      loop_on l (begin_exit raised id l) _ (begun_loop raised id l)
-      (record {
-        parts = refl_after test grown excused l.parts;
-        timeouts_made = refl;
-        groups_made = marked.groups_made;
-        timeouts = λ j. same_timeout _ _;
-        groups = marked.groups;
-      })
+      })))
 
   pub begin_marks : (raised : Option Exc) (id : ℕ) (l : Loop) → id < length l.groups → (group_of (exit_begun raised id l) id).exiting ≡ true
   begin_marks raised id l within =
@@ -202,15 +199,14 @@ module _ (test : Value → Bool) (nothing : test Nothing ≡ true) (grown : Bool
       (ap (λ (g : Group). g.exiting) (group_same id (record (group_of l id) { exiting = true; body = raised; kept = only_cancelled raised }) l within))
 
   pub heard_loop : (input : Input) (id : ℕ) (l : Loop) → IsLoopAfter test grown excused timeout group begun l (exit_heard input id l)
-  heard_loop input id l = row_loop (group_change id) (heard_in id input l)
+  heard_loop input id l = row_loop (widen (may_group id) (heard_in id input l))
 
 -- ---- a task is made in a group
 module _ (test : Value → Bool) (nothing : test Nothing ≡ true) (excused timeout group begun : Option ℕ) where
   pub create_loop : (id : ℕ) (l : Loop) → IsLoopAfter test true excused timeout group begun l (create id l)
-  create_loop id l = row_loop test nothing true excused timeout group begun each (create_in id l)
+  create_loop id l = row_loop test nothing true excused timeout group begun (widen may_create (create_in id l))
     where
-      each : (change : LoopChange) (m : Loop) → OfCreating id change m → IsLoopAfter test true excused timeout group begun m (made_of_loop change m)
-      each change m (in_creating it) = group_change test nothing true excused timeout group begun id change m it
-      each _ m spawns = parts_loop test nothing true excused timeout group begun m _ (spawn_after test excused m.parts)
-      each _ m (registers future task) =
-          parts_loop test nothing true excused timeout group begun m _ (register_after test true excused future (GroupDone id task) m.parts refl)
+      may_create : (change : LoopChange) (m : Loop) → OfCreating id change m → MayLeaveLoop test true timeout group begun change m
+      may_create change m (in_creating it) = may_group test nothing true excused timeout group begun id change m it
+      may_create _ m spawns = refl
+      may_create _ m (registers future task) = refl

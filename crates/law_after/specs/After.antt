@@ -16,6 +16,7 @@ use Rattle.model_loop.specs.Timeouts.{timeout_of}
 use Rattle.model_loop.specs.Totals.{pending_where}
 use Rattle.model_loop.specs.Ways.{is_running}
 use Rattle.model_machine.specs.Sound.{IsMainTold, is_open}
+use Rattle.law_changes.specs.Changes.{LoopChange, OfParts, MakesTimeout, ChangesTimeout, MakesGroup, ChangesGroup}
 use Rattle.law_changes.specs.Changes.{PartsChange, CallsSoon, FallsDue, LeavesPending, MakesTask, Registers, Revokes, Settles}
 use Rattle.law_timeouts.proofs.Entries.{of_tag}
 
@@ -87,3 +88,13 @@ MayLeave test grown MakesTask p = grown ≡ true
 MayLeave test grown FallsDue p = AreTimed p
 MayLeave test grown (LeavesPending rest) p = ⊥
 MayLeave test grown _ p = Unit {0}
+
+-- The same of a change of the loop, where this timeout may be left, this group may end, and the exit of this one may begin.
+abbrev pub MayLeaveLoop : (test : Value → Bool) (grown : Bool) (timeout group begun : Option ℕ) → LoopChange → Loop → Type 0
+MayLeaveLoop test grown timeout group begun (OfParts change) l = MayLeave test grown change l.parts
+MayLeaveLoop test grown timeout group begun (ChangesTimeout id new) l = TimeoutAfter (is_running timeout id) (timeout_of l id) new
+MayLeaveLoop test grown timeout group begun (ChangesGroup id new) l =
+    GroupAfter (is_running group id) (is_running begun id) (group_of l id) new
+MayLeaveLoop test grown timeout group begun (MakesTimeout task) l = ⊥
+MayLeaveLoop test grown timeout group begun (MakesGroup parent) l = ⊥
+MayLeaveLoop test grown timeout group begun _ l = Unit {0}

@@ -7,7 +7,9 @@ ghost use Rattle.model_loop.specs.Loop.{Loop};
 ghost use Rattle.model_loop.specs.Timeouts.{exit_timeout, fire, reschedule, timeout_of};
 ghost use Rattle.model_machine.specs.Sound.{is_open};
 ghost use Rattle.law_timeouts.specs.Tags.{HaveTags};
-ghost use Rattle.law_after.specs.After.{IsLoopAfter};
+ghost use Rattle.law_changes.specs.Changes.{LoopChange, made_of_loop};
+ghost use Rattle.law_changes.specs.Reaches.{Reaches};
+ghost use Rattle.law_after.specs.After.{IsLoopAfter, MayLeaveLoop};
 
 /// A timeout gets another deadline, fires while it is open, and is left, which closes it.
 pub fn steps_of_timeouts_leave_the_rest()
@@ -38,4 +40,16 @@ pub fn steps_of_groups_leave_the_rest()
     ensures woken { (test : Value → Bool) → test Nothing ≡ true
         → (excused : Option ℕ) (input : Input) (id : ℕ) (l : Loop)
         → IsLoopAfter test false excused None (Some id) None l (exit_woken input id l).loop }
+{}
+
+/// So does each change of the loop that may be made so, and a row of them.
+pub fn changes_of_the_loop_leave_the_rest()
+    ensures change { (test : Value → Bool) → test Nothing ≡ true
+        → (grown : Bool) (excused timeout group begun : Option ℕ) (change : LoopChange) (l : Loop)
+        → MayLeaveLoop test grown timeout group begun change l
+        → IsLoopAfter test grown excused timeout group begun l (made_of_loop change l) }
+    ensures row { (test : Value → Bool) → test Nothing ≡ true
+        → (grown : Bool) (excused timeout group begun : Option ℕ) (l m : Loop)
+        → Reaches made_of_loop (MayLeaveLoop test grown timeout group begun) l m
+        → IsLoopAfter test grown excused timeout group begun l m }
 {}

@@ -1,5 +1,8 @@
 -- What the loop does to its parts is a row of changes.
 use Rattle.std.proofs.Common.{ℕ, zero, suc, refl, Bool, true, false, List, [], ◌∷◌, ◌++◌, Option, Some, None, Result, Ok, Err, length, slice_get}
+use Rattle.std.proofs.Common.{if◌then◌else◌}
+use Rattle.model_value.specs.Action.{Circle}
+use Rattle.model_value.specs.declared.action.Action.TheVariants.{StepInCircle, Wakeup}
 use Rattle.model_value.specs.declared.outcome.Outcome.TheVariants.{Cancelled}
 use Rattle.model_value.specs.Input.{Input}
 use Rattle.model_value.specs.Value.{Value, Exc, Outcome}
@@ -9,9 +12,11 @@ use Rattle.model_loop.specs.Cancel.{cancel_waiter, cancel_within, asked_where, h
 use Rattle.model_loop.specs.Futures.{made_before}
 use Rattle.model_loop.specs.Ledger.{Origin, request_each, request_where}
 use Rattle.model_loop.specs.Parts.{Future, FutureKind, Plain, OfTask, Many, Parts, Task}
-use Rattle.model_loop.specs.Tasks.{begin_step, finish, future_of, lives}
-use Rattle.law_changes.specs.Blocks.{OfRequest, cancels, keeps_asked, counts, marks}
-use Rattle.law_changes.specs.Changes.{PartsChange, MayInParts, made_of_parts, Settles, KeepsAsked, WaitsFor, Marks, Unmarks, Counts}
+use Rattle.model_loop.specs.Circles.{circle}
+use Rattle.model_loop.specs.Suspend.{cancel_wait, suspend, suspend_unless, wait_on}
+use Rattle.model_loop.specs.Tasks.{begin_step, finish, future_of, is_marked, lives, unmark}
+use Rattle.law_changes.specs.Blocks.{OfRequest, cancels, keeps_asked, counts, marks, OfWait, circles, registers_step, begins_wait, in_wait, unmarks}
+use Rattle.law_changes.specs.Changes.{PartsChange, MayInParts, made_of_parts, CallsSoon, Settles, Registers, KeepsAsked, WaitsFor, Marks, Unmarks, Counts}
 use Rattle.law_changes.specs.Reaches.{Reaches, ReachAlone, PartsReach, stays, goes}
 use Rattle.law_changes.proofs.Folds.{one, on, widen}
 
@@ -99,3 +104,27 @@ module _ (task : ℕ) where
   pub finish_row : (end : Result Value Exc) (p : Parts) → ReachAlone (Some task) p (finish task end p)
   finish_row (Ok value) p = goes (one (Unmarks task) refl) (Settles (future_of p task) _) tt
   finish_row (Err fault) p = one (Settles (future_of p task) _) tt
+
+-- ---- and waits
+module _ (task future : ℕ) where
+  waits_in : (p : Parts) → Reaches made_of_parts (OfWait task future) p (wait_on task future p)
+  waits_in p = goes (one (Registers future (Wakeup task)) registers_step) (WaitsFor task (Some future)) begins_wait
+
+  pub suspend_in : (p : Parts) → Reaches made_of_parts (OfWait task future) p (suspend task future p).parts
+  suspend_in p = at (circle p task future)
+    where
+      asked : Reaches made_of_parts (OfWait task future) p (cancel future (wait_on task future p)).parts
+      asked = on (waits_in p) (widen (λ change q it. in_wait it) (cancel_in future (wait_on task future p)))
+
+      answered : (b : Bool) → Reaches made_of_parts (OfWait task future) p
+          (if b then unmark task (cancel future (wait_on task future p)).parts else (cancel future (wait_on task future p)).parts)
+      answered true = goes asked (Unmarks task) unmarks
+      answered false = asked
+
+      marked : (b : Bool) → Reaches made_of_parts (OfWait task future) p (cancel_wait b task future (wait_on task future p)).parts
+      marked true = answered (cancel future (wait_on task future p)).answer
+      marked false = waits_in p
+
+      at : (o : Option Circle) → Reaches made_of_parts (OfWait task future) p (suspend_unless o task future p).parts
+      at (Some why) = one (CallsSoon (StepInCircle task why)) (circles why)
+      at None = marked (is_marked p task)

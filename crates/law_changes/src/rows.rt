@@ -16,7 +16,7 @@ ghost use Rattle.model_loop.specs.Tasks.{begin_step, finish};
 ghost use Rattle.model_loop.specs.Timeouts.{enter_timeout, exit_timeout, fire, reschedule};
 ghost use Rattle.model_loop.specs.Timeouts.{schedule};
 ghost use Rattle.law_changes.specs.Blocks.{OfCreating, OfEnding, OfGroup, OfRequest};
-ghost use Rattle.law_changes.specs.Blocks.{OfSchedule, OfTaking, OfTold};
+ghost use Rattle.law_changes.specs.Blocks.{OfSchedule, OfTaking, OfTold, OfWait};
 ghost use Rattle.law_changes.specs.Changes.{made_of_loop, made_of_parts};
 ghost use Rattle.law_changes.specs.Reaches.{LoopReaches, PartsReach, ReachAlone, Reaches};
 
@@ -62,13 +62,15 @@ pub fn a_row_of_the_loop_is_one_of_its_parts()
         → PartsReach runner l.parts m.parts }
 {}
 
-/// What requests to cancel, a timeout that is scheduled and the steps of a group change, and
-/// nothing else.
+/// What requests to cancel, a wait, a timeout that is scheduled and the steps of a group change,
+/// and nothing else.
 pub fn requests_and_blocks_change_this_alone()
     ensures request { (future : ℕ) (p : Parts)
         → Reaches made_of_parts OfRequest p (cancel future p).parts }
     ensures each { (by : Origin) (tasks : List ℕ) (p : Parts)
         → Reaches made_of_parts OfRequest p (request_each by tasks p).parts }
+    ensures wait { (task future : ℕ) (p : Parts)
+        → Reaches made_of_parts (OfWait task future) p (suspend task future p).parts }
     ensures schedule { (id : ℕ) (when : Option ℕ) (l : Loop)
         → Reaches made_of_loop (OfSchedule id) l (schedule id when l) }
     ensures abort { (id : ℕ) (l : Loop) → Reaches made_of_loop (OfGroup id) l (abort id l) }

@@ -1,14 +1,14 @@
 -- What each step of the loop carries on: what is numbered, that no circle is, what is called and scheduled.
-use Rattle.std.proofs.Common.{◌≡◌, ℕ, List, None, Option, Some, [], ap, arith, cond, false, inl, inr, length, not, refl, slice_get, sym, true}
-use Rattle.std.proofs.Common.{◌&&◌, ◌++◌, ◌∙◌, ◌∷◌, ◌⊎◌}
+use Rattle.std.proofs.Common.{◌≡◌, ℕ, List, None, Option, Some, [], ap, arith, false, inl, inr, length, not, refl, slice_get, sym, true}
+use Rattle.std.proofs.Common.{◌&&◌, ◌∙◌, ◌∷◌, ◌⊎◌}
 use Rattle.model_loop.specs.Parts.{Future, FutureKind, Handle, OfTask, Parts, Plain, Task}
 use Rattle.model_loop.specs.Tasks.{change_task, spawn, uncancel, waiter_of}
-use Rattle.model_loop.specs.Totals.{callbacks_at, callbacks_of}
+use Rattle.model_loop.specs.Totals.{callbacks_at}
 use Rattle.law_numbers.proofs.Falling.{new_plain_numbers, spawn_numbers}
 use Rattle.model_value.specs.Value.{Exc, Nothing, Outcome}
-use Rattle.model_loop.specs.Futures.{make_future, new_plain, register, registered, registered_on, settle}
+use Rattle.model_loop.specs.Futures.{make_future, new_plain, register, settle}
 use Rattle.model_loop.specs.Handles.{soon}
-use Rattle.law_timeouts.proofs.Quiet.{asked_looks, change_task_quiet, make_quiet, mark_asked_quiet, quiet_on, refl_quiet, register_quiet}
+use Rattle.law_timeouts.proofs.Quiet.{asked_looks, change_task_quiet, make_quiet, mark_asked_quiet, quiet_on, refl_quiet, register_callbacks, register_quiet}
 use Rattle.law_timeouts.proofs.Quiet.{settle_quiet, soon_quiet}
 use Rattle.law_timeouts.proofs.Quiet.{spawn_quiet, taken_quiet}
 use Rattle.model_loop.specs.Groups.{begin_exit, child_done, create}
@@ -18,7 +18,7 @@ use Rattle.model_loop.specs.Numbered.{IsNumbered}
 use Rattle.law_cancel.proofs.Effects.{register-tasks}
 use Rattle.law_settling.proofs.CancelSound.{plain_within, settled_callbacks}
 use Rattle.model_loop.specs.Owning.{AreCallbacks, is_callback, is_no_callback, is_plain, is_plain_at}
-use Rattle.law_cancel.proofs.Lookups.{get-push_last, get-push_other, get-set_kept}
+use Rattle.law_cancel.proofs.Lookups.{get-push_last, get-push_other}
 use Rattle.model_loop.specs.Ledger.{Booked, ByAbort, ByGroup, Origin, ask_cancel, request_each, uncancel_by}
 use Rattle.law_numbers.proofs.Numbering.{change_task_numbers, mark_asked_numbers, register_numbers, settle_numbers, soon_numbers, taken_numbers}
 use Rattle.model_loop.specs.Loop.{Group, Loop, book}
@@ -39,7 +39,6 @@ use Rattle.law_changes.specs.Reaches.{Reaches}
 use Rattle.law_changes.proofs.BlockRows.{child_done_in, create_in, heard_in, taken_in, wait_or_end_in}
 use Rattle.law_changes.proofs.Folds.{fold}
 use Rattle.law_changes.proofs.PartsRows.{cancel_in, each_in}
-use Rattle.std.proofs.lemmas.List.Sums.{sum_by_push}
 use Rattle.model_loop.specs.Deadlines.{fires}
 use Rattle.law_told.proofs.Holding.{settled_names}
 use Rattle.law_settling.proofs.Settling.{settle_cases}
@@ -212,21 +211,6 @@ module _ (p : Parts) where
   }
 
 -- ---- a callback is registered
-register_callbacks : (id : ℕ) (action : Action) (p : Parts) → is_callback action ≡ true → AreCallbacks p → AreCallbacks (register id action p)
-register_callbacks id action p ok are j = at (slice_get p.futures id) refl
-  where
-    until : (future : Future) → slice_get p.futures id ≡ Some future → (o : Option Outcome)
-        → count_by is_no_callback (callbacks_of (registered_on o id future action p) j) ≡ 0
-    until future e (Some done) = are j
-    until future e None =
-        get-set_kept (λ o. count_by is_no_callback (callbacks_at o)) p.futures id j future
-        (record future { callbacks = future.callbacks ++ action ∷ [] }) e
-        (sum_by_push (λ a. cond (is_no_callback a) 1 0) future.callbacks action ∙ rw ok (omega arith)) ∙ are j
-
-    at : (o : Option Future) → slice_get p.futures id ≡ o → count_by is_no_callback (callbacks_of (registered o id action p) j) ≡ 0
-    at None e = are j
-    at (Some future) e = until future e future.outcome
-
 pub register_carries : (id : ℕ) (action : Action) (p : Parts) → is_callback action ≡ true → is_deadline action ≡ false
     → Carries p (register id action p)
 register_carries id action p ok other = record {

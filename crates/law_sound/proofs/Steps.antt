@@ -299,7 +299,7 @@ suspend_step_sound told task on l here s =
       numbered = suspend_numbers task on l.parts;
       circle = λ n. suspend_makes_none task on l.parts s.parts.owns n;
       callbacks = λ a. waits.parts.callbacks;
-      quiet = λ a. suspend_quiet task on l.parts here s.parts;
+      quiet = suspend_quiet task on l.parts;
       plains = λ id h. (suspend_names told told (group_of l) task on l.parts here (holds_of (Some task) told l s)).plains id ∙ h;
     }) waits (suspend_balances task on l.parts) (suspend_none task on l.parts)
   where

@@ -1,42 +1,40 @@
 -- Steps of tasks and requests schedule nothing.
 use Rattle.std.proofs.Common.{◌≡◌, ℕ, Bool, List, None, Option, Some, [], ap, arith, cond, false, not, refl, slice_get, slice_set, subst, sym, true}
 use Rattle.std.proofs.Common.{◌&&◌, ◌++◌, ◌+◌, ◌==◌, ◌∙◌, ◌∷◌, ◌<◌, ◌≤◌}
-use Rattle.model_loop.specs.Tasks.{begin_step, change_task, is_marked, next_task, set_waiter, spawn, unmark}
-use Rattle.model_loop.specs.Futures.{is_pending, make_future, mark_asked, next_future, register, registered, registered_on, settle, settled, settled_as}
+use Rattle.model_loop.specs.Tasks.{begin_step, change_task, next_task, set_waiter, spawn}
+use Rattle.model_loop.specs.Futures.{make_future, mark_asked, next_future, register, registered, registered_on, settle, settled, settled_as}
 use Rattle.model_loop.specs.Futures.{with_future}
 use Rattle.model_loop.specs.Loop.{Timeout}
-use Rattle.law_steps.proofs.Waiting.{task_there, wait_effect, waiting_sound}
 use Rattle.model_loop.specs.Handles.{soon, soon_all}
 use Rattle.law_timeouts.proofs.Entries.{entries-soon, off}
-use Rattle.model_loop.specs.Suspend.{cancel_wait, suspend, suspend_unless, wait_on}
+use Rattle.model_loop.specs.Suspend.{suspend}
 use Rattle.model_loop.specs.Entries.{AreTimed, ends_sleep_on, entries, handles_where, timers_where, untimed}
 use Rattle.model_value.specs.Value.{Outcome}
 use Rattle.model_loop.specs.Deadlines.{HasTag, entries_at, fires, fires_any, fires_as, others_as}
-use Rattle.law_settling.proofs.Looks.{LooksSame, asked_looks_same, change_looks_same, refl_looks, same_callbacks}
-use Rattle.model_value.specs.Action.{Action, Circle}
-use Rattle.model_loop.specs.Circles.{circle}
+use Rattle.law_settling.proofs.Looks.{LooksSame, asked_looks_same, refl_looks, same_callbacks}
+use Rattle.model_value.specs.Action.{Action}
 use Rattle.model_loop.specs.Parts.{Future, FutureKind, Handle, OfTask, Parts, Task}
 use Rattle.model_value.specs.declared.outcome.Outcome.TheVariants.{Cancelled}
-use Rattle.law_changes.specs.Blocks.{OfRequest, cancels, keeps_asked, counts, marks}
+use Rattle.law_changes.specs.Blocks.{OfRequest, cancels, keeps_asked, counts, marks, OfWait, circles, registers_step, begins_wait, in_wait, unmarks}
 use Rattle.law_changes.specs.Changes.{PartsChange, made_of_parts}
+use Rattle.law_changes.specs.Reaches.{Reaches}
 use Rattle.law_changes.proofs.Folds.{fold}
-use Rattle.law_changes.proofs.PartsRows.{cancel_in}
+use Rattle.law_changes.proofs.PartsRows.{cancel_in, suspend_in}
 use Rattle.law_settling.proofs.Settling.{settle_cases}
 use Rattle.model_loop.specs.Ways.{steps}
 use Rattle.model_value.specs.Input.{Input}
 use Rattle.model_value.specs.declared.action.Action.TheVariants.{Fires, SleepDone, Step, StepInCircle, Wakeup}
 use Rattle.law_timeouts.specs.Tags.{AddsNoTimes, IsQuiet, KeepsTags, is_deadline}
-use Rattle.law_steps.proofs.Ending.{pending_there}
-use Rattle.std.proofs.lemmas.List.Sums.{sum_by-cons}
+use Rattle.std.proofs.lemmas.List.Sums.{sum_by-cons, sum_by_push}
 use Rattle.model_loop.specs.Cancel.{cancel}
 use Rattle.law_settling.proofs.CancelSound.{settled_callbacks}
-use Rattle.model_loop.specs.Owning.{AreCallbacks, is_no_callback, is_plain}
-use Rattle.model_loop.specs.Sound.{ArePartsSound}
+use Rattle.model_loop.specs.Owning.{AreCallbacks, is_callback, is_no_callback, is_plain}
 use Rattle.law_settling.specs.Frames.{taken}
-use Rattle.model_loop.specs.Totals.{callbacks_at}
+use Rattle.model_loop.specs.Totals.{callbacks_at, callbacks_of}
 use Rattle.std.specs.Option.{option_map_or}
-use Rattle.std.proofs.lemmas.Bool.{eq-eqb, false≢true, ne_eqb}
-use Rattle.law_cancel.proofs.Effects.{asked_as}
+use Rattle.std.proofs.lemmas.Bool.{false≢true, ne_eqb}
+use Rattle.law_cancel.proofs.Effects.{asked_as, change_task-futures}
+use Rattle.law_cancel.proofs.Lookups.{get-set_kept}
 use Rattle.std.specs.List.{count_by}
 
 abbrev one : Bool → ℕ
@@ -188,7 +186,26 @@ mark_asked_quiet id p = at (slice_get p.futures id)
     at None = refl_quiet p
     at (Some future) = same_quiet p _ refl refl refl
 
--- ---- a request
+-- ---- what is called when a future is done
+pub register_callbacks : (id : ℕ) (action : Action) (p : Parts) → is_callback action ≡ true → AreCallbacks p → AreCallbacks (register id action p)
+register_callbacks id action p ok are j = at (slice_get p.futures id) refl
+  where
+    until : (future : Future) → slice_get p.futures id ≡ Some future → (o : Option Outcome)
+        → count_by is_no_callback (callbacks_of (registered_on o id future action p) j) ≡ 0
+    until future e (Some done) = are j
+    until future e None =
+        get-set_kept (λ o. count_by is_no_callback (callbacks_at o)) p.futures id j future
+        (record future { callbacks = future.callbacks ++ action ∷ [] }) e
+        (sum_by_push (λ a. cond (is_no_callback a) 1 0) future.callbacks action ∙ rw ok (omega arith)) ∙ are j
+
+    at : (o : Option Future) → slice_get p.futures id ≡ o → count_by is_no_callback (callbacks_of (registered o id action p) j) ≡ 0
+    at None e = are j
+    at (Some future) e = until future e future.outcome
+
+change_callbacks : (id : ℕ) (change : Task → Task) (p : Parts) → AreCallbacks p → AreCallbacks (change_task id change p)
+change_callbacks id change p are j =
+    ap (λ (fs : List Future). count_by is_no_callback (callbacks_at (slice_get fs j))) (change_task-futures id change p) ∙ are j
+
 -- whether there is such a future or not
 pub asked_looks : (id : ℕ) (p : Parts) → LooksSame p (mark_asked id p)
 asked_looks id p = at (slice_get p.futures id) refl
@@ -197,23 +214,39 @@ asked_looks id p = at (slice_get p.futures id) refl
     at (Some future) e = asked_looks_same id p future e
     at None e = subst (λ o. LooksSame p (option_map_or (λ (f : Future). with_future id (asked_as f) p) o p)) (sym e) (refl_looks p)
 
+-- ---- rows
 abbrev KeepsQuiet : Parts → Parts → Type 0
 KeepsQuiet p q = AreCallbacks p → AreCallbacks q × IsQuiet p q
 
-request_quiet : (change : PartsChange) (p : Parts) → OfRequest change p → KeepsQuiet p (made_of_parts change p)
-request_quiet _ p (cancels future) are = (
+quiet_task : (id : ℕ) (change : Task → Task) (p : Parts) → KeepsQuiet p (change_task id change p)
+quiet_task id change p are = (change_callbacks id change p are, change_task_quiet id change p)
+
+quiet_request : (change : PartsChange) (p : Parts) → OfRequest change p → KeepsQuiet p (made_of_parts change p)
+quiet_request _ p (cancels future) are = (
   settle_cases AreCallbacks future Cancelled p are (λ q s. settled_callbacks future p q s are),
   settle_quiet future Cancelled p are,
 )
-request_quiet _ p (keeps_asked future) are = (same_callbacks p _ (asked_looks future p) are, mark_asked_quiet future p)
-request_quiet _ p (counts task) are = (same_callbacks p _ (change_looks_same task _ p (λ t. refl) (λ t. refl)) are, change_task_quiet task _ p)
-request_quiet _ p (marks task) are = (same_callbacks p _ (change_looks_same task _ p (λ t. refl) (λ t. refl)) are, change_task_quiet task _ p)
+quiet_request _ p (keeps_asked future) are = (same_callbacks p _ (asked_looks future p) are, mark_asked_quiet future p)
+quiet_request _ p (counts task) are = quiet_task task _ p are
+quiet_request _ p (marks task) are = quiet_task task _ p are
 
-quiet_then : (p q r : Parts) → KeepsQuiet p q → KeepsQuiet q r → KeepsQuiet p r
-quiet_then p q r a b are = let x = a are in let y = b x.0 in (y.0, quiet_on p q r y.1 x.1)
+quiet_wait : (task on : ℕ) (change : PartsChange) (p : Parts) → OfWait task on change p → KeepsQuiet p (made_of_parts change p)
+quiet_wait task on _ p (circles why) are = (are, soon_quiet (StepInCircle task why) p refl)
+quiet_wait task on _ p registers_step are = (register_callbacks on (Wakeup task) p refl are, register_quiet on (Wakeup task) p refl)
+quiet_wait task on _ p begins_wait are = quiet_task task _ p are
+quiet_wait task on change p (in_wait it) are = quiet_request change p it are
+quiet_wait task on _ p unmarks are = quiet_task task _ p are
+
+module _ {May : PartsChange → Parts → Type 0} (each : (change : PartsChange) (p : Parts) → May change p → KeepsQuiet p (made_of_parts change p)) where
+  quiet_row : {p q : Parts} → Reaches made_of_parts May p q → AreCallbacks p → IsQuiet p q
+  quiet_row row are =
+      (fold KeepsQuiet (λ q h. (h, refl_quiet q)) (λ p q r a b h. let x = a h in let y = b x.0 in (y.0, quiet_on p q r y.1 x.1)) each row are).1
 
 pub cancel_quiet : (id : ℕ) (p : Parts) → AreCallbacks p → IsQuiet p (cancel id p).parts
-cancel_quiet id p are = (fold KeepsQuiet (λ q h. (h, refl_quiet q)) quiet_then request_quiet (cancel_in id p) are).1
+cancel_quiet id p = quiet_row quiet_request (cancel_in id p)
+
+pub suspend_quiet : (task on : ℕ) (p : Parts) → AreCallbacks p → IsQuiet p (suspend task on p).parts
+suspend_quiet task on p = quiet_row (quiet_wait task on) (suspend_in task on p)
 
 -- ---- a step
 pub handles-first : (test : ℕ → Action → Bool) (handle : Handle) (rest : List Handle) (p : Parts) → p.pending ≡ handle ∷ rest
@@ -265,34 +298,6 @@ begin_quiet task input handle rest p first mine =
         go : (b : Bool) → (b && false) ≡ false
         go true = refl
         go false = refl
-
-pub suspend_quiet : (task on : ℕ) (p : Parts) → is_pending p on ≡ true → ArePartsSound (Some task) (Some task) p
-    → IsQuiet p (suspend task on p).parts
-suspend_quiet task on p here is = at (circle p task on)
-  where
-    waits : IsQuiet p (wait_on task on p)
-    waits = quiet_on p (register on (Wakeup task) p) _ (change_task_quiet task _ _) (register_quiet on (Wakeup task) p refl)
-
-    sound : ArePartsSound None (Some task) (wait_on task on p)
-    sound =
-        let u = task_there p task (is.runs task (eq-eqb task task refl)) in
-        let g = pending_there p on here in
-        waiting_sound task on p (wait_on task on p) (wait_effect task on p u.0 g.future u.1 g.there g.pending) here is
-
-    asked : IsQuiet p (cancel on (wait_on task on p)).parts
-    asked = quiet_on p (wait_on task on p) _ (cancel_quiet on (wait_on task on p) sound.callbacks) waits
-
-    answered : (b : Bool) → IsQuiet p (cond b (unmark task (cancel on (wait_on task on p)).parts) (cancel on (wait_on task on p)).parts)
-    answered true = quiet_on p (cancel on (wait_on task on p)).parts _ (change_task_quiet task _ _) asked
-    answered false = asked
-
-    marked : (b : Bool) → IsQuiet p (cancel_wait b task on (wait_on task on p)).parts
-    marked false = waits
-    marked true = answered (cancel on (wait_on task on p)).answer
-
-    at : (o : Option Circle) → IsQuiet p (suspend_unless o task on p).parts
-    at (Some why) = soon_quiet (StepInCircle task why) p refl
-    at None = marked (is_marked p task)
 
 pub spawn_quiet : (p : Parts) → IsQuiet p (spawn p)
 spawn_quiet p = quiet_on p (record (make_future (OfTask (next_task p)) p) {

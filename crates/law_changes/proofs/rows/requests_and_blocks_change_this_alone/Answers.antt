@@ -1,5 +1,5 @@
 use Rattle.law_changes.proofs.BlockRows.{abort_in, child_done_in, create_in, schedule_in, taken_in, wait_or_end_in}
-use Rattle.law_changes.proofs.PartsRows.{cancel_in, each_in as each_parts}
+use Rattle.law_changes.proofs.PartsRows.{cancel_in, each_in as each_parts, suspend_in}
 use Rattle.law_changes.proofs.rows.requests_and_blocks_change_this_alone.Goals as goal
 
 pub returns-clause-request : goal.returns-clause-request
@@ -7,6 +7,9 @@ returns-clause-request c = cancel_in
 
 pub returns-clause-each : goal.returns-clause-each
 returns-clause-each c = each_parts
+
+pub returns-clause-wait : goal.returns-clause-wait
+returns-clause-wait c = suspend_in
 
 pub returns-clause-schedule : goal.returns-clause-schedule
 returns-clause-schedule c = schedule_in
