@@ -19,7 +19,6 @@ use Rattle.model_loop.specs.Sound.{IsSound}
 use Rattle.model_machine.specs.Extra.{Extra}
 use Rattle.model_machine.specs.Outcomes.{finished_as}
 use Rattle.model_machine.specs.Outside.{items_of, ready_actions, actions_of, news_of, time_of}
-use Rattle.std.proofs.Common.{arith}
 use Rattle.std.specs.List.{flat_map}
 use Rattle.model_value.specs.declared.action.Action.TheVariants as action
 use Rattle.model_wire.specs.declared.item.Item.TheVariants as item

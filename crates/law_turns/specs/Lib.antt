@@ -2,3 +2,4 @@ pub mod Fits
 pub mod FitsTurn
 pub mod Replied
 pub mod SoundState
+pub mod Trees

@@ -2,4 +2,5 @@
 #![tactic(auto)]
 
 pub mod requests;
+pub mod trees;
 pub mod turns;
