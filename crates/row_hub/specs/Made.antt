@@ -15,6 +15,7 @@ use Rattle.model_hub.specs.declared.child.Flow.{Flow}
 use Rattle.model_hub.specs.declared.child.Seats.{Seats}
 use Rattle.model_hub.specs.Children.{new_child}
 use Rattle.model_hub.specs.Hub.{Hub}
+use Rattle.model_hub.specs.Told.{Kills, Launches}
 use Rattle.model_hub.specs.Others.{Lanes, Given, Full, Spent, Others, Ready, Back, Said, Got, Failed, Started}
 
 -- so many times this
@@ -163,3 +164,10 @@ with_lanes lanes = record (with_posts [] []) { lanes = lanes }
 -- ---- what is answered
 abbrev pub turn_of : List Item → Said
 turn_of items = Got (answer.Turn 5 items)
+
+-- ---- what a launcher tells before it did anything
+abbrev pub no_kills : Kills
+no_kills = record { count = 0; child = 0 }
+
+abbrev pub no_launches : Launches
+no_launches = record { count = 0; words = []; child = 0 }

@@ -1,5 +1,5 @@
 //! Lanes, feeding, and the calls that the hub passes on.
-ghost use Rattle.std.specs.Prelude.{◌≡◌, [], ◌∷◌, true, pos, codes};
+ghost use Rattle.std.specs.Prelude.{◌≡◌, [], ◌∷◌, true, Some, None, pos, codes};
 ghost use Rattle.model_wire.specs.declared.answer.Answer.TheVariants as answer;
 ghost use Rattle.model_wire.specs.declared.call.Call.TheVariants as call;
 ghost use Rattle.model_pump.specs.declared.command.Command.TheVariants as command;
@@ -8,7 +8,10 @@ ghost use Rattle.model_hub.specs.declared.child.Stay.TheVariants.{Gone};
 ghost use Rattle.model_hub.specs.declared.pump.Pump.TheVariants as pump;
 ghost use Rattle.model_hub.specs.Others.{Got, Failed, Memory};
 ghost use Rattle.model_hub.specs.Calls.{ask};
-ghost use Rattle.row_hub.specs.Made.{child, open_flow, over_flow, owing_flow, with_out, with_closing, with_writes, broken_child, hub_of, one, all_one, out_alone, all_given, all_full, all_spent, with_posts, with_lanes, out, broken, broken_item, turn_of};
+ghost use Rattle.model_hub.specs.Asked.{polls_of, kills_after, launches_after, faults_in};
+ghost use Rattle.model_wire.specs.declared.watch.Watch.TheVariants as watch;
+ghost use Rattle.model_pump.specs.declared.post.PostKind.TheVariants as post;
+ghost use Rattle.row_hub.specs.Made.{child, open_flow, over_flow, owing_flow, with_out, with_closing, with_writes, broken_child, hub_of, one, all_one, out_alone, all_given, all_full, all_spent, with_posts, with_lanes, out, broken, broken_item, turn_of, two, both, say, out_item, with_kept, no_kills, no_launches};
 ghost use Rattle.row_hub.specs.Calls.{select_of, out_after, errs_after, out_with, close_after, to_lane, feed_said, writes_after};
 
 /// A stream gets one Go for each piece, while it is watched and until its End was taken. What finds
@@ -93,4 +96,19 @@ pub fn others_answer()
     ensures extra { (ask (call.Extra (pos 400) (codes "a")) (with_lanes all_given) one).1 ≡ Got answer.Refused }
     ensures no_memory { (ask (call.Accept 3) (record (with_lanes all_given) { net = Memory }) one).0.starved ≡ true }
     ensures for_ever { (ask (call.Kill 0) (with_lanes all_given) (record one { starved = true })).1 ≡ Memory }
+{}
+
+/// What a call asks of the poller and of the launcher, and which posts are failures.
+pub fn asks_outside()
+    ensures accept { polls_of (call.Accept 3) all_given one ≡ call.Accept 3 ∷ [] }
+    ensures feed { polls_of (call.Feed 0 (codes "a")) all_given one ≡ [] }
+    ensures sockets_alone { polls_of (call.Select (Some 9) both) all_given two ≡ call.Select (Some 9) (watch.Extra ∷ []) ∷ [] }
+    ensures no_wait { polls_of (call.Select None all_one) all_given (with_kept (out_item 0 (codes "a") ∷ []) one)
+        ≡ call.Select (Some 0) [] ∷ [] }
+    ensures kill { kills_after (call.Kill 7) (Some no_kills) ≡ Some (record { count = 1; child = 7 }) }
+    ensures no_kill { kills_after (call.End 7) (Some no_kills) ≡ Some no_kills }
+    ensures started { launches_after (call.Launch (codes "cat" ∷ [])) (Got answer.Child) 2 (Some no_launches)
+        ≡ Some (record { count = 1; words = codes "cat" ∷ []; child = 2 }) }
+    ensures refused { launches_after (call.Launch (codes "cat" ∷ [])) (Got answer.Refused) 2 (Some no_launches) ≡ Some no_launches }
+    ensures faults { faults_in (say 0 post.Fault ∷ say 1 post.Starved ∷ say 2 post.Fault ∷ []) ≡ 2 }
 {}
