@@ -1,0 +1,20 @@
+//! Laws of asks. Each function has no body: its clauses are the laws.
+ghost use Rattle.std.specs.Prelude.{◌≡◌, [], ◌++◌, List};
+ghost use Rattle.aio_exchange.specs.Exchanged.{Exchange, Exchanged, Last, All, Starved};
+ghost use Rattle.aio_exchange.specs.Outside.{Ported, outside_of};
+
+use aio_wire::Wire;
+
+/// Asks go one after another: what the first did and what the others did, they did together. None
+/// is no ask, and memory may be refused after them.
+pub fn asks_go_on<W: Wire>()
+    ensures none { (at : Ported W)
+        → Exchanged (outside_of W.seen W.fails W.keeps W.quiet) [] All at at }
+    ensures more { (first others : List Exchange) (last : Last) (old between new : Ported W)
+        → Exchanged (outside_of W.seen W.fails W.keeps W.quiet) first All old between
+        → Exchanged (outside_of W.seen W.fails W.keeps W.quiet) others last between new
+        → Exchanged (outside_of W.seen W.fails W.keeps W.quiet) (first ++ others) last old new }
+    ensures starved { (had : List Exchange) (old new : Ported W)
+        → Exchanged (outside_of W.seen W.fails W.keeps W.quiet) had All old new
+        → Exchanged (outside_of W.seen W.fails W.keeps W.quiet) had Starved old new }
+{}
