@@ -6,3 +6,4 @@ pub mod Slots
 pub mod GivingUp
 pub mod Taken
 pub mod Delay
+pub mod Words

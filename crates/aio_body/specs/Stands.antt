@@ -111,7 +111,7 @@ pub record Stands {X : Type 0} {a : Added X} (out : Option ℕ) (c : Setting a) 
   pub few_futures : length s.futures < 2 ^ 32
   pub main_done : body.main_done ≡ s.main_done
   -- no listener, connection or child is open so far
-  pub streams : s.streams ≡ no_streams
+  pub streams : s.streams ≡ no_streams 0
   -- numbers that a script can have
   pub time : s.loop.parts.time ≤ most
   pub counts : (task : ℕ) → cancelling s.loop.parts task ≤ most

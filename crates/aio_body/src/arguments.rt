@@ -1,10 +1,11 @@
 //! What the arguments of requests name, where they are of the kind that is wanted.
 ghost use Rattle.std.specs.Prelude.{◌≡◌, IfOk, is_some};
 ghost use Rattle.model_machine.specs.Arguments.{as_task as task_of, as_timeout as timeout_of, as_group as group_of, as_int as int_of};
-ghost use Rattle.model_machine.specs.Arguments.{as_failure as failure_of, as_list};
-ghost use Rattle.model_value.specs.Value.{Exception};
+ghost use Rattle.model_machine.specs.Arguments.{as_failure as failure_of, as_list, as_words};
+ghost use Rattle.model_value.specs.Value.{Exception, Items, values};
 ghost use Rattle.aio_task.specs.View.{parts};
 ghost use Rattle.aio_body.specs.Named.{future_in, awaited_in};
+ghost use Rattle.aio_body.specs.Words.{is_text};
 
 use crate::body::Body;
 use aio_base::{Exc, Kind, Memory, Value, ValueCase, kind_matches};
@@ -92,4 +93,26 @@ pub fn is_list(value: &Value) -> bool
     ensures { result ≡ is_some (as_list value.now) }
 {
     matches!(value.case(), ValueCase::List(_))
+}
+
+/// A program and its arguments: a list of texts that isn't empty.
+pub fn is_program(value: &Value) -> bool
+    ensures { result ≡ is_some (as_words value.now) }
+{
+    match value.case() {
+        ValueCase::List(words) => are_words(words.items()),
+        _ => false,
+    }
+}
+
+fn are_words(items: &[Value]) -> bool
+    ensures { result ≡ is_some (as_words (Items (values items.now))) }
+{
+    !items.is_empty() && items.iter().all(|item| is_text(item))
+}
+
+fn is_text(value: &Value) -> bool
+    ensures { result ≡ is_text value.now }
+{
+    matches!(value.case(), ValueCase::Text(_))
 }

@@ -3,7 +3,6 @@ ghost use Rattle.std.specs.Prelude.{◌≡◌, IfOk};
 ghost use Rattle.model_value.specs.Value.{exception_of};
 ghost use Rattle.model_says.specs.Operations.{out_of_range as plain_out_of_range};
 ghost use Rattle.model_says.specs.Requests.{bad_argument as plain_bad_argument};
-ghost use Rattle.model_machine.specs.Replies.{undefined as plain_undefined};
 ghost use Rattle.model_loop.specs.Tasks.{cancelled_error as plain_cancelled_error};
 ghost use Rattle.model_machine.specs.Outcomes.{input_of as plain_input_of};
 ghost use Rattle.aio_body.specs.Outcomes.{RepliesAs, reply_of as plain_reply_of};
@@ -40,12 +39,6 @@ pub fn out_of_range(alloc: Global) -> Result<RequestReply, Memory>
     ensures { IfOk result (λ said. said ≡ RequestReply.Raises plain_out_of_range) }
 {
     raises(alloc, Kind::OverflowError, "out of range")
-}
-
-pub fn undefined(alloc: Global) -> Result<RequestReply, Memory>
-    ensures { IfOk result (λ said. said ≡ RequestReply.Raises plain_undefined) }
-{
-    raises(alloc, Kind::NameError, "connections and children")
 }
 
 /// What an input is to the coroutine that it answers.

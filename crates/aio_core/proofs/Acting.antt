@@ -22,7 +22,9 @@ use Rattle.model_loop.specs.Ways.{steps}
 use Rattle.model_machine.specs.Outcomes.{woken_with}
 use Rattle.model_machine.specs.State.{State, in_loop, noted, unbooked_in}
 use Rattle.model_machine.specs.Step.{step}
+use Rattle.model_machine.specs.Sound.{IsClosed}
 use Rattle.model_machine.specs.Turn.{effect, ran}
+use Rattle.law_reach.proofs.Closed.{effect_none}
 use Rattle.model_machine.specs.Went.{Goes}
 use Rattle.law_inside.specs.InStep.{LeavesStateSound}
 use Rattle.law_runs.proofs.Callbacks.{callback_in}
@@ -388,22 +390,32 @@ module _ {X : Type 0} {a : Added X} where
       (λ t now served same. does t s (subst (λ n. IsServed a None t n old.extra old.parts) same served)))
 
 -- ---- what isn't here so far
-nothing_goes : {S : Type 0} (added : Extra S) (it : Action) → code.Nothing ≡ effect_of it → (s : State S)
+nothing_goes : {S : Type 0} (added : Extra S) (it : Action) → code.Nothing ≡ effect_of it → (s : State S) → IsClosed s
     → (effect step_limit added it s ≡ Goes s) × (stepped it ≡ None)
-unfolding effect
-nothing_goes added (action.Step other) e s = absurd (cc)
-nothing_goes added (action.StepInCircle other circle) e s = absurd (cc)
-nothing_goes added (action.Wakeup other) e s = absurd (cc)
-nothing_goes added (action.SleepDone other future) e s = absurd (cc)
-nothing_goes added (action.GroupDone group other) e s = absurd (cc)
-nothing_goes added (action.Fires id) e s = absurd (cc)
-nothing_goes added action.MainDone e s = absurd (cc)
-nothing_goes added (action.Extra key) e s = absurd (cc)
-nothing_goes added (action.ExtraItem number bytes) e s = absurd (cc)
-nothing_goes added _ e s = (refl, refl)
+nothing_goes added (action.Step other) e s closed = absurd (cc)
+nothing_goes added (action.StepInCircle other circle) e s closed = absurd (cc)
+nothing_goes added (action.Wakeup other) e s closed = absurd (cc)
+nothing_goes added (action.SleepDone other future) e s closed = absurd (cc)
+nothing_goes added (action.GroupDone group other) e s closed = absurd (cc)
+nothing_goes added (action.Fires id) e s closed = absurd (cc)
+nothing_goes added action.MainDone e s closed = absurd (cc)
+nothing_goes added (action.Extra key) e s closed = absurd (cc)
+nothing_goes added (action.ExtraItem number bytes) e s closed = absurd (cc)
+nothing_goes added (action.Made conn) e s closed = (effect_none s closed step_limit added (action.Made conn) refl, refl)
+nothing_goes added (action.StartRead conn) e s closed = (effect_none s closed step_limit added (action.StartRead conn) refl, refl)
+nothing_goes added (action.Lost conn broken) e s closed = (effect_none s closed step_limit added (action.Lost conn broken) refl, refl)
+nothing_goes added (action.HandlerDone conn task) e s closed = (effect_none s closed step_limit added (action.HandlerDone conn task) refl, refl)
+nothing_goes added (action.ReadableServer server) e s closed = (effect_none s closed step_limit added (action.ReadableServer server) refl, refl)
+nothing_goes added (action.Readable conn) e s closed = (effect_none s closed step_limit added (action.Readable conn) refl, refl)
+nothing_goes added (action.Writable conn) e s closed = (effect_none s closed step_limit added (action.Writable conn) refl, refl)
+nothing_goes added (action.Up conn) e s closed = (effect_none s closed step_limit added (action.Up conn) refl, refl)
+nothing_goes added (action.Down conn) e s closed = (effect_none s closed step_limit added (action.Down conn) refl, refl)
+nothing_goes added (action.WritableChild child) e s closed = (effect_none s closed step_limit added (action.WritableChild child) refl, refl)
+nothing_goes added (action.ChildItem child told) e s closed = (effect_none s closed step_limit added (action.ChildItem child told) refl, refl)
+nothing_goes added (action.LostChild child broken) e s closed = (effect_none s closed step_limit added (action.LostChild child broken) refl, refl)
 
 module _ {X : Type 0} {a : Added X} where
   pub nothing_acts : (old : Body X) → Acts a code.Nothing old old went.Goes
   nothing_acts old c s it what h =
-      let same = nothing_goes a.meaning it what s in
+      let same = nothing_goes a.meaning it what s h.stands.streams in
       after_so it c old s h old s same.0 (record { stands = h.stands; called = h.called ∙ same.1; running = h.running })

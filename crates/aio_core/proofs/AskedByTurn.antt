@@ -105,7 +105,7 @@ module _ {X : Type 0} {a : Added X} (old : Body X) (call : Call)
       does (resting a past [] h.0) answered (got_between old call is goes answer events got.is_noted (resting a past answers h.0) s [] h.1)
 
   on : IsOn answered (state_of ended)
-  on = turned-on step_limit a.meaning answer answered
+  on = turned-on step_limit a.meaning answer answered h.1.stands.streams
 
   regrouped : (us vs xs ys zs : List Event) → (us ++ ((vs ++ xs) ++ ys)) ++ zs ≡ us ++ (vs ++ ((xs ++ ys) ++ zs))
   regrouped us vs xs ys zs = simp append_assoc

@@ -204,7 +204,7 @@ module _ {X : Type 0} {a : Added X} where
 -- all of them: that leaves a sound state
 cancelled_sound : {S : Type 0} (added : Extra S) (s : State S) → IsStateSound added s → IsStateSound added (in_loop cancel_everything s)
 cancelled_sound added s sound =
-    nobody added s sound (in_loop cancel_everything s) (record { program = refl; generators = refl }) refl
+    nobody added s sound (in_loop cancel_everything s) (record { program = refl; generators = refl; streams = refl }) refl
     (over_as added s sound (cancel_everything s.loop) all) all (end_of_run_sound None (told_in s.events) s.loop sound.loop)
   where
     all : IsLoopAfter (names_made (next_task s.loop.parts)) false None None None None s.loop (cancel_everything s.loop)

@@ -115,7 +115,7 @@ module _ {g : _} {program : Program} {how : Manner} {made left : ℕ} {kernel : 
   goes_on_here =
       let (rest, agrees) = agreed now_seen.left in
       let here = running.at rest in
-      let grew = run-grows step_limit no_extra how.turns left here.s in
+      let grew = run-grows step_limit no_extra how.turns left here.s here.stands.rests.1.stands.streams in
       record {
         entries = past ++ rest;
         agrees = running.told rest agrees;
@@ -183,7 +183,7 @@ module _ {g : _} {program : Program} {how : Manner} {made left : ℕ} {kernel : 
   counted : how.turns ≤ 2 ^ 64 - 1 → (entries : List Entry) (end : End) (last : State (Unit {0}))
       → turn step_limit no_extra (running.at entries).s ≡ Stops end last → min (answers_in last.events) (2 ^ 64 - 1) ≡ answers_in last.events
   counted fits entries end last e =
-      let one = got-one (running.at entries).s (Stops end last) e in
+      let one = got-one (running.at entries).s (Stops end last) (running.at entries).stands.rests.1.stands.streams e in
       let same = ap answers_in (told_all running entries) in
       let got = running.got in
       let turns = running.turns in
@@ -263,7 +263,7 @@ module _ {g : _} {program : Program} {how : Manner} {made left : ℕ} {kernel : 
     goes_further =
         let (rest, agrees) = agreed new_seen.left in
         let (now, (went, stands)) = goes_over rest in
-        let grew = run-grows step_limit no_extra how.turns left now in
+        let grew = run-grows step_limit no_extra how.turns left now stands.rests.1.stands.streams in
         record {
           entries = past ++ (map Answered had ++ rest);
           agrees = running.told (map Answered had ++ rest) (takes rest agrees);
@@ -303,7 +303,7 @@ module _ {g : _} {program : Program} {how : Manner} {made left : ℕ} {kernel : 
               ∙ ap (took first) (sym (lines-append how.trace taken (untaken new)));
           got =
               let (now, (went, stands)) = goes_over [] in
-              let one = got-one (running.at (map Answered had ++ [])).s (Goes now) went in
+              let one = got-one (running.at (map Answered had ++ [])).s (Goes now) (running.at (map Answered had ++ [])).stands.rests.1.stands.streams went in
               let before = ap answers_in (told_all running (map Answered had ++ [])) in
               let after = ap answers_in stands.events in
               let got = running.got in

@@ -6,6 +6,7 @@ use Rattle.model_wire.specs.Event.{Event}
 use Rattle.model_wire.specs.Trace.{line_of, lines_of_events}
 use Rattle.model_machine.specs.Extra.{no_extra}
 use Rattle.model_machine.specs.Run.{ends, run_after, run_on, turns_over}
+use Rattle.model_machine.specs.Sound.{IsClosed}
 use Rattle.model_machine.specs.State.{State}
 use Rattle.model_machine.specs.Turn.{is_stalled, turn, turn_unless}
 use Rattle.model_machine.specs.Went.{Went, Stops, answers_in, state_of}
@@ -29,10 +30,10 @@ unfolding run_on
 run_on-last allowed s = refl
 
 -- a turn has at most one answer
-pub got-one : (s : State (Unit {0})) (went : Went (Unit {0})) → turn step_limit no_extra s ≡ went
+pub got-one : (s : State (Unit {0})) (went : Went (Unit {0})) → IsClosed s → turn step_limit no_extra s ≡ went
     → answers_in (state_of went).events ≤ answers_in s.events + 1
-got-one s went e =
-    subst (λ (w : Went (Unit {0})). answers_in (state_of w).events ≤ answers_in s.events + 1) e (turn-had_one step_limit no_extra s)
+got-one s went closed e =
+    subst (λ (w : Went (Unit {0})). answers_in (state_of w).events ≤ answers_in s.events + 1) e (turn-had_one step_limit no_extra s closed)
 
 -- the lines of events, and of more
 pub lines-append : (trace : Bool) (es more : List Event)

@@ -12,3 +12,4 @@ pub mod GroupExits
 pub mod Grouping
 pub mod Creating
 pub mod Adding
+pub mod Streams

@@ -4,6 +4,7 @@
 mod added;
 mod futures;
 mod groups;
+mod streams;
 mod table;
 mod tasks;
 mod time;

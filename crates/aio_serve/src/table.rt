@@ -1,9 +1,9 @@
 //! The table of requests.
 ghost use Rattle.aio_body.specs.Asked.{MayAsk, Serves};
 
-use crate::{added, futures, groups, tasks, time, timeouts, waiting};
+use crate::{added, futures, groups, streams, tasks, time, timeouts, waiting};
 use aio_base::{Memory, Request, Value};
-use aio_body::{Body, RequestReply, undefined};
+use aio_body::{Body, RequestReply, bad_argument};
 use aio_extra::Extra;
 use std::alloc::Global;
 
@@ -51,9 +51,10 @@ pub fn reply<X: Extra>(
             arguments,
         } => groups::create(body, alloc, &group, coroutine, &arguments),
         Request::Extra { code, arguments } => added::extra(body, alloc, task, &code, &arguments),
-        Request::Listen { .. }
-        | Request::Connect(_)
-        | Request::Write { .. }
+        Request::Listen { port, .. } => streams::open_port(alloc, &port),
+        Request::Connect(port) => streams::open_port(alloc, &port),
+        Request::Launch(words) => streams::launch(alloc, &words),
+        Request::Write { .. }
         | Request::WriteEof(_)
         | Request::Close(_)
         | Request::WaitClosed(_)
@@ -63,10 +64,9 @@ pub fn reply<X: Extra>(
         | Request::ReadExactly { .. }
         | Request::ReadUntil { .. }
         | Request::ReadLine(_)
-        | Request::Launch(_)
         | Request::StandardError(_)
         | Request::WaitChild(_)
         | Request::ReturnCode(_)
-        | Request::Kill(_) => undefined(alloc),
+        | Request::Kill(_) => bad_argument(alloc),
     }
 }

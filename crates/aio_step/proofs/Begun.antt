@@ -37,6 +37,10 @@ given_up_begun plain.Asked task input p = refl
 given_up_begun (plain.Sleeping tag) task input p = sym (begin_revoke task input tag p)
 given_up_begun (plain.Leaving group) task input p = refl
 given_up_begun (plain.Serving key) task input p = refl
+given_up_begun (plain.Connecting conn) task input p = refl
+given_up_begun (plain.Yielding whom) task input p = refl
+given_up_begun (plain.Reading from op on) task input p = refl
+given_up_begun (plain.ReadingAll from had on) task input p = refl
 
 given_up_heard : (standing : plain.Standing) (task : ℕ) (input : Input) (p : Parts)
     → (begin_step task input p).input ≡ (begin_step task input (given_up standing p)).input
@@ -44,24 +48,40 @@ given_up_heard plain.Asked task input p = refl
 given_up_heard (plain.Sleeping tag) task input p = refl
 given_up_heard (plain.Leaving group) task input p = refl
 given_up_heard (plain.Serving key) task input p = refl
+given_up_heard (plain.Connecting conn) task input p = refl
+given_up_heard (plain.Yielding whom) task input p = refl
+given_up_heard (plain.Reading from op on) task input p = refl
+given_up_heard (plain.ReadingAll from had on) task input p = refl
 
 given_up_tasks : (standing : plain.Standing) (p : Parts) → next_task (given_up standing p) ≡ next_task p
 given_up_tasks plain.Asked p = refl
 given_up_tasks (plain.Sleeping tag) p = refl
 given_up_tasks (plain.Leaving group) p = refl
 given_up_tasks (plain.Serving key) p = refl
+given_up_tasks (plain.Connecting conn) p = refl
+given_up_tasks (plain.Yielding whom) p = refl
+given_up_tasks (plain.Reading from op on) p = refl
+given_up_tasks (plain.ReadingAll from had on) p = refl
 
 given_up_lives : (standing : plain.Standing) (p : Parts) (task : ℕ) → lives (given_up standing p) task ≡ lives p task
 given_up_lives plain.Asked p task = refl
 given_up_lives (plain.Sleeping tag) p task = refl
 given_up_lives (plain.Leaving group) p task = refl
 given_up_lives (plain.Serving key) p task = refl
+given_up_lives (plain.Connecting conn) p task = refl
+given_up_lives (plain.Yielding whom) p task = refl
+given_up_lives (plain.Reading from op on) p task = refl
+given_up_lives (plain.ReadingAll from had on) p task = refl
 
 given_up_owns : (standing : plain.Standing) (p : Parts) → OwnsFutures (given_up standing p) → OwnsFutures p
 given_up_owns plain.Asked p owns = owns
 given_up_owns (plain.Sleeping tag) p owns = owns
 given_up_owns (plain.Leaving group) p owns = owns
 given_up_owns (plain.Serving key) p owns = owns
+given_up_owns (plain.Connecting conn) p owns = owns
+given_up_owns (plain.Yielding whom) p owns = owns
+given_up_owns (plain.Reading from op on) p owns = owns
+given_up_owns (plain.ReadingAll from had on) p owns = owns
 
 -- ---- the view
 let_go_calls : (b : Bool) (id : ℕ) (v : View) → (let_go_if b id v).called ≡ v.called
@@ -91,18 +111,34 @@ stood_decides t p named task Asked plain.Asked at = tt
 stood_decides t p named task Asked (plain.Sleeping tag) at = at
 stood_decides t p named task Asked (plain.Leaving id) at = at
 stood_decides t p named task Asked (plain.Serving key) at = at
+stood_decides t p named task Asked (plain.Connecting conn) at = at
+stood_decides t p named task Asked (plain.Yielding whom) at = at
+stood_decides t p named task Asked (plain.Reading from op on) at = at
+stood_decides t p named task Asked (plain.ReadingAll from had on) at = at
 stood_decides t p named task (Sleeping timer future) plain.Asked at = at
 stood_decides t p named task (Sleeping timer future) (plain.Sleeping tag) at = tt
 stood_decides t p named task (Sleeping timer future) (plain.Leaving id) at = at
 stood_decides t p named task (Sleeping timer future) (plain.Serving key) at = at
+stood_decides t p named task (Sleeping timer future) (plain.Connecting conn) at = at
+stood_decides t p named task (Sleeping timer future) (plain.Yielding whom) at = at
+stood_decides t p named task (Sleeping timer future) (plain.Reading from op on) at = at
+stood_decides t p named task (Sleeping timer future) (plain.ReadingAll from had on) at = at
 stood_decides t p named task (Leaving group) plain.Asked at = at
 stood_decides t p named task (Leaving group) (plain.Sleeping tag) at = at
 stood_decides t p named task (Leaving group) (plain.Leaving id) at = at
 stood_decides t p named task (Leaving group) (plain.Serving key) at = at
+stood_decides t p named task (Leaving group) (plain.Connecting conn) at = at
+stood_decides t p named task (Leaving group) (plain.Yielding whom) at = at
+stood_decides t p named task (Leaving group) (plain.Reading from op on) at = at
+stood_decides t p named task (Leaving group) (plain.ReadingAll from had on) at = at
 stood_decides t p named task (Serving key) plain.Asked at = at
 stood_decides t p named task (Serving key) (plain.Sleeping tag) at = at
 stood_decides t p named task (Serving key) (plain.Leaving id) at = at
 stood_decides t p named task (Serving key) (plain.Serving kept) at = at
+stood_decides t p named task (Serving key) (plain.Connecting conn) at = at
+stood_decides t p named task (Serving key) (plain.Yielding whom) at = at
+stood_decides t p named task (Serving key) (plain.Reading from op on) at = at
+stood_decides t p named task (Serving key) (plain.ReadingAll from had on) at = at
 
 module _ {X : Type 0} {a : Added X} (task : ℕ) (input : Input) (c : Setting a) (body : Body X) (s : State a.Kept) (h : IsCalled task c body s)
     (v : View) (after : parts v ≡ (begin_step task input (parts body.parts)).parts)

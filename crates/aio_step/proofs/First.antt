@@ -43,6 +43,10 @@ module _ {X : Type 0} {a : Added X} where
   asked_decides task c body s input (plain.Sleeping tag) d h = absurd d
   asked_decides task c body s input (plain.Leaving id) d h = absurd d
   asked_decides task c body s input (plain.Serving key) d h = absurd d
+  asked_decides task c body s input (plain.Connecting conn) d h = absurd d
+  asked_decides task c body s input (plain.Yielding whom) d h = absurd d
+  asked_decides task c body s input (plain.Reading from op on) d h = absurd d
+  asked_decides task c body s input (plain.ReadingAll from had on) d h = absurd d
 
   pub sleeping_decides : (timer : TimerId) (future : ℕ) (task : ℕ) (c : Setting a) (body : Body X) (s : State a.Kept) (input : Input) (stood : plain.Standing)
       → DecidesAs (Sleeping timer future) stood → IsInStep task c body s → Says task c body (reply_of input) (decides a.meaning stood task input s)
@@ -50,12 +54,20 @@ module _ {X : Type 0} {a : Added X} where
   sleeping_decides timer future task c body s input (plain.Sleeping tag) d h = says_replied task c body s input h
   sleeping_decides timer future task c body s input (plain.Leaving id) d h = absurd d
   sleeping_decides timer future task c body s input (plain.Serving key) d h = absurd d
+  sleeping_decides timer future task c body s input (plain.Connecting conn) d h = absurd d
+  sleeping_decides timer future task c body s input (plain.Yielding whom) d h = absurd d
+  sleeping_decides timer future task c body s input (plain.Reading from op on) d h = absurd d
+  sleeping_decides timer future task c body s input (plain.ReadingAll from had on) d h = absurd d
 
 pub leaving_is : (group : ℕ) (stood : plain.Standing) → DecidesAs (Leaving group) stood → plain.Leaving group ≡ stood
 leaving_is group plain.Asked d = absurd d
 leaving_is group (plain.Sleeping tag) d = absurd d
 leaving_is group (plain.Leaving id) d = ap plain.Leaving d
 leaving_is group (plain.Serving key) d = absurd d
+leaving_is group (plain.Connecting conn) d = absurd d
+leaving_is group (plain.Yielding whom) d = absurd d
+leaving_is group (plain.Reading from op on) d = absurd d
+leaving_is group (plain.ReadingAll from had on) d = absurd d
 
 module _ {X : Type 0} {a : Added X} where
   pub leaving_decides : (group : ℕ) (task : ℕ) (c : Setting a) (old new : Body X) (s : State a.Kept) (input : Input) (it : RequestReply)
@@ -72,6 +84,10 @@ serving_is key plain.Asked d = absurd d
 serving_is key (plain.Sleeping tag) d = absurd d
 serving_is key (plain.Leaving id) d = absurd d
 serving_is key (plain.Serving kept) d = ap plain.Serving d
+serving_is key (plain.Connecting conn) d = absurd d
+serving_is key (plain.Yielding whom) d = absurd d
+serving_is key (plain.Reading from op on) d = absurd d
+serving_is key (plain.ReadingAll from had on) d = absurd d
 
 module _ {X : Type 0} {a : Added X} where
   pub serving_decides : (key : ℕ) (task : ℕ) (c : Setting a) (old new : Body X) (s : State a.Kept) (input : Input) (it : RequestReply) (stood : plain.Standing)
@@ -167,7 +183,8 @@ module _ {X : Type 0} {a : Added X} (task : ℕ) (input : Input) (c : Setting a)
   made_first w =
       let living = b.deciding.asked.others.loop.parts.runs task (eq-eqb task task refl) in
       let there = within (begun_in task input s) living b.deciding.asked.others.generators in
-      let more = (decides-keeps a.meaning (generator_of task s).standing task (begun_by task input s).input (begun_in task input s)).generators in
+      let more = (decides-keeps a.meaning (generator_of task s).standing task (begun_by task input s).input (begun_in task input s)
+      b.deciding.asked.others.closed).generators in
       let same : length (reply_state (decided a.meaning task input s)).generators ≡ length body.slots.items =
       ap (λ (x : State a.Kept). length x.generators) w.kept ∙ w.rested.stands.told ∙ sym w.rested.stands.made in
       omega (arith, there, more, same)

@@ -71,17 +71,33 @@ module _ {X : Type 0} {a : Added X} where
   gives_up c body s task Asked (plain.Sleeping tag) h owns at none = absurd at
   gives_up c body s task Asked (plain.Leaving id) h owns at none = absurd at
   gives_up c body s task Asked (plain.Serving key) h owns at none = absurd at
+  gives_up c body s task Asked (plain.Connecting conn) h owns at none = absurd at
+  gives_up c body s task Asked (plain.Yielding whom) h owns at none = absurd at
+  gives_up c body s task Asked (plain.Reading from op on) h owns at none = absurd at
+  gives_up c body s task Asked (plain.ReadingAll from had on) h owns at none = absurd at
   gives_up c body s task (Leaving group) plain.Asked h owns at none = absurd at
   gives_up c body s task (Leaving group) (plain.Sleeping tag) h owns at none = absurd at
   gives_up c body s task (Leaving group) (plain.Leaving id) h owns at none = h
   gives_up c body s task (Leaving group) (plain.Serving key) h owns at none = absurd at
+  gives_up c body s task (Leaving group) (plain.Connecting conn) h owns at none = absurd at
+  gives_up c body s task (Leaving group) (plain.Yielding whom) h owns at none = absurd at
+  gives_up c body s task (Leaving group) (plain.Reading from op on) h owns at none = absurd at
+  gives_up c body s task (Leaving group) (plain.ReadingAll from had on) h owns at none = absurd at
   gives_up c body s task (Serving key) plain.Asked h owns at none = absurd at
   gives_up c body s task (Serving key) (plain.Sleeping tag) h owns at none = absurd at
   gives_up c body s task (Serving key) (plain.Leaving id) h owns at none = absurd at
   gives_up c body s task (Serving key) (plain.Serving kept) h owns at none = h
+  gives_up c body s task (Serving key) (plain.Connecting conn) h owns at none = absurd at
+  gives_up c body s task (Serving key) (plain.Yielding whom) h owns at none = absurd at
+  gives_up c body s task (Serving key) (plain.Reading from op on) h owns at none = absurd at
+  gives_up c body s task (Serving key) (plain.ReadingAll from had on) h owns at none = absurd at
   gives_up c body s task (Sleeping timer future) plain.Asked h owns at none = absurd at
   gives_up c body s task (Sleeping timer future) (plain.Leaving id) h owns at none = absurd at
   gives_up c body s task (Sleeping timer future) (plain.Serving key) h owns at none = absurd at
+  gives_up c body s task (Sleeping timer future) (plain.Connecting conn) h owns at none = absurd at
+  gives_up c body s task (Sleeping timer future) (plain.Yielding whom) h owns at none = absurd at
+  gives_up c body s task (Sleeping timer future) (plain.Reading from op on) h owns at none = absurd at
+  gives_up c body s task (Sleeping timer future) (plain.ReadingAll from had on) h owns at none = absurd at
   gives_up c body s task (Sleeping timer future) (plain.Sleeping tag) h owns at none = go (is_some (outcome_at (slice_get body.parts.futures future))) refl
     where
       p : Parts

@@ -45,6 +45,10 @@ module _ {X : Type 0} {a : Added X} (task : ℕ) (body : Body X) (may : MayBegin
   at_sleep t p named timer future v k plain.Asked at = absurd at
   at_sleep t p named timer future v k (plain.Leaving id) at = absurd at
   at_sleep t p named timer future v k (plain.Serving key) at = absurd at
+  at_sleep t p named timer future v k (plain.Connecting conn) at = absurd at
+  at_sleep t p named timer future v k (plain.Yielding whom) at = absurd at
+  at_sleep t p named timer future v k (plain.Reading from op on) at = absurd at
+  at_sleep t p named timer future v k (plain.ReadingAll from had on) at = absurd at
 
   of_sleep : (timer : TimerId) (future : ℕ) (slot : Slot) → slot.standing ≡ Sleeping timer future → slice_get body.slots.items task ≡ Some slot
       → owner_at (slice_get body.parts.futures future) ≡ None

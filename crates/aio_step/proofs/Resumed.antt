@@ -66,7 +66,7 @@ module _ {X : Type 0} {a : Added X} (task : ℕ) (fresh : Bool) (input : Input) 
           → Says task (holding now c) new it (reply a.meaning task request (resumed fresh task input s))
           → ServesOne task c new now (served_by it) (resumed fresh task input s)
       asks_so request e new it told =
-          answered task c new now it (resumed fresh task input s) request made (says_asks request e) told
+          answered task c new now it (resumed fresh task input s) request h.sound.others.closed made (says_asks request e) told
           (requests_sound a.meaning (extra_sound a) task request (resumed fresh task input s) h.sound (says_asks request e))
 
       -- it returns, or raises

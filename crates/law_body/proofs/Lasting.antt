@@ -66,18 +66,34 @@ stands_at_by t u p q named names task Asked plain.Asked knows own h = tt
 stands_at_by t u p q named names task Asked (plain.Sleeping tag) knows own h = h
 stands_at_by t u p q named names task Asked (plain.Leaving id) knows own h = h
 stands_at_by t u p q named names task Asked (plain.Serving key) knows own h = h
+stands_at_by t u p q named names task Asked (plain.Connecting conn) knows own h = h
+stands_at_by t u p q named names task Asked (plain.Yielding whom) knows own h = h
+stands_at_by t u p q named names task Asked (plain.Reading from op on) knows own h = h
+stands_at_by t u p q named names task Asked (plain.ReadingAll from had on) knows own h = h
 stands_at_by t u p q named names task (Sleeping timer future) plain.Asked knows own h = h
 stands_at_by t u p q named names task (Sleeping timer future) (plain.Sleeping tag) knows own h = (knows tag timer h.0, own future h.1)
 stands_at_by t u p q named names task (Sleeping timer future) (plain.Leaving id) knows own h = h
 stands_at_by t u p q named names task (Sleeping timer future) (plain.Serving key) knows own h = h
+stands_at_by t u p q named names task (Sleeping timer future) (plain.Connecting conn) knows own h = h
+stands_at_by t u p q named names task (Sleeping timer future) (plain.Yielding whom) knows own h = h
+stands_at_by t u p q named names task (Sleeping timer future) (plain.Reading from op on) knows own h = h
+stands_at_by t u p q named names task (Sleeping timer future) (plain.ReadingAll from had on) knows own h = h
 stands_at_by t u p q named names task (Leaving group) plain.Asked knows own h = h
 stands_at_by t u p q named names task (Leaving group) (plain.Sleeping tag) knows own h = h
 stands_at_by t u p q named names task (Leaving group) (plain.Leaving id) knows own h = h
 stands_at_by t u p q named names task (Leaving group) (plain.Serving key) knows own h = h
+stands_at_by t u p q named names task (Leaving group) (plain.Connecting conn) knows own h = h
+stands_at_by t u p q named names task (Leaving group) (plain.Yielding whom) knows own h = h
+stands_at_by t u p q named names task (Leaving group) (plain.Reading from op on) knows own h = h
+stands_at_by t u p q named names task (Leaving group) (plain.ReadingAll from had on) knows own h = h
 stands_at_by t u p q named names task (Serving key) plain.Asked knows own h = h
 stands_at_by t u p q named names task (Serving key) (plain.Sleeping tag) knows own h = h
 stands_at_by t u p q named names task (Serving key) (plain.Leaving id) knows own h = h
 stands_at_by t u p q named names task (Serving key) (plain.Serving kept) knows own h = h
+stands_at_by t u p q named names task (Serving key) (plain.Connecting conn) knows own h = h
+stands_at_by t u p q named names task (Serving key) (plain.Yielding whom) knows own h = h
+stands_at_by t u p q named names task (Serving key) (plain.Reading from op on) knows own h = h
+stands_at_by t u p q named names task (Serving key) (plain.ReadingAll from had on) knows own h = h
 
 -- what is added stands beside what an operation leaves
 pub goes_beside : (owned : ℕ → Type 0) (t u : Ties) (p q : Parts) → Extends p t q u → ((id : ℕ) → is_plain p id ≡ true → is_plain q id ≡ true)

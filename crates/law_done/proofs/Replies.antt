@@ -9,7 +9,7 @@ use Rattle.model_wire.specs.declared.event.Event.TheVariants as event
 use Rattle.model_wire.specs.Event.{Event}
 use Rattle.model_loop.specs.Ways.{is_running, steps}
 use Rattle.model_loop.specs.Parts.{Parts}
-use Rattle.model_machine.specs.State.{Standing, Asked, Sleeping, Leaving, Serving, State}
+use Rattle.model_machine.specs.State.{Standing, Asked, Sleeping, Leaving, Serving, Connecting, Yielding, Reading, ReadingAll, State}
 use Rattle.model_machine.specs.Step.{given_up}
 use Rattle.law_changes.proofs.Parts.{parts_of}
 use Rattle.law_reach.specs.Changes.{StateChange, OfLoop, Says, MakesCoroutine, Stands, Resumes, NamesFuture, EndsMain, ChangesExtra, Runs, Calls}
@@ -77,3 +77,7 @@ later_given_up Asked p = later_refl p
 later_given_up (Sleeping tag) p = later_same p _ refl refl
 later_given_up (Leaving group) p = later_refl p
 later_given_up (Serving key) p = later_refl p
+later_given_up (Connecting conn) p = later_refl p
+later_given_up (Yielding whom) p = later_refl p
+later_given_up (Reading from op on) p = later_refl p
+later_given_up (ReadingAll from taken on) p = later_refl p

@@ -6,19 +6,20 @@ ghost use Rattle.model_says.specs.Says.{step_limit};
 ghost use Rattle.model_wire.specs.Journal.{Entry};
 ghost use Rattle.model_loop.specs.Parts.{Handle};
 ghost use Rattle.model_machine.specs.Extra.{Extra, no_extra};
-ghost use Rattle.model_machine.specs.Sound.{IsStateSound};
+ghost use Rattle.model_machine.specs.Sound.{IsClosed, IsStateSound};
 ghost use Rattle.model_machine.specs.State.{State, start};
 ghost use Rattle.model_machine.specs.Turn.{run_first, run_pending, turn};
 ghost use Rattle.law_replies.specs.Added.{KeepsSound};
 ghost use Rattle.law_reach.specs.Reaches.{OnlyRunsAway};
 ghost use Rattle.law_ends.specs.Ends.{IsLeftSound, EndsSound};
 
-/// A callback ends a run in one way: it steps a task that runs away. So do all callbacks of a turn.
+/// A callback ends a run in one way: it steps a task that runs away. So do all callbacks of a turn,
+/// so far where nothing is open.
 pub fn callbacks_end_a_run_by_running_away<S>()
     ensures callback { (limit : ℕ) (added : Extra S) (handle : Handle) (rest : List Handle)
-        (s : State S)
+        (s : State S) → IsClosed s
         → OnlyRunsAway (run_first limit added handle rest s) }
-    ensures pending { (limit : ℕ) (added : Extra S) (s : State S)
+    ensures pending { (limit : ℕ) (added : Extra S) (s : State S) → IsClosed s
         → OnlyRunsAway (run_pending limit added s) }
 {}
 

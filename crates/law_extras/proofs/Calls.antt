@@ -60,7 +60,7 @@ module _ {S : Type 0} (added : Extra S) (task : ℕ) (stood : Standing) (still :
     t = called call s
 
     tapes : SameTapes s (called call s)
-    tapes = record { program = refl; generators = refl }
+    tapes = record { program = refl; generators = refl; streams = refl }
 
     moved : IsLoopAfter (names_made (next_task s.loop.parts)) false (Some task) None None None s.loop (called call s).loop
     moved = all_after (next_task s.loop.parts) (Some task) call.steps s.loop refl may
@@ -188,7 +188,7 @@ called_sound : {S : Type 0} (added : Extra S) (s : State S) (call : ExtraCall S)
     → IsStateSound added (called call s)
 called_sound added s call may sound =
     let a = all_after (next_task s.loop.parts) None call.steps s.loop refl may in
-    nobody added s sound (called call s) (record { program = refl; generators = refl }) refl
+    nobody added s sound (called call s) (record { program = refl; generators = refl; streams = refl }) refl
     (over_as added s sound (made_by_all call.steps s.loop) a) a (all_sound None (told_in s.events) call.steps s.loop may sound.loop)
 
 pub allowed_keeps : {S : Type 0} (added : Extra S) → MakesAllowedSteps added → KeepsSound added

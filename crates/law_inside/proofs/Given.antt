@@ -198,6 +198,7 @@ module _ {S : Type 0} (added : Extra S) (task coroutine : ℕ) (arguments : List
       → AreScriptsFutures t → IsApart (Some task) (Some task) added u
   spawn_keeps sound first over given_ scripts = record {
     loop = sound;
+    closed = tapes.streams ∙ is.closed;
     generators = length-append t.generators _ ∙ let c = count_is in omega (arith, c, more);
     asking = λ other l f. asking other f (living other l);
     unbegun = λ other l f e. unbegun other f e (living other l);

@@ -50,6 +50,7 @@ module _ {S : Type 0} (added : Extra S) (running excused : Option ℕ) (s : Stat
     standing = is.standing;
     exits = is.exits;
     blocks = others;
+    closed = is.closed;
     futures = is.futures;
     made = is.made;
   }
@@ -78,6 +79,7 @@ module _ {S : Type 0} (added : Extra S) (s : State S) where
     standing = λ other l f. standing other l (cases_eq task other);
     exits = λ id e f. exits id e (cases_eq task (group_of s.loop id).parent);
     blocks = is.blocks;
+    closed = is.closed;
     futures = is.futures;
     made = is.made;
   }
@@ -174,6 +176,7 @@ module _ {S : Type 0} (added : Extra S) (s t : State S) (tapes : SameTapes s t) 
       → IsApart running before added s → IsApart after excused added t
   loop_keeps a made sound fewer over stays leaves scripts is = record {
     loop = sound;
+    closed = tapes.streams ∙ is.closed;
     generators = ap length tapes.generators ∙ is.generators ∙ sym made;
     asking = λ task l f. asking_kept added s t tapes.program task (same_at task) (is.asking task (lived task l) (fewer task f));
     unbegun = λ task l f e.
@@ -266,6 +269,7 @@ module _ {S : Type 0} (added : Extra S) (task : ℕ) (asked : Request) (fresh : 
       → IsApart (Some task) (Some task) added t → IsApart (Some task) (Some task) added u
   answer_keeps named good is = record {
     loop = is.loop;
+    closed = is.closed;
     generators = set_length task (record it { tape = it.tape ++ entry ∷ [] }) t ∙ is.generators;
     asking = λ other l f. asking_kept added t u refl other (free_same other f) (is.asking other l f);
     unbegun = λ other l f e. is.unbegun other l f (sym (ap (λ (g : Generator). g.tape) (free_same other f)) ∙ e);
@@ -359,6 +363,7 @@ module _ {S : Type 0} (added : Extra S) (task : ℕ) (standing : Standing) (t : 
   pub stands_keeps : (running : Option ℕ) → IsApart running (Some task) added t → IsApart running (Some task) added stood
   stands_keeps running is = record {
     loop = is.loop;
+    closed = is.closed;
     generators = set_length task (record (generator_of task t) { standing = standing }) t ∙ is.generators;
     asking = λ other l f. asking_kept added t stood refl other (free other f) (is.asking other l f);
     unbegun = λ other l f e. is.unbegun other l f (sym (ap (λ (g : Generator). g.tape) (free other f)) ∙ e);

@@ -65,3 +65,4 @@ is_added _ = false
 pub record SameTapes {S : Type 0} (s t : State S) : Type 0 where
   pub program : t.program ≡ s.program
   pub generators : t.generators ≡ s.generators
+  pub streams : t.streams ≡ s.streams

@@ -80,6 +80,7 @@ module _ {S : Type 0} (added : Extra S) (state : S) (program : Program) (answers
     main_told = main_told;
     standing = λ task l f. standing task l;
     exits = λ id e f. absurd (false≢true e);
+    closed = refl;
     blocks = record {
       timeouts = λ id h. absurd (omega (arith, h));
       groups = λ id h. absurd (omega (arith, h));

@@ -9,6 +9,7 @@ use Rattle.model_wire.specs.declared.event.Event.TheVariants as event
 use Rattle.model_wire.specs.Event.{Event}
 use Rattle.model_machine.specs.Extra.{Extra}
 use Rattle.model_machine.specs.Replies.{RequestReply, decides, reply}
+use Rattle.model_machine.specs.Sound.{IsClosed}
 use Rattle.model_machine.specs.State.{Standing, Generator, State, generator, noted, stands}
 use Rattle.model_machine.specs.State.{with_coroutine}
 use Rattle.model_machine.specs.Went.{answers_in}
@@ -57,16 +58,19 @@ pub record IsKeptInAnswer {S : Type 0} (task : ℕ) (s t : State S) : Type 0 whe
   pub answers : t.answers ≡ s.answers
   pub tape : tape_of task t ≡ tape_of task s
   pub generators : length s.generators ≤ length t.generators
+  pub streams : t.streams ≡ s.streams
 
--- the same events, answers and generators
-pub kept_as : {S : Type 0} (task : ℕ) (s t : State S) → t.events ≡ s.events → t.answers ≡ s.answers → t.generators ≡ s.generators → IsKeptInAnswer task s t
-kept_as task s t e a g = record {
+-- the same events, answers, generators and streams
+pub kept_as : {S : Type 0} (task : ℕ) (s t : State S) → t.events ≡ s.events → t.answers ≡ s.answers → t.generators ≡ s.generators
+    → t.streams ≡ s.streams → IsKeptInAnswer task s t
+kept_as task s t e a g streams = record {
   events = rw e (goes_on_same s.events);
   turns = ap turns_in e;
   got = ap answers_in e;
   answers = a;
   tape = ap (λ gs. tape_in gs task) g;
   generators = rw g (omega arith);
+  streams = streams;
 }
 
 pub kept_then : {S : Type 0} (task : ℕ) (s t u : State S) → IsKeptInAnswer task s t → IsKeptInAnswer task t u → IsKeptInAnswer task s u
@@ -77,6 +81,7 @@ kept_then task s t u first second = record {
   answers = second.answers ∙ first.answers;
   tape = second.tape ∙ first.tape;
   generators = let a = first.generators in let b = second.generators in omega arith;
+  streams = second.streams ∙ first.streams;
 }
 
 -- ---- generators
@@ -106,6 +111,7 @@ stands-kept standing at task s = record {
   answers = refl;
   tape = tape-set s.generators at task _ refl;
   generators = rw (length-slice_set s.generators at _) (omega arith);
+  streams = refl;
 }
 
 with_coroutine-kept : {S : Type 0} (coroutine : ℕ) (arguments : List Value) (task : ℕ) (s : State S)
@@ -117,6 +123,7 @@ with_coroutine-kept coroutine arguments task s = record {
   answers = refl;
   tape = tape-added s.generators task (generator coroutine arguments) refl;
   generators = rw (length-append s.generators (generator coroutine arguments ∷ [])) (omega arith);
+  streams = refl;
 }
 
 said-kept : {S : Type 0} (said task : ℕ) (text : List ℕ) (s : State S) → IsKeptInAnswer task s (noted (event.Said said text) s)
@@ -127,6 +134,7 @@ said-kept said task text s = record {
   answers = refl;
   tape = refl;
   generators = omega arith;
+  streams = refl;
 }
 
 -- ---- replies
@@ -134,24 +142,25 @@ abbrev pub reply_state : {S : Type 0} → RequestReply S → State S
 reply_state it = left_by it
 
 change-keeps : {S : Type 0} (task : ℕ) (change : StateChange S) (s : State S) → MayInAnswer (Some task) change s → IsKeptInAnswer task s (made change s)
-change-keeps task (OfLoop change) s may = kept_as task s _ refl refl refl
+change-keeps task (OfLoop change) s may = kept_as task s _ refl refl refl refl
 change-keeps task (Says said text) s may = said-kept said task text s
 change-keeps task (MakesCoroutine coroutine arguments) s may = with_coroutine-kept coroutine arguments task s
 change-keeps task (Stands standing at) s may = stands-kept standing at task s
 change-keeps task (Resumes fresh at input) s may = absurd may
-change-keeps task (NamesFuture future) s may = kept_as task s _ refl refl refl
+change-keeps task (NamesFuture future) s may = kept_as task s _ refl refl refl refl
 change-keeps task EndsMain s may = absurd may
-change-keeps task (ChangesExtra extra) s may = kept_as task s _ refl refl refl
+change-keeps task (ChangesExtra extra) s may = kept_as task s _ refl refl refl refl
 change-keeps task (Runs it) s may = absurd may
 change-keeps task (Calls call) s may = absurd may
 change-keeps task (Gets answer left) s may = absurd may
 
 row-keeps : {S : Type 0} {task : ℕ} {s t : State S} → InAnswer (Some task) s t → IsKeptInAnswer task s t
-row-keeps {task = task} row = fold (IsKeptInAnswer task) (λ t. kept_as task t t refl refl refl) (kept_then task) (change-keeps task) row
+row-keeps {task = task} row = fold (IsKeptInAnswer task) (λ t. kept_as task t t refl refl refl refl) (kept_then task) (change-keeps task) row
 
-pub reply-keeps : {S : Type 0} (added : Extra S) (task : ℕ) (asked : Request) (s : State S) → IsKeptInAnswer task s (reply_state (reply added task asked s))
-reply-keeps added task asked s = row-keeps (reply_comes added task asked s).reaches
+pub reply-keeps : {S : Type 0} (added : Extra S) (task : ℕ) (asked : Request) (s : State S) → IsClosed s
+    → IsKeptInAnswer task s (reply_state (reply added task asked s))
+reply-keeps added task asked s closed = row-keeps (reply_comes added task asked s closed).reaches
 
-pub decides-keeps : {S : Type 0} (added : Extra S) (standing : Standing) (task : ℕ) (input : Input) (s : State S)
+pub decides-keeps : {S : Type 0} (added : Extra S) (standing : Standing) (task : ℕ) (input : Input) (s : State S) → IsClosed s
     → IsKeptInAnswer task s (reply_state (decides added standing task input s))
-decides-keeps added standing task input s = row-keeps (decides_comes added task standing input s).reaches
+decides-keeps added standing task input s closed = row-keeps (decides_comes added task standing input s closed).reaches

@@ -11,13 +11,15 @@ use Rattle.model_wire.specs.Fits.{fits}
 use Rattle.model_wire.specs.Journal.{Entry, Answered, Refused}
 use Rattle.model_machine.specs.Extra.{Extra}
 use Rattle.model_machine.specs.Run.{run_after, run_on}
+use Rattle.model_machine.specs.Sound.{IsClosed}
 use Rattle.model_machine.specs.State.{State, noted}
 use Rattle.model_machine.specs.Turn.{call_of, is_stalled, turned_by, turn_unless, turn}
 use Rattle.model_machine.specs.Went.{Went, Goes, Stops, answers_in, state_of, ask, answered_by, fitted}
 use Rattle.law_reach.specs.Changes.{StateChange, OfLoop, Says, MakesCoroutine, Stands, Resumes, NamesFuture, EndsMain, ChangesExtra, Runs, Calls}
 use Rattle.law_reach.specs.Changes.{Gets, MayInTurn, made}
 use Rattle.law_changes.proofs.Folds.{fold}
-use Rattle.law_reach.proofs.Turning.{turned_row}
+use Rattle.law_reach.proofs.Closed.{row_closed}
+use Rattle.law_reach.proofs.Turning.{turn_row, turned_row}
 use Rattle.law_machine.specs.Growth.{GoesOn, turns_in}
 use Rattle.law_machine.proofs.Kept.{goes_on_same, goes_on_one, goes_on_then, turns-said, answers-said}
 
@@ -97,8 +99,9 @@ change-on (NamesFuture future) s may = on_as s _ refl refl
 change-on EndsMain s may = on_as s _ refl refl
 change-on (ChangesExtra extra) s may = on_as s _ refl refl
 
-pub turned-on : {S : Type 0} (limit : ℕ) (added : Extra S) (answer : Answer) (s : State S) → IsOn s (state_of (turned_by limit added answer s))
-turned-on limit added answer s = fold IsOn (λ t. on_as t t refl refl) on_then change-on (turned_row limit added answer s)
+pub turned-on : {S : Type 0} (limit : ℕ) (added : Extra S) (answer : Answer) (s : State S) → IsClosed s
+    → IsOn s (state_of (turned_by limit added answer s))
+turned-on limit added answer s closed = fold IsOn (λ t. on_as t t refl refl) on_then change-on (turned_row limit added answer s closed)
 
 -- ---- turns. Each asks once. One that goes on took an answer.
 abbrev pub Turned : {S : Type 0} → State S → Went S → Type 0
@@ -107,7 +110,7 @@ Turned s (Goes now) =
 Turned s (Stops end last) =
     GoesOn s.events last.events × (turns_in last.events ≡ suc (turns_in s.events)) × (length last.answers ≤ length s.answers)
 
-module _ {S : Type 0} (s : State S) (call : Call) where
+module _ {S : Type 0} (s : State S) (closed : IsClosed s) (call : Call) where
   asked : State S
   asked = noted (event.Called call) s
 
@@ -124,7 +127,8 @@ module _ {S : Type 0} (s : State S) (call : Call) where
   unfolding got
   got-turns answer entries = turns-got (s.events ++ event.Called call ∷ []) answer ∙ turns-called s.events call
 
-  ask-turned : (next : Answer → State S → Went S) → ((answer : Answer) (t : State S) → IsOn t (state_of (next answer t))) → Turned s (ask call next s)
+  ask-turned : (next : Answer → State S → Went S) → ((answer : Answer) (t : State S) → IsClosed t → IsOn t (state_of (next answer t)))
+      → Turned s (ask call next s)
   unfolding asked got
   ask-turned next on = at s.answers refl
     where
@@ -143,7 +147,7 @@ module _ {S : Type 0} (s : State S) (call : Call) where
 
       fit : (b : Bool) (answer : Answer) (entries : List Entry) → s.answers ≡ Answered answer ∷ entries
           → Turned s (fitted b call answer next (got answer entries))
-      fit true answer entries e = after answer entries e (next answer (got answer entries)) (on answer (got answer entries))
+      fit true answer entries e = after answer entries e (next answer (got answer entries)) (on answer (got answer entries) closed)
       fit false answer entries e =
           after answer entries e (fitted false call answer next (got answer entries)) (on_as (got answer entries) (got answer entries) refl refl)
 
@@ -156,23 +160,23 @@ module _ {S : Type 0} (s : State S) (call : Call) where
 abbrev pub HadOne : {S : Type 0} → State S → Went S → Type 0
 HadOne s went = answers_in (state_of went).events ≤ answers_in s.events + 1
 
-ask-had_one : {S : Type 0} (s : State S) (call : Call) (next : Answer → State S → Went S)
-    → ((answer : Answer) (t : State S) → IsOn t (state_of (next answer t))) → HadOne s (ask call next s)
+ask-had_one : {S : Type 0} (s : State S) → IsClosed s → (call : Call) (next : Answer → State S → Went S)
+    → ((answer : Answer) (t : State S) → IsClosed t → IsOn t (state_of (next answer t))) → HadOne s (ask call next s)
 unfolding got
-ask-had_one {S = S} s call next on = at s.answers
+ask-had_one {S = S} s closed call next on = at s.answers
   where
-    had : (answer : Answer) (entries : List Entry) (went : Went S) → IsOn (got s call answer entries) (state_of went) → HadOne s went
+    had : (answer : Answer) (entries : List Entry) (went : Went S) → IsOn (got s closed call answer entries) (state_of went) → HadOne s went
     had answer entries went is =
         let a = is.got in
         let b = answers-got (s.events ++ event.Called call ∷ []) answer in
         let c = answers-called s.events call in
         omega arith
 
-    fit : (b : Bool) (answer : Answer) (entries : List Entry) → HadOne s (fitted b call answer next (got s call answer entries))
-    fit true answer entries = had answer entries (next answer (got s call answer entries)) (on answer (got s call answer entries))
+    fit : (b : Bool) (answer : Answer) (entries : List Entry) → HadOne s (fitted b call answer next (got s closed call answer entries))
+    fit true answer entries = had answer entries (next answer (got s closed call answer entries)) (on answer (got s closed call answer entries) closed)
     fit false answer entries =
-        had answer entries (fitted false call answer next (got s call answer entries))
-        (on_as (got s call answer entries) (got s call answer entries) refl refl)
+        had answer entries (fitted false call answer next (got s closed call answer entries))
+        (on_as (got s closed call answer entries) (got s closed call answer entries) refl refl)
 
     none : HadOne s (Stops (end.Over call) (noted (event.Called call) s))
     none = let c = answers-called s.events call in omega arith
@@ -183,28 +187,31 @@ ask-had_one {S = S} s call next on = at s.answers
     at (Answered answer ∷ entries) = fit (fits call answer) answer entries
 
 module _ {S : Type 0} (limit : ℕ) (added : Extra S) where
-  pub turn-had_one : (s : State S) → HadOne s (turn limit added s)
+  pub turn-had_one : (s : State S) → IsClosed s → HadOne s (turn limit added s)
   unfolding turn
-  turn-had_one s = at (is_stalled added s)
+  turn-had_one s closed = at (is_stalled added s)
     where
       at : (b : Bool) → HadOne s (turn_unless limit added b s)
       at true = omega arith
-      at false = ask-had_one s (call_of added s) (turned_by limit added) (turned-on limit added)
+      at false = ask-had_one s closed (call_of added s) (turned_by limit added) (turned-on limit added)
 
-  pub turn-turned : (s : State S) → is_stalled added s ≡ false → Turned s (turn limit added s)
+  pub turn-turned : (s : State S) → IsClosed s → is_stalled added s ≡ false → Turned s (turn limit added s)
   unfolding turn
-  turn-turned s e = at (is_stalled added s) e
+  turn-turned s closed e = at (is_stalled added s) e
     where
       at : (b : Bool) → b ≡ false → Turned s (turn_unless limit added b s)
       at true n = absurd (true≢false n)
-      at false n = ask-turned s (call_of added s) (turned_by limit added) (turned-on limit added)
+      at false n = ask-turned s closed (call_of added s) (turned_by limit added) (turned-on limit added)
 
   stalled : (s : State S) → is_stalled added s ≡ true → turn limit added s ≡ Stops end.Stalled s
   unfolding turn
   stalled s e = ap (λ b. turn_unless limit added b s) e
 
-  pub turn-grows : (s : State S) → GoesOn s.events (state_of (turn limit added s)).events
-  turn-grows s = at (is_stalled added s) refl
+  turn_closed : (s : State S) → IsClosed s → IsClosed (state_of (turn limit added s))
+  turn_closed s closed = row_closed (turn_row limit added s closed) closed
+
+  pub turn-grows : (s : State S) → IsClosed s → GoesOn s.events (state_of (turn limit added s)).events
+  turn-grows s closed = at (is_stalled added s) refl
     where
       of : (went : Went S) → Turned s went → GoesOn s.events (state_of went).events
       of (Goes now) is = is.0
@@ -212,43 +219,45 @@ module _ {S : Type 0} (limit : ℕ) (added : Extra S) where
 
       at : (b : Bool) → is_stalled added s ≡ b → GoesOn s.events (state_of (turn limit added s)).events
       at true e = subst (λ (w : Went S). GoesOn s.events (state_of w).events) (sym (stalled s e)) (goes_on_same s.events)
-      at false e = of (turn limit added s) (turn-turned s e)
+      at false e = of (turn limit added s) (turn-turned s closed e)
 
-  pub turn-one : (s : State S) → is_stalled added s ≡ false → turns_in (state_of (turn limit added s)).events ≡ turns_in s.events + 1
-  turn-one s e = of (turn limit added s) (turn-turned s e)
+  pub turn-one : (s : State S) → IsClosed s → is_stalled added s ≡ false → turns_in (state_of (turn limit added s)).events ≡ turns_in s.events + 1
+  turn-one s closed e = of (turn limit added s) (turn-turned s closed e)
     where
       of : (went : Went S) → Turned s went → turns_in (state_of went).events ≡ turns_in s.events + 1
       of (Goes now) is = is.1 ∙ omega arith
       of (Stops end last) is = is.1 ∙ omega arith
 
-  pub run-grows : (allowed left : ℕ) (s : State S) → GoesOn s.events (run_on limit added allowed left s).events
+  pub run-grows : (allowed left : ℕ) (s : State S) → IsClosed s → GoesOn s.events (run_on limit added allowed left s).events
   unfolding run_on
-  run-grows allowed zero s = goes_on_same s.events
-  run-grows allowed (suc left) s = at (turn limit added s) (turn-grows s) (run-grows allowed left)
+  run-grows allowed zero s closed = goes_on_same s.events
+  run-grows allowed (suc left) s closed = at (turn limit added s) (turn_closed s closed) (turn-grows s closed) (run-grows allowed left)
     where
-      at : (went : Went S) → GoesOn s.events (state_of went).events → ((t : State S) → GoesOn t.events (run_on limit added allowed left t).events)
+      at : (went : Went S) → IsClosed (state_of went) → GoesOn s.events (state_of went).events
+          → ((t : State S) → IsClosed t → GoesOn t.events (run_on limit added allowed left t).events)
           → GoesOn s.events (run_after (run_on limit added allowed left) went).events
-      at (Goes now) first rest = goes_on_then s.events now.events (run_on limit added allowed left now).events first (rest now)
-      at (Stops end last) first rest = first
+      at (Goes now) c first rest = goes_on_then s.events now.events (run_on limit added allowed left now).events first (rest now c)
+      at (Stops end last) c first rest = first
 
-  pub run-bounded : (allowed left : ℕ) (s : State S) → turns_in (run_on limit added allowed left s).events ≤ turns_in s.events + length s.answers + 1
+  pub run-bounded : (allowed left : ℕ) (s : State S) → IsClosed s → turns_in (run_on limit added allowed left s).events ≤ turns_in s.events + length s.answers + 1
   unfolding run_on
-  run-bounded allowed zero s = omega arith
-  run-bounded allowed (suc left) s = go (run-bounded allowed left)
+  run-bounded allowed zero s closed = omega arith
+  run-bounded allowed (suc left) s closed = go (run-bounded allowed left)
     where
-      of : ((t : State S) → turns_in (run_on limit added allowed left t).events ≤ turns_in t.events + length t.answers + 1)
-          → (went : Went S) → Turned s went → turns_in (run_after (run_on limit added allowed left) went).events ≤ turns_in s.events + length s.answers + 1
-      of rest (Goes now) is = let a = is.1 in let b = is.2 in let c = rest now in omega arith
-      of rest (Stops end last) is = let a = is.1 in omega arith
+      of : ((t : State S) → IsClosed t → turns_in (run_on limit added allowed left t).events ≤ turns_in t.events + length t.answers + 1)
+          → (went : Went S) → IsClosed (state_of went) → Turned s went
+          → turns_in (run_after (run_on limit added allowed left) went).events ≤ turns_in s.events + length s.answers + 1
+      of rest (Goes now) c is = let a = is.1 in let b = is.2 in let d = rest now c in omega arith
+      of rest (Stops end last) c is = let a = is.1 in omega arith
 
-      at : ((t : State S) → turns_in (run_on limit added allowed left t).events ≤ turns_in t.events + length t.answers + 1)
+      at : ((t : State S) → IsClosed t → turns_in (run_on limit added allowed left t).events ≤ turns_in t.events + length t.answers + 1)
           → (b : Bool) → is_stalled added s ≡ b
           → turns_in (run_after (run_on limit added allowed left) (turn limit added s)).events ≤ turns_in s.events + length s.answers + 1
       at rest true e =
           subst (λ (w : Went S). turns_in (run_after (run_on limit added allowed left) w).events ≤ turns_in s.events + length s.answers + 1)
           (sym (stalled s e)) (omega arith)
-      at rest false e = of rest (turn limit added s) (turn-turned s e)
+      at rest false e = of rest (turn limit added s) (turn_closed s closed) (turn-turned s closed e)
 
-      go : ((t : State S) → turns_in (run_on limit added allowed left t).events ≤ turns_in t.events + length t.answers + 1)
+      go : ((t : State S) → IsClosed t → turns_in (run_on limit added allowed left t).events ≤ turns_in t.events + length t.answers + 1)
           → turns_in (run_after (run_on limit added allowed left) (turn limit added s)).events ≤ turns_in s.events + length s.answers + 1
       go rest = at rest (is_stalled added s) refl

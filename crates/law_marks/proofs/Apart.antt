@@ -9,7 +9,8 @@ use Rattle.model_loop.specs.Parts.{Handle, Parts}
 use Rattle.model_loop.specs.Tasks.{begin_step, cancelling_input, is_marked}
 use Rattle.model_loop.specs.Ways.{steps}
 use Rattle.model_machine.specs.Extra.{Extra}
-use Rattle.model_machine.specs.State.{Standing, Asked, Sleeping, Leaving, Serving, State, generator_of, unbooked_in}
+use Rattle.model_machine.specs.Sound.{IsClosed}
+use Rattle.model_machine.specs.State.{Standing, Asked, Sleeping, Leaving, Serving, Connecting, Yielding, Reading, ReadingAll, State, generator_of, unbooked_in}
 use Rattle.model_machine.specs.Step.{given_up}
 use Rattle.model_machine.specs.Turn.{run_first, turn_over, woken_by}
 use Rattle.model_machine.specs.Went.{state_of}
@@ -41,10 +42,10 @@ apart it me h e = at it h e
     at (action.Wakeup task) h e = same task h e
     at _ h e = absurd cc
 
-pub first_marked : {S : Type 0} (me limit : ℕ) (added : Extra S) (handle : Handle) (rest : List Handle) (s : State S) → steps me handle.action ≡ false
-    → IsMarkedIn me s → IsMarkedIn me (state_of (run_first limit added handle rest s))
-first_marked me limit added handle rest s h m =
-    row (ran_goes limit added handle.dead handle.action (unbooked_in (λ p. record p { pending = rest }) s)).reaches me (apart handle.action me h)
+pub first_marked : {S : Type 0} (me limit : ℕ) (added : Extra S) (handle : Handle) (rest : List Handle) (s : State S) → IsClosed s
+    → steps me handle.action ≡ false → IsMarkedIn me s → IsMarkedIn me (state_of (run_first limit added handle rest s))
+first_marked me limit added handle rest s closed h m =
+    row (ran_goes limit added handle.dead handle.action (unbooked_in (λ p. record p { pending = rest }) s) closed).reaches me (apart handle.action me h)
     (row (taken_row rest s) me (nobody me) m)
 
 pub woken_by_marked : {S : Type 0} (me : ℕ) (answer : Answer) (s : State S) → IsMarkedIn me s → IsMarkedIn me (unbooked_in (woken_by answer) s)
@@ -59,6 +60,10 @@ given_up_marked task Asked p m = m
 given_up_marked task (Sleeping tag) p m = m
 given_up_marked task (Leaving group) p m = m
 given_up_marked task (Serving key) p m = m
+given_up_marked task (Connecting conn) p m = m
+given_up_marked task (Yielding whom) p m = m
+given_up_marked task (Reading from op on) p m = m
+given_up_marked task (ReadingAll from taken on) p m = m
 
 pub thrown : {S : Type 0} (s : State S) (task : ℕ) (input : Input) → IsMarkedIn task s
     → ThrowsCancel (begin_step task input (given_up (generator_of task s).standing s.loop.parts)).input

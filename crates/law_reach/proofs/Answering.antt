@@ -1,5 +1,5 @@
 -- What a request comes to is a row of changes.
-use Rattle.std.proofs.Common.{ℕ, zero, suc, pos, refl, Bool, true, false, Option, Some, None}
+use Rattle.std.proofs.Common.{◌≡◌, ℕ, zero, suc, pos, refl, sym, subst, Bool, true, false, Option, Some, None}
 use Rattle.model_value.specs.declared.action.Action.TheVariants as action
 use Rattle.model_value.specs.declared.input.Input.TheVariants.{Send, Throw}
 use Rattle.model_value.specs.Input.{Input}
@@ -17,7 +17,8 @@ use Rattle.model_machine.specs.Outcomes.{input_of}
 use Rattle.model_machine.specs.Replies.{RequestReply, Wake, alarmed, decides, ended, exits_as, exits_timeout, replied, reply, serves, serves_as}
 use Rattle.model_machine.specs.Replies.{serves_until}
 use Rattle.model_machine.specs.Replies.{shown_all, timed_out_if, waits, woken, woken_within}
-use Rattle.model_machine.specs.State.{Standing, Asked, Sleeping, Leaving, Serving, State, unbooked_in, with_loop}
+use Rattle.model_machine.specs.Sound.{IsClosed}
+use Rattle.model_machine.specs.State.{Standing, Asked, Sleeping, Leaving, Serving, Connecting, Yielding, Reading, ReadingAll, State, unbooked_in, with_loop}
 use Rattle.law_changes.specs.Changes.{CallsSoon, CallsLater, MakesFuture, Settles, MakesTask, OfParts}
 use Rattle.law_changes.specs.Reaches.{stays, goes, LoopReaches}
 use Rattle.law_changes.proofs.LoopRows.{asks_row, create_row, enter_group_row, enter_row, exit_begin_row, exit_timeout_row, exit_woken_row}
@@ -29,6 +30,8 @@ use Rattle.law_reach.specs.Cases.{leaves, moves, enters_one, exits, creates_it, 
 use Rattle.law_reach.specs.Changes.{OfLoop, Says, MakesCoroutine, Stands, NamesFuture, ChangesExtra}
 use Rattle.law_reach.specs.Reaches.{ComesTo, InAnswer}
 use Rattle.law_reach.proofs.Cases.{reply_is}
+use Rattle.law_reach.specs.Closed.{stands_at_streams}
+use Rattle.law_reach.proofs.Closed.{decides_none}
 use Rattle.law_reach.proofs.Extras.{all_row}
 
 -- a row of the loop is one of the state
@@ -137,12 +140,21 @@ module _ {S : Type 0} (added : Extra S) (task : ℕ) where
   }
   case_comes s (serves_it code arguments number items) = serves_comes task (added.ask task number items s) (woken added task) s woken_comes
 
-  pub reply_comes : (asked : Request) (s : State S) → ComesTo (Some task) s (reply added task asked s)
-  reply_comes asked s = case_comes s (reply_is added task s asked)
+  pub reply_comes : (asked : Request) (s : State S) → IsClosed s → ComesTo (Some task) s (reply added task asked s)
+  reply_comes asked s closed = case_comes s (reply_is added task s asked (λ is. closed))
 
-  pub decides_comes : (standing : Standing) (input : Input) (s : State S) → ComesTo (Some task) s (decides added standing task input s)
-  decides_comes Asked input s = replied_comes task input s
-  decides_comes (Sleeping tag) input s = replied_comes task input s
-  decides_comes (Leaving group) input s =
+  none_comes : (standing : Standing) (input : Input) (s : State S) → IsClosed s → stands_at_streams standing ≡ true
+      → ComesTo (Some task) s (decides added standing task input s)
+  none_comes standing input s closed is =
+      let it = decides_none s closed added task standing input is in subst (ComesTo (Some task) s) (sym it.1) (replied_comes task it.0 s)
+
+  pub decides_comes : (standing : Standing) (input : Input) (s : State S) → IsClosed s → ComesTo (Some task) s (decides added standing task input s)
+  decides_comes Asked input s closed = replied_comes task input s
+  decides_comes (Sleeping tag) input s closed = replied_comes task input s
+  decides_comes (Leaving group) input s closed =
       exits_comes task (exit_woken input group s.loop).answer group (exit_woken input group s.loop).loop s (exit_woken_row (Some task) input group s.loop)
-  decides_comes (Serving key) input s = woken_comes key input s
+  decides_comes (Serving key) input s closed = woken_comes key input s
+  decides_comes (Connecting conn) input s closed = none_comes (Connecting conn) input s closed refl
+  decides_comes (Yielding whom) input s closed = none_comes (Yielding whom) input s closed refl
+  decides_comes (Reading from op on) input s closed = none_comes (Reading from op on) input s closed refl
+  decides_comes (ReadingAll from taken on) input s closed = none_comes (ReadingAll from taken on) input s closed refl

@@ -1,5 +1,6 @@
 pub mod Answering
 pub mod Cases
+pub mod Closed
 pub mod Extras
 pub mod Loops
 pub mod Running

@@ -17,6 +17,7 @@ use Rattle.model_machine.specs.Extra.{Extra}
 use Rattle.model_machine.specs.Outcomes.{finished_as}
 use Rattle.model_machine.specs.Outside.{actions_of, items_of, news_of, time_of}
 use Rattle.model_loop.specs.Owning.{is_main_done}
+use Rattle.model_machine.specs.Sound.{IsClosed}
 use Rattle.model_machine.specs.State.{State, noted, unbooked_in}
 use Rattle.model_machine.specs.Turn.{at_time, call_of, cancelled_if, finished_if, is_stalled, next_below, run_below, run_first, run_if, run_pending}
 use Rattle.model_machine.specs.Turn.{turn}
@@ -30,6 +31,7 @@ use Rattle.law_reach.specs.Changes.{StateChange, OfLoop, Says, MakesCoroutine, S
 use Rattle.law_reach.specs.Changes.{Gets, MayInCallback, MayInTurn}
 use Rattle.law_reach.specs.Reaches.{InCallback, InRun, InTurn}
 use Rattle.law_reach.proofs.Answering.{in_loop_row}
+use Rattle.law_reach.proofs.Closed.{row_closed}
 use Rattle.law_reach.proofs.Running.{in_answer, ran_goes}
 
 -- what a callback may do, a turn may
@@ -100,52 +102,52 @@ module _ {S : Type 0} where
       at : (b : Bool) → InCallback None s (state_of (finished_if (finished_as (cancelled_if b s)) (cancelled_if b s)))
       at b = finished (finished_as (cancelled_if b s)) b
 
-  went_row : (s : State S) (went : Went S) (go_on : State S → Went S) → InTurn s (state_of went) → ((t : State S) → InTurn t (state_of (go_on t)))
-      → InTurn s (state_of (went_on go_on went))
-  went_row s (Goes now) go_on row each = on row (each now)
-  went_row s (Stops how last) go_on row each = row
+  went_row : (s : State S) (went : Went S) (go_on : State S → Went S) → IsClosed s → InTurn s (state_of went)
+      → ((t : State S) → IsClosed t → InTurn t (state_of (go_on t))) → InTurn s (state_of (went_on go_on went))
+  went_row s (Goes now) go_on closed row each = on row (each now (row_closed row closed))
+  went_row s (Stops how last) go_on closed row each = row
 
 module _ {S : Type 0} (limit : ℕ) (added : Extra S) where
-  pub first_row : (handle : Handle) (rest : List Handle) (s : State S) → InTurn s (state_of (run_first limit added handle rest s))
-  first_row handle rest s =
+  pub first_row : (handle : Handle) (rest : List Handle) (s : State S) → IsClosed s → InTurn s (state_of (run_first limit added handle rest s))
+  first_row handle rest s closed =
       on (in_callback (taken_row rest s))
-      (in_callback (ran_goes limit added handle.dead handle.action (unbooked_in (λ p. record p { pending = rest }) s)).reaches)
+      (in_callback (ran_goes limit added handle.dead handle.action (unbooked_in (λ p. record p { pending = rest }) s) closed).reaches)
 
-  next_row : (bar : ℕ) (handles : List Handle) (go_on : State S → Went S) (s : State S) → ((t : State S) → InTurn t (state_of (go_on t)))
-      → InTurn s (state_of (next_below limit added bar handles go_on s))
-  next_row bar [] go_on s each = stays
-  next_row bar (handle ∷ rest) go_on s each = at (nat_lt handle.stamp bar)
+  next_row : (bar : ℕ) (handles : List Handle) (go_on : State S → Went S) (s : State S) → IsClosed s
+      → ((t : State S) → IsClosed t → InTurn t (state_of (go_on t))) → InTurn s (state_of (next_below limit added bar handles go_on s))
+  next_row bar [] go_on s closed each = stays
+  next_row bar (handle ∷ rest) go_on s closed each = at (nat_lt handle.stamp bar)
     where
       at : (b : Bool) → InTurn s (state_of (run_if limit added b handle rest go_on s))
-      at true = went_row s (run_first limit added handle rest s) go_on (first_row handle rest s) each
+      at true = went_row s (run_first limit added handle rest s) go_on closed (first_row handle rest s closed) each
       at false = stays
 
-  below_row : (bar count : ℕ) (s : State S) → InTurn s (state_of (run_below limit added bar count s))
+  below_row : (bar count : ℕ) (s : State S) → IsClosed s → InTurn s (state_of (run_below limit added bar count s))
   unfolding run_below
-  below_row bar zero s = stays
-  below_row bar (suc count) s = next_row bar s.loop.parts.pending (run_below limit added bar count) s (below_row bar count)
+  below_row bar zero s closed = stays
+  below_row bar (suc count) s closed = next_row bar s.loop.parts.pending (run_below limit added bar count) s closed (below_row bar count)
 
-  pub turned_row : (answer : Answer) (s : State S) → InTurn s (state_of (turned_by limit added answer s))
-  turned_row answer s =
+  pub turned_row : (answer : Answer) (s : State S) → IsClosed s → InTurn s (state_of (turned_by limit added answer s))
+  turned_row answer s closed =
       let woken = unbooked_in (woken_by answer) s in
-      went_row s (run_pending limit added woken) (turn_over s.main_done)
-      (on (in_callback (woken_row answer s)) (below_row woken.loop.parts.next_stamp (length woken.loop.parts.pending) woken))
-      (λ t. in_callback (over_row s.main_done t))
+      went_row s (run_pending limit added woken) (turn_over s.main_done) closed
+      (on (in_callback (woken_row answer s)) (below_row woken.loop.parts.next_stamp (length woken.loop.parts.pending) woken closed))
+      (λ t c. in_callback (over_row s.main_done t))
 
-  pub turn_row : (s : State S) → InRun s (state_of (turn limit added s))
+  pub turn_row : (s : State S) → IsClosed s → InRun s (state_of (turn limit added s))
   unfolding turn
-  turn_row s = unless (is_stalled added s)
+  turn_row s closed = unless (is_stalled added s)
     where
-      fit : (b : Bool) (answer : Answer) (t : State S) → InRun t (state_of (fitted b (call_of added s) answer (turned_by limit added) t))
-      fit true answer t = in_turn (turned_row answer t)
-      fit false answer t = stays
+      fit : (b : Bool) (answer : Answer) (t : State S) → IsClosed t → InRun t (state_of (fitted b (call_of added s) answer (turned_by limit added) t))
+      fit true answer t c = in_turn (turned_row answer t c)
+      fit false answer t c = stays
 
       by : (entries : List Entry)
           → InRun s (state_of (answered_by entries (call_of added s) (turned_by limit added) (noted (event.Called (call_of added s)) s)))
       by [] = one (Calls (call_of added s)) tt
       by (Refused line cause ∷ entries) = one (Calls (call_of added s)) tt
       by (Answered answer ∷ entries) =
-          on (goes (one (Calls (call_of added s)) tt) (Gets answer entries) tt) (fit (fits (call_of added s) answer) answer _)
+          on (goes (one (Calls (call_of added s)) tt) (Gets answer entries) tt) (fit (fits (call_of added s) answer) answer _ closed)
 
       unless : (b : Bool) → InRun s (state_of (turn_unless limit added b s))
       unless true = stays

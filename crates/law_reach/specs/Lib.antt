@@ -1,4 +1,5 @@
 pub mod Cases
 pub mod Changes
+pub mod Closed
 pub mod Reaches
 pub mod Streams

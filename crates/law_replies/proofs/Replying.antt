@@ -133,6 +133,23 @@ module _ {S : Type 0} (added : Extra S) (task : ℕ) (s : State S) (step : IsSte
   fits_in (request.TimeoutExit value raised) says own = timeout_fit value raised says
   fits_in (request.GroupExit value raised) says own = group_fit value raised says
   fits_in (request.Extra code arguments) says own = absurd (false≢true (sym own))
+  fits_in (request.Listen port coroutine) says own = step.others.closed
+  fits_in (request.Connect port) says own = step.others.closed
+  fits_in (request.Write stream bytes) says own = step.others.closed
+  fits_in (request.WriteEof stream) says own = step.others.closed
+  fits_in (request.Close x) says own = step.others.closed
+  fits_in (request.WaitClosed stream) says own = step.others.closed
+  fits_in (request.Drain stream) says own = step.others.closed
+  fits_in (request.Limits stream high low) says own = step.others.closed
+  fits_in (request.Read stream count) says own = step.others.closed
+  fits_in (request.ReadExactly stream count) says own = step.others.closed
+  fits_in (request.ReadUntil stream separator) says own = step.others.closed
+  fits_in (request.ReadLine stream) says own = step.others.closed
+  fits_in (request.Launch words) says own = step.others.closed
+  fits_in (request.StandardError child) says own = step.others.closed
+  fits_in (request.WaitChild child) says own = step.others.closed
+  fits_in (request.ReturnCode child) says own = step.others.closed
+  fits_in (request.Kill child) says own = step.others.closed
   fits_in _ says own = tt
 
   -- ---- what it comes to
@@ -147,6 +164,7 @@ module _ {S : Type 0} (added : Extra S) (task : ℕ) (s : State S) (step : IsSte
       main_told = step.others.main_told;
       standing = λ k l f. let a = step.others.standing k l f in record { sleeping = a.sleeping; leaving = a.leaving; leaving_now = a.leaving_now };
       exits = step.others.exits;
+      closed = step.others.closed;
       blocks = record {
         timeouts = step.others.blocks.timeouts;
         groups = step.others.blocks.groups;
@@ -267,4 +285,4 @@ module _ {S : Type 0} (added : Extra S) (keeps : KeepsSound added) (task : ℕ) 
   pub reply_in : (asked : Request) → says_of step_limit added task s ≡ Asks asked → RepliesInStep added false task (reply added task asked s)
   reply_in (request.Extra code arguments) said =
       keeps.ask task code arguments s step (asked_is added task s step (request.Extra code arguments) said)
-  reply_in asked said = case_in asked (reply added task asked s) said refl (sound_of asked said refl) (reply_is added task s asked)
+  reply_in asked said = case_in asked (reply added task asked s) said refl (sound_of asked said refl) (reply_is added task s asked (λ is. step.others.closed))

@@ -22,7 +22,7 @@ use Rattle.model_loop.specs.Ways.{is_running, one_if, steps, wanted}
 use Rattle.model_machine.specs.Extra.{Extra}
 use Rattle.model_machine.specs.Replies.{decides, exits_as, replied}
 use Rattle.model_machine.specs.Sound.{IsStateSound, ends_sleep_of, blocks_of, names_block, names_made, sends_made, stands_at}
-use Rattle.model_machine.specs.State.{Standing, Asked, Sleeping, Leaving, Serving, State, generator_of, noted, resumed, stands, unbooked_in}
+use Rattle.model_machine.specs.State.{Standing, Asked, Sleeping, Leaving, Serving, Connecting, Yielding, Reading, ReadingAll, State, generator_of, noted, resumed, stands, unbooked_in}
 use Rattle.model_machine.specs.State.{with_loop}
 use Rattle.model_machine.specs.Step.{given_up, says_of}
 use Rattle.law_settling.specs.Frames.{taken}
@@ -37,6 +37,8 @@ use Rattle.law_after.proofs.Requests.{begin_after}
 use Rattle.law_after.proofs.Loops.{parts_loop, refl_loop}
 use Rattle.law_after.proofs.Exits.{exit_woken_loop, exit_woken_leaves}
 use Rattle.law_replies.specs.Added.{KeepsSound}
+use Rattle.law_reach.specs.Closed.{stands_at_streams}
+use Rattle.law_reach.proofs.Closed.{decides_none}
 use Rattle.law_inside.specs.InStep.{IsStepSound, IsAsked, RepliesInStep}
 use Rattle.law_replies.proofs.Answering.{left_before, step_to}
 use Rattle.law_inside.proofs.Blocks.{open_kept}
@@ -93,16 +95,32 @@ plain_at standing (request.TimeoutEnter delay) n h blocks (Throw fault) = refl
 plain_at Asked (request.TimeoutEnter delay) n h blocks (Send value) = absurd (false≢true h)
 plain_at (Sleeping tag) (request.TimeoutEnter delay) n h blocks (Send value) = absurd (false≢true h)
 plain_at (Serving key) (request.TimeoutEnter delay) n h blocks (Send value) = absurd (false≢true h)
+plain_at (Connecting conn) (request.TimeoutEnter delay) n h blocks (Send value) = absurd (false≢true h)
+plain_at (Yielding whom) (request.TimeoutEnter delay) n h blocks (Send value) = absurd (false≢true h)
+plain_at (Reading from op on) (request.TimeoutEnter delay) n h blocks (Send value) = absurd (false≢true h)
+plain_at (ReadingAll from taken on) (request.TimeoutEnter delay) n h blocks (Send value) = absurd (false≢true h)
 plain_at standing request.GroupEnter n h blocks (Throw fault) = refl
 plain_at Asked request.GroupEnter n h blocks (Send value) = absurd (false≢true h)
 plain_at (Sleeping tag) request.GroupEnter n h blocks (Send value) = absurd (false≢true h)
 plain_at (Serving key) request.GroupEnter n h blocks (Send value) = absurd (false≢true h)
+plain_at (Connecting conn) request.GroupEnter n h blocks (Send value) = absurd (false≢true h)
+plain_at (Yielding whom) request.GroupEnter n h blocks (Send value) = absurd (false≢true h)
+plain_at (Reading from op on) request.GroupEnter n h blocks (Send value) = absurd (false≢true h)
+plain_at (ReadingAll from taken on) request.GroupEnter n h blocks (Send value) = absurd (false≢true h)
 plain_at Asked (request.TimeoutExit timeout fault) n h blocks input = absurd (false≢true h)
 plain_at (Sleeping tag) (request.TimeoutExit timeout fault) n h blocks input = absurd (false≢true h)
 plain_at (Serving key) (request.TimeoutExit timeout fault) n h blocks input = absurd (false≢true h)
+plain_at (Connecting conn) (request.TimeoutExit timeout fault) n h blocks input = absurd (false≢true h)
+plain_at (Yielding whom) (request.TimeoutExit timeout fault) n h blocks input = absurd (false≢true h)
+plain_at (Reading from op on) (request.TimeoutExit timeout fault) n h blocks input = absurd (false≢true h)
+plain_at (ReadingAll from taken on) (request.TimeoutExit timeout fault) n h blocks input = absurd (false≢true h)
 plain_at Asked (request.GroupExit group fault) n h blocks input = absurd (false≢true h)
 plain_at (Sleeping tag) (request.GroupExit group fault) n h blocks input = absurd (false≢true h)
 plain_at (Serving key) (request.GroupExit group fault) n h blocks input = absurd (false≢true h)
+plain_at (Connecting conn) (request.GroupExit group fault) n h blocks input = absurd (false≢true h)
+plain_at (Yielding whom) (request.GroupExit group fault) n h blocks input = absurd (false≢true h)
+plain_at (Reading from op on) (request.GroupExit group fault) n h blocks input = absurd (false≢true h)
+plain_at (ReadingAll from taken on) (request.GroupExit group fault) n h blocks input = absurd (false≢true h)
 plain_at _ _ n h blocks input = refl
 
 pub named_at : (standing : Standing) (asked : Request) → ((id : ℕ) → standing ≡ Leaving id → ⊥) → stands_at standing asked ≡ true
@@ -112,10 +130,18 @@ named_at standing (request.TimeoutEnter delay) n h (Throw fault) = refl
 named_at Asked (request.TimeoutEnter delay) n h (Send value) = absurd (false≢true h)
 named_at (Sleeping tag) (request.TimeoutEnter delay) n h (Send value) = absurd (false≢true h)
 named_at (Serving key) (request.TimeoutEnter delay) n h (Send value) = absurd (false≢true h)
+named_at (Connecting conn) (request.TimeoutEnter delay) n h (Send value) = absurd (false≢true h)
+named_at (Yielding whom) (request.TimeoutEnter delay) n h (Send value) = absurd (false≢true h)
+named_at (Reading from op on) (request.TimeoutEnter delay) n h (Send value) = absurd (false≢true h)
+named_at (ReadingAll from taken on) (request.TimeoutEnter delay) n h (Send value) = absurd (false≢true h)
 named_at standing request.GroupEnter n h (Throw fault) = refl
 named_at Asked request.GroupEnter n h (Send value) = absurd (false≢true h)
 named_at (Sleeping tag) request.GroupEnter n h (Send value) = absurd (false≢true h)
 named_at (Serving key) request.GroupEnter n h (Send value) = absurd (false≢true h)
+named_at (Connecting conn) request.GroupEnter n h (Send value) = absurd (false≢true h)
+named_at (Yielding whom) request.GroupEnter n h (Send value) = absurd (false≢true h)
+named_at (Reading from op on) request.GroupEnter n h (Send value) = absurd (false≢true h)
+named_at (ReadingAll from taken on) request.GroupEnter n h (Send value) = absurd (false≢true h)
 named_at _ _ n h input = refl
 
 -- an exit at which a task stands, and an added request
@@ -215,6 +241,10 @@ module _ {S : Type 0} (added : Extra S) (s : State S) (task : ℕ) (input : Inpu
       let b = handles-first (of_tag tag (λ k. is_step other)) handle rest s.loop.parts first in omega (arith, a, b))
   gave_up (Leaving id) e = refl_after (names_made (next_task s.loop.parts)) false (Some task) (taken rest s.loop.parts)
   gave_up (Serving key) e = refl_after (names_made (next_task s.loop.parts)) false (Some task) (taken rest s.loop.parts)
+  gave_up (Connecting conn) e = refl_after (names_made (next_task s.loop.parts)) false (Some task) (taken rest s.loop.parts)
+  gave_up (Yielding whom) e = refl_after (names_made (next_task s.loop.parts)) false (Some task) (taken rest s.loop.parts)
+  gave_up (Reading from op on) e = refl_after (names_made (next_task s.loop.parts)) false (Some task) (taken rest s.loop.parts)
+  gave_up (ReadingAll from had on) e = refl_after (names_made (next_task s.loop.parts)) false (Some task) (taken rest s.loop.parts)
 
   pub moved_after : IsLoopAfter (names_made (next_task s.loop.parts)) false (Some task) None None None s.loop t.loop
   moved_after =
@@ -241,6 +271,10 @@ module _ {S : Type 0} (added : Extra S) (s : State S) (task : ℕ) (input : Inpu
       inside id out (inl l) = l
       inside id out (inr past) = absurd (false≢true (sym (ap (λ (g : GroupFields). g.exiting) (past_default s.loop.groups id (new_group 0) past)) ∙ out))
   standing_fit (Serving key) e n = absurd (n key refl)
+  standing_fit (Connecting conn) e n = sound.closed
+  standing_fit (Yielding whom) e n = sound.closed
+  standing_fit (Reading from op on) e n = sound.closed
+  standing_fit (ReadingAll from taken on) e n = sound.closed
 
   runs_as : (st : Standing) → (generator_of task s).standing ≡ st
       → RunsSound task (stands Asked task (unbooked_in (λ p. (begin_step task input (given_up st gone.loop.parts)).parts) gone))
@@ -250,6 +284,10 @@ module _ {S : Type 0} (added : Extra S) (s : State S) (task : ℕ) (input : Inpu
   runs_as (Leaving id) e = runs added s task input handle rest first live mine sound.loop (Leaving id)
       (standing_fit (Leaving id) e (λ k x. leaving_serves id k x))
   runs_as (Serving key) e = runs added s task input handle rest first live mine sound.loop Asked tt
+  runs_as (Connecting conn) e = runs added s task input handle rest first live mine sound.loop Asked tt
+  runs_as (Yielding whom) e = runs added s task input handle rest first live mine sound.loop Asked tt
+  runs_as (Reading from op on) e = runs added s task input handle rest first live mine sound.loop Asked tt
+  runs_as (ReadingAll from taken on) e = runs added s task input handle rest first live mine sound.loop Asked tt
 
   -- ---- its coroutine asks as before
   over : s.main_done ≡ true → lives t.loop.parts 0 ≡ false
@@ -259,11 +297,11 @@ module _ {S : Type 0} (added : Extra S) (s : State S) (task : ℕ) (input : Inpu
 
   t_half : IsApart (Some task) (Some task) added t
   t_half =
-      loop_keeps added s t (record { program = refl; generators = refl }) None (Some task) None (Some task) moved_after.parts (moved_after.parts.same refl)
+      loop_keeps added s t (record { program = refl; generators = refl; streams = refl }) None (Some task) None (Some task) moved_after.parts (moved_after.parts.same refl)
       (runs_as (generator_of task s).standing refl) (λ other f. refl) over
-      (stays_stood added s t (record { program = refl; generators = refl }) None (Some task) None (Some task) _ _ None None None moved_after
+      (stays_stood added s t (record { program = refl; generators = refl; streams = refl }) None (Some task) None (Some task) _ _ None None None moved_after
       (λ other id f e r. refl))
-      (leaves_none added s t (record { program = refl; generators = refl }) None (Some task) None (Some task) _ _ None None None moved_after
+      (leaves_none added s t (record { program = refl; generators = refl; streams = refl }) None (Some task) None (Some task) _ _ None None None moved_after
       (λ id f. (refl, refl)))
       (futures_kept s t refl (λ id h. moved_after.parts.plain id h) sound.futures) (apart_of added None None s sound)
 
@@ -328,6 +366,14 @@ module _ {S : Type 0} (added : Extra S) (s : State S) (task : ℕ) (input : Inpu
         (λ x. not_pause (sym (pause_first added task begun x) ∙ is.says))
         (exit_woken_leaves (names_made (next_task begun.loop.parts)) refl false (Some task) None None id heard_ begun.loop there) h
 
+    -- at a request on what isn't there
+    none_there : (st : Standing) → (generator_of task s).standing ≡ st → ((id : ℕ) → st ≡ Leaving id → ⊥) → (asked : Request)
+        → says_of step_limit added task s ≡ Asks asked → stands_at st asked ≡ true → stands_at_streams st ≡ true
+        → RepliesInStep added true task (decides added st task (heard st) begun)
+    none_there st e n asked says may at_streams =
+        let it = decides_none begun sound.closed added task st (heard st) at_streams in
+        subst (RepliesInStep added true task) (sym it.1) (answers st e n asked says may it.0 (it.2 (next_task s.loop.parts) (heard_made st)))
+
     decided : (st : Standing) → (generator_of task s).standing ≡ st → (asked : Request) → says_of step_limit added task s ≡ Asks asked
         → stands_at st asked ≡ true → RepliesInStep added true task (decides added st task (heard st) begun)
     decided Asked e asked says may = answers Asked e (λ id x. asked_leaves id x) asked says may (heard Asked) (heard_made Asked)
@@ -346,6 +392,14 @@ module _ {S : Type 0} (added : Extra S) (s : State S) (task : ℕ) (input : Inpu
         keeps.wake task key g.0 g.1.0 (heard (Serving key)) begun
         (subst (λ q. IsAsked added task (Serving key) q begun) g.1.1
         (subst (λ st. IsAsked added task st asked begun) e (begun_asked asked says)))
+    decided (Connecting conn) e asked says may =
+        none_there (Connecting conn) e (λ id x. absurd cc) asked says may refl
+    decided (Yielding whom) e asked says may =
+        none_there (Yielding whom) e (λ id x. absurd cc) asked says may refl
+    decided (Reading from op on) e asked says may =
+        none_there (Reading from op on) e (λ id x. absurd cc) asked says may refl
+    decided (ReadingAll from taken on) e asked says may =
+        none_there (ReadingAll from taken on) e (λ id x. absurd cc) asked says may refl
 
     pub begins_in : RepliesInStep added true task (decides added (generator_of task s).standing task (heard (generator_of task s).standing) begun)
     begins_in =

@@ -44,6 +44,8 @@ use Rattle.law_after.proofs.Deadlines.{fire_loop}
 use Rattle.law_after.proofs.Loops.{child_done_loop, loop_on, parts_loop}
 use Rattle.law_after.proofs.Parts.{settle_after, taken_after}
 use Rattle.law_replies.specs.Added.{KeepsSound}
+use Rattle.law_reach.specs.Closed.{is_of_streams}
+use Rattle.law_reach.proofs.Closed.{effect_none}
 use Rattle.law_inside.specs.InStep.{IsStepSound, LeavesStateSound, RepliesInStep}
 use Rattle.law_runs.proofs.Beginning.{begins_in}
 use Rattle.law_runs.proofs.Finishing.{returns_sound, raises_sound}
@@ -124,7 +126,7 @@ module _ {S : Type 0} (added : Extra S) (keeps : KeepsSound added) (s : State S)
   dead_in : handle.dead ≡ true → IsStateSound added out
   dead_in dead =
       let a = taken_by (λ other. ap (λ d. not d && is_step other handle.action) dead) in
-      nobody added s sound out (record { program = refl; generators = refl }) refl (over_as added s sound (in_parts (taken rest) s.loop) a) a
+      nobody added s sound out (record { program = refl; generators = refl; streams = refl }) refl (over_as added s sound (in_parts (taken rest) s.loop) a) a
       (dead_sound (told_in s.events) handle rest s.loop first dead sound.loop)
 
   -- a handle that the loop doesn't follow, and fires nothing
@@ -139,13 +141,13 @@ module _ {S : Type 0} (added : Extra S) (keeps : KeepsSound added) (s : State S)
       → ((group : ℕ) → told_by group it [] ≡ []) → ((other : ℕ) → is_step other it ≡ false) → IsStateSound added (noted (event.Ran it) out)
   idle_in it is unfollowed no_fire none steps_none =
       let a = taken_by (no_step it is steps_none) in
-      nobody added s sound (noted (event.Ran it) out) (record { program = refl; generators = refl }) refl
+      nobody added s sound (noted (event.Ran it) out) (record { program = refl; generators = refl; streams = refl }) refl
       (over_as added s sound (in_parts (taken rest) s.loop) a) a (idle_loop it is unfollowed no_fire none)
 
   main_in : handle.action ≡ action.MainDone → handle.dead ≡ false → IsStateSound added (record (noted (event.Ran action.MainDone) out) { main_done = true })
   main_in is live =
       let a = taken_by (no_step action.MainDone is (λ other. refl)) in
-      nobody added s sound (record (noted (event.Ran action.MainDone) out) { main_done = true }) (record { program = refl; generators = refl }) refl
+      nobody added s sound (record (noted (event.Ran action.MainDone) out) { main_done = true }) (record { program = refl; generators = refl; streams = refl }) refl
       (λ done. sound.main_told.pending (
       let b = taken-where is_main_done handle rest s.loop.parts first in
       let c : ◌≡◌ {A = ℕ} (cond (not handle.dead && is_main_done handle.action) 1 0) 1 =
@@ -168,6 +170,14 @@ module _ {S : Type 0} (added : Extra S) (keeps : KeepsSound added) (s : State S)
       subst (λ a. LeavesStateSound added (step step_limit added task input (noted (event.Ran a) out))) is
       (step_in added keeps task s input handle rest first live (ap (steps task) is ∙ mine) sound given_)
 
+  -- of what isn't there
+  none_there : (it : Action) → handle.action ≡ it → is_of_streams it ≡ true → is_followed it ≡ false → ((id : ℕ) → fires id it ≡ false)
+      → ((group : ℕ) → told_by group it [] ≡ []) → ((other : ℕ) → is_step other it ≡ false)
+      → LeavesStateSound added (effect step_limit added it (noted (event.Ran it) out))
+  none_there it is of unfollowed no_fire none steps_none =
+      subst (LeavesStateSound added) (sym (effect_none (noted (event.Ran it) out) sound.closed step_limit added it of))
+      (idle_in it is unfollowed no_fire none steps_none)
+
   lively : (it : Action) → handle.action ≡ it → handle.dead ≡ false → LeavesStateSound added (effect step_limit added it (noted (event.Ran it) out))
   unfolding effect
   lively (action.Step task) is live = steps_in (action.Step task) task (Send Nothing) is (eq-eqb task task refl) live refl
@@ -181,14 +191,14 @@ module _ {S : Type 0} (added : Extra S) (keeps : KeepsSound added) (s : State S)
       (parts_loop (names_made (next_task s.loop.parts)) refl false None None None None (in_parts (taken rest) s.loop)
       (settle future (Returned Nothing) (taken rest s.loop.parts))
       (settle_after (names_made (next_task s.loop.parts)) false None future (Returned Nothing) (taken rest s.loop.parts) refl)) a in
-      nobody added s sound _ (record { program = refl; generators = refl }) refl
+      nobody added s sound _ (record { program = refl; generators = refl; streams = refl }) refl
       (over_as added s sound (in_parts (settle future (Returned Nothing)) (in_parts (taken rest) s.loop)) b) b
       (loop_of (action.SleepDone task future) is live tt)
   lively (action.GroupDone group task) is live =
       let a = taken_by (no_step (action.GroupDone group task) is (λ other. refl)) in
       let b = loop_on (names_made (next_task s.loop.parts)) refl false None None None None s.loop (in_parts (taken rest) s.loop) _
       (child_done_loop (names_made (next_task s.loop.parts)) refl false None None None None group task (in_parts (taken rest) s.loop)) a in
-      nobody added s sound _ (record { program = refl; generators = refl }) refl
+      nobody added s sound _ (record { program = refl; generators = refl; streams = refl }) refl
       (over_as added s sound (child_done group task (in_parts (taken rest) s.loop)) b) b (loop_of (action.GroupDone group task) is live tt)
   lively (action.Fires timeout) is live =
       let a = taken_by (no_step (action.Fires timeout) is (λ other. refl)) in
@@ -196,7 +206,7 @@ module _ {S : Type 0} (added : Extra S) (keeps : KeepsSound added) (s : State S)
       (fire_loop (names_made (next_task s.loop.parts)) refl false None None None None timeout (in_parts (taken rest) s.loop)
       (active_open (timeout_of s.loop timeout).state
       (was_active timeout handle rest s.loop first live is (tags_of_sound None (told_in s.events) s.loop sound.loop)))) a in
-      nobody added s sound _ (record { program = refl; generators = refl }) refl
+      nobody added s sound _ (record { program = refl; generators = refl; streams = refl }) refl
       (over_as added s sound (fire timeout (in_parts (taken rest) s.loop)) b) b (loop_of (action.Fires timeout) is live tt)
   lively action.MainDone is live = main_in is live
   lively (action.ExtraItem code bytes) is live =
@@ -204,7 +214,18 @@ module _ {S : Type 0} (added : Extra S) (keeps : KeepsSound added) (s : State S)
       (idle_in (action.ExtraItem code bytes) is refl (λ id. refl) (λ g. refl) (λ other. refl))
   lively (action.Extra key) is live =
       keeps.act key (noted (event.Ran (action.Extra key)) out) (idle_in (action.Extra key) is refl (λ id. refl) (λ g. refl) (λ other. refl))
-  lively it is live = idle_in it is refl (λ id. refl) (λ g. refl) (λ other. refl)
+  lively (action.Made conn) is live = none_there (action.Made conn) is refl refl (λ id. refl) (λ g. refl) (λ other. refl)
+  lively (action.StartRead conn) is live = none_there (action.StartRead conn) is refl refl (λ id. refl) (λ g. refl) (λ other. refl)
+  lively (action.Lost conn broken) is live = none_there (action.Lost conn broken) is refl refl (λ id. refl) (λ g. refl) (λ other. refl)
+  lively (action.HandlerDone conn task) is live = none_there (action.HandlerDone conn task) is refl refl (λ id. refl) (λ g. refl) (λ other. refl)
+  lively (action.ReadableServer server) is live = none_there (action.ReadableServer server) is refl refl (λ id. refl) (λ g. refl) (λ other. refl)
+  lively (action.Readable conn) is live = none_there (action.Readable conn) is refl refl (λ id. refl) (λ g. refl) (λ other. refl)
+  lively (action.Writable conn) is live = none_there (action.Writable conn) is refl refl (λ id. refl) (λ g. refl) (λ other. refl)
+  lively (action.Up conn) is live = none_there (action.Up conn) is refl refl (λ id. refl) (λ g. refl) (λ other. refl)
+  lively (action.Down conn) is live = none_there (action.Down conn) is refl refl (λ id. refl) (λ g. refl) (λ other. refl)
+  lively (action.WritableChild child) is live = none_there (action.WritableChild child) is refl refl (λ id. refl) (λ g. refl) (λ other. refl)
+  lively (action.ChildItem child told) is live = none_there (action.ChildItem child told) is refl refl (λ id. refl) (λ g. refl) (λ other. refl)
+  lively (action.LostChild child broken) is live = none_there (action.LostChild child broken) is refl refl (λ id. refl) (λ g. refl) (λ other. refl)
 
   pub callback_in : LeavesStateSound added (run_first step_limit added handle rest s)
   callback_in = at handle.dead refl

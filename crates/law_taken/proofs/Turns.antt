@@ -1,6 +1,6 @@
 -- Callbacks, turns and runs leave what is owed covered, so the ledger is right.
 use Rattle.std.proofs.Common.{◌≡◌, ℕ, zero, suc, Bool, true, false, not, ◌&&◌, List, [], ◌∷◌, Option, Some, None, Ok, Err, filter, nat_le, nat_lt}
-use Rattle.std.proofs.Common.{refl, ap, subst, ◌∙◌, le_refl, arith}
+use Rattle.std.proofs.Common.{refl, ap, sym, subst, ◌∙◌, le_refl, arith}
 use Rattle.std.proofs.lemmas.Bool.{eq-eqb}
 use Rattle.model_value.specs.Action.{Action}
 use Rattle.model_value.specs.Input.{Input}
@@ -27,7 +27,7 @@ use Rattle.model_machine.specs.Outcomes.{finished_as, woken_with}
 use Rattle.model_machine.specs.Outside.{news_of, time_of}
 use Rattle.model_machine.specs.Replies.{RequestReply, Answers, Raises, Rests, Halts, reply}
 use Rattle.model_machine.specs.Sound.{IsStateSound, sends_made}
-use Rattle.model_machine.specs.State.{Standing, Asked, Sleeping, Leaving, Serving, State, generator_of, noted, stands, start, unbooked_in}
+use Rattle.model_machine.specs.State.{Standing, Asked, Sleeping, Leaving, Serving, Connecting, Yielding, Reading, ReadingAll, State, generator_of, noted, stands, start, unbooked_in}
 use Rattle.model_machine.specs.Step.{given_up, most_answers, says_of, serve, serve_all, served, step, taken_as}
 use Rattle.model_machine.specs.Turn.{at_time, cancelled_if, effect, finished_if, ran, run_first}
 use Rattle.model_machine.specs.Turn.{turn, turn_over, woken_by}
@@ -39,6 +39,8 @@ use Rattle.law_replies.proofs.Replying.{reply_in as replies_sound}
 use Rattle.law_inside.specs.InStep.{IsStepSound, LeavesStateSound, RepliesInStep}
 use Rattle.law_changes.proofs.Folds.{on}
 use Rattle.law_changes.proofs.PartsRows.{begin_row}
+use Rattle.law_reach.specs.Closed.{is_of_streams}
+use Rattle.law_reach.proofs.Closed.{effect_none}
 use Rattle.law_reach.proofs.Running.{given_up_row}
 use Rattle.law_runs.proofs.Beginning.{begins_in}
 use Rattle.law_runs.proofs.Callbacks.{woken_made}
@@ -58,6 +60,10 @@ given_tasks Asked p = refl
 given_tasks (Sleeping tag) p = refl
 given_tasks (Leaving group) p = refl
 given_tasks (Serving key) p = refl
+given_tasks (Connecting conn) p = refl
+given_tasks (Yielding whom) p = refl
+given_tasks (Reading from op on) p = refl
+given_tasks (ReadingAll from taken on) p = refl
 
 -- ---- a task's step
 module _ {S : Type 0} (added : Extra S) (keeps : KeepsSound added) (task : ℕ) where
@@ -116,7 +122,7 @@ module _ {S : Type 0} (added : Extra S) (keeps : KeepsSound added) (task : ℕ) 
       let awake = stands Asked task (unbooked_in (λ p. begun.parts) gone) in
       after_in (serve_all step_limit added task) (λ t h d. serve_in (most_answers step_limit (generator_of task t).tape) t h d) true _
       (begins_in added s task input handle rest first live mine sound keeps given_)
-      (decides_in added standing task begun.input awake (begun_good standing input s.loop rest is))
+      (decides_in added standing task begun.input awake sound.closed (begun_good standing input s.loop rest is))
 
 -- ---- a callback
 module _ {S : Type 0} (added : Extra S) (keeps : KeepsSound added) (s : State S) (handle : Handle) (rest : List Handle)
@@ -138,6 +144,11 @@ module _ {S : Type 0} (added : Extra S) (keeps : KeepsSound added) (s : State S)
       subst (λ a. IsCovered (state_of (step step_limit added task input (noted (event.Ran a) out))).loop) is
       (step_in added keeps task s input handle rest first live (ap (steps task) is ∙ mine) sound given_ (record { right = right; covered = c }))
 
+  -- of what isn't there
+  none_there : (it : Action) → is_of_streams it ≡ true → IsCovered (state_of (effect step_limit added it (noted (event.Ran it) out))).loop
+  none_there it of =
+      subst (λ (w : Went S). IsCovered (state_of w).loop) (sym (effect_none (noted (event.Ran it) out) sound.closed step_limit added it of)) good.covered
+
   lively : (it : Action) → handle.action ≡ it → handle.dead ≡ false → IsCovered (state_of (effect step_limit added it (noted (event.Ran it) out))).loop
   unfolding effect
   lively (action.Step task) is live = steps_in (action.Step task) task (Send Nothing) is (eq-eqb task task refl) live refl
@@ -152,7 +163,19 @@ module _ {S : Type 0} (added : Extra S) (keeps : KeepsSound added) (s : State S)
   lively (action.ExtraItem code bytes) is live =
       (all_good (added.item code bytes (noted (event.Ran (action.ExtraItem code bytes)) out)).steps out.loop good).covered
   lively (action.Extra key) is live = (all_good (added.act key (noted (event.Ran (action.Extra key)) out)).steps out.loop good).covered
-  lively it is live = good.covered
+  lively action.MainDone is live = good.covered
+  lively (action.Made conn) is live = none_there (action.Made conn) refl
+  lively (action.StartRead conn) is live = none_there (action.StartRead conn) refl
+  lively (action.Lost conn broken) is live = none_there (action.Lost conn broken) refl
+  lively (action.HandlerDone conn task) is live = none_there (action.HandlerDone conn task) refl
+  lively (action.ReadableServer server) is live = none_there (action.ReadableServer server) refl
+  lively (action.Readable conn) is live = none_there (action.Readable conn) refl
+  lively (action.Writable conn) is live = none_there (action.Writable conn) refl
+  lively (action.Up conn) is live = none_there (action.Up conn) refl
+  lively (action.Down conn) is live = none_there (action.Down conn) refl
+  lively (action.WritableChild child) is live = none_there (action.WritableChild child) refl
+  lively (action.ChildItem child told) is live = none_there (action.ChildItem child told) refl
+  lively (action.LostChild child broken) is live = none_there (action.LostChild child broken) refl
 
   pub first_in : IsCovered (state_of (run_first step_limit added handle rest s)).loop
   first_in = at handle.dead refl

@@ -1,5 +1,5 @@
 -- A task's step begins: what it stands at says what the input means, and the loop stays sound.
-use Rattle.std.proofs.Common.{◌≡◌, ℕ, ◌<◌, ◌⊎◌, true, false, cond, not, ◌&&◌, List, [], ◌∷◌, ◌++◌, Option, Some, None, map, length, refl, ap, ◌∙◌, inl, inr}
+use Rattle.std.proofs.Common.{◌≡◌, ℕ, ◌<◌, ◌⊎◌, true, false, cond, not, ◌&&◌, List, [], ◌∷◌, ◌++◌, Option, Some, None, map, length, refl, ap, sym, subst, ◌∙◌, inl, inr}
 use Rattle.std.proofs.Common.{arith}
 use Rattle.std.proofs.lemmas.Bool.{cases_eq, eq-eqb, ne_eqb, false≢true}
 use Rattle.model_value.specs.Action.{Action}
@@ -16,7 +16,10 @@ use Rattle.model_loop.specs.Entries.{entries, is_sleep_end, no_sleep_as}
 use Rattle.model_loop.specs.Sound.{IsSound}
 use Rattle.model_machine.specs.Extra.{Extra}
 use Rattle.model_machine.specs.Replies.{decides, exits_as, exits_group}
-use Rattle.model_machine.specs.State.{Standing, Asked, Sleeping, Leaving, Serving, State, noted, stands, unbooked_in, with_loop}
+use Rattle.law_reach.specs.Closed.{stands_at_streams}
+use Rattle.law_reach.proofs.Closed.{decides_none}
+use Rattle.model_machine.specs.Sound.{IsClosed}
+use Rattle.model_machine.specs.State.{Standing, Asked, Sleeping, Leaving, Serving, Connecting, Yielding, Reading, ReadingAll, State, noted, stands, unbooked_in, with_loop}
 use Rattle.model_machine.specs.Step.{given_up}
 use Rattle.model_machine.specs.Told.{told_by, told_in}
 use Rattle.law_settling.specs.Frames.{taken}
@@ -89,6 +92,10 @@ module _ {S : Type 0} (added : Extra S) (s : State S) (task : ℕ) (input : Inpu
       told_as_before (Some task) _ (begun_awake (told_in s.events) task handle rest s.loop first live mine sound tag input fit)
   runs (Leaving id) fit = told_as_before (Some task) _ (begun_plainly (told_in s.events) task handle rest s.loop first live mine sound input)
   runs (Serving key) fit = absurd fit
+  runs (Connecting conn) fit = told_as_before (Some task) _ (begun_plainly (told_in s.events) task handle rest s.loop first live mine sound input)
+  runs (Yielding whom) fit = told_as_before (Some task) _ (begun_plainly (told_in s.events) task handle rest s.loop first live mine sound input)
+  runs (Reading from op on) fit = told_as_before (Some task) _ (begun_plainly (told_in s.events) task handle rest s.loop first live mine sound input)
+  runs (ReadingAll from taken on) fit = told_as_before (Some task) _ (begun_plainly (told_in s.events) task handle rest s.loop first live mine sound input)
 
   pub leaves : (id : ℕ) (with_ : Input) (now : State S) → RunsSound task now
       → (id < length now.loop.groups) × ((group_of now.loop id).exiting ≡ true) × ((group_of now.loop id).ended ≡ false)
@@ -106,6 +113,12 @@ module _ {S : Type 0} (added : Extra S) (s : State S) (task : ℕ) (input : Inpu
       at Passes e = woken
       at (RaisedBy fault) e = woken
 
+  -- at a request on what isn't there
+  streams_begin : (standing : Standing) (with_ : Input) (now : State S) → stands_at_streams standing ≡ true → IsClosed now → RunsSound task now
+      → RepliesSound task (decides added standing task with_ now)
+  streams_begin standing with_ now is closed h =
+      let it = decides_none now closed added task standing with_ is in subst (RepliesSound task) (sym it.1) (replied_sound task it.0 now h)
+
   pub step_begins : (standing : Standing) → IsStanding standing s
       → RepliesSound task (decides added standing task (begin_step task input (given_up standing gone.loop.parts)).input (begun standing))
   step_begins Asked fit = replied_sound task (begin_step task input gone.loop.parts).input (begun Asked) (runs Asked fit)
@@ -114,3 +127,12 @@ module _ {S : Type 0} (added : Extra S) (s : State S) (task : ℕ) (input : Inpu
   step_begins (Leaving id) fit =
       leaves id (begin_step task input gone.loop.parts).input (begun (Leaving id)) (runs (Leaving id) fit) fit
   step_begins (Serving key) fit = absurd fit
+  step_begins (Connecting conn) fit =
+      streams_begin (Connecting conn) (begin_step task input gone.loop.parts).input (begun (Connecting conn)) refl fit (runs (Connecting conn) fit)
+  step_begins (Yielding whom) fit =
+      streams_begin (Yielding whom) (begin_step task input gone.loop.parts).input (begun (Yielding whom)) refl fit (runs (Yielding whom) fit)
+  step_begins (Reading from op on) fit =
+      streams_begin (Reading from op on) (begin_step task input gone.loop.parts).input (begun (Reading from op on)) refl fit (runs (Reading from op on) fit)
+  step_begins (ReadingAll from taken on) fit =
+      streams_begin (ReadingAll from taken on) (begin_step task input gone.loop.parts).input (begun (ReadingAll from taken on)) refl fit
+      (runs (ReadingAll from taken on) fit)

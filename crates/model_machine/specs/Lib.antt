@@ -1,4 +1,5 @@
 pub mod Arguments
+pub mod Does
 pub mod Extra
 pub mod Mids
 pub mod Outcomes

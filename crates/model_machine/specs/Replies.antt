@@ -1,22 +1,23 @@
 -- What each request comes to: an answer, an exception, or the end of the task's step. The kinds of its arguments are tested
 -- first, then whether one more of what it makes can be numbered, and then the rest.
 -- Source: the library reference, "Coroutines and Tasks", "Futures"; `timeouts.py`; `taskgroups.py`.
-use Rattle.std.specs.Prelude.{ℕ, zero, suc, ◌^◌, ◌-◌, ℤ, pos, negsuc, Bool, true, false, List, [], ◌∷◌, ◌++◌, Option, Some, None, codes, is_some, length}
+use Rattle.std.specs.Prelude.{ℕ, zero, suc, ◌^◌, ◌-◌, ℤ, pos, negsuc, Bool, true, false, ◌&&◌, List, [], ◌∷◌, ◌++◌, Option, Some, None, codes, is_some, length}
 use Rattle.std.specs.Prelude.{nat_lt}
 use Rattle.std.specs.List.{flat_map}
 use Rattle.model_value.specs.declared.action.Action.TheVariants.{SleepDone}
 use Rattle.model_value.specs.declared.input.Input.TheVariants.{Send, Throw}
-use Rattle.model_value.specs.declared.kind.Kind.TheVariants.{InvalidStateError, NameError}
+use Rattle.model_value.specs.declared.kind.Kind.TheVariants.{InvalidStateError, OSError, RuntimeError, ValueError}
 use Rattle.model_value.specs.declared.outcome.Outcome.TheVariants.{Value as Returned, Failed, Cancelled}
 use Rattle.model_value.specs.declared.request.Request.TheVariants as request
 use Rattle.model_value.specs.Input.{Input}
 use Rattle.model_value.specs.Request.{Request}
 use Rattle.model_value.specs.Shown.{shown}
-use Rattle.model_value.specs.Value.{Value, Nothing, Truth, Int, Fut, Task, Group, Timeout, Exc, Outcome, exception_of}
+use Rattle.model_value.specs.Value.{Value, Nothing, Truth, Int, Bytes, Fut, Task, Group, Timeout, Server, Child, Errs, Exc, Outcome, exception_of}
 use Rattle.model_says.specs.Operations.{out_of_range}
 use Rattle.model_says.specs.Requests.{bad_argument}
 use Rattle.model_wire.specs.declared.event.End.TheVariants as end
 use Rattle.model_wire.specs.declared.event.Event.TheVariants as event
+use Rattle.model_wire.specs.declared.event.Handed.{Handed}
 use Rattle.model_wire.specs.Trace.{End}
 use Rattle.model_loop.specs.Futures.{future_outcome, new_plain, next_future, settle}
 use Rattle.model_loop.specs.Groups.{GroupExit, Waits, Passes, Raises as RaisedBy, Exited, Refusal, create, enter_group, exit_begin, exit_woken, group_of}
@@ -29,11 +30,31 @@ use Rattle.model_loop.specs.Suspend.{suspend}
 use Rattle.model_loop.specs.Tasks.{cancelling, next_task, pause, spawn}
 use Rattle.model_loop.specs.Timeouts.{enter_timeout, exit_timeout, has_expired, is_active, next_timeout, reschedule, reschedule_fault, timeout_fault}
 use Rattle.model_loop.specs.Timeouts.{timeout_of}
-use Rattle.model_machine.specs.Arguments.{as_future, as_awaited, as_task, as_timeout, as_group, as_int, as_delay, as_failure, as_list}
+use Rattle.model_stream.specs.declared.answers.ChildWait.{ChildWait}
+use Rattle.model_stream.specs.declared.answers.ChildWait.TheVariants as wait_as
+use Rattle.model_stream.specs.declared.answers.Drain.TheVariants as drain_as
+use Rattle.model_stream.specs.declared.answers.StreamGot.TheVariants as got
+use Rattle.model_stream.specs.declared.answers.Wrote.{Wrote}
+use Rattle.model_stream.specs.declared.answers.Wrote.TheVariants as wrote
+use Rattle.model_stream.specs.declared.put.Limited.{Limited}
+use Rattle.model_stream.specs.declared.put.Limited.TheVariants as limited
+use Rattle.model_stream.specs.declared.read_op.ReadOp.TheVariants.{UpTo, Exactly, Until, Line}
+use Rattle.model_stream.specs.Connections.{connect_refused}
+use Rattle.model_stream.specs.Doing.{Doing}
+use Rattle.model_stream.specs.Reading.{ReadOp}
+use Rattle.model_stream.specs.Receivers.{StreamGot}
+use Rattle.model_stream.specs.Requests.{StreamReader, write, drain, limits, write_eof, close, closed_future, drop_connect, read, read_all}
+use Rattle.model_stream.specs.Requests.{give_up_read, wait, returncode, kill}
+use Rattle.model_stream.specs.Senders.{Drain}
+use Rattle.model_stream.specs.Streams.{Streams, may_listen, may_connect, may_launch, listen, connect, launch, close_server}
+use Rattle.model_machine.specs.Arguments.{as_future, as_awaited, as_task, as_timeout, as_group, as_int, as_delay, as_failure, as_list, as_conn, as_child}
+use Rattle.model_machine.specs.Arguments.{as_writer, as_reader, as_bytes, as_words, as_closable, Closable, AServer, AWriter}
+use Rattle.model_machine.specs.Does.{does}
 use Rattle.model_machine.specs.Extra as extra
 use Rattle.model_machine.specs.Extra.{Extra, ExtraAnswer, ExtraSaid, called}
 use Rattle.model_machine.specs.Outcomes.{input_of}
-use Rattle.model_machine.specs.State.{Standing, Asked, Sleeping, Leaving, Serving, State, in_loop, with_loop, unbooked_in, noted, stands, with_coroutine}
+use Rattle.model_machine.specs.State.{Standing, Asked, Sleeping, Leaving, Serving, Connecting, Yielding, Reading, ReadingAll, State, in_loop, with_loop}
+use Rattle.model_machine.specs.State.{with_streams, unbooked_in, noted, stands, with_coroutine}
 
 pub data RequestReply (S : Type 0) : Type 0 where
   -- the coroutine goes on with a value
@@ -194,9 +215,117 @@ creates_unless None id coroutine arguments s =
 abbrev pub creates : {S : Type 0} → ℕ → ℕ → List Value → State S → RequestReply S
 creates id coroutine arguments s = creates_unless (refusal (group_of s.loop id)) id coroutine arguments s
 
--- Of connections and children nothing is defined here so far.
-abbrev pub undefined : Exc
-undefined = exception_of NameError (codes "connections and children")
+-- ---- connections and children
+-- what they do is done, and the request goes on by what comes of it
+abbrev pub streams_do : {S A : Type 0} → Doing (Streams × A) → (A → State S → RequestReply S) → State S → RequestReply S
+streams_do tree next s = does Halts tree (λ done now. next done.1 (with_streams done.0 now)) s
+
+abbrev pub streams_change : {S : Type 0} → Doing Streams → (State S → RequestReply S) → State S → RequestReply S
+streams_change tree next s = does Halts tree (λ streams now. next (with_streams streams now)) s
+
+-- a port is a number from 1 to 65,535
+abbrev pub bad_port : Exc
+bad_port = exception_of ValueError (codes "port")
+
+abbrev pub to_port_if : {S : Type 0} → Bool → ℕ → (ℕ → State S → RequestReply S) → State S → RequestReply S
+to_port_if true port next s = next port s
+to_port_if false port next s = Raises bad_port s
+
+abbrev pub to_port : {S : Type 0} → ℤ → (ℕ → State S → RequestReply S) → State S → RequestReply S
+to_port (negsuc before) next s = Raises bad_port s
+to_port (pos port) next s = to_port_if (nat_lt 0 port && nat_lt port 65536) port next s
+
+abbrev pub listens_as : {S : Type 0} → Option ℕ → State S → RequestReply S
+listens_as None s = Raises (exception_of OSError (codes "listen refused")) s
+listens_as (Some id) s = Answers (Server id) s
+
+abbrev pub listens : {S : Type 0} → (handler port : ℕ) → State S → RequestReply S
+listens handler port s = streams_do (listen port handler s.streams) listens_as s
+
+abbrev pub connects_as : {S : Type 0} → ℕ → Option (ℕ × ℕ) → State S → RequestReply S
+connects_as task None s = Raises connect_refused s
+connects_as task (Some begun) s = Rests (stands (Connecting begun.0) task (waits task begun.1 s))
+
+abbrev pub connects : {S : Type 0} → (task port : ℕ) → State S → RequestReply S
+connects task port s = streams_do (connect port (next_future s.loop.parts) s.streams) (connects_as task) s
+
+abbrev pub after_eof : Exc
+after_eof = exception_of RuntimeError (codes "Cannot call write() after write_eof()")
+
+abbrev pub writes_as : {S : Type 0} → Wrote → State S → RequestReply S
+writes_as wrote.Done s = Answers Nothing s
+writes_as wrote.AfterEof s = Raises after_eof s
+
+abbrev pub closes : {S : Type 0} → Closable → State S → RequestReply S
+closes (AServer id) s = streams_change (close_server id s.streams) (Answers Nothing) s
+closes (AWriter whom) s = streams_change (close whom s.streams) (Answers Nothing) s
+
+abbrev pub awaits_closed_as : {S : Type 0} → Option ℕ → ℕ → State S → RequestReply S
+awaits_closed_as None task s = Answers Nothing s
+awaits_closed_as (Some on) task s = awaits task on s
+
+-- Closing, a drain first yields once; then it looks again.
+abbrev pub drains_as : {S : Type 0} → (task : ℕ) → Handed → Drain → State S → RequestReply S
+drains_as task whom drain_as.Goes s = Answers Nothing s
+drains_as task whom drain_as.Yields s = Rests (stands (Yielding whom) task (unbooked_in (pause task) s))
+drains_as task whom (drain_as.Waits on) s = Rests (waits task on s)
+drains_as task whom (drain_as.Raises fault) s = Raises fault s
+
+abbrev pub drains : {S : Type 0} → (yielded : Bool) → (task : ℕ) → Handed → State S → RequestReply S
+drains yielded task whom s =
+    streams_do (drain yielded (next_future s.loop.parts) whom s.streams) (drains_as task whom) s
+
+abbrev pub limits_as : {S : Type 0} → Limited → State S → RequestReply S
+limits_as limited.Set s = Answers Nothing s
+limits_as limited.BadLimits s = Raises (exception_of ValueError (codes "limits")) s
+
+-- A read looks at what is held as it begins and again at each waking.
+abbrev pub reads_as : {S : Type 0} → (task : ℕ) → ReadOp → StreamReader → StreamGot → State S → RequestReply S
+reads_as task op from (got.Bytes bytes) s = Answers (Bytes bytes) s
+reads_as task op from (got.Raises fault) s = Raises fault s
+reads_as task op from (got.Waits on) s = Rests (stands (Reading from op on) task (waits task on s))
+
+abbrev pub reads : {S : Type 0} → (task : ℕ) → ReadOp → StreamReader → State S → RequestReply S
+reads task op from s = streams_do (read (next_future s.loop.parts) op from s.streams) (reads_as task op from) s
+
+-- with a negative count: what each look took is joined
+abbrev pub reads_all_as : {S : Type 0} → (task : ℕ) → StreamReader → (taken : List ℕ) → StreamGot → State S → RequestReply S
+reads_all_as task from taken (got.Bytes bytes) s = Answers (Bytes taken) s
+reads_all_as task from taken (got.Raises fault) s = Raises fault s
+reads_all_as task from taken (got.Waits on) s = Rests (stands (ReadingAll from taken on) task (waits task on s))
+
+abbrev pub reads_all : {S : Type 0} → (task : ℕ) → StreamReader → (taken : List ℕ) → State S → RequestReply S
+reads_all task from taken s =
+    streams_do (read_all (next_future s.loop.parts) from s.streams)
+    (λ said. reads_all_as task from (taken ++ said.taken) said.got) s
+
+abbrev pub reads_count : {S : Type 0} → (task : ℕ) → ℤ → StreamReader → State S → RequestReply S
+reads_count task (pos count) from s = reads task (UpTo count) from s
+reads_count task (negsuc before) from s = reads_all task from [] s
+
+-- as its task is resumed, for whatever reason, a read waits no more
+abbrev pub waits_no_more : {S : Type 0} → (on : ℕ) → StreamReader → State S → State S
+waits_no_more on from s = with_streams (give_up_read on from s.streams) s
+
+-- what was waited for came, or an exception did
+abbrev pub hears : {S : Type 0} → Input → (State S → RequestReply S) → State S → RequestReply S
+hears (Send value) next s = next s
+hears (Throw fault) next s = Raises fault s
+
+abbrev pub launches_as : {S : Type 0} → Option ℕ → State S → RequestReply S
+launches_as None s = Raises (exception_of OSError (codes "launch refused")) s
+launches_as (Some id) s = Answers (Child id) s
+
+abbrev pub launches : {S : Type 0} → List (List ℕ) → State S → RequestReply S
+launches words s = streams_do (launch words (next_future s.loop.parts) s.streams) launches_as s
+
+abbrev pub awaits_exit_as : {S : Type 0} → (task : ℕ) → ChildWait → State S → RequestReply S
+awaits_exit_as task (wait_as.Code code) s = Answers (Int code) s
+awaits_exit_as task (wait_as.Waits on) s = Rests (waits task on s)
+
+abbrev pub code_of : Option ℤ → Value
+code_of None = Nothing
+code_of (Some code) = Int code
 
 -- ---- requests that are added. One that goes on waiting for what is done is woken at once.
 abbrev pub Wake : Type 0 → Type 0
@@ -260,7 +389,36 @@ module _ {S : Type 0} (added : Extra S) where
       given (as_group group) (λ id now. numbered (next_task now.loop.parts) (creates id coroutine arguments) now) s
   reply task (request.Extra code arguments) s =
       given (as_int code) (λ number. given (as_list arguments) (λ items now. serves (added.ask task number items now) (woken task) task now)) s
-  reply task _ s = Raises undefined s
+  reply task (request.Listen port handler) s =
+      given (as_int port) (λ number. numbered_if (may_listen s.streams) (to_port number (listens handler))) s
+  reply task (request.Connect port) s =
+      given (as_int port) (λ number. numbered_if (may_connect s.streams) (to_port number (connects task))) s
+  reply task (request.Write stream bytes) s =
+      given (as_writer s stream) (λ whom. given (as_bytes bytes) (λ piece now. streams_do (write whom piece now.streams) writes_as now)) s
+  reply task (request.WriteEof stream) s =
+      given (as_conn s stream) (λ conn now. streams_change (write_eof conn now.streams) (Answers Nothing) now) s
+  reply task (request.Close x) s = given (as_closable s x) closes s
+  reply task (request.WaitClosed stream) s =
+      given (as_writer s stream) (λ whom now. awaits_closed_as (closed_future whom now.streams) task now) s
+  reply task (request.Drain stream) s = given (as_writer s stream) (drains false task) s
+  reply task (request.Limits stream high low) s =
+      given (as_writer s stream) (λ whom. given (as_delay high) (λ most. given (as_delay low) (λ least now.
+      streams_do (limits most least whom now.streams) limits_as now))) s
+  reply task (request.Read stream count) s =
+      given (as_reader s stream) (λ from. given (as_int count) (λ number. reads_count task number from)) s
+  reply task (request.ReadExactly stream count) s =
+      given (as_reader s stream) (λ from. given (as_int count) (λ number. reads task (Exactly number) from)) s
+  reply task (request.ReadUntil stream separator) s =
+      given (as_reader s stream) (λ from. given (as_bytes separator) (λ bytes. reads task (Until bytes) from)) s
+  reply task (request.ReadLine stream) s = given (as_reader s stream) (reads task Line) s
+  reply task (request.Launch words) s =
+      given (as_words words) (λ program. numbered_if (may_launch s.streams) (launches program)) s
+  reply task (request.StandardError child) s = given (as_child s child) (λ id. Answers (Errs id)) s
+  reply task (request.WaitChild child) s =
+      given (as_child s child) (λ id now. streams_do (wait (next_future now.loop.parts) id now.streams) (awaits_exit_as task) now) s
+  reply task (request.ReturnCode child) s = given (as_child s child) (λ id now. Answers (code_of (returncode id now.streams)) now) s
+  reply task (request.Kill child) s =
+      given (as_child s child) (λ id now. streams_change (kill id now.streams) (Answers Nothing) now) s
 
   -- what the request at which a task stands makes of the input that its step begins with
   abbrev pub decides : Standing → ℕ → Input → State S → RequestReply S
@@ -268,3 +426,8 @@ module _ {S : Type 0} (added : Extra S) where
   decides (Sleeping tag) task input s = replied input s
   decides (Leaving group) task input s = exits_group (exit_woken input group s.loop) task group s
   decides (Serving key) task input s = woken task key input s
+  decides (Connecting conn) task (Send value) s = Answers value s
+  decides (Connecting conn) task (Throw fault) s = streams_change (drop_connect conn s.streams) (Raises fault) s
+  decides (Yielding whom) task input s = hears input (drains true task whom) s
+  decides (Reading from op on) task input s = hears input (reads task op from) (waits_no_more on from s)
+  decides (ReadingAll from taken on) task input s = hears input (reads_all task from taken) (waits_no_more on from s)

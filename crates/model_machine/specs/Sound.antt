@@ -24,8 +24,9 @@ use Rattle.model_loop.specs.Tasks.{future_of, lives, next_task}
 use Rattle.model_loop.specs.Timeouts.{timeout_of}
 use Rattle.model_loop.specs.Totals.{callbacks_of, pending_where}
 use Rattle.model_loop.specs.Ways.{is_running}
+use Rattle.model_stream.specs.Streams.{no_streams}
 use Rattle.model_machine.specs.Extra.{Extra}
-use Rattle.model_machine.specs.State.{Standing, Asked, Sleeping, Leaving, Serving, State, generator_of}
+use Rattle.model_machine.specs.State.{Standing, Asked, Sleeping, Leaving, Serving, Connecting, Yielding, Reading, ReadingAll, State, generator_of}
 use Rattle.model_machine.specs.Step.{says_of}
 use Rattle.model_machine.specs.Told.{told_in}
 
@@ -38,6 +39,16 @@ stands_at Asked (request.Sleep delay) = true
 stands_at (Sleeping tag) (request.Sleep delay) = true
 stands_at (Leaving id) (request.GroupExit (Group group) raised) = group == id
 stands_at (Serving key) (request.Extra code arguments) = true
+stands_at (Connecting conn) (request.Connect port) = true
+stands_at Asked (request.WaitClosed stream) = true
+stands_at Asked (request.Drain stream) = true
+stands_at Asked (request.WaitChild child) = true
+stands_at (Yielding whom) (request.Drain stream) = true
+stands_at (Reading from op on) (request.Read stream count) = true
+stands_at (Reading from op on) (request.ReadExactly stream count) = true
+stands_at (Reading from op on) (request.ReadUntil stream separator) = true
+stands_at (Reading from op on) (request.ReadLine stream) = true
+stands_at (ReadingAll from taken on) (request.Read stream count) = true
 stands_at _ _ = false
 
 -- a task's first step is pending
@@ -159,6 +170,11 @@ pub record AreScriptsFutures {S : Type 0} (s : State S) : Type 0 where
       → (future : Future) × (slice_get s.loop.parts.futures id ≡ Some future) × (future.kind ≡ Plain)
   pub once : (place other id : ℕ) → slice_get s.futures place ≡ Some id → slice_get s.futures other ≡ Some id → place ≡ other
 
+-- ---- streams
+-- so far nothing is open, and nothing can be opened
+abbrev pub IsClosed : {S : Type 0} → State S → Type 0
+IsClosed s = s.streams ≡ no_streams 0
+
 -- ---- all of it
 -- A state that is sound while this task runs, but for what the excused task asks and stands at. Of its blocks it says `Blocks`.
 pub record IsSoundOver {S : Type 0} (Blocks : Type 0) (running excused : Option ℕ) (added : Extra S) (s : State S) : Type 0 where
@@ -174,6 +190,7 @@ pub record IsSoundOver {S : Type 0} (Blocks : Type 0) (running excused : Option 
   pub exits : (id : ℕ) → IsLeft s id → is_running excused (group_of s.loop id).parent ≡ false
       → (generator_of (group_of s.loop id).parent s).standing ≡ Leaving id
   pub blocks : Blocks
+  pub closed : IsClosed s
   pub futures : AreScriptsFutures s
   pub made : AreTasksMade s
 

@@ -6,11 +6,14 @@ use Rattle.model_tree.specs.Syntax.{Program}
 use Rattle.model_text.specs.SecondPass.{main_text}
 use Rattle.model_says.specs.Requests.{place_of}
 use Rattle.model_says.specs.Tape.{Tape}
+use Rattle.model_wire.specs.declared.event.Handed.{Handed}
 use Rattle.model_wire.specs.Event.{Event}
 use Rattle.model_wire.specs.Journal.{Entry}
 use Rattle.model_loop.specs.Parts.{Parts}
 use Rattle.model_loop.specs.Loop.{Loop, in_parts}
 use Rattle.model_loop.specs.Start.{first_loop}
+use Rattle.model_stream.specs.Reading.{ReadOp}
+use Rattle.model_stream.specs.Requests.{StreamReader}
 use Rattle.model_stream.specs.Streams.{Streams, no_streams}
 
 -- What decides, as a task's step begins, what the input means.
@@ -23,6 +26,14 @@ pub data Standing : Type 0 where
   Leaving : (group : ℕ) → Standing
   -- a request that was added to the loop's own and waits, under its key
   Serving : (key : ℕ) → Standing
+  -- a connect, whose connection is being made
+  Connecting : (conn : ℕ) → Standing
+  -- the bare `yield` of a drain
+  Yielding : (whom : Handed) → Standing
+  -- a read that waits for data, on this future
+  Reading : (from : StreamReader) (op : ReadOp) (on : ℕ) → Standing
+  -- a read with a negative count, with what it took so far
+  ReadingAll : (from : StreamReader) (taken : List ℕ) (on : ℕ) → Standing
 
 -- What a task runs: which coroutine, told by its place in the program, its arguments, all that it was resumed with, and the
 -- request at which it stands.
@@ -50,14 +61,14 @@ abbrev pub generator : ℕ → List Value → Generator
 generator coroutine arguments =
     record { coroutine = coroutine; arguments = arguments; tape = []; standing = Asked }
 
--- a run of a program begins, over what the outside will answer
+-- A run of a program begins, over what the outside will answer. So far no listener, connection or child can be numbered.
 abbrev pub start : {S : Type 0} → S → Program → List Entry → State S
 start extra program answers =
     record {
       program = program;
       extra = extra;
       loop = first_loop;
-      streams = no_streams;
+      streams = no_streams 0;
       generators = generator (place_of program main_text) [] ∷ [];
       futures = [];
       main_done = false;
@@ -75,6 +86,9 @@ with_loop loop s = record s { loop = loop }
 -- the parts, changed by something that the ledger doesn't book
 abbrev pub unbooked_in : {S : Type 0} → (Parts → Parts) → State S → State S
 unbooked_in change s = in_loop (in_parts change) s
+
+abbrev pub with_streams : {S : Type 0} → Streams → State S → State S
+with_streams streams s = record s { streams = streams }
 
 -- one event more
 abbrev pub noted : {S : Type 0} → Event → State S → State S

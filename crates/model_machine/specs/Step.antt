@@ -11,7 +11,8 @@ use Rattle.model_loop.specs.Parts.{Parts}
 use Rattle.model_loop.specs.Tasks.{begin_step, finish}
 use Rattle.model_machine.specs.Extra.{Extra}
 use Rattle.model_machine.specs.Replies.{RequestReply, Answers, Raises, Rests, Halts, reply, decides}
-use Rattle.model_machine.specs.State.{Standing, Asked, Sleeping, Leaving, Serving, State, generator_of, resumed, stands, unbooked_in}
+use Rattle.model_machine.specs.State.{Standing, Asked, Sleeping, Leaving, Serving, Connecting, Yielding, Reading, ReadingAll, State, generator_of, resumed}
+use Rattle.model_machine.specs.State.{stands, unbooked_in}
 use Rattle.model_machine.specs.Went.{Went, Goes, Stops}
 
 -- the handle of a sleep is given up as its task is resumed, for whatever reason
@@ -20,6 +21,10 @@ given_up Asked p = p
 given_up (Sleeping tag) p = revoke tag p
 given_up (Leaving group) p = p
 given_up (Serving key) p = p
+given_up (Connecting conn) p = p
+given_up (Yielding whom) p = p
+given_up (Reading from op on) p = p
+given_up (ReadingAll from taken on) p = p
 
 -- How often a coroutine may be answered in the step that this tape begins: each statement asks twice at most, as a `with`
 -- does, and for each input on a tape so many statements may begin. It is never answered so often.

@@ -4,22 +4,29 @@ use Rattle.model_value.specs.declared.action.Action.TheVariants as action
 use Rattle.model_value.specs.declared.input.Input.TheVariants.{Send, Throw}
 use Rattle.model_value.specs.declared.outcome.Outcome.TheVariants.{Value as Returned}
 use Rattle.model_value.specs.Action.{Action}
-use Rattle.model_value.specs.Value.{Nothing, Outcome}
+use Rattle.model_value.specs.Value.{Nothing, Conn, Outcome}
 use Rattle.model_wire.specs.declared.event.End.TheVariants as end
 use Rattle.model_wire.specs.declared.event.Event.TheVariants as event
 use Rattle.model_wire.specs.Call.{Call, Answer}
 use Rattle.model_wire.specs.declared.watch.Watch.{Watch}
 use Rattle.model_loop.specs.Circles.{circle_fault}
 use Rattle.model_loop.specs.Ending.{cancel_everything}
-use Rattle.model_loop.specs.Futures.{settle}
+use Rattle.model_loop.specs.Futures.{future_outcome, next_future, register, settle}
 use Rattle.model_loop.specs.Groups.{child_done}
 use Rattle.model_loop.specs.Handles.{due, soon_all}
 use Rattle.model_loop.specs.Parts.{Handle, Parts, Timer}
+use Rattle.model_loop.specs.Tasks.{future_of, next_task, spawn}
 use Rattle.model_loop.specs.Timeouts.{fire}
+use Rattle.model_wire.specs.declared.event.Handed.TheVariants as to
+use Rattle.model_stream.specs.Doing.{Doing}
+use Rattle.model_stream.specs.Requests.{close}
+use Rattle.model_stream.specs.Streams.{Streams, act, handler_of}
+use Rattle.model_machine.specs.Does.{does}
+use Rattle.model_machine.specs.Replies.{most_ids}
 use Rattle.model_machine.specs.Extra.{Extra, called}
 use Rattle.model_machine.specs.Outside.{news_of, select, time_of, watched}
 use Rattle.model_machine.specs.Outcomes.{end_of, finished_as, woken_with}
-use Rattle.model_machine.specs.State.{State, in_loop, noted, unbooked_in}
+use Rattle.model_machine.specs.State.{State, in_loop, noted, unbooked_in, with_coroutine, with_streams}
 use Rattle.model_machine.specs.Step.{step}
 use Rattle.model_machine.specs.Went.{Went, Goes, Stops, ask, went_on}
 
@@ -85,6 +92,38 @@ abbrev pub turn_over : {S : Type 0} → (done_before : Bool) → State S → Wen
 turn_over done_before s =
     let left = cancelled_if (s.main_done && not done_before) s in finished_if (finished_as left) left
 
+-- ---- callbacks of listeners, connections and children
+abbrev pub goes_with : {S : Type 0} → Streams → State S → Went S
+goes_with streams s = Goes (with_streams streams s)
+
+abbrev pub streams_go : {S : Type 0} → Doing Streams → State S → Went S
+streams_go tree s = does Stops tree goes_with s
+
+-- whether a task neither failed nor was cancelled
+abbrev pub is_returned : Option Outcome → Bool
+is_returned (Some (Returned value)) = true
+is_returned _ = false
+
+abbrev pub has_returned : Parts → (task : ℕ) → Bool
+has_returned p task = is_returned (future_outcome p (future_of p task))
+
+-- one that doesn't go by how a task ended
+abbrev pub streams_act : {S : Type 0} → Action → State S → Went S
+streams_act it s = streams_go (act (next_future s.loop.parts) true it s.streams) s
+
+-- The handler of a connection is a task with the connection as its argument, and its end is told. Where no more tasks can be
+-- numbered, the connection is closed.
+abbrev pub handled_if : {S : Type 0} → (numbered : Bool) → (coroutine conn : ℕ) → State S → Went S
+handled_if true coroutine conn s =
+    let task = next_task s.loop.parts in
+    let made = with_coroutine coroutine (Conn conn ∷ []) (unbooked_in spawn s) in
+    Goes (unbooked_in (register (future_of made.loop.parts task) (action.HandlerDone conn task)) made)
+handled_if false coroutine conn s = streams_go (close (to.Conn conn) s.streams) s
+
+abbrev pub made_by : {S : Type 0} → Option ℕ → (conn : ℕ) → State S → Went S
+made_by None conn s = Goes s
+made_by (Some coroutine) conn s = handled_if (nat_lt (next_task s.loop.parts) most_ids) coroutine conn s
+
 -- ---- handles
 module _ {S : Type 0} (limit : ℕ) (added : Extra S) where
   -- what a handle does
@@ -99,8 +138,19 @@ module _ {S : Type 0} (limit : ℕ) (added : Extra S) where
   effect action.MainDone s = Goes (record s { main_done = true })
   effect (action.ExtraItem code bytes) s = Goes (called (added.item code bytes s) s)
   effect (action.Extra key) s = Goes (called (added.act key s) s)
-  -- callbacks of connections and children, of which nothing is defined here so far
-  effect _ s = Goes s
+  effect (action.Made conn) s = made_by (handler_of conn s.streams) conn s
+  effect (action.HandlerDone conn task) s =
+      streams_go (act (next_future s.loop.parts) (has_returned s.loop.parts task) (action.HandlerDone conn task) s.streams) s
+  effect (action.StartRead conn) s = streams_act (action.StartRead conn) s
+  effect (action.Lost conn broken) s = streams_act (action.Lost conn broken) s
+  effect (action.ReadableServer server) s = streams_act (action.ReadableServer server) s
+  effect (action.Readable conn) s = streams_act (action.Readable conn) s
+  effect (action.Writable conn) s = streams_act (action.Writable conn) s
+  effect (action.Up conn) s = streams_act (action.Up conn) s
+  effect (action.Down conn) s = streams_act (action.Down conn) s
+  effect (action.WritableChild child) s = streams_act (action.WritableChild child) s
+  effect (action.ChildItem child told) s = streams_act (action.ChildItem child told) s
+  effect (action.LostChild child broken) s = streams_act (action.LostChild child broken) s
 
   -- a dead handle does nothing
   abbrev pub ran : (dead : Bool) → Action → State S → Went S

@@ -30,17 +30,28 @@ answers_in [] = 0
 answers_in (event.Got answer ∷ events) = suc (answers_in events)
 answers_in (_ ∷ events) = answers_in events
 
+-- `halts` is how the run ends there: in a callback or in a request.
+module _ {S R : Type 0} (halts : End → State S → R) where
+  abbrev pub fitted_so : Bool → Call → Answer → (Answer → State S → R) → State S → R
+  fitted_so true call answer next s = next answer s
+  fitted_so false call answer next s = halts (end.Mismatch (answers_in s.events) call) s
+
+  abbrev pub answered_so : List Entry → Call → (Answer → State S → R) → State S → R
+  answered_so [] call next s = halts (end.Over call) s
+  answered_so (Refused line cause ∷ entries) call next s = halts (end.JournalRefused line cause) s
+  answered_so (Answered answer ∷ entries) call next s =
+      fitted_so (fits call answer) call answer next (noted (event.Got answer) (record s { answers = entries }))
+
+  -- The outside is asked, and what comes next goes by its answer. The run ends where there is none, where a line that is none
+  -- stands in its place, and where it doesn't fit.
+  abbrev pub ask_so : Call → (Answer → State S → R) → State S → R
+  ask_so call next s = answered_so s.answers call next (noted (event.Called call) s)
+
 abbrev pub fitted : {S : Type 0} → Bool → Call → Answer → (Answer → State S → Went S) → State S → Went S
-fitted true call answer next s = next answer s
-fitted false call answer next s = Stops (end.Mismatch (answers_in s.events) call) s
+fitted = fitted_so Stops
 
 abbrev pub answered_by : {S : Type 0} → List Entry → Call → (Answer → State S → Went S) → State S → Went S
-answered_by [] call next s = Stops (end.Over call) s
-answered_by (Refused line cause ∷ entries) call next s = Stops (end.JournalRefused line cause) s
-answered_by (Answered answer ∷ entries) call next s =
-    fitted (fits call answer) call answer next (noted (event.Got answer) (record s { answers = entries }))
+answered_by = answered_so Stops
 
--- The outside is asked, and what comes next goes by its answer. The run ends where there is none, where a line that is none
--- stands in its place, and where it doesn't fit.
 abbrev pub ask : {S : Type 0} → Call → (Answer → State S → Went S) → State S → Went S
-ask call next s = answered_by s.answers call next (noted (event.Called call) s)
+ask = ask_so Stops

@@ -4,6 +4,7 @@ pub mod Coroutines
 pub mod Groups
 pub mod Outputs
 pub mod Reading
+pub mod Streams
 pub mod Timeouts
 pub mod Turns
 pub mod Words

@@ -7,6 +7,7 @@ pub mod cancels;
 pub mod coroutines;
 pub mod groups;
 pub mod outputs;
+pub mod streams;
 pub mod timeouts;
 pub mod turns;
 pub mod words;

@@ -3,14 +3,17 @@ use Rattle.std.proofs.lemmas.Result.{IfOk-weaker}
 use Rattle.model_value.specs.Request.{Request}
 use Rattle.model_value.specs.Value.{Task}
 use Rattle.model_machine.specs.Extra.{Extra}
-use Rattle.model_machine.specs.Replies as plain
-use Rattle.model_machine.specs.Replies.{reply, undefined}
+use Rattle.model_machine.specs.Replies.{reply}
+use Rattle.model_says.specs.Requests.{bad_argument}
 use Rattle.model_machine.specs.State.{State}
 use Rattle.aio_body.specs.declared.reply.RequestReply.TheVariants.{Answers}
 use Rattle.aio_body.specs.Asked.{MayAsk}
 use Rattle.law_body.proofs.May.{going_of, some_of}
 use Rattle.aio_serve.proofs.Meaning.{current_means}
 use Rattle.aio_serve.proofs.Saying.{answers_so, raises_so}
+use Rattle.aio_serve.proofs.Streams.{IsRefused, listen_none, connect_none, launch_none, write_none, write_eof_none, close_none, wait_closed_none}
+use Rattle.aio_serve.proofs.Streams.{drain_none, limits_none, read_none, read_exactly_none, read_until_none, read_line_none, standard_error_none, wait_none}
+use Rattle.aio_serve.proofs.Streams.{code_none, kill_none}
 use Rattle.aio_serve.proofs.table.reply.Goals as goal
 
 pub pause-requires : goal.pause-requires
@@ -142,42 +145,61 @@ returns-in-Current g c at s h =
     answers_so c.args.task at c.args.body.now s _ _ (Task c.args.task) (ap Answers c.task.ensures)
     (ap (λ r. reply g.X.Extra.added.meaning c.args.task r s) c.in-Current.is ∙ current_means g.X.Extra.added.meaning c.args.task s) h.going.in_step
 
--- nothing is defined of connections and children
-module _ {S : Type 0} (added : Extra S) (task : ℕ) (s : State S) (r : Request) where
-  abbrev IsUndefined : Type 0
-  IsUndefined = reply added task r s ≡ plain.Raises undefined s
+-- ---- listeners, connections and children
+pub returns-in-Listen : goal.returns-in-Listen
+returns-in-Listen g c =
+    IfOk-weaker c.open_port.result _ _ (λ said e at s h.
+    raises_so c.args.task at c.args.body.now s said _ _ e
+    (ap (λ r. reply g.X.Extra.added.meaning c.args.task r s) c.in-Listen.is
+    ∙ listen_none g.X.Extra.added.meaning c.args.task s h.going.sound.others.closed _ _) h.going.in_step)
+    c.open_port.ensures
 
-  either : {A B : Type 0} → A ⊎ B → (A → IsUndefined) → (B → IsUndefined) → IsUndefined
+pub returns-in-Connect : goal.returns-in-Connect
+returns-in-Connect g c =
+    IfOk-weaker c.open_port.result _ _ (λ said e at s h.
+    raises_so c.args.task at c.args.body.now s said _ _ e
+    (ap (λ r. reply g.X.Extra.added.meaning c.args.task r s) c.in-Connect.is
+    ∙ connect_none g.X.Extra.added.meaning c.args.task s h.going.sound.others.closed _) h.going.in_step)
+    c.open_port.ensures
+
+pub returns-in-Launch : goal.returns-in-Launch
+returns-in-Launch g c =
+    IfOk-weaker c.launch.result _ _ (λ said e at s h.
+    raises_so c.args.task at c.args.body.now s said _ _ e
+    (ap (λ r. reply g.X.Extra.added.meaning c.args.task r s) c.in-Launch.is
+    ∙ launch_none g.X.Extra.added.meaning c.args.task s h.going.sound.others.closed _) h.going.in_step)
+    c.launch.ensures
+
+-- those that name one
+module _ {S : Type 0} (added : Extra S) (task : ℕ) (s : State S) (r : Request) where
+  either : {A B : Type 0} → A ⊎ B → (A → IsRefused added task s r) → (B → IsRefused added task s r) → IsRefused added task s r
   either (inl a) f g = f a
   either (inr b) f g = g b
 
-  by : (other : Request) → r ≡ other → reply added task other s ≡ plain.Raises undefined s → IsUndefined
+  by : (other : Request) → r ≡ other → IsRefused added task s other → IsRefused added task s r
   by other same e = ap (λ x. reply added task x s) same ∙ e
 
 pub returns : goal.returns
-unfolding reply
 returns g c =
     let task = c.args.task in
     let asked = c.args.request in
     let m = g.X.Extra.added.meaning in
-    IfOk-weaker c.undefined.result _ _ (λ said e at s h.
-    raises_so task at c.args.body.now s said _ undefined e (
-    either m task s asked c.in-Listen.is (λ w. by m task s asked _ w.2 refl) (λ v.
-    either m task s asked v (λ w. by m task s asked _ w.1 refl) (λ v.
-    either m task s asked v (λ w. by m task s asked _ w.2 refl) (λ v.
-    either m task s asked v (λ w. by m task s asked _ w.1 refl) (λ v.
-    either m task s asked v (λ w. by m task s asked _ w.1 refl) (λ v.
-    either m task s asked v (λ w. by m task s asked _ w.1 refl) (λ v.
-    either m task s asked v (λ w. by m task s asked _ w.1 refl) (λ v.
-    either m task s asked v (λ w. by m task s asked _ w.3 refl) (λ v.
-    either m task s asked v (λ w. by m task s asked _ w.2 refl) (λ v.
-    either m task s asked v (λ w. by m task s asked _ w.2 refl) (λ v.
-    either m task s asked v (λ w. by m task s asked _ w.2 refl) (λ v.
-    either m task s asked v (λ w. by m task s asked _ w.1 refl) (λ v.
-    either m task s asked v (λ w. by m task s asked _ w.1 refl) (λ v.
-    either m task s asked v (λ w. by m task s asked _ w.1 refl) (λ v.
-    either m task s asked v (λ w. by m task s asked _ w.1 refl) (λ v.
-    either m task s asked v (λ w. by m task s asked _ w.1 refl) (λ v.
-    by m task s asked _ v.1 refl))))))))))))))))
+    IfOk-weaker c.bad_argument.result _ _ (λ said e at s h.
+    let closed = h.going.sound.others.closed in
+    raises_so task at c.args.body.now s said _ bad_argument e (
+    either m task s asked c.in-Write.is (λ w. by m task s asked _ w.2 (write_none m task s closed _ _)) (λ v.
+    either m task s asked v (λ w. by m task s asked _ w.1 (write_eof_none m task s closed _)) (λ v.
+    either m task s asked v (λ w. by m task s asked _ w.1 (close_none m task s closed _)) (λ v.
+    either m task s asked v (λ w. by m task s asked _ w.1 (wait_closed_none m task s closed _)) (λ v.
+    either m task s asked v (λ w. by m task s asked _ w.1 (drain_none m task s closed _)) (λ v.
+    either m task s asked v (λ w. by m task s asked _ w.3 (limits_none m task s closed _ _ _)) (λ v.
+    either m task s asked v (λ w. by m task s asked _ w.2 (read_none m task s closed _ _)) (λ v.
+    either m task s asked v (λ w. by m task s asked _ w.2 (read_exactly_none m task s closed _ _)) (λ v.
+    either m task s asked v (λ w. by m task s asked _ w.2 (read_until_none m task s closed _ _)) (λ v.
+    either m task s asked v (λ w. by m task s asked _ w.1 (read_line_none m task s closed _)) (λ v.
+    either m task s asked v (λ w. by m task s asked _ w.1 (standard_error_none m task s closed _)) (λ v.
+    either m task s asked v (λ w. by m task s asked _ w.1 (wait_none m task s closed _)) (λ v.
+    either m task s asked v (λ w. by m task s asked _ w.1 (code_none m task s closed _)) (λ v.
+    by m task s asked _ v.1 (kill_none m task s closed _))))))))))))))
     ) h.going.in_step)
-    c.undefined.ensures
+    c.bad_argument.ensures
