@@ -1,36 +1,46 @@
--- An example: whatever streams and children do is a row of changes, and one lemma says so for each of their requests.
-use Rattle.std.proofs.Common.{Bool, true, false, List, [], ◌∷◌}
+-- Whatever streams and children do is a row of changes, in a callback and in a request, and one lemma says so for each of them.
+use Rattle.std.proofs.Common.{◌≡◌, Bool, true, false, List, [], ◌∷◌, sym, subst}
 use Rattle.model_wire.specs.declared.event.Event.TheVariants as event
 use Rattle.model_wire.specs.Call.{Answer, Call}
 use Rattle.model_wire.specs.Fits.{fits}
 use Rattle.model_wire.specs.Journal.{Entry, Answered, Refused}
+use Rattle.model_wire.specs.Trace.{End}
+use Rattle.model_stream.specs.Doing as doing
 use Rattle.model_stream.specs.Doing.{Doing, Ends, Changes, Asks}
+use Rattle.model_machine.specs.Does.{changed, does}
 use Rattle.model_machine.specs.State.{State, noted, unbooked_in}
-use Rattle.model_machine.specs.Went.{Went, answered_by, ask, fitted, state_of}
-use Rattle.law_changes.specs.Changes.{OfParts, made_of_parts}
-use Rattle.law_changes.specs.Reaches.{goes, stays}
+use Rattle.model_machine.specs.Went.{answered_so, ask_so, fitted_so}
+use Rattle.law_changes.specs.Changes.{OfParts}
+use Rattle.law_changes.specs.Reaches.{goes}
 use Rattle.law_changes.proofs.Folds.{on, one}
 use Rattle.law_reach.specs.Changes.{Calls, Gets, OfLoop}
 use Rattle.law_reach.specs.Reaches.{InRun}
-use Rattle.law_reach.specs.Streams.{done_by, of_doing}
+use Rattle.law_reach.specs.Streams.{of_doing}
 
-module _ {S : Type 0} where
-  asked_row : (call : Call) (next : Answer → State S → Went S) (s : State S) → ((answer : Answer) (t : State S) → InRun t (state_of (next answer t)))
-      → InRun s (state_of (ask call next s))
+module _ {S R : Type 0} (left : R → State S) (halts : End → State S → R) (stays : (how : End) (t : State S) → left (halts how t) ≡ t) where
+  halted : (how : End) {s t : State S} → InRun s t → InRun s (left (halts how t))
+  halted how {s} {t} row = subst (InRun s) (sym (stays how t)) row
+
+  asked_row : (call : Call) (next : Answer → State S → R) (s : State S) → ((answer : Answer) (t : State S) → InRun t (left (next answer t)))
+      → InRun s (left (ask_so halts call next s))
   asked_row call next s each = by s.answers
     where
-      fit : (b : Bool) (answer : Answer) (t : State S) → InRun t (state_of (fitted b call answer next t))
-      fit true answer t = each answer t
-      fit false answer t = stays
+      fit : (b : Bool) (answer : Answer) {t : State S} → InRun s t → InRun s (left (fitted_so halts b call answer next t))
+      fit true answer row = on row (each answer _)
+      fit false answer row = halted _ row
 
-      by : (entries : List Entry) → InRun s (state_of (answered_by entries call next (noted (event.Called call) s)))
-      by [] = one (Calls call) tt
-      by (Refused line cause ∷ entries) = one (Calls call) tt
-      by (Answered answer ∷ entries) = on (goes (one (Calls call) tt) (Gets answer entries) tt) (fit (fits call answer) answer _)
+      by : (entries : List Entry) → InRun s (left (answered_so halts entries call next (noted (event.Called call) s)))
+      by [] = halted _ (one (Calls call) tt)
+      by (Refused line cause ∷ entries) = halted _ (one (Calls call) tt)
+      by (Answered answer ∷ entries) = fit (fits call answer) answer (goes (one (Calls call) tt) (Gets answer entries) tt)
 
-  pub done_row : {A : Type 0} (tree : Doing A) (next : A → State S → Went S) (s : State S) → ((it : A) (t : State S) → InRun t (state_of (next it t)))
-      → InRun s (state_of (done_by tree next s))
+  change_row : (change : doing.Change) (s : State S) → InRun s (unbooked_in (changed change) s)
+  change_row doing.MakeFuture s = one (OfLoop (OfParts (of_doing doing.MakeFuture))) tt
+  change_row (doing.CallSoon action) s = one (OfLoop (OfParts (of_doing (doing.CallSoon action)))) tt
+  change_row (doing.Settle future outcome) s = one (OfLoop (OfParts (of_doing (doing.Settle future outcome)))) tt
+
+  pub done_row : {A : Type 0} (tree : Doing A) (next : A → State S → R) (s : State S) → ((it : A) (t : State S) → InRun t (left (next it t)))
+      → InRun s (left (does halts tree next s))
   done_row (Ends result) next s each = each result s
-  done_row (Changes change rest) next s each =
-      on (one (OfLoop (OfParts (of_doing change))) tt) (done_row rest next (unbooked_in (made_of_parts (of_doing change)) s) each)
-  done_row (Asks call rest) next s each = asked_row call (λ answer. done_by (rest answer) next) s (λ answer t. done_row (rest answer) next t each)
+  done_row (Changes change rest) next s each = on (change_row change s) (done_row rest next (unbooked_in (changed change) s) each)
+  done_row (Asks call rest) next s each = asked_row call (λ answer. does halts (rest answer) next) s (λ answer t. done_row (rest answer) next t each)

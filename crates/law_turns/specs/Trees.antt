@@ -7,8 +7,7 @@ use Rattle.model_loop.specs.Loop.{Loop, in_parts}
 use Rattle.model_loop.specs.Owning.{is_plain}
 use Rattle.model_stream.specs.Doing as doing
 use Rattle.model_stream.specs.Doing.{Doing, Ends, Changes, Asks}
-use Rattle.law_changes.specs.Changes.{made_of_parts}
-use Rattle.law_reach.specs.Streams.{of_doing}
+use Rattle.model_machine.specs.Does.{changed}
 use Rattle.law_settling.specs.Frames.{is_followed}
 use Rattle.law_timeouts.specs.Tags.{is_deadline}
 
@@ -20,5 +19,5 @@ FitsChange (doing.Settle future outcome) l = is_plain l.parts future ≡ true
 -- each of its changes, in the loop that it changes
 abbrev pub FitsTree : {A : Type 0} → Doing A → Loop → Type 0
 FitsTree (Ends result) l = Unit {0}
-FitsTree (Changes change rest) l = FitsChange change l × FitsTree rest (in_parts (made_of_parts (of_doing change)) l)
+FitsTree (Changes change rest) l = FitsChange change l × FitsTree rest (in_parts (changed change) l)
 FitsTree (Asks call rest) l = (answer : Answer) → fits call answer ≡ true → FitsTree (rest answer) l
