@@ -1,11 +1,11 @@
 -- What happens to the machine's futures and tasks appends handles, and changes nothing else: the time and the timers stay, and
 -- stamps and tags are given one after the other.
-use Rattle.std.proofs.Common.{◌≡◌, ℕ, ◌+◌, ◌<◌, ◌≤◌, ◌⊎◌, Bool, true, false, List, [], ◌∷◌, ◌++◌, Option, Some, None, Result, Ok, Err, length, slice_get}
-use Rattle.std.proofs.Common.{slice_set, refl, ap, sym, subst, ◌∙◌, inl, inr, arith, length-append, if◌then◌else◌}
+use Rattle.std.proofs.Common.{◌≡◌, ℕ, ◌+◌, ◌<◌, ◌≤◌, ◌⊎◌, false, List, [], ◌∷◌, ◌++◌, Option, Some, None, Result, Ok, Err, length, slice_get}
+use Rattle.std.proofs.Common.{slice_set, refl, ap, sym, subst, ◌∙◌, inl, inr, arith, length-append}
 use Rattle.std.proofs.Math.ListN.{length-set}
 use Rattle.std.specs.Option.{option_map_or}
 use Rattle.std.proofs.lemmas.Bool.{cases_eq}
-use Rattle.model_value.specs.Action.{Action, Circle}
+use Rattle.model_value.specs.Action.{Action}
 use Rattle.model_value.specs.declared.action.Action.TheVariants.{Step, StepInCircle, Wakeup}
 use Rattle.model_value.specs.declared.outcome.Outcome.TheVariants.{Cancelled}
 use Rattle.model_value.specs.Input.{Input}
@@ -13,13 +13,15 @@ use Rattle.model_value.specs.Value.{Outcome, Value, Exc}
 use Rattle.model_loop.specs.Parts.{FutureKind, OfTask, Future, Task, Parts}
 use Rattle.model_loop.specs.Handles.{soon, soon_all}
 use Rattle.model_loop.specs.Futures.{with_future, settle, settled, settled_as, register, registered, registered_on, mark_asked, make_future, next_future}
-use Rattle.model_loop.specs.Tasks.{change_task, spawn, next_task, set_waiter, unmark, is_marked, begin_step, finish, uncancel}
+use Rattle.model_loop.specs.Tasks.{change_task, spawn, next_task, set_waiter, unmark, begin_step, finish, uncancel}
 use Rattle.model_loop.specs.Cancel.{cancel}
-use Rattle.model_loop.specs.Circles.{circle}
-use Rattle.model_loop.specs.Suspend.{wait_on, cancel_wait, suspend_unless, suspend}
+use Rattle.model_loop.specs.Suspend.{suspend}
 use Rattle.law_cancel.proofs.Lookups.{get-set_same, get-set_other, get-push_other}
 use Rattle.law_cancel.proofs.Effects.{done_as, asked_as}
-use Rattle.law_cancel.proofs.Trace.{Goes, begins, settles, asks, raises, marks, with_row}
+use Rattle.law_changes.specs.Blocks.{OfRequest, cancels, keeps_asked, counts, marks, OfWait, circles, registers_step, begins_wait, in_wait, unmarks}
+use Rattle.law_changes.specs.Changes.{PartsChange, made_of_parts}
+use Rattle.law_changes.proofs.Folds.{fold}
+use Rattle.law_changes.proofs.PartsRows.{cancel_in, suspend_in}
 use Rattle.law_parts.specs.Quiet.{stage_of, stage}
 use Rattle.aio_task.specs.Keeps.{Ties, Extends}
 use Rattle.law_handles.proofs.Appending.{extends_still}
@@ -225,15 +227,14 @@ only_spawn p =
     (only_soon (Step (next_task p)) q)
 
 -- ---- requests
-only_goes : {s : List ℕ} {p : Parts} {t : List ℕ} {q : Parts} → Goes s p t q → OnlyAppends p q
-only_goes {p = p} begins = only_same p
-only_goes {p = p} (settles {q = q} g id future e o k) = only_on p q _ (only_goes g) (only_settle id Cancelled q)
-only_goes {p = p} (asks {q = q} g id future members asked e o k) = only_on p q _ (only_goes g) (appends (changes_ask id q))
-only_goes {p = p} (raises {q = q} g id task n e) = only_on p q _ (only_goes g) (appends (changes_task id _ q))
-only_goes {p = p} (marks {q = q} g id) = only_on p q _ (only_goes g) (appends (changes_task id _ q))
+only_request : (change : PartsChange) (p : Parts) → OfRequest change p → OnlyAppends p (made_of_parts change p)
+only_request _ p (cancels future) = only_settle future Cancelled p
+only_request _ p (keeps_asked future) = appends (changes_ask future p)
+only_request _ p (counts task) = appends (changes_task task _ p)
+only_request _ p (marks task) = appends (changes_task task _ p)
 
 pub only_cancel : (id : ℕ) (p : Parts) → OnlyAppends p (cancel id p).parts
-only_cancel id p = only_goes (with_row id [] p)
+only_cancel id p = fold OnlyAppends only_same only_on only_request (cancel_in id p)
 
 -- ---- steps
 pub changes_begin : (task : ℕ) (input : Input) (p : Parts) → OnlyChanges p (begin_step task input p).parts
@@ -244,25 +245,15 @@ pub only_finish : (task : ℕ) (end : Result Value Exc) (p : Parts) → OnlyAppe
 only_finish task (Ok value) p = only_on p (unmark task p) _ (appends (changes_task task _ p)) (only_settle _ _ (unmark task p))
 only_finish task (Err fault) p = only_settle _ _ p
 
-only_wait : (task on : ℕ) (p : Parts) → OnlyAppends p (wait_on task on p)
-only_wait task on p =
-    let q = register on (Wakeup task) p in only_on p q _ (only_register on (Wakeup task) p) (appends (changes_task task _ q))
-
-only_cancel_wait : (marked : Bool) (task on : ℕ) (p : Parts) → OnlyAppends p (cancel_wait marked task on p).parts
-only_cancel_wait false task on p = only_same p
-only_cancel_wait true task on p = at (cancel on p).answer
-  where
-    at : (b : Bool) → OnlyAppends p (if b then unmark task (cancel on p).parts else (cancel on p).parts)
-    at true = only_on p (cancel on p).parts _ (only_cancel on p) (appends (changes_task task _ (cancel on p).parts))
-    at false = only_cancel on p
+only_wait : (task on : ℕ) (change : PartsChange) (p : Parts) → OfWait task on change p → OnlyAppends p (made_of_parts change p)
+only_wait task on _ p (circles why) = only_soon (StepInCircle task why) p
+only_wait task on _ p registers_step = only_register on (Wakeup task) p
+only_wait task on _ p begins_wait = appends (changes_task task _ p)
+only_wait task on change p (in_wait it) = only_request change p it
+only_wait task on _ p unmarks = appends (changes_task task _ p)
 
 pub only_suspend : (task on : ℕ) (p : Parts) → OnlyAppends p (suspend task on p).parts
-only_suspend task on p = at (circle p task on)
-  where
-    at : (o : Option Circle) → OnlyAppends p (suspend_unless o task on p).parts
-    at (Some why) = only_soon (StepInCircle task why) p
-    at None =
-        only_on p (wait_on task on p) _ (only_wait task on p) (only_cancel_wait (is_marked p task) task on (wait_on task on p))
+only_suspend task on p = fold OnlyAppends only_same only_on (only_wait task on) (suspend_in task on p)
 
 -- ---- where no tag is given
 changes_ties : (t : Ties) (p q : Parts) → OnlyChanges p q → Extends p t q t
