@@ -13,11 +13,12 @@ use Rattle.model_pump.specs.declared.stream.Stream.TheVariants as stream
 use Rattle.model_pump.specs.Commands.{Command}
 use Rattle.model_pump.specs.Posts.{Post, PostKind}
 use Rattle.model_hub.specs.declared.child.Child.{Child}
+use Rattle.model_hub.specs.declared.giving.Giving.TheVariants.{Full, Spent}
 use Rattle.model_hub.specs.declared.pump.Pump.{Pump}
 use Rattle.model_hub.specs.declared.pump.Pump.TheVariants as pump
 use Rattle.model_hub.specs.Children.{runs}
 use Rattle.model_hub.specs.Hub.{Hub, of_child}
-use Rattle.model_hub.specs.Others.{Offer, OfGo, OfClose, OfWrite, Lanes, Full, Spent, Polled, Ready, PollFailed, PollStarved, Others, Said, Got, Failed, Memory}
+use Rattle.model_hub.specs.Others.{Offer, OfGo, OfClose, OfWrite, Lanes, Polled, Ready, PollFailed, PollStarved, Others, Said, Got, Failed, Memory}
 use Rattle.model_hub.specs.Lanes.{serve}
 use Rattle.model_hub.specs.Gathering.{begin, are_taken}
 use Rattle.model_hub.specs.Select.{polled_watch, polled_wait}

@@ -13,7 +13,8 @@ use Rattle.model_hub.specs.declared.child.Seats.{Seats}
 use Rattle.model_hub.specs.Children.{new_child, runs, waiting, is_unasked, is_owed}
 use Rattle.model_hub.specs.Hub.{Hub, of_child, with_child}
 use Rattle.model_pump.specs.Commands.{Command}
-use Rattle.model_hub.specs.Others.{Lanes, Giving, OfClose, OfWrite, Launching, Started, NotStarted, NoMemory, Others, Said, Got, Failed, Memory, is_given}
+use Rattle.model_hub.specs.declared.giving.Giving.{Giving}
+use Rattle.model_hub.specs.Others.{Lanes, OfClose, OfWrite, Launching, Started, NotStarted, NoMemory, Others, Said, Got, Failed, Memory, is_given}
 use Rattle.model_hub.specs.Lanes.{serve, serve_child, after_close, if_given, gos_to, closes_to}
 use Rattle.model_hub.specs.Gathering.{most_waiting}
 use Rattle.model_hub.specs.Select.{select}

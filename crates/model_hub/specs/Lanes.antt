@@ -13,7 +13,9 @@ use Rattle.model_hub.specs.declared.child.Closing.{Closing}
 use Rattle.model_hub.specs.declared.child.Closing.TheVariants.{Owed, Closed, Unclosable}
 use Rattle.model_hub.specs.Children.{flow_of, with_flow, runs, is_owed}
 use Rattle.model_pump.specs.Commands.{Command}
-use Rattle.model_hub.specs.Others.{OfGo, OfClose, Lanes, Giving, Given, Full, Spent, is_given}
+use Rattle.model_hub.specs.declared.giving.Giving.{Giving}
+use Rattle.model_hub.specs.declared.giving.Giving.TheVariants.{Given, Full, Spent}
+use Rattle.model_hub.specs.Others.{OfGo, OfClose, Lanes, is_given}
 use Rattle.model_hub.specs.Hub.{Hub}
 
 abbrev pub is_wanted : List Watch → Stream → Child → Bool

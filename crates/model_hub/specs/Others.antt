@@ -2,6 +2,8 @@
 use Rattle.std.specs.Prelude.{ℕ, Bool, true, false, List}
 use Rattle.model_wire.specs.Call.{Item, Answer}
 use Rattle.model_pump.specs.declared.stream.Stream.{Stream}
+use Rattle.model_hub.specs.declared.giving.Giving.{Giving}
+use Rattle.model_hub.specs.declared.giving.Giving.TheVariants.{Given, Full, Spent}
 use Rattle.model_pump.specs.Posts.{Post}
 
 -- what one call offers to a lane of a child, at most once each: a Go to that of a stream, a Close or a Write to that of the
@@ -10,12 +12,6 @@ pub data Offer : Type 0 where
   OfGo : Stream → Offer
   OfClose : Offer
   OfWrite : Offer
-
--- what a lane answers to a command; a full one is tried again in the next call, a spent one never
-pub data Giving : Type 0 where
-  Given : Giving
-  Full : Giving
-  Spent : Giving
 
 abbrev pub is_given : Giving → Bool
 is_given Given = true

@@ -3,9 +3,11 @@
 #![tactic(auto)]
 
 mod child;
+mod giving;
 mod halt;
 mod pump;
 
 pub use child::{Child, Closing, Flow, Seats, Stay};
+pub use giving::Giving;
 pub use halt::Halt;
 pub use pump::Pump;

@@ -16,7 +16,8 @@ use Rattle.model_hub.specs.declared.child.Seats.{Seats}
 use Rattle.model_hub.specs.Children.{new_child}
 use Rattle.model_hub.specs.Hub.{Hub}
 use Rattle.model_hub.specs.Told.{Kills, Launches}
-use Rattle.model_hub.specs.Others.{Lanes, Given, Full, Spent, Others, Ready, Back, Said, Got, Failed, Started}
+use Rattle.model_hub.specs.declared.giving.Giving.TheVariants.{Given, Full, Spent}
+use Rattle.model_hub.specs.Others.{Lanes, Others, Ready, Back, Said, Got, Failed, Started}
 
 -- so many times this
 abbrev pub times : {A : Type 0} → ℕ → A → List A

@@ -1,0 +1,3 @@
+pub mod Heads
+pub mod Served
+pub mod Fed
