@@ -142,6 +142,20 @@ impl Flow {
         self.unsent.len()
     }
 
+    /// Whether the end was written.
+    pub fn eof(&self) -> bool
+        ensures { result ≡ self.now.eof }
+    {
+        self.eof
+    }
+
+    /// Whether loss is scheduled or done.
+    pub fn ended(&self) -> bool
+        ensures { result ≡ self.now.ended }
+    {
+        self.ended
+    }
+
     /// Whether writing is paused.
     pub fn paused(&self) -> bool
         ensures { result ≡ self.now.paused }

@@ -1,5 +1,6 @@
 //! One reader.
-ghost use Rattle.std.specs.Prelude.{◌≡◌, ◌+◌, ◌^◌, ◌<◌, ◌≤◌, false, None, drop, length, IfOk, OnOk, OnErr};
+ghost use Rattle.std.specs.Prelude.{◌≡◌, ◌+◌, ◌^◌, ◌<◌, ◌≤◌, false, drop, length, IfOk, OnOk, OnErr};
+ghost use Rattle.std.specs.Option.{option_copied};
 ghost use Rattle.model_value.specs.declared.kind.Kind.TheVariants.{LimitOverrunError};
 ghost use Rattle.model_stream.specs.Reading as reading;
 ghost use Rattle.model_value.specs.Value.{exception_of};
@@ -65,7 +66,6 @@ impl Reader {
     /// A piece came.
     pub fn feed(&mut self, _alloc: Global, piece: &[u8]) -> Result<(), Memory>
         requires not_ended { self.old.eof ≡ false }
-        requires not_failed { self.old.failed ≡ None }
         ensures after { OnOk result (self.new ≡ reading.feed piece.now self.old) }
         ensures unchanged { OnErr result (self.new ≡ self.old) }
     {
@@ -86,6 +86,20 @@ impl Reader {
         ensures { self.new ≡ reading.fail exc self.old }
     {
         self.failed = Some(exc);
+    }
+
+    /// Whether the end came.
+    pub fn eof(&self) -> bool
+        ensures { result ≡ self.now.eof }
+    {
+        self.eof
+    }
+
+    /// The exception with which the connection was lost.
+    pub fn failed(&self) -> Option<&Exc>
+        ensures { option_copied result ≡ self.now.failed }
+    {
+        self.failed.as_ref()
     }
 
     /// Whether no more is to be received for now.
