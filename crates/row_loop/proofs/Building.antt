@@ -5,10 +5,10 @@ use Rattle.std.specs.List.{All, list_all}
 use Rattle.std.proofs.lemmas.Bool.{and_parts, false≢true, ltb-true}
 use Rattle.std.proofs.lemmas.List.Elements.{All-cons, All-nil}
 use Rattle.model_value.specs.Value.{Value, Nothing, Exc, Outcome}
-use Rattle.model_value.specs.declared.action.Action.TheVariants.{GroupDone, Fires, SleepDone}
+use Rattle.model_value.specs.declared.action.Action.TheVariants.{GroupDone, HandlerDone, Fires, SleepDone}
 use Rattle.model_value.specs.declared.input.Input.TheVariants.{Send}
 use Rattle.model_loop.specs.Children.{told_more}
-use Rattle.model_loop.specs.Futures.{is_pending, new_plain, new_many, next_future, settle}
+use Rattle.model_loop.specs.Futures.{is_pending, new_plain, new_many, next_future, register, settle}
 use Rattle.model_loop.specs.Groups.{new_group, group_of, make_group, enter_group, create, child_done, exit_begin}
 use Rattle.model_loop.specs.Handles.{due, later}
 use Rattle.model_loop.specs.Ledger.{ByScript, ask_cancel, uncancel_by}
@@ -27,6 +27,7 @@ use Rattle.law_timeouts.proofs.Quiet.{same_quiet}
 use Rattle.law_told.proofs.Holding.{looks_holds}
 use Rattle.law_sound.proofs.Carrying.{looks_carries}
 use Rattle.law_sound.proofs.GroupSteps as group
+use Rattle.law_sound.proofs.Registering.{register_step_sound}
 use Rattle.law_sound.proofs.Steps as step
 use Rattle.law_sound.proofs.TimeoutSteps as timeout
 
@@ -55,6 +56,9 @@ module _ {running : Option ℕ} {told : ℕ → List ℕ} {l : Loop} (s : IsSoun
 
   pub falls_due : IsSound running told (in_parts due l)
   falls_due = step.due_step_sound running told l s
+
+  pub hears : (future conn other : ℕ) → IsSound running told (in_parts (register future (HandlerDone conn other)) l)
+  hears future conn other = register_step_sound (HandlerDone conn other) refl refl running told refl future l s
 
   -- the clock tells a time
   pub at : (now : ℕ) → IsSound running told (record l { parts = record (l.parts) { time = now } })

@@ -6,9 +6,10 @@ use Rattle.model_loop.specs.Sound.{IsSound}
 use Rattle.law_sound.proofs.Beginning.{first_sound, nobody, no_loop_sound as nothing}
 use Rattle.row_loop.specs.Ledgers.{main_done}
 use Rattle.row_loop.specs.Standing.{PartsStand, Stands, bare}
-use Rattle.row_loop.specs.Steps.{awaited, nothing_made, one_task, paused, running, running_marked, running_over_none, sleeping, three_timers, two_due}
+use Rattle.row_loop.specs.Steps.{awaited, handled, handler_runs, nothing_made, one_task, paused, running, running_marked, running_over_none, sleeping}
+use Rattle.row_loop.specs.Steps.{three_timers, two_due}
 use Rattle.row_loop.specs.Steps.{woken_and_marked, woken_at_once}
-use Rattle.row_loop.proofs.Building.{asks, at, begins, below, falls_due, finishes, lowers, many, no_group, pauses, plain, sleeps, task, waits}
+use Rattle.row_loop.proofs.Building.{asks, at, begins, below, falls_due, finishes, hears, lowers, many, no_group, pauses, plain, sleeps, task, waits}
 
 pub nothing_made_stands : PartsStand None nothing_made
 nothing_made_stands = ([], (nobody, nothing))
@@ -55,6 +56,15 @@ awaited_stands =
     let made = many (plain (task (task nothing))) (2 ∷ 1 ∷ []) (below 3 (2 ∷ 1 ∷ []) refl) in
     let zero_ = pauses (begins made 0 refl refl refl) in
     ([], (nobody, begins (waits (begins zero_ 1 refl refl refl) 0 refl) 0 refl refl refl))
+
+child_handles : IsSound None nobody (bare handled [])
+child_handles = hears (task (task nothing)) 1 0 1
+
+pub handled_stands : PartsStand None handled
+handled_stands = ([], (nobody, child_handles))
+
+pub handler_runs_stands : PartsStand (Some 1) handler_runs
+handler_runs_stands = ([], (nobody, begins (pauses (begins child_handles 0 refl refl refl)) 1 refl refl refl))
 
 timers_wait : IsSound None nobody (bare three_timers [])
 timers_wait =

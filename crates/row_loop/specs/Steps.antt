@@ -1,7 +1,7 @@
 -- States before and after parts of a step.
 use Rattle.std.specs.Prelude.{ℕ, false, List, [], ◌∷◌}
 use Rattle.model_value.specs.Action.{Action}
-use Rattle.model_value.specs.declared.action.Action.TheVariants.{Step, Wakeup, MainDone, SleepDone}
+use Rattle.model_value.specs.declared.action.Action.TheVariants.{Step, Wakeup, MainDone, HandlerDone, SleepDone}
 use Rattle.model_value.specs.Value.{Outcome}
 use Rattle.model_loop.specs.Parts.{Plain, OfTask, Many, Future, Handle, Parts}
 use Rattle.row_loop.specs.Made.{waiting, ended, cancelled, resolved, waits, waits_marked, free, free_marked, handle, dead, timer, parts_of}
@@ -73,6 +73,21 @@ awaited pending next =
     parts_of
     (waiting (OfTask 0) (Wakeup 1 ∷ []) ∷ waiting (OfTask 1) [] ∷ waiting Plain [] ∷ waiting (Many (2 ∷ 1 ∷ []) false) [] ∷ [])
     (free 0 0 ∷ waits 1 0 0 ∷ []) pending next
+
+-- ---- task 1 handles connection 0, and what is called when it is done waits for it; then it runs, and has ended
+abbrev pub handled : Parts
+handled =
+    record two_tasks { futures = waiting (OfTask 0) [] ∷ waiting (OfTask 1) (HandlerDone 0 1 ∷ []) ∷ [] }
+
+abbrev pub handler_runs : Parts
+handler_runs =
+    parts_of (waiting (OfTask 0) [] ∷ waiting (OfTask 1) (HandlerDone 0 1 ∷ []) ∷ []) (free 0 0 ∷ free 1 0 ∷ [])
+    (handle 2 2 (Step 0) ∷ []) 3
+
+abbrev pub handler_ended : Outcome → Parts
+handler_ended outcome =
+    parts_of (waiting (OfTask 0) [] ∷ ended (OfTask 1) outcome ∷ []) (free 0 0 ∷ free 1 0 ∷ [])
+    (handle 2 2 (Step 0) ∷ handle 3 3 (HandlerDone 0 1) ∷ []) 4
 
 -- ---- Handles and timers. Main is done, and three ends of sleeps wait for their times.
 abbrev pub sleepers : List Future

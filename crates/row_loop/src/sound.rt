@@ -9,7 +9,7 @@ ghost use Rattle.row_loop.specs.Family.{loop_of, unentered, in_block, parent_alo
 ghost use Rattle.row_loop.specs.Ledgers.{main_done};
 ghost use Rattle.row_loop.specs.Nested.{before, both_due, outer_fired, stepping, both_asked, inner_took, alone_due, alone_left, alone_waiting, expiring_alone, expiring_and_asked, expiring_and_lowered};
 ghost use Rattle.row_loop.specs.Standing.{Stands, PartsStand};
-ghost use Rattle.row_loop.specs.Steps.{nothing_made, one_task, running, running_marked, sleeping, woken_at_once, woken_and_marked, paused, running_over_none, awaited, three_timers, two_due};
+ghost use Rattle.row_loop.specs.Steps.{nothing_made, one_task, running, running_marked, sleeping, woken_at_once, woken_and_marked, paused, running_over_none, awaited, handled, handler_runs, three_timers, two_due};
 
 /// Requests are made in these.
 pub fn requests_begin_in_sound_states()
@@ -43,6 +43,8 @@ pub fn steps_begin_in_sound_states()
     ensures paused { PartsStand None (paused (Step 0)) }
     ensures over_none { PartsStand (Some 0) running_over_none }
     ensures awaited { PartsStand (Some 0) (awaited [] 3) }
+    ensures handled { PartsStand None handled }
+    ensures handler_runs { PartsStand (Some 1) handler_runs }
     ensures timers { PartsStand None three_timers }
     ensures due { PartsStand None two_due }
     ensures main_done { Stands None main_done }

@@ -3,9 +3,10 @@ ghost use Rattle.std.specs.Prelude.{◌≡◌, [], ◌∷◌, true, Some, None, 
 ghost use Rattle.model_value.specs.declared.input.Input.TheVariants.{Send, Throw};
 ghost use Rattle.model_value.specs.declared.kind.Kind.TheVariants.{CancelledError, RuntimeError};
 ghost use Rattle.model_value.specs.declared.outcome.Outcome.TheVariants.{Value as Returned, Failed, Cancelled};
-ghost use Rattle.model_value.specs.declared.action.Action.TheVariants.{Step, StepInCircle};
+ghost use Rattle.model_value.specs.declared.action.Action.TheVariants.{Step, StepInCircle, HandlerDone};
 ghost use Rattle.model_value.specs.declared.action.Circle.TheVariants.{Itself, ItsWaiter};
 ghost use Rattle.model_value.specs.Value.{Nothing, Truth, exception_of};
+ghost use Rattle.model_loop.specs.Futures.{register};
 ghost use Rattle.model_loop.specs.Handles.{due, revoke};
 ghost use Rattle.model_loop.specs.Tasks.{spawn, pause, begin_step, cancelled_error, finish, uncancel, cancelling};
 ghost use Rattle.model_loop.specs.Circles.{circle, circle_fault};
@@ -13,7 +14,7 @@ ghost use Rattle.model_loop.specs.Ledger.{Asked, ByWait, unbooked};
 ghost use Rattle.model_loop.specs.Suspend.{suspend};
 ghost use Rattle.law_settling.specs.Frames.{taken};
 ghost use Rattle.row_loop.specs.Made.{handle, value_error};
-ghost use Rattle.row_loop.specs.Steps.{nothing_made, one_task, two_tasks, running, running_marked, sleeping, woken_at_once, running_over_none, waits_for_none, begun, woken_and_marked, paused, ended_as, ended_marked_as, ended_counted_as, awaited, three_timers, two_due, two_revoked};
+ghost use Rattle.row_loop.specs.Steps.{nothing_made, one_task, two_tasks, running, running_marked, sleeping, woken_at_once, running_over_none, waits_for_none, begun, woken_and_marked, paused, ended_as, ended_marked_as, ended_counted_as, awaited, handled, handler_runs, handler_ended, three_timers, two_due, two_revoked};
 
 /// Tasks and their futures are numbered in order of making.
 pub fn makes_tasks()
@@ -69,6 +70,19 @@ pub fn ends_steps()
         ≡ ended_as Cancelled }
     ensures raises_marked { finish 0 (Err (value_error (codes "a"))) (running_marked 1)
         ≡ ended_marked_as (Failed (value_error (codes "a"))) }
+{}
+
+/// What is called when a connection's handler is done waits for its task, and is called soon once
+/// that has ended, however it did.
+pub fn hears_handlers()
+    ensures registers { register 1 (HandlerDone 0 1) two_tasks ≡ handled }
+    ensures returns { finish 1 (Ok (Truth true)) handler_runs
+        ≡ handler_ended (Returned (Truth true)) }
+    ensures raises { finish 1 (Err (value_error (codes "a"))) handler_runs
+        ≡ handler_ended (Failed (value_error (codes "a"))) }
+    ensures late { register 1 (HandlerDone 0 1)
+        (finish 1 (Ok (Truth true)) (record handler_runs { futures = two_tasks.futures }))
+        ≡ handler_ended (Returned (Truth true)) }
 {}
 
 /// `uncancel` lowers a positive count, and leaves the mark.

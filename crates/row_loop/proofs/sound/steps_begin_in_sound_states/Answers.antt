@@ -1,6 +1,6 @@
-use Rattle.row_loop.proofs.StepStates.{awaited_stands, main_done_stands, nothing_made_stands, one_task_stands, paused_stands, running_marked_never}
-use Rattle.row_loop.proofs.StepStates.{running_marked_once, running_marked_twice, running_over_none_stands, running_stands, sleeping_stands}
-use Rattle.row_loop.proofs.StepStates.{three_timers_stands, two_due_stands, woken_and_marked_stands, woken_at_once_stands}
+use Rattle.row_loop.proofs.StepStates.{awaited_stands, handled_stands, handler_runs_stands, main_done_stands, nothing_made_stands, one_task_stands}
+use Rattle.row_loop.proofs.StepStates.{paused_stands, running_marked_never, running_marked_once, running_marked_twice, running_over_none_stands}
+use Rattle.row_loop.proofs.StepStates.{running_stands, sleeping_stands, three_timers_stands, two_due_stands, woken_and_marked_stands, woken_at_once_stands}
 use Rattle.row_loop.proofs.sound.steps_begin_in_sound_states.Goals as goal
 
 pub returns-clause-nothing_made : goal.returns-clause-nothing_made
@@ -38,6 +38,12 @@ returns-clause-over_none c = running_over_none_stands
 
 pub returns-clause-awaited : goal.returns-clause-awaited
 returns-clause-awaited c = awaited_stands
+
+pub returns-clause-handled : goal.returns-clause-handled
+returns-clause-handled c = handled_stands
+
+pub returns-clause-handler_runs : goal.returns-clause-handler_runs
+returns-clause-handler_runs c = handler_runs_stands
 
 pub returns-clause-timers : goal.returns-clause-timers
 returns-clause-timers c = three_timers_stands
