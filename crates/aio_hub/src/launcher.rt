@@ -5,7 +5,6 @@ ghost use Rattle.aio_hub.specs.Launches.{LaunchAnswers, StartsNone};
 
 use crate::kit::{PumpKit, PumpReports};
 use aio_base::Memory;
-use aio_inbox::InboxName;
 use aio_wire::WordList;
 use std::alloc::Global;
 
@@ -18,9 +17,10 @@ pub enum Launched<Run> {
     Refused,
 }
 
-/// What starts children with their pumps, ends children, and gives back what their pumps did.
+/// What starts children with their pumps, ends children, and gives back what their pumps did. The
+/// pumps post into an inbox of the type `Inbox`, each by a poster of the type `Poster`.
 /// Source: `subprocess.py`, `Popen`; `unix_events.py`, `_UnixSubprocessTransport`.
-pub trait Launcher<N: InboxName> {
+pub trait Launcher<Inbox, Poster> {
     /// A child that was started, until it is taken in.
     type Run: Drop;
 
@@ -34,7 +34,7 @@ pub trait Launcher<N: InboxName> {
         &mut self,
         alloc: Global,
         words: &WordList,
-        kit: PumpKit<N>,
+        kit: PumpKit<Inbox, Poster>,
     ) -> Result<Launched<Self::Run>, Memory>
         ensures launched { IfOk result (LaunchAnswers words.now kit.child (seen self.old) (seen self.new)) }
         ensures none { OnErr result (StartsNone (seen self.old) (seen self.new)) }
@@ -47,7 +47,7 @@ pub trait Launcher<N: InboxName> {
         ensures later { (seen self.old).faults ≤ (seen self.new).faults };
 
     /// What the pumps of a child did. It may wait for them.
-    fn take_in(&mut self, run: Self::Run) -> PumpReports<N>
+    fn take_in(&mut self, run: Self::Run) -> PumpReports<Poster>
         ensures none { StartsNone (seen self.old) (seen self.new) }
         ensures later { (seen self.old).faults ≤ (seen self.new).faults };
 }

@@ -8,7 +8,7 @@ use Rattle.aio_inbox.specs.Views.{with_posted}
 use Rattle.aio_pump.specs.Bells.{rung}
 use Rattle.aio_pump.specs.Moments.{Moment, Posts, all_posted, rung_after, told}
 
-all_posted-append : (poster : PosterView) (kinds : List PostKind) (kind : PostKind)
+pub all_posted-append : (poster : PosterView) (kinds : List PostKind) (kind : PostKind)
     → all_posted poster (kinds ++ kind ∷ []) ≡ with_posted (all_posted poster kinds) kind
 all_posted-append poster [] kind = refl
 all_posted-append poster (first ∷ kinds) kind = all_posted-append (with_posted poster first) kinds kind

@@ -20,7 +20,7 @@ pub fn pump_exit<R: Wait, N: InboxName, E: ExitSource, B: Bell>(
     inbox: &Inbox<N>,
     poster: Poster<N>,
     bell: &mut B,
-) -> PumpReport<N>
+) -> PumpReport<Poster<N>>
     ensures pumped { PumpedExit (moment (E.seen exit.old) poster (B.rings bell.old) 0)
         (moment (E.seen exit.new) result.poster (B.rings bell.new) result.moved) result.ending }
     ensures tail { result.tail ≡ None }

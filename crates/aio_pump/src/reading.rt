@@ -26,7 +26,7 @@ pub fn pump_out<R: Wait, N: InboxName, S: Source, B: Bell>(
     poster: Poster<N>,
     stream: Stream,
     bell: &mut B,
-) -> PumpReport<N>
+) -> PumpReport<Poster<N>>
     ensures { PumpedOut stream tail (moment (S.seen source.old) poster (B.rings bell.old) 0)
         (moment (S.seen source.new) result.poster (B.rings bell.new) result.moved)
         result.tail result.ending }

@@ -1,6 +1,5 @@
 //! What a pump reports when it has ended.
 
-use aio_inbox::{InboxName, Poster};
 use aio_lane::Tail;
 
 /// Why a pump ended.
@@ -18,11 +17,11 @@ pub enum Ending {
     Memory,
 }
 
-/// What a pump gives back: its poster; its tail, where it has one; how many bytes it moved, at most 2^64 - 1; and why it
-/// ended.
+/// What a pump gives back: its poster, of the type `Poster`; its tail, where it has one; how many bytes it moved, at most
+/// 2^64 - 1; and why it ended.
 #[derive(Drop)]
-pub struct PumpReport<N: InboxName> {
-    pub poster: Poster<N>,
+pub struct PumpReport<Poster> {
+    pub poster: Poster,
     pub tail: Option<Tail>,
     pub moved: u64,
     pub ending: Ending,

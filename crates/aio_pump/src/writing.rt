@@ -23,7 +23,7 @@ pub fn pump_in<R: Wait, N: InboxName, K: Sink, B: Bell>(
     inbox: &Inbox<N>,
     poster: Poster<N>,
     bell: &mut B,
-) -> PumpReport<N>
+) -> PumpReport<Poster<N>>
     ensures { PumpedIn tail (moment (K.seen sink.old) poster (B.rings bell.old) 0)
         (moment (K.seen sink.new) result.poster (B.rings bell.new) result.moved)
         result.tail result.ending }

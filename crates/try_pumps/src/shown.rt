@@ -27,7 +27,7 @@ pub enum Shown {
 }
 
 /// What a pump told; the rest of its report is let go.
-pub fn told_of<N: InboxName>(report: PumpReport<N>, bell: &MemBell) -> Told {
+pub fn told_of<P: Drop>(report: PumpReport<P>, bell: &MemBell) -> Told {
     Told {
         moved: report.moved,
         ending: report.ending,
