@@ -1,4 +1,10 @@
+pub mod Along
 pub mod LineEnds
 pub mod Losses
 pub mod ReaderOrder
+pub mod SenderRuns
+pub mod SoundConnections
+pub mod SoundSenders
+pub mod SoundSends
+pub mod SoundWriters
 pub mod WriterOrder

@@ -4,4 +4,5 @@
 
 pub mod connections;
 pub mod readers;
+pub mod senders;
 pub mod writers;
