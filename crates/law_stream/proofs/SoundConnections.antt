@@ -1,7 +1,6 @@
 -- What each operation of a connection and of a child keeps of its sender.
 use Rattle.std.proofs.Common.{◌≡◌, ℕ, ◌+◌, ℤ, Bool, true, false, cond, eqb, not, ◌&&◌, ◌||◌, List, [], ◌∷◌, ◌++◌, Option, Some, None, refl, ap, sym, ◌∙◌, arith}
 use Rattle.std.proofs.lemmas.List.{append-nil}
-use Rattle.model_pump.specs.declared.stream.Stream.{Stream}
 use Rattle.model_value.specs.Value.{Exc, Outcome}
 use Rattle.model_wire.specs.declared.event.Handed.{Handed}
 use Rattle.model_wire.specs.declared.event.Handed.TheVariants as to
@@ -12,12 +11,14 @@ use Rattle.model_wire.specs.Event.{handed_by}
 use Rattle.model_stream.specs.declared.answers.Wrote.{Wrote}
 use Rattle.model_stream.specs.declared.put.Limited.{Limited}
 use Rattle.model_stream.specs.declared.answers.Drain.TheVariants as drain_as
-use Rattle.model_stream.specs.Connections.{Connection, outlet, its_sender, its_receiver, fail, received, readable, lose, flushed, writable, up, down, stand_up, unmade, close}
+use Rattle.model_stream.specs.Connections.{Connection, outlet, its_sender, its_receiver, fail, received, readable}
+use Rattle.model_stream.specs.Connections.{lose, flushed, writable, up, down, stand_up, unmade, close}
 use Rattle.model_stream.specs.Connections.{handler_done, drop_connect, write_to, write_eof, drain_of, limits_of, reads, connect_refused}
 use Rattle.model_stream.specs.Doing.{Doing, Ends, Changes, Asks, Change, Settle, MakeFuture, CallSoon, and_then, asks, on, asked_on}
 use Rattle.model_stream.specs.Receivers.{Receiver, receive, receive_end, receive_loss, wakes}
 use Rattle.model_stream.specs.Reading.{Reading}
-use Rattle.model_stream.specs.Senders.{Sender, Drain, has_unsent, is_closing, is_lost, with_writer, write, send_more, close_sender, fail_sender, lose_sender, drain_sender}
+use Rattle.model_stream.specs.Senders.{Sender, Drain, has_unsent, is_closing, is_lost, with_writer}
+use Rattle.model_stream.specs.Senders.{write, send_more, close_sender, fail_sender, lose_sender, drain_sender}
 use Rattle.model_stream.specs.Senders.{limits_sender, is_flushed, loss_of}
 use Rattle.model_stream.specs.Sending.{put_answer, set_eof, written_of}
 use Rattle.law_stream.specs.Ways.{Move, Did, Heard, Always, handed_in, losses, offers, closes, is_close, is_offer, is_loss, one_if}
@@ -100,7 +101,8 @@ loss_keeps id c fault sound = by fault c.receiver.waiter refl
     told future outcome = keeps_quiet (to.Conn id) 0 [] c.sender (Settle future outcome) [] c.sender refl still
 
     by : (fault : Option Exc) (waiter : Option ℕ) → c.receiver.waiter ≡ waiter
-        → Always (λ moves after. (KeepsSender (to.Conn id) 0 [] c.sender moves after.sender) × (after.sender ≡ c.sender)) (on its_receiver (receive_loss fault) c)
+        → Always (λ moves after. (KeepsSender (to.Conn id) 0 [] c.sender moves after.sender) × (after.sender ≡ c.sender))
+        (on its_receiver (receive_loss fault) c)
     by None None is = rw is (still, refl)
     by None (Some future) is = rw is (told future _, refl)
     by (Some fault) None is = rw is (still, refl)
