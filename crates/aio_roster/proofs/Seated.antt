@@ -1,31 +1,34 @@
 -- A seat has one holder, and only that notes a post on it.
-use Rattle.std.proofs.Common.{◌≡◌, ℕ, zero, suc, ◌+◌, true, cond, List, [], ◌∷◌, ◌++◌, Option, Some, None, map, refl, sym, ap, ◌∙◌, append-nil, subst, arith, inl, inr}
+use Rattle.std.proofs.Common.{◌≡◌, ℕ, zero, suc, ◌+◌, ◌≤◌, Bool, true, false, cond, List, [], ◌∷◌, ◌++◌, Option, Some, None, map, refl, sym, ap, ◌∙◌, append-nil, subst, arith, inl, inr}
 use Rattle.std.specs.Prelude.{is_some, slice_get, slice_set, ◌⊎◌}
+use Rattle.std.specs.List.{filter}
 use Rattle.std.proofs.lemmas.Bool.{false≢true}
 use Rattle.model_pump.specs.Posts.{Post}
 use Rattle.model_hub.specs.declared.child.Child.{Child}
 use Rattle.model_hub.specs.declared.pump.Pump.{Pump}
-use Rattle.model_hub.specs.Children.{pump_of, pump_at, holds as holds_seats}
+use Rattle.model_hub.specs.Children.{pump_of, pump_at, runs, holds as holds_seats}
+use Rattle.model_hub.specs.Closing.{number_of}
 use Rattle.model_hub.specs.Posts.{note, note_by, told_of, items_from}
+use Rattle.aio_serving.specs.Served.{IsModest}
 use Rattle.aio_roster.specs.declared.roster.Holder.{Holder}
 use Rattle.aio_roster.specs.Holders.{HeldBy, HoldsSeat, named_in}
-use Rattle.aio_roster.specs.Rosters.{IsRoster, IsShort, IsSameChild, IsFree, IsHis}
+use Rattle.aio_roster.specs.Rosters.{IsRoster, IsShort, IsSameChild, IsFree, IsHis, running_of}
 
 unless_some : (o : Option Pump) → (is_some o ≡ true → o ≡ None) → o ≡ None
 unless_some None h = refl
 unless_some (Some pump) h = h refl
 
-none_some : {A : Type 0} (x : A) → None ≡ Some x → ⊥
+pub none_some : {A : Type 0} (x : A) → None ≡ Some x → ⊥
 none_some x h = false≢true (ap is_some h)
 
-some_is : {A : Type 0} (x y : A) → Some x ≡ Some y → x ≡ y
+pub some_is : {A : Type 0} (x y : A) → Some x ≡ Some y → x ≡ y
 some_is {A} x y h = ap (get x) h
   where
     get : A → Option A → A
     get other None = other
     get other (Some z) = z
 
-module _ (children : List Child) (holders : List (Option ℕ)) (noted : ℕ) (roster : IsRoster children holders noted) (seat : ℕ) where
+module _ (children : List Child) (holders : List (Option ℕ)) (running : List ℕ) (noted : ℕ) (roster : IsRoster children holders running noted) (seat : ℕ) where
   -- where the one that is named for a seat doesn't have it, nobody does
   free : ((n : ℕ) (child : Child) → slice_get holders seat ≡ Some (Some n) → slice_get children n ≡ Some child → pump_of seat child ≡ None)
       → IsFree seat children
@@ -60,6 +63,7 @@ module _ (children : List Child) (holders : List (Option ℕ)) (noted : ℕ) (ro
           only = λ n child is_at other. his number named n child is_at (λ same. other (same ∙ sym held.0));
           numbered = roster.numbered holder.number holder.child at;
           short = roster.short holder.number holder.child at;
+          modest = roster.modest holder.number holder.child at;
         }
 
 -- ---- what a post on a seat changes and tells
@@ -127,16 +131,40 @@ get_set (y ∷ ys) (suc n) zero v x h = inr h
 get_set (y ∷ ys) (suc n) (suc m) v x h =
     elim (get_set ys n m v x h) [ inl same ↦ inl (ap suc same.0, same.1) | inr old ↦ inr old ]
 
-module _ (children : List Child) (holders : List (Option ℕ)) (noted : ℕ) (roster : IsRoster children holders noted) where
+headed : (b : Bool) (x y : Child) (cs : List Child) → x.number ≡ y.number
+    → map number_of (cond b (x ∷ cs) cs) ≡ map number_of (cond b (y ∷ cs) cs)
+headed true x y cs h = ap (λ n. n ∷ map number_of cs) h
+headed false x y cs h = refl
+
+behind_head : (c : Child) (cs ds : List Child) (b : Bool) → running_of ds ≡ running_of cs
+    → map number_of (cond b (c ∷ filter (λ (child : Child). runs child.stay) ds) (filter (λ (child : Child). runs child.stay) ds))
+    ≡ map number_of (cond b (c ∷ filter (λ (child : Child). runs child.stay) cs) (filter (λ (child : Child). runs child.stay) cs))
+behind_head c cs ds true same = ap (λ l. c.number ∷ l) same
+behind_head c cs ds false same = same
+
+-- those that run are the same, where one child is another with the same number and stay
+pub running_set : (children : List Child) (n : ℕ) (old new : Child) → slice_get children n ≡ Some old → new.number ≡ old.number
+    → new.stay ≡ old.stay → running_of (slice_set children n new) ≡ running_of children
+running_set [] n old new at num stay = refl
+running_set (c ∷ cs) zero old new at num stay =
+    let was = some_is c old at in
+    ap (λ s. map number_of (cond (runs s) (new ∷ filter (λ (child : Child). runs child.stay) cs) (filter (λ (child : Child). runs child.stay) cs)))
+    (stay ∙ ap (λ (x : Child). x.stay) (sym was))
+    ∙ headed (runs c.stay) new c (filter (λ (child : Child). runs child.stay) cs) (num ∙ ap (λ (x : Child). x.number) (sym was))
+running_set (c ∷ cs) (suc n) old new at num stay = behind_head c cs (slice_set cs n new) (runs c.stay) (running_set cs n old new at num stay)
+
+module _ (children : List Child) (holders : List (Option ℕ)) (running : List ℕ) (noted : ℕ) (roster : IsRoster children holders running noted) where
   shorter : (child : Child) → IsShort noted child → IsShort (noted + 1) child
   shorter child short = (omega (arith, short.0), omega (arith, short.1), omega (arith, short.2))
 
-  pub one_more_noted : IsRoster children holders (noted + 1)
+  pub one_more_noted : IsRoster children holders running (noted + 1)
   one_more_noted =
       record {
         numbered = roster.numbered;
         held = roster.held;
         short = λ n child at. shorter child (roster.short n child at);
+        modest = roster.modest;
+        runs = roster.runs;
       }
 
   lent_same : (seat : ℕ) (old new : Child) → IsSameChild old new → pump_of seat new ≡ pump_of seat old
@@ -144,7 +172,7 @@ module _ (children : List Child) (holders : List (Option ℕ)) (noted : ℕ) (ro
       ap (λ stay. cond (holds_seats stay) (pump_at seat new.seats) None) same.stay
       ∙ ap (λ seats. cond (holds_seats old.stay) (pump_at seat seats) None) same.seats
 
-  module _ (number : ℕ) (old new : Child) (at : slice_get children number ≡ Some old) (same : IsSameChild old new) (short : IsShort (noted + 1) new) where
+  module _ (number : ℕ) (old new : Child) (at : slice_get children number ≡ Some old) (same : IsSameChild old new) (more : ℕ) (noted_more : noted ≤ more) (short : IsShort more new) (modest : IsModest new) where
     numbered_now : (n : ℕ) (child : Child) → ((n ≡ number) × (child ≡ new)) ⊎ (slice_get children n ≡ Some child) → child.number ≡ n
     numbered_now n child (inl here) =
         ap (λ (c : Child). c.number) here.1 ∙ same.number ∙ roster.numbered number old at ∙ sym here.0
@@ -158,15 +186,22 @@ module _ (children : List Child) (holders : List (Option ℕ)) (noted : ℕ) (ro
         ∙ ap (λ m. Some (Some m)) (sym here.0)
     held_now n seat child has (inr there) = roster.held n seat child there has
 
-    short_now : (n : ℕ) (child : Child) → ((n ≡ number) × (child ≡ new)) ⊎ (slice_get children n ≡ Some child) → IsShort (noted + 1) child
-    short_now n child (inl here) = subst (IsShort (noted + 1)) (sym here.1) short
-    short_now n child (inr there) = shorter child (roster.short n child there)
+    short_now : (n : ℕ) (child : Child) → ((n ≡ number) × (child ≡ new)) ⊎ (slice_get children n ≡ Some child) → IsShort more child
+    short_now n child (inl here) = subst (IsShort more) (sym here.1) short
+    short_now n child (inr there) =
+        let was = roster.short n child there in (omega (arith, was.0), omega (arith, was.1), omega (arith, was.2))
 
-    -- a child noted a post
-    pub noted_at : IsRoster (slice_set children number new) holders (noted + 1)
-    noted_at =
+    modest_now : (n : ℕ) (child : Child) → ((n ≡ number) × (child ≡ new)) ⊎ (slice_get children n ≡ Some child) → IsModest child
+    modest_now n child (inl here) = subst IsModest (sym here.1) modest
+    modest_now n child (inr there) = roster.modest n child there
+
+    -- a child is another, with the same number, seats and stay
+    pub changed_at : IsRoster (slice_set children number new) holders running more
+    changed_at =
         record {
           numbered = λ n child is. numbered_now n child (get_set children number n new child is);
           held = λ n seat child is has. held_now n seat child has (get_set children number n new child is);
           short = λ n child is. short_now n child (get_set children number n new child is);
+          modest = λ n child is. modest_now n child (get_set children number n new child is);
+          runs = roster.runs ∙ sym (running_set children number old new at same.number same.stay);
         }

@@ -2,6 +2,7 @@
 use Rattle.std.specs.Prelude.{◌≡◌, ℕ, List, Option, Some, None, slice_get}
 use Rattle.model_hub.specs.declared.child.Child.{Child}
 use Rattle.model_hub.specs.Children.{pump_of}
+use Rattle.aio_serving.specs.Served.{IsModest}
 use Rattle.aio_roster.specs.declared.roster.Holder.{Holder}
 use Rattle.aio_roster.specs.Rosters.{RosterSeen, IsFree, IsHis, IsShort}
 
@@ -12,6 +13,7 @@ pub record HasSeat (seat : ℕ) (roster : RosterSeen) (holder : Holder) : Type 0
   pub only : IsHis seat roster.children holder.number
   pub numbered : holder.child.number ≡ holder.number
   pub short : IsShort roster.noted holder.child
+  pub modest : IsModest holder.child
 
 abbrev pub HoldsSeat : ℕ → RosterSeen → Option Holder → Type 0
 HoldsSeat seat roster None = IsFree seat roster.children

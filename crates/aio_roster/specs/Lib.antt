@@ -1,2 +1,3 @@
 pub mod Rosters
 pub mod Holders
+pub mod Served

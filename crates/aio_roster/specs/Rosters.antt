@@ -1,7 +1,10 @@
 -- What a roster is.
-use Rattle.std.specs.Prelude.{◌≡◌, ℕ, ◌≤◌, true, List, Option, Some, None, is_some, slice_get}
+use Rattle.std.specs.Prelude.{◌≡◌, ℕ, ◌≤◌, true, List, Option, Some, None, is_some, slice_get, map}
+use Rattle.std.specs.List.{filter}
 use Rattle.model_hub.specs.declared.child.Child.{Child}
-use Rattle.model_hub.specs.Children.{pump_of}
+use Rattle.model_hub.specs.Children.{pump_of, runs}
+use Rattle.model_hub.specs.Closing.{number_of}
+use Rattle.aio_serving.specs.Served.{IsModest}
 
 -- no count of a child passes this number
 abbrev pub IsShort : ℕ → Child → Type 0
@@ -13,12 +16,19 @@ pub record IsSameChild (old new : Child) : Type 0 where
   pub seats : new.seats ≡ old.seats
   pub stay : new.stay ≡ old.stay
 
--- The children by number; for each seat the child to which it is lent, if any; and how many posts were noted.
-pub record IsRoster (children : List Child) (holders : List (Option ℕ)) (noted : ℕ) : Type 0 where
+-- the numbers of those that run
+abbrev pub running_of : List Child → List ℕ
+running_of children = map number_of (filter (λ (child : Child). runs child.stay) children)
+
+-- The children by number; for each seat the child to which it is lent, if any; the numbers of those that run; and how many
+-- posts were noted.
+pub record IsRoster (children : List Child) (holders : List (Option ℕ)) (running : List ℕ) (noted : ℕ) : Type 0 where
   pub numbered : (n : ℕ) (child : Child) → slice_get children n ≡ Some child → child.number ≡ n
   pub held : (n seat : ℕ) (child : Child) → slice_get children n ≡ Some child → is_some (pump_of seat child) ≡ true
       → slice_get holders seat ≡ Some (Some n)
   pub short : (n : ℕ) (child : Child) → slice_get children n ≡ Some child → IsShort noted child
+  pub modest : (n : ℕ) (child : Child) → slice_get children n ≡ Some child → IsModest child
+  pub runs : running ≡ running_of children
 
 -- what is seen of a roster
 pub record RosterSeen : Type 0 where

@@ -3,6 +3,7 @@ ghost use Rattle.std.specs.Prelude.{◌≡◌, ℕ, ◌<◌, ◌^◌, ◌+◌, �
 ghost use Rattle.model_hub.specs.Gathering.{halt_at};
 ghost use Rattle.model_hub.specs.Posts.{told_by, note_from, items_of};
 ghost use Rattle.aio_select.specs.Takes.{list_of};
+ghost use Rattle.aio_serving.specs.Served.{IsModest};
 ghost use Rattle.aio_roster.specs.Rosters.{IsShort, IsSameChild};
 
 use crate::PostKind;
@@ -44,6 +45,7 @@ pub(crate) fn note_from(pump: Pump, kind: &PostKind, child: Child) -> Child
     ensures is { result ≡ note_from pump kind.now child }
     ensures same { IsSameChild child result }
     ensures short { (most : ℕ) → IsShort most child → IsShort (most + 1) result }
+    ensures modest { IsModest child → IsModest result }
 {
     let mut new = child;
     match (pump, kind) {

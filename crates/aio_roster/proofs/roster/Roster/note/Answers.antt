@@ -1,10 +1,10 @@
-use Rattle.std.proofs.Common.{map, sym, ap, ◌∙◌, subst, arith}
+use Rattle.std.proofs.Common.{◌+◌, map, sym, ap, ◌∙◌, subst, arith}
 use Rattle.std.proofs.lemmas.Grind.{common_steps}
 use Rattle.std.proofs.lemmas.Option.{slice_get_within}
 use Rattle.model_hub.specs.Posts.{note, note_by, told_by, items_of, items_from}
 use Rattle.aio_roster.specs.Rosters.{RosterSeen, IsFree}
 use Rattle.aio_roster.specs.Holders.{HasSeat}
-use Rattle.aio_roster.proofs.Seated.{free_notes, free_tells, one_notes, one_tells, noted_at}
+use Rattle.aio_roster.proofs.Seated.{free_notes, free_tells, one_notes, one_tells, changed_at}
 use Rattle.aio_roster.proofs.roster.Roster.note.Goals as goal
 
 pub returns-in_default-clause-children : goal.returns-in_default-clause-children
@@ -27,8 +27,9 @@ pub invariant_of-self-2 : goal.invariant_of-self-2
 invariant_of-self-2 c =
     let inside = c.self.inside in
     let has = subst (λ (r : RosterSeen). HasSeat c.args.post.seat r c.in-Some.holder) (sym c.self.view_is) c.in-Some.ensures in
-    noted_at inside.children.items inside.holders.items inside.noted c.self.invariant c.in-Some.holder.number c.in-Some.holder.child c.note_from.result
-    has.at c.note_from.ensures.same (c.note_from.ensures.short inside.noted has.short)
+    changed_at inside.children.items inside.holders.items inside.running.items inside.noted c.self.invariant c.in-Some.holder.number
+    c.in-Some.holder.child c.note_from.result has.at c.note_from.ensures.same (inside.noted + 1) (omega arith)
+    (c.note_from.ensures.short inside.noted has.short) (c.note_from.ensures.modest has.modest)
 
 pub returns-clause-children : goal.returns-clause-children
 returns-clause-children c =
