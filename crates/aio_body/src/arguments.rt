@@ -1,5 +1,6 @@
 //! What the arguments of requests name, where they are of the kind that is wanted.
 ghost use Rattle.std.specs.Prelude.{◌≡◌, IfOk, is_some};
+ghost use Rattle.std.specs.List.{list_all};
 ghost use Rattle.model_machine.specs.Arguments.{as_task as task_of, as_timeout as timeout_of, as_group as group_of, as_int as int_of};
 ghost use Rattle.model_machine.specs.Arguments.{as_failure as failure_of, as_list, as_words};
 ghost use Rattle.model_value.specs.Value.{Exception, Items, values};
@@ -108,7 +109,13 @@ pub fn is_program(value: &Value) -> bool
 fn are_words(items: &[Value]) -> bool
     ensures { result ≡ is_some (as_words (Items (values items.now))) }
 {
-    !items.is_empty() && items.iter().all(|item| is_text(item))
+    !items.is_empty() && are_texts(items)
+}
+
+fn are_texts(items: &[Value]) -> bool
+    ensures { result ≡ list_all is_text items.now }
+{
+    items.iter().all(|item| is_text(item))
 }
 
 fn is_text(value: &Value) -> bool

@@ -156,11 +156,11 @@ returns-in-Listen g c =
 
 pub returns-in-Connect : goal.returns-in-Connect
 returns-in-Connect g c =
-    IfOk-weaker c.open_port.result _ _ (λ said e at s h.
+    IfOk-weaker c.open_port-in-Connect.result _ _ (λ said e at s h.
     raises_so c.args.task at c.args.body.now s said _ _ e
     (ap (λ r. reply g.X.Extra.added.meaning c.args.task r s) c.in-Connect.is
     ∙ connect_none g.X.Extra.added.meaning c.args.task s h.going.sound.others.closed _) h.going.in_step)
-    c.open_port.ensures
+    c.open_port-in-Connect.ensures
 
 pub returns-in-Launch : goal.returns-in-Launch
 returns-in-Launch g c =
