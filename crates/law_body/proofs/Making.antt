@@ -84,7 +84,6 @@ module _ {X : Type 0} {a : Added X} where
         futures = items ∙ ap (λ xs. xs ++ next_future p ∷ []) h.futures;
         few_futures = let l = length-append s.futures (next_future p ∷ []) in omega (arith, few, l);
         main_done = h.main_done;
-        streams = h.streams;
         events = h.events;
         rest = h.rest;
         count = h.count;
