@@ -12,4 +12,4 @@ pub mod GroupExits
 pub mod Grouping
 pub mod Creating
 pub mod Adding
-pub mod Streams
+pub mod NoStreams

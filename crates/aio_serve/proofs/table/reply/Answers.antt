@@ -11,9 +11,9 @@ use Rattle.aio_body.specs.Asked.{MayAsk}
 use Rattle.law_body.proofs.May.{going_of, some_of}
 use Rattle.aio_serve.proofs.Meaning.{current_means}
 use Rattle.aio_serve.proofs.Saying.{answers_so, raises_so}
-use Rattle.aio_serve.proofs.Streams.{IsRefused, listen_none, connect_none, launch_none, write_none, write_eof_none, close_none, wait_closed_none}
-use Rattle.aio_serve.proofs.Streams.{drain_none, limits_none, read_none, read_exactly_none, read_until_none, read_line_none, standard_error_none, wait_none}
-use Rattle.aio_serve.proofs.Streams.{code_none, kill_none}
+use Rattle.aio_serve.proofs.NoStreams.{IsRefused, listen_none, connect_none, launch_none, write_none, write_eof_none, close_none, wait_closed_none}
+use Rattle.aio_serve.proofs.NoStreams.{drain_none, limits_none, read_none, read_exactly_none, read_until_none, read_line_none, standard_error_none, wait_none}
+use Rattle.aio_serve.proofs.NoStreams.{code_none, kill_none}
 use Rattle.aio_serve.proofs.table.reply.Goals as goal
 
 pub pause-requires : goal.pause-requires
