@@ -1,3 +1,4 @@
 pub mod Outcomes
-pub mod Running
+pub mod Promise
 pub mod TextFronts
+pub mod WireRuns

@@ -58,7 +58,7 @@ gathered_with verb names traces limits records words =
 abbrev pub gathered : Given → List (List ℕ) → Option Command
 gathered given words =
     gathered_with given.verb (names_of given.names) (traces_of given.trace) (limits_of (option_copied given.turns))
-    (records_of (option_copied given.record)) words
+    (records_of (option_copied given.recorded)) words
 
 -- what the words ask for, of which some were taken
 abbrev pub left : Given → List (List ℕ) → Option Command

@@ -34,7 +34,7 @@ pub struct Given<'a> {
     names: Names<'a>,
     trace: bool,
     turns: Option<&'a [u8]>,
-    record: Option<&'a str>,
+    recorded: Option<&'a str>,
 }
 
 impl<'a> Given<'a> {
@@ -46,7 +46,7 @@ impl<'a> Given<'a> {
             names: Names::None,
             trace: false,
             turns: None,
-            record: None,
+            recorded: None,
         }
     }
 
@@ -139,11 +139,11 @@ impl<'a> Given<'a> {
             (λ given. (words : List (List ℕ)) → gathered self.entry (with_record_option name.now ∷ words)
             ≡ gathered given words) }
     {
-        if self.record.is_some() {
+        if self.recorded.is_some() {
             return None;
         }
         Some(Given {
-            record: Some(name),
+            recorded: Some(name),
             ..self
         })
     }
@@ -162,11 +162,11 @@ impl<'a> Given<'a> {
     /// A replay has two names, and no record.
     fn replay(self) -> Option<Command<'a>>
         ensures command { option_map plain_command result
-            ≡ limited (replay_named (names_of self.entry.names) (records_of (option_copied self.entry.record)))
+            ≡ limited (replay_named (names_of self.entry.names) (records_of (option_copied self.entry.recorded)))
             (traces_of self.entry.trace) (limits_of (option_copied self.entry.turns)) }
         ensures some { IfSome result AllowsSome }
     {
-        match (self.names, self.record) {
+        match (self.names, self.recorded) {
             (Names::Both { script, journal }, None) => {
                 let turns = limit_of(self.turns)?;
                 Some(Command::Replay {
@@ -183,20 +183,20 @@ impl<'a> Given<'a> {
     /// A run has one name.
     fn run(self) -> Option<Command<'a>>
         ensures command { option_map plain_command result
-            ≡ limited (run_named (names_of self.entry.names) (records_of (option_copied self.entry.record)))
+            ≡ limited (run_named (names_of self.entry.names) (records_of (option_copied self.entry.recorded)))
             (traces_of self.entry.trace) (limits_of (option_copied self.entry.turns)) }
         ensures some { IfSome result AllowsSome }
     {
         let Names::Script(script) = self.names else {
             return None;
         };
-        if !names_a_file(self.record) {
+        if !names_a_file(self.recorded) {
             return None;
         }
         let turns = limit_of(self.turns)?;
         Some(Command::Run {
             script,
-            recorded: self.record,
+            recorded: self.recorded,
             trace: self.trace,
             turns,
         })
@@ -204,11 +204,11 @@ impl<'a> Given<'a> {
 }
 
 /// Whether the value of `--record`, if there is one, names a file.
-fn names_a_file(record: Option<&str>) -> bool
-    ensures { record_of (records_of (option_copied record.entry))
-        ≡ if result then Some (option_copied record.entry) else None }
+fn names_a_file(recorded: Option<&str>) -> bool
+    ensures { record_of (records_of (option_copied recorded.entry))
+        ≡ if result then Some (option_copied recorded.entry) else None }
 {
-    match record {
+    match recorded {
         Some(name) => is_name(name),
         None => true,
     }

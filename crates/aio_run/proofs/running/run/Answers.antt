@@ -8,7 +8,7 @@ use Rattle.aio_run.specs.Running.{asked_all, asked_until, outside, pace_of}
 use Rattle.aio_run.specs.Script.{Tells}
 use Rattle.aio_run.specs.declared.script.NoScript.TheVariants.{Memory}
 use Rattle.aio_run.proofs.Outcomes.{early_wider, none_failed, none_failed_without, whole_wider}
-use Rattle.aio_run.proofs.Running.{once-none, run_by_script, run_without}
+use Rattle.aio_run.proofs.WireRuns.{once-none, run_by_script, run_without}
 use Rattle.aio_run.proofs.running.run.Goals as goal
 
 pub returns-in-Ok-clause-ok : goal.returns-in-Ok-clause-ok

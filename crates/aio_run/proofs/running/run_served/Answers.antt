@@ -7,7 +7,7 @@ use Rattle.aio_drive.specs.Drive.{IsUnbegun, MayDrive, Undisturbed, over_all, ov
 use Rattle.aio_drive.specs.Drive as drive
 use Rattle.aio_run.specs.Running.{AsksUntil, asked_all, asked_until, pace_of}
 use Rattle.aio_run.proofs.Outcomes.{whole_wider, early_wider}
-use Rattle.aio_run.proofs.Running.{asks-same, once-same, runs_over, until-same}
+use Rattle.aio_run.proofs.WireRuns.{asks-same, once-same, runs_over, until-same}
 use Rattle.aio_run.proofs.running.run_served.Goals as goal
 
 pub returns-clause-ok : goal.returns-clause-ok
