@@ -56,7 +56,7 @@ fn output_that_fails(rt: HostRuntime) -> Result<(), Fail> {
         ("", SinkTook::Took(0)),
     ] {
         let took = output.write(rt.alloc(), piece.as_bytes())?;
-        assert!(rt; took == want, "not {want:?}");
+        assert!(rt; took == want, "a write of {piece:?} gave another answer");
     }
     Ok(())
 }

@@ -5,6 +5,7 @@ use Rattle.model_value.specs.Value.{Task}
 use Rattle.model_machine.specs.Extra.{Extra}
 use Rattle.model_machine.specs.Replies.{reply}
 use Rattle.model_says.specs.Requests.{bad_argument}
+use Rattle.model_machine.specs.Sound.{IsClosed}
 use Rattle.model_machine.specs.State.{State}
 use Rattle.aio_body.specs.declared.reply.RequestReply.TheVariants.{Answers}
 use Rattle.aio_body.specs.Asked.{MayAsk}
@@ -171,12 +172,12 @@ returns-in-Launch g c =
     c.launch.ensures
 
 -- those that name one
-module _ {S : Type 0} (added : Extra S) (task : ℕ) (s : State S) (r : Request) where
-  either : {A B : Type 0} → A ⊎ B → (A → IsRefused added task s r) → (B → IsRefused added task s r) → IsRefused added task s r
+module _ {S : Type 0} (added : Extra S) (task : ℕ) (s : State S) (closed : IsClosed s) (r : Request) where
+  either : {A B : Type 0} → A ⊎ B → (A → IsRefused added task s closed r) → (B → IsRefused added task s closed r) → IsRefused added task s closed r
   either (inl a) f g = f a
   either (inr b) f g = g b
 
-  by : (other : Request) → r ≡ other → IsRefused added task s other → IsRefused added task s r
+  by : (other : Request) → r ≡ other → IsRefused added task s closed other → IsRefused added task s closed r
   by other same e = ap (λ x. reply added task x s) same ∙ e
 
 pub returns : goal.returns
@@ -187,19 +188,19 @@ returns g c =
     IfOk-weaker c.bad_argument.result _ _ (λ said e at s h.
     let closed = h.going.sound.others.closed in
     raises_so task at c.args.body.now s said _ bad_argument e (
-    either m task s asked c.in-Write.is (λ w. by m task s asked _ w.2 (write_none m task s closed _ _)) (λ v.
-    either m task s asked v (λ w. by m task s asked _ w.1 (write_eof_none m task s closed _)) (λ v.
-    either m task s asked v (λ w. by m task s asked _ w.1 (close_none m task s closed _)) (λ v.
-    either m task s asked v (λ w. by m task s asked _ w.1 (wait_closed_none m task s closed _)) (λ v.
-    either m task s asked v (λ w. by m task s asked _ w.1 (drain_none m task s closed _)) (λ v.
-    either m task s asked v (λ w. by m task s asked _ w.3 (limits_none m task s closed _ _ _)) (λ v.
-    either m task s asked v (λ w. by m task s asked _ w.2 (read_none m task s closed _ _)) (λ v.
-    either m task s asked v (λ w. by m task s asked _ w.2 (read_exactly_none m task s closed _ _)) (λ v.
-    either m task s asked v (λ w. by m task s asked _ w.2 (read_until_none m task s closed _ _)) (λ v.
-    either m task s asked v (λ w. by m task s asked _ w.1 (read_line_none m task s closed _)) (λ v.
-    either m task s asked v (λ w. by m task s asked _ w.1 (standard_error_none m task s closed _)) (λ v.
-    either m task s asked v (λ w. by m task s asked _ w.1 (wait_none m task s closed _)) (λ v.
-    either m task s asked v (λ w. by m task s asked _ w.1 (code_none m task s closed _)) (λ v.
-    by m task s asked _ v.1 (kill_none m task s closed _))))))))))))))
+    either m task s closed asked c.in-Write.is (λ w. by m task s closed asked _ w.2 (write_none m task s closed _ _)) (λ v.
+    either m task s closed asked v (λ w. by m task s closed asked _ w.1 (write_eof_none m task s closed _)) (λ v.
+    either m task s closed asked v (λ w. by m task s closed asked _ w.1 (close_none m task s closed _)) (λ v.
+    either m task s closed asked v (λ w. by m task s closed asked _ w.1 (wait_closed_none m task s closed _)) (λ v.
+    either m task s closed asked v (λ w. by m task s closed asked _ w.1 (drain_none m task s closed _)) (λ v.
+    either m task s closed asked v (λ w. by m task s closed asked _ w.3 (limits_none m task s closed _ _ _)) (λ v.
+    either m task s closed asked v (λ w. by m task s closed asked _ w.2 (read_none m task s closed _ _)) (λ v.
+    either m task s closed asked v (λ w. by m task s closed asked _ w.2 (read_exactly_none m task s closed _ _)) (λ v.
+    either m task s closed asked v (λ w. by m task s closed asked _ w.2 (read_until_none m task s closed _ _)) (λ v.
+    either m task s closed asked v (λ w. by m task s closed asked _ w.1 (read_line_none m task s closed _)) (λ v.
+    either m task s closed asked v (λ w. by m task s closed asked _ w.1 (standard_error_none m task s closed _)) (λ v.
+    either m task s closed asked v (λ w. by m task s closed asked _ w.1 (wait_none m task s closed _)) (λ v.
+    either m task s closed asked v (λ w. by m task s closed asked _ w.1 (code_none m task s closed _)) (λ v.
+    by m task s closed asked _ v.1 (kill_none m task s closed _))))))))))))))
     ) h.going.in_step)
     c.bad_argument.ensures
