@@ -1,4 +1,2 @@
 pub mod Outcomes
-pub mod Promise
 pub mod TextFronts
-pub mod WireRuns

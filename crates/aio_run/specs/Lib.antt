@@ -1,3 +1,2 @@
 pub mod Manner
-pub mod Running
 pub mod Script

@@ -4,7 +4,6 @@
 mod checking;
 mod program;
 mod replaying;
-mod running;
 mod script;
 
 pub use program::aio_main;

@@ -1,2 +1,0 @@
-//! The words behind the program's name, and the command that they ask for. Definitions alone.
-#![tactic(auto)]
