@@ -66,7 +66,6 @@ module _ {X : Type 0} {a : Added X} where
         futures = h.futures;
         few_futures = h.few_futures;
         main_done = h.main_done;
-        streams = h.streams;
         events = h.events;
         rest = refl;
         count = h.count;

@@ -73,7 +73,6 @@ module _ {X : Type 0} {a : Added X} where
           futures = h.stands.futures;
           few_futures = h.stands.few_futures;
           main_done = h.stands.main_done;
-          streams = h.stands.streams;
           events =
               h.stands.events ∙ sym (append-nil (c.past ++ body.events.events))
               ∙ ap (λ (l : EventList). (c.past ++ body.events.events) ++ l.events) (sym e);
