@@ -101,7 +101,8 @@ handed_one : (told : Option (Handed → List ℕ)) (call : Call) (answer : Answe
 handed_one None call answer = refl
 handed_one (Some held) call answer = ap Some (fun_ext (λ to. ap (λ bs. held to ++ bs) (sym (append-nil (handed_by to call answer)))))
 
-handed_else : (told : Option (Handed → List ℕ)) (call : Call) (said : Reply) → handed_after told call said ≡ told → handed_after told call said ≡ handed_to (λ to. []) told
+handed_else : (told : Option (Handed → List ℕ)) (call : Call) (said : Reply) → handed_after told call said ≡ told
+    → handed_after told call said ≡ handed_to (λ to. []) told
 handed_else told call said same = same ∙ handed_none told
 
 -- where no answer came

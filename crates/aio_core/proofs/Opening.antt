@@ -139,7 +139,8 @@ module _ {X : Type 0} (a : Added X) (program : Program) (none held : Body X) (x 
     bar = refl;
     blocks = record {
       timeouts =
-          subst (λ ts. AreTimeouts (callback_kept (profile_of program)).ties first_parts ts []) (sym (ap (λ (b : Body X). b.timeouts) holds.beside ∙ e.timeouts)) tt;
+          subst (λ ts. AreTimeouts (callback_kept (profile_of program)).ties first_parts ts [])
+          (sym (ap (λ (b : Body X). b.timeouts) holds.beside ∙ e.timeouts)) tt;
       groups =
           subst (λ (gs : List Held). (id : ℕ) → KeepsAt (callback_kept (profile_of program)).ties first_parts (slice_get gs id) (slice_get [] id))
           (sym (ap (λ (b : Body X). b.groups) holds.beside ∙ e.groups)) (λ id. tt);
@@ -170,7 +171,9 @@ module _ {X : Type 0} (a : Added X) (program : Program) (none held : Body X) (x 
       stand : (code : Standing) → code ≡ Asked
           → StandsAt (callback_kept (profile_of program)).ties first_parts (named_in a (start kept program answers)) 0 code machine.Asked
       stand code is =
-          subst (λ (x : Standing). StandsAt (callback_kept (profile_of program)).ties first_parts (named_in a (start kept program answers)) 0 x machine.Asked) (sym is) tt
+          subst (λ (x : Standing).
+          StandsAt (callback_kept (profile_of program)).ties first_parts (named_in a (start kept program answers)) 0 x machine.Asked)
+          (sym is) tt
 
       has : (task : ℕ) → lives first_parts task ≡ true
           → HasSlot a None None (callback_kept (profile_of program)).ties held.code held.slots.items (start kept program answers) task

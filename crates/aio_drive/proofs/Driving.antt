@@ -167,7 +167,8 @@ module _ {g : _} {program : Program} {how : Manner} {made left : ℕ} {kernel : 
         is = ends_with entries ways it ∙ ap (λ (e : End). record { events = so_far; end = e }) (sym is);
       }
 
-  ends_after : (had : List Answer) (ways : End → State (Unit {0}) → Type 0) → Takes now_seen.left new_seen.left had → EndsAs nothing_added had AnyLeft ways kernel new
+  ends_after : (had : List Answer) (ways : End → State (Unit {0}) → Type 0) → Takes now_seen.left new_seen.left had
+      → EndsAs nothing_added had AnyLeft ways kernel new
       → (rest : List Entry) → Agrees new_seen.left rest → Ends nothing_added ways taken new (running.at (map Answered had ++ rest)).s
   ends_after had ways takes turns rest agrees =
       let here = running.at (map Answered had ++ rest) in turns taken rest here.s tt here.stands

@@ -121,7 +121,8 @@ module _ (program : Program) (how : Manner) (fault : End) (before after : WireSe
         (output_of how.trace whole_run) (may_end_early halt) (text_of end) []
         (whole_text ∙ ap (λ (t : List ℕ). shown ++ t) (sym (append-nil (text_of end)))) last halt stops
 
-  module _ (here : FailsHere program how before.left (so_far ++ more)) (rose : Rose before.faults after.faults) (asked : Asks (so_far ++ more) before after) where
+  module _ (here : FailsHere program how before.left (so_far ++ more)) (rose : Rose before.faults after.faults)
+      (asked : Asks (so_far ++ more) before after) where
     failed_run : Run
     failed_run = record (run program here.had how.turns) { end = fault }
 

@@ -36,7 +36,8 @@ pub trait Launcher<Inbox, Poster> {
         words: &WordList,
         kit: PumpKit<Inbox, Poster>,
     ) -> Result<Launched<Self::Run>, Memory>
-        ensures launched { IfOk result (LaunchAnswers words.now kit.child (seen self.old) (seen self.new)) }
+        ensures launched { IfOk result (LaunchAnswers words.now kit.child (seen self.old)
+            (seen self.new)) }
         ensures none { OnErr result (StartsNone (seen self.old) (seen self.new)) }
         ensures later { (seen self.old).faults ≤ (seen self.new).faults };
 

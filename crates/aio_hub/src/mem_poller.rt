@@ -41,7 +41,12 @@ impl Model for MemPoller {
 impl MemPoller {
     /// It keeps the allocator for what it tells.
     pub fn new(alloc: Global, answers: Vec<Answer>, failing: Vec<u64>) -> MemPoller
-        ensures { result ≡ record { left = answers.items; plan = plan_of failing.items; asked = []; given = [] } }
+        ensures { result ≡ record {
+          left = answers.items;
+          plan = plan_of failing.items;
+          asked = [];
+          given = [];
+        } }
     {
         MemPoller {
             answers,
@@ -55,7 +60,8 @@ impl MemPoller {
     // The next answer where it fits, and else one that says of nothing that it came.
     fn next_answer(&mut self, alloc: Global, call: &Call) -> Result<Answer, Memory>
         ensures answer { IfOk result (λ answer. answer ≡ answer_from self.old.left call.now) }
-        ensures left { OnOk result (self.new ≡ record self.old { left = left_after self.old.left call.now }) }
+        ensures left { OnOk result (self.new
+            ≡ record self.old { left = left_after self.old.left call.now }) }
         ensures fits { IfOk result (λ answer. fits call.now answer ≡ true) }
         ensures plan { self.new.plan ≡ self.old.plan }
     {
@@ -117,7 +123,8 @@ impl Poller for MemPoller {
         wait: Option<u64>,
         watch: &WatchList,
     ) -> Result<Polled, Memory>
-        ensures polled { IfOk result (λ polled. AnswersPoll wait watch.now self.old polled self.new) }
+        ensures polled { IfOk result (λ polled. AnswersPoll wait watch.now self.old polled
+            self.new) }
         ensures later { self.old.plan.faults ≤ self.new.plan.faults }
     {
         let call = Call::Select {

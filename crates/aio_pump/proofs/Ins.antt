@@ -1,5 +1,6 @@
 -- The course of `pump_in`: what is so at each turn of its loop, and how a command leads on from there.
-use Rattle.std.proofs.Common.{◌≡◌, ℕ, ◌+◌, inl, inr, ⊎_elim, List, [], ◌∷◌, ◌++◌, length, Option, Some, None, refl, sym, ap, ◌∙◌, subst, append-nil, length-append}
+use Rattle.std.proofs.Common.{◌≡◌, ℕ, ◌+◌, inl, inr, ⊎_elim, List, [], ◌∷◌, ◌++◌, length, Option, Some}
+use Rattle.std.proofs.Common.{None, refl, sym, ap, ◌∙◌, subst, append-nil, length-append}
 use Rattle.model_wire.specs.Told.{Rose, SinkSeen, grown, took}
 use Rattle.model_pump.specs.Posts.{PostKind}
 use Rattle.model_pump.specs.declared.post.PostKind.TheVariants.{Room, Broken, Starved}

@@ -1,5 +1,6 @@
 -- A seat has one holder, and only that notes a post on it.
-use Rattle.std.proofs.Common.{◌≡◌, ℕ, zero, suc, ◌+◌, ◌≤◌, Bool, true, false, cond, List, [], ◌∷◌, ◌++◌, Option, Some, None, map, refl, sym, ap, ◌∙◌, append-nil, subst, arith, inl, inr}
+use Rattle.std.proofs.Common.{◌≡◌, ℕ, zero, suc, ◌+◌, ◌≤◌, Bool, true, false, cond, List, [], ◌∷◌, ◌++◌, Option}
+use Rattle.std.proofs.Common.{Some, None, map, refl, sym, ap, ◌∙◌, append-nil, subst, arith, inl, inr}
 use Rattle.std.specs.Prelude.{is_some, slice_get, slice_set, ◌⊎◌}
 use Rattle.std.specs.List.{filter}
 use Rattle.std.proofs.lemmas.Bool.{false≢true}
@@ -172,7 +173,8 @@ module _ (children : List Child) (holders : List (Option ℕ)) (running : List �
       ap (λ stay. cond (holds_seats stay) (pump_at seat new.seats) None) same.stay
       ∙ ap (λ seats. cond (holds_seats old.stay) (pump_at seat seats) None) same.seats
 
-  module _ (number : ℕ) (old new : Child) (at : slice_get children number ≡ Some old) (same : IsSameChild old new) (more : ℕ) (noted_more : noted ≤ more) (short : IsShort more new) (modest : IsModest new) where
+  module _ (number : ℕ) (old new : Child) (at : slice_get children number ≡ Some old) (same : IsSameChild old new)
+      (more : ℕ) (noted_more : noted ≤ more) (short : IsShort more new) (modest : IsModest new) where
     numbered_now : (n : ℕ) (child : Child) → ((n ≡ number) × (child ≡ new)) ⊎ (slice_get children n ≡ Some child) → child.number ≡ n
     numbered_now n child (inl here) =
         ap (λ (c : Child). c.number) here.1 ∙ same.number ∙ roster.numbered number old at ∙ sym here.0

@@ -132,7 +132,8 @@ impl Roster {
         requires running { k < length (running_of self.old.children) }
         requires lanes { HaveLanes self.old.children (H.seen heads.old) }
         requires noted { self.old.noted < 2 ^ 62 }
-        ensures served { ServesOne watch.now k self.old.children self.new.children (H.seen heads.old) (H.seen heads.new) }
+        ensures served { ServesOne watch.now k self.old.children self.new.children
+            (H.seen heads.old) (H.seen heads.new) }
         ensures noted { self.new.noted ≡ self.old.noted }
     {
         let number = self.running[k];
@@ -146,7 +147,8 @@ impl Roster {
     pub fn serve<R: Wait, H: Heads>(&mut self, rt: &R, heads: &mut H, watch: &[Watch])
         requires lanes { HaveLanes self.old.children (H.seen heads.old) }
         requires noted { self.old.noted < 2 ^ 62 }
-        ensures served { ServesAll watch.now self.old.children self.new.children (H.seen heads.old) (H.seen heads.new) }
+        ensures served { ServesAll watch.now self.old.children self.new.children (H.seen heads.old)
+            (H.seen heads.new) }
         ensures noted { self.new.noted ≡ self.old.noted }
     {
         let count = self.count_running();

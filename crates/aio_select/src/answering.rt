@@ -52,7 +52,8 @@ impl Answering {
     /// Takes an item into the answer where it fits; else keeps it.
     pub fn offer(&mut self, watch: &[Watch], item: Item) -> Result<(), Memory>
         requires { turn_fits watch.now 0 self.old.items.items ≡ true }
-        ensures offered { IfOk result (λ _. Offers watch.now self.old.items.items self.old.kept.items item self.new.items.items self.new.kept.items) }
+        ensures offered { IfOk result (λ _. Offers watch.now self.old.items.items
+            self.old.kept.items item self.new.items.items self.new.kept.items) }
         ensures fits { turn_fits watch.now 0 self.new.items.items ≡ true }
     {
         if !is_behind(&item, self.kept.as_slice()) && self.has_place_for(watch, &item) {
@@ -68,7 +69,9 @@ impl Answering {
     /// Takes an item into the answer where it is so and fits.
     pub fn add_if(&mut self, watch: &[Watch], holds: bool, item: Item) -> Result<(), Memory>
         requires { turn_fits watch.now 0 self.old.items.items ≡ true }
-        ensures added { IfOk result (λ _. AddsAll watch.now self.old.items.items self.old.kept.items (if holds then item ∷ [] else []) self.new.items.items self.new.kept.items) }
+        ensures added { IfOk result (λ _. AddsAll watch.now self.old.items.items
+            self.old.kept.items (if holds then item ∷ [] else []) self.new.items.items
+            self.new.kept.items) }
         ensures fits { turn_fits watch.now 0 self.new.items.items ≡ true }
     {
         if holds && self.has_place_for(watch, &item) {

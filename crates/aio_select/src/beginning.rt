@@ -13,7 +13,8 @@ use aio_wire::{Item, Watch};
 /// Offers items in order: what fits goes into the answer, the rest is kept.
 pub fn offer_all(watch: &[Watch], items: Vec<Item>, answering: &mut Answering) -> Result<(), Memory>
     requires { turn_fits watch.now 0 answering.old.items.items ≡ true }
-    ensures offered { IfOk result (λ _. OffersAll watch.now answering.old.items.items answering.old.kept.items items.items answering.new.items.items answering.new.kept.items) }
+    ensures offered { IfOk result (λ _. OffersAll watch.now answering.old.items.items
+        answering.old.kept.items items.items answering.new.items.items answering.new.kept.items) }
     ensures fits { turn_fits watch.now 0 answering.new.items.items ≡ true }
 {
     let rest = items.into_iter();
@@ -31,7 +32,9 @@ fn add_stdin<P: Pumps>(
     answering: &mut Answering,
 ) -> Result<(), Memory>
     requires { turn_fits watch.now 0 answering.old.items.items ≡ true }
-    ensures added { IfOk result (λ _. AddsAll watch.now answering.old.items.items answering.old.kept.items (stdin_items (P.children pumps.now) entry.now) answering.new.items.items answering.new.kept.items) }
+    ensures added { IfOk result (λ _. AddsAll watch.now answering.old.items.items
+        answering.old.kept.items (stdin_items (P.children pumps.now) entry.now)
+        answering.new.items.items answering.new.kept.items) }
     ensures fits { turn_fits watch.now 0 answering.new.items.items ≡ true }
 {
     let Watch::Child { child, .. } = entry else {
@@ -55,7 +58,9 @@ pub fn add_stdins<P: Pumps>(
     answering: &mut Answering,
 ) -> Result<(), Memory>
     requires { turn_fits watch.now 0 answering.old.items.items ≡ true }
-    ensures added { IfOk result (λ _. AddsAll watch.now answering.old.items.items answering.old.kept.items (flat_map (stdin_items (P.children pumps.now)) watch.now) answering.new.items.items answering.new.kept.items) }
+    ensures added { IfOk result (λ _. AddsAll watch.now answering.old.items.items
+        answering.old.kept.items (flat_map (stdin_items (P.children pumps.now)) watch.now)
+        answering.new.items.items answering.new.kept.items) }
     ensures fits { turn_fits watch.now 0 answering.new.items.items ≡ true }
 {
     for entry in watch {

@@ -28,7 +28,9 @@ fn is_halted(halt: Halt) -> bool
 // Offers what a post tells, if anything.
 fn offer_told(watch: &[Watch], item: Option<Item>, answering: &mut Answering) -> Result<(), Memory>
     requires { turn_fits watch.now 0 answering.old.items.items ≡ true }
-    ensures offered { IfOk result (λ _. OffersAll watch.now answering.old.items.items answering.old.kept.items (list_of item) answering.new.items.items answering.new.kept.items) }
+    ensures offered { IfOk result (λ _. OffersAll watch.now answering.old.items.items
+        answering.old.kept.items (list_of item) answering.new.items.items
+        answering.new.kept.items) }
     ensures fits { turn_fits watch.now 0 answering.new.items.items ≡ true }
 {
     match item {
@@ -46,7 +48,11 @@ pub fn gather<R: Wait, P: Pumps>(
     answering: &mut Answering,
 ) -> Result<Halt, Memory>
     requires { turn_fits watch.now 0 answering.old.items.items ≡ true }
-    ensures gathered { IfOk result (λ halt. (count : ℕ) × Gathered watch.now (gathering answering.old.items.items answering.old.kept.items (P.children pumps.old) (P.taken pumps.old) 0 is.Going) (gathering answering.new.items.items answering.new.kept.items (P.children pumps.new) (P.taken pumps.new) count halt) (P.nones pumps.old) (P.nones pumps.new)) }
+    ensures gathered { IfOk result (λ halt. (count : ℕ) × Gathered watch.now
+        (gathering answering.old.items.items answering.old.kept.items (P.children pumps.old)
+        (P.taken pumps.old) 0 is.Going)
+        (gathering answering.new.items.items answering.new.kept.items (P.children pumps.new)
+        (P.taken pumps.new) count halt) (P.nones pumps.old) (P.nones pumps.new)) }
     ensures fits { turn_fits watch.now 0 answering.new.items.items ≡ true }
 {
     for count in 0..MOST_POSTS {

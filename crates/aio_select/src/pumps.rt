@@ -38,5 +38,6 @@ pub trait Pumps {
 
     /// Takes a post, which its child notes. It may wait, but for no post.
     fn take<R: Wait>(&mut self, rt: &R) -> Option<Noted>
-        ensures { Takes result (children self.old) (taken self.old) (nones self.old) (children self.new) (taken self.new) (nones self.new) };
+        ensures { Takes result (children self.old) (taken self.old) (nones self.old)
+            (children self.new) (taken self.new) (nones self.new) };
 }

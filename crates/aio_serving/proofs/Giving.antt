@@ -63,7 +63,12 @@ joined xs outs errs closes true pump.Exit = simp append-nil
 joined xs outs errs closes false p = simp append-nil
 
 cases_of : (watched : List Watch) (child : Child) (out errs close : Giving) (p : Pump)
-    → elim p [ pump.Stdin ↦ closes_to (always close) child | pump.Out ↦ gos_to (always out) watched stream.Out child | pump.Errs ↦ gos_to (always errs) watched stream.Errs child | pump.Exit ↦ [] ]
+    → elim p [
+      | pump.Stdin ↦ closes_to (always close) child
+      | pump.Out ↦ gos_to (always out) watched stream.Out child
+      | pump.Errs ↦ gos_to (always errs) watched stream.Errs child
+      | pump.Exit ↦ []
+    ]
     ≡ served_to (λ number. answering out errs close) watched child p
 cases_of watched child out errs close pump.Stdin = refl
 cases_of watched child out errs close pump.Out = refl

@@ -90,7 +90,8 @@ module _ {X : Type 0} {a : Added X} (task : ℕ) (first : Input) (old : Body X) 
           let o = on c s h in
           let r : RestsAt task c new after (resumed fresh task input o.now) = told c o.now o.serving in
           subst (Steps c last went.Goes)
-          (sym (leads_end a.meaning task (resumed true task first s) (resumed fresh task input o.now) (Goes r.now) o.leads r.goes h.sound.others.closed (inside c s h)))
+          (sym (leads_end a.meaning task (resumed true task first s) (resumed fresh task input o.now)
+          (Goes r.now) o.leads r.goes h.sound.others.closed (inside c s h)))
           (back task c new last after r.now r.rested r.sound beside items)
 
     pub ends_on : AreServed a task fresh input body new coroutine after code.Ends
@@ -100,7 +101,8 @@ module _ {X : Type 0} {a : Added X} (task : ℕ) (first : Input) (old : Body X) 
         let o = on c s h in
         let r : EndsAt task c new (resumed fresh task input o.now) = told c o.now o.serving in
         subst (Steps c new went.Goes)
-        (sym (leads_end a.meaning task (resumed true task first s) (resumed fresh task input o.now) (Goes r.now) o.leads r.goes h.sound.others.closed (inside c s h))) r.between
+        (sym (leads_end a.meaning task (resumed true task first s) (resumed fresh task input o.now)
+        (Goes r.now) o.leads r.goes h.sound.others.closed (inside c s h))) r.between
 
     pub runs_on : AreServed a task fresh input body new coroutine after code.Runaway
         → (c : Setting a) (s : State a.Kept) → IsServing task true first c old start s

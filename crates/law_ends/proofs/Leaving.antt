@@ -30,7 +30,8 @@ module _ {S : Type 0} (added : Extra S) where
     turned_in : (answer : Answer) (s : State S) → IsStateSound added s → IsLeftSound added (turned_by step_limit added answer s)
     turned_in answer s sound =
         let woken = unbooked_in (woken_by answer) s in
-        at (run_pending step_limit added woken) (pending_in added keeps woken (woken_in added s answer sound)) (pending_away added step_limit woken sound.closed)
+        at (run_pending step_limit added woken) (pending_in added keeps woken (woken_in added s answer sound))
+        (pending_away added step_limit woken sound.closed)
       where
         at : (w : Went S) → LeavesStateSound added w → OnlyRunsAway w → IsLeftSound added (went_on (turn_over s.main_done) w)
         at (Goes now) left away = over_left added (IsLeftSound added) (λ t h. h) last_sound s.main_done now left

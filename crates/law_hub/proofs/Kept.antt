@@ -1,6 +1,7 @@
 -- No step of a select loses an item, or turns two of one seat round.
 use denote.Enum.Bare.{sameb, same_true}
-use Rattle.std.proofs.Common.{◌≡◌, ℕ, Bool, true, false, cond, eqb, ◌&&◌, ◌||◌, not, List, [], ◌∷◌, ◌++◌, Option, Some, None, map, refl, sym, ap, ◌∙◌, append_assoc, append-nil}
+use Rattle.std.proofs.Common.{◌≡◌, ℕ, Bool, true, false, cond, eqb, ◌&&◌, ◌||◌, not, List, [], ◌∷◌, ◌++◌}
+use Rattle.std.proofs.Common.{Option, Some, None, map, refl, sym, ap, ◌∙◌, append_assoc, append-nil}
 use Rattle.std.specs.Prelude.{nat_le, nat_lt}
 use Rattle.model_value.specs.Number.{most}
 use Rattle.std.specs.List.{filter, list_any, list_all, flat_map}
@@ -24,7 +25,8 @@ use Rattle.model_hub.specs.Children.{pump_of, pump_at, holds}
 use Rattle.model_pump.specs.Posts.{Post, PostKind}
 use Rattle.model_hub.specs.Posts.{told_of, items_from, note, note_by, note_from}
 use Rattle.model_hub.specs.Hub.{Hub, waiting_of, is_broken}
-use Rattle.model_hub.specs.Gathering.{Gathering, start, begin, stdin_items, most_waiting, goes_in, offer, offer_all, add, add_all, kept_of, note_in, after_post, gather, is_halted}
+use Rattle.model_hub.specs.Gathering.{Gathering, start, begin, stdin_items, most_waiting, goes_in, offer, offer_all}
+use Rattle.model_hub.specs.Gathering.{add, add_all, kept_of, note_in, after_post, gather, is_halted}
 use Rattle.model_hub.specs.Select.{polled_watch, is_childs, kept_at_end}
 use Rattle.law_hub.proofs.Fitting.{and_first, and_second, not_true}
 use Rattle.law_hub.specs.Seats.{is_of, items_of, letter, is_teller, told_all}

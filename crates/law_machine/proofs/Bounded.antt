@@ -58,7 +58,8 @@ module _ {S : Type 0} (limit : ℕ) (added : Extra S) (task : ℕ) where
         let tape : tape_of task next ≡ tape_of task s ++ entry_of input ∷ [] =
         resumed-tape input now (omega (arith, grown)) ∙ ap (λ t. t ++ entry_of input ∷ []) kept.tape in
         let same = resumed-length input now in
-        settles next (kept.streams ∙ closed) some (omega (arith, grown, same)) (subst (IsEnough limit count) (sym tape) (still count (tape_of task s) input enough)) more
+        settles next (kept.streams ∙ closed) some (omega (arith, grown, same))
+        (subst (IsEnough limit count) (sym tape) (still count (tape_of task s) input enough)) more
 
     taken_settles : (it : RequestReply S) → IsKeptInAnswer task s (reply_state it) → 0 < count → task < length s.generators
         → IsEnough limit (suc count) (tape_of task s)

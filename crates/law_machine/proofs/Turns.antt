@@ -239,7 +239,8 @@ module _ {S : Type 0} (limit : ℕ) (added : Extra S) where
       at (Goes now) c first rest = goes_on_then s.events now.events (run_on limit added allowed left now).events first (rest now c)
       at (Stops end last) c first rest = first
 
-  pub run-bounded : (allowed left : ℕ) (s : State S) → IsClosed s → turns_in (run_on limit added allowed left s).events ≤ turns_in s.events + length s.answers + 1
+  pub run-bounded : (allowed left : ℕ) (s : State S) → IsClosed s
+      → turns_in (run_on limit added allowed left s).events ≤ turns_in s.events + length s.answers + 1
   unfolding run_on
   run-bounded allowed zero s closed = omega arith
   run-bounded allowed (suc left) s closed = go (run-bounded allowed left)

@@ -181,7 +181,8 @@ module _ {S : Type 0} (added : Extra S) (task : ℕ) (s : State S) where
   reply_is (request.Limits stream high low) closed = none_is (request.Limits stream high low) refl (as_writer s stream) _ (no_writer s (closed refl) stream)
   reply_is (request.Read stream count) closed = none_is (request.Read stream count) refl (as_reader s stream) _ (no_reader s (closed refl) stream)
   reply_is (request.ReadExactly stream count) closed = none_is (request.ReadExactly stream count) refl (as_reader s stream) _ (no_reader s (closed refl) stream)
-  reply_is (request.ReadUntil stream separator) closed = none_is (request.ReadUntil stream separator) refl (as_reader s stream) _ (no_reader s (closed refl) stream)
+  reply_is (request.ReadUntil stream separator) closed = none_is (request.ReadUntil stream separator) refl
+      (as_reader s stream) _ (no_reader s (closed refl) stream)
   reply_is (request.ReadLine stream) closed = none_is (request.ReadLine stream) refl (as_reader s stream) _ (no_reader s (closed refl) stream)
   reply_is (request.StandardError child) closed = none_is (request.StandardError child) refl (as_child s child) _ (no_child s (closed refl) child)
   reply_is (request.WaitChild child) closed = none_is (request.WaitChild child) refl (as_child s child) _ (no_child s (closed refl) child)

@@ -18,7 +18,8 @@ use Rattle.model_machine.specs.Arguments.{AServer, AWriter, as_conn, as_child, a
 use Rattle.model_machine.specs.Does.{does}
 use Rattle.model_value.specs.declared.input.Input.TheVariants.{Send, Throw}
 use Rattle.model_value.specs.Input.{Input}
-use Rattle.model_machine.specs.Replies.{RequestReply, Answers, Raises, Halts, decides, replied, drains, drains_as, reads, reads_as, reads_all, reads_all_as, streams_change, waits_no_more}
+use Rattle.model_machine.specs.Replies.{RequestReply, Answers, Raises, Halts, decides, replied, drains, drains_as, reads}
+use Rattle.model_machine.specs.Replies.{reads_as, reads_all, reads_all_as, streams_change, waits_no_more}
 use Rattle.model_machine.specs.Sound.{IsClosed, sends_made}
 use Rattle.model_machine.specs.State.{Standing, Asked, Sleeping, Leaving, Serving, Connecting, Yielding, Reading, ReadingAll, State, with_streams}
 use Rattle.model_machine.specs.Extra.{Extra}
@@ -131,7 +132,8 @@ module _ {S : Type 0} (s : State S) (closed : IsClosed s) where
   pub effect_none : (limit : ℕ) (added : Extra S) (it : Action) → is_of_streams it ≡ true → effect limit added it s ≡ Goes s
   unfolding effect
   effect_none limit added (action.Made conn) is = made_none conn
-  effect_none limit added (action.HandlerDone conn task) is = goes_none (next_future s.loop.parts) (has_returned s.loop.parts task) (action.HandlerDone conn task)
+  effect_none limit added (action.HandlerDone conn task) is = goes_none (next_future s.loop.parts)
+      (has_returned s.loop.parts task) (action.HandlerDone conn task)
   effect_none limit added (action.StartRead conn) is = goes_none (next_future s.loop.parts) true (action.StartRead conn)
   effect_none limit added (action.Lost conn broken) is = goes_none (next_future s.loop.parts) true (action.Lost conn broken)
   effect_none limit added (action.ReadableServer server) is = goes_none (next_future s.loop.parts) true (action.ReadableServer server)
@@ -154,18 +156,22 @@ module _ {S : Type 0} (s : State S) (closed : IsClosed s) where
     where
       at : (whom : Handed) → drains yielded task whom s ≡ Answers Nothing s
       at (to.Conn id) =
-          ap (λ streams. does Halts (drain yielded (next_future s.loop.parts) (to.Conn id) streams) (λ done now. drains_as task (to.Conn id) done.1 (with_streams done.0 now)) s) closed
+          ap (λ streams. does Halts (drain yielded (next_future s.loop.parts) (to.Conn id) streams)
+          (λ done now. drains_as task (to.Conn id) done.1 (with_streams done.0 now)) s) closed
           ∙ ap (Answers Nothing) unchanged
       at (to.Child id) =
-          ap (λ streams. does Halts (drain yielded (next_future s.loop.parts) (to.Child id) streams) (λ done now. drains_as task (to.Child id) done.1 (with_streams done.0 now)) s) closed
+          ap (λ streams. does Halts (drain yielded (next_future s.loop.parts) (to.Child id) streams)
+          (λ done now. drains_as task (to.Child id) done.1 (with_streams done.0 now)) s) closed
           ∙ ap (Answers Nothing) unchanged
 
   pub reads_none : (task : ℕ) (op : ReadOp) (from : StreamReader) → reads task op from s ≡ Answers (Bytes []) s
   reads_none task op (OfConn id) =
-      ap (λ streams. does Halts (read (next_future s.loop.parts) op (OfConn id) streams) (λ done now. reads_as task op (OfConn id) done.1 (with_streams done.0 now)) s) closed
+      ap (λ streams. does Halts (read (next_future s.loop.parts) op (OfConn id) streams)
+      (λ done now. reads_as task op (OfConn id) done.1 (with_streams done.0 now)) s) closed
       ∙ ap (Answers (Bytes [])) unchanged
   reads_none task op (OfChild pipe id) =
-      ap (λ streams. does Halts (read (next_future s.loop.parts) op (OfChild pipe id) streams) (λ done now. reads_as task op (OfChild pipe id) done.1 (with_streams done.0 now)) s) closed
+      ap (λ streams. does Halts (read (next_future s.loop.parts) op (OfChild pipe id) streams)
+      (λ done now. reads_as task op (OfChild pipe id) done.1 (with_streams done.0 now)) s) closed
       ∙ ap (Answers (Bytes [])) unchanged
 
   pub reads_all_none : (task : ℕ) (from : StreamReader) (taken : List ℕ) → reads_all task from taken s ≡ Answers (Bytes (taken ++ [])) s

@@ -251,5 +251,6 @@ module _ {S : Type 0} (added : Extra S) (task : ℕ) (s : State S) (asked : Requ
     pub makes_future_in : RepliesSound task (makes_future s) → RepliesInStep added false task (makes_future s)
     makes_future_in h =
         let a = in_these (new_plain s.loop.parts) (make_after (names_made (next_task s.loop.parts)) false (Some task) s.loop.parts Plain) in
-        step_to added task Asked asked s is made_state (record { program = refl; generators = refl; streams = refl }) made_scripts refl refl a h asked_leaves false
+        step_to added task Asked asked s is made_state
+        (record { program = refl; generators = refl; streams = refl }) made_scripts refl refl a h asked_leaves false
         (Send (Fut (length s.futures))) (λ b. plain b (Send (Fut (length s.futures)))) (named (Send (Fut (length s.futures)))) refl

@@ -22,7 +22,8 @@ use Rattle.model_loop.specs.Ways.{is_running, one_if, steps, wanted}
 use Rattle.model_machine.specs.Extra.{Extra}
 use Rattle.model_machine.specs.Replies.{decides, exits_as, replied}
 use Rattle.model_machine.specs.Sound.{IsStateSound, ends_sleep_of, blocks_of, names_block, names_made, sends_made, stands_at}
-use Rattle.model_machine.specs.State.{Standing, Asked, Sleeping, Leaving, Serving, Connecting, Yielding, Reading, ReadingAll, State, generator_of, noted, resumed, stands, unbooked_in}
+use Rattle.model_machine.specs.State.{Standing, Asked, Sleeping, Leaving, Serving, Connecting, Yielding, Reading}
+use Rattle.model_machine.specs.State.{ReadingAll, State, generator_of, noted, resumed, stands, unbooked_in}
 use Rattle.model_machine.specs.State.{with_loop}
 use Rattle.model_machine.specs.Step.{given_up, says_of}
 use Rattle.law_settling.specs.Frames.{taken}
@@ -297,7 +298,8 @@ module _ {S : Type 0} (added : Extra S) (s : State S) (task : ℕ) (input : Inpu
 
   t_half : IsApart (Some task) (Some task) added t
   t_half =
-      loop_keeps added s t (record { program = refl; generators = refl; streams = refl }) None (Some task) None (Some task) moved_after.parts (moved_after.parts.same refl)
+      loop_keeps added s t (record { program = refl; generators = refl; streams = refl }) None
+      (Some task) None (Some task) moved_after.parts (moved_after.parts.same refl)
       (runs_as (generator_of task s).standing refl) (λ other f. refl) over
       (stays_stood added s t (record { program = refl; generators = refl; streams = refl }) None (Some task) None (Some task) _ _ None None None moved_after
       (λ other id f e r. refl))

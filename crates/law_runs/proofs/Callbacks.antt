@@ -147,7 +147,8 @@ module _ {S : Type 0} (added : Extra S) (keeps : KeepsSound added) (s : State S)
   main_in : handle.action ≡ action.MainDone → handle.dead ≡ false → IsStateSound added (record (noted (event.Ran action.MainDone) out) { main_done = true })
   main_in is live =
       let a = taken_by (no_step action.MainDone is (λ other. refl)) in
-      nobody added s sound (record (noted (event.Ran action.MainDone) out) { main_done = true }) (record { program = refl; generators = refl; streams = refl }) refl
+      nobody added s sound (record (noted (event.Ran action.MainDone) out) { main_done = true })
+      (record { program = refl; generators = refl; streams = refl }) refl
       (λ done. sound.main_told.pending (
       let b = taken-where is_main_done handle rest s.loop.parts first in
       let c : ◌≡◌ {A = ℕ} (cond (not handle.dead && is_main_done handle.action) 1 0) 1 =

@@ -34,7 +34,8 @@ use Rattle.model_machine.specs.Replies.{sleeps_for, timed_out_if, exits_timeout}
 use Rattle.model_machine.specs.Replies.{exits_as, exits_group, Wake, serves_until}
 use Rattle.model_machine.specs.Replies.{serves_as, serves, woken_within, woken, reply, decides}
 use Rattle.model_machine.specs.Sound.{IsClosed, AreBlocksOf, AreBlocksOpen, blocks_of, has_open, is_open}
-use Rattle.model_machine.specs.State.{Standing, Asked, Sleeping, Leaving, Serving, Connecting, Yielding, Reading, ReadingAll, Generator, State, generator, with_loop}
+use Rattle.model_machine.specs.State.{Standing, Asked, Sleeping, Leaving, Serving, Connecting, Yielding}
+use Rattle.model_machine.specs.State.{Reading, ReadingAll, Generator, State, generator, with_loop}
 use Rattle.model_machine.specs.Step.{says_of}
 use Rattle.law_changes.specs.Changes.{CallsSoon, CallsLater, MakesFuture, OfParts}
 use Rattle.law_reach.specs.Cases.{Replies, raises, leaves_none, exits_none, tells, names_itself, hands_on, pauses_on, alarms, awaits, prints, makes}

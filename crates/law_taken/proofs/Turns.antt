@@ -27,7 +27,8 @@ use Rattle.model_machine.specs.Outcomes.{finished_as, woken_with}
 use Rattle.model_machine.specs.Outside.{news_of, time_of}
 use Rattle.model_machine.specs.Replies.{RequestReply, Answers, Raises, Rests, Halts, reply}
 use Rattle.model_machine.specs.Sound.{IsStateSound, sends_made}
-use Rattle.model_machine.specs.State.{Standing, Asked, Sleeping, Leaving, Serving, Connecting, Yielding, Reading, ReadingAll, State, generator_of, noted, stands, start, unbooked_in}
+use Rattle.model_machine.specs.State.{Standing, Asked, Sleeping, Leaving, Serving, Connecting, Yielding, Reading}
+use Rattle.model_machine.specs.State.{ReadingAll, State, generator_of, noted, stands, start, unbooked_in}
 use Rattle.model_machine.specs.Step.{given_up, most_answers, says_of, serve, serve_all, served, step, taken_as}
 use Rattle.model_machine.specs.Turn.{at_time, cancelled_if, effect, finished_if, ran, run_first}
 use Rattle.model_machine.specs.Turn.{turn, turn_over, woken_by}

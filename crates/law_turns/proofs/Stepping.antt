@@ -1,5 +1,6 @@
 -- A task's step begins: what it stands at says what the input means, and the loop stays sound.
-use Rattle.std.proofs.Common.{◌≡◌, ℕ, ◌<◌, ◌⊎◌, true, false, cond, not, ◌&&◌, List, [], ◌∷◌, ◌++◌, Option, Some, None, map, length, refl, ap, sym, subst, ◌∙◌, inl, inr}
+use Rattle.std.proofs.Common.{◌≡◌, ℕ, ◌<◌, ◌⊎◌, true, false, cond, not, ◌&&◌, List, [], ◌∷◌, ◌++◌, Option}
+use Rattle.std.proofs.Common.{Some, None, map, length, refl, ap, sym, subst, ◌∙◌, inl, inr}
 use Rattle.std.proofs.Common.{arith}
 use Rattle.std.proofs.lemmas.Bool.{cases_eq, eq-eqb, ne_eqb, false≢true}
 use Rattle.model_value.specs.Action.{Action}
@@ -19,7 +20,8 @@ use Rattle.model_machine.specs.Replies.{decides, exits_as, exits_group}
 use Rattle.law_reach.specs.Closed.{stands_at_streams}
 use Rattle.law_reach.proofs.Closed.{decides_none}
 use Rattle.model_machine.specs.Sound.{IsClosed}
-use Rattle.model_machine.specs.State.{Standing, Asked, Sleeping, Leaving, Serving, Connecting, Yielding, Reading, ReadingAll, State, noted, stands, unbooked_in, with_loop}
+use Rattle.model_machine.specs.State.{Standing, Asked, Sleeping, Leaving, Serving, Connecting, Yielding}
+use Rattle.model_machine.specs.State.{Reading, ReadingAll, State, noted, stands, unbooked_in, with_loop}
 use Rattle.model_machine.specs.Step.{given_up}
 use Rattle.model_machine.specs.Told.{told_by, told_in}
 use Rattle.law_settling.specs.Frames.{taken}

@@ -11,18 +11,25 @@ ghost use Rattle.row_hub.specs.Calls.{stays, back, ends_so, launch_from, at_clos
 /// A child's last post: it is taken in, and its seats may be lent again where all four posters are
 /// home.
 pub fn seats_come_back()
-    ensures home { ends_so (exit 0 ∷ []) (back 0 1 ∷ back 1 1 ∷ back 2 1 ∷ back 3 1 ∷ []) ≡ (Gone ∷ [], four 0 ∷ []) }
-    ensures in_any_order { ends_so (exit 0 ∷ []) (back 3 1 ∷ back 0 1 ∷ back 2 1 ∷ back 1 1 ∷ []) ≡ (Gone ∷ [], four 0 ∷ []) }
-    ensures a_post_left { ends_so (exit 0 ∷ []) (back 0 1 ∷ back 1 2 ∷ back 2 1 ∷ back 3 1 ∷ []) ≡ (Holding ∷ [], []) }
-    ensures another_seat { ends_so (exit 0 ∷ []) (back 0 1 ∷ back 9 0 ∷ back 2 1 ∷ back 3 1 ∷ []) ≡ (Holding ∷ [], []) }
-    ensures one_seat_twice { ends_so (exit 0 ∷ []) (back 0 1 ∷ back 0 1 ∷ back 2 1 ∷ back 3 1 ∷ []) ≡ (Holding ∷ [], []) }
-    ensures not_yet { ends_so [] (back 0 1 ∷ back 1 1 ∷ back 2 1 ∷ back 3 0 ∷ []) ≡ (Running ∷ [], []) }
+    ensures home { ends_so (exit 0 ∷ []) (back 0 1 ∷ back 1 1 ∷ back 2 1 ∷ back 3 1 ∷ [])
+        ≡ (Gone ∷ [], four 0 ∷ []) }
+    ensures in_any_order { ends_so (exit 0 ∷ []) (back 3 1 ∷ back 0 1 ∷ back 2 1 ∷ back 1 1 ∷ [])
+        ≡ (Gone ∷ [], four 0 ∷ []) }
+    ensures a_post_left { ends_so (exit 0 ∷ []) (back 0 1 ∷ back 1 2 ∷ back 2 1 ∷ back 3 1 ∷ [])
+        ≡ (Holding ∷ [], []) }
+    ensures another_seat { ends_so (exit 0 ∷ []) (back 0 1 ∷ back 9 0 ∷ back 2 1 ∷ back 3 1 ∷ [])
+        ≡ (Holding ∷ [], []) }
+    ensures one_seat_twice { ends_so (exit 0 ∷ []) (back 0 1 ∷ back 0 1 ∷ back 2 1 ∷ back 3 1 ∷ [])
+        ≡ (Holding ∷ [], []) }
+    ensures not_yet { ends_so [] (back 0 1 ∷ back 1 1 ∷ back 2 1 ∷ back 3 0 ∷ [])
+        ≡ (Running ∷ [], []) }
 {}
 
 /// A launch takes four seats, also where the child was not started.
 pub fn launches()
     ensures started { (launch_from Started (four 0 ∷ four 1 ∷ [])).1 ≡ Got answer.Child }
-    ensures its_seats { stays (launch_from Started (four 0 ∷ four 1 ∷ [])) ≡ (Running ∷ [], four 1 ∷ []) }
+    ensures its_seats { stays (launch_from Started (four 0 ∷ four 1 ∷ []))
+        ≡ (Running ∷ [], four 1 ∷ []) }
     ensures not_started { (launch_from NotStarted (four 0 ∷ [])).1 ≡ Got answer.Refused }
     ensures not_lent_again { stays (launch_from NotStarted (four 0 ∷ [])) ≡ ([], []) }
     ensures no_seats { (launch_from Started []).1 ≡ Got answer.Refused }

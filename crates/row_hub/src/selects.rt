@@ -12,9 +12,11 @@ ghost use Rattle.row_hub.specs.Selects.{select_seen, poll_seen, takes, wait_of, 
 /// A child ends while its reader is paused: what it wrote is kept, and then told, one item of a
 /// letter in a select.
 pub fn ends_with_bytes_left()
-    ensures ends { select_seen errs_exit [] (out 0 (codes "ab") ∷ out_end 0 ∷ exit 0 ∷ errs_end 0 ∷ []) one
+    ensures ends { select_seen errs_exit []
+        (out 0 (codes "ab") ∷ out_end 0 ∷ exit 0 ∷ errs_end 0 ∷ []) one
         ≡ (turn_of (exit_item 0 ∷ errs_over 0 ∷ []), out_item 0 (codes "ab") ∷ out_over 0 ∷ []) }
-    ensures reads { select_seen all_one [] [] (with_kept (out_item 0 (codes "ab") ∷ out_over 0 ∷ []) one)
+    ensures reads { select_seen all_one [] []
+        (with_kept (out_item 0 (codes "ab") ∷ out_over 0 ∷ []) one)
         ≡ (turn_of (out_item 0 (codes "ab") ∷ []), out_over 0 ∷ []) }
     ensures ends_then { select_seen all_one [] [] (with_kept (out_over 0 ∷ []) one)
         ≡ (turn_of (out_over 0 ∷ []), []) }
@@ -32,9 +34,12 @@ pub fn one_behind_it()
 
 /// A post on a seat of another pump tells nothing, and neither does one on a seat that nobody holds.
 pub fn other_seats()
-    ensures errs_seat { select_seen all_one [] (say 2 (post.Piece stream.Out 0 (codes "ab")) ∷ []) one ≡ (turn_of [], []) }
-    ensures no_seat { select_seen all_one [] (out 7 (codes "ab") ∷ out_end 7 ∷ []) one ≡ (turn_of [], []) }
-    ensures break_of_another_pump { select_seen all_one [] (say 3 post.Broken ∷ []) one ≡ (turn_of (broken_item 0 ∷ []), []) }
+    ensures errs_seat { select_seen all_one [] (say 2 (post.Piece stream.Out 0 (codes "ab")) ∷ [])
+        one ≡ (turn_of [], []) }
+    ensures no_seat { select_seen all_one [] (out 7 (codes "ab") ∷ out_end 7 ∷ []) one
+        ≡ (turn_of [], []) }
+    ensures break_of_another_pump { select_seen all_one [] (say 3 post.Broken ∷ []) one
+        ≡ (turn_of (broken_item 0 ∷ []), []) }
 {}
 
 /// An answer that fills up: the fifth post is left in the inbox. Posts are taken until there is
@@ -44,27 +49,34 @@ pub fn fills_up()
     ensures three { takes all_five [] three_pieces false five ≡ false }
     ensures three_and_none { takes all_five [] three_pieces true five ≡ true }
     ensures four_and_none { takes all_five [] four_pieces true five ≡ false }
-    ensures a_fifth { takes all_five [] (whole 0 ∷ whole 1 ∷ whole 2 ∷ whole 3 ∷ whole 4 ∷ []) false five ≡ false }
+    ensures a_fifth { takes all_five [] (whole 0 ∷ whole 1 ∷ whole 2 ∷ whole 3 ∷ whole 4 ∷ [])
+        false five ≡ false }
     ensures no_room { takes both (long_extra ∷ []) [] false two ≡ true }
     ensures no_room_yet { takes both (long_extra ∷ []) (out_end 0 ∷ []) false two ≡ false }
 {}
 
 /// A Fault in the middle: nothing is told, and all is kept. It is the last post that is taken.
 pub fn a_fault()
-    ensures keeps { select_seen all_one [] (out 0 (codes "cd") ∷ say 2 post.Fault ∷ []) (with_kept (out_item 0 (codes "ab") ∷ []) one)
+    ensures keeps { select_seen all_one [] (out 0 (codes "cd") ∷ say 2 post.Fault ∷ [])
+        (with_kept (out_item 0 (codes "ab") ∷ []) one)
         ≡ (Failed, out_item 0 (codes "ab") ∷ out_item 0 (codes "cd") ∷ []) }
-    ensures keeps_no_more { select_seen (watch.Server 3 ∷ every_letter 0 ∷ []) (item.ReadableServer 3 ∷ []) (exit 0 ∷ say 2 post.Fault ∷ []) (hub_of (broken_child ∷ []))
+    ensures keeps_no_more { select_seen (watch.Server 3 ∷ every_letter 0 ∷ [])
+        (item.ReadableServer 3 ∷ []) (exit 0 ∷ say 2 post.Fault ∷ []) (hub_of (broken_child ∷ []))
         ≡ (Failed, exit_item 0 ∷ []) }
-    ensures is_last { takes all_one [] (out 0 (codes "cd") ∷ say 2 post.Fault ∷ []) false one ≡ true }
-    ensures none_behind { takes all_one [] (say 2 post.Fault ∷ out 0 (codes "cd") ∷ []) false one ≡ false }
+    ensures is_last { takes all_one [] (out 0 (codes "cd") ∷ say 2 post.Fault ∷ []) false one
+        ≡ true }
+    ensures none_behind { takes all_one [] (say 2 post.Fault ∷ out 0 (codes "cd") ∷ []) false one
+        ≡ false }
     ensures starves { select_seen all_one [] (out 0 (codes "ab") ∷ say 2 post.Starved ∷ []) one
         ≡ (Memory, out_item 0 (codes "ab") ∷ []) }
 {}
 
 /// A poll that fails, or that memory is refused to, leaves what is kept.
 pub fn poll_fails()
-    ensures fails { poll_seen all_one PollFailed (with_kept (out_over 0 ∷ []) one) ≡ (Failed, out_over 0 ∷ []) }
-    ensures starves { poll_seen all_one PollStarved (with_kept (out_over 0 ∷ []) one) ≡ (Memory, out_over 0 ∷ []) }
+    ensures fails { poll_seen all_one PollFailed (with_kept (out_over 0 ∷ []) one)
+        ≡ (Failed, out_over 0 ∷ []) }
+    ensures starves { poll_seen all_one PollStarved (with_kept (out_over 0 ∷ []) one)
+        ≡ (Memory, out_over 0 ∷ []) }
 {}
 
 /// When a poll waits, and what it watches.
@@ -77,14 +89,17 @@ pub fn waits()
     ensures full { wait_of (every_letter 0 ∷ []) (with_writes 7) ≡ None }
     ensures broken { wait_of all_one broken_child ≡ Some 0 }
     ensures broken_unwatched { wait_of errs_exit broken_child ≡ None }
-    ensures watch { polled_watch (watch.Server 3 ∷ boex 0 ∷ watch.Extra ∷ []) ≡ watch.Server 3 ∷ watch.Extra ∷ [] }
+    ensures watch { polled_watch (watch.Server 3 ∷ boex 0 ∷ watch.Extra ∷ [])
+        ≡ watch.Server 3 ∷ watch.Extra ∷ [] }
 {}
 
 /// The poller's items come first, then what was kept, then what is so of the standard input, then
 /// the posts' items. A break is told once.
 pub fn in_this_order()
-    ensures order { select_seen (watch.Server 3 ∷ every_letter 0 ∷ []) (item.ReadableServer 3 ∷ []) (exit 0 ∷ broken 0 ∷ broken 0 ∷ []) (with_kept (out_over 0 ∷ []) one)
+    ensures order { select_seen (watch.Server 3 ∷ every_letter 0 ∷ []) (item.ReadableServer 3 ∷ [])
+        (exit 0 ∷ broken 0 ∷ broken 0 ∷ []) (with_kept (out_over 0 ∷ []) one)
         ≡ (turn_of (item.ReadableServer 3 ∷ out_over 0 ∷ item.WritableChild 0 ∷ exit_item 0 ∷ broken_item 0 ∷ []), []) }
-    ensures broken_before { select_seen all_one [] (broken 0 ∷ []) (hub_of (broken_child ∷ [])) ≡ (turn_of (broken_item 0 ∷ []), []) }
+    ensures broken_before { select_seen all_one [] (broken 0 ∷ []) (hub_of (broken_child ∷ []))
+        ≡ (turn_of (broken_item 0 ∷ []), []) }
     ensures unwatched { select_seen errs_exit [] (broken 0 ∷ []) one ≡ (turn_of [], []) }
 {}

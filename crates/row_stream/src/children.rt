@@ -40,7 +40,8 @@ pub fn child_cat()
         ≡ played [] (feeding (codes "6789abcdef") true Closing, wrote.Done) }
     ensures watched { watched_child 0 (Some (feeding (codes "6789abcdef") true Closing))
         ≡ watch.Child 0 true true true true true ∷ [] }
-    ensures more { play (feed_more 0 (feeding (codes "6789abcdef") true Closing)) (answer.Took 8 ∷ [])
+    ensures more { play (feed_more 0 (feeding (codes "6789abcdef") true Closing))
+        (answer.Took 8 ∷ [])
         ≡ played (Asked (call.Feed 0 (codes "6789abcdef")) ∷ []) (feeding (codes "ef") true Closing) }
     ensures all { play (feed_more 0 (feeding (codes "ef") true Closing))
         (answer.Took 2 ∷ answer.Done ∷ [])

@@ -52,7 +52,8 @@ pub fn write_after_eof()
     ensures closes { play (close 0 (unsent [] false [])) []
         ≡ played (Changed (CallSoon (Lost 0 false)) ∷ [])
         (dying false false [] (receiver_of (reader.reader []) None)) }
-    ensures is_lost { play (lose 0 false (dying false false [] (receiver_of (reader.reader []) None)))
+    ensures is_lost { play (lose 0 false
+        (dying false false [] (receiver_of (reader.reader []) None)))
         (answer.Done ∷ [])
         ≡ played (Changed (Settle 5 (Returned Nothing)) ∷ Asked (call.Close 0) ∷ [])
         (dead false false (reader.ended [])) }
@@ -136,7 +137,8 @@ pub fn reads()
               (exception_of RuntimeError
               (codes "read called while another coroutine is already waiting for incoming data")),
         ) }
-    ensures second_finds { play (asked_on its_receiver (read 8 (UpTo 9)) (reading (codes "ab") (Some 7))) []
+    ensures second_finds { play (asked_on its_receiver (read 8 (UpTo 9))
+        (reading (codes "ab") (Some 7))) []
         ≡ played [] (reading [] (Some 7), got.Bytes (codes "ab")) }
     ensures is_woken { play (readable 0 (reading [] (Some 7))) (answer.Data (codes "ab") ∷ [])
         ≡ played (Asked (call.Recv 0) ∷ Changed (Settle 7 (Returned Nothing)) ∷ [])

@@ -34,7 +34,8 @@ pub fn numbers_run_out()
         (at_most 2
         (open_with (reading [] None ∷ accepted 5 3 ∷ [])
         (OpenedServer 0 ∷ OpenedConn 0 ∷ OpenedConn 1 ∷ []))) }
-    ensures no_more { play (act 5 true (ReadableServer 0) (at_most 1 (one_open (reading [] None)))) []
+    ensures no_more { play (act 5 true (ReadableServer 0) (at_most 1 (one_open (reading [] None))))
+        []
         ≡ played [] (at_most 1 (one_open (reading [] None))) }
     ensures is_watched { watch_list (at_most 2 (one_open (reading [] None)))
         ≡ watch.Server 0 ∷ watch.Conn 0 true false ∷ [] }

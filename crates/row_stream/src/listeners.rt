@@ -58,7 +58,8 @@ pub fn watches()
         ≡ watch.Server 0 ∷ watch.Conn 0 true true ∷ [] }
     ensures closing { watch_list (one_open (closing (codes "a") false))
         ≡ watch.Server 0 ∷ watch.Conn 0 false true ∷ [] }
-    ensures lost { watch_list (one_open (dead false false (reader.ended []))) ≡ watch.Server 0 ∷ [] }
+    ensures lost { watch_list (one_open (dead false false (reader.ended [])))
+        ≡ watch.Server 0 ∷ [] }
     ensures in_order { watch_list
         (open_with (reading [] None ∷ []) (OpenedConn 0 ∷ OpenedServer 0 ∷ []))
         ≡ watch.Conn 0 true false ∷ watch.Server 0 ∷ [] }

@@ -243,7 +243,8 @@ pub fn an_exit_before_the_pipes_end()
         (only_child (record fed_out { code = Some (pos 3) })) }
     ensures its_code { request.returncode 0 (only_child (record fed_out { code = Some (pos 3) }))
         ≡ Some (pos 3) }
-    ensures told_again { play (request.wait 8 0 (only_child (record fed_out { code = Some (pos 3) }))) []
+    ensures told_again { play (request.wait 8 0
+        (only_child (record fed_out { code = Some (pos 3) }))) []
         ≡ played [] (only_child (record fed_out { code = Some (pos 3) }), wait.Code (pos 3)) }
     ensures still_watched { watch_list (only_child (record fed_out { code = Some (pos 3) }))
         ≡ watch.Child 0 false false true true false ∷ [] }
@@ -262,7 +263,8 @@ pub fn an_exit_before_the_pipes_end()
         ≡ played []
         (only_child
         (record fed_out { code = Some (pos 3); out = receiver_of (reader.ended []) None })) }
-    ensures is_not_killed { play (request.kill 0 (only_child (record fed_out { code = Some (pos 3) }))) []
+    ensures is_not_killed { play (request.kill 0
+        (only_child (record fed_out { code = Some (pos 3) }))) []
         ≡ played [] (only_child (record fed_out { code = Some (pos 3) })) }
 {}
 

@@ -1,4 +1,5 @@
-use Rattle.law_stream.proofs.SoundConnections.{conn_readable, conn_writable, conn_loses, conn_closes, conn_handled, conn_ends, conn_writes, conn_drains, conn_limits}
+use Rattle.law_stream.proofs.SoundConnections.{conn_readable, conn_writable, conn_loses, conn_closes}
+use Rattle.law_stream.proofs.SoundConnections.{conn_handled, conn_ends, conn_writes, conn_drains, conn_limits}
 use Rattle.law_stream.proofs.connections.operations_keep_connections.Goals as goal
 
 pub returns : goal.returns

@@ -16,4 +16,5 @@ returns-in-Some c =
     let some = ap (λ hs. named_in hs c.args.seat) (sym c.as_slice.ensures.value) ∙ sym c.named_in.ensures ∙ c.in-Some.is in
     let held = subst (λ (cs : List Child). HeldBy c.args.seat cs c.in-Some.number c.held_by.result) c.as_slice-in-Some.ensures.value c.held_by.ensures in
     rw (sym c.self.view_is)
-    (holds inside.children.items inside.holders.items inside.running.items inside.noted c.self.invariant c.args.seat c.in-Some.number some c.held_by.result held)
+    (holds inside.children.items inside.holders.items inside.running.items inside.noted c.self.invariant
+    c.args.seat c.in-Some.number some c.held_by.result held)
