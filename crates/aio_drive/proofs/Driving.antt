@@ -27,9 +27,8 @@ use Rattle.aio_core.proofs.Asked.{asks_none, asks_then}
 use Rattle.aio_core.specs.declared.kernel.Kernel.{Kernel}
 use Rattle.aio_core.specs.declared.went.Went as code
 use Rattle.aio_core.specs.declared.went.Went.TheVariants as went
-use Rattle.aio_drive.specs.Ending.{NextOf}
+use Rattle.aio_drive.specs.Ending.{EndedSo}
 use Rattle.aio_drive.specs.declared.driver.Manner.{Manner}
-use Rattle.aio_drive.specs.declared.ending.AfterTurn.TheVariants as next
 use Rattle.aio_drive.proofs.Fronts.{append-nil, took-nil, took_on}
 use Rattle.aio_drive.proofs.Turns.{got-one, lines-append, run_on-last, run_on-turn}
 
@@ -201,8 +200,8 @@ module _ {g : _} {program : Program} {how : Manner} {made left : ℕ} {kernel : 
       (is ∙ ap (λ n. ends.Mismatch n call) count_is ∙ sym it.way.0)
 
   pub ended : how.turns ≤ 2 ^ 64 - 1 → (said : code.Went) → TurnsTo nothing_added now_seen new_seen kernel new said
-      → (end : End) → NextOf said (next.Ends end) → EndsHere program how first_seen.left so_far end
-  ended fits went.Went comes end is = absurd (cc is)
+      → (end : End) → EndedSo end said → EndsHere program how first_seen.left so_far end
+  ended fits went.Went comes end is = absurd is
   ended fits (went.Finished outcome) (had, (takes, turns)) end is = ends_so had (end_of outcome) takes turns end is
   ended fits went.Stalled (same, turns) end is =
       let (rest, agrees) = agreed now_seen.left in
@@ -219,8 +218,8 @@ module _ {g : _} {program : Program} {how : Manner} {made left : ℕ} {kernel : 
       let entries = map Answered had ++ refused_of fault ∷ rest in
       let it = turns taken (refused_of fault ∷ rest) (running.at entries).s (rest, refl) (running.at entries).stands in
       ends_over entries (Is (ends.JournalRefused fault.line fault.cause)) agrees it end (is ∙ sym it.way)
-  ended fits (went.Stopped (stop.Failed call)) comes end is = absurd (cc is)
-  ended fits (went.Stopped stop.Memory) comes end is = absurd (cc is)
+  ended fits (went.Stopped (stop.Failed call)) comes end is = absurd is
+  ended fits (went.Stopped stop.Memory) comes end is = absurd is
 
   had_so_far : (had : List Answer) (rest : List Entry) → past ++ (map Answered had ++ rest) ≡ (past ++ (map Answered had ++ [])) ++ rest
   had_so_far had rest = simp (append_assoc, append-nil)
@@ -241,17 +240,11 @@ module _ {g : _} {program : Program} {how : Manner} {made left : ℕ} {kernel : 
         is = ends_with entries (Is (ends.Over call)) it ∙ ap (λ (e : End). record { events = so_far; end = e }) it.way;
       }
 
-  pub fails : (said : code.Went) → TurnsTo nothing_added now_seen new_seen kernel new said → NextOf said next.Fails
-      → FailsHere program how first_seen.left so_far × Rose now_seen.faults new_seen.faults
-  fails went.Went comes is = absurd (cc is)
-  fails (went.Finished outcome) comes is = absurd is
-  fails went.Stalled comes is = absurd is
-  fails (went.Runaway task) comes is = absurd is
-  fails (went.Stopped (stop.Mismatch count call)) comes is = absurd is
-  fails (went.Stopped (stop.Over call)) comes is = absurd is
-  fails (went.Stopped (stop.Bad fault)) comes is = absurd is
-  fails (went.Stopped (stop.Failed call)) comes is = (fails_so call comes, comes.1.2)
-  fails (went.Stopped stop.Memory) comes is = absurd (cc is)
+  pub fails : (said : code.Went) → TurnsTo nothing_added now_seen new_seen kernel new said → (call : Call)
+      → said ≡ went.Stopped (stop.Failed call) → FailsHere program how first_seen.left so_far × Rose now_seen.faults new_seen.faults
+  fails said comes call is =
+      let so = subst (λ (w : code.Went). TurnsTo nothing_added now_seen new_seen kernel new w) is comes in
+      (fails_so call so, so.1.2)
 
   module _ (had : List Answer) (takes : Takes now_seen.left new_seen.left had) (goes : GoesOn nothing_added had kernel new) where
     goes_over : (rest : List Entry)

@@ -1,5 +1,5 @@
--- What is known of a turn by what comes next.
-use Rattle.std.proofs.Common.{◌≡◌, ℕ, zero, suc, Bool, List, [], ◌++◌, ◌⊎◌, inl, inr, refl, ap, sym, ◌∙◌, subst}
+-- What is known of a turn by what was said of it.
+use Rattle.std.proofs.Common.{◌≡◌, ℕ, zero, suc, List, [], ◌++◌, ◌⊎◌, inl, inr, refl, ap, sym, ◌∙◌, subst}
 use Rattle.model_tree.specs.Syntax.{Program}
 use Rattle.model_says.specs.Says.{step_limit}
 use Rattle.model_wire.specs.declared.event.End.TheVariants as ends
@@ -9,25 +9,22 @@ use Rattle.model_wire.specs.Journal.{Entry}
 use Rattle.model_wire.specs.Told.{Rose, SinkSeen, WireSeen}
 use Rattle.model_wire.specs.Trace.{End, lines_of_events}
 use Rattle.model_machine.specs.Extra.{no_extra}
-use Rattle.model_machine.specs.Run.{turns_over}
 use Rattle.model_machine.specs.State.{State, start}
-use Rattle.model_machine.specs.Turn.{is_stalled, turn}
+use Rattle.model_machine.specs.Turn.{turn}
 use Rattle.model_machine.specs.Went.{Stops}
 use Rattle.aio_wire.specs.declared.stop.Stop.TheVariants as stop
 use Rattle.aio_extra.specs.Nothing.{nothing_added}
 use Rattle.aio_extra.specs.declared.nothing.NoExtra.{NoExtra}
 use Rattle.aio_core.specs.Asked.{Asks, AsksOnce}
-use Rattle.aio_core.specs.Turned.{StandsFor, TurnedBy, TurnsTo, WireTurn, untaken}
-use Rattle.aio_core.specs.Turning.{AsksBy, OfFailing, StallsAs, UnlessFailed}
+use Rattle.aio_core.specs.Turned.{TurnsTo, untaken}
+use Rattle.aio_core.specs.Turning.{AsksBy, OfFailing, UnlessFailed}
 use Rattle.aio_core.specs.declared.kernel.Kernel.{Kernel}
 use Rattle.aio_core.specs.declared.went.Went as code
 use Rattle.aio_core.specs.declared.went.Went.TheVariants as went
-use Rattle.aio_drive.specs.Drive.{IsUnbegun, LastOf, MayDrive, Undisturbed, over_front}
-use Rattle.aio_drive.specs.Ending.{LastSays, NextOf}
+use Rattle.aio_drive.specs.Drive.{IsUnbegun, MayDrive, Undisturbed, over_front}
+use Rattle.aio_drive.specs.Ending.{EndedSo}
 use Rattle.aio_drive.specs.Outcome.{EndsEarly}
 use Rattle.aio_drive.specs.declared.driver.Manner.{Manner}
-use Rattle.aio_drive.specs.declared.ending.AfterTurn.{AfterTurn}
-use Rattle.aio_drive.specs.declared.ending.AfterTurn.TheVariants as next
 use Rattle.aio_drive.specs.declared.halt.Halt.TheVariants.{Memory}
 use Rattle.aio_drive.proofs.Driving.{GoesOnHere, IsDriven, asked_all, asked_more, asked_once, fails_so, goes_on_here}
 use Rattle.aio_drive.proofs.Fronts.{append-nil, took-nil}
@@ -38,22 +35,11 @@ pub start-asks : (program : Program) (last : State (Unit {0})) → turn step_lim
 unfolding turn
 start-asks program last e = cc e
 
--- what comes next of what was said, unless memory was refused after it
-pub of_said : (result said : code.Went) (what : AfterTurn) → (result ≡ said) ⊎ (result ≡ went.Stopped stop.Memory) → NextOf result what
-    → (what ≡ next.Nothing → ⊥) → NextOf said what
-of_said result said what (inl same) is other = subst (λ (w : code.Went). NextOf w what) same is
-of_said result said what (inr none) is other = absurd (other (subst (λ (w : code.Went). NextOf w what) none is))
-
-pub going : (said : code.Went) → NextOf said next.Turn → said ≡ went.Went
-going went.Went is = refl
-going (went.Finished outcome) is = absurd is
-going went.Stalled is = absurd is
-going (went.Runaway task) is = absurd is
-going (went.Stopped (stop.Over call)) is = absurd is
-going (went.Stopped (stop.Bad fault)) is = absurd is
-going (went.Stopped (stop.Mismatch count call)) is = absurd is
-going (went.Stopped (stop.Failed call)) is = absurd (cc is)
-going (went.Stopped stop.Memory) is = absurd (cc is)
+-- what was answered is what was said, unless memory was refused
+pub said_as : (result said : code.Went) → (result ≡ said) ⊎ (result ≡ went.Stopped stop.Memory) → (result ≡ went.Stopped stop.Memory → ⊥)
+    → said ≡ result
+said_as result said (inl same) other = sym same
+said_as result said (inr none) other = absurd (other none)
 
 -- whether the wire failed in it
 pub failed_or : (said : code.Went) (fact : Type 0) → UnlessFailed fact said → ((call : Call) × (said ≡ went.Stopped (stop.Failed call))) ⊎ fact
@@ -68,40 +54,18 @@ failed_or (went.Stopped (stop.Failed call)) fact is = inl (call, refl)
 failed_or (went.Stopped stop.Memory) fact is = inr is
 
 -- it didn't where the run ended
-pub ended-quiet : (said : code.Went) (end : End) (fact : Type 0) → NextOf said (next.Ends end) → UnlessFailed fact said → fact
+pub ended-quiet : (said : code.Went) (end : End) (fact : Type 0) → EndedSo end said → UnlessFailed fact said → fact
 ended-quiet said end fact is quiet = at (failed_or said fact quiet)
   where
     at : ((call : Call) × (said ≡ went.Stopped (stop.Failed call))) ⊎ fact → fact
-    at (inl (call, failed)) = absurd (cc (subst (λ (w : code.Went). NextOf w (next.Ends end)) failed is))
+    at (inl (call, failed)) = absurd (subst (λ (w : code.Went). EndedSo end w) failed is)
     at (inr holds) = holds
-
--- ---- where no further turn may be made
-last_by : (said : code.Went) (turns : ℕ) (end : End) (stalled : Bool) → StallsAs stalled said → LastSays said turns end → end ≡ turns_over stalled turns
-last_by went.Stalled turns end stalled stalls is = is ∙ ap (λ b. turns_over b turns) (sym stalls)
-last_by went.Went turns end stalled stalls is = is ∙ ap (λ b. turns_over b turns) (sym stalls)
-last_by (went.Finished outcome) turns end stalled stalls is = is ∙ ap (λ b. turns_over b turns) (sym stalls)
-last_by (went.Runaway task) turns end stalled stalls is = is ∙ ap (λ b. turns_over b turns) (sym stalls)
-last_by (went.Stopped (stop.Over call)) turns end stalled stalls is = is ∙ ap (λ b. turns_over b turns) (sym stalls)
-last_by (went.Stopped (stop.Bad fault)) turns end stalled stalls is = is ∙ ap (λ b. turns_over b turns) (sym stalls)
-last_by (went.Stopped (stop.Mismatch count call)) turns end stalled stalls is = is ∙ ap (λ b. turns_over b turns) (sym stalls)
-last_by (went.Stopped (stop.Failed call)) turns end stalled stalls is = is ∙ ap (λ b. turns_over b turns) (sym stalls)
-last_by (went.Stopped stop.Memory) turns end stalled stalls is = absurd is
-
-pub last_as : {g : _} {wire : WireTurn} {old new : Kernel NoExtra g} {result said : code.Went}
-    → TurnedBy nothing_added wire old new result said → (turns : ℕ) (end : End) → LastSays result turns end → LastOf old turns end
-last_as {old = old} {result = result} {said = said} by turns end is = λ past answers s stands. at past answers s stands by.either
-  where
-    at : (past : List Event) (answers : List Entry) (s : State (Unit {0})) → StandsFor nothing_added past answers old s
-        → (result ≡ said) ⊎ (result ≡ went.Stopped stop.Memory) → end ≡ turns_over (is_stalled no_extra s) turns
-    at past answers s stands (inl same) =
-        last_by said turns end (is_stalled no_extra s) (by.stalls past answers s stands) (subst (λ (w : code.Went). LastSays w turns end) same is)
-    at past answers s stands (inr none) = absurd (subst (λ (w : code.Went). LastSays w turns end) none is)
 
 module _ {g : _} {program : Program} {how : Manner} {made left : ℕ} {kernel : Kernel NoExtra g} {past : List Entry} {taken : List Event}
     {first_seen now_seen : WireSeen} {first sink : SinkSeen} (new : Kernel NoExtra g) (new_seen : WireSeen)
     (running : IsDriven program how made (suc left) kernel past taken first_seen now_seen first sink) where
   -- no run ends in its first turn over a wire that fails at each call
-  pub alive : (said : code.Went) → TurnsTo nothing_added now_seen new_seen kernel new said → (end : End) → NextOf said (next.Ends end)
+  pub alive : (said : code.Went) → TurnsTo nothing_added now_seen new_seen kernel new said → (end : End) → EndedSo end said
       → OfFailing said → made ≡ 0 → ⊥
   alive went.Went comes end is failing none = failing
   alive (went.Finished outcome) comes end is failing none = failing
@@ -115,8 +79,8 @@ module _ {g : _} {program : Program} {how : Manner} {made left : ℕ} {kernel : 
   alive (went.Stopped (stop.Over call)) comes end is failing none = failing
   alive (went.Stopped (stop.Bad fault)) comes end is failing none = failing
   alive (went.Stopped (stop.Mismatch count call)) comes end is failing none = failing
-  alive (went.Stopped (stop.Failed call)) comes end is failing none = cc is
-  alive (went.Stopped stop.Memory) comes end is failing none = cc is
+  alive (went.Stopped (stop.Failed call)) comes end is failing none = is
+  alive (went.Stopped stop.Memory) comes end is failing none = is
 
 -- memory was refused in the turn, or after it
 module _ {g : _} {program : Program} {how : Manner} {made left : ℕ} {kernel : Kernel NoExtra g} {past : List Entry} {taken : List Event}

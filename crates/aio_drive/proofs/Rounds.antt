@@ -1,11 +1,13 @@
--- A round of the driver's loop: a turn was made of a run under way, and something comes next.
-use Rattle.std.proofs.Common.{◌≡◌, ℕ, zero, suc, ◌+◌, ◌-◌, ◌^◌, ◌<◌, ◌≤◌, List, [], ◌++◌, map, refl, ap, sym, ◌∙◌, subst, arith}
+-- A round of the driver's loop: a turn was made of a run under way, and its lines are written.
+use Rattle.std.proofs.Common.{◌≡◌, ℕ, zero, suc, ◌+◌, ◌-◌, ◌^◌, ◌<◌, ◌≤◌, List, [], ◌++◌, Option, Some, None, map, refl, ap, sym, ◌∙◌, subst, arith}
 use Rattle.model_tree.specs.Syntax.{Program}
-use Rattle.model_wire.specs.Call.{Answer}
+use Rattle.model_wire.specs.declared.event.End.TheVariants as ends
+use Rattle.model_wire.specs.Call.{Answer, Call}
 use Rattle.model_wire.specs.Event.{Event}
 use Rattle.model_wire.specs.Journal.{Entry, Answered}
 use Rattle.model_wire.specs.Told.{Rose, SinkSeen, WireSeen, took}
 use Rattle.model_wire.specs.Trace.{End, end_text, line, lines_of_events}
+use Rattle.model_machine.specs.Outcomes.{end_of}
 use Rattle.model_machine.specs.State.{State}
 use Rattle.model_machine.specs.Theorem.{ProgramOutput, WritesWhole}
 use Rattle.model_machine.specs.Transcript.{status_of}
@@ -19,17 +21,15 @@ use Rattle.aio_core.specs.declared.kernel.Kernel.{Kernel}
 use Rattle.aio_core.specs.declared.went.Went as code
 use Rattle.aio_core.specs.declared.went.Went.TheVariants as went
 use Rattle.aio_drive.specs.Drive.{IsUnbegun, LastOf, MayDrive, Undisturbed, over_all, over_front}
-use Rattle.aio_drive.specs.Ending.{NextOf}
+use Rattle.aio_drive.specs.Ending.{EndedSo, StopsLast, StopsTurn, WroteLast, WroteTurn}
 use Rattle.aio_drive.specs.Outcome.{EndsEarly}
 use Rattle.aio_drive.specs.Writing.{StopsWriting}
 use Rattle.aio_drive.specs.declared.driver.Manner.{Manner}
-use Rattle.aio_drive.specs.declared.ending.AfterTurn.{AfterTurn}
-use Rattle.aio_drive.specs.declared.ending.AfterTurn.TheVariants as next
 use Rattle.aio_drive.specs.declared.halt.Halt.{Halt}
 use Rattle.aio_drive.specs.declared.halt.Halt.TheVariants.{Memory}
 use Rattle.aio_drive.proofs.Driving.{EndsHere, FailsHere, GoesOnHere, IsDriven, asked_all, ended, ends_last, fails, goes_further, goes_on_here, rose_earlier}
 use Rattle.aio_drive.proofs.Driving.{turned_on}
-use Rattle.aio_drive.proofs.Exits.{alive, ended-quiet, going, of_said, refused}
+use Rattle.aio_drive.proofs.Exits.{alive, ended-quiet, refused, said_as}
 use Rattle.aio_drive.proofs.Fronts.{append-nil, took-nil}
 use Rattle.aio_drive.proofs.Written.{ends_early, ends_whole, fails_early, fails_whole, goes_early, until_so}
 
@@ -46,6 +46,9 @@ pub none_left : {g : _} {program : Program} {how : Manner} {made left : ℕ} {ke
     → how.turns ≤ made → left ≡ 0
 none_left running most = let turns = running.turns in omega arith
 
+some_is : {n m : ℕ} → Some n ≡ Some m → n ≡ m
+some_is is = cc is
+
 -- `seen` is the wire as the run began, `now` as the turn did, and `last` after it.
 module _ {g : _} {program : Program} {how : Manner} {made left : ℕ} {kernel new : Kernel NoExtra g} {past : List Entry} {taken : List Event}
     {now last : WireSeen} {first sink : SinkSeen} {fails_first fails_now quiet_now quiet : Type 0} {result said : code.Went} (seen : WireSeen)
@@ -57,36 +60,35 @@ module _ {g : _} {program : Program} {how : Manner} {made left : ℕ} {kernel ne
   asks_now : AsksBy (untaken kernel) (untaken new) now last said
   asks_now = let here = running.at [] in turned.asks taken [] here.s here.stands
 
+  said_so : (w : code.Went) → result ≡ w → (w ≡ went.Stopped stop.Memory → ⊥) → said ≡ w
+  said_so w is other = said_as result said turned.either (λ none. other (sym is ∙ none)) ∙ is
+
   -- and from the first on
-  asked_at : (what : AfterTurn) → NextOf result what → (what ≡ next.Nothing → ⊥) → Asks (taken ++ untaken new) seen last
-  asked_at what is other =
-      asked_all new last running said asks_now
-      (λ none. other (subst (λ (w : code.Went). NextOf w what) none (of_said result said what turned.either is other)))
+  asked_at : (w : code.Went) → result ≡ w → (w ≡ went.Stopped stop.Memory → ⊥) → Asks (taken ++ untaken new) seen last
+  asked_at w is other = asked_all new last running said asks_now (λ none. other (sym (said_so w is other) ∙ none))
 
-  pub ends_at : how.turns ≤ 2 ^ 64 - 1 → (end : End) → NextOf result (next.Ends end)
+  ends_at : how.turns ≤ 2 ^ 64 - 1 → (end : End) → EndedSo end said
       → EndsHere program how seen.left (taken ++ untaken new) end × Undisturbed fails_first quiet
-  ends_at fits end is =
-      let what = of_said result said (next.Ends end) turned.either is (λ e. cc e) in (
-        ended new last running fits said turned.turns end what,
-        (
-          λ fails.
-              let (none, here) = fails_then fails in
-              alive new last running said turned.turns end what (turned.failing here) none,
-          quietly (ended-quiet said end quiet_now what turned.still),
-        ),
-      )
+  ends_at fits end what = (
+    ended new last running fits said turned.turns end what,
+    (
+      λ fails.
+          let (none, here) = fails_then fails in
+          alive new last running said turned.turns end what (turned.failing here) none,
+      quietly (ended-quiet said end quiet_now what turned.still),
+    ),
+  )
 
-  pub fails_at : NextOf result next.Fails → FailsHere program how seen.left (taken ++ untaken new) × Rose seen.faults last.faults
-  fails_at is =
-      let what = of_said result said next.Fails turned.either is (λ e. cc e) in
-      let (here, rose) = fails new last running said turned.turns what in
+  fails_at : (call : Call) → said ≡ went.Stopped (stop.Failed call)
+      → FailsHere program how seen.left (taken ++ untaken new) × Rose seen.faults last.faults
+  fails_at call is =
+      let (here, rose) = fails new last running said turned.turns call is in
       (here, rose_earlier seen.faults now.faults last.faults later rose)
 
-  pub goes_at : NextOf result next.Turn
+  pub goes_at : result ≡ went.Went
       → (had : List Answer) × (Takes now.left last.left had × (GoesOn nothing_added had kernel new × Undisturbed fails_first quiet))
   goes_at is =
-      let what = of_said result said next.Turn turned.either is (λ e. cc e) in
-      let went = going said what in
+      let went = said_so went.Went is (λ e. cc e) in
       let (had, (takes, goes)) = subst (λ (w : code.Went). TurnsTo nothing_added now last kernel new w) went turned.turns in (
         had,
         (
@@ -130,59 +132,104 @@ module _ {g : _} {program : Program} {how : Manner} {made left : ℕ} {kernel ne
     abbrev lines : List ℕ
     lines = lines_of_events how.trace events
 
-    pub ends_ok : how.turns ≤ 2 ^ 64 - 1 → (end : End) → NextOf result (next.Ends end) → (status : ℕ)
-        → (status ≡ status_of end) × (final ≡ took sink (lines ++ line (end_text end))) → WritesWhole Drives first final status
-    ends_ok fits end is status (same, wrote) =
-        let (here, still) = ends_at fits end is in
+    ends_ok : how.turns ≤ 2 ^ 64 - 1 → (end : End) (w : code.Went) → result ≡ w → (w ≡ went.Stopped stop.Memory → ⊥) → EndedSo end w
+        → (status : ℕ) → WroteLast end lines sink final (Some status) → WritesWhole Drives first final status
+    ends_ok fits end w is other so status (same, wrote) =
+        let (here, still) = ends_at fits end (subst (λ (w : code.Went). EndedSo end w) (sym (said_so w is other)) so) in
         ends_whole program how fault seen last (Undisturbed fails_first quiet) quiet first sink final taken (untaken new) running.sink here still
-        (asked_at (next.Ends end) is (λ e. cc e)) status same
+        (asked_at w is other) status (some_is same)
         (wrote ∙ ap (λ (es : List Event). took sink (lines_of_events how.trace es ++ line (end_text end))) out)
 
-    pub ends_err : how.turns ≤ 2 ^ 64 - 1 → (end : End) → NextOf result (next.Ends end) → (halt : Halt)
-        → StopsWriting (lines ++ line (end_text end)) sink final halt → Early halt first final
-    ends_err fits end is halt stops =
-        let (here, still) = ends_at fits end is in
+    ends_err : how.turns ≤ 2 ^ 64 - 1 → (end : End) (w : code.Went) → result ≡ w → (w ≡ went.Stopped stop.Memory → ⊥) → EndedSo end w
+        → (halt : Halt) → StopsLast end lines sink final halt → Early halt first final
+    ends_err fits end w is other so halt stops =
+        let (here, still) = ends_at fits end (subst (λ (w : code.Went). EndedSo end w) (sym (said_so w is other)) so) in
         ends_early program how fault seen last (Undisturbed fails_first quiet) quiet first sink final taken (untaken new) running.sink here still
-        (asked_at (next.Ends end) is (λ e. cc e)) halt
+        (asked_at w is other) halt
         (subst (λ (es : List Event). StopsWriting (lines_of_events how.trace es ++ line (end_text end)) sink final halt) out stops)
 
-    pub fails_ok : NextOf result next.Fails → (status : ℕ)
-        → (status ≡ status_of fault) × (final ≡ took sink (lines ++ line (end_text fault))) → WritesWhole Drives first final status
-    fails_ok is status (same, wrote) =
-        let (here, rose) = fails_at is in
+    ended_so : how.turns ≤ 2 ^ 64 - 1 → (w : code.Went) → result ≡ w → (status : ℕ) → WroteTurn fault lines sink final (Some status) w
+        → WritesWhole Drives first final status
+    ended_so fits went.Went is status (none, wrote) = absurd (cc none)
+    ended_so fits (went.Finished outcome) is status written = ends_ok fits (end_of outcome) (went.Finished outcome) is (λ e. cc e) refl status written
+    ended_so fits went.Stalled is status written = ends_ok fits ends.Stalled went.Stalled is (λ e. cc e) refl status written
+    ended_so fits (went.Runaway task) is status written = ends_ok fits (ends.Runaway task) (went.Runaway task) is (λ e. cc e) refl status written
+    ended_so fits (went.Stopped (stop.Over call)) is status written = ends_ok fits (ends.Over call) (went.Stopped (stop.Over call)) is (λ e. cc e) refl status written
+    ended_so fits (went.Stopped (stop.Bad it)) is status written =
+        ends_ok fits (ends.JournalRefused it.line it.cause) (went.Stopped (stop.Bad it)) is (λ e. cc e) refl status written
+    ended_so fits (went.Stopped (stop.Mismatch count call)) is status written =
+        ends_ok fits (ends.Mismatch count call) (went.Stopped (stop.Mismatch count call)) is (λ e. cc e) refl status written
+    ended_so fits (went.Stopped (stop.Failed call)) is status (same, wrote) =
+        let (here, rose) = fails_at call (said_so (went.Stopped (stop.Failed call)) is (λ e. cc e)) in
         fails_whole program how fault seen last (Undisturbed fails_first quiet) quiet first sink final taken (untaken new) running.sink here rose
-        (asked_at next.Fails is (λ e. cc e)) status same
+        (asked_at (went.Stopped (stop.Failed call)) is (λ e. cc e)) status (some_is same)
         (wrote ∙ ap (λ (es : List Event). took sink (lines_of_events how.trace es ++ line (end_text fault))) out)
+    ended_so fits (went.Stopped stop.Memory) is status none = absurd none
 
-    pub fails_err : NextOf result next.Fails → (halt : Halt) → StopsWriting (lines ++ line (end_text fault)) sink final halt → Early halt first final
-    fails_err is halt stops =
-        let (here, rose) = fails_at is in
-        fails_early program how fault seen last (Undisturbed fails_first quiet) quiet first sink final taken (untaken new) running.sink here rose
-        (asked_at next.Fails is (λ e. cc e)) halt
-        (subst (λ (es : List Event). StopsWriting (lines_of_events how.trace es ++ line (end_text fault)) sink final halt) out stops)
+    -- a run that ended with this turn
+    pub turn_ok : how.turns ≤ 2 ^ 64 - 1 → (told : Option ℕ) (status : ℕ) → told ≡ Some status → WroteTurn fault lines sink final told result
+        → WritesWhole Drives first final status
+    turn_ok fits told status is written =
+        ended_so fits result refl status (subst (λ (s : Option ℕ). WroteTurn fault lines sink final s result) is written)
 
-    pub goes_err : NextOf result next.Turn → (halt : Halt) → StopsWriting lines sink final halt → Early halt first final
-    goes_err is halt stops =
+    -- one whose lines weren't all written
+    pub turn_err : how.turns ≤ 2 ^ 64 - 1 → (w : code.Went) → result ≡ w → (halt : Halt) → StopsTurn fault lines sink final halt w
+        → Early halt first final
+    turn_err fits went.Went is halt stops =
         let (had, (takes, (goes, still))) = goes_at is in
         let here = goes_further new last running had takes goes in
         goes_early program how fault seen last (Undisturbed fails_first quiet) quiet first sink final taken (untaken new) running.sink here still halt
-        (until_so halt seen last _ (taken ++ untaken new) here.more here.is (asked_at next.Turn is (λ e. cc e)))
+        (until_so halt seen last _ (taken ++ untaken new) here.more here.is (asked_at went.Went is (λ e. cc e)))
         (subst (λ (es : List Event). StopsWriting (lines_of_events how.trace es) sink final halt) out stops)
+    turn_err fits (went.Finished outcome) is halt stops = ends_err fits (end_of outcome) (went.Finished outcome) is (λ e. cc e) refl halt stops
+    turn_err fits went.Stalled is halt stops = ends_err fits ends.Stalled went.Stalled is (λ e. cc e) refl halt stops
+    turn_err fits (went.Runaway task) is halt stops = ends_err fits (ends.Runaway task) (went.Runaway task) is (λ e. cc e) refl halt stops
+    turn_err fits (went.Stopped (stop.Over call)) is halt stops = ends_err fits (ends.Over call) (went.Stopped (stop.Over call)) is (λ e. cc e) refl halt stops
+    turn_err fits (went.Stopped (stop.Bad it)) is halt stops =
+        ends_err fits (ends.JournalRefused it.line it.cause) (went.Stopped (stop.Bad it)) is (λ e. cc e) refl halt stops
+    turn_err fits (went.Stopped (stop.Mismatch count call)) is halt stops =
+        ends_err fits (ends.Mismatch count call) (went.Stopped (stop.Mismatch count call)) is (λ e. cc e) refl halt stops
+    turn_err fits (went.Stopped (stop.Failed call)) is halt stops =
+        let (here, rose) = fails_at call (said_so (went.Stopped (stop.Failed call)) is (λ e. cc e)) in
+        fails_early program how fault seen last (Undisturbed fails_first quiet) quiet first sink final taken (untaken new) running.sink here rose
+        (asked_at (went.Stopped (stop.Failed call)) is (λ e. cc e)) halt
+        (subst (λ (es : List Event). StopsWriting (lines_of_events how.trace es ++ line (end_text fault)) sink final halt) out stops)
+    turn_err fits (went.Stopped stop.Memory) is halt (memory, same) =
+        subst (λ (h : Halt). Early h first final) (sym memory) (subst (λ (s : SinkSeen). Early Memory first s) (sym same) (refused_at fault))
+
+    -- no run ended, where no status was answered
+    goes_unless : (w : code.Went) → WroteTurn fault lines sink final None w → (w ≡ went.Went) × (final ≡ took sink lines)
+    goes_unless went.Went (none, wrote) = (refl, wrote)
+    goes_unless (went.Finished outcome) (some, wrote) = absurd (cc some)
+    goes_unless went.Stalled (some, wrote) = absurd (cc some)
+    goes_unless (went.Runaway task) (some, wrote) = absurd (cc some)
+    goes_unless (went.Stopped (stop.Over call)) (some, wrote) = absurd (cc some)
+    goes_unless (went.Stopped (stop.Bad it)) (some, wrote) = absurd (cc some)
+    goes_unless (went.Stopped (stop.Mismatch count call)) (some, wrote) = absurd (cc some)
+    goes_unless (went.Stopped (stop.Failed call)) (some, wrote) = absurd (cc some)
+    goes_unless (went.Stopped stop.Memory) none = absurd none
+
+    goes_so : (told : Option ℕ) → told ≡ None → WroteTurn fault lines sink final told result → (result ≡ went.Went) × (final ≡ took sink lines)
+    goes_so told is written = goes_unless result (subst (λ (s : Option ℕ). WroteTurn fault lines sink final s result) is written)
+
+    pub turn_goes : (told : Option ℕ) → told ≡ None → WroteTurn fault lines sink final told result → result ≡ went.Went
+    turn_goes told is written = (goes_so told is written).0
 
     -- the run is under way after it
-    pub goes_on : NextOf result next.Turn → (after : Kernel NoExtra g)
+    pub goes_on : (told : Option ℕ) → told ≡ None → WroteTurn fault lines sink final told result → (after : Kernel NoExtra g)
         → ((past : List Event) (answers : List Entry) (s : State (Unit {0})) → StandsFor nothing_added past answers new s
         → StandsFor nothing_added (past ++ untaken new) answers after s)
-        → untaken after ≡ [] → final ≡ took sink lines
+        → untaken after ≡ []
         → (left_then : ℕ) × (past_then : List Entry) × (taken_then : List Event)
         × IsDriven program how (made + 1) left_then after past_then taken_then seen last first final
-    goes_on is after takes_out none wrote =
+    goes_on told unsaid written after takes_out none =
+        let (is, wrote) = goes_so told unsaid written in
         let (had, (takes, (goes, still))) = goes_at is in (
           left,
           past ++ map Answered had,
           taken ++ untaken new,
           turned_on new last running had takes goes after final takes_out none
-              (wrote ∙ ap (λ (es : List Event). took sink (lines_of_events how.trace es)) out) (asked_at next.Turn is (λ e. cc e)),
+              (wrote ∙ ap (λ (es : List Event). took sink (lines_of_events how.trace es)) out) (asked_at went.Went is (λ e. cc e)),
         )
 
 -- where no turn is left
@@ -203,9 +250,6 @@ module _ {g : _} {program : Program} {how : Manner} {made left : ℕ} {kernel : 
   last_asked : Asks (taken ++ []) seen now
   last_asked = subst (λ (es : List Event). Asks es seen now) (sym (append-nil taken)) running.asked
 
-  last_goes : GoesOnHere program how seen.left (taken ++ [])
-  last_goes = subst (λ (es : List Event). GoesOnHere program how seen.left es) (sym (append-nil taken)) (goes_on_here running)
-
   pub last_ok : (end : End) → LastOf kernel how.turns end → (events : List Event) → events ≡ [] → (status : ℕ)
       → (status ≡ status_of end) × (final ≡ took sink (lines_of_events how.trace events ++ line (end_text end))) → WritesWhole LastDrives first final status
   last_ok end is events none status (same, wrote) =
@@ -217,9 +261,3 @@ module _ {g : _} {program : Program} {how : Manner} {made left : ℕ} {kernel : 
   last_err end is events none halt stops =
       ends_early program how fault seen now (Undisturbed fails_first quiet) quiet first sink final taken [] running.sink (last_here end is) still last_asked
       halt (subst (λ (es : List Event). StopsWriting (lines_of_events how.trace es ++ line (end_text end)) sink final halt) none stops)
-
-  -- memory was refused before the last line
-  pub last_unsaid : LastEarly Memory first sink
-  last_unsaid =
-      goes_early program how fault seen now (Undisturbed fails_first quiet) quiet first sink sink taken [] running.sink last_goes still Memory
-      (until_so Memory seen now _ (taken ++ []) last_goes.more last_goes.is last_asked) ([], ([], refl), sym (took-nil sink))

@@ -1,5 +1,4 @@
 pub mod Drive
 pub mod Ending
 pub mod Outcome
-pub mod Silence
 pub mod Writing

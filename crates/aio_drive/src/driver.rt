@@ -4,11 +4,8 @@ ghost use Rattle.model_machine.specs.Theorem.{WritesWhole};
 ghost use Rattle.aio_drive.specs.Drive.{IsUnbegun, LastOf, MayDrive, Undisturbed, over_all, over_front};
 ghost use Rattle.aio_drive.specs.Outcome.{EndsEarly};
 
-use crate::ending::{AfterTurn, last_says, next_of};
 use crate::halt::Halt;
-use crate::lines::{write_end, write_events};
-use crate::silent::Silent;
-use aio_base::Memory;
+use crate::lines::{write_end, write_turn};
 use aio_core::Kernel;
 use aio_extra::NoExtra;
 use aio_program::Program;
@@ -47,24 +44,25 @@ pub fn drive<W: Wire, K: Sink>(
 {
     let mut kernel = Kernel::new(alloc, program, NoExtra)?;
     for _made in 0..manner.turns {
-        let next = next_of(kernel.turn(alloc, wire));
+        let went = kernel.turn(alloc, wire);
         let events = kernel.events();
-        match next {
-            AfterTurn::Turn => write_events(alloc, &events, manner.trace, out)?,
-            AfterTurn::Ends(end) => return write_end(alloc, &events, manner.trace, &end, out),
-            AfterTurn::Fails => return write_end(alloc, &events, manner.trace, fault, out),
-            AfterTurn::Nothing => return Err(Halt::Memory),
+        let status = write_turn(alloc, went, &events, manner.trace, fault, out)?;
+        match status {
+            Some(status) => return Ok(status),
+            None => {}
         }
     }
-    let end = last_of(alloc, &mut kernel, manner.turns)?;
+    let end = last_of(&kernel, manner.turns);
     write_end(alloc, &Events::new(alloc), manner.trace, &end, out)
 }
 
-/// How a run ends that may make no further turn, of which so many were allowed: a turn more is
-/// asked for over a wire that has no answers, and it stalls or it is over.
-fn last_of(alloc: Global, kernel: &mut Kernel<NoExtra>, turns: u64) -> Result<End, Memory>
-    ensures { IfOk result (LastOf kernel.old turns) }
+/// How a run ends that may make no further turn, of which so many were allowed.
+fn last_of(kernel: &Kernel<NoExtra>, turns: u64) -> End
+    ensures { LastOf kernel.now turns result }
 {
-    let went = kernel.turn(alloc, &mut Silent);
-    last_says(went, turns)
+    if kernel.is_stalled() {
+        End::Stalled
+    } else {
+        End::Turns(turns)
+    }
 }

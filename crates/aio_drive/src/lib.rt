@@ -5,7 +5,6 @@ mod driver;
 mod ending;
 mod halt;
 mod lines;
-mod silent;
 mod writing;
 
 pub use driver::{Manner, drive};

@@ -3,13 +3,15 @@ ghost use Rattle.std.specs.Prelude.{◌≡◌, ◌++◌, IfOk, IfErr, OnOk};
 ghost use Rattle.model_wire.specs.Told.{took};
 ghost use Rattle.model_wire.specs.Trace.{end_text, line, lines_of_events};
 ghost use Rattle.model_machine.specs.Transcript.{status_of};
+ghost use Rattle.aio_drive.specs.Ending.{StopsLast, StopsTurn, WroteLast, WroteTurn};
 ghost use Rattle.aio_drive.specs.Writing.{StopsWriting};
 
-use crate::ending::status_of;
+use crate::ending::{end_of, status_of};
 use crate::halt::Halt;
 use crate::writing::write_all;
+use aio_core::Went;
 use aio_trace::{End, last_line, lines};
-use aio_wire::{Events, Sink};
+use aio_wire::{Events, Sink, Stop};
 use std::alloc::Global;
 
 /// Writes the lines of events.
@@ -50,4 +52,82 @@ pub fn write_end<K: Sink>(
     last_line(alloc, end, &mut text)?;
     write_all(alloc, out, text.as_slice())?;
     Ok(status_of(end))
+}
+
+/// Writes the lines of a turn's events, and where the run ended with that turn its last line too, which
+/// is `fault` where the wire failed. It answers the status of a run that ended.
+pub fn write_turn<K: Sink>(
+    alloc: Global,
+    went: Went,
+    events: &Events,
+    trace: bool,
+    fault: &End,
+    out: &mut K,
+) -> Result<Option<u8>, Halt>
+    ensures ok { IfOk result (λ status. WroteTurn fault.now
+        (lines_of_events trace events.now.events) (K.seen out.old) (K.seen out.new) status went) }
+    ensures err { IfErr result (λ halt. StopsTurn fault.now
+        (lines_of_events trace events.now.events) (K.seen out.old) (K.seen out.new) halt went) }
+{
+    match went {
+        Went::Went => match write_events(alloc, events, trace, out) {
+            Ok(()) => Ok(None),
+            Err(halt) => Err(halt),
+        },
+        Went::Finished(outcome) => write_last(alloc, events, trace, &end_of(outcome), out),
+        Went::Stalled => write_last(alloc, events, trace, &End::Stalled, out),
+        Went::Runaway(task) => write_last(alloc, events, trace, &End::Runaway(task), out),
+        Went::Stopped(stop) => write_stop(alloc, stop, events, trace, fault, out),
+    }
+}
+
+fn write_stop<K: Sink>(
+    alloc: Global,
+    stop: Stop,
+    events: &Events,
+    trace: bool,
+    fault: &End,
+    out: &mut K,
+) -> Result<Option<u8>, Halt>
+    ensures ok { IfOk result (λ status. WroteTurn fault.now
+        (lines_of_events trace events.now.events) (K.seen out.old) (K.seen out.new) status
+        (Went.Stopped stop)) }
+    ensures err { IfErr result (λ halt. StopsTurn fault.now
+        (lines_of_events trace events.now.events) (K.seen out.old) (K.seen out.new) halt
+        (Went.Stopped stop)) }
+{
+    match stop {
+        Stop::Over(call) => write_last(alloc, events, trace, &End::Over(call), out),
+        Stop::Bad(fault) => {
+            let end = End::JournalRefused {
+                line: fault.line,
+                cause: fault.cause,
+            };
+            write_last(alloc, events, trace, &end, out)
+        }
+        Stop::Mismatch(count, call) => {
+            write_last(alloc, events, trace, &End::Mismatch { count, call }, out)
+        }
+        Stop::Failed(_) => write_last(alloc, events, trace, fault, out),
+        Stop::Memory => Err(Halt::Memory),
+    }
+}
+
+// The lines of the last turn, and the last line.
+fn write_last<K: Sink>(
+    alloc: Global,
+    events: &Events,
+    trace: bool,
+    end: &End,
+    out: &mut K,
+) -> Result<Option<u8>, Halt>
+    ensures ok { IfOk result (λ status. WroteLast end.now
+        (lines_of_events trace events.now.events) (K.seen out.old) (K.seen out.new) status) }
+    ensures err { IfErr result (λ halt. StopsLast end.now
+        (lines_of_events trace events.now.events) (K.seen out.old) (K.seen out.new) halt) }
+{
+    match write_end(alloc, events, trace, end, out) {
+        Ok(status) => Ok(Some(status)),
+        Err(halt) => Err(halt),
+    }
 }

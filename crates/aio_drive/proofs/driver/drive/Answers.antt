@@ -4,12 +4,10 @@ use Rattle.aio_wire.specs.EventList.{EventList}
 use Rattle.aio_core.proofs.Asked.{none_once}
 use Rattle.aio_drive.specs.Drive.{IsUnbegun, MayDrive, Undisturbed, over_front}
 use Rattle.aio_drive.specs.declared.halt.Halt.TheVariants.{Memory}
-use Rattle.aio_drive.specs.Ending.{NextOf}
-use Rattle.aio_drive.specs.declared.ending.AfterTurn.{AfterTurn}
 use Rattle.aio_drive.proofs.Driving.{running_first}
 use Rattle.aio_drive.proofs.Written.{nothing_at_all}
 use Rattle.aio_drive.proofs.Fronts.{took-nil}
-use Rattle.aio_drive.proofs.Rounds.{ends_err, ends_ok, fails_err, fails_ok, goes_at, goes_err, goes_on, last_err, last_ok, last_unsaid, refused_at, with_turn}
+use Rattle.aio_drive.proofs.Rounds.{goes_at, goes_on, last_err, last_ok, turn_err, turn_goes, turn_ok, with_turn}
 use Rattle.aio_drive.proofs.driver.drive.Goals as goal
 
 pub returns-in_err-kernel-clause-err : goal.returns-in_err-kernel-clause-err
@@ -40,104 +38,50 @@ loop-made-init g c = record {
   quiet = g.met.W.Wire.quiet_same c.args.wire.now;
 }
 
-pub returns-in-Ends-clause-ok : goal.returns-in-Ends-clause-ok
-returns-in-Ends-clause-ok g c =
+pub returns-in-Some-clause-ok : goal.returns-in-Some-clause-ok
+returns-in-Some-clause-ok g c =
     let l = c.loop-made in
     let (left, past, taken, begun) = l.invariant.running in
     let (fewer, running) = with_turn left begun c.loop-made-test.true in
     let fits : c.args.manner.turns ≤ 2 ^ 64 - 1 = omega arith in
-    let is = subst (λ (n : AfterTurn). NextOf c.turn.result n) c.in-Ends.is c.next_of-next.ensures in
-    IfOk-weaker c.write_end.result _ _
-    (ends_ok (g.W.Wire.seen c.args.wire.now) running l.invariant.fails l.invariant.later (c.turn.ensures.turned (running.at []).stands.goes).1
-    (g.met.W.Wire.quiet_on c.args.wire.now l.wire c.turn.new.wire l.invariant.quiet)
-    c.args.fault.now (g.K.Sink.seen c.write_end.new.out) c.events-events.result.events c.events-events.ensures.taken fits c.in-Ends.end is)
-    c.write_end.ensures.ok
+    turn_ok (g.W.Wire.seen c.args.wire.now) running l.invariant.fails l.invariant.later (c.turn-went.ensures.turned (running.at []).stands.goes).1
+    (g.met.W.Wire.quiet_on c.args.wire.now l.wire c.turn-went.new.wire l.invariant.quiet)
+    c.args.fault.now (g.K.Sink.seen c.write_turn.new.out) c.events-events.result.events c.events-events.ensures.taken fits
+    c.in_ok-status.status c.in-Some.status c.in-Some.is c.in_ok-status.ensures.ok
 
-pub returns-in-Ends-clause-err : goal.returns-in-Ends-clause-err
-returns-in-Ends-clause-err g c =
+pub returns-in_err-status-clause-err : goal.returns-in_err-status-clause-err
+returns-in_err-status-clause-err g c =
     let l = c.loop-made in
     let (left, past, taken, begun) = l.invariant.running in
     let (fewer, running) = with_turn left begun c.loop-made-test.true in
     let fits : c.args.manner.turns ≤ 2 ^ 64 - 1 = omega arith in
-    let is = subst (λ (n : AfterTurn). NextOf c.turn.result n) c.in-Ends.is c.next_of-next.ensures in
-    IfErr-weaker c.write_end.result _ _
-    (ends_err (g.W.Wire.seen c.args.wire.now) running l.invariant.fails l.invariant.later (c.turn.ensures.turned (running.at []).stands.goes).1
-    (g.met.W.Wire.quiet_on c.args.wire.now l.wire c.turn.new.wire l.invariant.quiet)
-    c.args.fault.now (g.K.Sink.seen c.write_end.new.out) c.events-events.result.events c.events-events.ensures.taken fits c.in-Ends.end is)
-    c.write_end.ensures.err
-
-pub returns-in-Fails-clause-ok : goal.returns-in-Fails-clause-ok
-returns-in-Fails-clause-ok g c =
-    let l = c.loop-made in
-    let (left, past, taken, begun) = l.invariant.running in
-    let (fewer, running) = with_turn left begun c.loop-made-test.true in
-    let is = subst (λ (n : AfterTurn). NextOf c.turn.result n) c.in-Fails.is c.next_of-next.ensures in
-    IfOk-weaker c.write_end-in-Fails.result _ _
-    (fails_ok (g.W.Wire.seen c.args.wire.now) running l.invariant.fails l.invariant.later (c.turn.ensures.turned (running.at []).stands.goes).1
-    (g.met.W.Wire.quiet_on c.args.wire.now l.wire c.turn.new.wire l.invariant.quiet)
-    c.args.fault.now (g.K.Sink.seen c.write_end-in-Fails.new.out) c.events-events.result.events c.events-events.ensures.taken is)
-    c.write_end-in-Fails.ensures.ok
-
-pub returns-in-Fails-clause-err : goal.returns-in-Fails-clause-err
-returns-in-Fails-clause-err g c =
-    let l = c.loop-made in
-    let (left, past, taken, begun) = l.invariant.running in
-    let (fewer, running) = with_turn left begun c.loop-made-test.true in
-    let is = subst (λ (n : AfterTurn). NextOf c.turn.result n) c.in-Fails.is c.next_of-next.ensures in
-    IfErr-weaker c.write_end-in-Fails.result _ _
-    (fails_err (g.W.Wire.seen c.args.wire.now) running l.invariant.fails l.invariant.later (c.turn.ensures.turned (running.at []).stands.goes).1
-    (g.met.W.Wire.quiet_on c.args.wire.now l.wire c.turn.new.wire l.invariant.quiet)
-    c.args.fault.now (g.K.Sink.seen c.write_end-in-Fails.new.out) c.events-events.result.events c.events-events.ensures.taken is)
-    c.write_end-in-Fails.ensures.err
-
-pub returns-in-Nothing-clause-err : goal.returns-in-Nothing-clause-err
-returns-in-Nothing-clause-err g c =
-    let l = c.loop-made in
-    let (left, past, taken, begun) = l.invariant.running in
-    let (fewer, running) = with_turn left begun c.loop-made-test.true in
-    refused_at (g.W.Wire.seen c.args.wire.now) running l.invariant.fails l.invariant.later (c.turn.ensures.turned (running.at []).stands.goes).1
-    (g.met.W.Wire.quiet_on c.args.wire.now l.wire c.turn.new.wire l.invariant.quiet) c.args.fault.now
-
-pub returns-in_err-write_events-in-Turn-clause-err : goal.returns-in_err-write_events-in-Turn-clause-err
-returns-in_err-write_events-in-Turn-clause-err g c =
-    let l = c.loop-made in
-    let (left, past, taken, begun) = l.invariant.running in
-    let (fewer, running) = with_turn left begun c.loop-made-test.true in
-    let is = subst (λ (n : AfterTurn). NextOf c.turn.result n) c.in-Turn.is c.next_of-next.ensures in
-    let p = err_from_is_err_and c.from_residual-in_err-write_events-in-Turn.result c.from_residual-in_err-write_events-in-Turn.ensures.1 in
-    rw (p.1, p.2) (goes_err (g.W.Wire.seen c.args.wire.now) running l.invariant.fails l.invariant.later (c.turn.ensures.turned (running.at []).stands.goes).1
-    (g.met.W.Wire.quiet_on c.args.wire.now l.wire c.turn.new.wire l.invariant.quiet)
-    c.args.fault.now (g.K.Sink.seen c.write_events.new.out) c.events-events.result.events c.events-events.ensures.taken is
-    c.in_err-write_events-in-Turn.field-0.0 c.in_err-write_events-in-Turn.ensures.err)
+    let p = err_from_is_err_and c.from_residual-in_err-status.result c.from_residual-in_err-status.ensures.1 in
+    rw (p.1, p.2) (turn_err (g.W.Wire.seen c.args.wire.now) running l.invariant.fails l.invariant.later (c.turn-went.ensures.turned (running.at []).stands.goes).1
+    (g.met.W.Wire.quiet_on c.args.wire.now l.wire c.turn-went.new.wire l.invariant.quiet)
+    c.args.fault.now (g.K.Sink.seen c.write_turn.new.out) c.events-events.result.events c.events-events.ensures.taken fits
+    c.turn-went.result refl c.in_err-status.field-0.0 c.in_err-status.ensures.err)
 
 pub loop-made-preserved : goal.loop-made-preserved
 loop-made-preserved g c =
     let l = c.loop-made in
     let (left, past, taken, begun) = l.invariant.running in
     let (fewer, running) = with_turn left begun c.loop-made-test.true in
-    let is = subst (λ (n : AfterTurn). NextOf c.turn.result n) c.in-Turn.is c.next_of-next.ensures in
-    let turned = (c.turn.ensures.turned (running.at []).stands.goes).1 in
-    let quietly = g.met.W.Wire.quiet_on c.args.wire.now l.wire c.turn.new.wire l.invariant.quiet in
+    let turned = (c.turn-went.ensures.turned (running.at []).stands.goes).1 in
+    let quietly = g.met.W.Wire.quiet_on c.args.wire.now l.wire c.turn-went.new.wire l.invariant.quiet in
+    let is = turn_goes (g.W.Wire.seen c.args.wire.now) running l.invariant.fails l.invariant.later turned quietly c.args.fault.now
+    (g.K.Sink.seen c.write_turn.new.out) c.events-events.result.events c.events-events.ensures.taken c.in_ok-status.status c.in-None.is c.in_ok-status.ensures.ok in
     let (had, (takes, (goes, still))) = goes_at (g.W.Wire.seen c.args.wire.now) running l.invariant.fails l.invariant.later turned quietly is in
     record {
       running =
           goes_on (g.W.Wire.seen c.args.wire.now) running l.invariant.fails l.invariant.later turned quietly c.args.fault.now
-          (g.K.Sink.seen c.write_events.new.out)
-          c.events-events.result.events c.events-events.ensures.taken is c.events-events.new.self c.events-events.ensures.stands
-          c.events-events.ensures.left c.in_ok-write_events-in-Turn.ensures.ok;
+          (g.K.Sink.seen c.write_turn.new.out)
+          c.events-events.result.events c.events-events.ensures.taken c.in_ok-status.status c.in-None.is c.in_ok-status.ensures.ok c.events-events.new.self c.events-events.ensures.stands
+          c.events-events.ensures.left;
       fails = λ fails. absurd (still.0 fails);
-      later = omega (arith, l.invariant.later, c.turn.ensures.later);
-      keeps = g.met.W.Wire.keeps_on c.args.wire.now l.wire c.turn.new.wire l.invariant.keeps c.turn.ensures.keeps;
+      later = omega (arith, l.invariant.later, c.turn-went.ensures.later);
+      keeps = g.met.W.Wire.keeps_on c.args.wire.now l.wire c.turn-went.new.wire l.invariant.keeps c.turn-went.ensures.keeps;
       quiet = still.1;
     }
-
-pub returns-in_err-end-clause-err : goal.returns-in_err-end-clause-err
-returns-in_err-end-clause-err g c =
-    let l = c.loop-made in
-    let (left, past, taken, running) = l.invariant.running in
-    let p = err_from_is_err_and c.from_residual-in_err-end.result c.from_residual-in_err-end.ensures.1 in
-    rw (p.1, p.2) (last_unsaid (g.W.Wire.seen c.args.wire.now) (g.W.Wire.seen l.wire) running c.loop-made-test.false
-    (λ fails. absurd (let (none, here) = l.invariant.fails fails in omega arith), l.invariant.quiet) c.args.fault.now (g.K.Sink.seen l.out))
 
 pub returns-clause-ok : goal.returns-clause-ok
 returns-clause-ok g c =
@@ -146,7 +90,7 @@ returns-clause-ok g c =
     IfOk-weaker c.write_end-2.result _ _
     (last_ok (g.W.Wire.seen c.args.wire.now) (g.W.Wire.seen l.wire) running c.loop-made-test.false
     (λ fails. absurd (let (none, here) = l.invariant.fails fails in omega arith), l.invariant.quiet)
-    c.args.fault.now (g.K.Sink.seen c.write_end-2.new.out) c.in_ok-end.end c.in_ok-end.ensures c.new-2.result.events
+    c.args.fault.now (g.K.Sink.seen c.write_end-2.new.out) c.last_of-end.result c.last_of-end.ensures c.new-2.result.events
     (ap (λ (l : EventList). l.events) c.new-2.ensures))
     c.write_end-2.ensures.ok
 
@@ -157,28 +101,20 @@ returns-clause-err g c =
     IfErr-weaker c.write_end-2.result _ _
     (last_err (g.W.Wire.seen c.args.wire.now) (g.W.Wire.seen l.wire) running c.loop-made-test.false
     (λ fails. absurd (let (none, here) = l.invariant.fails fails in omega arith), l.invariant.quiet)
-    c.args.fault.now (g.K.Sink.seen c.write_end-2.new.out) c.in_ok-end.end c.in_ok-end.ensures c.new-2.result.events
+    c.args.fault.now (g.K.Sink.seen c.write_end-2.new.out) c.last_of-end.result c.last_of-end.ensures c.new-2.result.events
     (ap (λ (l : EventList). l.events) c.new-2.ensures))
     c.write_end-2.ensures.err
 
-pub returns-in-Nothing-clause-keeps : goal.returns-in-Nothing-clause-keeps
-returns-in-Nothing-clause-keeps g c = g.met.W.Wire.keeps_on c.args.wire.now c.loop-made.wire c.turn.new.wire c.loop-made.invariant.keeps c.turn.ensures.keeps
+pub returns-in-Some-clause-keeps : goal.returns-in-Some-clause-keeps
+returns-in-Some-clause-keeps g c =
+    g.met.W.Wire.keeps_on c.args.wire.now c.loop-made.wire c.turn-went.new.wire c.loop-made.invariant.keeps c.turn-went.ensures.keeps
 
-pub returns-in-Ends-clause-keeps : goal.returns-in-Ends-clause-keeps
-returns-in-Ends-clause-keeps g c = g.met.W.Wire.keeps_on c.args.wire.now c.loop-made.wire c.turn.new.wire c.loop-made.invariant.keeps c.turn.ensures.keeps
-
-pub returns-in-Fails-clause-keeps : goal.returns-in-Fails-clause-keeps
-returns-in-Fails-clause-keeps g c = g.met.W.Wire.keeps_on c.args.wire.now c.loop-made.wire c.turn.new.wire c.loop-made.invariant.keeps c.turn.ensures.keeps
-
-pub returns-in_err-write_events-in-Turn-clause-keeps : goal.returns-in_err-write_events-in-Turn-clause-keeps
-returns-in_err-write_events-in-Turn-clause-keeps g c =
-    g.met.W.Wire.keeps_on c.args.wire.now c.loop-made.wire c.turn.new.wire c.loop-made.invariant.keeps c.turn.ensures.keeps
+pub returns-in_err-status-clause-keeps : goal.returns-in_err-status-clause-keeps
+returns-in_err-status-clause-keeps g c =
+    g.met.W.Wire.keeps_on c.args.wire.now c.loop-made.wire c.turn-went.new.wire c.loop-made.invariant.keeps c.turn-went.ensures.keeps
 
 pub returns-in_err-kernel-clause-keeps : goal.returns-in_err-kernel-clause-keeps
 returns-in_err-kernel-clause-keeps g c = g.met.W.Wire.keeps_same c.args.wire.now
-
-pub returns-in_err-end-clause-keeps : goal.returns-in_err-end-clause-keeps
-returns-in_err-end-clause-keeps g c = c.loop-made.invariant.keeps
 
 pub returns-clause-keeps : goal.returns-clause-keeps
 returns-clause-keeps g c = c.loop-made.invariant.keeps
