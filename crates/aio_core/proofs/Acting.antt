@@ -2,7 +2,7 @@
 use Rattle.std.proofs.Common.{◌≡◌, ℕ, ℤ, Bool, true, false, ◌&&◌, not, cond, List, [], ◌∷◌, ◌++◌, Some, None, length, slice_get, ◌∙◌, refl, sym, ap, subst}
 use Rattle.std.proofs.Common.{arith}
 use Rattle.std.proofs.Math.Logic.{∥∥₁_elim, ∥∥₁_map}
-use Rattle.std.proofs.lemmas.Bool.{eq-eqb}
+use Rattle.std.proofs.lemmas.Bool.{eq-eqb, false≢true}
 use Rattle.model_value.specs.Action.{Action, Circle}
 use Rattle.model_value.specs.Input.{Input}
 use Rattle.model_value.specs.declared.action.Action.TheVariants as action
@@ -22,8 +22,8 @@ use Rattle.model_loop.specs.Ways.{steps}
 use Rattle.model_machine.specs.Outcomes.{woken_with}
 use Rattle.model_machine.specs.State.{State, in_loop, noted, unbooked_in}
 use Rattle.model_machine.specs.Step.{step}
-use Rattle.model_machine.specs.Sound.{IsClosed}
 use Rattle.model_machine.specs.Turn.{effect, ran}
+use Rattle.law_reach.specs.Closed.{is_of_streams}
 use Rattle.law_reach.proofs.Closed.{effect_none}
 use Rattle.model_machine.specs.Went.{Goes}
 use Rattle.law_inside.specs.InStep.{LeavesStateSound}
@@ -46,7 +46,7 @@ use Rattle.law_sound.proofs.Steps.{idle_sound}
 use Rattle.law_turns.specs.SoundState.{HasSoundLoop}
 use Rattle.law_turns.proofs.Turning.{as_told, tells_none}
 use Rattle.law_extras.specs.Allowed.{AreAllowed}
-use Rattle.model_machine.specs.Extra.{Extra, ExtraCall, called as called_after}
+use Rattle.model_machine.specs.Extra.{ExtraCall, called as called_after}
 use Rattle.aio_task.specs.Keeps.{Ties}
 use Rattle.aio_extra.specs.Called.{CallsAs, IsServed, MayServe}
 use Rattle.law_body.proofs.Adding.{served_of, stands_called}
@@ -62,10 +62,6 @@ use Rattle.law_body.proofs.May.{same_prop}
 use Rattle.law_body.proofs.Noting.{stands_noted, telling_changes}
 use Rattle.law_body.proofs.Rooms.{below_soon_all}
 use Rattle.law_body.proofs.Sound.{extra_sound}
-use Rattle.aio_core.specs.declared.effect.Effect.{Effect}
-use Rattle.aio_core.specs.declared.effect.Effect.TheVariants as code
-use Rattle.aio_core.specs.Effects.{effect_of, MayAct}
-use Rattle.aio_core.proofs.Actions.{is_step, is_circle, is_wakeup, is_sleep, is_group, is_firing, is_main, is_extra, is_item}
 
 module _ {X : Type 0} {a : Added X} where
   -- ---- it is noted that it runs
@@ -140,73 +136,43 @@ StepsAs a task input old new said =
     (c : Setting a) (s : State a.Kept) → IsCalled task c old s → Steps c new said (step step_limit a.meaning task (input s) s)
 
 -- what a handle comes to
-abbrev pub Acts : {X : Type 0} → (a : Added X) → Effect → (old new : Body X) → Stepped → Type 0
-Acts a what old new said =
-    (c : Setting a) (s : State a.Kept) (it : Action) → what ≡ effect_of it → IsTaken it c old s
-    → Steps c new said (effect step_limit a.meaning it s)
+abbrev pub Acts : {X : Type 0} → (a : Added X) → Action → (old new : Body X) → Stepped → Type 0
+Acts a it old new said = (c : Setting a) (s : State a.Kept) → IsTaken it c old s → Steps c new said (effect step_limit a.meaning it s)
 
 module _ {X : Type 0} {a : Added X} where
   -- ---- steps
-  pub step_called : (task : ℕ) (c : Setting a) (body : Body X) (s : State a.Kept) → IsTaken (action.Step task) c body s → IsCalled task c body s
+  step_called : (task : ℕ) (c : Setting a) (body : Body X) (s : State a.Kept) → IsTaken (action.Step task) c body s → IsCalled task c body s
   step_called task c body s h = called_so (action.Step task) c body s h task (eq-eqb task task refl) refl
 
-  pub circle_called : (task : ℕ) (circle : Circle) (c : Setting a) (body : Body X) (s : State a.Kept) → IsTaken (action.StepInCircle task circle) c body s
+  circle_called : (task : ℕ) (circle : Circle) (c : Setting a) (body : Body X) (s : State a.Kept) → IsTaken (action.StepInCircle task circle) c body s
       → IsCalled task c body s
   circle_called task circle c body s h = called_so (action.StepInCircle task circle) c body s h task (eq-eqb task task refl) refl
 
-  pub wakeup_called : (task : ℕ) (c : Setting a) (body : Body X) (s : State a.Kept) → IsTaken (action.Wakeup task) c body s → IsCalled task c body s
+  wakeup_called : (task : ℕ) (c : Setting a) (body : Body X) (s : State a.Kept) → IsTaken (action.Wakeup task) c body s → IsCalled task c body s
   wakeup_called task c body s h = called_so (action.Wakeup task) c body s h task (eq-eqb task task refl) refl
 
-  pub step_begins : (task : ℕ) (body : Body X) → MayAct a (code.Step task) body → MayBegin a task body
-  step_begins task body m =
-      ∥∥₁_map m (λ w. (
-        w.1.1.0,
-        (
-          w.1.1.1.0,
-          step_called task w.1.1.0 body w.1.1.1.0
-              (subst (λ k. IsTaken k w.1.1.0 body w.1.1.1.0) (is_step task w.0 w.1.0) w.1.1.1.1),
-        ),
-      ))
+  pub step_begins : (task : ℕ) (body : Body X) → MayTake a (action.Step task) body → MayBegin a task body
+  step_begins task body m = ∥∥₁_map m (λ w. (w.0, (w.1.0, step_called task w.0 body w.1.0 w.1.1)))
 
-  pub circle_begins : (task : ℕ) (circle : Circle) (body : Body X) → MayAct a (code.StepInCircle task circle) body → MayBegin a task body
-  circle_begins task circle body m =
-      ∥∥₁_map m (λ w. (
-        w.1.1.0,
-        (
-          w.1.1.1.0,
-          circle_called task circle w.1.1.0 body w.1.1.1.0 (subst (λ k. IsTaken k w.1.1.0 body w.1.1.1.0) (is_circle task circle w.0 w.1.0) w.1.1.1.1),
-        ),
-      ))
+  pub circle_begins : (task : ℕ) (circle : Circle) (body : Body X) → MayTake a (action.StepInCircle task circle) body → MayBegin a task body
+  circle_begins task circle body m = ∥∥₁_map m (λ w. (w.0, (w.1.0, circle_called task circle w.0 body w.1.0 w.1.1)))
 
-  pub wakeup_begins : (task : ℕ) (body : Body X) → MayAct a (code.Wakeup task) body → MayBegin a task body
-  wakeup_begins task body m =
-      ∥∥₁_map m (λ w. (
-        w.1.1.0,
-        (
-          w.1.1.1.0,
-          wakeup_called task w.1.1.0 body w.1.1.1.0 (subst (λ k. IsTaken k w.1.1.0 body w.1.1.1.0) (is_wakeup task w.0 w.1.0) w.1.1.1.1),
-        ),
-      ))
+  pub wakeup_begins : (task : ℕ) (body : Body X) → MayTake a (action.Wakeup task) body → MayBegin a task body
+  wakeup_begins task body m = ∥∥₁_map m (λ w. (w.0, (w.1.0, wakeup_called task w.0 body w.1.0 w.1.1)))
 
 module _ {X : Type 0} {a : Added X} (old new : Body X) (said : Stepped) where
-  pub step_acts : (task : ℕ) → StepsAs a task (λ s. Send Nothing) old new said → Acts a (code.Step task) old new said
+  pub step_acts : (task : ℕ) → StepsAs a task (λ s. Send Nothing) old new said → Acts a (action.Step task) old new said
   unfolding effect
-  step_acts task does c s it is h =
-      subst (λ k. Steps c new said (effect step_limit a.meaning k s)) (sym (is_step task it is))
-      (does c s (step_called task c old s (subst (λ k. IsTaken k c old s) (is_step task it is) h)))
+  step_acts task does c s h = does c s (step_called task c old s h)
 
   pub circle_acts : (task : ℕ) (circle : Circle) → StepsAs a task (λ s. Throw (circle_fault circle)) old new said
-      → Acts a (code.StepInCircle task circle) old new said
+      → Acts a (action.StepInCircle task circle) old new said
   unfolding effect
-  circle_acts task circle does c s it is h =
-      subst (λ k. Steps c new said (effect step_limit a.meaning k s)) (sym (is_circle task circle it is))
-      (does c s (circle_called task circle c old s (subst (λ k. IsTaken k c old s) (is_circle task circle it is) h)))
+  circle_acts task circle does c s h = does c s (circle_called task circle c old s h)
 
-  pub wakeup_acts : (task : ℕ) → StepsAs a task (λ s. woken_with s.loop.parts task) old new said → Acts a (code.Wakeup task) old new said
+  pub wakeup_acts : (task : ℕ) → StepsAs a task (λ s. woken_with s.loop.parts task) old new said → Acts a (action.Wakeup task) old new said
   unfolding effect
-  wakeup_acts task does c s it is h =
-      subst (λ k. Steps c new said (effect step_limit a.meaning k s)) (sym (is_wakeup task it is))
-      (does c s (wakeup_called task c old s (subst (λ k. IsTaken k c old s) (is_wakeup task it is) h)))
+  wakeup_acts task does c s h = does c s (wakeup_called task c old s h)
 
 -- ---- the end of a sleep
 module _ {X : Type 0} {a : Added X} (task future : ℕ) (c : Setting a) (body : Body X) (s : State a.Kept)
@@ -246,68 +212,46 @@ module _ {X : Type 0} {a : Added X} (task future : ℕ) (c : Setting a) (body : 
   })
 
 module _ {X : Type 0} {a : Added X} where
-  pub sleep_idle : (task future : ℕ) (body : Body X) → MayAct a (code.SleepDone task future) body → body.parts.called ≡ None
-  sleep_idle task future body m =
-      ∥∥₁_elim m (same_prop body.parts.called None)
-      (λ w. (subst (λ k. IsTaken k w.1.1.0 body w.1.1.1.0) (is_sleep task future w.0 w.1.0) w.1.1.1.1).called)
+  pub sleep_idle : (task future : ℕ) (body : Body X) → MayTake a (action.SleepDone task future) body → body.parts.called ≡ None
+  sleep_idle task future body m = ∥∥₁_elim m (same_prop body.parts.called None) (λ w. w.1.1.called)
 
-  pub sleep_free : (task future : ℕ) (body : Body X) → MayAct a (code.SleepDone task future) body → owner_at (slice_get body.parts.futures future) ≡ None
+  pub sleep_free : (task future : ℕ) (body : Body X) → MayTake a (action.SleepDone task future) body
+      → owner_at (slice_get body.parts.futures future) ≡ None
   sleep_free task future body m =
       ∥∥₁_elim m (same_prop (owner_at (slice_get body.parts.futures future)) None)
-      (λ w. sleeps_own task future w.1.1.0 body w.1.1.1.0 (subst (λ k. IsTaken k w.1.1.0 body w.1.1.1.0) (is_sleep task future w.0 w.1.0) w.1.1.1.1))
+      (λ w. sleeps_own task future w.0 body w.1.0 w.1.1)
 
   pub sleep_acts : (task future : ℕ) (old : Body X) (v : View)
       → v ≡ record old.parts {
         futures = settled.settled future (Returned Nothing) old.parts.futures;
         queue = soon_all (called future old.parts.futures) old.parts.queue;
       }
-      → Acts a (code.SleepDone task future) old (record old { parts = v }) went.Goes
+      → Acts a (action.SleepDone task future) old (record old { parts = v }) went.Goes
   unfolding effect
-  sleep_acts task future old v is c s it what h =
-      let e = is_sleep task future it what in
-      let taken = subst (λ k. IsTaken k c old s) e h in
-      subst (λ k. Steps c (record old { parts = v }) went.Goes (effect step_limit a.meaning k s)) (sym e)
-      (after_so (action.SleepDone task future) c old s taken (record old { parts = v }) (unbooked_in (settle future (Returned Nothing)) s) refl
-      (sleep_over task future c old s taken v is))
+  sleep_acts task future old v is c s h =
+      after_so (action.SleepDone task future) c old s h (record old { parts = v }) (unbooked_in (settle future (Returned Nothing)) s) refl
+      (sleep_over task future c old s h v is)
 
   -- ---- groups and timeouts
-  pub group_takes : (group task : ℕ) (body : Body X) → MayAct a (code.GroupDone group task) body → MayTake a (action.GroupDone group task) body
-  group_takes group task body m =
-      ∥∥₁_map m (λ w. (w.1.1.0, (w.1.1.1.0, subst (λ k. IsTaken k w.1.1.0 body w.1.1.1.0) (is_group group task w.0 w.1.0) w.1.1.1.1)))
-
-  pub fire_takes : (timeout : ℕ) (body : Body X) → MayAct a (code.Fires timeout) body → MayTake a (action.Fires timeout) body
-  fire_takes timeout body m =
-      ∥∥₁_map m (λ w. (w.1.1.0, (w.1.1.1.0, subst (λ k. IsTaken k w.1.1.0 body w.1.1.1.0) (is_firing timeout w.0 w.1.0) w.1.1.1.1)))
-
   pub group_acts : (group task : ℕ) (old new : Body X)
       → ((c : Setting a) (s : State a.Kept) → IsTaken (action.GroupDone group task) c old s → IsAfterCallback c new (in_loop (child_done group task) s))
-      → Acts a (code.GroupDone group task) old new went.Goes
+      → Acts a (action.GroupDone group task) old new went.Goes
   unfolding effect
-  group_acts group task old new does c s it what h =
-      let e = is_group group task it what in
-      let taken = subst (λ k. IsTaken k c old s) e h in
-      subst (λ k. Steps c new went.Goes (effect step_limit a.meaning k s)) (sym e)
-      (after_so (action.GroupDone group task) c old s taken new (in_loop (child_done group task) s) refl (does c s taken))
+  group_acts group task old new does c s h =
+      after_so (action.GroupDone group task) c old s h new (in_loop (child_done group task) s) refl (does c s h)
 
   pub fire_acts : (timeout : ℕ) (old new : Body X)
       → ((c : Setting a) (s : State a.Kept) → IsTaken (action.Fires timeout) c old s → IsAfterCallback c new (in_loop (fire timeout) s))
-      → Acts a (code.Fires timeout) old new went.Goes
+      → Acts a (action.Fires timeout) old new went.Goes
   unfolding effect
-  fire_acts timeout old new does c s it what h =
-      let e = is_firing timeout it what in
-      let taken = subst (λ k. IsTaken k c old s) e h in
-      subst (λ k. Steps c new went.Goes (effect step_limit a.meaning k s)) (sym e)
-      (after_so (action.Fires timeout) c old s taken new (in_loop (fire timeout) s) refl (does c s taken))
+  fire_acts timeout old new does c s h = after_so (action.Fires timeout) c old s h new (in_loop (fire timeout) s) refl (does c s h)
 
   -- ---- main's callback
-  pub main_acts : (old : Body X) → Acts a code.MainDone old (record old { main_done = true }) went.Goes
+  pub main_acts : (old : Body X) → Acts a action.MainDone old (record old { main_done = true }) went.Goes
   unfolding effect
-  main_acts old c s it what h =
-      let e = is_main it what in
-      let taken = subst (λ k. IsTaken k c old s) e h in
-      subst (λ k. Steps c (record old { main_done = true }) went.Goes (effect step_limit a.meaning k s)) (sym e)
-      (after_so action.MainDone c old s taken (record old { main_done = true }) (record s { main_done = true }) refl
-      (record { stands = stands_main c old s taken.stands; called = taken.called; running = taken.running }))
+  main_acts old c s h =
+      after_so action.MainDone c old s h (record old { main_done = true }) (record s { main_done = true }) refl
+      (record { stands = stands_main c old s h.stands; called = h.called; running = h.running })
     where
       stands_main : (c : Setting a) (old : Body X) (s : State a.Kept) → Stands None c old s
           → Stands None c (record old { main_done = true }) (record s { main_done = true })
@@ -323,10 +267,9 @@ module _ {X : Type 0} {a : Added X} where
           })
 
   -- a handle that was taken may do what it does
-  pub may_act : (it : Action) (what : Effect) (body : Body X) (events : EventList) → what ≡ effect_of it → events ≡ pushed body.events (event.Ran it)
-      → MayRun a it body → MayAct a what (record body { events = events })
-  may_act it what body events same e m =
-      ∥∥₁_map m (λ w. (it, (same, (w.0, (noted (event.Ran it) w.1.0, taken_so it w.0 body w.1.0 events e w.1.1)))))
+  pub may_act : (it : Action) (body : Body X) (events : EventList) → events ≡ pushed body.events (event.Ran it)
+      → MayRun a it body → MayTake a it (record body { events = events })
+  may_act it body events e m = ∥∥₁_map m (λ w. (w.0, (noted (event.Ran it) w.1.0, taken_so it w.0 body w.1.0 events e w.1.1)))
 
 -- what is added heard this news
 abbrev pub HearsNews : {X : Type 0} → (a : Added X) → (old : Body X) (v : View) (x : X) (number : ℤ) (bytes : List ℕ) → Type 0
@@ -356,66 +299,39 @@ module _ {X : Type 0} {a : Added X} where
           running = r.running ∙ h.running;
         })
 
-  pub extra_serves : (key : ℕ) (body : Body X) → MayAct a (code.Extra key) body → MayServe a None body.extra body.parts
-  extra_serves key body m =
-      idle_served (action.Extra key) body refl (λ id. refl) (λ g. refl) refl
-      (∥∥₁_map m (λ w. (w.1.1.0, (w.1.1.1.0, subst (λ k. IsTaken k w.1.1.0 body w.1.1.1.0) (is_extra key w.0 w.1.0) w.1.1.1.1))))
+  pub extra_serves : (key : ℕ) (body : Body X) → MayTake a (action.Extra key) body → MayServe a None body.extra body.parts
+  extra_serves key body m = idle_served (action.Extra key) body refl (λ id. refl) (λ g. refl) refl m
 
   pub extra_acts : (key : ℕ) (old : Body X) (v : View) (x : X)
       → ((t : Ties) (s : State a.Kept) → IsServed a None t s old.extra old.parts → CallsAs a t s old.parts v x (a.meaning.act key s))
-      → Acts a (code.Extra key) old (record old { parts = v; extra = x }) went.Goes
+      → Acts a (action.Extra key) old (record old { parts = v; extra = x }) went.Goes
   unfolding effect
-  extra_acts key old v x does c s it what h =
-      let e = is_extra key it what in
-      let taken = subst (λ k. IsTaken k c old s) e h in
-      let sound = idle_so (action.Extra key) c old s taken refl (λ id. refl) (λ g. refl) in
-      subst (λ k. Steps c (record old { parts = v; extra = x }) went.Goes (effect step_limit a.meaning k s)) (sym e)
-      (calls_so (action.Extra key) c old s taken sound refl (a.meaning.act key s) (a.allowed.act key s sound) refl v x
-      (λ t now served same. does t s (subst (λ n. IsServed a None t n old.extra old.parts) same served)))
+  extra_acts key old v x does c s h =
+      let sound = idle_so (action.Extra key) c old s h refl (λ id. refl) (λ g. refl) in
+      calls_so (action.Extra key) c old s h sound refl (a.meaning.act key s) (a.allowed.act key s sound) refl v x
+      (λ t now served same. does t s (subst (λ n. IsServed a None t n old.extra old.parts) same served))
 
-  pub item_serves : (number : ℤ) (bytes : List ℕ) (body : Body X) → MayAct a (code.ExtraItem number bytes) body → MayServe a None body.extra body.parts
-  item_serves number bytes body m =
-      idle_served (action.ExtraItem number bytes) body refl (λ id. refl) (λ g. refl) refl
-      (∥∥₁_map m (λ w. (w.1.1.0, (w.1.1.1.0, subst (λ k. IsTaken k w.1.1.0 body w.1.1.1.0) (is_item number bytes w.0 w.1.0) w.1.1.1.1))))
+  pub item_serves : (number : ℤ) (bytes : List ℕ) (body : Body X) → MayTake a (action.ExtraItem number bytes) body
+      → MayServe a None body.extra body.parts
+  item_serves number bytes body m = idle_served (action.ExtraItem number bytes) body refl (λ id. refl) (λ g. refl) refl m
 
   pub item_acts : (number : ℤ) (bytes : List ℕ) (old : Body X) (v : View) (x : X)
-      → HearsNews a old v x number bytes → Acts a (code.ExtraItem number bytes) old (record old { parts = v; extra = x }) went.Goes
+      → HearsNews a old v x number bytes → Acts a (action.ExtraItem number bytes) old (record old { parts = v; extra = x }) went.Goes
   unfolding effect
-  item_acts number bytes old v x does c s it what h =
-      let e = is_item number bytes it what in
-      let taken = subst (λ k. IsTaken k c old s) e h in
-      let sound = idle_so (action.ExtraItem number bytes) c old s taken refl (λ id. refl) (λ g. refl) in
-      subst (λ k. Steps c (record old { parts = v; extra = x }) went.Goes (effect step_limit a.meaning k s)) (sym e)
-      (calls_so (action.ExtraItem number bytes) c old s taken sound refl (a.meaning.item number bytes s) (a.allowed.item number bytes s sound) refl v x
-      (λ t now served same. does t s (subst (λ n. IsServed a None t n old.extra old.parts) same served)))
+  item_acts number bytes old v x does c s h =
+      let sound = idle_so (action.ExtraItem number bytes) c old s h refl (λ id. refl) (λ g. refl) in
+      calls_so (action.ExtraItem number bytes) c old s h sound refl (a.meaning.item number bytes s) (a.allowed.item number bytes s sound) refl v x
+      (λ t now served same. does t s (subst (λ n. IsServed a None t n old.extra old.parts) same served))
 
--- ---- what isn't here so far
-nothing_goes : {S : Type 0} (added : Extra S) (it : Action) → code.Nothing ≡ effect_of it → (s : State S) → IsClosed s
-    → (effect step_limit added it s ≡ Goes s) × (stepped it ≡ None)
-nothing_goes added (action.Step other) e s closed = absurd (cc)
-nothing_goes added (action.StepInCircle other circle) e s closed = absurd (cc)
-nothing_goes added (action.Wakeup other) e s closed = absurd (cc)
-nothing_goes added (action.SleepDone other future) e s closed = absurd (cc)
-nothing_goes added (action.GroupDone group other) e s closed = absurd (cc)
-nothing_goes added (action.Fires id) e s closed = absurd (cc)
-nothing_goes added action.MainDone e s closed = absurd (cc)
-nothing_goes added (action.Extra key) e s closed = absurd (cc)
-nothing_goes added (action.ExtraItem number bytes) e s closed = absurd (cc)
-nothing_goes added (action.Made conn) e s closed = (effect_none s closed step_limit added (action.Made conn) refl, refl)
-nothing_goes added (action.StartRead conn) e s closed = (effect_none s closed step_limit added (action.StartRead conn) refl, refl)
-nothing_goes added (action.Lost conn broken) e s closed = (effect_none s closed step_limit added (action.Lost conn broken) refl, refl)
-nothing_goes added (action.HandlerDone conn task) e s closed = (effect_none s closed step_limit added (action.HandlerDone conn task) refl, refl)
-nothing_goes added (action.ReadableServer server) e s closed = (effect_none s closed step_limit added (action.ReadableServer server) refl, refl)
-nothing_goes added (action.Readable conn) e s closed = (effect_none s closed step_limit added (action.Readable conn) refl, refl)
-nothing_goes added (action.Writable conn) e s closed = (effect_none s closed step_limit added (action.Writable conn) refl, refl)
-nothing_goes added (action.Up conn) e s closed = (effect_none s closed step_limit added (action.Up conn) refl, refl)
-nothing_goes added (action.Down conn) e s closed = (effect_none s closed step_limit added (action.Down conn) refl, refl)
-nothing_goes added (action.WritableChild child) e s closed = (effect_none s closed step_limit added (action.WritableChild child) refl, refl)
-nothing_goes added (action.ChildItem child told) e s closed = (effect_none s closed step_limit added (action.ChildItem child told) refl, refl)
-nothing_goes added (action.LostChild child broken) e s closed = (effect_none s closed step_limit added (action.LostChild child broken) refl, refl)
+-- ---- callbacks of listeners, connections and children: none is open so far
+steps_none : (it : Action) → is_of_streams it ≡ true → stepped it ≡ None
+steps_none (action.Step task) is = absurd (false≢true is)
+steps_none (action.StepInCircle task circle) is = absurd (false≢true is)
+steps_none (action.Wakeup task) is = absurd (false≢true is)
+steps_none _ is = refl
 
 module _ {X : Type 0} {a : Added X} where
-  pub nothing_acts : (old : Body X) → Acts a code.Nothing old old went.Goes
-  nothing_acts old c s it what h =
-      let same = nothing_goes a.meaning it what s h.stands.streams in
-      after_so it c old s h old s same.0 (record { stands = h.stands; called = h.called ∙ same.1; running = h.running })
+  pub streams_act : (it : Action) (old : Body X) → is_of_streams it ≡ true → Acts a it old old went.Goes
+  streams_act it old is c s h =
+      after_so it c old s h old s (effect_none s h.stands.streams step_limit a.meaning it is)
+      (record { stands = h.stands; called = h.called ∙ steps_none it is; running = h.running })

@@ -1,6 +1,5 @@
 pub mod Below
 pub mod Running
-pub mod Actions
 pub mod Inputs
 pub mod Acting
 pub mod Waking

@@ -1,5 +1,4 @@
 pub mod Asked
-pub mod Effects
 pub mod Turning
 pub mod Empty
 pub mod Again

@@ -1,6 +1,5 @@
 //! The handles of a turn.
 ghost use Rattle.std.specs.Prelude.{◌≡◌, IfOk};
-ghost use Rattle.model_value.specs.Action.{Action as AnyAction};
 ghost use Rattle.model_says.specs.Says.{step_limit};
 ghost use Rattle.model_wire.specs.declared.event.Event.TheVariants as event;
 ghost use Rattle.model_loop.specs.Circles.{circle_fault as plain_circle_fault};
@@ -8,12 +7,11 @@ ghost use Rattle.model_machine.specs.Outcomes.{woken_with as plain_woken_with};
 ghost use Rattle.model_machine.specs.State.{State, noted};
 ghost use Rattle.model_machine.specs.Turn.{effect as plain_effect, run_below as plain_run_below};
 ghost use Rattle.aio_body.specs.Stands.{Setting, IsBetween};
-ghost use Rattle.aio_body.specs.Taken.{IsNext, MayRun, IsTaken};
+ghost use Rattle.aio_body.specs.Taken.{IsNext, MayRun, IsTaken, MayTake};
 ghost use Rattle.aio_step.specs.Stepping.{Steps, HearsMade, IsCalled, MayBegin};
-ghost use Rattle.aio_core.specs.Effects.{MayAct, effect_of as plain_effect_of};
 ghost use Rattle.aio_core.specs.Turning.{IsAlive, at_bar};
 
-use crate::effect::{Effect, effect_of};
+use crate::copying::copy_of_action;
 use aio_base::{Action, Circle, Exc, Input, Kind, Memory, Outcome, Value, exception};
 use aio_body::{Body, input_of};
 use aio_extra::Extra;
@@ -32,7 +30,9 @@ pub fn run_below<X: Extra>(body: &mut Body<X>, alloc: Global) -> Result<Stepped,
         (plain_run_below step_limit X.added.meaning c.bar c.left s)) }
 {
     while let Some((action, ticket)) = body.parts.next_below() {
-        match run(body, alloc, action, ticket)? {
+        let ran = run(body, alloc, &action, ticket);
+        forget_action(action);
+        match ran? {
             Stepped::Goes => {}
             Stepped::Runaway(task) => return Ok(Stepped::Runaway(task)),
         }
@@ -40,77 +40,89 @@ pub fn run_below<X: Extra>(body: &mut Body<X>, alloc: Global) -> Result<Stepped,
     Ok(Stepped::Goes)
 }
 
-// A handle runs.
+// What a handle ran is let go.
+fn forget_action(_action: Action) {}
+
+// A handle runs, and it is noted that it does.
 fn run<X: Extra>(
     body: &mut Body<X>,
     alloc: Global,
-    action: Action,
+    action: &Action,
     ticket: Ticket,
 ) -> Result<Stepped, Memory>
-    requires { MayRun X.added action body.old }
+    requires { MayRun X.added action.now body.old }
     ensures { IfOk result
-        (λ went. (c : Setting X.added) (s : State X.added.Kept) → IsNext action c body.old s
+        (λ went. (c : Setting X.added) (s : State X.added.Kept) → IsNext action.now c body.old s
         → Steps c body.new went
-        (plain_effect step_limit X.added.meaning action (noted (event.Ran action) s))) }
+        (plain_effect step_limit X.added.meaning action.now (noted (event.Ran action.now) s))) }
 {
-    let what = effect_of(alloc, &action)?;
-    body.events.push(Event::Ran(action))?;
-    act(body, alloc, what, ticket)
+    let copy = copy_of_action(alloc, action)?;
+    body.events.push(Event::Ran(copy))?;
+    act(body, alloc, action, ticket)
 }
 
 // What a handle does.
 fn act<X: Extra>(
     body: &mut Body<X>,
     alloc: Global,
-    what: Effect,
+    action: &Action,
     ticket: Ticket,
 ) -> Result<Stepped, Memory>
-    requires { MayAct X.added what body.old }
+    requires { MayTake X.added action.now body.old }
     ensures { IfOk result
-        (λ went. (c : Setting X.added) (s : State X.added.Kept) (it : AnyAction)
-        → what ≡ plain_effect_of it
-        → IsTaken it c body.old s
-        → Steps c body.new went (plain_effect step_limit X.added.meaning it s)) }
+        (λ went. (c : Setting X.added) (s : State X.added.Kept) → IsTaken action.now c body.old s
+        → Steps c body.new went (plain_effect step_limit X.added.meaning action.now s)) }
 {
-    match what {
-        Effect::Step(task) => step(body, alloc, task, ticket, Input::Send(Value::nothing())),
-        Effect::StepInCircle { task, circle } => {
-            let fault = circle_fault(alloc, circle)?;
-            step(body, alloc, task, ticket, Input::Throw(fault))
+    match action {
+        Action::Step(task) => step(body, alloc, *task, ticket, Input::Send(Value::nothing())),
+        Action::StepInCircle { task, circle } => {
+            let fault = circle_fault(alloc, *circle)?;
+            step(body, alloc, *task, ticket, Input::Throw(fault))
         }
-        Effect::Wakeup(task) => {
-            let input = woken_with(body, task)?;
-            step(body, alloc, task, ticket, input)
+        Action::Wakeup(task) => {
+            let input = woken_with(body, *task)?;
+            step(body, alloc, *task, ticket, input)
         }
-        Effect::SleepDone {
-            task: _sleeper,
-            future,
-        } => {
-            let _was_pending = body.parts.resolve(future, Outcome::Value(Value::nothing()));
+        Action::SleepDone { future, .. } => {
+            let _was_pending = body
+                .parts
+                .resolve(*future, Outcome::Value(Value::nothing()));
             Ok(Stepped::Goes)
         }
-        Effect::GroupDone { group, task } => {
-            child_done(body, group, task);
+        Action::GroupDone { group, task } => {
+            child_done(body, *group, *task);
             Ok(Stepped::Goes)
         }
-        Effect::Fires(timeout) => {
-            fire(body, timeout);
+        Action::Fires(timeout) => {
+            fire(body, *timeout);
             Ok(Stepped::Goes)
         }
-        Effect::MainDone => {
+        Action::MainDone => {
             body.main_done = true;
             Ok(Stepped::Goes)
         }
-        Effect::Extra(key) => {
-            body.extra.act(alloc, key, &mut body.parts)?;
+        Action::Extra(key) => {
+            body.extra.act(alloc, *key, &mut body.parts)?;
             Ok(Stepped::Goes)
         }
-        Effect::ExtraItem { code, bytes } => {
+        Action::ExtraItem { code, bytes } => {
             body.extra
-                .item(alloc, code, bytes.items(), &mut body.parts)?;
+                .item(alloc, *code, bytes.items(), &mut body.parts)?;
             Ok(Stepped::Goes)
         }
-        Effect::Nothing => Ok(Stepped::Goes),
+        // No listener, connection or child is open so far.
+        Action::Made(_)
+        | Action::StartRead(_)
+        | Action::Lost { .. }
+        | Action::HandlerDone { .. }
+        | Action::ReadableServer(_)
+        | Action::Readable(_)
+        | Action::Writable(_)
+        | Action::Up(_)
+        | Action::Down(_)
+        | Action::WritableChild(_)
+        | Action::ChildItem { .. }
+        | Action::LostChild { .. } => Ok(Stepped::Goes),
     }
 }
 

@@ -2,7 +2,7 @@
 #![tactic(auto)]
 
 mod begin;
-mod effect;
+mod copying;
 mod ending;
 mod handles;
 mod kernel;

@@ -12,8 +12,8 @@ next_below-requires g c =
     let l = c.loop-action in
     record { idle = idle_alive l.body (alive_on c.args.body.now l.body c.requires l.invariant) }
 
-pub run-requires : goal.run-requires
-run-requires g c =
+pub run-ran-requires : goal.run-ran-requires
+run-ran-requires g c =
     let l = c.loop-action in
     let next = sym c.next_below.ensures.action ∙ ap (option_map (λ it. it.0)) c.in-Some.is in
     may_run l.body c.next_below.new.self c.in-Some.action c.next_below.ensures.after next (alive_on c.args.body.now l.body c.requires l.invariant)
@@ -22,22 +22,22 @@ pub loop-action-smaller : goal.loop-action-smaller
 loop-action-smaller g c =
     let l = c.loop-action in
     let next = sym c.next_below.ensures.action ∙ ap (option_map (λ it. it.0)) c.in-Some.is in
-    let ran = rw c.in-Goes.is at c.in_ok-run.ensures in
-    fewer c.args.body.now l.body c.run.new.body c.next_below.new.self c.in-Some.action c.next_below.ensures.after next l.invariant c.requires ran
+    let ran = rw c.in-Goes.is at c.in_ok-ran.ensures in
+    fewer c.args.body.now l.body c.run-ran.new.body c.next_below.new.self c.in-Some.action c.next_below.ensures.after next l.invariant c.requires ran
 
 pub loop-action-preserved : goal.loop-action-preserved
 loop-action-preserved g c =
     let l = c.loop-action in
     let next = sym c.next_below.ensures.action ∙ ap (option_map (λ it. it.0)) c.in-Some.is in
-    let ran = rw c.in-Goes.is at c.in_ok-run.ensures in
-    reached_next c.args.body.now l.body c.run.new.body c.next_below.new.self c.in-Some.action c.next_below.ensures.after next l.invariant ran
+    let ran = rw c.in-Goes.is at c.in_ok-ran.ensures in
+    reached_next c.args.body.now l.body c.run-ran.new.body c.next_below.new.self c.in-Some.action c.next_below.ensures.after next l.invariant ran
 
 pub returns-in-Runaway : goal.returns-in-Runaway
 returns-in-Runaway g c =
     let l = c.loop-action in
     let next = sym c.next_below.ensures.action ∙ ap (option_map (λ it. it.0)) c.in-Some.is in
-    let ran = rw c.in-Runaway.is at c.in_ok-run.ensures in
-    runs_away c.args.body.now l.body c.run.new.body c.next_below.new.self c.in-Some.action c.next_below.ensures.after next l.invariant
+    let ran = rw c.in-Runaway.is at c.in_ok-ran.ensures in
+    runs_away c.args.body.now l.body c.run-ran.new.body c.next_below.new.self c.in-Some.action c.next_below.ensures.after next l.invariant
     c.in-Runaway.task ran
 
 pub returns : goal.returns
