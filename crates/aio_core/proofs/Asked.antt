@@ -16,25 +16,9 @@ use Rattle.aio_wire.specs.Replied.{MayHaveReplied, Replied, asked_after, handed_
 use Rattle.aio_wire.specs.declared.wire.JournalFault.{JournalFault}
 use Rattle.aio_wire.specs.declared.wire.Reply.{Reply}
 use Rattle.aio_wire.specs.declared.wire.Reply.TheVariants as reply
-use Rattle.aio_core.specs.Asked.{Asks, AsksOnce, asked_by, bytes_in, bytes_of, calls_in, handed_to}
-
--- ---- what is told, where nothing comes to it
-pub asked_none : (told : Option (List Call)) → told ≡ asked_by [] told
-asked_none None = refl
-asked_none (Some calls) = ap Some (sym (append-nil calls))
-
-pub handed_none : (told : Option (Handed → List ℕ)) → told ≡ handed_to (λ to. []) told
-handed_none None = refl
-handed_none (Some held) = ap Some (fun_ext (λ to. sym (append-nil (held to))))
-
--- one thing after another
-asked_on : (xs ys : List Call) (told : Option (List Call)) → asked_by ys (asked_by xs told) ≡ asked_by (xs ++ ys) told
-asked_on xs ys None = refl
-asked_on xs ys (Some calls) = ap Some (append_assoc calls xs ys)
-
-handed_on : (f g : Handed → List ℕ) (told : Option (Handed → List ℕ)) → handed_to g (handed_to f told) ≡ handed_to (λ to. f to ++ g to) told
-handed_on f g None = refl
-handed_on f g (Some held) = ap Some (fun_ext (λ to. append_assoc (held to) (f to) (g to)))
+use Rattle.aio_exchange.specs.Exchanged.{asked_by, handed_to}
+use Rattle.aio_exchange.proofs.Exchanging.{asked-on, asked_none, handed-on, handed_none}
+use Rattle.aio_core.specs.Asked.{Asks, AsksOnce, bytes_in, bytes_of, calls_in}
 
 -- ---- events after others
 pub calls-append : (xs ys : List Event) → calls_in (xs ++ ys) ≡ calls_in xs ++ calls_in ys
@@ -70,11 +54,11 @@ asks_none seen = record { asked = asked_none seen.asked; handed = λ last. hande
 pub asks_then : (xs ys : List Event) (before between after : WireSeen) → Asks xs before between → Asks ys between after → Asks (xs ++ ys) before after
 asks_then xs ys before between after first second = record {
   asked =
-      second.asked ∙ ap (asked_by (calls_in ys)) first.asked ∙ asked_on (calls_in xs) (calls_in ys) before.asked
+      second.asked ∙ ap (asked_by (calls_in ys)) first.asked ∙ asked-on (calls_in xs) (calls_in ys) before.asked
       ∙ ap (λ cs. asked_by cs before.asked) (sym (calls-append xs ys));
   handed = λ last.
       second.handed (last_in xs last) ∙ ap (handed_to (bytes_in ys (last_in xs last))) (first.handed last)
-      ∙ handed_on (bytes_in xs last) (bytes_in ys (last_in xs last)) before.handed
+      ∙ handed-on (bytes_in xs last) (bytes_in ys (last_in xs last)) before.handed
       ∙ ap (λ bs. handed_to bs before.handed) (fun_ext (λ to. sym (bytes-append xs ys last to)));
 }
 

@@ -5,6 +5,7 @@ use Rattle.model_wire.specs.declared.event.Handed.{Handed}
 use Rattle.model_wire.specs.Call.{Answer, Call}
 use Rattle.model_wire.specs.Event.{Event, handed_by}
 use Rattle.model_wire.specs.Told.{WireSeen}
+use Rattle.aio_exchange.specs.Exchanged.{asked_by, handed_to}
 
 -- the calls of events, in order
 abbrev pub calls_in : List Event → List Call
@@ -25,16 +26,6 @@ bytes_in (event.Called call ∷ events) last to = bytes_in events (Some call) to
 bytes_in (event.Got answer ∷ events) last to = bytes_of last answer to ++ bytes_in events last to
 bytes_in (event.Ran action ∷ events) last to = bytes_in events last to
 bytes_in (event.Said task text ∷ events) last to = bytes_in events last to
-
--- what is told of the calls that were asked, after these
-abbrev pub asked_by : List Call → Option (List Call) → Option (List Call)
-asked_by calls None = None
-asked_by calls (Some before) = Some (before ++ calls)
-
--- what is told of the bytes that were handed, after these
-abbrev pub handed_to : (Handed → List ℕ) → Option (Handed → List ℕ) → Option (Handed → List ℕ)
-handed_to more None = None
-handed_to more (Some held) = Some (λ to. held to ++ more to)
 
 -- Between two moments a wire was asked the calls of these events, and none besides, and handed the bytes that their answers took,
 -- and none besides; and so whatever call came before.

@@ -63,11 +63,11 @@ noted-adds (x ∷ had) list =
     )
 
 -- what is told of calls and of bytes, one list after another
-asked-on : (xs ys : List Call) (told : Option (List Call)) → asked_by ys (asked_by xs told) ≡ asked_by (xs ++ ys) told
+pub asked-on : (xs ys : List Call) (told : Option (List Call)) → asked_by ys (asked_by xs told) ≡ asked_by (xs ++ ys) told
 asked-on xs ys None = refl
 asked-on xs ys (Some calls) = ap Some (append_assoc calls xs ys)
 
-handed-on : (f g : Handed → List ℕ) (told : Option (Handed → List ℕ)) → handed_to g (handed_to f told) ≡ handed_to (λ to. f to ++ g to) told
+pub handed-on : (f g : Handed → List ℕ) (told : Option (Handed → List ℕ)) → handed_to g (handed_to f told) ≡ handed_to (λ to. f to ++ g to) told
 handed-on f g None = refl
 handed-on f g (Some held) = ap Some (fun_ext (λ to. append_assoc (held to) (f to) (g to)))
 
