@@ -1,2 +1,4 @@
 pub mod Seated
-pub mod Passing
+pub mod Running
+pub mod Lending
+pub mod Freeing

@@ -124,7 +124,7 @@ module _ (came : Post) where
       ∙ one_tells children number child at (rest first children number only)
 
 -- ---- the roster after a post
-get_set : {A : Type 0} (xs : List A) (n m : ℕ) (v x : A) → slice_get (slice_set xs n v) m ≡ Some x → ((m ≡ n) × (x ≡ v)) ⊎ (slice_get xs m ≡ Some x)
+pub get_set : {A : Type 0} (xs : List A) (n m : ℕ) (v x : A) → slice_get (slice_set xs n v) m ≡ Some x → ((m ≡ n) × (x ≡ v)) ⊎ (slice_get xs m ≡ Some x)
 get_set [] n m v x h = inr h
 get_set (y ∷ ys) zero zero v x h = inl (refl, sym (some_is v x h))
 get_set (y ∷ ys) zero (suc m) v x h = inr h
@@ -154,6 +154,11 @@ running_set (c ∷ cs) zero old new at num stay =
     ∙ headed (runs c.stay) new c (filter (λ (child : Child). runs child.stay) cs) (num ∙ ap (λ (x : Child). x.number) (sym was))
 running_set (c ∷ cs) (suc n) old new at num stay = behind_head c cs (slice_set cs n new) (runs c.stay) (running_set cs n old new at num stay)
 
+pub lent_same : (seat : ℕ) (old new : Child) → IsSameChild old new → pump_of seat new ≡ pump_of seat old
+lent_same seat old new same =
+    ap (λ stay. cond (holds_seats stay) (pump_at seat new.seats) None) same.stay
+    ∙ ap (λ seats. cond (holds_seats old.stay) (pump_at seat seats) None) same.seats
+
 module _ (children : List Child) (holders : List (Option ℕ)) (running : List ℕ) (noted : ℕ) (roster : IsRoster children holders running noted) where
   shorter : (child : Child) → IsShort noted child → IsShort (noted + 1) child
   shorter child short = (omega (arith, short.0), omega (arith, short.1), omega (arith, short.2))
@@ -161,6 +166,7 @@ module _ (children : List Child) (holders : List (Option ℕ)) (running : List �
   pub one_more_noted : IsRoster children holders running (noted + 1)
   one_more_noted =
       record {
+        sized = roster.sized;
         numbered = roster.numbered;
         held = roster.held;
         short = λ n child at. shorter child (roster.short n child at);
@@ -168,23 +174,21 @@ module _ (children : List Child) (holders : List (Option ℕ)) (running : List �
         runs = roster.runs;
       }
 
-  lent_same : (seat : ℕ) (old new : Child) → IsSameChild old new → pump_of seat new ≡ pump_of seat old
-  lent_same seat old new same =
-      ap (λ stay. cond (holds_seats stay) (pump_at seat new.seats) None) same.stay
-      ∙ ap (λ seats. cond (holds_seats old.stay) (pump_at seat seats) None) same.seats
-
-  module _ (number : ℕ) (old new : Child) (at : slice_get children number ≡ Some old) (same : IsSameChild old new)
-      (more : ℕ) (noted_more : noted ≤ more) (short : IsShort more new) (modest : IsModest new) where
+  -- a child is another, with the same number, that has no seat which it hadn't
+  module _ (number : ℕ) (old new : Child) (at : slice_get children number ≡ Some old) (number_same : new.number ≡ old.number)
+      (has_old : (seat : ℕ) → is_some (pump_of seat new) ≡ true → is_some (pump_of seat old) ≡ true)
+      (more : ℕ) (noted_more : noted ≤ more) (short : IsShort more new) (modest : IsModest new)
+      (running_now : List ℕ) (runs_now : running_now ≡ running_of (slice_set children number new)) where
     numbered_now : (n : ℕ) (child : Child) → ((n ≡ number) × (child ≡ new)) ⊎ (slice_get children n ≡ Some child) → child.number ≡ n
     numbered_now n child (inl here) =
-        ap (λ (c : Child). c.number) here.1 ∙ same.number ∙ roster.numbered number old at ∙ sym here.0
+        ap (λ (c : Child). c.number) here.1 ∙ number_same ∙ roster.numbered number old at ∙ sym here.0
     numbered_now n child (inr there) = roster.numbered n child there
 
     held_now : (n seat : ℕ) (child : Child) → is_some (pump_of seat child) ≡ true → ((n ≡ number) × (child ≡ new)) ⊎ (slice_get children n ≡ Some child)
         → slice_get holders seat ≡ Some (Some n)
     held_now n seat child has (inl here) =
         roster.held number seat old at
-        (ap is_some (sym (lent_same seat old new same)) ∙ ap (λ (c : Child). is_some (pump_of seat c)) (sym here.1) ∙ has)
+        (has_old seat (ap (λ (c : Child). is_some (pump_of seat c)) (sym here.1) ∙ has))
         ∙ ap (λ m. Some (Some m)) (sym here.0)
     held_now n seat child has (inr there) = roster.held n seat child there has
 
@@ -197,13 +201,21 @@ module _ (children : List Child) (holders : List (Option ℕ)) (running : List �
     modest_now n child (inl here) = subst IsModest (sym here.1) modest
     modest_now n child (inr there) = roster.modest n child there
 
-    -- a child is another, with the same number, seats and stay
-    pub changed_at : IsRoster (slice_set children number new) holders running more
-    changed_at =
+    pub put_at : IsRoster (slice_set children number new) holders running_now more
+    put_at =
         record {
+          sized = roster.sized;
           numbered = λ n child is. numbered_now n child (get_set children number n new child is);
           held = λ n seat child is has. held_now n seat child has (get_set children number n new child is);
           short = λ n child is. short_now n child (get_set children number n new child is);
           modest = λ n child is. modest_now n child (get_set children number n new child is);
-          runs = roster.runs ∙ sym (running_set children number old new at same.number same.stay);
+          runs = runs_now;
         }
+
+  -- a child is another, with the same number, seats and stay
+  module _ (number : ℕ) (old new : Child) (at : slice_get children number ≡ Some old) (same : IsSameChild old new)
+      (more : ℕ) (noted_more : noted ≤ more) (short : IsShort more new) (modest : IsModest new) where
+    pub changed_at : IsRoster (slice_set children number new) holders running more
+    changed_at =
+        put_at number old new at same.number (λ seat has. ap is_some (sym (lent_same seat old new same)) ∙ has) more noted_more short modest
+        running (roster.runs ∙ sym (running_set children number old new at same.number same.stay))

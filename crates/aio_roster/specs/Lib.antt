@@ -1,3 +1,3 @@
 pub mod Rosters
 pub mod Holders
-pub mod Served
+pub mod Changes

@@ -1,5 +1,5 @@
 -- What a roster is.
-use Rattle.std.specs.Prelude.{◌≡◌, ℕ, ◌≤◌, true, List, Option, Some, None, is_some, slice_get, map}
+use Rattle.std.specs.Prelude.{◌≡◌, ℕ, ◌≤◌, true, List, Option, Some, None, is_some, length, slice_get, map}
 use Rattle.std.specs.List.{filter}
 use Rattle.model_hub.specs.declared.child.Child.{Child}
 use Rattle.model_hub.specs.Children.{pump_of, runs}
@@ -20,10 +20,15 @@ pub record IsSameChild (old new : Child) : Type 0 where
 abbrev pub running_of : List Child → List ℕ
 running_of children = map number_of (filter (λ (child : Child). runs child.stay) children)
 
--- The children by number; for each seat the child to which it is lent, if any; the numbers of those that run; and how many
+-- each child has the number of its place
+abbrev pub Numbered : List Child → Type 0
+Numbered children = (n : ℕ) (child : Child) → slice_get children n ≡ Some child → child.number ≡ n
+
+-- The children by number; for each seat of the inbox the child to which it is lent, if any; the numbers of those that run; and how many
 -- posts were noted.
 pub record IsRoster (children : List Child) (holders : List (Option ℕ)) (running : List ℕ) (noted : ℕ) : Type 0 where
-  pub numbered : (n : ℕ) (child : Child) → slice_get children n ≡ Some child → child.number ≡ n
+  pub sized : length holders ≡ 1024
+  pub numbered : Numbered children
   pub held : (n seat : ℕ) (child : Child) → slice_get children n ≡ Some child → is_some (pump_of seat child) ≡ true
       → slice_get holders seat ≡ Some (Some n)
   pub short : (n : ℕ) (child : Child) → slice_get children n ≡ Some child → IsShort noted child

@@ -1,6 +1,7 @@
 //! The children of a hub, and on which seats their pumps post.
 #![tactic(auto)]
 
+mod changing;
 mod noting;
 mod roster;
 mod seating;

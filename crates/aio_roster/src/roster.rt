@@ -1,24 +1,23 @@
 //! The children by number.
-ghost use Rattle.std.specs.Prelude.{◌≡◌, [], IfOk, ◌<◌, ◌+◌, ◌-◌, ◌^◌, nat_lt, map, length};
+ghost use Rattle.std.specs.Prelude.{◌≡◌, [], IfOk, ◌<◌, ◌+◌, ◌-◌, ◌^◌, nat_lt, map};
 ghost use Rattle.model_hub.specs.Posts.{note, told_of};
 ghost use Rattle.model_hub.specs.Hub.{waiting_of, is_broken};
 ghost use Rattle.model_hub.specs.Gathering.{most_waiting, halt_at};
 ghost use Rattle.aio_select.specs.Takes.{list_of};
 ghost use Rattle.aio_roster.specs.Holders.{HoldsSeat, HeldBy, named_in};
-ghost use Rattle.aio_roster.specs.Rosters.{running_of};
-ghost use Rattle.aio_roster.specs.Served.{Numbered, HaveLanes, ServesOne, ServesAll};
+ghost use Rattle.aio_roster.specs.Changes.{LeavesFree};
 
 use crate::noting::{halt_at, item_of, note_from, told_by};
 use crate::seating::pump_of;
 use crate::{Post, PostKind};
 use aio_base::Memory;
 use aio_select::Noted;
-use aio_serving::{Heads, serve_child};
-use aio_wire::Watch;
 use model_hub::{Child, Pump};
 use std::alloc::Global;
 use std::marker::Model;
-use std::sync::Wait;
+
+/// How many seats an inbox has.
+const SEATS: usize = 1_024;
 
 /// How many Writes without a Room post a child has before it is no longer fed.
 const MOST_WAITING: u64 = 7;
@@ -35,10 +34,10 @@ pub struct Holder {
 /// children, and how many posts were noted.
 #[derive(Drop)]
 pub struct Roster {
-    children: Vec<Child>,
-    holders: Vec<Option<u32>>,
-    running: Vec<u32>,
-    noted: u64,
+    pub(crate) children: Vec<Child>,
+    pub(crate) holders: Vec<Option<u32>>,
+    pub(crate) running: Vec<u32>,
+    pub(crate) noted: u64,
 }
 
 impl Model for Roster {
@@ -52,11 +51,11 @@ impl Model for Roster {
 }
 
 impl Roster {
-    /// No child, over as many seats.
-    pub fn new(alloc: Global, seats: usize) -> Result<Roster, Memory>
+    /// No child, over the 1,024 seats of an inbox.
+    pub fn new(alloc: Global) -> Result<Roster, Memory>
         ensures { IfOk result (λ roster. roster ≡ record { children = []; noted = 0 }) }
     {
-        let holders = vec![in alloc; None; seats]?;
+        let holders = vec![in alloc; None; SEATS]?;
         Ok(Roster {
             children: Vec::new(alloc),
             holders,
@@ -99,6 +98,7 @@ impl Roster {
     pub fn note(&mut self, post: Post) -> Noted
         requires { self.old.noted < 2 ^ 62 - 1 }
         ensures children { self.new.children ≡ map (note post) self.old.children }
+        ensures lent { LeavesFree self.old.children self.new.children }
         ensures noted { self.new.noted ≡ self.old.noted + 1 }
         ensures halt { result.halt ≡ halt_at post.kind }
         ensures tells { list_of result.item ≡ told_of self.old.children post }
@@ -117,44 +117,6 @@ impl Roster {
         self.noted += 1;
         let item = item_of(holder.number, told_by(holder.pump, kind));
         Noted { halt, item }
-    }
-
-    // How many children run.
-    fn count_running(&self) -> usize
-        ensures count { result ≡ length (running_of self.now.children) }
-        ensures numbered { Numbered self.now.children }
-    {
-        self.running.len()
-    }
-
-    // Serves the child with the k-th of the numbers of those that run.
-    fn serve_one<R: Wait, H: Heads>(&mut self, rt: &R, heads: &mut H, watch: &[Watch], k: usize)
-        requires running { k < length (running_of self.old.children) }
-        requires lanes { HaveLanes self.old.children (H.seen heads.old) }
-        requires noted { self.old.noted < 2 ^ 62 }
-        ensures served { ServesOne watch.now k self.old.children self.new.children
-            (H.seen heads.old) (H.seen heads.new) }
-        ensures noted { self.new.noted ≡ self.old.noted }
-    {
-        let number = self.running[k];
-        let child = self.children[number as usize];
-        let new = serve_child(rt, heads, watch, child);
-        self.children[number as usize] = new;
-    }
-
-    /// Gives each child a Go for each stream that is newly wanted, and again what found its lane full. A
-    /// call that is no select watches nothing. It looks at those that run alone, and waits for no pump.
-    pub fn serve<R: Wait, H: Heads>(&mut self, rt: &R, heads: &mut H, watch: &[Watch])
-        requires lanes { HaveLanes self.old.children (H.seen heads.old) }
-        requires noted { self.old.noted < 2 ^ 62 }
-        ensures served { ServesAll watch.now self.old.children self.new.children (H.seen heads.old)
-            (H.seen heads.new) }
-        ensures noted { self.new.noted ≡ self.old.noted }
-    {
-        let count = self.count_running();
-        for k in 0..count {
-            self.serve_one(rt, heads, watch, k);
-        }
     }
 }
 

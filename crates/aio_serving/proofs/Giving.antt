@@ -143,6 +143,7 @@ module _ (watched : List Watch) (child one two three : Child) (s0 s1 s2 s3 : Hea
               has = λ n. closes.grows.has n ∙ errs.grows.has n ∙ outs.grows.has n;
               given = given;
               fulls = λ n p. omega (arith, closes.grows.fulls n p, errs.grows.fulls n p, outs.grows.fulls n p);
+              few = λ n p h. closes.grows.few n p (errs.grows.few n p (outs.grows.few n p h));
             };
         each = each;
       }

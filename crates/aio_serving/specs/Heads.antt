@@ -13,6 +13,13 @@ pub record HeadsSeen : Type 0 where
   pub given : ℕ → Pump → List Command
   pub fulls : ℕ → Pump → ℕ
 
+-- whose pump is given commands; that of the exit is given none
+abbrev pub has_lane : Pump → Bool
+has_lane pump.Stdin = true
+has_lane pump.Out = true
+has_lane pump.Errs = true
+has_lane pump.Exit = false
+
 abbrev pub is_same_pump : Pump → Pump → Bool
 is_same_pump pump.Stdin pump.Stdin = true
 is_same_pump pump.Out pump.Out = true
@@ -29,6 +36,7 @@ pub record Grows (more : ℕ → Pump → List Command) (old new : HeadsSeen) : 
   pub has : (child : ℕ) → new.has child ≡ old.has child
   pub given : (child : ℕ) (at : Pump) → new.given child at ≡ old.given child at ++ more child at
   pub fulls : (child : ℕ) (at : Pump) → old.fulls child at ≤ new.fulls child at
+  pub few : (child : ℕ) (at : Pump) → length (old.given child at) ≤ 2 ^ 61 → length (new.given child at) ≤ 2 ^ 61
 
 -- what a lane answers is so: it met a full lane, or had given all that a lane carries
 pub record Answers (child : ℕ) (at : Pump) (giving : Giving) (old new : HeadsSeen) : Type 0 where

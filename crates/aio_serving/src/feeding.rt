@@ -1,5 +1,6 @@
 //! The Writes to a child.
 ghost use Rattle.std.specs.Prelude.{◌≡◌, ◌+◌, ◌<◌, ◌^◌, true};
+ghost use Rattle.model_hub.specs.Children.{runs};
 ghost use Rattle.model_hub.specs.Calls.{offers_write, after_write};
 ghost use Rattle.aio_serving.specs.Fed.{Feeds};
 ghost use Rattle.aio_serving.specs.Served.{IsModest};
@@ -33,7 +34,7 @@ fn offers_write(bytes: &Blob, child: &Child) -> bool
 
 /// Gives a child all of these bytes in one Write, or none of them. It waits for no pump.
 pub fn feed_child<R: Wait, H: Heads>(rt: &R, heads: &mut H, child: Child, bytes: Blob) -> Fed
-    requires has { (H.seen heads.old).has child.number ≡ true }
+    requires has { runs child.stay ≡ true → (H.seen heads.old).has child.number ≡ true }
     requires modest { IsModest child }
     requires short { child.rooms < 2 ^ 63 }
     ensures { Feeds bytes child result.child result.answer (H.seen heads.old) (H.seen heads.new) }

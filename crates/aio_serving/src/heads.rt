@@ -1,6 +1,6 @@
 //! The lanes of the children, by their heads.
 ghost use Rattle.std.specs.Prelude.{◌≡◌, true};
-ghost use Rattle.aio_serving.specs.Heads.{HeadsSeen, Gives};
+ghost use Rattle.aio_serving.specs.Heads.{HeadsSeen, Gives, has_lane};
 
 use aio_base::Blob;
 use model_hub::{Giving, Pump};
@@ -16,6 +16,7 @@ pub trait Heads {
 
     /// Gives a command to the lane of this pump. It waits for no pump.
     fn give<R: Wait>(&mut self, rt: &R, child: u32, pump: Pump, command: Command) -> Giving
-        requires { (seen self.old).has child ≡ true }
+        requires has { (seen self.old).has child ≡ true }
+        requires lane { has_lane pump ≡ true }
         ensures { Gives child pump command result (seen self.old) (seen self.new) };
 }

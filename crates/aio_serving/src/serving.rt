@@ -5,6 +5,7 @@ ghost use Rattle.model_hub.specs.Others.{OfGo};
 ghost use Rattle.model_hub.specs.Children.{flow_of};
 ghost use Rattle.model_hub.specs.Lanes.{is_wanted, is_idle, offers_go, after_go, after_close};
 ghost use Rattle.model_hub.specs.Asked.{lane_of};
+ghost use Rattle.aio_serving.specs.Heads.{has_lane};
 ghost use Rattle.aio_serving.specs.Served.{IsModest, GivesGo, GivesClose, Serves};
 
 use crate::heads::{Command, Heads};
@@ -71,7 +72,8 @@ pub(crate) fn after_close(giving: Giving) -> Closing
 }
 
 fn lane_of(stream: Stream) -> Pump
-    ensures { result ≡ lane_of (OfGo stream) }
+    ensures is { result ≡ lane_of (OfGo stream) }
+    ensures lane { has_lane result ≡ true }
 {
     match stream {
         Stream::Out => Pump::Out,

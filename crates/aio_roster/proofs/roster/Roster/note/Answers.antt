@@ -4,6 +4,8 @@ use Rattle.std.proofs.lemmas.Option.{slice_get_within}
 use Rattle.model_hub.specs.Posts.{note, note_by, told_by, items_of, items_from}
 use Rattle.aio_roster.specs.Rosters.{RosterSeen, IsFree}
 use Rattle.aio_roster.specs.Holders.{HasSeat}
+use Rattle.aio_roster.specs.Changes.{MayBeLent}
+use Rattle.aio_roster.proofs.Freeing.{same_lent}
 use Rattle.aio_roster.proofs.Seated.{free_notes, free_tells, one_notes, one_tells, changed_at}
 use Rattle.aio_roster.proofs.roster.Roster.note.Goals as goal
 
@@ -46,3 +48,13 @@ returns-clause-tells c =
     ∙ ap (λ n. items_of n (told_by holder.pump c.args.post.kind)) (sym has.numbered)
     ∙ ap (λ from. items_from holder.child.number c.args.post.kind from) (sym has.has)
     ∙ sym (one_tells c.args.post c.args.self.now.children holder.number holder.child has.at has.only)
+
+pub returns-in_default-clause-lent : goal.returns-in_default-clause-lent
+returns-in_default-clause-lent c seats lent = subst (λ (r : RosterSeen). MayBeLent r.children seats) (sym c.self.view_is) lent
+
+pub returns-clause-lent : goal.returns-clause-lent
+returns-clause-lent c =
+    let has = subst (λ (r : RosterSeen). HasSeat c.args.post.seat r c.in-Some.holder) (sym c.self.view_is) c.in-Some.ensures in
+    rw (sym c.self.view_is)
+    (same_lent c.self.inside.children.items c.in-Some.holder.number c.in-Some.holder.child c.note_from.result has.at
+    c.note_from.ensures.same)

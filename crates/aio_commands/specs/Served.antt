@@ -13,10 +13,6 @@ use Rattle.aio_serving.specs.Heads.{HeadsSeen, Grows, Answers}
 use Rattle.aio_serving.specs.Served.{Serves, served_alone}
 use Rattle.aio_roster.specs.Rosters.{running_of}
 
--- each child has the number of its place
-abbrev pub Numbered : List Child → Type 0
-Numbered children = (n : ℕ) (child : Child) → slice_get children n ≡ Some child → child.number ≡ n
-
 -- each child that runs has lanes
 abbrev pub HaveLanes : List Child → HeadsSeen → Type 0
 HaveLanes children heads = (k n : ℕ) → slice_get (running_of children) k ≡ Some n → heads.has n ≡ true

@@ -1,13 +1,10 @@
 -- One pass over the children that run is a step of each child.
-use Rattle.std.proofs.Common.{◌≡◌, ℕ, zero, suc, ◌+◌, ◌<◌, ◌≤◌, ◌==◌, Bool, true, false, cond, List, [], ◌∷◌, ◌++◌, Option, Some, length}
-use Rattle.std.proofs.Common.{map, get_or, refl, sym, ap, ◌∙◌, subst, append-nil, append_assoc, length-append, eq-eqb, arith}
+use Rattle.std.proofs.Common.{◌≡◌, ℕ, zero, suc, ◌+◌, ◌<◌, ◌≤◌, ◌==◌, Bool, true, false, cond, List, [], ◌∷◌, ◌++◌, Some, length}
+use Rattle.std.proofs.Common.{map, refl, sym, ap, ◌∙◌, subst, append-nil, append_assoc, length-append, eq-eqb, arith}
 use Rattle.std.specs.Prelude.{slice_get, slice_set}
-use Rattle.std.specs.List.{filter}
 use Rattle.std.proofs.lemmas.List.{map-append}
-use Rattle.std.proofs.lemmas.List.Elements.{filter-append}
 use Rattle.std.proofs.lemmas.Grind.{flat_map-append}
 use Rattle.std.proofs.lemmas.Bool.Decides.{nat_tests}
-use Rattle.std.proofs.lemmas.Option.{slice_get_within}
 use Rattle.model_wire.specs.declared.watch.Watch.{Watch}
 use Rattle.model_pump.specs.Commands.{Command}
 use Rattle.model_hub.specs.declared.child.Child.{Child}
@@ -15,7 +12,6 @@ use Rattle.model_hub.specs.declared.giving.Giving.{Giving}
 use Rattle.model_hub.specs.declared.giving.Giving.TheVariants as giving
 use Rattle.model_hub.specs.declared.pump.Pump.{Pump}
 use Rattle.model_hub.specs.Children.{runs}
-use Rattle.model_hub.specs.Closing.{number_of}
 use Rattle.model_hub.specs.Others.{Offer, Lanes}
 use Rattle.model_hub.specs.Lanes.{serve_child}
 use Rattle.model_hub.specs.Asked.{lane_of}
@@ -23,112 +19,14 @@ use Rattle.aio_serving.specs.Heads.{HeadsSeen, Answers}
 use Rattle.aio_serving.specs.Served.{IsModest, Serves, served_alone}
 use Rattle.aio_serving.proofs.Giving.{answers_later, answers_before}
 use Rattle.aio_serving.proofs.Same.{IsSame, serve_same, serve_modest, serve_alike, served_alike, unserved, none_served}
-use Rattle.aio_roster.specs.Rosters.{IsRoster, running_of, IsShort, IsSameChild}
-use Rattle.aio_roster.specs.Served.{Numbered, ServesOne, ServesAll, served_each}
+use Rattle.aio_roster.specs.Rosters.{Numbered, running_of, IsShort, IsSameChild}
+use Rattle.aio_commands.specs.Served.{ServesOne, ServesAll, served_each}
 use Rattle.aio_roster.proofs.Seated.{some_is, none_some, running_set}
+use Rattle.aio_roster.proofs.Running.{Found, find, within, running_cons, running_append, get_middle, set_middle, get_after}
+use Rattle.aio_roster.proofs.Running.{nothing_left, numbered_front, none_less, Below, below, snoc_case}
 
 abbrev none : List Command
 none = []
-
-within : (xs : List Child) (n : ℕ) (c : Child) → slice_get xs n ≡ Some c → n < length xs
-within xs n c h = slice_get_within xs n c h
-
-abbrev goes : Child → Bool
-goes child = runs child.stay
-
--- ---- the k-th of those that run
-pub record Found (children : List Child) (k n : ℕ) : Type 0 where
-  pub before : List Child
-  pub child : Child
-  pub after : List Child
-  pub whole : children ≡ before ++ child ∷ after
-  pub number : child.number ≡ n
-  pub goes : runs child.stay ≡ true
-  pub earlier : length (running_of before) ≡ k
-
-running_cons : (c : Child) (cs : List Child) (b : Bool) → runs c.stay ≡ b
-    → running_of (c ∷ cs) ≡ cond b (c.number ∷ running_of cs) (running_of cs)
-running_cons c cs b is = ap (λ x. map number_of (cond x (c ∷ filter goes cs) (filter goes cs))) is ∙ each b
-  where
-    each : (x : Bool) → map number_of (cond x (c ∷ filter goes cs) (filter goes cs)) ≡ cond x (c.number ∷ running_of cs) (running_of cs)
-    each true = refl
-    each false = refl
-
-found_at : (c : Child) (cs : List Child) (n : ℕ) (b : Bool) → runs c.stay ≡ b
-    → ((k : ℕ) → slice_get (running_of cs) k ≡ Some n → Found cs k n)
-    → (k : ℕ) → slice_get (cond b (c.number ∷ running_of cs) (running_of cs)) k ≡ Some n → Found (c ∷ cs) k n
-found_at c cs n true is rec zero h =
-    record { before = []; child = c; after = cs; whole = refl; number = some_is c.number n h; goes = is; earlier = refl }
-found_at c cs n true is rec (suc k) h =
-    let f = rec k h in
-    record {
-      before = c ∷ f.before;
-      child = f.child;
-      after = f.after;
-      whole = ap (λ (l : List Child). c ∷ l) f.whole;
-      number = f.number;
-      goes = f.goes;
-      earlier = ap length (running_cons c f.before true is) ∙ ap suc f.earlier;
-    }
-found_at c cs n false is rec k h =
-    let f = rec k h in
-    record {
-      before = c ∷ f.before;
-      child = f.child;
-      after = f.after;
-      whole = ap (λ (l : List Child). c ∷ l) f.whole;
-      number = f.number;
-      goes = f.goes;
-      earlier = ap length (running_cons c f.before false is) ∙ f.earlier;
-    }
-
-pub find : (children : List Child) (k n : ℕ) → slice_get (running_of children) k ≡ Some n → Found children k n
-find [] k n h = absurd (none_some n h)
-find (c ∷ cs) k n h =
-    found_at c cs n (runs c.stay) refl (λ m g. find cs m n g) k (ap (λ l. slice_get l k) (sym (running_cons c cs (runs c.stay) refl)) ∙ h)
-
-running_append : (xs ys : List Child) → running_of (xs ++ ys) ≡ running_of xs ++ running_of ys
-running_append xs ys = ap (map number_of) (filter-append goes xs ys) ∙ map-append number_of (filter goes xs) (filter goes ys)
-
--- ---- places in lists
-pub get_middle : (xs : List Child) (y : Child) (ys : List Child) → slice_get (xs ++ y ∷ ys) (length xs) ≡ Some y
-get_middle [] y ys = refl
-get_middle (x ∷ xs) y ys = get_middle xs y ys
-
-set_middle : (xs : List Child) (y : Child) (ys : List Child) (z : Child) → slice_set (xs ++ y ∷ ys) (length xs) z ≡ xs ++ z ∷ ys
-set_middle [] y ys z = refl
-set_middle (x ∷ xs) y ys z = ap (λ (l : List Child). x ∷ l) (set_middle xs y ys z)
-
-get_after : (xs ys : List ℕ) → slice_get (xs ++ ys) (length xs) ≡ slice_get ys 0
-get_after [] ys = refl
-get_after (x ∷ xs) ys = get_after xs ys
-
-nothing_left : (xs : List ℕ) → length xs ≡ 0 → xs ≡ []
-nothing_left [] h = refl
-nothing_left (x ∷ xs) h = absurd (omega arith)
-
-get_left : (xs ys : List Child) (n : ℕ) (c : Child) → slice_get xs n ≡ Some c → slice_get (xs ++ ys) n ≡ Some c
-get_left [] ys n c h = absurd (none_some c h)
-get_left (x ∷ xs) ys zero c h = h
-get_left (x ∷ xs) ys (suc n) c h = get_left xs ys n c h
-
-numbered_front : (xs ys : List Child) → Numbered (xs ++ ys) → Numbered xs
-numbered_front xs ys all n c h = all n c (get_left xs ys n c h)
-
-abbrev Below : ℕ → List Child → Type 0
-Below k [] = Unit {0}
-Below k (c ∷ cs) = (c.number < k) × Below k cs
-
-none_less : (n : ℕ) → n ≡ 0 + n
-none_less n = omega arith
-
-below : (cs : List Child) (base top : ℕ) → ((n : ℕ) (c : Child) → slice_get cs n ≡ Some c → c.number ≡ base + n) → base + length cs ≤ top
-    → Below top cs
-below [] base top all few = tt
-below (c ∷ cs) base top all few = (
-  omega (arith, all 0 c refl),
-  below cs (base + 1) top (λ n x h. all (suc n) x h ∙ omega arith) (omega arith),
-)
 
 -- ---- what the lanes of one child answer, beside what those of others did
 abbrev with_lanes : ℕ → (Offer → Giving) → Lanes → Lanes
@@ -163,22 +61,19 @@ below_get k [] low n c h = absurd (none_some c h)
 below_get k (x ∷ cs) low zero c h = subst (λ (y : Child). y.number < k) (some_is x c h) low.0
 below_get k (x ∷ cs) low (suc n) c h = below_get k cs low.1 n c h
 
--- a child of a list with one more is one of the list, or the last
-snoc_case : (P : ℕ → Child → Type 0) (xs : List Child) (y : Child) → ((n : ℕ) (c : Child) → slice_get xs n ≡ Some c → P n c)
-    → P (length xs) y → (n : ℕ) (c : Child) → slice_get (xs ++ y ∷ []) n ≡ Some c → P n c
-snoc_case P [] y first last zero c h = subst (P 0) (some_is y c h) last
-snoc_case P [] y first last (suc n) c h = absurd (none_some c h)
-snoc_case P (x ∷ xs) y first last zero c h = first zero c h
-snoc_case P (x ∷ xs) y first last (suc n) c h =
-    snoc_case (λ m d. P (suc m) d) xs y (λ m d g. first (suc m) d g) last n c h
-
 module _ (watched : List Watch) (s0 : HeadsSeen) where
   pub none_served_yet : ServesAll watched [] [] s0 s0
   none_served_yet =
       record {
         lanes = λ n offer. giving.Given;
         is = refl;
-        grows = record { has = λ n. refl; given = λ n p. sym (append-nil (s0.given n p)); fulls = λ n p. omega arith };
+        grows =
+            record {
+              has = λ n. refl;
+              given = λ n p. sym (append-nil (s0.given n p));
+              fulls = λ n p. omega arith;
+              few = λ n p h. h;
+            };
         each = λ n child h goes offer. absurd (none_some child h);
       }
 
@@ -196,6 +91,7 @@ module _ (watched : List Watch) (s0 : HeadsSeen) where
                 has = went.grows.has;
                 given = λ n p. went.grows.given n p ∙ ap (λ (l : List Command). s0.given n p ++ l) (more n p);
                 fulls = went.grows.fulls;
+                few = went.grows.few;
               };
           each =
               snoc_case (λ n c. runs c.stay ≡ true → (offer : Offer) → Answers n (lane_of offer) (went.lanes n offer) s0 s) done child went.each
@@ -259,6 +155,7 @@ module _ (watched : List Watch) (s0 : HeadsSeen) where
                   has = λ n. serves.grows.has n ∙ went.grows.has n;
                   given = grown;
                   fulls = λ n p. omega (arith, serves.grows.fulls n p, went.grows.fulls n p);
+                  few = λ n p h. serves.grows.few n p (went.grows.few n p h);
                 };
             each =
                 snoc_case (λ n c. runs c.stay ≡ true → (offer : Offer) → Answers n (lane_of offer) (lanes n offer) s0 next) done child answered
@@ -448,30 +345,3 @@ pub same_modest : (watched : List Watch) (child result : Child) (old new : Heads
     → IsModest result
 same_modest watched child result old new serves modest =
     subst IsModest (sym serves.is) (serve_modest (λ m. serves.answers) watched child modest)
-
--- the child with the k-th of these numbers stands at its number
-pub stands : (children : List Child) (k n : ℕ) → Numbered children → slice_get (running_of children) k ≡ Some n
-    → (child : Child) × (slice_get children n ≡ Some child) × (runs child.stay ≡ true)
-stands children k n numbered named =
-    let f = find children k n named in
-    let middle = ap (λ (l : List Child). slice_get l (length f.before)) f.whole ∙ get_middle f.before f.child f.after in
-    (f.child, ap (slice_get children) (sym f.number ∙ numbered (length f.before) f.child middle) ∙ middle, f.goes)
-
--- ---- the child that a roster finds for the k-th of those that run
-got : {A : Type 0} (xs : List A) (k : ℕ) (x : A) → x ≡ get_or xs k x → k < length xs → slice_get xs k ≡ Some x
-got [] k x is lt = absurd (omega arith)
-got (y ∷ ys) zero x is lt = ap Some (sym is)
-got (y ∷ ys) (suc k) x is lt = got ys k x is (omega arith)
-
-module _ (children : List Child) (holders : List (Option ℕ)) (running : List ℕ) (noted : ℕ) (roster : IsRoster children holders running noted)
-    (k number : ℕ) (is : number ≡ get_or running k number) (few : k < length (running_of children)) where
-  pub named_by : slice_get (running_of children) k ≡ Some number
-  named_by =
-      ap (λ l. slice_get l k) (sym roster.runs) ∙ got running k number is (omega (arith, few, ap length roster.runs))
-
-  pub within_all : number < length children
-  within_all =
-      let there = stands children k number roster.numbered named_by in slice_get_within children number there.0 there.1
-
-  pub child_at : (child : Child) → child ≡ get_or children number child → slice_get children number ≡ Some child
-  child_at child is_child = got children number child is_child within_all

@@ -1,0 +1,4 @@
+pub mod Passing
+pub mod Commanding
+pub mod Together
+pub mod Ending
