@@ -81,12 +81,14 @@ impl Exc {
         }
     }
 
+    /// The kind.
     pub fn kind(&self) -> Kind
         ensures { result ≡ kind_of self.now }
     {
         self.kind
     }
 
+    /// The text; empty where it has none.
     pub fn text(&self) -> &str
         ensures { result.now ≡ text_of self.now }
     {
@@ -96,6 +98,7 @@ impl Exc {
         }
     }
 
+    /// The bytes that came before an IncompleteReadError; else empty.
     pub fn bytes(&self) -> &[u8]
         ensures { result.now ≡ bytes_of self.now }
     {
@@ -105,6 +108,7 @@ impl Exc {
         }
     }
 
+    /// The members of an ExceptionGroup in order; else empty.
     #[tactic(auto, using(law_value::proofs::Rows::rows))]
     pub fn members(&self) -> &[Exc]
         ensures { result.now ≡ members_of self.now }
@@ -159,12 +163,14 @@ impl Clone for Exc {
 }
 
 impl ExcList {
+    /// The exceptions of a vector; nothing is copied.
     pub fn of(items: Vec<Exc>) -> ExcList
         ensures { result ≡ items.items }
     {
         ExcList { items }
     }
 
+    /// The exceptions in order.
     pub fn items(&self) -> &[Exc]
         ensures { result.now ≡ self.now }
     {

@@ -106,6 +106,7 @@ pub enum ValueCase<'a> {
 }
 
 impl Value {
+    /// None.
     pub fn nothing() -> Value
         ensures { result ≡ Nothing }
     {
@@ -114,6 +115,7 @@ impl Value {
         }
     }
 
+    /// A Bool.
     pub fn bool(truth: bool) -> Value
         ensures { result ≡ Truth truth }
     {
@@ -122,6 +124,7 @@ impl Value {
         }
     }
 
+    /// An Int.
     pub fn int(number: i64) -> Value
         ensures { result ≡ Int number }
     {
@@ -130,6 +133,7 @@ impl Value {
         }
     }
 
+    /// A Text, which shares the bytes of `text`.
     pub fn text(text: RcStr) -> Value
         ensures { result ≡ Text (rc_str_bytes text) }
     {
@@ -138,6 +142,7 @@ impl Value {
         }
     }
 
+    /// Bytes, which are shared.
     pub fn bytes(bytes: RcSlice<u8>) -> Value
         ensures { result ≡ Bytes (rc_slice_items bytes) }
     {
@@ -146,6 +151,7 @@ impl Value {
         }
     }
 
+    /// A List, which shares its items.
     pub fn list(list: Rc<ValueList>) -> Value
         ensures { result ≡ Items (values list.value) }
     {
@@ -184,6 +190,7 @@ impl Value {
         }
     }
 
+    /// A task by its number, from 0.
     pub fn task(id: u32) -> Value
         ensures { result ≡ Task id }
     {
@@ -192,6 +199,7 @@ impl Value {
         }
     }
 
+    /// A group by its number, from 0.
     pub fn group(id: u32) -> Value
         ensures { result ≡ Group id }
     {
@@ -200,6 +208,7 @@ impl Value {
         }
     }
 
+    /// A timeout by its number, from 0.
     pub fn timeout(id: u32) -> Value
         ensures { result ≡ Timeout id }
     {
@@ -244,6 +253,7 @@ impl Value {
         }
     }
 
+    /// An exception as a value.
     pub fn exc(exc: Exc) -> Value
         ensures { result ≡ Exception exc }
     {
@@ -301,12 +311,14 @@ impl Clone for Value {
 }
 
 impl ValueList {
+    /// The values of a vector; nothing is copied.
     pub fn of(items: Vec<Value>) -> ValueList
         ensures { result ≡ items.items }
     {
         ValueList { items }
     }
 
+    /// The values in order.
     pub fn items(&self) -> &[Value]
         ensures { result.now ≡ self.now }
     {

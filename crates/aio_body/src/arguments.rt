@@ -35,6 +35,7 @@ impl<X> Body<X> {
     }
 }
 
+/// The number of a task; None for any other kind.
 pub fn as_task(value: &Value) -> Option<u32>
     ensures { result ≡ task_of value.now }
 {
@@ -44,6 +45,7 @@ pub fn as_task(value: &Value) -> Option<u32>
     }
 }
 
+/// The number of a timeout; None for any other kind.
 pub fn as_timeout(value: &Value) -> Option<u32>
     ensures { result ≡ timeout_of value.now }
 {
@@ -53,6 +55,7 @@ pub fn as_timeout(value: &Value) -> Option<u32>
     }
 }
 
+/// The number of a group; None for any other kind.
 pub fn as_group(value: &Value) -> Option<u32>
     ensures { result ≡ group_of value.now }
 {
@@ -62,6 +65,7 @@ pub fn as_group(value: &Value) -> Option<u32>
     }
 }
 
+/// The number that an Int is; None for any other kind.
 pub fn as_int(value: &Value) -> Option<i64>
     ensures { result ≡ int_of value.now }
 {
@@ -90,6 +94,7 @@ fn failing_with(fault: &Exc) -> Result<Option<Exc>, Memory>
     Ok(Some(fault.clone()?))
 }
 
+/// Whether a value is a List.
 pub fn is_list(value: &Value) -> bool
     ensures { result ≡ is_some (as_list value.now) }
 {

@@ -29,12 +29,14 @@ pub fn raises(alloc: Global, kind: Kind, text: &str) -> Result<RequestReply, Mem
     Ok(RequestReply::Raises(exception(alloc, kind, text)?))
 }
 
+/// TypeError `bad argument`, raised in the coroutine.
 pub fn bad_argument(alloc: Global) -> Result<RequestReply, Memory>
     ensures { IfOk result (λ said. said ≡ RequestReply.Raises plain_bad_argument) }
 {
     raises(alloc, Kind::TypeError, "bad argument")
 }
 
+/// OverflowError `out of range`, raised in the coroutine.
 pub fn out_of_range(alloc: Global) -> Result<RequestReply, Memory>
     ensures { IfOk result (λ said. said ≡ RequestReply.Raises plain_out_of_range) }
 {

@@ -36,6 +36,7 @@ impl Model for Awaitables {
 }
 
 impl Awaitables {
+    /// No handles, no futures, no tasks.
     pub fn new(alloc: Global) -> Result<Awaitables, Memory>
         ensures { IfOk result
             (λ body. body ≡ record { queue = no_handles; futures = []; tasks = [] }) }
@@ -48,6 +49,7 @@ impl Awaitables {
         })
     }
 
+    /// How a future stands to a cancel request: whether it is done, and else its kind.
     pub fn stands(&self, id: FutureId) -> FutureState
         ensures { result ≡ stands_at (slice_get self.now.futures id) }
     {
@@ -66,6 +68,7 @@ impl Awaitables {
         }
     }
 
+    /// The member at a place, from 0, of a future that stands for several; None past the last.
     pub fn member(&self, id: FutureId, place: usize) -> Option<FutureId>
         ensures value { result ≡ slice_get (members_at (slice_get self.now.futures id)) place }
         ensures room { IfSome result (λ _. place + 1 < 2 ^ 64) }
@@ -73,6 +76,7 @@ impl Awaitables {
         self.futures.member(id, place)
     }
 
+    /// The task of a number; None where none was made.
     pub fn task(&self, task: u32) -> Option<&Task>
         ensures { option_copied result ≡ slice_get self.now.tasks task }
     {

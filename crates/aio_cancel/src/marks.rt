@@ -29,6 +29,7 @@ impl Model for Marks {
 }
 
 impl Marks {
+    /// Marks for no task; takes no memory.
     pub fn new(alloc: Global) -> Marks
         ensures { result ≡ record { tasks = 0; visited = [] } }
     {

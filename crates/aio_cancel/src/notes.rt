@@ -36,6 +36,7 @@ impl Model for Notes {
 }
 
 impl Notes {
+    /// No notes; takes no memory.
     pub fn new(alloc: Global) -> Notes
         ensures { HasNoNotes result }
     {

@@ -28,6 +28,7 @@ impl Model for WalkStack {
 }
 
 impl WalkStack {
+    /// An empty stack without room; takes no memory.
     pub fn new(alloc: Global) -> WalkStack
         ensures { result ≡ record { room = 0; frames = [] } }
     {
@@ -49,6 +50,7 @@ impl WalkStack {
         Ok(())
     }
 
+    /// Puts a frame on top, into room that was made before.
     pub fn push(&mut self, frame: WalkFrame)
         requires { length self.old.frames < self.old.room }
         ensures { self.new ≡ record self.old { frames = self.old.frames ++ frame ∷ [] } }
@@ -86,6 +88,7 @@ impl WalkStack {
         }
     }
 
+    /// Takes the top frame; None exactly where there is none. The room stays.
     pub fn pop(&mut self) -> Option<WalkFrame>
         ensures room { self.new.room ≡ self.old.room }
         ensures frames { MatchOption result

@@ -48,36 +48,42 @@ impl Task {
         }
     }
 
+    /// The task's own future.
     pub fn future(&self) -> FutureId
         ensures { result ≡ self.now.future }
     {
         self.future
     }
 
+    /// What the task waits for (`_fut_waiter` of `tasks.py`).
     pub fn waiter(&self) -> Option<FutureId>
         ensures { result ≡ self.now.waiter }
     {
         self.waiter
     }
 
+    /// How many cancel requests are counted (`cancelling` of `tasks.py`).
     pub fn cancels(&self) -> u64
         ensures { result ≡ self.now.cancels }
     {
         self.cancels
     }
 
+    /// Whether a cancel waits for the next step (`_must_cancel` of `tasks.py`).
     pub fn is_marked(&self) -> bool
         ensures { result ≡ self.now.must_cancel }
     {
         self.must_cancel
     }
 
+    /// Sets what the task waits for, or that it waits for nothing.
     pub fn set_waiter(&mut self, waiter: Option<FutureId>)
         ensures { self.new ≡ record self.old { waiter = waiter } }
     {
         self.waiter = waiter;
     }
 
+    /// Counts one cancel request more; at 9,223,372,036,854,775,807 the count stays.
     pub fn raise(&mut self)
         ensures { self.new ≡ record self.old { cancels = one_more self.old.cancels } }
     {
@@ -86,18 +92,21 @@ impl Task {
         }
     }
 
+    /// Counts one cancel request less; at 0 the count stays (`uncancel` of `tasks.py`).
     pub fn lower(&mut self)
         ensures { self.new ≡ record self.old { cancels = self.old.cancels - 1 } }
     {
         self.cancels = self.cancels.saturating_sub(1);
     }
 
+    /// A cancel waits for the next step.
     pub fn mark(&mut self)
         ensures { self.new ≡ record self.old { must_cancel = true } }
     {
         self.must_cancel = true;
     }
 
+    /// No cancel waits for the next step any more.
     pub fn unmark(&mut self)
         ensures { self.new ≡ record self.old { must_cancel = false } }
     {

@@ -23,6 +23,7 @@ pub struct Files<R> {
 }
 
 impl<R: rt::Files> Files<R> {
+    /// The files of the system. So far none of their calls failed.
     pub fn new(rt: R) -> Files<R>
         ensures { result.faults ≡ 0 }
     {

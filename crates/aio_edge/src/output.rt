@@ -18,6 +18,7 @@ pub struct Output<R> {
 }
 
 impl<R: Print> Output<R> {
+    /// The standard output. So far none of its calls failed.
     pub fn new(rt: R) -> Output<R>
         ensures { result.faults ≡ 0 }
     {

@@ -99,6 +99,7 @@ pub enum FlatExprCase<'a> {
 }
 
 impl FlatExpr {
+    /// `left or right`.
     pub fn or(left: Box<FlatExpr>, right: Box<FlatExpr>) -> FlatExpr
         ensures { result ≡ Or left.value right.value }
     {
@@ -107,6 +108,7 @@ impl FlatExpr {
         }
     }
 
+    /// `left and right`.
     pub fn and(left: Box<FlatExpr>, right: Box<FlatExpr>) -> FlatExpr
         ensures { result ≡ And left.value right.value }
     {
@@ -115,6 +117,7 @@ impl FlatExpr {
         }
     }
 
+    /// `not operand`.
     pub fn not(operand: Box<FlatExpr>) -> FlatExpr
         ensures { result ≡ Not operand.value }
     {
@@ -123,6 +126,7 @@ impl FlatExpr {
         }
     }
 
+    /// `left` and `right`, compared.
     pub fn compare(comparison: Comparison, left: Box<FlatExpr>, right: Box<FlatExpr>) -> FlatExpr
         ensures { result ≡ Compare comparison left.value right.value }
     {
@@ -131,6 +135,7 @@ impl FlatExpr {
         }
     }
 
+    /// `left` and `right` under an arithmetic operator.
     pub fn calculate(operator: Operator, left: Box<FlatExpr>, right: Box<FlatExpr>) -> FlatExpr
         ensures { result ≡ Calculate operator left.value right.value }
     {
@@ -139,6 +144,7 @@ impl FlatExpr {
         }
     }
 
+    /// `-operand`.
     pub fn negate(operand: Box<FlatExpr>) -> FlatExpr
         ensures { result ≡ Negate operand.value }
     {
@@ -147,6 +153,7 @@ impl FlatExpr {
         }
     }
 
+    /// `sequence[index]`.
     pub fn index(sequence: Box<FlatExpr>, index: Box<FlatExpr>) -> FlatExpr
         ensures { result ≡ Index sequence.value index.value }
     {
@@ -155,6 +162,7 @@ impl FlatExpr {
         }
     }
 
+    /// A literal, `True`, `False` or `None`.
     pub fn literal(constant: Constant) -> FlatExpr
         ensures { result ≡ Literal (constant_of constant) }
     {
@@ -163,6 +171,7 @@ impl FlatExpr {
         }
     }
 
+    /// A variable by its number.
     pub fn variable(local: Local) -> FlatExpr
         ensures { result ≡ Variable local }
     {
@@ -180,6 +189,7 @@ impl FlatExpr {
         }
     }
 
+    /// A function of one argument, called.
     pub fn apply(function: Function, argument: Box<FlatExpr>) -> FlatExpr
         ensures { result ≡ Apply function argument.value }
     {
@@ -225,12 +235,14 @@ impl FlatExpr {
 }
 
 impl FlatExprList {
+    /// The expressions of a vector; nothing is copied.
     pub fn of(items: Vec<FlatExpr>) -> FlatExprList
         ensures { result ≡ items.items }
     {
         FlatExprList { items }
     }
 
+    /// The expressions in order.
     pub fn items(&self) -> &[FlatExpr]
         ensures { result.now ≡ self.now }
     {

@@ -11,6 +11,7 @@ use aio_base::Value;
 use std::alloc::Global;
 use std::rc::{RcSlice, RcStr};
 
+/// Two Texts joined; OverflowError where that weighs too much.
 pub fn joined_texts(alloc: Global, front: &str, back: &str) -> Result<Value, OperationFault>
     ensures { Gives (bounded (Text (front.now ++ back.now))) result }
 {
@@ -22,6 +23,7 @@ pub fn joined_texts(alloc: Global, front: &str, back: &str) -> Result<Value, Ope
     Ok(Value::text(RcStr::from_string(text)?))
 }
 
+/// Two Bytes joined; OverflowError where that weighs too much.
 pub fn joined_bytes(alloc: Global, front: &[u8], back: &[u8]) -> Result<Value, OperationFault>
     ensures { Gives (bounded (Bytes (front.now ++ back.now))) result }
 {

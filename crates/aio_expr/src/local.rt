@@ -27,12 +27,14 @@ impl Model for Local {
 }
 
 impl Local {
+    /// The variable of a number, counted from 0 in its coroutine.
     pub fn of(number: usize) -> Local
         ensures { result ≡ local number }
     {
         Local { number }
     }
 
+    /// Its number.
     pub fn number(self) -> usize
         ensures { local result ≡ self }
     {

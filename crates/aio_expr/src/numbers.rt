@@ -8,6 +8,7 @@ ghost use Rattle.aio_expr.specs.Rounding.{rounds_up};
 use crate::operation_fault::OperationFault;
 use aio_base::Value;
 
+/// `a + b`; OverflowError past 64 bits.
 pub fn sum(a: i64, b: i64) -> Result<Value, OperationFault>
     ensures { Gives (number (a +ℤ b)) result }
 {
@@ -17,6 +18,7 @@ pub fn sum(a: i64, b: i64) -> Result<Value, OperationFault>
     }
 }
 
+/// `a - b`; OverflowError past 64 bits.
 pub fn difference(a: i64, b: i64) -> Result<Value, OperationFault>
     ensures { Gives (number (a -ℤ b)) result }
 {
@@ -26,6 +28,7 @@ pub fn difference(a: i64, b: i64) -> Result<Value, OperationFault>
     }
 }
 
+/// `a * b`; OverflowError past 64 bits.
 pub fn product(a: i64, b: i64) -> Result<Value, OperationFault>
     ensures { Gives (number (a *ℤ b)) result }
 {
@@ -35,6 +38,7 @@ pub fn product(a: i64, b: i64) -> Result<Value, OperationFault>
     }
 }
 
+/// `-a`; OverflowError of the least number.
 pub fn negative(a: i64) -> Result<Value, OperationFault>
     ensures { Gives (number (neg_ℤ a)) result }
 {

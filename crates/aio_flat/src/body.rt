@@ -30,12 +30,14 @@ impl Model for ClauseList {
 }
 
 impl ClauseList {
+    /// The clauses of a vector; nothing is copied.
     pub fn of(items: Vec<Clause>) -> ClauseList
         ensures { result ≡ items.items }
     {
         ClauseList { items }
     }
 
+    /// The clauses in order.
     pub fn items(&self) -> &[Clause]
         ensures { result.now ≡ self.now }
     {

@@ -15,6 +15,7 @@ pub struct BodyBuilder {
 }
 
 impl BodyBuilder {
+    /// No operations, ranges and variables yet.
     pub fn new(alloc: Global) -> BodyBuilder
         ensures { built result ≡ record { ops = []; ranges = []; variables = [] } }
     {
@@ -31,6 +32,7 @@ impl BodyBuilder {
         self.ops.len()
     }
 
+    /// Puts an operation behind the others.
     pub fn push_op(&mut self, op: Op) -> Result<(), Memory>
         ensures { OnOk result (built self.new ≡ with_op op (built self.old)) }
     {

@@ -25,12 +25,14 @@ impl Model for Name {
 }
 
 impl Name {
+    /// The name of a text, which is shared.
     pub fn of(text: RcStr) -> Name
         ensures { result ≡ rc_str_bytes text }
     {
         Name { text }
     }
 
+    /// Its text.
     pub fn as_str(&self) -> &str
         ensures { result.now ≡ self.now }
     {

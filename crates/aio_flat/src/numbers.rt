@@ -37,6 +37,7 @@ impl<'v> Model for Numbers<'v> {
 }
 
 impl<'v> Numbers<'v> {
+    /// The numbers of these names, by their places.
     pub fn new(alloc: Global, names: &'v [Name]) -> Result<Numbers<'v>, Memory>
         ensures { IfOk result (λ numbers. numbers ≡ names.now) }
     {

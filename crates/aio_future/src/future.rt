@@ -49,6 +49,7 @@ impl Model for Future {
 }
 
 impl Future {
+    /// A pending future of a kind, without callbacks.
     pub fn new(kind: FutureKind) -> Future
         ensures { result ≡ record { kind = kind_of kind; outcome = None; callbacks = [] } }
     {
@@ -70,12 +71,14 @@ impl Future {
         }
     }
 
+    /// Its outcome; None exactly where it is pending.
     pub fn outcome(&self) -> Option<&Outcome>
         ensures { option_copied result ≡ self.now.outcome }
     {
         self.outcome.as_ref()
     }
 
+    /// Whether it has an outcome.
     pub fn is_done(&self) -> bool
         ensures { result ≡ is_some self.now.outcome }
     {
@@ -91,12 +94,14 @@ impl Future {
         ready.soon_all(&mut self.callbacks);
     }
 
+    /// Adds a callback behind the others, with the memory of its handle.
     pub fn add(&mut self, ticket: Ticket, action: Action)
         ensures { self.new ≡ record self.old { callbacks = self.old.callbacks ++ action ∷ [] } }
     {
         self.callbacks.add(ticket, action);
     }
 
+    /// Notes that a cancel of a future that stands for several reached a member; of any other nothing.
     pub fn ask(&mut self)
         ensures { self.new ≡ record self.old { kind = asked_kind self.old.kind } }
     {
@@ -105,6 +110,7 @@ impl Future {
         }
     }
 
+    /// Whether that was noted.
     pub fn is_asked(&self) -> bool
         ensures { result ≡ is_asked_kind self.now.kind }
     {
@@ -115,6 +121,7 @@ impl Future {
         }
     }
 
+    /// How it stands to a cancel request.
     pub fn stands(&self) -> FutureState
         ensures { result ≡ stands_of self.now.outcome self.now.kind }
     {

@@ -20,6 +20,7 @@ use std::mem;
 const MOST_CALLERS: usize = 63;
 
 impl Frames {
+    /// A call by `yield from`: opens a frame. RecursionError past 64 frames, after the arguments.
     pub fn call(
         &mut self,
         alloc: Global,
@@ -90,6 +91,7 @@ pub fn new_frame(
     })
 }
 
+/// The flat code of a coroutine by its place; None where there is none.
 pub fn body_at(code: &Code, coroutine: u32) -> Option<&FlatBody>
     ensures { option_copied result ≡ slice_get code.now.bodies.items coroutine }
 {

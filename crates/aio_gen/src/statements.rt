@@ -15,6 +15,7 @@ use aio_expr::{FlatExpr, FlatExprList, Local};
 use std::alloc::Global;
 
 impl Frames {
+    /// `name = value`.
     pub fn assign(&mut self, alloc: Global, name: &Local, value: &FlatExpr) -> Result<Move, Memory>
         requires { self.old.frame.place + 1 < 2 ^ 64 }
         ensures { IfOk result (λ moving. (codes : ℕ → CoroutineCode) →
@@ -31,6 +32,7 @@ impl Frames {
         }
     }
 
+    /// `print items`: asks for it with the items' values.
     pub fn print(&mut self, alloc: Global, items: &FlatExprList) -> Result<Move, Memory>
         requires { self.old.frame.place + 1 < 2 ^ 64 }
         ensures { IfOk result (λ moving. (codes : ℕ → CoroutineCode) →
@@ -46,6 +48,7 @@ impl Frames {
         }
     }
 
+    /// `raise fault`; TypeError where the value is no exception.
     pub fn raise(&mut self, alloc: Global, fault: &FlatExpr) -> Result<Move, Memory>
         ensures { IfOk result (λ moving. (codes : ℕ → CoroutineCode) →
             plain_move moving self.new
@@ -68,6 +71,7 @@ impl Frames {
         }
     }
 
+    /// `return value`, or `return`: on the way out `finally` parts and exits come first.
     pub fn return_value(&mut self, alloc: Global, value: &Option<FlatExpr>) -> Result<Move, Memory>
         ensures { IfOk result (λ moving. (codes : ℕ → CoroutineCode) →
             plain_move moving self.new
@@ -82,6 +86,7 @@ impl Frames {
         }
     }
 
+    /// The test of an `if`: where it is False, on at `otherwise`. TypeError where it is no Bool.
     pub fn test(&mut self, alloc: Global, test: &FlatExpr, otherwise: usize) -> Result<Move, Memory>
         requires { self.old.frame.place + 1 < 2 ^ 64 }
         ensures { IfOk result (λ moving. (codes : ℕ → CoroutineCode) →
@@ -94,6 +99,7 @@ impl Frames {
         }
     }
 
+    /// The test of a `while`: where it is True, on at `body`. TypeError where it is no Bool.
     pub fn repeat(&mut self, alloc: Global, test: &FlatExpr, body: usize) -> Result<Move, Memory>
         requires { self.old.frame.place + 1 < 2 ^ 64 }
         ensures { IfOk result (λ moving. (codes : ℕ → CoroutineCode) →
@@ -131,6 +137,7 @@ impl Frames {
         }
     }
 
+    /// A `try` begins: its handlers are open from here.
     pub fn guard(&mut self, number: usize) -> Result<Move, Memory>
         requires { self.old.frame.place + 1 < 2 ^ 64 }
         ensures { IfOk result (λ moving. (codes : ℕ → CoroutineCode) →
@@ -142,6 +149,7 @@ impl Frames {
         Ok(Move::Goes(Way::Passing))
     }
 
+    /// Asks to enter a `with group`.
     pub fn enter_group(&mut self, name: &Local, range: usize) -> Result<Move, Memory>
         requires { self.old.frame.place + 1 < 2 ^ 64 }
         ensures { IfOk result (λ moving. (codes : ℕ → CoroutineCode) →
@@ -153,6 +161,7 @@ impl Frames {
         Ok(Move::Asks(Request::GroupEnter, AnswerUse::Entered { name, range }))
     }
 
+    /// Asks to enter a `with timeout(delay)`, with the delay's value.
     pub fn enter_timeout(
         &mut self,
         alloc: Global,

@@ -27,6 +27,7 @@ impl Frames {
         Ok(Move::Asks(request, AnswerUse::AssignedTo(into)))
     }
 
+    /// A bare `yield`.
     pub fn pause(&mut self) -> Move
         requires { self.old.frame.place + 1 < 2 ^ 64 }
         ensures { (codes : ℕ → CoroutineCode) → plain_move result self.new
@@ -47,6 +48,7 @@ impl Frames {
         self.ask_into(into, Request::Await(awaited))
     }
 
+    /// Asks a request whose arguments are all values, once they are evaluated.
     pub fn ask(
         &mut self,
         alloc: Global,
@@ -68,6 +70,7 @@ impl Frames {
         }
     }
 
+    /// Asks for a task of a coroutine, with the values of its arguments.
     pub fn spawn(
         &mut self,
         alloc: Global,
@@ -92,6 +95,7 @@ impl Frames {
         }
     }
 
+    /// Asks for a task of a group, with the values of its arguments.
     pub fn create(
         &mut self,
         alloc: Global,
@@ -121,6 +125,7 @@ impl Frames {
         }
     }
 
+    /// Asks for a listener on a port, with its handler.
     pub fn listen(
         &mut self,
         alloc: Global,

@@ -85,12 +85,14 @@ impl Group {
         }
     }
 
+    /// The task whose block it is.
     pub fn parent(&self) -> u32
         ensures { result ≡ self.now.parent }
     {
         self.parent
     }
 
+    /// Whether it aborts.
     pub fn aborts(&self) -> bool
         ensures { result ≡ self.now.aborting }
     {
@@ -111,36 +113,42 @@ impl Group {
         self.requested
     }
 
+    /// The tasks that it wasn't told to be done, in order of creation.
     pub fn children(&self) -> &BTreeSet<u32>
         ensures { result.now.keys ≡ self.now.children }
     {
         &self.children
     }
 
+    /// Whether it has no such task left.
     pub fn is_empty(&self) -> bool
         ensures { result ≡ plain.is_empty self.now.children }
     {
         self.children.is_empty()
     }
 
+    /// The tasks that failed, in the order in which it was told.
     pub fn failed(&self) -> &[u32]
         ensures { result.now ≡ self.now.failed }
     {
         self.failed.as_slice()
     }
 
+    /// The failure of its body, if there was one.
     pub fn body(&self) -> Option<&Exc>
         ensures { option_copied result ≡ self.now.body }
     {
         self.body.as_ref()
     }
 
+    /// What its exit waits for, if it waits.
     pub fn exit_future(&self) -> Option<FutureId>
         ensures { result ≡ self.now.exit_future }
     {
         self.exit_future
     }
 
+    /// The block is entered (`TaskGroup.__aenter__`).
     pub fn enter(&mut self)
         ensures { self.new ≡ record self.old { entered = true } }
     {
@@ -204,6 +212,7 @@ impl Group {
         }
     }
 
+    /// From now on it aborts (`TaskGroup._abort`).
     pub fn set_aborting(&mut self)
         ensures { self.new ≡ record self.old { aborting = true } }
     {
@@ -237,12 +246,14 @@ impl Group {
         }
     }
 
+    /// Keeps the CancelledError that the exit may raise.
     pub fn keep(&mut self, fault: Exc)
         ensures { self.new ≡ record self.old { kept = Some fault } }
     {
         self.kept = Some(fault);
     }
 
+    /// Keeps no CancelledError any more.
     pub fn drop_kept(&mut self)
         ensures { self.new ≡ record self.old { kept = None } }
     {

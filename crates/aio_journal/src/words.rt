@@ -34,6 +34,7 @@ impl<'a> Model for Words<'a> {
 }
 
 impl<'a> Words<'a> {
+    /// The words of a line, from its first byte on.
     pub fn new(line: &'a [u8]) -> Words<'a>
         ensures { result ≡ tokens_of line.now }
     {

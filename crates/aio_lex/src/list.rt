@@ -19,12 +19,14 @@ impl Model for TokenList {
 impl TokenList {
     ghost use Rattle.std.specs.Prelude.{◌≡◌};
 
+    /// The tokens of a vector; nothing is copied.
     pub fn of(items: Vec<Token>) -> Self
         ensures { result ≡ items.items }
     {
         TokenList { items }
     }
 
+    /// The tokens in order.
     pub fn items(&self) -> &[Token]
         ensures { result.now ≡ self.now }
     {

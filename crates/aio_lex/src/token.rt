@@ -64,6 +64,7 @@ impl Token {
         Token { content, span }
     }
 
+    /// Its class, with the value of a number or a literal.
     pub fn class(&self) -> TokenClass<'_>
         ensures { plain_class result ≡ self.now.class }
     {
@@ -76,6 +77,7 @@ impl Token {
         }
     }
 
+    /// Its columns, from 1: that of its first byte, and the one behind its last.
     pub fn span(&self) -> Span
         ensures start { result.start ≡ self.now.start }
         ensures end { result.end ≡ self.now.end }

@@ -12,6 +12,7 @@ pub struct DeadWire {
 }
 
 impl DeadWire {
+    /// A wire of which each call fails. So far none was made.
     pub fn new() -> DeadWire
         ensures { result.faults ≡ 0 }
     {

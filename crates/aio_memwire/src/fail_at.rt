@@ -16,6 +16,7 @@ pub struct FailAt<I> {
 }
 
 impl<I> FailAt<I> {
+    /// Wraps `inner`; the calls with these numbers, from 1, fail.
     pub fn new(inner: I, calls: Vec<u64>) -> FailAt<I>
         ensures inner { result.inner ≡ inner }
         ensures calls { result.calls ≡ calls }

@@ -47,6 +47,7 @@ impl Model for Program {
 }
 
 impl Coroutine {
+    /// A coroutine of its parts.
     pub fn new(name: RcStr, parameters: Vec<RcStr>, body: StatementList) -> Coroutine
         ensures { result ≡ record {
           name = rc_str_bytes name;
@@ -61,18 +62,21 @@ impl Coroutine {
         }
     }
 
+    /// Its name.
     pub fn name(&self) -> &RcStr
         ensures { rc_str_bytes result.now ≡ self.now.name }
     {
         &self.name
     }
 
+    /// The names of its parameters in order.
     pub fn parameters(&self) -> &[RcStr]
         ensures { map rc_str_bytes result.now ≡ self.now.parameters }
     {
         self.parameters.as_slice()
     }
 
+    /// Its statements.
     pub fn body(&self) -> &StatementList
         ensures { statements result.now ≡ self.now.body }
     {
@@ -81,6 +85,7 @@ impl Coroutine {
 }
 
 impl Program {
+    /// A program of its coroutines, in order.
     pub fn new(profile: u64, coroutines: Vec<Coroutine>) -> Program
         ensures { result ≡ record { profile = profile; coroutines = coroutines.items } }
     {
@@ -90,6 +95,7 @@ impl Program {
         }
     }
 
+    /// The number of the line `profile`, or 1 without one.
     pub fn profile(&self) -> u64
         ensures { result ≡ self.now.profile }
     {

@@ -131,6 +131,7 @@ pub enum StatementCase<'a> {
 }
 
 impl Statement {
+    /// `name = value`.
     pub fn assign(name: RcStr, value: Expr) -> Statement
         ensures { result ≡ Assign (rc_str_bytes name) value }
     {
@@ -157,6 +158,7 @@ impl Statement {
         }
     }
 
+    /// `print items`.
     pub fn print(items: ExprList) -> Statement
         ensures { result ≡ Print (exprs items) }
     {
@@ -165,6 +167,7 @@ impl Statement {
         }
     }
 
+    /// `raise fault`.
     pub fn raise(fault: Expr) -> Statement
         ensures { result ≡ Raise fault }
     {
@@ -173,6 +176,7 @@ impl Statement {
         }
     }
 
+    /// `return value`, or `return`.
     pub fn return_value(value: Option<Expr>) -> Statement
         ensures { result ≡ Return value }
     {
@@ -181,6 +185,7 @@ impl Statement {
         }
     }
 
+    /// `pass`.
     pub fn pass() -> Statement
         ensures { result ≡ Pass }
     {
@@ -198,6 +203,7 @@ impl Statement {
         }
     }
 
+    /// `while test`, with its body.
     pub fn while_loop(test: Expr, body: StatementList) -> Statement
         ensures { result ≡ While test (statements body) }
     {
@@ -254,12 +260,14 @@ impl Statement {
 }
 
 impl StatementList {
+    /// The statements of a vector; nothing is copied.
     pub fn of(items: Vec<Statement>) -> StatementList
         ensures { result ≡ items.items }
     {
         StatementList { items }
     }
 
+    /// The statements in order.
     pub fn items(&self) -> &[Statement]
         ensures { result.now ≡ self.now }
     {
@@ -268,12 +276,14 @@ impl StatementList {
 }
 
 impl Handler {
+    /// `except kind`, or `except kind as name`, with its body.
     pub fn new(kind: Kind, name: Option<RcStr>, body: StatementList) -> Handler
         ensures { result ≡ record { kind = kind; name = plain_name name; body = statements body } }
     {
         Handler { kind, name, body }
     }
 
+    /// The kind that it catches.
     pub fn kind(&self) -> Kind
         ensures { result ≡ self.now.kind }
     {
@@ -287,6 +297,7 @@ impl Handler {
         self.name.as_ref()
     }
 
+    /// Its statements.
     pub fn body(&self) -> &StatementList
         ensures { statements result.now ≡ self.now.body }
     {

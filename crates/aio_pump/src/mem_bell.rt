@@ -19,6 +19,7 @@ impl Model for MemBell {
 }
 
 impl MemBell {
+    /// A bell that was not rung yet.
     pub fn new() -> MemBell
         ensures { result ≡ 0 }
     {

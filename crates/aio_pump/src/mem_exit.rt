@@ -30,6 +30,7 @@ impl Model for MemExit {
 }
 
 impl MemExit {
+    /// An exit with this code; the calls with the listed numbers, from 1, fail.
     pub fn new(code: i32, failing: Vec<u64>) -> MemExit
         ensures { result ≡ record {
           code = code;

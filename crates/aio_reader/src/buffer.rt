@@ -31,6 +31,7 @@ impl Model for Buffer {
 }
 
 impl Buffer {
+    /// No bytes; takes no memory.
     pub fn new(alloc: Global) -> Buffer
         ensures { result ≡ [] }
     {
@@ -41,12 +42,14 @@ impl Buffer {
         }
     }
 
+    /// How many bytes it holds.
     pub fn len(&self) -> usize
         ensures { result ≡ length self.now }
     {
         self.bytes.len()
     }
 
+    /// Adds bytes behind the others.
     pub fn push(&mut self, piece: &[u8]) -> Result<(), AllocError>
         ensures after { OnOk result (self.new ≡ self.old ++ piece.now) }
         ensures unchanged { OnErr result (self.new ≡ self.old) }
@@ -76,6 +79,7 @@ impl Buffer {
         self.bytes.advance(within);
     }
 
+    /// The bytes in order.
     pub fn items(&self) -> &[u8]
         ensures { result.now ≡ self.now }
     {

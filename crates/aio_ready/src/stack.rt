@@ -51,18 +51,21 @@ impl Drop for Stack {
 impl Stack {
     ghost use Rattle.aio_ready.specs.Stacks.{handles_of};
 
+    /// An empty stack; takes no memory.
     pub fn new() -> Stack
         ensures { result ≡ [] }
     {
         Stack { top: Link::End }
     }
 
+    /// Whether it holds nothing.
     pub fn is_empty(&self) -> bool
         ensures { result ≡ is_empty self.now }
     {
         matches!(&self.top, Link::End)
     }
 
+    /// Puts a handle on top, in the memory of its ticket.
     pub fn push(&mut self, ticket: Ticket, handle: Handle)
         ensures { self.new ≡ handle ∷ self.old }
     {
@@ -73,6 +76,7 @@ impl Stack {
         };
     }
 
+    /// Takes the top handle with its ticket; None exactly where it is empty.
     pub fn pop(&mut self) -> Option<(Handle, Ticket)>
         ensures { MatchOption result ((self.old ≡ []) × (self.new ≡ []))
             (λ taken. self.old ≡ taken.0 ∷ self.new) }

@@ -28,6 +28,7 @@ pub fn make_future<X: Extra>(body: &mut Body<X>, alloc: Global) -> Result<Reques
     Ok(RequestReply::Answers(Value::fut(made as u32)))
 }
 
+/// `set(f, v)`. InvalidStateError where `f` is done (`Future.set_result`).
 pub fn set<X: Extra>(
     body: &mut Body<X>,
     alloc: Global,
@@ -41,6 +42,8 @@ pub fn set<X: Extra>(
     settle(body, alloc, future, Some(Outcome::Value(value)))
 }
 
+/// `fail(f, e)`. InvalidStateError where `f` is done (`Future.set_exception`); TypeError of a
+/// CancelledError.
 pub fn fail<X: Extra>(
     body: &mut Body<X>,
     alloc: Global,
@@ -86,6 +89,7 @@ fn settle<X: Extra>(
     Ok(RequestReply::Answers(Value::nothing()))
 }
 
+/// `done(x)`.
 pub fn is_done<X: Extra>(body: &Body<X>, alloc: Global, x: &Value) -> Result<RequestReply, Memory>
     ensures { (task : ℕ) → Serves X.added task (request.IsDone x.now) body.now body.now result }
 {
@@ -95,6 +99,7 @@ pub fn is_done<X: Extra>(body: &Body<X>, alloc: Global, x: &Value) -> Result<Req
     }
 }
 
+/// `cancelled(x)`.
 pub fn is_cancelled<X: Extra>(
     body: &Body<X>,
     alloc: Global,
@@ -109,6 +114,7 @@ pub fn is_cancelled<X: Extra>(
     }
 }
 
+/// `result(x)`. InvalidStateError where `x` is pending (`Future.result`).
 pub fn result_of<X: Extra>(body: &Body<X>, alloc: Global, x: &Value) -> Result<RequestReply, Memory>
     ensures { (task : ℕ) → Serves X.added task (request.ResultOf x.now) body.now body.now result }
 {

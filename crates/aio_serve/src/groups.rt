@@ -35,6 +35,7 @@ pub fn enter_group<X: Extra>(
     Ok(RequestReply::Answers(Value::group(id)))
 }
 
+/// The end of a `with group`, with the exception that leaves it (`TaskGroup.__aexit__`).
 pub fn exit_group<X: Extra>(
     body: &mut Body<X>,
     alloc: Global,
@@ -72,6 +73,7 @@ fn go_on<X: Extra>(body: &mut Body<X>, task: u32, group: u32, exit: GroupExit) -
     }
 }
 
+/// `create(g, NAME, ..)`. RuntimeError where the group takes no task (`TaskGroup.create_task`).
 pub fn create<X: Extra>(
     body: &mut Body<X>,
     alloc: Global,

@@ -11,6 +11,7 @@ use aio_body::{Body, MOST_IDS, RequestReply, as_task, bad_argument, out_of_range
 use aio_extra::Extra;
 use std::alloc::Global;
 
+/// `cancel(x)`: whether there was anything to cancel (`Task.cancel`, `Future.cancel`).
 pub fn cancel<X: Extra>(
     body: &mut Body<X>,
     alloc: Global,
@@ -25,6 +26,7 @@ pub fn cancel<X: Extra>(
     }
 }
 
+/// `cancelling(t)`.
 pub fn cancelling<X: Extra>(
     body: &Body<X>,
     alloc: Global,
@@ -39,6 +41,7 @@ pub fn cancelling<X: Extra>(
     }
 }
 
+/// `uncancel(t)`: the count after it.
 pub fn uncancel<X: Extra>(
     body: &mut Body<X>,
     alloc: Global,
@@ -53,6 +56,7 @@ pub fn uncancel<X: Extra>(
     }
 }
 
+/// `spawn(NAME, ..)`. OverflowError where no more tasks can be numbered.
 pub fn spawn<X: Extra>(
     body: &mut Body<X>,
     alloc: Global,

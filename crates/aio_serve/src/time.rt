@@ -11,6 +11,7 @@ use aio_extra::Extra;
 use aio_wire::Event;
 use std::alloc::Global;
 
+/// `time()`, in milliseconds from the run's beginning.
 pub fn time_now<X: Extra>(body: &Body<X>) -> RequestReply
     requires { SomeGoes X.added body.now }
     ensures { (task : ℕ) → Serves X.added task request.Time body.now body.now (Ok result) }
@@ -18,6 +19,7 @@ pub fn time_now<X: Extra>(body: &Body<X>) -> RequestReply
     number(body.parts.now())
 }
 
+/// `print`: notes what the task says.
 pub fn print<X: Extra>(
     body: &mut Body<X>,
     alloc: Global,

@@ -20,6 +20,7 @@ use aio_extra::Extra;
 use aio_timeout::{Rescheduled, TimeoutExit, TimeoutState, timeout_fault};
 use std::alloc::Global;
 
+/// The beginning of a `with timeout(delay)`, in milliseconds or None (`Timeout.__aenter__`).
 pub fn enter_timeout<X: Extra>(
     body: &mut Body<X>,
     alloc: Global,
@@ -41,6 +42,7 @@ pub fn enter_timeout<X: Extra>(
     Ok(RequestReply::Answers(Value::timeout(id)))
 }
 
+/// The end of that block, with the exception that leaves it. TimeoutError by `Timeout.__aexit__`.
 pub fn exit_timeout<X: Extra>(
     body: &mut Body<X>,
     alloc: Global,
@@ -103,6 +105,7 @@ fn refused(alloc: Global, state: TimeoutState) -> Result<RequestReply, Memory>
     Ok(RequestReply::Raises(state.fault(alloc)?))
 }
 
+/// `expired(o)`.
 pub fn expired<X: Extra>(
     body: &Body<X>,
     alloc: Global,

@@ -101,6 +101,7 @@ pub enum ExprCase<'a> {
 }
 
 impl Expr {
+    /// `left or right`.
     pub fn or(left: Box<Expr>, right: Box<Expr>) -> Expr
         ensures { result ≡ Or left.value right.value }
     {
@@ -109,6 +110,7 @@ impl Expr {
         }
     }
 
+    /// `left and right`.
     pub fn and(left: Box<Expr>, right: Box<Expr>) -> Expr
         ensures { result ≡ And left.value right.value }
     {
@@ -117,6 +119,7 @@ impl Expr {
         }
     }
 
+    /// `not operand`.
     pub fn not(operand: Box<Expr>) -> Expr
         ensures { result ≡ Not operand.value }
     {
@@ -125,6 +128,7 @@ impl Expr {
         }
     }
 
+    /// `left` and `right`, compared.
     pub fn compare(comparison: Comparison, left: Box<Expr>, right: Box<Expr>) -> Expr
         ensures { result ≡ Compare comparison left.value right.value }
     {
@@ -133,6 +137,7 @@ impl Expr {
         }
     }
 
+    /// `left` and `right` under an arithmetic operator.
     pub fn calculate(operator: Operator, left: Box<Expr>, right: Box<Expr>) -> Expr
         ensures { result ≡ Calculate operator left.value right.value }
     {
@@ -141,6 +146,7 @@ impl Expr {
         }
     }
 
+    /// `-operand`.
     pub fn negate(operand: Box<Expr>) -> Expr
         ensures { result ≡ Negate operand.value }
     {
@@ -149,6 +155,7 @@ impl Expr {
         }
     }
 
+    /// `sequence[index]`.
     pub fn index(sequence: Box<Expr>, index: Box<Expr>) -> Expr
         ensures { result ≡ Index sequence.value index.value }
     {
@@ -157,6 +164,7 @@ impl Expr {
         }
     }
 
+    /// A literal, `True`, `False` or `None`.
     pub fn literal(constant: Constant) -> Expr
         ensures { result ≡ Literal (constant_of constant) }
     {
@@ -165,6 +173,7 @@ impl Expr {
         }
     }
 
+    /// A variable by its name.
     pub fn variable(name: RcStr) -> Expr
         ensures { result ≡ Variable (rc_str_bytes name) }
     {
@@ -182,6 +191,7 @@ impl Expr {
         }
     }
 
+    /// A function of one argument, called.
     pub fn apply(function: Function, argument: Box<Expr>) -> Expr
         ensures { result ≡ Apply function argument.value }
     {
@@ -227,12 +237,14 @@ impl Expr {
 }
 
 impl ExprList {
+    /// The expressions of a vector; nothing is copied.
     pub fn of(items: Vec<Expr>) -> ExprList
         ensures { result ≡ items.items }
     {
         ExprList { items }
     }
 
+    /// The expressions in order.
     pub fn items(&self) -> &[Expr]
         ensures { result.now ≡ self.now }
     {

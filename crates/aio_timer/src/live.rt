@@ -45,6 +45,7 @@ impl Model for Live {
 fn let_go(_entry: Option<TimerHandle>) {}
 
 impl Live {
+    /// No timers; takes no memory.
     pub fn new(alloc: Global) -> Live
         ensures { result ≡ [] }
     {

@@ -56,6 +56,7 @@ fn news_word(item: &ChildItem) -> &'static [u8]
     }
 }
 
+/// Appends a text.
 pub fn push_text(text: &[u8], out: &mut Vec<u8>) -> Result<(), Memory>
     ensures { OnOk result (out.new.items ≡ out.old.items ++ text.now) }
 {

@@ -26,12 +26,14 @@ impl Model for ItemList {
 }
 
 impl ItemList {
+    /// The items of a vector; nothing is copied.
     pub fn of(items: Vec<Item>) -> ItemList
         ensures { result ≡ items.items }
     {
         ItemList { items }
     }
 
+    /// The items in order.
     pub fn items(&self) -> &[Item]
         ensures { result.now ≡ self.now }
     {
@@ -55,12 +57,14 @@ impl Model for WatchList {
 }
 
 impl WatchList {
+    /// The entries of a vector; nothing is copied.
     pub fn of(items: Vec<Watch>) -> WatchList
         ensures { result ≡ items.items }
     {
         WatchList { items }
     }
 
+    /// The entries in order of opening.
     pub fn items(&self) -> &[Watch]
         ensures { result.now ≡ self.now }
     {
@@ -84,12 +88,14 @@ impl Model for WordList {
 }
 
 impl WordList {
+    /// The words of a vector; nothing is copied.
     pub fn of(items: Vec<RcStr>) -> WordList
         ensures { result ≡ map rc_str_bytes items.items }
     {
         WordList { items }
     }
 
+    /// The words in order, the program's name first.
     pub fn items(&self) -> &[RcStr]
         ensures { map rc_str_bytes result.now ≡ self.now }
     {

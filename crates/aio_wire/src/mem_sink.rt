@@ -20,6 +20,7 @@ impl Model for MemSink {
 }
 
 impl MemSink {
+    /// A sink that took nothing yet.
     pub fn new(alloc: Global) -> MemSink
         ensures { result ≡ [] }
     {

@@ -28,6 +28,7 @@ impl<'a, W> Drop for Port<'a, W> {
 }
 
 impl<'a, W: Wire> Port<'a, W> {
+    /// A port over a wire, which notes each call and answer in `events`.
     pub fn new(wire: &'a mut W, events: &'a mut Events) -> Port<'a, W>
         ensures wire { result.wire.now ≡ wire.old }
         ensures wire_name { result.wire.ghost_name ≡ wire.entry.ghost_name }

@@ -28,6 +28,7 @@ pub struct Given<'a> {
 }
 
 impl<'a> Given<'a> {
+    /// No name and no option so far.
     pub fn none() -> Given<'a>
         ensures { (words : List (List ℕ)) → left result words ≡ replay_of words }
     {

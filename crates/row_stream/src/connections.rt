@@ -42,6 +42,8 @@ pub fn marks_of_a_writer()
     ensures given_up { play (writable 0 (unsent [] false [])) [] ≡ played [] (unsent [] false []) }
 {}
 
+/// `write_eof` asks to shut at once where nothing is unsent; a write after it is refused, even of no
+/// bytes.
 pub fn write_after_eof()
     ensures shuts { play (write_eof 0 (unsent [] false [])) (answer.Done ∷ [])
         ≡ played (Asked (call.Shut 0) ∷ []) (with_end (unsent [] false [])) }

@@ -37,6 +37,7 @@ pub fn line_at_the_limit()
         ≡ record { answer = Bytes []; rest = []; resumes = true } }
 {}
 
+/// `readexactly` at the end: what is left comes with the exception, once.
 pub fn exactly_at_the_end()
     ensures some { take_read (Exactly (pos 10)) (ended (codes "abcd"))
         ≡ raises (exc IncompleteReadError
@@ -58,6 +59,7 @@ pub fn exactly_at_the_end()
         ≡ raises (exception_of ValueError (codes "readexactly size can not be less than zero")) [] }
 {}
 
+/// `read` gives what is held, at most so much, and waits for the first byte.
 pub fn up_to()
     ensures all { take_read (UpTo 9) (reader (codes "ab"))
         ≡ record { answer = Bytes (codes "ab"); rest = []; resumes = true } }

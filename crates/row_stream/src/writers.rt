@@ -27,6 +27,7 @@ pub fn marks_of_a_child()
     ensures all_is_taken { took 9 (child_writer (codes "012345678") true) ≡ child_writer [] false }
 {}
 
+/// A write after `write_eof` is refused, and changes nothing.
 pub fn write_after_eof()
     ensures refused { put_answer [] (set_eof (writer [] false)) ≡ AfterEof }
     ensures stays { put (codes "a") (set_eof (writer [] false)) ≡ set_eof (writer [] false) }
@@ -38,6 +39,7 @@ pub fn write_after_eof()
         ≡ set_ended (writer [] true) }
 {}
 
+/// The marks of `limits`, given or by default, and which are refused.
 pub fn writer_limits()
     ensures by_low { marks_of None (Some (pos 100)) ≡ Some ((400, 100)) }
     ensures by_high { marks_of (Some (pos 8)) None ≡ Some ((8, 2)) }

@@ -152,6 +152,7 @@ fn push_handler(
     push_section(alloc, handler.body(), blocks, out)
 }
 
+/// Appends a line with the indent of so many open blocks, and its newline.
 pub fn push_line(text: &str, blocks: usize, out: &mut Vec<u8>) -> Result<(), Memory>
     ensures { OnOk result (out.new.items ≡ out.old.items ++ line_in blocks text.now) }
 {

@@ -7,6 +7,7 @@ use aio_base::{Memory, push_bytes_literal, push_text_literal};
 use aio_syntax::Constant;
 use std::alloc::Global;
 
+/// Appends a literal, `True`, `False` or `None`.
 pub fn push_constant(alloc: Global, constant: &Constant, out: &mut Vec<u8>) -> Result<(), Memory>
     ensures { OnOk result
         (out.new.items ≡ out.old.items ++ constant_text (constant_of constant.now)) }

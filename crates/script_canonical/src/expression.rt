@@ -9,6 +9,7 @@ use aio_base::{Memory, name_of};
 use aio_syntax::{Expr, ExprCase, Kind, name_of_function};
 use std::alloc::Global;
 
+/// Appends an expression without parentheses round it.
 #[cycle(expression)]
 pub fn push_expr(alloc: Global, expr: &Expr, out: &mut Vec<u8>) -> Result<(), Memory>
     ensures { OnOk result (out.new.items ≡ out.old.items ++ expr_text expr.now) }

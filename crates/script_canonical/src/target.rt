@@ -11,6 +11,7 @@ use aio_program::{Manager, Target};
 use aio_syntax::{ExprList, name_of_request};
 use std::alloc::Global;
 
+/// Appends what stands behind `yield from`.
 pub fn push_target(alloc: Global, target: &Target, out: &mut Vec<u8>) -> Result<(), Memory>
     ensures { OnOk result (out.new.items ≡ out.old.items ++ target_text (plain_target target.now)) }
 {
@@ -64,6 +65,7 @@ fn push_call(
     Ok(())
 }
 
+/// Appends what stands behind `with`, up to ` as`.
 pub fn push_manager(alloc: Global, manager: &Manager, out: &mut Vec<u8>) -> Result<(), Memory>
     ensures { OnOk result
         (out.new.items ≡ out.old.items ++ manager_text (plain_manager manager.now)) }

@@ -32,6 +32,7 @@ pub enum Role {
     Stands,
 }
 
+/// What a line does to the blocks that are open.
 pub fn role_of(form: &Spelled) -> Role
     ensures { plain_role result ≡ role_of (plain_spelled form.now) }
 {

@@ -32,6 +32,7 @@ impl Places {
         }
     }
 
+    /// Whether no block is open.
     pub fn is_outside(&self) -> bool
         ensures { (roles : List PlainRole) → IsBehind self.now roles
             → result ≡ is_outside (open_blocks roles) }

@@ -34,6 +34,7 @@ impl<'a, 'f> Model for Callees<'a, 'f> {
 }
 
 impl<'a, 'f> Callees<'a, 'f> {
+    /// The coroutines that a script has, by name.
     pub fn new(alloc: Global, parts: &'a [Part<'f>]) -> Result<Self, AllocError>
         ensures { IfOk result (λ callees. callees ≡ map callee (plain_parts parts.now)) }
     {

@@ -41,6 +41,7 @@ impl<'a, 'f> Model for Scope<'a, 'f> {
 }
 
 impl<'a, 'f> Scope<'a, 'f> {
+    /// What names mean in one coroutine.
     pub fn new(
         alloc: Global,
         callees: &'a Callees<'a, 'f>,
@@ -56,6 +57,7 @@ impl<'a, 'f> Scope<'a, 'f> {
         })
     }
 
+    /// Whether the coroutine has a variable of this name.
     pub fn is_variable(&self, name: &str) -> bool
         ensures { result ≡ is_variable self.now name.now }
     {

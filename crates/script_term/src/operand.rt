@@ -39,6 +39,7 @@ pub fn capped(term: Term) -> Operand
     }
 }
 
+/// Two operands joined, or that what they make is too high.
 pub fn joined(
     alloc: Global,
     join: Join,

@@ -109,6 +109,7 @@ pub enum TermCase<'a> {
 }
 
 impl Term {
+    /// `left or right`.
     pub fn or(left: Box<Term>, right: Box<Term>) -> Term
         ensures { result ≡ Or left.value right.value }
     {
@@ -118,6 +119,7 @@ impl Term {
         }
     }
 
+    /// `left and right`.
     pub fn and(left: Box<Term>, right: Box<Term>) -> Term
         ensures { result ≡ And left.value right.value }
     {
@@ -127,6 +129,7 @@ impl Term {
         }
     }
 
+    /// `not operand`.
     pub fn not(operand: Box<Term>) -> Term
         ensures { result ≡ Not operand.value }
     {
@@ -136,6 +139,7 @@ impl Term {
         }
     }
 
+    /// `left` and `right`, compared.
     pub fn compare(comparison: Comparison, left: Box<Term>, right: Box<Term>) -> Term
         ensures { result ≡ Compare comparison left.value right.value }
     {
@@ -145,6 +149,7 @@ impl Term {
         }
     }
 
+    /// `left` and `right` under an arithmetic operator.
     pub fn calculate(operator: Operator, left: Box<Term>, right: Box<Term>) -> Term
         ensures { result ≡ Calculate operator left.value right.value }
     {
@@ -154,6 +159,7 @@ impl Term {
         }
     }
 
+    /// `-operand`.
     pub fn negate(operand: Box<Term>) -> Term
         ensures { result ≡ Negate operand.value }
     {
@@ -163,6 +169,7 @@ impl Term {
         }
     }
 
+    /// `sequence[index]`.
     pub fn index(sequence: Box<Term>, index: Box<Term>) -> Term
         ensures { result ≡ Index sequence.value index.value }
     {
@@ -172,6 +179,7 @@ impl Term {
         }
     }
 
+    /// A literal, `True`, `False` or `None`.
     pub fn constantly(constant: Constant) -> Term
         ensures { result ≡ Constantly (constant_of constant) }
     {
@@ -181,6 +189,7 @@ impl Term {
         }
     }
 
+    /// A variable by its name.
     pub fn variable(name: RcStr) -> Term
         ensures { result ≡ Variable (rc_str_bytes name) }
     {
@@ -255,6 +264,7 @@ fn above(left: u8, right: u8) -> u8
 }
 
 impl TermList {
+    /// The terms of a vector; nothing is copied.
     pub fn of(items: Vec<Term>) -> TermList
         ensures { result ≡ items.items }
     {
@@ -271,6 +281,7 @@ impl TermList {
         self.known_height
     }
 
+    /// The terms in order.
     pub fn items(&self) -> &[Term]
         ensures { result.now ≡ self.now }
     {

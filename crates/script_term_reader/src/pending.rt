@@ -58,6 +58,7 @@ impl Model for Tight {
     ghost view = { plain_tight };
 }
 
+/// Nothing is pending of `or`, `and`, `not` and comparisons.
 pub fn no_loose() -> Loose
     ensures { result ≡ no_loose }
 {
@@ -68,6 +69,7 @@ pub fn no_loose() -> Loose
     }
 }
 
+/// Nothing is pending of sums and products.
 pub fn no_tight() -> Tight
     ensures { result ≡ no_tight }
 {
@@ -263,6 +265,7 @@ pub fn disjunction_of(
 
 // ---- what is pending behind an operator that stands behind an operand
 
+/// What is pending once an operand came and `*`, `//` or `%` follows it.
 pub fn behind_product(
     alloc: Global,
     tight: Tight,
@@ -292,6 +295,7 @@ pub fn behind_product(
     }
 }
 
+/// What is pending once an operand came and `+` or `-` follows it.
 pub fn behind_sum(
     alloc: Global,
     tight: Tight,
@@ -357,6 +361,7 @@ fn behind_comparison(
     })
 }
 
+/// What is pending once an operand came and `and` follows it.
 pub fn behind_and(alloc: Global, loose: Loose, tight: Tight, operand: Operand) -> Gained<Loose>
     ensures { Makes (λ a. a) (behind_and loose tight (plain_operand operand)) result }
 {
@@ -378,6 +383,7 @@ pub fn behind_and(alloc: Global, loose: Loose, tight: Tight, operand: Operand) -
     }
 }
 
+/// What is pending once an operand came and `or` follows it.
 pub fn behind_or(alloc: Global, loose: Loose, tight: Tight, operand: Operand) -> Gained<Loose>
     ensures { Makes (λ a. a) (behind_or loose tight (plain_operand operand)) result }
 {
@@ -462,4 +468,5 @@ fn forget_compared(_left: Option<(Comparison, Operand)>) {}
 
 fn forget_calculated(_left: Option<(Operator, Operand)>) {}
 
+/// Lets an operand go.
 pub fn forget_operand(_operand: Operand) {}

@@ -155,6 +155,7 @@ impl Drop for TermProgress {
 }
 
 impl Open {
+    /// The bracket, and what is pending outside of it.
     pub fn parts(self) -> (Bracket, Loose, Tight)
         ensures { self
             ≡ record { bracket = plain_bracket result.0; loose = result.1; tight = result.2 } }
@@ -169,6 +170,7 @@ impl Open {
 }
 
 impl TermProgress {
+    /// Where the reading stands.
     pub fn place(self) -> Position
         ensures { self ≡ plain_progress result }
     {

@@ -18,6 +18,7 @@ pub struct Tapes {
 }
 
 impl Tapes {
+    /// No tapes yet.
     pub fn new(alloc: Global) -> Tapes {
         Tapes {
             count: 0,

@@ -14,6 +14,7 @@ pub struct Log {
 }
 
 impl Log {
+    /// A log of posts on so many seats, empty.
     pub fn new(alloc: Global, seats: u32) -> Result<Log, Memory> {
         let mut next = Vec::new(alloc);
         for _ in 0..seats {
@@ -26,6 +27,7 @@ impl Log {
         })
     }
 
+    /// How many posts came.
     pub fn came(&self) -> u64 {
         self.came
     }

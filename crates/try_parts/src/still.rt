@@ -14,6 +14,7 @@ pub struct Still {
 }
 
 impl Still {
+    /// Parts in which no task runs.
     pub fn new(alloc: Global) -> Result<Still, Memory> {
         let parts = Parts::new(alloc, 1)?;
         Ok(Still { parts })
@@ -24,14 +25,17 @@ impl Still {
         &self.parts
     }
 
+    /// Makes a task: its number.
     pub fn spawn(&mut self, alloc: Global) -> Result<u32, Memory> {
         self.parts.spawn(alloc)
     }
 
+    /// Makes a plain future.
     pub fn plain(&mut self, alloc: Global) -> Result<FutureId, Memory> {
         self.parts.new_plain(alloc)
     }
 
+    /// Makes a future that stands for two.
     pub fn many(
         &mut self,
         alloc: Global,
@@ -42,10 +46,12 @@ impl Still {
         self.parts.new_many(alloc, members)
     }
 
+    /// Asks for a cancel: whether there was anything to cancel.
     pub fn cancel(&mut self, id: FutureId) -> bool {
         self.parts.cancel(id)
     }
 
+    /// Takes a cancel of a task back: the count after it.
     pub fn uncancel(&mut self, task: u32) -> u64 {
         self.parts.uncancel(task)
     }
@@ -64,10 +70,12 @@ impl Still {
         }
     }
 
+    /// Cancels a timer.
     pub fn cancel_timer(&mut self, timer: TimerId) {
         self.parts.cancel_timer(timer);
     }
 
+    /// The time is this, in milliseconds: the timers that are due have their handles appended.
     pub fn due(&mut self, now: u64) {
         self.parts.due(now);
     }
@@ -79,10 +87,12 @@ impl Still {
         Ok(())
     }
 
+    /// Takes the next handle before the bar; a task's step goes on as `then` says.
     pub fn step(&mut self, then: Then) -> CameTo {
         step(&mut self.parts, then)
     }
 
+    /// Takes the next handle before the bar: the timeout that it fires, if it does.
     pub fn firing(&mut self) -> Option<u32> {
         firing(&mut self.parts)
     }

@@ -10,6 +10,7 @@ pub struct Tally {
 }
 
 impl Tally {
+    /// No rows so far.
     pub fn new() -> Tally {
         Tally { rows: 0, differ: 0 }
     }
