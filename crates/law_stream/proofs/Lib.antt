@@ -1,10 +1,3 @@
-pub mod Along
-pub mod LineEnds
 pub mod Losses
-pub mod ReaderOrder
-pub mod SenderRuns
 pub mod SoundConnections
-pub mod SoundSenders
-pub mod SoundSends
-pub mod SoundWriters
-pub mod WriterOrder
+pub mod SoundReceivers

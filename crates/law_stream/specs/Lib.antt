@@ -1,5 +1,1 @@
-pub mod ReaderSteps
-pub mod SenderSteps
-pub mod SoundSenders
-pub mod Ways
-pub mod WriterSteps
+pub mod SoundReceivers

@@ -1,0 +1,5 @@
+pub mod LineEnds
+pub mod LinesByUntil
+pub mod ReaderOrder
+pub mod SoundWriters
+pub mod WriterOrder

@@ -1,0 +1,3 @@
+pub mod LinesByUntil
+pub mod ReaderSteps
+pub mod WriterSteps

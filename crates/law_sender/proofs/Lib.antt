@@ -1,0 +1,4 @@
+pub mod Along
+pub mod SenderRuns
+pub mod SoundSenders
+pub mod SoundSends

@@ -1,0 +1,3 @@
+pub mod SenderSteps
+pub mod SoundSenders
+pub mod Ways

@@ -1,0 +1,24 @@
+//! Readers with those who wait for them: the receiving side of a connection, and each pipe of a
+//! child.
+ghost use Rattle.std.specs.Prelude.{◌≡◌, ◌+◌, ◌≤◌, List, None, ℕ};
+ghost use Rattle.model_stream.specs.Receivers.{Receiver};
+ghost use Rattle.law_sender.specs.Ways.{Always, Move};
+ghost use Rattle.law_stream.specs.SoundReceivers.{KeepsReceiver, ReceiverComes, ReceiverStep, began_in, done, many_of, told, waits_on};
+
+/// A read waits only for a reader that takes more, and neither ended nor failed, and each operation
+/// leaves it so. A future is told at most as often as reads began to wait on it. So after any row of
+/// operations.
+pub fn operations_keep_receivers()
+    ensures one { (step : ReceiverStep) (r : Receiver)
+        → Always (KeepsReceiver (began_in step) r) (done step r) }
+    ensures row { (r : Receiver) (began : List ℕ) (moves : List Move) (after : Receiver)
+        → ReceiverComes r began moves after → KeepsReceiver began r moves after }
+{}
+
+/// So the future of a read, which is made for it, is told once at most; and where it is held still,
+/// it was told never.
+pub fn a_waiter_is_woken_once()
+    ensures { (future : ℕ) (r : Receiver) (began : List ℕ) (moves : List Move) (after : Receiver)
+        → ReceiverComes r began moves after → r.waiter ≡ None → many_of future began ≤ 1
+        → told future moves + waits_on future after.waiter ≤ 1 }
+{}
