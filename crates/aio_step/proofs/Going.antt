@@ -16,12 +16,10 @@ use Rattle.aio_body.specs.Asked.{HasRested}
 use Rattle.aio_body.specs.Slots.{put_back}
 use Rattle.aio_body.specs.Stands.{Setting, IsBetween, holding}
 use Rattle.law_body.proofs.Slotting.{set_length, stands_back}
-use Rattle.aio_step.specs.declared.steps.Served.{Served}
-use Rattle.aio_step.specs.declared.steps.Served.TheVariants as code
 use Rattle.aio_step.specs.declared.steps.Stepped.TheVariants as went
-use Rattle.aio_step.specs.Stepping.{EndsAt, GoesOnWith, IsServing, MayServe, RestsAt, RunsAway, ServesOne, Steps}
+use Rattle.aio_step.specs.Stepping.{IsServing, MayServe, Steps}
 use Rattle.aio_step.proofs.Resuming.{its_inside}
-use Rattle.aio_step.proofs.Serving.{LeadsTo, leads_end, leads_on, leads_same}
+use Rattle.aio_step.proofs.Serving.{EndsAt, GoesOnWith, LeadsTo, RestsAt, RunsAway, leads_end, leads_on, leads_same}
 
 module _ {X : Type 0} {a : Added X} where
   -- the task's step has ended, and its coroutine is put back
@@ -47,9 +45,11 @@ abbrev pub AreOn : {X : Type 0} → (a : Added X) → (task : ℕ) (first : Inpu
 AreOn a task first old start fresh input body coroutine =
     (c : Setting a) (s : State a.Kept) → IsServing task true first c old start s → IsOn task first s fresh input c body coroutine
 
-abbrev pub AreServed : {X : Type 0} → (a : Added X) → (task : ℕ) (fresh : Bool) (input : Input) (old new : Body X) (start now : Gen) → Served → Type 0
-AreServed a task fresh input old new start now told =
-    (c : Setting a) (s : State a.Kept) → IsServing task fresh input c old start s → ServesOne task c new now told (resumed fresh task input s)
+-- This comes of it as the coroutine is resumed, whatever the state.
+abbrev pub OnceResumed : {X : Type 0} → (a : Added X) → (task : ℕ) (fresh : Bool) (input : Input) (body : Body X) (coroutine : Gen)
+    → (Setting a → State a.Kept → Type 0) → Type 0
+OnceResumed a task fresh input body coroutine Comes =
+    (c : Setting a) (s : State a.Kept) → IsServing task fresh input c body coroutine s → Comes c (resumed fresh task input s)
 
 module _ {X : Type 0} {a : Added X} where
   pub on_first : (task : ℕ) (first : Input) (old : Body X) (start : Gen) → AreOn a task first old start true first old start
@@ -64,7 +64,7 @@ module _ {X : Type 0} {a : Added X} (task : ℕ) (first : Input) (old : Body X) 
   inside c s h = subst (λ n. task < n) (sym (set_length task _ s)) (its_inside task true first c old start s h)
 
   module _ (new : Body X) (after : Gen) where
-    pub on_next : (next : Input) → AreServed a task fresh input body new coroutine after (code.GoesOn next)
+    pub on_next : (next : Input) → OnceResumed a task fresh input body coroutine (λ c s. GoesOnWith task next c new after s)
         → AreOn a task first old start false next new after
     on_next next told c s h =
         let o = on c s h in
@@ -75,7 +75,7 @@ module _ {X : Type 0} {a : Added X} (task : ℕ) (first : Input) (old : Body X) 
           leads = leads_on a.meaning task (resumed true task first s) (resumed fresh task input o.now) (resumed false task next g.now) o.leads g.goes;
         }
 
-    module _ (told : AreServed a task fresh input body new coroutine after code.Rests) where
+    module _ (told : OnceResumed a task fresh input body coroutine (λ c s. RestsAt task c new after s)) where
       pub rests_there : MayServe a task true first old start → task < length new.slots.items
       rests_there may =
           ∥∥₁_elim may le_prop (λ w.
@@ -94,7 +94,8 @@ module _ {X : Type 0} {a : Added X} (task : ℕ) (first : Input) (old : Body X) 
           (Goes r.now) o.leads r.goes h.sound.others.closed (inside c s h)))
           (back task c new last after r.now r.rested r.sound beside items)
 
-    pub ends_on : AreServed a task fresh input body new coroutine after code.Ends
+  module _ (new : Body X) where
+    pub ends_on : OnceResumed a task fresh input body coroutine (λ c s. EndsAt task c new s)
         → (c : Setting a) (s : State a.Kept) → IsServing task true first c old start s
         → Steps c new went.Goes (serve_all step_limit a.meaning task (resumed true task first s))
     ends_on told c s h =
@@ -104,7 +105,7 @@ module _ {X : Type 0} {a : Added X} (task : ℕ) (first : Input) (old : Body X) 
         (sym (leads_end a.meaning task (resumed true task first s) (resumed fresh task input o.now)
         (Goes r.now) o.leads r.goes h.sound.others.closed (inside c s h))) r.between
 
-    pub runs_on : AreServed a task fresh input body new coroutine after code.Runaway
+    pub runs_on : OnceResumed a task fresh input body coroutine (λ c s. RunsAway task c new s)
         → (c : Setting a) (s : State a.Kept) → IsServing task true first c old start s
         → Steps c new (went.Runaway task) (serve_all step_limit a.meaning task (resumed true task first s))
     runs_on told c s h =

@@ -27,9 +27,9 @@ use Rattle.aio_body.specs.Stands.{Setting, holding}
 use Rattle.law_body.proofs.May.{same_prop}
 use Rattle.law_body.proofs.Slotting.{set_length}
 use Rattle.law_body.proofs.Sound.{raised_sound, requests_sound, returned_sound}
-use Rattle.aio_step.specs.Stepping.{EndsAt, IsServing, MayServe, RunsAway, ServesOne, served_by}
+use Rattle.aio_step.specs.Stepping.{IsServing, MayServe}
 use Rattle.aio_step.proofs.Resuming.{asks_out, ends_out, its_inside, runs_out, says_out}
-use Rattle.aio_step.proofs.Serving.{answered}
+use Rattle.aio_step.proofs.Serving.{EndsAt, GoesOnBy, RunsAway, answered}
 use Rattle.law_body.proofs.Sound.{extra_sound}
 
 module _ {X : Type 0} {a : Added X} (task : ℕ) (fresh : Bool) (input : Input) (body : Body X) (before : Gen) where
@@ -54,7 +54,7 @@ module _ {X : Type 0} {a : Added X} (task : ℕ) (fresh : Bool) (input : Input) 
       says_asks : (request : Request) → out ≡ Asks request → says_of step_limit a.meaning task (resumed fresh task input s) ≡ endings.Asks request
       says_asks request e = says_so ∙ ap saying_of_out e
 
-      pub asking : (request : Request) → out ≡ Asks request → IsAskingFor task request (holding now c) body (resumed fresh task input s)
+      asking : (request : Request) → out ≡ Asks request → IsAskingFor task request (holding now c) body (resumed fresh task input s)
       asking request e =
           asks_out task fresh input c body before s h now request (says_asks request e)
           (λ program coroutine arguments tape code it. stands program coroutine arguments tape code it request e)
@@ -63,10 +63,11 @@ module _ {X : Type 0} {a : Added X} (task : ℕ) (fresh : Bool) (input : Input) 
       made = subst (λ n. task < n) (sym (set_length task _ s)) (its_inside task fresh input c body before s h)
 
       pub asks_so : (request : Request) → out ≡ Asks request → (new : Body X) (it : RequestReply)
-          → Says task (holding now c) new it (reply a.meaning task request (resumed fresh task input s))
-          → ServesOne task c new now (served_by it) (resumed fresh task input s)
-      asks_so request e new it told =
-          answered task c new now it (resumed fresh task input s) request h.sound.others.closed made (says_asks request e) told
+          → ((d : Setting a) (t : State a.Kept) → IsAskingFor task request d body t → Says task d new it (reply a.meaning task request t))
+          → GoesOnBy task c new now it (resumed fresh task input s)
+      asks_so request e new it serves =
+          answered task c new now it (resumed fresh task input s) request h.sound.others.closed made (says_asks request e)
+          (serves (holding now c) (resumed fresh task input s) (asking request e))
           (requests_sound a.meaning (extra_sound a) task request (resumed fresh task input s) h.sound (says_asks request e))
 
       -- it returns, or raises

@@ -24,7 +24,8 @@ use Rattle.aio_gen.specs.declared.generator.Gen.{Gen}
 use Rattle.aio_body.specs.Asked.{IsAskingFor}
 use Rattle.aio_gen.specs.Gens.{StandsFor}
 use Rattle.aio_body.specs.Stands.{Setting, holding}
-use Rattle.aio_step.specs.Stepping.{IsServing, EndsAt, RunsAway}
+use Rattle.aio_step.specs.Stepping.{IsServing}
+use Rattle.aio_step.proofs.Serving.{EndsAt, RunsAway}
 use Rattle.law_kept.proofs.Calls.{kept_finish}
 use Rattle.law_body.proofs.Sound.{runs_living}
 use Rattle.law_body.proofs.Left.{finish_done, leaves_finish}

@@ -1,32 +1,25 @@
 -- A step of a task, piece by piece.
-use Rattle.std.specs.Prelude.{◌≡◌, ℕ, ◌<◌, true, false, Bool, List, ◌∷◌, ◌++◌, Some, None, length}
+use Rattle.std.specs.Prelude.{◌≡◌, ℕ, true, false, Bool, List, ◌∷◌, ◌++◌, Some, None, length}
 use Rattle.model_value.specs.Input.{Input}
-use Rattle.model_value.specs.declared.input.Input.TheVariants.{Send, Throw}
-use Rattle.model_says.specs.Says.{step_limit}
 use Rattle.model_wire.specs.declared.event.End.TheVariants as end
 use Rattle.model_wire.specs.declared.event.Event.TheVariants as event
 use Rattle.model_loop.specs.Parts.{Handle}
 use Rattle.model_loop.specs.Tasks.{Begun, begin_step}
 use Rattle.model_loop.specs.Ways.{steps}
-use Rattle.model_machine.specs.Extra.{Extra}
 use Rattle.model_machine.specs.Sound.{IsStateSound, sends_made}
 use Rattle.model_machine.specs.State as plain
 use Rattle.model_machine.specs.State.{State, generator_of, noted, resumed, stands, unbooked_in}
-use Rattle.model_machine.specs.Step.{given_up, says_of, served}
+use Rattle.model_machine.specs.Step.{given_up}
 use Rattle.model_machine.specs.Went.{Went, Goes, Stops}
 use Rattle.aio_gen.specs.declared.generator.Gen.{Gen}
 use Rattle.aio_extra.specs.Added.{Added}
 use Rattle.aio_body.specs.declared.body.Body.{Body}
-use Rattle.aio_body.specs.declared.reply.RequestReply.{RequestReply}
-use Rattle.aio_body.specs.declared.reply.RequestReply.TheVariants as reply
 use Rattle.aio_body.specs.declared.standing.Standing.{Standing}
 use Rattle.aio_body.specs.declared.standing.Standing.TheVariants as standing
-use Rattle.aio_step.specs.declared.steps.Served.{Served}
-use Rattle.aio_step.specs.declared.steps.Served.TheVariants as code
 use Rattle.aio_step.specs.declared.steps.Started.{Started}
 use Rattle.aio_step.specs.declared.steps.Stepped as stepped
 use Rattle.aio_step.specs.declared.steps.Stepped.TheVariants as went
-use Rattle.aio_body.specs.Asked.{IsInStep, HasRested, IsDeciding}
+use Rattle.aio_body.specs.Asked.{IsInStep, IsDeciding}
 use Rattle.aio_body.specs.Stands.{Setting, Stands, IsBetween, holding}
 use Rattle.law_inside.specs.InStep.{IsStepSound}
 
@@ -95,42 +88,3 @@ pub record IsServing {X : Type 0} {a : Added X} (task : ℕ) (fresh : Bool) (inp
 abbrev pub MayServe : {X : Type 0} → Added X → ℕ → Bool → Input → Body X → Gen → Type 0
 MayServe a task fresh input body coroutine =
     ∥ ((c : Setting a) × ((s : State a.Kept) × IsServing task fresh input c body coroutine s)) ∥₁
-
--- what serving what the coroutine says comes to, whatever comes after
-abbrev pub ServedAs : {S : Type 0} → Extra S → ℕ → State S → ((State S → Went S) → Went S) → Type 0
-ServedAs {S} added task s machine =
-    (go_on : State S → Went S) → served step_limit added (says_of step_limit added task s) task go_on s ≡ machine go_on
-
-pub record GoesOnWith {X : Type 0} {a : Added X} (task : ℕ) (next : Input) (c : Setting a) (body : Body X) (coroutine : Gen) (s : State a.Kept) : Type 0 where
-  pub now : State a.Kept
-  pub serving : IsServing task false next c body coroutine now
-  pub goes : ServedAs a.meaning task s (λ go_on. go_on (resumed false task next now))
-
-pub record RestsAt {X : Type 0} {a : Added X} (task : ℕ) (c : Setting a) (body : Body X) (coroutine : Gen) (s : State a.Kept) : Type 0 where
-  pub now : State a.Kept
-  pub rested : HasRested task (holding coroutine c) body now
-  pub made : task < length now.generators
-  pub sound : IsStateSound a.meaning now
-  pub goes : ServedAs a.meaning task s (λ go_on. Goes now)
-
-pub record EndsAt {X : Type 0} {a : Added X} (task : ℕ) (c : Setting a) (body : Body X) (s : State a.Kept) : Type 0 where
-  pub now : State a.Kept
-  pub between : IsBetween c body now
-  pub goes : ServedAs a.meaning task s (λ go_on. Goes now)
-
-pub record RunsAway {X : Type 0} {a : Added X} (task : ℕ) (c : Setting a) (body : Body X) (s : State a.Kept) : Type 0 where
-  pub told : s.events ≡ c.past ++ body.events.events
-  pub goes : ServedAs a.meaning task s (λ go_on. Stops (end.Runaway task) s)
-
--- `s` is the state after the coroutine was resumed
-abbrev pub ServesOne : {X : Type 0} {a : Added X} → ℕ → Setting a → Body X → Gen → Served → State a.Kept → Type 0
-ServesOne task c body coroutine (code.GoesOn next) s = GoesOnWith task next c body coroutine s
-ServesOne task c body coroutine code.Rests s = RestsAt task c body coroutine s
-ServesOne task c body coroutine code.Ends s = EndsAt task c body s
-ServesOne task c body coroutine code.Runaway s = RunsAway task c body s
-
--- what a reply makes of the step
-abbrev pub served_by : RequestReply → Served
-served_by (reply.Answers value) = code.GoesOn (Send value)
-served_by (reply.Raises fault) = code.GoesOn (Throw fault)
-served_by reply.Rests = code.Rests

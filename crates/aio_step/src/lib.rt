@@ -3,4 +3,4 @@
 
 mod steps;
 
-pub use steps::{Served, Started, Stepped, step};
+pub use steps::{Started, Stepped, step};

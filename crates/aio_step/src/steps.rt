@@ -1,5 +1,5 @@
 //! A step of a task.
-ghost use Rattle.std.specs.Prelude.{◌≡◌, true, IfOk};
+ghost use Rattle.std.specs.Prelude.{true, IfOk};
 ghost use Rattle.model_says.specs.Says.{step_limit};
 ghost use Rattle.model_machine.specs.Replies.{decides};
 ghost use Rattle.model_machine.specs.State as plain;
@@ -7,7 +7,7 @@ ghost use Rattle.model_machine.specs.State.{State, resumed};
 ghost use Rattle.model_machine.specs.Step.{step, serve_all};
 ghost use Rattle.aio_body.specs.Asked.{IsDeciding, Says};
 ghost use Rattle.aio_body.specs.Stands.{Setting};
-ghost use Rattle.aio_step.specs.Stepping.{Steps, served_by, IsCalled, MayBegin, HearsMade, DecidesAs, MayDecideAs, HasBegun, IsServing, MayServe, ServesOne};
+ghost use Rattle.aio_step.specs.Stepping.{Steps, IsCalled, MayBegin, HearsMade, DecidesAs, MayDecideAs, HasBegun, IsServing, MayServe};
 
 use aio_base::{Input, Memory};
 use aio_body::{Body, RequestReply, Slot, Standing, reply_of};
@@ -16,18 +16,6 @@ use aio_gen::{Gen, GenOut};
 use aio_serve::{leave_group, reply, wake};
 use aio_task::Ticket;
 use std::alloc::Global;
-
-/// What serving what a coroutine says comes to.
-#[derive(Drop)]
-pub enum Served {
-    /// The coroutine goes on with this input.
-    GoesOn(Input),
-    /// The step ends, and the coroutine waits.
-    Rests,
-    /// The task is done.
-    Ends,
-    Runaway,
-}
 
 /// How a step ends: the task waits or is done, or it ran away.
 #[derive(Clone, Copy)]
@@ -120,7 +108,7 @@ fn decide<X: Extra>(
     }
 }
 
-// The coroutine says on until the step ends.
+// The coroutine is resumed, and what it says is served, until the step ends.
 fn serve<X: Extra>(
     body: &mut Body<X>,
     alloc: Global,
@@ -138,54 +126,27 @@ fn serve<X: Extra>(
     let mut input = input;
     let mut fresh = true;
     for _answered in 0..u64::MAX {
-        match serve_one(body, alloc, task, &mut coroutine, input, fresh)? {
-            Served::GoesOn(next) => input = next,
-            Served::Rests => {
-                body.put_back(task, coroutine);
+        let out = coroutine.resume(alloc, &body.code, input, fresh)?;
+        fresh = false;
+        match out {
+            GenOut::Asks(request) => match reply(body, alloc, task, request)? {
+                RequestReply::Answers(value) => input = Input::Send(value),
+                RequestReply::Raises(fault) => input = Input::Throw(fault),
+                RequestReply::Rests => {
+                    body.put_back(task, coroutine);
+                    return Ok(Stepped::Goes);
+                }
+            },
+            GenOut::Returns(value) => {
+                body.parts.finish(task, Ok(value));
                 return Ok(Stepped::Goes);
             }
-            Served::Ends => return Ok(Stepped::Goes),
-            Served::Runaway => return Ok(Stepped::Runaway(task)),
+            GenOut::Raises(fault) => {
+                body.parts.finish(task, Err(fault));
+                return Ok(Stepped::Goes);
+            }
+            GenOut::Runaway => return Ok(Stepped::Runaway(task)),
         }
-        fresh = false;
     }
     Err(Memory)
-}
-
-// The coroutine is resumed, and what it says is served.
-fn serve_one<X: Extra>(
-    body: &mut Body<X>,
-    alloc: Global,
-    task: u32,
-    coroutine: &mut Gen,
-    input: Input,
-    fresh: bool,
-) -> Result<Served, Memory>
-    requires { MayServe X.added task fresh input body.old coroutine.old }
-    ensures { IfOk result (λ told. (c : Setting X.added) (s : State X.added.Kept)
-        → IsServing task fresh input c body.old coroutine.old s
-        → ServesOne task c body.new coroutine.new told (resumed fresh task input s)) }
-{
-    match coroutine.resume(alloc, &body.code, input, fresh)? {
-        GenOut::Asks(request) => Ok(next_of(reply(body, alloc, task, request)?)),
-        GenOut::Returns(value) => {
-            body.parts.finish(task, Ok(value));
-            Ok(Served::Ends)
-        }
-        GenOut::Raises(fault) => {
-            body.parts.finish(task, Err(fault));
-            Ok(Served::Ends)
-        }
-        GenOut::Runaway => Ok(Served::Runaway),
-    }
-}
-
-fn next_of(reply: RequestReply) -> Served
-    ensures { result ≡ served_by reply }
-{
-    match reply {
-        RequestReply::Answers(value) => Served::GoesOn(Input::Send(value)),
-        RequestReply::Raises(fault) => Served::GoesOn(Input::Throw(fault)),
-        RequestReply::Rests => Served::Rests,
-    }
 }
