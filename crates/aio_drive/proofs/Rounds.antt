@@ -154,7 +154,8 @@ module _ {g : _} {program : Program} {how : Manner} {made left : ℕ} {kernel ne
     ended_so fits (went.Finished outcome) is status written = ends_ok fits (end_of outcome) (went.Finished outcome) is (λ e. cc e) refl status written
     ended_so fits went.Stalled is status written = ends_ok fits ends.Stalled went.Stalled is (λ e. cc e) refl status written
     ended_so fits (went.Runaway task) is status written = ends_ok fits (ends.Runaway task) (went.Runaway task) is (λ e. cc e) refl status written
-    ended_so fits (went.Stopped (stop.Over call)) is status written = ends_ok fits (ends.Over call) (went.Stopped (stop.Over call)) is (λ e. cc e) refl status written
+    ended_so fits (went.Stopped (stop.Over call)) is status written = ends_ok fits (ends.Over call)
+        (went.Stopped (stop.Over call)) is (λ e. cc e) refl status written
     ended_so fits (went.Stopped (stop.Bad it)) is status written =
         ends_ok fits (ends.JournalRefused it.line it.cause) (went.Stopped (stop.Bad it)) is (λ e. cc e) refl status written
     ended_so fits (went.Stopped (stop.Mismatch count call)) is status written =

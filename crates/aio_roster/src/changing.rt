@@ -56,7 +56,8 @@ impl Roster {
         ensures added { OnOk result (self.new.children
             ≡ self.old.children ++ new_child (length self.old.children) seats ∷ []) }
         ensures err { OnErr result (self.new.children ≡ self.old.children) }
-        ensures lent { OnOk result ((other : Seats) → AreApart other seats → MayBeLent self.old.children other
+        ensures lent { OnOk result ((other : Seats) → AreApart other seats → MayBeLent
+            self.old.children other
             → MayBeLent self.new.children other) }
         ensures noted { self.new.noted ≡ self.old.noted }
     {

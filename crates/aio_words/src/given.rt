@@ -217,7 +217,8 @@ fn names_a_file(recorded: Option<&str>) -> bool
 
 /// The value of `--turns` that stands in one word with it.
 fn turns_value(word: &str) -> Option<&[u8]>
-    ensures { MatchOption result (is_turns word.now ≡ false) (λ value. word.now ≡ with_option value.now) }
+    ensures { MatchOption result (is_turns word.now ≡ false) (λ value. word.now
+        ≡ with_option value.now) }
 {
     match word.as_bytes() {
         [b'-', b'-', b't', b'u', b'r', b'n', b's', b'=', value @ ..] => Some(value),

@@ -3,7 +3,8 @@ use Rattle.std.proofs.Common.{◌≡◌, ℕ, ◌+◌, ◌-◌, Bool, true, fals
 use lib.Chars.{codes}
 use Rattle.model_value.specs.declared.kind.Kind.TheVariants.{LimitOverrunError}
 use Rattle.model_value.specs.Value.{Exc, exception_of}
-use Rattle.model_stream.specs.Reading.{Reading, Take, take_line, take_until, line_at, unended_line, until_found, until_unfound, unless_failed, first_at, newline}
+use Rattle.model_stream.specs.Reading.{Reading, Take, take_line, take_until, line_at, unended_line}
+use Rattle.model_stream.specs.Reading.{until_found, until_unfound, unless_failed, first_at, newline}
 use Rattle.model_stream.specs.Reading.{gives, raises, needs, removes, incomplete, found_too_far, not_found_so_far}
 use Rattle.law_bytes.specs.LinesByUntil.{line_by}
 

@@ -1,6 +1,7 @@
 -- What a request of a task leaves, and what it needs that its task's tape tells.
 use Rattle.std.specs.Prelude.{◌≡◌, ℕ, ◌<◌, true, false, Some, None, length, slice_get}
-use Rattle.model_value.specs.declared.request.Request.TheVariants.{Await, TimeoutExit, GroupExit, Extra, Listen, Connect, Write, WriteEof, Close, WaitClosed, Drain, Limits}
+use Rattle.model_value.specs.declared.request.Request.TheVariants.{Await, TimeoutExit, GroupExit, Extra, Listen, Connect}
+use Rattle.model_value.specs.declared.request.Request.TheVariants.{Write, WriteEof, Close, WaitClosed, Drain, Limits}
 use Rattle.model_value.specs.declared.request.Request.TheVariants.{Read, ReadExactly, ReadUntil, ReadLine, Launch, StandardError, WaitChild, ReturnCode, Kill}
 use Rattle.model_value.specs.Request.{Request}
 use Rattle.model_loop.specs.Futures.{future_outcome, is_pending}

@@ -56,7 +56,8 @@ returns-in_err-status-clause-err g c =
     let (fewer, running) = with_turn left begun c.loop-made-test.true in
     let fits : c.args.manner.turns ≤ 2 ^ 64 - 1 = omega arith in
     let p = err_from_is_err_and c.from_residual-in_err-status.result c.from_residual-in_err-status.ensures.1 in
-    rw (p.1, p.2) (turn_err (g.W.Wire.seen c.args.wire.now) running l.invariant.fails l.invariant.later (c.turn-went.ensures.turned (running.at []).stands.goes).1
+    rw (p.1, p.2) (turn_err (g.W.Wire.seen c.args.wire.now) running l.invariant.fails l.invariant.later
+    (c.turn-went.ensures.turned (running.at []).stands.goes).1
     (g.met.W.Wire.quiet_on c.args.wire.now l.wire c.turn-went.new.wire l.invariant.quiet)
     c.args.fault.now (g.K.Sink.seen c.write_turn.new.out) c.events-events.result.events c.events-events.ensures.taken fits
     c.turn-went.result refl c.in_err-status.field-0.0 c.in_err-status.ensures.err)
@@ -69,13 +70,15 @@ loop-made-preserved g c =
     let turned = (c.turn-went.ensures.turned (running.at []).stands.goes).1 in
     let quietly = g.met.W.Wire.quiet_on c.args.wire.now l.wire c.turn-went.new.wire l.invariant.quiet in
     let is = turn_goes (g.W.Wire.seen c.args.wire.now) running l.invariant.fails l.invariant.later turned quietly c.args.fault.now
-    (g.K.Sink.seen c.write_turn.new.out) c.events-events.result.events c.events-events.ensures.taken c.in_ok-status.status c.in-None.is c.in_ok-status.ensures.ok in
+    (g.K.Sink.seen c.write_turn.new.out) c.events-events.result.events c.events-events.ensures.taken
+    c.in_ok-status.status c.in-None.is c.in_ok-status.ensures.ok in
     let (had, (takes, (goes, still))) = goes_at (g.W.Wire.seen c.args.wire.now) running l.invariant.fails l.invariant.later turned quietly is in
     record {
       running =
           goes_on (g.W.Wire.seen c.args.wire.now) running l.invariant.fails l.invariant.later turned quietly c.args.fault.now
           (g.K.Sink.seen c.write_turn.new.out)
-          c.events-events.result.events c.events-events.ensures.taken c.in_ok-status.status c.in-None.is c.in_ok-status.ensures.ok c.events-events.new.self c.events-events.ensures.stands
+          c.events-events.result.events c.events-events.ensures.taken c.in_ok-status.status c.in-None.is
+          c.in_ok-status.ensures.ok c.events-events.new.self c.events-events.ensures.stands
           c.events-events.ensures.left;
       fails = λ fails. absurd (still.0 fails);
       later = omega (arith, l.invariant.later, c.turn-went.ensures.later);

@@ -40,5 +40,6 @@ returns-clause-own g c =
     let new : Reach View g.row.W.Denot = reach c.lose.new.parts c.lose.new.port.wire.now c.lose.new.port.events.now in
     let i = c.self.inside in
     let before : Connection = record { making = i.making; handler = i.handler; began = i.began; sender = i.sender; receiver = i.receiver } in
-    own_if_went (outside g) before c.lose.new.self old new (lose_sender (outlet c.args.id) c.args.broken before.sender) c.lose.result c.lose.ensures.follows c.lose.ensures.own
+    own_if_went (outside g) before c.lose.new.self old new
+    (lose_sender (outlet c.args.id) c.args.broken before.sender) c.lose.result c.lose.ensures.follows c.lose.ensures.own
     (subst (OwnsConnection old.parts) (sym c.self.view_is) c.requires.own)
