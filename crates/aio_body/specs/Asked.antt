@@ -47,19 +47,9 @@ pub record IsDeciding {X : Type 0} {a : Added X} (task : ℕ) (stood : standing.
   -- the group at whose exit the task stood goes on being left
   pub leaving : (id : ℕ) → stood ≡ standing.Leaving id → IsLeft s id
 
--- There is such a state. Which one it is doesn't matter to what a call may do.
-abbrev pub MayGo : {X : Type 0} → Added X → ℕ → Body X → Type 0
-MayGo a task body = ∥ ((c : Setting a) × ((s : State a.Kept) × IsGoing task c body s)) ∥₁
-
-abbrev pub MayAsk : {X : Type 0} → Added X → ℕ → Request → Body X → Type 0
-MayAsk a task request body = ∥ ((c : Setting a) × ((s : State a.Kept) × IsAskingFor task request c body s)) ∥₁
-
-abbrev pub MayDecide : {X : Type 0} → Added X → ℕ → standing.Standing → Body X → Type 0
-MayDecide a task stood body = ∥ ((c : Setting a) × ((s : State a.Kept) × IsDeciding task stood c body s)) ∥₁
-
 -- a step of some task goes on
-abbrev pub SomeGoes : {X : Type 0} → Added X → Body X → Type 0
-SomeGoes a body = ∥ ((task : ℕ) × ((c : Setting a) × ((s : State a.Kept) × IsGoing task c body s))) ∥₁
+abbrev pub SomeGoes : {X : Type 0} {a : Added X} → Setting a → Body X → State a.Kept → Type 0
+SomeGoes c body s = (task : ℕ) × IsGoing task c body s
 
 -- what came of a request, and the state that is stood for then
 abbrev pub Says : {X : Type 0} {a : Added X} → ℕ → Setting a → Body X → RequestReply → plain.RequestReply a.Kept → Type 0

@@ -120,6 +120,10 @@ pub record Stands {X : Type 0} {a : Added X} (out : Option ℕ) (c : Setting a) 
   pub extra : a.stands ties s.loop.parts body.extra s.extra
   pub count : body.events.answers ≡ min (answers_in s.events) (2 ^ 64 - 1)
 
+-- There is a state and a setting for which this is so of a body. Which they are doesn't matter to what a call may do.
+abbrev pub Possible : {X : Type 0} → (a : Added X) → (Setting a → Body X → State a.Kept → Type 0) → Body X → Type 0
+Possible a so body = ∥ ((c : Setting a) × ((s : State a.Kept) × so c body s)) ∥₁
+
 -- between two callbacks
 pub record IsBetween {X : Type 0} {a : Added X} (c : Setting a) (body : Body X) (s : State a.Kept) : Type 0 where
   pub stands : Stands None c body s

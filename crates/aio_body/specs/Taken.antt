@@ -24,9 +24,6 @@ pub record IsNext {X : Type 0} {a : Added X} (action : Action) (c : Setting a) (
   pub called : body.parts.called ≡ stepped action
   pub running : body.parts.running ≡ None
 
-abbrev pub MayRun : {X : Type 0} → Added X → Action → Body X → Type 0
-MayRun a action body = ∥ ((c : Setting a) × ((s : State a.Kept) × IsNext action c body s)) ∥₁
-
 -- It was noted that it runs.
 pub record IsTaken {X : Type 0} {a : Added X} (action : Action) (c : Setting a) (body : Body X) (s : State a.Kept) : Type 0 where
   pub before : State a.Kept
@@ -40,9 +37,6 @@ pub record IsTaken {X : Type 0} {a : Added X} (action : Action) (c : Setting a) 
   pub stands : Stands None c body s
   pub called : body.parts.called ≡ stepped action
   pub running : body.parts.running ≡ None
-
-abbrev pub MayTake : {X : Type 0} → Added X → Action → Body X → Type 0
-MayTake a action body = ∥ ((c : Setting a) × ((s : State a.Kept) × IsTaken action c body s)) ∥₁
 
 -- after a callback that steps no task
 pub record IsAfterCallback {X : Type 0} {a : Added X} (c : Setting a) (body : Body X) (s : State a.Kept) : Type 0 where

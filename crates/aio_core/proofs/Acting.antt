@@ -51,11 +51,11 @@ use Rattle.aio_task.specs.Keeps.{Ties}
 use Rattle.aio_extra.specs.Called.{CallsAs, IsServed, MayServe}
 use Rattle.law_body.proofs.Adding.{served_of, stands_called}
 use Rattle.aio_body.specs.declared.body.Body.{Body}
-use Rattle.aio_body.specs.Stands.{Setting, Stands}
-use Rattle.aio_body.specs.Taken.{IsNext, IsTaken, IsAfterCallback, MayRun, MayTake}
+use Rattle.aio_body.specs.Stands.{Setting, Stands, Possible}
+use Rattle.aio_body.specs.Taken.{IsNext, IsTaken, IsAfterCallback}
 use Rattle.aio_step.specs.declared.steps.Stepped.{Stepped}
 use Rattle.aio_step.specs.declared.steps.Stepped.TheVariants as went
-use Rattle.aio_step.specs.Stepping.{Steps, IsCalled, MayBegin}
+use Rattle.aio_step.specs.Stepping.{Steps, IsCalled}
 use Rattle.law_body.proofs.Lasting.{spares_none, stands_on}
 use Rattle.law_body.proofs.Left.{leaves_settle}
 use Rattle.law_body.proofs.May.{same_prop}
@@ -151,13 +151,14 @@ module _ {X : Type 0} {a : Added X} where
   wakeup_called : (task : ℕ) (c : Setting a) (body : Body X) (s : State a.Kept) → IsTaken (action.Wakeup task) c body s → IsCalled task c body s
   wakeup_called task c body s h = called_so (action.Wakeup task) c body s h task (eq-eqb task task refl) refl
 
-  pub step_begins : (task : ℕ) (body : Body X) → MayTake a (action.Step task) body → MayBegin a task body
+  pub step_begins : (task : ℕ) (body : Body X) → Possible a (IsTaken (action.Step task)) body → Possible a (IsCalled task) body
   step_begins task body m = ∥∥₁_map m (λ w. (w.0, (w.1.0, step_called task w.0 body w.1.0 w.1.1)))
 
-  pub circle_begins : (task : ℕ) (circle : Circle) (body : Body X) → MayTake a (action.StepInCircle task circle) body → MayBegin a task body
+  pub circle_begins : (task : ℕ) (circle : Circle) (body : Body X) → Possible a (IsTaken (action.StepInCircle task circle)) body
+      → Possible a (IsCalled task) body
   circle_begins task circle body m = ∥∥₁_map m (λ w. (w.0, (w.1.0, circle_called task circle w.0 body w.1.0 w.1.1)))
 
-  pub wakeup_begins : (task : ℕ) (body : Body X) → MayTake a (action.Wakeup task) body → MayBegin a task body
+  pub wakeup_begins : (task : ℕ) (body : Body X) → Possible a (IsTaken (action.Wakeup task)) body → Possible a (IsCalled task) body
   wakeup_begins task body m = ∥∥₁_map m (λ w. (w.0, (w.1.0, wakeup_called task w.0 body w.1.0 w.1.1)))
 
 module _ {X : Type 0} {a : Added X} (old new : Body X) (said : Stepped) where
@@ -212,10 +213,10 @@ module _ {X : Type 0} {a : Added X} (task future : ℕ) (c : Setting a) (body : 
   })
 
 module _ {X : Type 0} {a : Added X} where
-  pub sleep_idle : (task future : ℕ) (body : Body X) → MayTake a (action.SleepDone task future) body → body.parts.called ≡ None
+  pub sleep_idle : (task future : ℕ) (body : Body X) → Possible a (IsTaken (action.SleepDone task future)) body → body.parts.called ≡ None
   sleep_idle task future body m = ∥∥₁_elim m (same_prop body.parts.called None) (λ w. w.1.1.called)
 
-  pub sleep_free : (task future : ℕ) (body : Body X) → MayTake a (action.SleepDone task future) body
+  pub sleep_free : (task future : ℕ) (body : Body X) → Possible a (IsTaken (action.SleepDone task future)) body
       → owner_at (slice_get body.parts.futures future) ≡ None
   sleep_free task future body m =
       ∥∥₁_elim m (same_prop (owner_at (slice_get body.parts.futures future)) None)
@@ -268,7 +269,7 @@ module _ {X : Type 0} {a : Added X} where
 
   -- a handle that was taken may do what it does
   pub may_act : (it : Action) (body : Body X) (events : EventList) → events ≡ pushed body.events (event.Ran it)
-      → MayRun a it body → MayTake a it (record body { events = events })
+      → Possible a (IsNext it) body → Possible a (IsTaken it) (record body { events = events })
   may_act it body events e m = ∥∥₁_map m (λ w. (w.0, (noted (event.Ran it) w.1.0, taken_so it w.0 body w.1.0 events e w.1.1)))
 
 -- what is added heard this news
@@ -279,7 +280,7 @@ HearsNews a old v x number bytes =
 module _ {X : Type 0} {a : Added X} where
   -- ---- handles of what is added, and news for it
   idle_served : (it : Action) (body : Body X) → is_followed it ≡ false → ((id : ℕ) → fires id it ≡ false) → ((group : ℕ) → told_by group it [] ≡ [])
-      → stepped it ≡ None → MayTake a it body → MayServe a None body.extra body.parts
+      → stepped it ≡ None → Possible a (IsTaken it) body → MayServe a None body.extra body.parts
   idle_served it body unfollowed no_fire none idle m =
       ∥∥₁_map m (λ w.
       let h = w.1.1 in
@@ -299,7 +300,7 @@ module _ {X : Type 0} {a : Added X} where
           running = r.running ∙ h.running;
         })
 
-  pub extra_serves : (key : ℕ) (body : Body X) → MayTake a (action.Extra key) body → MayServe a None body.extra body.parts
+  pub extra_serves : (key : ℕ) (body : Body X) → Possible a (IsTaken (action.Extra key)) body → MayServe a None body.extra body.parts
   extra_serves key body m = idle_served (action.Extra key) body refl (λ id. refl) (λ g. refl) refl m
 
   pub extra_acts : (key : ℕ) (old : Body X) (v : View) (x : X)
@@ -311,7 +312,7 @@ module _ {X : Type 0} {a : Added X} where
       calls_so (action.Extra key) c old s h sound refl (a.meaning.act key s) (a.allowed.act key s sound) refl v x
       (λ t now served same. does t s (subst (λ n. IsServed a None t n old.extra old.parts) same served))
 
-  pub item_serves : (number : ℤ) (bytes : List ℕ) (body : Body X) → MayTake a (action.ExtraItem number bytes) body
+  pub item_serves : (number : ℤ) (bytes : List ℕ) (body : Body X) → Possible a (IsTaken (action.ExtraItem number bytes)) body
       → MayServe a None body.extra body.parts
   item_serves number bytes body m = idle_served (action.ExtraItem number bytes) body refl (λ id. refl) (λ g. refl) refl m
 

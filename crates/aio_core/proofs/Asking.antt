@@ -29,11 +29,11 @@ use Rattle.aio_wire.specs.declared.wire.Reply.{Reply}
 use Rattle.aio_wire.specs.declared.wire.Reply.TheVariants as reply
 use Rattle.aio_extra.specs.Added.{Added}
 use Rattle.aio_body.specs.declared.body.Body.{Body}
-use Rattle.aio_body.specs.Stands.{Setting, Stands, IsBetween}
+use Rattle.aio_body.specs.Stands.{Setting, Stands, IsBetween, Possible}
 use Rattle.law_body.proofs.Noting.{counted, stands_noted, telling_changes}
 use Rattle.aio_core.specs.declared.went.Went as code
 use Rattle.aio_core.specs.declared.went.Went.TheVariants as went
-use Rattle.aio_core.specs.Turning.{AliveIfWent, ComesTo, EndsFrom, EndsTelling, Is, IsAlive, IsAtRest, NoneLeft, OfFailing, StallsAs, Stood, Turned}
+use Rattle.aio_core.specs.Turning.{AliveIfWent, ComesTo, EndsFrom, EndsTelling, Is, IsAtRest, NoneLeft, OfFailing, StallsAs, Stood, Turned}
 use Rattle.aio_core.specs.Turning.{UnlessFailed, all_below, at_bar, changed_by, resting, stood_by}
 use Rattle.aio_core.specs.Asked.{Asks}
 use Rattle.aio_core.proofs.Asked.{asks_replied, noted_by}
@@ -242,7 +242,7 @@ module _ {X : Type 0} {a : Added X} (old : Body X) (call : Call)
   }
 
   pub got_alive : (answer : Answer) (events : EventList) → events ≡ pushed (pushed old.events (event.Called call)) (event.Got answer)
-      → IsAlive a old → IsAlive a (record old { events = events })
+      → Possible a IsBetween old → Possible a IsBetween (record old { events = events })
   got_alive answer events e alive =
       ∥∥₁_map alive (λ w. (record w.0 { answers = [] }, (got_at call answer [] w.1.0, got_between answer events e w.0 w.1.0 [] w.1.1)))
 
@@ -266,7 +266,7 @@ module _ {X : Type 0} {a : Added X} (old : Body X) (call : Call)
     none_stopped why c (Goes now) t = t
     none_stopped why c (Stops how last) t = t
 
-    never : (it : code.Went) → Does it → IsAlive a (record old { events = events })
+    never : (it : code.Went) → Does it → Possible a IsBetween (record old { events = events })
         → ((c : Setting a) (w : Went a.Kept) → Turned c new it w → ⊥) → ⊥
     never it both alive refutes =
         ∥∥₁_elim alive (λ a b. absurd a)
@@ -282,7 +282,7 @@ module _ {X : Type 0} {a : Added X} (old : Body X) (call : Call)
         (does (resting a past rest h.0) (got_at call answer rest s)
         (got_between answer events got.is_noted (resting a past (Answered answer ∷ rest) h.0) s rest h.1))
 
-    pub comes_so : IsAlive a (record old { events = events })
+    pub comes_so : Possible a IsBetween (record old { events = events })
         → ComesTo a.meaning before after (changed_by a old new) said
     comes_so alive = at said (λ past rest s h. turned_at past rest s h) does
       where
@@ -338,7 +338,7 @@ module _ {X : Type 0} {a : Added X} (old : Body X) (call : Call)
         at (went.Stopped why) each both = absurd (never (went.Stopped why) both alive (λ c w t. none_stopped why c w t))
 
     -- the run goes on, or it is over, and memory alone stops it
-    pub stalls_after : IsAlive a (record old { events = events }) → StallsAs false said
+    pub stalls_after : Possible a IsBetween (record old { events = events }) → StallsAs false said
     stalls_after alive = at said does
       where
         at : (it : code.Went) → Does it → StallsAs false it
@@ -348,7 +348,7 @@ module _ {X : Type 0} {a : Added X} (old : Body X) (call : Call)
         at went.Stalled both = absurd (never went.Stalled both alive (λ c w t. none_stalled c w t))
         at (went.Stopped why) both = absurd (never (went.Stopped why) both alive (λ c w t. none_stopped why c w t))
 
-    pub alive_after : IsAlive a (record old { events = events }) → AliveIfWent a said new
+    pub alive_after : Possible a IsBetween (record old { events = events }) → AliveIfWent a said new
     alive_after alive = at said does
       where
         goes_between : (c : Setting a) (w : Went a.Kept) → Turned c new went.Went w → (now : State a.Kept) × IsBetween c new now
@@ -366,7 +366,7 @@ module _ {X : Type 0} {a : Added X} (old : Body X) (call : Call)
         at (went.Stopped why) both = tt
 
     -- what a turn with this answer comes to
-    pub turned_so : IsAlive a (record old { events = events })
+    pub turned_so : Possible a IsBetween (record old { events = events })
         → ComesTo a.meaning before after (changed_by a old new) said
         × StallsAs false said × AliveIfWent a said new
     turned_so alive = (comes_so alive, stalls_after alive, alive_after alive)

@@ -11,16 +11,16 @@ use Rattle.aio_step.specs.declared.steps.Stepped.{Stepped}
 use Rattle.aio_step.specs.declared.steps.Stepped.TheVariants as stepped
 use Rattle.aio_step.specs.Stepping.{Steps}
 use Rattle.aio_body.specs.declared.body.Body.{Body}
-use Rattle.aio_body.specs.Stands.{Setting, IsBetween}
+use Rattle.aio_body.specs.Stands.{Setting, IsBetween, Possible}
 use Rattle.aio_core.specs.declared.went.Went as Said
 use Rattle.aio_core.specs.declared.went.Went.TheVariants as went
-use Rattle.aio_core.specs.Turning.{IsAlive, Turned, all_below, at_bar}
+use Rattle.aio_core.specs.Turning.{Turned, all_below, at_bar}
 use Rattle.aio_core.proofs.Running.{goes_on}
 
 module _ {X : Type 0} {a : Added X} where
   -- a state that is stood for leads to one that is stood for then
-  pub alive_by : (old new : Body X) (setting : Setting a → State a.Kept → Setting a) (change : State a.Kept → State a.Kept) → IsAlive a old
-      → ((c : Setting a) (s : State a.Kept) → IsBetween c old s → IsBetween (setting c s) new (change s)) → IsAlive a new
+  pub alive_by : (old new : Body X) (setting : Setting a → State a.Kept → Setting a) (change : State a.Kept → State a.Kept) → Possible a IsBetween old
+      → ((c : Setting a) (s : State a.Kept) → IsBetween c old s → IsBetween (setting c s) new (change s)) → Possible a IsBetween new
   alive_by old new setting change alive by = ∥∥₁_map alive (λ w. (setting w.0 w.1.0, (change w.1.0, by w.0 w.1.0 w.1.1)))
 
 abbrev pub woken_to : {S : Type 0} → Answer → State S → State S
@@ -32,7 +32,7 @@ RunsBelow a mid ran said =
 
 module _ {X : Type 0} {a : Added X} (answer : Answer) (old mid ran : Body X)
     (woken : (c : Setting a) (s : State a.Kept) → IsBetween c old s → IsBetween (all_below c (woken_to answer s)) mid (woken_to answer s)) where
-  pub alive_ran : IsAlive a mid → RunsBelow a mid ran stepped.Goes → IsAlive a ran
+  pub alive_ran : Possible a IsBetween mid → RunsBelow a mid ran stepped.Goes → Possible a IsBetween ran
   alive_ran alive runs =
       ∥∥₁_map alive (λ w. let it = goes_on (at_bar w.0) ran (run_below step_limit a.meaning w.0.bar w.0.left w.1.0) (runs w.0 w.1.0 w.1.1) in
       (at_bar w.0, (it.0, it.1.1)))

@@ -19,8 +19,8 @@ use Rattle.law_kept.proofs.Telling.{outcome_kept}
 use Rattle.aio_task.specs.View.{parts}
 use Rattle.aio_extra.specs.Added.{Added}
 use Rattle.aio_body.specs.declared.body.Body.{Body}
-use Rattle.aio_body.specs.Stands.{Setting}
-use Rattle.aio_step.specs.Stepping.{IsCalled, MayBegin}
+use Rattle.aio_body.specs.Stands.{Setting, Possible}
+use Rattle.aio_step.specs.Stepping.{IsCalled}
 
 module _ {X : Type 0} {a : Added X} (task : ℕ) (c : Setting a) (body : Body X) (s : State a.Kept) (h : IsCalled task c body s) where
   woken_there : (on : ℕ) → waiter_of s.loop.parts task ≡ Some on → h.stands.ties.gone on ≡ false
@@ -60,7 +60,7 @@ module _ {X : Type 0} {a : Added X} (task : ℕ) (c : Setting a) (body : Body X)
           (woken_made a.meaning h.before h.sound task)
 
 module _ {X : Type 0} {a : Added X} where
-  pub woken_sends_may : (task : ℕ) (body : Body X) (input : Input) → MayBegin a task body
+  pub woken_sends_may : (task : ℕ) (body : Body X) (input : Input) → Possible a (IsCalled task) body
       → ((c : Setting a) (s : State a.Kept) → IsCalled task c body s → input ≡ woken_with s.loop.parts task)
       → sends_made (length body.slots.items) input ≡ true
   woken_sends_may task body input m is =

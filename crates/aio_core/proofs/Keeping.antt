@@ -11,14 +11,14 @@ use Rattle.aio_wire.specs.EventList.{EventList}
 use Rattle.aio_wire.specs.declared.stop.Stop.TheVariants as stop
 use Rattle.aio_extra.specs.Added.{Added}
 use Rattle.aio_body.specs.declared.body.Body.{Body}
-use Rattle.aio_body.specs.Stands.{Setting, IsBetween}
+use Rattle.aio_body.specs.Stands.{Setting, IsBetween, Possible}
 use Rattle.law_body.proofs.Noting.{telling_changes}
 use Rattle.aio_core.specs.declared.kernel.Kernel.{Kernel}
 use Rattle.aio_core.specs.declared.went.Went as code
 use Rattle.aio_core.specs.declared.went.Went.TheVariants as went
 use Rattle.aio_core.specs.Again.{Again, IsKept}
 use Rattle.aio_core.specs.Turned.{KeepsEnd, StandsFor, TurnedBy, TurnsTo, WireTurn, ended, untaken}
-use Rattle.aio_core.specs.Turning.{AliveIfWent, AliveUnless, AsksBy, ComesTo, IsAlive, IsAtRest, OfFailing, StallsAs, UnlessFailed, changed_by, resting}
+use Rattle.aio_core.specs.Turning.{AliveIfWent, AliveUnless, AsksBy, ComesTo, IsAtRest, OfFailing, StallsAs, UnlessFailed, changed_by, resting}
 
 module _ {X : Type 0} {a : Added X} where
   pub stands_up : {g : _} (past : List Event) (left : List Entry) (kernel : Kernel X g) (s : State a.Kept) → ended kernel ≡ None
@@ -98,7 +98,7 @@ module _ {X : Type 0} (a : Added X) where
       at None it = ∥∥₁_map it (λ w. (record w.0 { past = w.0.past ++ body.events.events }, (w.1.0, between_taken w.0 body events w.1.0 e w.1.1)))
       at (Some end) it = tt
 
-  pub alive_of : (kept : Option code.Went) (body : Body X) → kept ≡ None → ∥ AliveUnless a kept body ∥₁ → IsAlive a body
+  pub alive_of : (kept : Option code.Went) (body : Body X) → kept ≡ None → ∥ AliveUnless a kept body ∥₁ → Possible a IsBetween body
   alive_of kept body none alive = ∥∥₁_elim (subst (λ o. ∥ AliveUnless a o body ∥₁) none alive) ∥∥₁_prop (λ it. it)
 
 -- ---- an end is kept

@@ -16,9 +16,9 @@ use Rattle.aio_step.specs.declared.steps.Stepped as stepped
 use Rattle.aio_step.specs.declared.steps.Stepped.TheVariants as went
 use Rattle.aio_step.specs.Stepping.{Steps}
 use Rattle.aio_body.specs.declared.body.Body.{Body}
-use Rattle.aio_body.specs.Stands.{Setting, IsBetween}
-use Rattle.aio_body.specs.Taken.{IsNext, MayRun}
-use Rattle.aio_core.specs.Turning.{IsAlive, at_bar}
+use Rattle.aio_body.specs.Stands.{Setting, IsBetween, Possible}
+use Rattle.aio_body.specs.Taken.{IsNext}
+use Rattle.aio_core.specs.Turning.{at_bar}
 use Rattle.aio_core.proofs.Below.{IsRunning, left_by, next_none, next_runs, skipped}
 
 module _ {X : Type 0} {a : Added X} where
@@ -45,7 +45,7 @@ module _ {X : Type 0} {a : Added X} where
         same = ap (λ n. run_below step_limit a.meaning c.bar n s) (sym h.stands.left);
       }
 
-  pub alive_on : (first body : Body X) → IsAlive a first → HasReached a first body → IsAlive a body
+  pub alive_on : (first body : Body X) → Possible a IsBetween first → HasReached a first body → Possible a IsBetween body
   alive_on first body alive reached = ∥∥₁_map alive (λ w. let r = reached w.0 w.1.0 w.1.1 in (with_left body w.0, (r.now, r.between)))
 
 -- ---- a handle was taken
@@ -54,7 +54,7 @@ module _ {X : Type 0} {a : Added X} (body : Body X) (w : View) (action : Action)
   pub running_of : (c : Setting a) (s : State a.Kept) → IsBetween c body s → IsRunning action c body w s
   running_of c s h = next_runs c body s w action h (skipped c body s w (Some action) h is next) is next
 
-  pub may_run : IsAlive a body → MayRun a action (record body { parts = w })
+  pub may_run : Possible a IsBetween body → Possible a (IsNext action) (record body { parts = w })
   may_run alive = ∥∥₁_map alive (λ x. let r = running_of x.0 x.1.0 x.1.1 in (record x.0 { left = length w.queue.below }, (r.now, r.next)))
 
 -- what running it comes to
@@ -118,7 +118,7 @@ module _ {X : Type 0} {a : Added X} (first body new : Body X) (w : View) (action
       (ran (record c { left = length w.queue.below }) running.now running.next))
 
   -- fewer are left, after each round
-  pub fewer : IsAlive a first → Ran a action (record body { parts = w }) new went.Goes → length new.parts.queue.below < length body.parts.queue.below
+  pub fewer : Possible a IsBetween first → Ran a action (record body { parts = w }) new went.Goes → length new.parts.queue.below < length body.parts.queue.below
   fewer alive ran = ∥∥₁_elim alive le_prop (λ x. at x.0 x.1.0 x.1.1)
     where
       at : (c : Setting a) (s : State a.Kept) → IsBetween c first s → length new.parts.queue.below < length body.parts.queue.below

@@ -30,7 +30,7 @@ use Rattle.aio_cancel.specs.Awaitables.{Appended}
 use Rattle.aio_task.specs.View.{View, parts}
 use Rattle.aio_extra.specs.Added.{Added, named_in}
 use Rattle.aio_body.specs.declared.body.Body.{Body}
-use Rattle.aio_body.specs.Stands.{Setting, Stands, IsBetween}
+use Rattle.aio_body.specs.Stands.{Setting, Stands, IsBetween, Possible}
 use Rattle.aio_body.specs.Taken.{IsAfterCallback}
 use Rattle.law_body.proofs.Lasting.{spares_none, stands_on}
 use Rattle.law_body.proofs.Left.{leaves_request}
@@ -39,7 +39,7 @@ use Rattle.law_body.proofs.Rooms.{below_appended}
 use Rattle.law_body.proofs.Telling.{own_stays}
 use Rattle.aio_core.specs.declared.went.Went as Said
 use Rattle.aio_core.specs.declared.went.Went.TheVariants as went
-use Rattle.aio_core.specs.Turning.{IsAlive, Turned}
+use Rattle.aio_core.specs.Turning.{Turned}
 
 -- ---- numbers in order
 range_last : (first count : ℕ) → range_with_len first (suc count) ≡ range_with_len first count ++ (first + count) ∷ []
@@ -197,7 +197,7 @@ module _ {X : Type 0} {a : Added X} where
       over : lives t.loop.parts count ≡ false
       over = sym (pends_so None c body t count so.stands) ∙ done
 
-  pub cancelled_idle : (first body : Body X) (count : ℕ) → IsAlive a first → HasCancelled a first body count → body.parts.called ≡ None
+  pub cancelled_idle : (first body : Body X) (count : ℕ) → Possible a IsBetween first → HasCancelled a first body count → body.parts.called ≡ None
   cancelled_idle first body count alive had =
       ∥∥₁_elim alive (same_prop body.parts.called None) (λ w. (had w.0 w.1.0 w.1.1).called)
 

@@ -34,11 +34,11 @@ use Rattle.aio_task.specs.View.{View}
 use Rattle.aio_task.specs.Keeps.{Ties, Keeps, Knows, ByTimer, handle_as}
 use Rattle.aio_extra.specs.Added.{Added, GoesBeside, named_in}
 use Rattle.aio_body.specs.declared.body.Body.{Body}
-use Rattle.aio_body.specs.Stands.{Setting, Stands, IsBetween, IsOwnSleep}
+use Rattle.aio_body.specs.Stands.{Setting, Stands, IsBetween, IsOwnSleep, Possible}
 use Rattle.law_body.proofs.Lasting.{parts_change, spares_none, stands_left}
 use Rattle.law_body.proofs.Left.{leaves_handles}
 use Rattle.law_body.proofs.May.{same_prop}
-use Rattle.aio_core.specs.Turning.{IsAlive, IsTime, all_below}
+use Rattle.aio_core.specs.Turning.{IsTime, all_below}
 
 -- ---- what fits is a time
 is_awaited_none : (items : List Item) → are_awaited [] items ≡ true → items ≡ []
@@ -226,11 +226,11 @@ pub later_time : (it : Answer) → IsTime it → (time : ℕ) → time ≤ most 
 later_time it h time few = let most_it = most_of it h in omega (arith, few, most_it)
 
 module _ {X : Type 0} {a : Added X} where
-  pub time_few : (body : Body X) → IsAlive a body → body.parts.time ≤ most
+  pub time_few : (body : Body X) → Possible a IsBetween body → body.parts.time ≤ most
   time_few body alive =
       ∥∥₁_elim alive le_prop (λ w. subst (λ n. n ≤ most) (sym w.1.1.stands.keeps.time) w.1.1.stands.time)
 
-  pub idle_alive : (body : Body X) → IsAlive a body → body.parts.called ≡ None
+  pub idle_alive : (body : Body X) → Possible a IsBetween body → body.parts.called ≡ None
   idle_alive body alive = ∥∥₁_elim alive (same_prop body.parts.called None) (λ w. w.1.1.called)
 
   pub wakes_so : (c : Setting a) (body : Body X) (s : State a.Kept) (it : Answer) → IsTime it → IsBetween c body s
@@ -254,7 +254,7 @@ module _ {X : Type 0} {a : Added X} where
           woken_as it is s.loop.parts
           ∙ ap (λ n. due (record s.loop.parts { time = max n (time_of it) })) (sym h.stands.keeps.time)
 
-  pub tasks_few : (body : Body X) → IsAlive a body → length body.slots.items < 2 ^ 32
+  pub tasks_few : (body : Body X) → Possible a IsBetween body → length body.slots.items < 2 ^ 32
   tasks_few body alive = ∥∥₁_elim alive le_prop (λ w. w.1.1.stands.few)
 
 -- ---- what a turn asks first

@@ -22,11 +22,8 @@ use Rattle.aio_extra.specs.Added.{Added}
 use Rattle.aio_body.specs.declared.body.Body.{Body}
 use Rattle.aio_core.specs.declared.went.Went as code
 use Rattle.aio_core.specs.declared.went.Went.TheVariants as went
-use Rattle.aio_body.specs.Stands.{Setting, IsBetween}
+use Rattle.aio_body.specs.Stands.{Setting, IsBetween, Possible}
 use Rattle.aio_core.specs.Asked.{AsksOnce}
-
-abbrev pub IsAlive : {X : Type 0} → Added X → Body X → Type 0
-IsAlive a body = ∥ ((c : Setting a) × ((s : State a.Kept) × IsBetween c body s)) ∥₁
 
 -- none stands before the bar any more
 abbrev pub at_bar : {X : Type 0} {a : Added X} → Setting a → Setting a
@@ -155,12 +152,12 @@ AsksBy was is before after _ = (it : AsksOnce before after) × (is ≡ was ++ it
 
 -- where the run goes on there is a state that is stood for
 abbrev pub AliveIfWent : {X : Type 0} → Added X → code.Went → Body X → Type 0
-AliveIfWent a went.Went body = IsAlive a body
+AliveIfWent a went.Went body = Possible a IsBetween body
 AliveIfWent a _ body = Unit {0}
 
 -- between two turns there is such a state, unless the run ended
 abbrev pub AliveUnless : {X : Type 0} → Added X → (ended : Option code.Went) → Body X → Type 0
-AliveUnless a None body = IsAlive a body
+AliveUnless a None body = Possible a IsBetween body
 AliveUnless a (Some _) body = Unit {0}
 
 -- whether a state is stalled, by what was said

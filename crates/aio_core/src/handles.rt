@@ -6,10 +6,10 @@ ghost use Rattle.model_loop.specs.Circles.{circle_fault as plain_circle_fault};
 ghost use Rattle.model_machine.specs.Outcomes.{woken_with as plain_woken_with};
 ghost use Rattle.model_machine.specs.State.{State, noted};
 ghost use Rattle.model_machine.specs.Turn.{effect as plain_effect, run_below as plain_run_below};
-ghost use Rattle.aio_body.specs.Stands.{Setting, IsBetween};
-ghost use Rattle.aio_body.specs.Taken.{IsNext, MayRun, IsTaken, MayTake};
-ghost use Rattle.aio_step.specs.Stepping.{Steps, HearsMade, IsCalled, MayBegin};
-ghost use Rattle.aio_core.specs.Turning.{IsAlive, at_bar};
+ghost use Rattle.aio_body.specs.Stands.{Setting, IsBetween, Possible};
+ghost use Rattle.aio_body.specs.Taken.{IsNext, IsTaken};
+ghost use Rattle.aio_step.specs.Stepping.{Steps, HearsMade, IsCalled};
+ghost use Rattle.aio_core.specs.Turning.{at_bar};
 
 use crate::copying::copy_of_action;
 use aio_base::{Action, Circle, Exc, Input, Kind, Memory, Outcome, Value, exception};
@@ -23,7 +23,7 @@ use std::alloc::Global;
 
 /// The handles before the bar run, in order.
 pub fn run_below<X: Extra>(body: &mut Body<X>, alloc: Global) -> Result<Stepped, Memory>
-    requires { IsAlive X.added body.old }
+    requires { Possible X.added IsBetween body.old }
     ensures { IfOk result
         (λ went. (c : Setting X.added) (s : State X.added.Kept) → IsBetween c body.old s
         → Steps (at_bar c) body.new went
@@ -50,7 +50,7 @@ fn run<X: Extra>(
     action: &Action,
     ticket: Ticket,
 ) -> Result<Stepped, Memory>
-    requires { MayRun X.added action.now body.old }
+    requires { Possible X.added (IsNext action.now) body.old }
     ensures { IfOk result
         (λ went. (c : Setting X.added) (s : State X.added.Kept) → IsNext action.now c body.old s
         → Steps c body.new went
@@ -68,7 +68,7 @@ fn act<X: Extra>(
     action: &Action,
     ticket: Ticket,
 ) -> Result<Stepped, Memory>
-    requires { MayTake X.added action.now body.old }
+    requires { Possible X.added (IsTaken action.now) body.old }
     ensures { IfOk result
         (λ went. (c : Setting X.added) (s : State X.added.Kept) → IsTaken action.now c body.old s
         → Steps c body.new went (plain_effect step_limit X.added.meaning action.now s)) }
@@ -128,7 +128,7 @@ fn act<X: Extra>(
 
 // What a task is woken with: how that ended for which it waits.
 fn woken_with<X: Extra>(body: &Body<X>, task: u32) -> Result<Input, Memory>
-    requires { MayBegin X.added task body.now }
+    requires { Possible X.added (IsCalled task) body.now }
     ensures input { IfOk result
         (λ input. (c : Setting X.added) (s : State X.added.Kept) → IsCalled task c body.now s
         → input ≡ plain_woken_with s.loop.parts task) }

@@ -11,8 +11,8 @@ ghost use Rattle.model_says.specs.Says.{step_limit};
 ghost use Rattle.aio_wire.specs.Port.{Exchanges, StopsShort, AlwaysFails, UnlessStopped};
 ghost use Rattle.aio_wire.specs.Replied.{Replied, MayHaveReplied, Stays};
 ghost use Rattle.aio_wire.specs.declared.wire.Reply.{Reply as AnyReply};
-ghost use Rattle.aio_body.specs.Stands.{Setting, IsBetween};
-ghost use Rattle.aio_core.specs.Turning.{AsksBy, IsAlive, IsAtRest, IsSelect, IsTime, Turned, AliveIfWent, ComesTo, OfFailing, StallsAs, UnlessFailed};
+ghost use Rattle.aio_body.specs.Stands.{Setting, IsBetween, Possible};
+ghost use Rattle.aio_core.specs.Turning.{AsksBy, IsAtRest, IsSelect, IsTime, Turned, AliveIfWent, ComesTo, OfFailing, StallsAs, UnlessFailed};
 ghost use Rattle.aio_core.specs.Turning.{all_below, at_bar, changed_by, said_by};
 
 use crate::handles::run_below;
@@ -35,7 +35,7 @@ pub fn turn<W: Wire, X: Extra>(
     wire: &mut W,
     seen: &mut u32,
 ) -> Result<Went, Stop>
-    requires { IsAlive X.added body.old }
+    requires { Possible X.added IsBetween body.old }
     ensures comes { ComesTo X.added.meaning (W.seen wire.old) (W.seen wire.new)
         (changed_by X.added body.old body.new) (said_by result) }
     ensures stalls { (past : List Event) (answers : List Entry) (s : State X.added.Kept)
@@ -126,7 +126,7 @@ fn after<X: Extra>(
     answer: &Answer,
     seen: &mut u32,
 ) -> Result<Went, Memory>
-    requires alive { IsAlive X.added body.old }
+    requires alive { Possible X.added IsBetween body.old }
     requires time { IsTime answer.now }
     ensures { IfOk result
         (λ went. (c : Setting X.added) (s : State X.added.Kept) → IsBetween c body.old s
@@ -144,7 +144,7 @@ fn after<X: Extra>(
 // The time goes on, and never back, and timers fall due. All that is pending then stands before the
 // bar. Nothing is watched, so nothing else came.
 fn wake<X: Extra>(body: &mut Body<X>, answer: &Answer)
-    requires alive { IsAlive X.added body.old }
+    requires alive { Possible X.added IsBetween body.old }
     requires time { IsTime answer.now }
     ensures { (c : Setting X.added) (s : State X.added.Kept) → IsBetween c body.old s
         → IsBetween (all_below c (unbooked_in (woken_by answer.now) s)) body.new
@@ -159,7 +159,7 @@ fn wake<X: Extra>(body: &mut Body<X>, answer: &Answer)
 // After the turn in which main's callback ran, each task that lives is cancelled. The run ends with
 // the first turn, from that one on, after which none lives.
 fn end_turn<X: Extra>(body: &mut Body<X>, done_before: bool, seen: &mut u32) -> Result<Went, Memory>
-    requires { IsAlive X.added body.old }
+    requires { Possible X.added IsBetween body.old }
     ensures { IfOk result
         (λ went. (c : Setting X.added) (s : State X.added.Kept) → IsBetween c body.old s
         → Turned c body.new went (turn_over done_before s)) }
@@ -169,7 +169,7 @@ fn end_turn<X: Extra>(body: &mut Body<X>, done_before: bool, seen: &mut u32) -> 
 }
 
 fn cancel_after_main<X: Extra>(body: &mut Body<X>, done_before: bool)
-    requires { IsAlive X.added body.old }
+    requires { Possible X.added IsBetween body.old }
     ensures { (c : Setting X.added) (s : State X.added.Kept) → IsBetween c body.old s
         → IsBetween c body.new (cancelled_if (s.main_done && not done_before) s) }
 {
@@ -180,7 +180,7 @@ fn cancel_after_main<X: Extra>(body: &mut Body<X>, done_before: bool)
 
 // The run ends where main's callback ran and no task lives.
 fn finish<X: Extra>(body: &Body<X>, seen: &mut u32) -> Result<Went, Memory>
-    requires { IsAlive X.added body.now }
+    requires { Possible X.added IsBetween body.now }
     ensures { IfOk result
         (λ went. (c : Setting X.added) (s : State X.added.Kept) → IsBetween c body.now s
         → Turned c body.now went (finished_if (finished_as s) s)) }
@@ -196,7 +196,7 @@ fn finish<X: Extra>(body: &Body<X>, seen: &mut u32) -> Result<Went, Memory>
 
 // Each task that lives is cancelled, in order of making.
 fn cancel_everything<X: Extra>(body: &mut Body<X>)
-    requires { IsAlive X.added body.old }
+    requires { Possible X.added IsBetween body.old }
     ensures { (c : Setting X.added) (s : State X.added.Kept) → IsBetween c body.old s
         → IsBetween c body.new (in_loop plain_cancel_everything s) }
 {
@@ -211,7 +211,7 @@ fn cancel_everything<X: Extra>(body: &mut Body<X>)
 // From the task on that was seen last to live, and then from the first on. Tasks that are done stay
 // done, and new ones have greater numbers, so all turns together look at each task about once.
 fn some_task_lives<X: Extra>(body: &Body<X>, seen: &mut u32) -> bool
-    requires { IsAlive X.added body.now }
+    requires { Possible X.added IsBetween body.now }
     ensures { (c : Setting X.added) (s : State X.added.Kept) → IsBetween c body.now s
         → result ≡ not (no_task_lives s.loop.parts) }
 {
@@ -220,7 +220,7 @@ fn some_task_lives<X: Extra>(body: &Body<X>, seen: &mut u32) -> bool
 
 // Whether a task lives from this one on, which is then that task.
 fn lives_from<X: Extra>(body: &Body<X>, seen: &mut u32) -> bool
-    requires { IsAlive X.added body.now }
+    requires { Possible X.added IsBetween body.now }
     ensures { result ≡ true → (c : Setting X.added) (s : State X.added.Kept)
         → IsBetween c body.now s
         → true ≡ not (no_task_lives s.loop.parts) }
@@ -235,7 +235,7 @@ fn lives_from<X: Extra>(body: &Body<X>, seen: &mut u32) -> bool
 }
 
 fn any_lives<X: Extra>(body: &Body<X>) -> bool
-    requires { IsAlive X.added body.now }
+    requires { Possible X.added IsBetween body.now }
     ensures { (c : Setting X.added) (s : State X.added.Kept) → IsBetween c body.now s
         → result ≡ not (no_task_lives s.loop.parts) }
 {
@@ -249,7 +249,7 @@ fn any_lives<X: Extra>(body: &Body<X>) -> bool
 
 /// How many tasks were made.
 pub fn tasks<X: Extra>(body: &Body<X>) -> u32
-    requires { IsAlive X.added body.now }
+    requires { Possible X.added IsBetween body.now }
     ensures { result ≡ length body.now.slots.items }
 {
     body.slots.len() as u32

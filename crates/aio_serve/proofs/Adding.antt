@@ -33,9 +33,9 @@ use Rattle.aio_extra.specs.Called as by_call
 use Rattle.aio_extra.specs.Called.{IsServed, MayServe, SaysAs}
 use Rattle.aio_extra.specs.declared.asked.Asked.{Asked}
 use Rattle.aio_extra.specs.declared.asked.Asked.TheVariants.{Answer, Raise, Wait}
-use Rattle.aio_body.specs.Asked.{HasRested, IsAskingFor, IsDeciding, IsGoing, IsInStep, MayAsk, MayDecide, Says}
+use Rattle.aio_body.specs.Asked.{HasRested, IsAskingFor, IsDeciding, IsGoing, IsInStep, Says}
 use Rattle.aio_body.specs.Slots.{standing_at}
-use Rattle.aio_body.specs.Stands.{IsOwnSleep, Setting}
+use Rattle.aio_body.specs.Stands.{IsOwnSleep, Setting, Possible}
 use Rattle.aio_body.specs.declared.body.Body.{Body}
 use Rattle.aio_body.specs.declared.reply.RequestReply.{RequestReply}
 use Rattle.aio_body.specs.declared.reply.RequestReply.TheVariants as reply
@@ -46,7 +46,7 @@ use Rattle.law_body.proofs.Left.{leaves_suspend}
 use Rattle.law_body.proofs.May.{same_prop}
 use Rattle.law_body.proofs.Rooms.{waits_so}
 use Rattle.law_body.proofs.Slotting.{stands_standing}
-use Rattle.aio_serve.specs.Adding.{AnswersAgain, AnswersAs, IsAnswering, MayAnswer, answered}
+use Rattle.aio_serve.specs.Adding.{AnswersAgain, AnswersAs, IsAnswering, answered, HasAnswer}
 use Rattle.aio_serve.proofs.Meaning.{added_means}
 use Rattle.aio_serve.specs.declared.added.Answered.TheVariants.{Again, Replies}
 
@@ -81,7 +81,7 @@ module _ {S : Type 0} (added : Extra S) (falls : WakesFall added) (task : ℕ) w
 
 -- ---- what it may rely on
 module _ {X : Type 0} {a : Added X} where
-  pub asks_served : (task : ℕ) (body : Body X) (code arguments : Value) → MayAsk a task (request.Extra code arguments) body
+  pub asks_served : (task : ℕ) (body : Body X) (code arguments : Value) → Possible a (IsAskingFor task (request.Extra code arguments)) body
       → MayServe a (Some task) body.extra body.parts
   asks_served task body code arguments m =
       ∥∥₁_map m (λ w.
@@ -89,7 +89,8 @@ module _ {X : Type 0} {a : Added X} where
       let h = going.in_step in
       (h.stands.ties, (w.1.0, served_of (Some task) (Some task) w.0 body w.1.0 h.stands h.called h.running going.sound.others.loop)))
 
-  pub decides_served : (task key : ℕ) (body : Body X) → MayDecide a task (standing.Serving key) body → MayServe a body.parts.running body.extra body.parts
+  pub decides_served : (task key : ℕ) (body : Body X) → Possible a (IsDeciding task (standing.Serving key)) body
+      → MayServe a body.parts.running body.extra body.parts
   decides_served task key body m =
       ∥∥₁_map m (λ w.
       let h = w.1.1.in_step in (
@@ -101,7 +102,7 @@ module _ {X : Type 0} {a : Added X} where
         ),
       ))
 
-  pub answers_served : (task : ℕ) (asked : Asked) (body : Body X) → MayAnswer a task asked body → MayServe a body.parts.running body.extra body.parts
+  pub answers_served : (task : ℕ) (asked : Asked) (body : Body X) → Possible a (HasAnswer task asked) body → MayServe a body.parts.running body.extra body.parts
   answers_served task asked body m =
       ∥∥₁_map m (λ w.
       let h = w.1.1.1.in_step in (
@@ -114,7 +115,7 @@ module _ {X : Type 0} {a : Added X} where
       ))
 
 -- what is known where an answer has come
-module _ {X : Type 0} {a : Added X} (task : ℕ) (asked : Asked) (body : Body X) (m : MayAnswer a task asked body) where
+module _ {X : Type 0} {a : Added X} (task : ℕ) (asked : Asked) (body : Body X) (m : Possible a (HasAnswer task asked) body) where
   pub answers_idle : body.parts.called ≡ None
   answers_idle = ∥∥₁_elim m (same_prop body.parts.called None) (λ w. w.1.1.1.in_step.called)
 
@@ -127,7 +128,7 @@ module _ {X : Type 0} {a : Added X} (task : ℕ) (asked : Asked) (body : Body X)
       subst (λ n. task < n) (sym w.1.1.1.in_step.stands.made)
       (lives_within w.1.0.loop.parts task (w.1.1.1.sound.parts.runs task (eq-eqb task task refl))))
 
-pub decides_run : {X : Type 0} {a : Added X} (task key : ℕ) (body : Body X) → MayDecide a task (standing.Serving key) body
+pub decides_run : {X : Type 0} {a : Added X} (task key : ℕ) (body : Body X) → Possible a (IsDeciding task (standing.Serving key)) body
     → body.parts.running ≡ Some task
 decides_run task key body m = ∥∥₁_elim m (same_prop body.parts.running (Some task)) (λ w. w.1.1.in_step.running)
 
@@ -236,7 +237,7 @@ module _ {X : Type 0} {a : Added X} (task on key : ℕ) (c : Setting a) (body : 
         ∙ ap (λ o. serves_until o (woken a.meaning task) task on key s) (sym (sym outcome_is ∙ is));
   }
 
-pub waits_may : {X : Type 0} {a : Added X} (task on key : ℕ) (body : Body X) → MayAnswer a task (Wait on key) body
+pub waits_may : {X : Type 0} {a : Added X} (task on key : ℕ) (body : Body X) → Possible a (HasAnswer task (Wait on key)) body
     → outcome_at (slice_get body.parts.futures on) ≡ None → is_pending_at (slice_get body.parts.futures on) ≡ true
 waits_may task on key body m none =
     ∥∥₁_elim m (hlevel props) (λ w.
@@ -262,7 +263,7 @@ module _ {X : Type 0} (a : Added X) (task : ℕ) (body : Body X) (code arguments
       (asks h.in_step.stands.ties s items are_items
       (served_of (Some task) (Some task) c body s h.in_step.stands h.in_step.called h.in_step.running sound))
 
-  pub asks_answer : MayAsk a task (request.Extra code arguments) body → MayAnswer a task asked (record body { parts = v; extra = x })
+  pub asks_answer : Possible a (IsAskingFor task (request.Extra code arguments)) body → Possible a (HasAnswer task asked) (record body { parts = v; extra = x })
   asks_answer m =
       ∥∥₁_map m (λ w.
       (w.0, (called (a.meaning.ask task number items w.1.0).call w.1.0, ((a.meaning.ask task number items w.1.0).answer, asked_so w.0 w.1.0 w.1.1.going))))
@@ -289,7 +290,7 @@ module _ {X : Type 0} {a : Added X} (task key : ℕ) (body : Body X) (input : In
       (served_of (Some task) body.parts.running c body s h.in_step.stands h.in_step.called refl
       (subst (λ r. IsSound r (told_in s.events) s.loop) (sym h.in_step.running) sound)))
 
-  pub wakes_answer : MayDecide a task (standing.Serving key) body → MayAnswer a task asked (record body { parts = v; extra = x })
+  pub wakes_answer : Possible a (IsDeciding task (standing.Serving key)) body → Possible a (HasAnswer task asked) (record body { parts = v; extra = x })
   wakes_answer m =
       ∥∥₁_map m (λ w.
       (w.0, (called (a.meaning.wake key input w.1.0).call w.1.0, ((a.meaning.wake key input w.1.0).answer, woken_so w.0 w.1.0 w.1.1))))
@@ -313,7 +314,7 @@ module _ {X : Type 0} (a : Added X) (task : ℕ) (first : Asked) (old : Body X) 
   pub on_first : AreAnswered first old
   on_first = λ c s it h. record { now = s; it = it; answering = h; same = refl }
 
-  pub on_answer : (asked : Asked) (body : Body X) → AreAnswered asked body → MayAnswer a task first old → MayAnswer a task asked body
+  pub on_answer : (asked : Asked) (body : Body X) → AreAnswered asked body → Possible a (HasAnswer task first) old → Possible a (HasAnswer task asked) body
   on_answer asked body are m =
       ∥∥₁_map m (λ w. let again = are w.0 w.1.0 w.1.1.0 w.1.1.1 in (w.0, (again.now, (again.it, again.answering))))
 

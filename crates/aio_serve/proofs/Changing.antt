@@ -14,7 +14,7 @@ use Rattle.aio_task.specs.View.{View, parts}
 use Rattle.aio_extra.specs.Added.{Added, named_in}
 use Rattle.aio_body.specs.declared.body.Body.{Body}
 use Rattle.aio_body.specs.Asked.{IsInStep, SomeGoes}
-use Rattle.aio_body.specs.Stands.{Setting}
+use Rattle.aio_body.specs.Stands.{Setting, Possible}
 use Rattle.law_body.proofs.Kept.{kept_uncancel}
 use Rattle.law_body.proofs.Lasting.{spares_none, stands_on}
 use Rattle.law_body.proofs.Left.{leaves_uncancel}
@@ -41,12 +41,12 @@ module _ {X : Type 0} {a : Added X} where
     running = ap (λ (x : View). x.running) beside ∙ h.running;
   }
 
-  pub few_left : (old : Body X) (v : View) → SomeGoes a old → (other : ℕ) → parts v ≡ uncancel other (parts old.parts)
+  pub few_left : (old : Body X) (v : View) → Possible a SomeGoes old → (other : ℕ) → parts v ≡ uncancel other (parts old.parts)
       → v ≡ record old.parts { tasks = v.tasks } → (task : ℕ) → cancelling (parts v) task ≤ most
   few_left old v m other after beside task =
       ∥∥₁_elim m le_prop (λ w.
-      let now = uncancels_so ByEnd w.0 other w.1.0 old w.1.1.0 v w.1.1.1.in_step after beside in
-      subst (λ n. n ≤ most) (sym (count_read (Some w.0) w.1.0 (record old { parts = v }) (in_loop (book (uncancel_by ByEnd other)) w.1.1.0) now.stands task))
+      let now = uncancels_so ByEnd w.1.1.0 other w.0 old w.1.0 v w.1.1.1.in_step after beside in
+      subst (λ n. n ≤ most) (sym (count_read (Some w.1.1.0) w.0 (record old { parts = v }) (in_loop (book (uncancel_by ByEnd other)) w.1.0) now.stands task))
       (now.stands.counts task))
 
   -- one event more

@@ -23,9 +23,9 @@ use Rattle.aio_group.specs.Held.{held_at}
 use Rattle.aio_group.specs.Stands.{AllBelong}
 use Rattle.aio_extra.specs.Added.{Added}
 use Rattle.aio_body.specs.declared.body.Body.{Body}
-use Rattle.aio_body.specs.Asked.{IsDeciding, IsGoing, MayAsk, MayDecide, MayGo, SomeGoes}
-use Rattle.aio_body.specs.Stands.{Setting, Stands}
-use Rattle.aio_body.specs.Taken.{IsTaken, MayTake}
+use Rattle.aio_body.specs.Asked.{IsDeciding, IsGoing, SomeGoes, IsAskingFor}
+use Rattle.aio_body.specs.Stands.{Setting, Stands, Possible}
+use Rattle.aio_body.specs.Taken.{IsTaken}
 use Rattle.aio_serve.proofs.GroupsNeed.{all_belong, all_belong_prop, is_child, may_exit, shown_is}
 use Rattle.aio_serve.proofs.GroupsOn.{groups_stand}
 
@@ -72,13 +72,14 @@ module _ {X : Type 0} {a : Added X} where
   belong_going task c body s h =
       all_belong (Some task) c body s h.in_step.stands (λ id. (h.sound.others.loop.groups id).plain_exit)
 
-  pub belong_may : (task : ℕ) (body : Body X) → MayGo a task body → AllBelong body.parts body.groups
+  pub belong_may : (task : ℕ) (body : Body X) → Possible a (IsGoing task) body → AllBelong body.parts body.groups
   belong_may task body m = ∥∥₁_elim m (all_belong_prop body.parts body.groups) (λ w. belong_going task w.0 body w.1.0 w.1.1)
 
-  pub belong_some : (body : Body X) → SomeGoes a body → AllBelong body.parts body.groups
-  belong_some body m = ∥∥₁_elim m (all_belong_prop body.parts body.groups) (λ w. belong_going w.0 w.1.0 body w.1.1.0 w.1.1.1)
+  pub belong_some : (body : Body X) → Possible a SomeGoes body → AllBelong body.parts body.groups
+  belong_some body m = ∥∥₁_elim m (all_belong_prop body.parts body.groups) (λ w. belong_going w.1.1.0 w.0 body w.1.0 w.1.1.1)
 
-  pub belong_decides : (task : ℕ) (stood : standing.Standing) (body : Body X) → MayDecide a task stood body → AllBelong body.parts body.groups
+  pub belong_decides : (task : ℕ) (stood : standing.Standing) (body : Body X) → Possible a (IsDeciding task stood) body
+      → AllBelong body.parts body.groups
   belong_decides task stood body m =
       ∥∥₁_elim m (all_belong_prop body.parts body.groups) (λ w.
       all_belong (Some task) w.0 body w.1.0 w.1.1.in_step.stands (λ id. (w.1.1.asked.others.loop.groups id).plain_exit))
@@ -89,12 +90,13 @@ module _ {X : Type 0} {a : Added X} where
       subst (λ x. Stands None c body x → AllBelong body.parts body.groups) (sym h.after)
       (λ stands. all_belong None c body _ stands (λ id. (h.sound.loop.groups id).plain_exit)) h.stands
 
-  pub belong_takes : (group task : ℕ) (body : Body X) → MayTake a (GroupDone group task) body → AllBelong body.parts body.groups
+  pub belong_takes : (group task : ℕ) (body : Body X) → Possible a (IsTaken (GroupDone group task)) body → AllBelong body.parts body.groups
   belong_takes group task body m =
       ∥∥₁_elim m (all_belong_prop body.parts body.groups) (λ w. belong_taken group task w.0 body w.1.0 w.1.1)
 
   -- ---- an exit
-  pub exit_entered : (task : ℕ) (group : Value) (raised : Option Exc) (id : ℕ) (body : Body X) → MayAsk a task (request.GroupExit group raised) body
+  pub exit_entered : (task : ℕ) (group : Value) (raised : Option Exc) (id : ℕ) (body : Body X)
+      → Possible a (IsAskingFor task (request.GroupExit group raised)) body
       → as_group group ≡ Some id → (held_at body.groups id).entered ≡ true
   exit_entered task group raised id body m named =
       ∥∥₁_elim m (hlevel props) (λ w.
@@ -103,7 +105,8 @@ module _ {X : Type 0} {a : Added X} where
       (groups_stand (Some task) w.0 body w.1.0 h.in_step.stands) in
       ap (λ (g : Group). g.entered) same ∙ (may_exit a.meaning task w.1.0 group raised id h.sound w.1.1.says named).entered)
 
-  pub exit_fresh : (task : ℕ) (group : Value) (raised : Option Exc) (id : ℕ) (body : Body X) → MayAsk a task (request.GroupExit group raised) body
+  pub exit_fresh : (task : ℕ) (group : Value) (raised : Option Exc) (id : ℕ) (body : Body X)
+      → Possible a (IsAskingFor task (request.GroupExit group raised)) body
       → as_group group ≡ Some id → (held_at body.groups id).exiting ≡ false
   exit_fresh task group raised id body m named =
       ∥∥₁_elim m (hlevel props) (λ w.
@@ -112,7 +115,7 @@ module _ {X : Type 0} {a : Added X} where
       (groups_stand (Some task) w.0 body w.1.0 h.in_step.stands) in
       ap (λ (g : Group). g.exiting) same ∙ (may_exit a.meaning task w.1.0 group raised id h.sound w.1.1.says named).fresh)
 
-  pub exit_goes_on : (task group : ℕ) (body : Body X) → MayDecide a task (standing.Leaving group) body
+  pub exit_goes_on : (task group : ℕ) (body : Body X) → Possible a (IsDeciding task (standing.Leaving group)) body
       → ((held_at body.groups group).exiting && not (held_at body.groups group).ended) ≡ true
   exit_goes_on task group body m =
       ∥∥₁_elim m (hlevel props) (λ w.
@@ -130,13 +133,13 @@ module _ {X : Type 0} {a : Added X} where
       runs : (n : ℕ) → is_running (Some n) n ≡ true
       runs n = eq-eqb n n refl
 
-  pub idle_decides : (task : ℕ) (stood : standing.Standing) (body : Body X) → MayDecide a task stood body → body.parts.called ≡ None
+  pub idle_decides : (task : ℕ) (stood : standing.Standing) (body : Body X) → Possible a (IsDeciding task stood) body → body.parts.called ≡ None
   idle_decides task stood body m = ∥∥₁_elim m (hlevel props) (λ w. w.1.1.in_step.called)
 
-  pub running_decides : (task : ℕ) (stood : standing.Standing) (body : Body X) → MayDecide a task stood body → body.parts.running ≡ Some task
+  pub running_decides : (task : ℕ) (stood : standing.Standing) (body : Body X) → Possible a (IsDeciding task stood) body → body.parts.running ≡ Some task
   running_decides task stood body m = ∥∥₁_elim m (hlevel props) (λ w. w.1.1.in_step.running)
 
-  pub slot_decides : (task : ℕ) (stood : standing.Standing) (body : Body X) → MayDecide a task stood body → task < length body.slots.items
+  pub slot_decides : (task : ℕ) (stood : standing.Standing) (body : Body X) → Possible a (IsDeciding task stood) body → task < length body.slots.items
   slot_decides task stood body m =
       ∥∥₁_elim m (hlevel props) (λ w.
       subst (λ n. task < n) (sym w.1.1.in_step.stands.made) (within_deciding task stood w.0 body w.1.0 w.1.1))
@@ -150,8 +153,9 @@ module _ {X : Type 0} {a : Added X} where
       ∙ ap (λ (x : State a.Kept). has_seen (group_of x.loop group).children task) h.after
       ∙ is_child group task _ (group_of h.before.loop group) h.before.loop.parts h.handle h.rest (h.sound.loop.groups group).tellings h.pending h.live h.runs
 
-  pub child_takes : (group task : ℕ) (body : Body X) → MayTake a (GroupDone group task) body → has_seen (held_at body.groups group).children task ≡ true
+  pub child_takes : (group task : ℕ) (body : Body X) → Possible a (IsTaken (GroupDone group task)) body
+      → has_seen (held_at body.groups group).children task ≡ true
   child_takes group task body m = ∥∥₁_elim m (hlevel props) (λ w. child_taken group task w.0 body w.1.0 w.1.1)
 
-  pub idle_takes : (group task : ℕ) (body : Body X) → MayTake a (GroupDone group task) body → body.parts.called ≡ None
+  pub idle_takes : (group task : ℕ) (body : Body X) → Possible a (IsTaken (GroupDone group task)) body → body.parts.called ≡ None
   idle_takes group task body m = ∥∥₁_elim m (hlevel props) (λ w. w.1.1.called)

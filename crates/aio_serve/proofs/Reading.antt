@@ -17,7 +17,7 @@ use Rattle.aio_extra.specs.Added.{Added}
 use Rattle.aio_body.specs.declared.body.Body.{Body}
 use Rattle.aio_body.specs.Asked.{IsGoing, SomeGoes}
 use Rattle.aio_body.specs.Named.{awaited_in, future_in}
-use Rattle.aio_body.specs.Stands.{Setting, Stands}
+use Rattle.aio_body.specs.Stands.{Setting, Stands, Possible}
 use Rattle.law_body.proofs.May.{same_prop}
 use Rattle.law_body.proofs.Telling.{awaited_named, awaited_stays, future_named, named_stays}
 
@@ -27,13 +27,13 @@ module _ {X : Type 0} {a : Added X} where
       → cancelling (parts body.parts) task ≡ cancelling s.loop.parts task
   count_read out c body s h task = ap (λ (tasks : List Task). option_map_or (λ (it : Task). it.cancels) (slice_get tasks task) 0) h.keeps.tasks
 
-  pub few_counts : (body : Body X) → SomeGoes a body → (task : ℕ) → cancelling (parts body.parts) task ≤ most
+  pub few_counts : (body : Body X) → Possible a SomeGoes body → (task : ℕ) → cancelling (parts body.parts) task ≤ most
   few_counts body m task =
       ∥∥₁_elim m le_prop (λ w.
-      subst (λ n. n ≤ most) (sym (count_read (Some w.0) w.1.0 body w.1.1.0 w.1.1.1.in_step.stands task)) (w.1.1.1.in_step.stands.counts task))
+      subst (λ n. n ≤ most) (sym (count_read (Some w.1.1.0) w.0 body w.1.0 w.1.1.1.in_step.stands task)) (w.1.1.1.in_step.stands.counts task))
 
   -- the time
-  pub few_moments : (body : Body X) → SomeGoes a body → body.parts.time ≤ most
+  pub few_moments : (body : Body X) → Possible a SomeGoes body → body.parts.time ≤ most
   few_moments body m =
       ∥∥₁_elim m le_prop (λ w. subst (λ n. n ≤ most) (sym w.1.1.1.in_step.stands.keeps.time) w.1.1.1.in_step.stands.time)
 
@@ -80,9 +80,9 @@ module _ {X : Type 0} {a : Added X} (task : ℕ) (c : Setting a) (body : Body X)
   unowned _ on e = absurd (cc)
 
 module _ {X : Type 0} {a : Added X} where
-  pub unowned_kept : (body : Body X) → SomeGoes a body → (x : Value) (on : ℕ) → future_in body.futures.items x ≡ Some on
+  pub unowned_kept : (body : Body X) → Possible a SomeGoes body → (x : Value) (on : ℕ) → future_in body.futures.items x ≡ Some on
       → owner_at (slice_get body.parts.futures on) ≡ None
   unowned_kept body m x on e =
       ∥∥₁_elim m (same_prop (owner_at (slice_get body.parts.futures on)) None) (λ w.
       let h = w.1.1.1 in
-      owner_kept h.in_step.stands.ties body.parts w.1.1.0.loop.parts h.in_step.stands.keeps on (unowned w.0 w.1.0 body w.1.1.0 h x on e))
+      owner_kept h.in_step.stands.ties body.parts w.1.0.loop.parts h.in_step.stands.keeps on (unowned w.1.1.0 w.0 body w.1.0 h x on e))

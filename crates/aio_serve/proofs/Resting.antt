@@ -23,9 +23,9 @@ use Rattle.law_kept.proofs.Telling.{pending_kept}
 use Rattle.law_settling.proofs.CancelSound.{plain_within}
 use Rattle.aio_task.specs.View.{parts}
 use Rattle.aio_extra.specs.Added.{Added}
-use Rattle.aio_body.specs.Asked.{IsGoing, MayAsk, MayGo}
+use Rattle.aio_body.specs.Asked.{IsGoing, IsAskingFor}
 use Rattle.aio_body.specs.Named.{awaited_in}
-use Rattle.aio_body.specs.Stands.{IsOwnSleep, Setting}
+use Rattle.aio_body.specs.Stands.{IsOwnSleep, Setting, Possible}
 use Rattle.aio_body.specs.declared.body.Body.{Body}
 use Rattle.law_body.proofs.Lasting.{Spares}
 use Rattle.law_body.proofs.Sound.{awaited_pends, runs_living}
@@ -108,7 +108,7 @@ module _ {S : Type 0} (s : State S) (named : ℕ → Type 0) (names : (place id 
 
 module _ {X : Type 0} {a : Added X} where
   -- ---- what a wait needs
-  pub awaited_waits : (task : ℕ) (x : Value) (on : ℕ) (body : Body X) → MayAsk a task (request.Await x) body
+  pub awaited_waits : (task : ℕ) (x : Value) (on : ℕ) (body : Body X) → Possible a (IsAskingFor task (request.Await x)) body
       → awaited_in body.futures.items (parts body.parts) x ≡ Some on → outcome_at (slice_get body.parts.futures on) ≡ None
       → is_pending_at (slice_get body.parts.futures on) ≡ true
   awaited_waits task x on body m named none =
@@ -124,7 +124,7 @@ module _ {X : Type 0} {a : Added X} where
   pub within_going : (task : ℕ) (c : Setting a) (body : Body X) (s : State a.Kept) → IsGoing task c body s → task < next_task s.loop.parts
   within_going task c body s h = lives_within s.loop.parts task (runs_living a.meaning task s h.sound)
 
-  pub slot_there : (task : ℕ) (body : Body X) → MayGo a task body → task < length body.slots.items
+  pub slot_there : (task : ℕ) (body : Body X) → Possible a (IsGoing task) body → task < length body.slots.items
   slot_there task body m =
       ∥∥₁_elim m (hlevel props) (λ w.
       subst (λ n. task < n) (sym w.1.1.in_step.stands.made) (within_going task w.0 body w.1.0 w.1.1))

@@ -37,9 +37,9 @@ use Rattle.aio_body.specs.declared.body.Body.{Body}
 use Rattle.aio_body.specs.declared.delay.Delay.{Delay}
 use Rattle.aio_body.specs.declared.reply.RequestReply.{RequestReply}
 use Rattle.aio_body.specs.declared.reply.RequestReply.TheVariants.{Answers, Raises}
-use Rattle.aio_body.specs.Asked.{IsAskingFor, IsGoing, IsInStep, MayAsk, Says, SomeGoes}
-use Rattle.aio_body.specs.Stands.{Setting, Stands}
-use Rattle.aio_body.specs.Taken.{IsTaken, MayTake}
+use Rattle.aio_body.specs.Asked.{IsAskingFor, IsGoing, IsInStep, Says, SomeGoes}
+use Rattle.aio_body.specs.Stands.{Setting, Stands, Possible}
+use Rattle.aio_body.specs.Taken.{IsTaken}
 use Rattle.aio_serve.specs.Left.{left_as}
 use Rattle.aio_serve.proofs.Saying.{answers_so, raises_so}
 use Rattle.law_body.proofs.TimeoutsOn.{timeouts_of}
@@ -143,12 +143,12 @@ module _ {X : Type 0} {a : Added X} where
       handlers_step_none h.in_step.stands.ties body.parts s.loop body.timeouts (timeouts_of (Some task) c body s h.in_step.stands)
       h.sound.others.loop.timeouts id
 
-  pub steps_none_some : (body : Body X) (id : ℕ) → SomeGoes a body → StepsNone body.parts.queue (handler_at id body.timeouts)
+  pub steps_none_some : (body : Body X) (id : ℕ) → Possible a SomeGoes body → StepsNone body.parts.queue (handler_at id body.timeouts)
   steps_none_some body id m =
-      ∥∥₁_elim m (steps_prop body.parts.queue (handler_at id body.timeouts)) (λ w. steps_none_in w.0 w.1.0 body w.1.1.0 id w.1.1.1)
+      ∥∥₁_elim m (steps_prop body.parts.queue (handler_at id body.timeouts)) (λ w. steps_none_in w.1.1.0 w.0 body w.1.0 id w.1.1.1)
 
   pub exit_there : (task : ℕ) (timeout : Value) (raised : Option Exc) (id : ℕ) (body : Body X) → as_timeout timeout ≡ Some id
-      → MayAsk a task (request.TimeoutExit timeout raised) body → id < length body.timeouts
+      → Possible a (IsAskingFor task (request.TimeoutExit timeout raised)) body → id < length body.timeouts
   exit_there task timeout raised id body e m = ∥∥₁_elim m le_prop (λ w. there w.0 w.1.0 w.1.1)
     where
       there : (c : Setting a) (s : State a.Kept) → IsAskingFor task (request.TimeoutExit timeout raised) c body s → id < length body.timeouts
@@ -158,7 +158,7 @@ module _ {X : Type 0} {a : Added X} where
           let count = count_is (Some task) c body s h.going.in_step.stands in
           omega (arith, inside, count)
 
-  pub fired_there : (id : ℕ) (body : Body X) → MayTake a (Fires id) body → id < length body.timeouts
+  pub fired_there : (id : ℕ) (body : Body X) → Possible a (IsTaken (Fires id)) body → id < length body.timeouts
   fired_there id body m = ∥∥₁_elim m le_prop (λ w. there w.0 w.1.0 w.1.1)
     where
       there : (c : Setting a) (s : State a.Kept) → IsTaken (Fires id) c body s → id < length body.timeouts

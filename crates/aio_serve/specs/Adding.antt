@@ -27,9 +27,9 @@ pub record IsAnswering {X : Type 0} {a : Added X} (task : ℕ) (asked : Asked) (
   pub answers : called.AnswersAs a in_step.stands.ties s asked it
   pub allowed : IsAnswerAllowed it s
 
-abbrev pub MayAnswer : {X : Type 0} → Added X → ℕ → Asked → Body X → Type 0
-MayAnswer a task asked body =
-    ∥ ((c : Setting a) × ((s : State a.Kept) × ((it : ExtraAnswer) × IsAnswering task asked it c body s))) ∥₁
+-- whatever the machine's answer is
+abbrev pub HasAnswer : {X : Type 0} {a : Added X} → ℕ → Asked → Setting a → Body X → State a.Kept → Type 0
+HasAnswer task asked c body s = (it : ExtraAnswer) × IsAnswering task asked it c body s
 
 -- another answer, from which the machine's reply is the same
 pub record AnswersAgain {X : Type 0} {a : Added X} (task : ℕ) (asked : Asked) (c : Setting a) (body : Body X)

@@ -5,9 +5,9 @@ ghost use Rattle.model_machine.specs.Extra.{ExtraAnswer};
 ghost use Rattle.model_machine.specs.Replies.{decides};
 ghost use Rattle.model_machine.specs.State.{State, Serving};
 ghost use Rattle.aio_extra.specs.declared.asked.Asked.TheVariants.{Wait};
-ghost use Rattle.aio_body.specs.Asked.{IsDeciding, MayAsk, MayDecide, Says, Serves};
-ghost use Rattle.aio_body.specs.Stands.{Setting};
-ghost use Rattle.aio_serve.specs.Adding.{AnswersAs, IsAnswering, MayAnswer, answered};
+ghost use Rattle.aio_body.specs.Asked.{IsDeciding, Says, Serves, IsAskingFor};
+ghost use Rattle.aio_body.specs.Stands.{Setting, Possible};
+ghost use Rattle.aio_serve.specs.Adding.{AnswersAs, IsAnswering, answered, HasAnswer};
 
 use aio_base::{Input, Memory, Value};
 use aio_body::{Body, RequestReply, Standing, as_int, bad_argument, input_of, is_list};
@@ -31,7 +31,7 @@ pub fn extra<X: Extra>(
     code: &Value,
     arguments: &Value,
 ) -> Result<RequestReply, Memory>
-    requires { MayAsk X.added task (request.Extra code.now arguments.now) body.old }
+    requires { Possible X.added (IsAskingFor task (request.Extra code.now arguments.now)) body.old }
     ensures { Serves X.added task (request.Extra code.now arguments.now) body.old body.new result }
 {
     let Some(code) = as_int(code) else {
@@ -54,7 +54,7 @@ pub fn wake<X: Extra>(
     key: u64,
     input: Input,
 ) -> Result<RequestReply, Memory>
-    requires { MayDecide X.added task (Serving key) body.old }
+    requires { Possible X.added (IsDeciding task (Serving key)) body.old }
     ensures { IfOk result (λ said. (c : Setting X.added) (s : State X.added.Kept)
         → IsDeciding task (Serving key) c body.old s
         → Says task c body.new said (decides X.added.meaning (Serving key) task input s)) }
@@ -70,7 +70,7 @@ fn answer<X: Extra>(
     task: u32,
     asked: Asked,
 ) -> Result<RequestReply, Memory>
-    requires { MayAnswer X.added task asked body.old }
+    requires { Possible X.added (HasAnswer task asked) body.old }
     ensures { IfOk result (λ said. (c : Setting X.added) (s : State X.added.Kept) (it : ExtraAnswer)
         → IsAnswering task asked it c body.old s
         → Says task c body.new said (answered X.added.meaning task it s)) }
@@ -91,7 +91,7 @@ fn answer_one<X: Extra>(
     task: u32,
     asked: Asked,
 ) -> Result<Answered, Memory>
-    requires { MayAnswer X.added task asked body.old }
+    requires { Possible X.added (HasAnswer task asked) body.old }
     ensures { IfOk result (λ told. (c : Setting X.added) (s : State X.added.Kept) (it : ExtraAnswer)
         → IsAnswering task asked it c body.old s
         → AnswersAs task c body.new told (answered X.added.meaning task it s)) }
@@ -110,7 +110,7 @@ fn wait<X: Extra>(
     on: FutureId,
     key: u64,
 ) -> Result<Answered, Memory>
-    requires { MayAnswer X.added task (Wait on key) body.old }
+    requires { Possible X.added (HasAnswer task (Wait on key)) body.old }
     ensures { IfOk result (λ told. (c : Setting X.added) (s : State X.added.Kept) (it : ExtraAnswer)
         → IsAnswering task (Wait on key) it c body.old s
         → AnswersAs task c body.new told (answered X.added.meaning task it s)) }

@@ -6,6 +6,7 @@ ghost use Rattle.model_machine.specs.Arguments.{as_future};
 ghost use Rattle.model_machine.specs.Replies.{given, settles, is_cancelled_as};
 ghost use Rattle.std.specs.Option.{option_copied};
 ghost use Rattle.aio_body.specs.Asked.{SomeGoes, Replies, Serves};
+ghost use Rattle.aio_body.specs.Stands.{Possible};
 
 use aio_base::{Exc, Kind, Memory, Outcome, Value};
 use aio_body::{
@@ -16,7 +17,7 @@ use std::alloc::Global;
 
 /// `future()`.
 pub fn make_future<X: Extra>(body: &mut Body<X>, alloc: Global) -> Result<RequestReply, Memory>
-    requires { SomeGoes X.added body.old }
+    requires { Possible X.added SomeGoes body.old }
     ensures { (task : ℕ) → Serves X.added task request.MakeFuture body.old body.new result }
 {
     let made = body.futures.len();
@@ -35,7 +36,7 @@ pub fn set<X: Extra>(
     future: &Value,
     value: Value,
 ) -> Result<RequestReply, Memory>
-    requires { SomeGoes X.added body.old }
+    requires { Possible X.added SomeGoes body.old }
     ensures { (task : ℕ)
         → Serves X.added task (request.Set future.now value) body.old body.new result }
 {
@@ -50,7 +51,7 @@ pub fn fail<X: Extra>(
     future: &Value,
     fault: &Value,
 ) -> Result<RequestReply, Memory>
-    requires { SomeGoes X.added body.old }
+    requires { Possible X.added SomeGoes body.old }
     ensures { (task : ℕ)
         → Serves X.added task (request.Fail future.now fault.now) body.old body.new result }
 {
@@ -71,7 +72,7 @@ fn settle<X: Extra>(
     future: &Value,
     outcome: Option<Outcome>,
 ) -> Result<RequestReply, Memory>
-    requires { SomeGoes X.added body.old }
+    requires { Possible X.added SomeGoes body.old }
     ensures { (task : ℕ) → Replies X.added task
         (λ s. given (as_future s future.now)
         (λ on. given outcome (settles on)) s) body.old body.new result }

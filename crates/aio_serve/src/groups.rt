@@ -7,9 +7,9 @@ ghost use Rattle.model_loop.specs.Groups.{child_done};
 ghost use Rattle.model_machine.specs.Replies.{decides};
 ghost use Rattle.model_machine.specs.State.{State, Leaving, in_loop};
 ghost use Rattle.aio_group.specs.declared.exit.GroupExit.TheVariants.{Waits};
-ghost use Rattle.aio_body.specs.Asked.{MayAsk, MayDecide, MayGo, SomeGoes, Serves, IsDeciding, Says};
-ghost use Rattle.aio_body.specs.Stands.{Setting};
-ghost use Rattle.aio_body.specs.Taken.{IsTaken, IsAfterCallback, MayTake};
+ghost use Rattle.aio_body.specs.Asked.{SomeGoes, Serves, IsDeciding, Says, IsAskingFor, IsGoing};
+ghost use Rattle.aio_body.specs.Stands.{Setting, Possible};
+ghost use Rattle.aio_body.specs.Taken.{IsTaken, IsAfterCallback};
 ghost use Rattle.aio_serve.specs.GoneOn.{GoneOn};
 
 use aio_base::{Exc, Input, Memory, Value, ValueList};
@@ -24,7 +24,7 @@ pub fn enter_group<X: Extra>(
     alloc: Global,
     task: u32,
 ) -> Result<RequestReply, Memory>
-    requires { MayGo X.added task body.old }
+    requires { Possible X.added (IsGoing task) body.old }
     ensures { Serves X.added task request.GroupEnter body.old body.new result }
 {
     if body.groups.len() >= MOST_IDS {
@@ -43,7 +43,7 @@ pub fn exit_group<X: Extra>(
     group: &Value,
     fault: Option<Exc>,
 ) -> Result<RequestReply, Memory>
-    requires { MayAsk X.added task (request.GroupExit group.now fault) body.old }
+    requires { Possible X.added (IsAskingFor task (request.GroupExit group.now fault)) body.old }
     ensures { Serves X.added task (request.GroupExit group.now fault) body.old body.new result }
 {
     let Some(id) = as_group(group) else {
@@ -81,7 +81,7 @@ pub fn create<X: Extra>(
     coroutine: u32,
     arguments: &ValueList,
 ) -> Result<RequestReply, Memory>
-    requires { SomeGoes X.added body.old }
+    requires { Possible X.added SomeGoes body.old }
     ensures { (task : ℕ)
         → Serves X.added task
         (request.Create group.now coroutine arguments.now) body.old body.new result }
@@ -109,7 +109,7 @@ pub fn leave_group<X: Extra>(
     group: u32,
     input: Input,
 ) -> Result<RequestReply, Memory>
-    requires { MayDecide X.added task (Leaving group) body.old }
+    requires { Possible X.added (IsDeciding task (Leaving group)) body.old }
     ensures { IfOk result
         (λ said. (c : Setting X.added) (s : State X.added.Kept)
         → IsDeciding task (Leaving group) c body.old s
@@ -123,7 +123,7 @@ pub fn leave_group<X: Extra>(
 
 /// A task of a group is done.
 pub fn child_done<X: Extra>(body: &mut Body<X>, group: u32, task: u32)
-    requires { MayTake X.added (GroupDone group task) body.old }
+    requires { Possible X.added (IsTaken (GroupDone group task)) body.old }
     ensures { (c : Setting X.added) (s : State X.added.Kept)
         → IsTaken (GroupDone group task) c body.old s
         → IsAfterCallback c body.new (in_loop (child_done group task) s) }

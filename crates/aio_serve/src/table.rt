@@ -1,5 +1,6 @@
 //! The table of requests.
-ghost use Rattle.aio_body.specs.Asked.{MayAsk, Serves};
+ghost use Rattle.aio_body.specs.Asked.{Serves, IsAskingFor};
+ghost use Rattle.aio_body.specs.Stands.{Possible};
 
 use crate::{added, futures, groups, streams, tasks, time, timeouts, waiting};
 use aio_base::{Memory, Request, Value};
@@ -14,7 +15,7 @@ pub fn reply<X: Extra>(
     task: u32,
     request: Request,
 ) -> Result<RequestReply, Memory>
-    requires { MayAsk X.added task request body.old }
+    requires { Possible X.added (IsAskingFor task request) body.old }
     ensures { Serves X.added task request body.old body.new result }
 {
     match request {

@@ -5,6 +5,7 @@ ghost use Rattle.model_value.specs.Value.{Int};
 ghost use Rattle.model_value.specs.declared.request.Request.TheVariants as request;
 ghost use Rattle.aio_body.specs.declared.reply.RequestReply.TheVariants.{Answers};
 ghost use Rattle.aio_body.specs.Asked.{SomeGoes, Serves};
+ghost use Rattle.aio_body.specs.Stands.{Possible};
 
 use aio_base::{Memory, Value, ValueList};
 use aio_body::{Body, MOST_IDS, RequestReply, as_task, bad_argument, out_of_range};
@@ -17,7 +18,7 @@ pub fn cancel<X: Extra>(
     alloc: Global,
     x: &Value,
 ) -> Result<RequestReply, Memory>
-    requires { SomeGoes X.added body.old }
+    requires { Possible X.added SomeGoes body.old }
     ensures { (task : ℕ) → Serves X.added task (request.Cancel x.now) body.old body.new result }
 {
     match body.as_awaited(x) {
@@ -32,7 +33,7 @@ pub fn cancelling<X: Extra>(
     alloc: Global,
     x: &Value,
 ) -> Result<RequestReply, Memory>
-    requires { SomeGoes X.added body.now }
+    requires { Possible X.added SomeGoes body.now }
     ensures { (task : ℕ) → Serves X.added task (request.Cancelling x.now) body.now body.now result }
 {
     match as_task(x) {
@@ -47,7 +48,7 @@ pub fn uncancel<X: Extra>(
     alloc: Global,
     x: &Value,
 ) -> Result<RequestReply, Memory>
-    requires { SomeGoes X.added body.old }
+    requires { Possible X.added SomeGoes body.old }
     ensures { (task : ℕ) → Serves X.added task (request.Uncancel x.now) body.old body.new result }
 {
     match as_task(x) {
@@ -63,7 +64,7 @@ pub fn spawn<X: Extra>(
     coroutine: u32,
     arguments: &ValueList,
 ) -> Result<RequestReply, Memory>
-    requires { SomeGoes X.added body.old }
+    requires { Possible X.added SomeGoes body.old }
     ensures { (task : ℕ)
         → Serves X.added task (request.Spawn coroutine arguments.now) body.old body.new result }
 {

@@ -3,6 +3,7 @@ ghost use Rattle.std.specs.Prelude.{◌≡◌, ℕ, ◌++◌, Ok, IfOk, OnOk};
 ghost use Rattle.model_value.specs.declared.request.Request.TheVariants as request;
 ghost use Rattle.model_machine.specs.Replies.{shown_after, shown_all as shown_of};
 ghost use Rattle.aio_body.specs.Asked.{SomeGoes, Serves};
+ghost use Rattle.aio_body.specs.Stands.{Possible};
 
 use crate::tasks::number;
 use aio_base::{Blob, Memory, Value, ValueList, show};
@@ -13,7 +14,7 @@ use std::alloc::Global;
 
 /// `time()`, in milliseconds from the run's beginning.
 pub fn time_now<X: Extra>(body: &Body<X>) -> RequestReply
-    requires { SomeGoes X.added body.now }
+    requires { Possible X.added SomeGoes body.now }
     ensures { (task : ℕ) → Serves X.added task request.Time body.now body.now (Ok result) }
 {
     number(body.parts.now())

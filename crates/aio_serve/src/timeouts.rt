@@ -9,9 +9,9 @@ ghost use Rattle.aio_task.specs.Keeps.{Ties};
 ghost use Rattle.aio_timeout.specs.Kept.{AreTimeouts};
 ghost use Rattle.aio_timeout.specs.States.{state_of};
 ghost use Rattle.aio_body.specs.declared.reply.RequestReply.TheVariants.{Raises};
-ghost use Rattle.aio_body.specs.Asked.{MayAsk, MayGo, SomeGoes, Serves};
-ghost use Rattle.aio_body.specs.Stands.{Setting};
-ghost use Rattle.aio_body.specs.Taken.{IsTaken, IsAfterCallback, MayTake};
+ghost use Rattle.aio_body.specs.Asked.{SomeGoes, Serves, IsAskingFor, IsGoing};
+ghost use Rattle.aio_body.specs.Stands.{Setting, Possible};
+ghost use Rattle.aio_body.specs.Taken.{IsTaken, IsAfterCallback};
 ghost use Rattle.aio_serve.specs.Left.{left_as};
 
 use aio_base::{Exc, Memory, Value};
@@ -27,7 +27,7 @@ pub fn enter_timeout<X: Extra>(
     task: u32,
     delay: &Value,
 ) -> Result<RequestReply, Memory>
-    requires { MayGo X.added task body.old }
+    requires { Possible X.added (IsGoing task) body.old }
     ensures { Serves X.added task (request.TimeoutEnter delay.now) body.old body.new result }
 {
     let Some(delay) = as_delay(delay) else {
@@ -50,7 +50,8 @@ pub fn exit_timeout<X: Extra>(
     timeout: &Value,
     fault: Option<Exc>,
 ) -> Result<RequestReply, Memory>
-    requires { MayAsk X.added task (request.TimeoutExit timeout.now fault) body.old }
+    requires { Possible X.added
+        (IsAskingFor task (request.TimeoutExit timeout.now fault)) body.old }
     ensures { Serves X.added task (request.TimeoutExit timeout.now fault) body.old body.new result }
 {
     let Some(id) = as_timeout(timeout) else {
@@ -77,7 +78,7 @@ pub fn reschedule<X: Extra>(
     timeout: &Value,
     when: &Value,
 ) -> Result<RequestReply, Memory>
-    requires { SomeGoes X.added body.old }
+    requires { Possible X.added SomeGoes body.old }
     ensures { (task : ℕ)
         → Serves X.added task (request.Reschedule timeout.now when.now) body.old body.new result }
 {
@@ -132,7 +133,7 @@ fn has_expired<X: Extra>(body: &Body<X>, id: u32) -> bool
 
 /// The time of a timeout is over.
 pub fn fire<X: Extra>(body: &mut Body<X>, timeout: u32)
-    requires { MayTake X.added (Fires timeout) body.old }
+    requires { Possible X.added (IsTaken (Fires timeout)) body.old }
     ensures { (c : Setting X.added) (s : State X.added.Kept) → IsTaken (Fires timeout) c body.old s
         → IsAfterCallback c body.new (in_loop (fire timeout) s) }
 {

@@ -2,8 +2,9 @@
 ghost use Rattle.std.specs.Prelude.{pos, Ok, IfOk};
 ghost use Rattle.model_value.specs.declared.request.Request.TheVariants as request;
 ghost use Rattle.model_machine.specs.Replies.{pauses, sleeps_for};
-ghost use Rattle.aio_body.specs.Asked.{MayGo, MayAsk, Replies, Serves};
+ghost use Rattle.aio_body.specs.Asked.{Replies, Serves, IsAskingFor, IsGoing};
 ghost use Rattle.aio_serve.specs.Alarm.{IsAlarmed};
+ghost use Rattle.aio_body.specs.Stands.{Possible};
 
 use aio_base::{Action, Memory, Value};
 use aio_body::{Body, RequestReply, Standing, as_int, bad_argument, replied};
@@ -16,7 +17,7 @@ const MOST: u64 = 0x7FFF_FFFF_FFFF_FFFF;
 
 /// A bare `yield`.
 pub fn pause<X: Extra>(body: &mut Body<X>, task: u32) -> RequestReply
-    requires { MayGo X.added task body.old }
+    requires { Possible X.added (IsGoing task) body.old }
     ensures { Replies X.added task (pauses task) body.old body.new (Ok result) }
 {
     body.parts.pause(task);
@@ -30,7 +31,7 @@ pub fn await_value<X: Extra>(
     task: u32,
     x: &Value,
 ) -> Result<RequestReply, Memory>
-    requires { MayAsk X.added task (request.Await x.now) body.old }
+    requires { Possible X.added (IsAskingFor task (request.Await x.now)) body.old }
     ensures { Serves X.added task (request.Await x.now) body.old body.new result }
 {
     let Some(on) = body.as_awaited(x) else {
@@ -50,7 +51,7 @@ pub fn sleep<X: Extra>(
     task: u32,
     delay: &Value,
 ) -> Result<RequestReply, Memory>
-    requires { MayGo X.added task body.old }
+    requires { Possible X.added (IsGoing task) body.old }
     ensures { Serves X.added task (request.Sleep delay.now) body.old body.new result }
 {
     match as_int(delay) {
@@ -66,7 +67,7 @@ fn sleep_for<X: Extra>(
     task: u32,
     delay: u64,
 ) -> Result<RequestReply, Memory>
-    requires { MayGo X.added task body.old }
+    requires { Possible X.added (IsGoing task) body.old }
     ensures { Replies X.added task (sleeps_for task (pos delay)) body.old body.new result }
 {
     let (timer, future) = alarm(body, alloc, task, delay)?;
@@ -82,7 +83,7 @@ fn alarm<X: Extra>(
     task: u32,
     delay: u64,
 ) -> Result<(TimerId, FutureId), Memory>
-    requires { MayGo X.added task body.old }
+    requires { Possible X.added (IsGoing task) body.old }
     ensures { IfOk result (λ made. IsAlarmed task delay made.0 made.1 body.old body.new) }
 {
     let future = body.parts.new_plain(alloc)?;

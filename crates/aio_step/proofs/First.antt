@@ -103,7 +103,7 @@ module _ {X : Type 0} {a : Added X} where
   -- the coroutine is resumed
   pub record Resumes (task : ℕ) (next : Input) (c : Setting a) (body : Body X) (coroutine : Gen) (it : machine.RequestReply a.Kept) : Type 0 where
     pub now : State a.Kept
-    pub serving : IsServing task true next c body coroutine now
+    pub serving : IsServing task true next coroutine c body now
     pub goes : (go_on : State a.Kept → Went a.Kept) → taken_as it true task go_on ≡ go_on (resumed true task next now)
 
   -- or waits on

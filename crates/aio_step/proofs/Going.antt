@@ -14,10 +14,10 @@ use Rattle.aio_extra.specs.Added.{Added}
 use Rattle.aio_body.specs.declared.body.Body.{Body}
 use Rattle.aio_body.specs.Asked.{HasRested}
 use Rattle.aio_body.specs.Slots.{put_back}
-use Rattle.aio_body.specs.Stands.{Setting, IsBetween, holding}
+use Rattle.aio_body.specs.Stands.{Setting, IsBetween, holding, Possible}
 use Rattle.law_body.proofs.Slotting.{set_length, stands_back}
 use Rattle.aio_step.specs.declared.steps.Stepped.TheVariants as went
-use Rattle.aio_step.specs.Stepping.{IsServing, MayServe, Steps}
+use Rattle.aio_step.specs.Stepping.{IsServing, Steps}
 use Rattle.aio_step.proofs.Resuming.{its_inside}
 use Rattle.aio_step.proofs.Serving.{EndsAt, GoesOnWith, LeadsTo, RestsAt, RunsAway, leads_end, leads_on, leads_same}
 
@@ -36,20 +36,20 @@ module _ {X : Type 0} {a : Added X} where
   -- After some answers the step of the task, which began with `s`, goes on with this input.
   pub record IsOn (task : ℕ) (first : Input) (s : State a.Kept) (fresh : Bool) (input : Input) (c : Setting a) (body : Body X) (coroutine : Gen) : Type 0 where
     pub now : State a.Kept
-    pub serving : IsServing task fresh input c body coroutine now
+    pub serving : IsServing task fresh input coroutine c body now
     pub leads : LeadsTo a.meaning task (resumed true task first s) (resumed fresh task input now)
 
 -- the same, with whatever state it began
 abbrev pub AreOn : {X : Type 0} → (a : Added X) → (task : ℕ) (first : Input) (old : Body X) (start : Gen) (fresh : Bool) (input : Input) (body : Body X)
     (coroutine : Gen) → Type 0
 AreOn a task first old start fresh input body coroutine =
-    (c : Setting a) (s : State a.Kept) → IsServing task true first c old start s → IsOn task first s fresh input c body coroutine
+    (c : Setting a) (s : State a.Kept) → IsServing task true first start c old s → IsOn task first s fresh input c body coroutine
 
 -- This comes of it as the coroutine is resumed, whatever the state.
 abbrev pub OnceResumed : {X : Type 0} → (a : Added X) → (task : ℕ) (fresh : Bool) (input : Input) (body : Body X) (coroutine : Gen)
     → (Setting a → State a.Kept → Type 0) → Type 0
-OnceResumed a task fresh input body coroutine Comes =
-    (c : Setting a) (s : State a.Kept) → IsServing task fresh input c body coroutine s → Comes c (resumed fresh task input s)
+OnceResumed a task fresh input body coroutine comes =
+    (c : Setting a) (s : State a.Kept) → IsServing task fresh input coroutine c body s → comes c (resumed fresh task input s)
 
 module _ {X : Type 0} {a : Added X} where
   pub on_first : (task : ℕ) (first : Input) (old : Body X) (start : Gen) → AreOn a task first old start true first old start
@@ -57,10 +57,10 @@ module _ {X : Type 0} {a : Added X} where
 
 module _ {X : Type 0} {a : Added X} (task : ℕ) (first : Input) (old : Body X) (start : Gen) (fresh : Bool) (input : Input) (body : Body X) (coroutine : Gen)
     (on : AreOn a task first old start fresh input body coroutine) where
-  pub on_serve : MayServe a task true first old start → MayServe a task fresh input body coroutine
+  pub on_serve : Possible a (IsServing task true first start) old → Possible a (IsServing task fresh input coroutine) body
   on_serve may = ∥∥₁_map may (λ w. let o = on w.0 w.1.0 w.1.1 in (w.0, (o.now, o.serving)))
 
-  inside : (c : Setting a) (s : State a.Kept) → IsServing task true first c old start s → task < length (resumed true task first s).generators
+  inside : (c : Setting a) (s : State a.Kept) → IsServing task true first start c old s → task < length (resumed true task first s).generators
   inside c s h = subst (λ n. task < n) (sym (set_length task _ s)) (its_inside task true first c old start s h)
 
   module _ (new : Body X) (after : Gen) where
@@ -76,7 +76,7 @@ module _ {X : Type 0} {a : Added X} (task : ℕ) (first : Input) (old : Body X) 
         }
 
     module _ (told : OnceResumed a task fresh input body coroutine (λ c s. RestsAt task c new after s)) where
-      pub rests_there : MayServe a task true first old start → task < length new.slots.items
+      pub rests_there : Possible a (IsServing task true first start) old → task < length new.slots.items
       rests_there may =
           ∥∥₁_elim may le_prop (λ w.
           let o = on w.0 w.1.0 w.1.1 in
@@ -84,7 +84,7 @@ module _ {X : Type 0} {a : Added X} (task : ℕ) (first : Input) (old : Body X) 
           subst (λ n. task < n) (r.rested.stands.told ∙ sym r.rested.stands.made) r.made)
 
       pub rests_on : (last : Body X) → last ≡ record new { slots = last.slots } → last.slots.items ≡ put_back task after new.slots.items
-          → (c : Setting a) (s : State a.Kept) → IsServing task true first c old start s
+          → (c : Setting a) (s : State a.Kept) → IsServing task true first start c old s
           → Steps c last went.Goes (serve_all step_limit a.meaning task (resumed true task first s))
       rests_on last beside items c s h =
           let o = on c s h in
@@ -96,7 +96,7 @@ module _ {X : Type 0} {a : Added X} (task : ℕ) (first : Input) (old : Body X) 
 
   module _ (new : Body X) where
     pub ends_on : OnceResumed a task fresh input body coroutine (λ c s. EndsAt task c new s)
-        → (c : Setting a) (s : State a.Kept) → IsServing task true first c old start s
+        → (c : Setting a) (s : State a.Kept) → IsServing task true first start c old s
         → Steps c new went.Goes (serve_all step_limit a.meaning task (resumed true task first s))
     ends_on told c s h =
         let o = on c s h in
@@ -106,7 +106,7 @@ module _ {X : Type 0} {a : Added X} (task : ℕ) (first : Input) (old : Body X) 
         (Goes r.now) o.leads r.goes h.sound.others.closed (inside c s h))) r.between
 
     pub runs_on : OnceResumed a task fresh input body coroutine (λ c s. RunsAway task c new s)
-        → (c : Setting a) (s : State a.Kept) → IsServing task true first c old start s
+        → (c : Setting a) (s : State a.Kept) → IsServing task true first start c old s
         → Steps c new (went.Runaway task) (serve_all step_limit a.meaning task (resumed true task first s))
     runs_on told c s h =
         let o = on c s h in

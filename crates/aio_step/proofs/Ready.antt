@@ -18,17 +18,17 @@ use Rattle.aio_body.specs.declared.body.Body.{Body}
 use Rattle.aio_body.specs.declared.standing.Slot.{Slot}
 use Rattle.aio_body.specs.declared.standing.Standing.{Standing}
 use Rattle.aio_body.specs.declared.standing.Standing.TheVariants.{Asked, Sleeping, Leaving, Serving}
-use Rattle.aio_body.specs.Asked.{IsDeciding, MayDecide}
+use Rattle.aio_body.specs.Asked.{IsDeciding}
 use Rattle.aio_body.specs.GivingUp.{IsNoTasks}
-use Rattle.aio_body.specs.Stands.{Setting, StandsAt, WaitsAs, holding}
+use Rattle.aio_body.specs.Stands.{Setting, StandsAt, WaitsAs, holding, Possible}
 use Rattle.law_body.proofs.May.{same_prop}
 use Rattle.aio_step.specs.declared.steps.Started.{Started}
-use Rattle.aio_step.specs.Stepping.{HasBegun, IsCalled, MayBegin, MayDecideAs, begun_in}
+use Rattle.aio_step.specs.Stepping.{HasBegun, IsCalled, begun_in, IsDecidingAs}
 use Rattle.aio_step.proofs.Called.{called_own, called_slot, own_slot}
 use Rattle.aio_step.proofs.First.{leaving_is, serving_is}
 
 -- ---- a step begins
-module _ {X : Type 0} {a : Added X} (task : ℕ) (body : Body X) (may : MayBegin a task body) where
+module _ {X : Type 0} {a : Added X} (task : ℕ) (body : Body X) (may : Possible a (IsCalled task) body) where
   pub begin_called : body.parts.called ≡ Some task
   begin_called = ∥∥₁_elim may (same_prop body.parts.called (Some task)) (λ w. w.1.1.called)
 
@@ -83,16 +83,18 @@ module _ {X : Type 0} {a : Added X} (task : ℕ) (body : Body X) (may : MayBegin
 
 module _ {X : Type 0} {a : Added X} where
   -- ---- what its input means
-  pub decide_of : (task : ℕ) (input : Input) (old new : Body X) (started : Started) → MayBegin a task old
-      → ((c : Setting a) (s : State a.Kept) → IsCalled task c old s → HasBegun task input c s started new) → MayDecideAs a task started.standing new
+  pub decide_of : (task : ℕ) (input : Input) (old new : Body X) (started : Started) → Possible a (IsCalled task) old
+      → ((c : Setting a) (s : State a.Kept) → IsCalled task c old s → HasBegun task input c s started new)
+      → Possible a (IsDecidingAs task started.standing) new
   decide_of task input old new started may begun =
       ∥∥₁_map may (λ w. let b = begun w.0 w.1.0 w.1.1 in
-      ((generator_of task w.1.0).standing, (b.decides, (holding started.coroutine w.0, (begun_in task input w.1.0, b.deciding)))))
+      (holding started.coroutine w.0, (begun_in task input w.1.0, ((generator_of task w.1.0).standing, (b.decides, b.deciding)))))
 
-  pub leave_of : (task group : ℕ) (body : Body X) → MayDecideAs a task (Leaving group) body → MayDecide a task (plain.Leaving group) body
+  pub leave_of : (task group : ℕ) (body : Body X) → Possible a (IsDecidingAs task (Leaving group)) body
+      → Possible a (IsDeciding task (plain.Leaving group)) body
   leave_of task group body may =
-      ∥∥₁_map may (λ w. (w.1.1.0, (w.1.1.1.0, subst (λ st. IsDeciding task st w.1.1.0 body w.1.1.1.0) (sym (leaving_is group w.0 w.1.0)) w.1.1.1.1)))
+      ∥∥₁_map may (λ w. (w.0, (w.1.0, subst (λ st. IsDeciding task st w.0 body w.1.0) (sym (leaving_is group w.1.1.0 w.1.1.1.0)) w.1.1.1.1)))
 
-  pub wake_of : (task key : ℕ) (body : Body X) → MayDecideAs a task (Serving key) body → MayDecide a task (plain.Serving key) body
+  pub wake_of : (task key : ℕ) (body : Body X) → Possible a (IsDecidingAs task (Serving key)) body → Possible a (IsDeciding task (plain.Serving key)) body
   wake_of task key body may =
-      ∥∥₁_map may (λ w. (w.1.1.0, (w.1.1.1.0, subst (λ st. IsDeciding task st w.1.1.0 body w.1.1.1.0) (sym (serving_is key w.0 w.1.0)) w.1.1.1.1)))
+      ∥∥₁_map may (λ w. (w.0, (w.1.0, subst (λ st. IsDeciding task st w.0 body w.1.0) (sym (serving_is key w.1.1.0 w.1.1.1.0)) w.1.1.1.1)))

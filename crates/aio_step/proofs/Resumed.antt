@@ -22,21 +22,21 @@ use Rattle.aio_task.specs.View.{View, parts}
 use Rattle.aio_extra.specs.Added.{Added}
 use Rattle.aio_body.specs.declared.body.Body.{Body}
 use Rattle.aio_body.specs.declared.reply.RequestReply.{RequestReply}
-use Rattle.aio_body.specs.Asked.{IsAskingFor, MayAsk, Says}
-use Rattle.aio_body.specs.Stands.{Setting, holding}
+use Rattle.aio_body.specs.Asked.{IsAskingFor, Says}
+use Rattle.aio_body.specs.Stands.{Setting, holding, Possible}
 use Rattle.law_body.proofs.May.{same_prop}
 use Rattle.law_body.proofs.Slotting.{set_length}
 use Rattle.law_body.proofs.Sound.{raised_sound, requests_sound, returned_sound}
-use Rattle.aio_step.specs.Stepping.{IsServing, MayServe}
+use Rattle.aio_step.specs.Stepping.{IsServing}
 use Rattle.aio_step.proofs.Resuming.{asks_out, ends_out, its_inside, runs_out, says_out}
 use Rattle.aio_step.proofs.Serving.{EndsAt, GoesOnBy, RunsAway, answered}
 use Rattle.law_body.proofs.Sound.{extra_sound}
 
 module _ {X : Type 0} {a : Added X} (task : ℕ) (fresh : Bool) (input : Input) (body : Body X) (before : Gen) where
-  pub serve_idle : MayServe a task fresh input body before → body.parts.called ≡ None
+  pub serve_idle : Possible a (IsServing task fresh input before) body → body.parts.called ≡ None
   serve_idle may = ∥∥₁_elim may (same_prop body.parts.called None) (λ w. w.1.1.in_step.called)
 
-  pub serve_runs : MayServe a task fresh input body before → body.parts.running ≡ Some task
+  pub serve_runs : Possible a (IsServing task fresh input before) body → body.parts.running ≡ Some task
   serve_runs may = ∥∥₁_elim may (same_prop body.parts.running (Some task)) (λ w. w.1.1.in_step.running)
 
   module _ (now : Gen) (out : GenOut)
@@ -46,7 +46,7 @@ module _ {X : Type 0} {a : Added X} (task : ℕ) (fresh : Bool) (input : Input) 
       (stands : (program : Program) (coroutine : ℕ) (arguments : List Value) (tape : Tape) → IsCodeOf program body.code
       → StandsFor program body.code coroutine arguments tape before → (request : Request) → out ≡ Asks request
       → StandsFor program body.code coroutine arguments (tape ++ record { input = input; fresh = fresh } ∷ []) now) where
-    module _ (c : Setting a) (s : State a.Kept) (h : IsServing task fresh input c body before s) where
+    module _ (c : Setting a) (s : State a.Kept) (h : IsServing task fresh input before c body s) where
       says_so : says_of step_limit a.meaning task (resumed fresh task input s) ≡ saying_of_out out
       says_so = says_out task fresh input c body before s h (saying_of_out out) said
 
@@ -95,5 +95,5 @@ module _ {X : Type 0} {a : Added X} (task : ℕ) (fresh : Bool) (input : Input) 
       pub runs_so : out ≡ Runaway → RunsAway task c body (resumed fresh task input s)
       runs_so e = runs_out task fresh input c body before s h (says_so ∙ ap saying_of_out e)
 
-    pub ask_of : MayServe a task fresh input body before → (request : Request) → out ≡ Asks request → MayAsk a task request body
+    pub ask_of : Possible a (IsServing task fresh input before) body → (request : Request) → out ≡ Asks request → Possible a (IsAskingFor task request) body
     ask_of may request e = ∥∥₁_map may (λ w. (holding now w.0, (resumed fresh task input w.1.0, asking w.0 w.1.0 w.1.1 request e)))

@@ -34,7 +34,7 @@ use Rattle.law_body.proofs.Rooms.{below_appended}
 use Rattle.law_body.proofs.Slotting.{set_same, stands_resumed, stands_over, stands_dead, stood}
 
 module _ {X : Type 0} {a : Added X} (task : ℕ) (fresh : Bool) (input : Input) (c : Setting a) (body : Body X) (before : Gen) (s : State a.Kept)
-    (h : IsServing task fresh input c body before s) where
+    (h : IsServing task fresh input before c body s) where
   its_lives : lives s.loop.parts task ≡ true
   its_lives = runs_living a.meaning task (resumed fresh task input s) h.sound
 

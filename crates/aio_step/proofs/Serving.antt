@@ -32,7 +32,7 @@ ServedAs {S} added task s machine =
 
 pub record GoesOnWith {X : Type 0} {a : Added X} (task : ℕ) (next : Input) (c : Setting a) (body : Body X) (coroutine : Gen) (s : State a.Kept) : Type 0 where
   pub now : State a.Kept
-  pub serving : IsServing task false next c body coroutine now
+  pub serving : IsServing task false next coroutine c body now
   pub goes : ServedAs a.meaning task s (λ go_on. go_on (resumed false task next now))
 
 pub record RestsAt {X : Type 0} {a : Added X} (task : ℕ) (c : Setting a) (body : Body X) (coroutine : Gen) (s : State a.Kept) : Type 0 where

@@ -10,11 +10,11 @@ use Rattle.aio_extra.specs.Added.{Added}
 use Rattle.aio_body.specs.declared.body.Body.{Body}
 use Rattle.aio_body.specs.declared.reply.RequestReply.TheVariants as said
 use Rattle.aio_body.specs.Slots.{put_back}
-use Rattle.aio_body.specs.Stands.{Setting, holding}
+use Rattle.aio_body.specs.Stands.{Setting, holding, Possible}
 use Rattle.aio_step.specs.declared.steps.Started.{Started}
 use Rattle.aio_step.specs.declared.steps.Stepped.{Stepped}
 use Rattle.aio_step.specs.declared.steps.Stepped.TheVariants as went
-use Rattle.aio_step.specs.Stepping.{HasBegun, HearsMade, IsCalled, IsServing, MayBegin, MayServe, Steps}
+use Rattle.aio_step.specs.Stepping.{HasBegun, HearsMade, IsCalled, IsServing, Steps}
 use Rattle.aio_step.proofs.First.{Decides, Resumes, WaitsOn, decided, made_first, rests_first}
 use Rattle.aio_step.proofs.Going.{back}
 
@@ -23,11 +23,11 @@ module _ {X : Type 0} {a : Added X} (task : ℕ) (input : Input) (old : Body X) 
   -- the coroutine is resumed
   module _ (next : Input)
       (first : (c : Setting a) (s : State a.Kept) → IsCalled task c old s → Resumes task next c new started.coroutine (decided a.meaning task input s)) where
-    pub serve_of : MayBegin a task old → MayServe a task true next new started.coroutine
+    pub serve_of : Possible a (IsCalled task) old → Possible a (IsServing task true next started.coroutine) new
     serve_of may = ∥∥₁_map may (λ w. let r = first w.0 w.1.0 w.1.1 in (w.0, (r.now, r.serving)))
 
     pub serves_on : (last : Body X) (it : Stepped)
-        → ((c : Setting a) (s : State a.Kept) → IsServing task true next c new started.coroutine s
+        → ((c : Setting a) (s : State a.Kept) → IsServing task true next started.coroutine c new s
         → Steps c last it (serve_all step_limit a.meaning task (resumed true task next s)))
         → (c : Setting a) (s : State a.Kept) → IsCalled task c old s → Steps c last it (step step_limit a.meaning task input s)
     unfolding step
@@ -40,7 +40,7 @@ module _ {X : Type 0} {a : Added X} (task : ℕ) (input : Input) (old : Body X) 
     waits : (c : Setting a) (s : State a.Kept) → IsCalled task c old s → WaitsOn task (holding started.coroutine c) new (decided a.meaning task input s)
     waits c s h = rests_first task input c old s h made started begun (b c s h) new d
 
-    pub waits_there : MayBegin a task old → task < length new.slots.items
+    pub waits_there : Possible a (IsCalled task) old → task < length new.slots.items
     waits_there may =
         ∥∥₁_elim may le_prop (λ w.
         made_first task input w.0 old w.1.0 w.1.1 made started begun (b w.0 w.1.0 w.1.1) new (waits w.0 w.1.0 w.1.1))

@@ -46,9 +46,6 @@ pub record IsCalled {X : Type 0} {a : Added X} (task : ℕ) (c : Setting a) (bod
   pub called : body.parts.called ≡ Some task
   pub running : body.parts.running ≡ None
 
-abbrev pub MayBegin : {X : Type 0} → Added X → ℕ → Body X → Type 0
-MayBegin a task body = ∥ ((c : Setting a) × ((s : State a.Kept) × IsCalled task c body s)) ∥₁
-
 -- the tasks that an input names were made
 abbrev pub HearsMade : {X : Type 0} → Input → Body X → Type 0
 HearsMade input body = sends_made (length body.slots.items) input ≡ true
@@ -68,9 +65,8 @@ DecidesAs (standing.Leaving group) (plain.Leaving id) = group ≡ id
 DecidesAs (standing.Serving key) (plain.Serving kept) = key ≡ kept
 DecidesAs _ _ = ⊥
 
-abbrev pub MayDecideAs : {X : Type 0} → Added X → ℕ → Standing → Body X → Type 0
-MayDecideAs a task code body =
-    ∥ ((stood : plain.Standing) × (DecidesAs code stood × ((c : Setting a) × ((s : State a.Kept) × IsDeciding task stood c body s)))) ∥₁
+abbrev pub IsDecidingAs : {X : Type 0} {a : Added X} → ℕ → Standing → Setting a → Body X → State a.Kept → Type 0
+IsDecidingAs task code c body s = (stood : plain.Standing) × (DecidesAs code stood × IsDeciding task stood c body s)
 
 pub record HasBegun {X : Type 0} {a : Added X} (task : ℕ) (input : Input) (c : Setting a) (s : State a.Kept) (started : Started)
     (body : Body X) : Type 0 where
@@ -80,11 +76,7 @@ pub record HasBegun {X : Type 0} {a : Added X} (task : ℕ) (input : Input) (c :
 
 -- ---- how it goes on
 -- the coroutine is to be resumed with this
-pub record IsServing {X : Type 0} {a : Added X} (task : ℕ) (fresh : Bool) (input : Input) (c : Setting a) (body : Body X)
-    (coroutine : Gen) (s : State a.Kept) : Type 0 where
+pub record IsServing {X : Type 0} {a : Added X} (task : ℕ) (fresh : Bool) (input : Input) (coroutine : Gen) (c : Setting a)
+    (body : Body X) (s : State a.Kept) : Type 0 where
   pub in_step : IsInStep task (holding coroutine c) body s
   pub sound : IsStepSound a.meaning task (resumed fresh task input s)
-
-abbrev pub MayServe : {X : Type 0} → Added X → ℕ → Bool → Input → Body X → Gen → Type 0
-MayServe a task fresh input body coroutine =
-    ∥ ((c : Setting a) × ((s : State a.Kept) × IsServing task fresh input c body coroutine s)) ∥₁

@@ -6,8 +6,8 @@ ghost use Rattle.model_machine.specs.State as plain;
 ghost use Rattle.model_machine.specs.State.{State, resumed};
 ghost use Rattle.model_machine.specs.Step.{step, serve_all};
 ghost use Rattle.aio_body.specs.Asked.{IsDeciding, Says};
-ghost use Rattle.aio_body.specs.Stands.{Setting};
-ghost use Rattle.aio_step.specs.Stepping.{Steps, IsCalled, MayBegin, HearsMade, DecidesAs, MayDecideAs, HasBegun, IsServing, MayServe};
+ghost use Rattle.aio_body.specs.Stands.{Setting, Possible};
+ghost use Rattle.aio_step.specs.Stepping.{Steps, IsCalled, HearsMade, DecidesAs, HasBegun, IsServing, IsDecidingAs};
 
 use aio_base::{Input, Memory};
 use aio_body::{Body, RequestReply, Slot, Standing, reply_of};
@@ -40,7 +40,7 @@ pub fn step<X: Extra>(
     ticket: Ticket,
     input: Input,
 ) -> Result<Stepped, Memory>
-    requires called { MayBegin X.added task body.old }
+    requires called { Possible X.added (IsCalled task) body.old }
     requires made { HearsMade input body.old }
     ensures { IfOk result
         (λ went. (c : Setting X.added) (s : State X.added.Kept) → IsCalled task c body.old s
@@ -63,7 +63,7 @@ pub fn step<X: Extra>(
 
 // The step begins, and what the task runs is taken out.
 fn begin<X: Extra>(body: &mut Body<X>, task: u32, ticket: Ticket, input: Input) -> Started
-    requires { MayBegin X.added task body.old }
+    requires { Possible X.added (IsCalled task) body.old }
     ensures { (c : Setting X.added) (s : State X.added.Kept) → IsCalled task c body.old s
         → HasBegun task input c s result body.new }
 {
@@ -91,7 +91,7 @@ fn decide<X: Extra>(
     standing: Standing,
     input: Input,
 ) -> Result<RequestReply, Memory>
-    requires { MayDecideAs X.added task standing body.old }
+    requires { Possible X.added (IsDecidingAs task standing) body.old }
     ensures { IfOk result
         (λ said. (c : Setting X.added) (s : State X.added.Kept) (stood : plain.Standing)
         → IsDeciding task stood c body.old s → DecidesAs standing stood
@@ -116,9 +116,9 @@ fn serve<X: Extra>(
     coroutine: Gen,
     input: Input,
 ) -> Result<Stepped, Memory>
-    requires { MayServe X.added task true input body.old coroutine }
+    requires { Possible X.added (IsServing task true input coroutine) body.old }
     ensures { IfOk result (λ went. (c : Setting X.added) (s : State X.added.Kept)
-        → IsServing task true input c body.old coroutine s
+        → IsServing task true input coroutine c body.old s
         → Steps c body.new went
         (serve_all step_limit X.added.meaning task (resumed true task input s))) }
 {

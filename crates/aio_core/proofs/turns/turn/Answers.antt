@@ -7,8 +7,8 @@ use Rattle.model_says.specs.Says.{step_limit}
 use Rattle.model_machine.specs.State.{State, unbooked_in}
 use Rattle.model_machine.specs.Turn.{is_stalled, turned_by, woken_by}
 use Rattle.aio_body.specs.declared.body.Body.{Body}
-use Rattle.aio_body.specs.Stands.{IsBetween, Setting}
-use Rattle.aio_core.specs.Turning.{AliveIfWent, AsksBy, ComesTo, IsAlive, IsAtRest, StallsAs, Turned, all_below, at_bar, changed_by, resting, said_by, stood_by}
+use Rattle.aio_body.specs.Stands.{IsBetween, Setting, Possible}
+use Rattle.aio_core.specs.Turning.{AliveIfWent, AsksBy, ComesTo, IsAtRest, StallsAs, Turned, all_below, at_bar, changed_by, resting, said_by, stood_by}
 use Rattle.aio_core.specs.declared.went.Went as code
 use Rattle.aio_core.specs.declared.went.Went.TheVariants as went
 use Rattle.aio_core.proofs.Asking.{HasGot, failing_answered, failing_stopped, got_alive, got_so, stalls_so, stalls_stopped}
@@ -100,7 +100,7 @@ got g c =
     got_so c.args.body.now c.first_call-call.result c.first_call-call.ensures.call (goes g c) (Ok c.in_ok-answer.answer) c.in_ok-answer.answer
     c.ask.new.body.events (g.W.Wire.seen c.args.wire.now) (g.W.Wire.seen c.ask.new.wire) refl c.in_ok-answer.ensures.asks
 
-alive : (g : _) (c : In_ok-answer g) → IsAlive g.X.Extra.added (record c.args.body.now { events = c.ask.new.body.events })
+alive : (g : _) (c : In_ok-answer g) → Possible g.X.Extra.added IsBetween (record c.args.body.now { events = c.ask.new.body.events })
 alive g c =
     got_alive c.args.body.now c.first_call-call.result c.first_call-call.ensures.call (goes g c) c.in_ok-answer.answer c.ask.new.body.events
     (got g c).is_noted c.requires
@@ -125,7 +125,7 @@ module _ (g : _) (c : In_ok-answer g) (new : Body _) (said : code.Went) (does : 
 
 pub after-requires-clause-alive : goal.after-requires-clause-alive
 after-requires-clause-alive g c =
-    subst (IsAlive g.X.Extra.added) (sym c.in_ok-answer.ensures.beside) (alive g (goal.at.after-requires-clause-alive g c).In_ok-answer)
+    subst (Possible g.X.Extra.added IsBetween) (sym c.in_ok-answer.ensures.beside) (alive g (goal.at.after-requires-clause-alive g c).In_ok-answer)
 
 pub after-requires-clause-time : goal.after-requires-clause-time
 after-requires-clause-time g c =

@@ -8,7 +8,6 @@ use Rattle.model_says.specs.Requests.{bad_argument}
 use Rattle.model_machine.specs.Sound.{IsClosed}
 use Rattle.model_machine.specs.State.{State}
 use Rattle.aio_body.specs.declared.reply.RequestReply.TheVariants.{Answers}
-use Rattle.aio_body.specs.Asked.{MayAsk}
 use Rattle.law_body.proofs.May.{going_of, some_of}
 use Rattle.aio_serve.proofs.Meaning.{current_means}
 use Rattle.aio_serve.proofs.Saying.{answers_so, raises_so}
@@ -16,6 +15,8 @@ use Rattle.aio_serve.proofs.NoStreams.{IsRefused, listen_none, connect_none, lau
 use Rattle.aio_serve.proofs.NoStreams.{drain_none, limits_none, read_none, read_exactly_none, read_until_none, read_line_none, standard_error_none, wait_none}
 use Rattle.aio_serve.proofs.NoStreams.{code_none, kill_none}
 use Rattle.aio_serve.proofs.table.reply.Goals as goal
+use Rattle.aio_body.specs.Asked.{IsAskingFor}
+use Rattle.aio_body.specs.Stands.{Possible}
 
 pub pause-requires : goal.pause-requires
 pause-requires g c = going_of c.args.task c.args.request c.args.body.now c.requires
@@ -25,7 +26,7 @@ unfolding reply
 returns-in-Pause g c = rw c.in-Pause.is (λ at s h. c.pause.ensures at s h.going)
 
 pub await_value-requires : goal.await_value-requires
-await_value-requires g c = subst (λ r. MayAsk g.X.Extra.added c.args.task r c.args.body.now) c.in-Await.is c.requires
+await_value-requires g c = subst (λ r. Possible g.X.Extra.added (IsAskingFor c.args.task r) c.args.body.now) c.in-Await.is c.requires
 
 pub returns-in-Await : goal.returns-in-Await
 returns-in-Await g c = rw c.in-Await.is c.await_value.ensures
@@ -103,7 +104,7 @@ pub returns-in-TimeoutEnter : goal.returns-in-TimeoutEnter
 returns-in-TimeoutEnter g c = rw c.in-TimeoutEnter.is c.enter_timeout.ensures
 
 pub exit_timeout-requires : goal.exit_timeout-requires
-exit_timeout-requires g c = subst (λ r. MayAsk g.X.Extra.added c.args.task r c.args.body.now) c.in-TimeoutExit.is c.requires
+exit_timeout-requires g c = subst (λ r. Possible g.X.Extra.added (IsAskingFor c.args.task r) c.args.body.now) c.in-TimeoutExit.is c.requires
 
 pub returns-in-TimeoutExit : goal.returns-in-TimeoutExit
 returns-in-TimeoutExit g c = rw c.in-TimeoutExit.is c.exit_timeout.ensures
@@ -124,7 +125,7 @@ pub returns-in-GroupEnter : goal.returns-in-GroupEnter
 returns-in-GroupEnter g c = rw c.in-GroupEnter.is c.enter_group.ensures
 
 pub exit_group-requires : goal.exit_group-requires
-exit_group-requires g c = subst (λ r. MayAsk g.X.Extra.added c.args.task r c.args.body.now) c.in-GroupExit.is c.requires
+exit_group-requires g c = subst (λ r. Possible g.X.Extra.added (IsAskingFor c.args.task r) c.args.body.now) c.in-GroupExit.is c.requires
 
 pub returns-in-GroupExit : goal.returns-in-GroupExit
 returns-in-GroupExit g c = rw c.in-GroupExit.is c.exit_group.ensures
@@ -136,7 +137,7 @@ pub returns-in-Create : goal.returns-in-Create
 returns-in-Create g c = rw c.in-Create.is (c.create.ensures c.args.task)
 
 pub extra-requires : goal.extra-requires
-extra-requires g c = subst (λ r. MayAsk g.X.Extra.added c.args.task r c.args.body.now) c.in-Extra.is c.requires
+extra-requires g c = subst (λ r. Possible g.X.Extra.added (IsAskingFor c.args.task r) c.args.body.now) c.in-Extra.is c.requires
 
 pub returns-in-Extra : goal.returns-in-Extra
 returns-in-Extra g c = rw c.in-Extra.is c.extra.ensures

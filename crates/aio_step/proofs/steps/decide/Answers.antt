@@ -2,14 +2,16 @@ use Rattle.std.proofs.Common.{sym, subst}
 use Rattle.std.proofs.lemmas.Result.{IfOk-weaker}
 use Rattle.model_machine.specs.Replies.{decides}
 use Rattle.aio_body.specs.Asked.{Says}
-use Rattle.aio_step.specs.Stepping.{DecidesAs, MayDecideAs}
+use Rattle.aio_step.specs.Stepping.{DecidesAs, IsDecidingAs}
 use Rattle.aio_step.proofs.First.{asked_decides, leaving_decides, serving_decides, sleeping_decides}
 use Rattle.aio_step.proofs.Ready.{leave_of, wake_of}
 use Rattle.aio_step.proofs.steps.decide.Goals as goal
+use Rattle.aio_body.specs.Stands.{Possible}
 
 pub leave_group-requires : goal.leave_group-requires
 leave_group-requires g c =
-    leave_of c.args.task c.in-Leaving.group c.args.body.now (subst (λ x. MayDecideAs g.X.Extra.added c.args.task x c.args.body.now) c.in-Leaving.is c.requires)
+    leave_of c.args.task c.in-Leaving.group c.args.body.now
+    (subst (λ x. Possible g.X.Extra.added (IsDecidingAs c.args.task x) c.args.body.now) c.in-Leaving.is c.requires)
 
 pub returns-in-Asked : goal.returns-in-Asked
 returns-in-Asked g c setting s stood h d =
@@ -31,7 +33,8 @@ returns-in-Leaving g c =
 
 pub wake-requires : goal.wake-requires
 wake-requires g c =
-    wake_of c.args.task c.in-Serving.key c.args.body.now (subst (λ x. MayDecideAs g.X.Extra.added c.args.task x c.args.body.now) c.in-Serving.is c.requires)
+    wake_of c.args.task c.in-Serving.key c.args.body.now
+    (subst (λ x. Possible g.X.Extra.added (IsDecidingAs c.args.task x) c.args.body.now) c.in-Serving.is c.requires)
 
 pub returns-in-Serving : goal.returns-in-Serving
 returns-in-Serving g c =

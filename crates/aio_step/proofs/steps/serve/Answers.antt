@@ -1,9 +1,10 @@
 use Rattle.std.proofs.Common.{◌≡◌, false, sym, subst}
 use Rattle.model_value.specs.declared.input.Input.TheVariants.{Send, Throw}
 use Rattle.model_machine.specs.State.{resumed}
+use Rattle.aio_body.specs.Stands.{Possible}
 use Rattle.aio_body.specs.declared.reply.RequestReply.{RequestReply}
 use Rattle.aio_body.specs.declared.reply.RequestReply.TheVariants.{Answers, Raises, Rests}
-use Rattle.aio_step.specs.Stepping.{MayServe}
+use Rattle.aio_step.specs.Stepping.{IsServing}
 use Rattle.aio_step.proofs.Serving.{GoesOnBy}
 use Rattle.aio_step.proofs.Going.{AreOn, OnceResumed, ends_on, on_first, on_next, on_serve, rests_on, rests_there, runs_on}
 use Rattle.aio_step.proofs.Resumed.{ask_of, asks_so, raises_so, returns_so, runs_so, serve_idle, serve_runs}
@@ -14,8 +15,8 @@ pub loop-answered-init : goal.loop-answered-init
 loop-answered-init g c = on_first c.args.task c.args.input c.args.body.now c.args.coroutine
 
 -- the coroutine may be resumed
-may : (g : _) (c : In_ok-out g) → MayServe g.X.Extra.added c.args.task c.loop-answered.fresh c.loop-answered.input c.loop-answered.body
-    c.loop-answered.coroutine
+may : (g : _) (c : In_ok-out g)
+    → Possible g.X.Extra.added (IsServing c.args.task c.loop-answered.fresh c.loop-answered.input c.loop-answered.coroutine) c.loop-answered.body
 may g c =
     let l = c.loop-answered in
     on_serve c.args.task c.args.input c.args.body.now c.args.coroutine l.fresh l.input l.body l.coroutine l.invariant c.requires
