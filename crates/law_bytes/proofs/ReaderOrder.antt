@@ -102,7 +102,7 @@ away count held =
     ∙ ap (λ front. front ++ drop count held) (take_min count held)
     ∙ take-append-drop count held
 
-taken_order : (held : List ℕ) (t : Take) → TakesFront t held → held ≡ taken_away held t.rest ++ t.rest
+pub taken_order : (held : List ℕ) (t : Take) → TakesFront t held → held ≡ taken_away held t.rest ++ t.rest
 taken_order held t front =
     sym (ap (λ rest. taken_away held rest ++ rest) front.rest ∙ away front.count held)
 

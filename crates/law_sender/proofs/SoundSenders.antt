@@ -194,7 +194,7 @@ pub none_lost : (lost : Bool) → lost ≡ false → one_if lost + 0 ≡ 0
 none_lost true is = absurd (let bad : ⊥ = cc in bad)
 none_lost false is = omega arith
 
-schedule_keeps :
+pub schedule_keeps :
     (whom : Handed) (broken : Bool) (s : Sender) → IsSoundSender s → IsOpen s → (broken ≡ false → s.writer.unsent ≡ [])
     → Always (KeepsSender whom 0 [] s) (schedule_loss (outlet_of whom) broken s)
 schedule_keeps whom broken s sound open_is none =

@@ -1,3 +1,7 @@
+pub mod ChildOrder
+pub mod ConnectionOrder
 pub mod Losses
+pub mod Quiet
+pub mod ReceiverOrder
 pub mod SoundConnections
 pub mod SoundReceivers

@@ -29,10 +29,10 @@ use Rattle.law_sender.proofs.SoundSenders.{keeps_still, keeps_quiet, live_of, no
 use Rattle.law_sender.proofs.SoundSends.{write_keeps, send_keeps, lose_keeps, drain_keeps, limits_keeps, eof_keeps}
 
 -- ---- calls that are no matter of the sender
-record IsNeutral (whom : Handed) (call : Call) : Type 0 where
-  closes : is_close whom call ≡ false
-  offers : is_offer whom call ≡ false
-  hands : (came : Answer) → handed_by whom call came ≡ []
+pub record IsNeutral (whom : Handed) (call : Call) : Type 0 where
+  pub closes : is_close whom call ≡ false
+  pub offers : is_offer whom call ≡ false
+  pub hands : (came : Answer) → handed_by whom call came ≡ []
 
 none_more : (before some after : ℕ) (b : Bool) → b ≡ false → before + some ≡ after → before + (one_if b + some) ≡ after
 none_more before some after true is same = absurd (let bad : ⊥ = cc in bad)
@@ -42,7 +42,7 @@ none_at_all : (some : ℕ) (b : Bool) → b ≡ false → some ≡ 0 → one_if 
 none_at_all some true is same = absurd (let bad : ⊥ = cc in bad)
 none_at_all some false is same = omega (arith, same)
 
-keeps_heard :
+pub keeps_heard :
     (whom : Handed) (ran : ℕ) (piece : List ℕ) (s : Sender) (it : Call) (came : Answer) (moves : List Move) (after : Sender) → IsNeutral whom it
     → KeepsSender whom ran piece s moves after → KeepsSender whom ran piece s (Heard it came ∷ moves) after
 keeps_heard whom ran piece s it came moves after neutral keeps =
@@ -175,7 +175,7 @@ flushed_by true ended is = absurd (let bad : ⊥ = cc in bad)
 flushed_by false true is = absurd (let bad : ⊥ = cc in bad)
 flushed_by false false is = (refl, refl)
 
-may_flush : (s : Sender) → IsSoundSender s → not (is_flushed s) ≡ false → MayLose 0 false s
+pub may_flush : (s : Sender) → IsSoundSender s → not (is_flushed s) ≡ false → MayLose 0 false s
 may_flush s sound is =
     let facts = flushed_by (has_unsent s) s.writer.ended is in
     let live = live_of s sound facts.1 in

@@ -1,6 +1,6 @@
 -- What each operation of a receiver keeps, and what any row of them does.
-use Rattle.std.proofs.Common.{◌≡◌, ℕ, ◌+◌, ◌-◌, ◌≤◌, ℤ, pos, negsuc, Bool, true, false, cond, eqb, leb, ltb}
-use Rattle.std.proofs.Common.{not, ◌&&◌, List, [], ◌∷◌, ◌++◌, Option, Some, None, length, refl, sym}
+use Rattle.std.proofs.Common.{◌≡◌, ℕ, ◌+◌, ◌-◌, ◌≤◌, ℤ, pos, negsuc, Bool, true, false, cond, eqb, leb, ltb, not, ◌&&◌, List, [], ◌∷◌, ◌++◌, Option, Some}
+use Rattle.std.proofs.Common.{None, length, refl, sym}
 use Rattle.std.proofs.Common.{ap, subst, ◌∙◌, arith}
 use Rattle.std.proofs.lemmas.Bool.{false≢true}
 use lib.Chars.{codes}
@@ -10,11 +10,11 @@ use Rattle.model_stream.specs.declared.answers.StreamGot.TheVariants as got_as
 use Rattle.model_stream.specs.declared.read_op.ReadOp.TheVariants.{UpTo, Exactly, Until, Line}
 use Rattle.model_stream.specs.declared.read_op.Taken.TheVariants as taken
 use Rattle.model_stream.specs.Doing.{Doing, Ends, Changes, MakeFuture, CallSoon, Settle, and_then}
-use Rattle.model_stream.specs.Reading.{Reading, ReadOp, Take, Taken, take_read, take_up_to, take_exactly}
-use Rattle.model_stream.specs.Reading.{take_until, take_line, after_take, gives, raises, needs}
+use Rattle.model_stream.specs.Reading.{Reading, ReadOp, Take, Taken, take_read, take_up_to, take_exactly, take_until, take_line, after_take, gives, raises}
+use Rattle.model_stream.specs.Reading.{needs}
 use Rattle.model_stream.specs.Reading.{unless_failed, incomplete, first_at, until_found, until_unfound, line_at, unended_line, newline, feed, feed_eof, fail}
-use Rattle.model_stream.specs.Receivers.{Receiver, StreamGot, AllGot, wakes, receive, receive_end}
-use Rattle.model_stream.specs.Receivers.{receive_loss, second_waiter, wait_for_data, read, read_as, read_all}
+use Rattle.model_stream.specs.Receivers.{Receiver, StreamGot, AllGot, wakes, receive, receive_end, receive_loss, second_waiter, wait_for_data, read, read_as}
+use Rattle.model_stream.specs.Receivers.{read_all}
 use Rattle.model_stream.specs.Receivers.{all_taken, give_up_read}
 use Rattle.model_stream.specs.Sending.{is_nothing}
 use Rattle.law_sender.specs.Ways.{Move, Did, Heard, Always}

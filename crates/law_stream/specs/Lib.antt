@@ -1,1 +1,4 @@
+pub mod ChildSteps
+pub mod ConnectionSteps
+pub mod ReceiverOrder
 pub mod SoundReceivers

@@ -9,7 +9,8 @@ ghost use Rattle.model_stream.specs.Doing.{Ends, on};
 ghost use Rattle.model_stream.specs.Senders.{Sender, Outlet, Drain, has_unsent, is_closing, close_sender, fail_sender};
 ghost use Rattle.model_stream.specs.Sending.{put_answer, written_of};
 ghost use Rattle.law_sender.specs.SoundSenders.{AnsweringConnection, IsSoundSender, KeepsConnection, MayLose};
-ghost use Rattle.law_sender.specs.Ways.{Always};
+ghost use Rattle.law_sender.specs.Ways.{Always, Move};
+ghost use Rattle.law_stream.specs.ConnectionSteps.{ConnectionComes};
 
 /// A loss comes without an exception only where nothing is unsent: closing waits for what is
 /// unsent, a closing connection is lost in the callback of its last send, and a child's standard
@@ -50,4 +51,12 @@ pub fn operations_keep_connections()
     ensures limits { (id : ℕ) (high low : Option ℤ) (c : Connection) → IsSoundSender c.sender
         → Always (AnsweringConnection {R = Limited} (KeepsConnection id 0 [] c))
         (limits_of high low c) }
+{}
+
+/// So after any row of what a connection does, reads with it: what was handed on is a front of what
+/// was written, in order, and what is unsent is the rest, unless a loss dropped it.
+pub fn connections_keep_order()
+    ensures { (id : ℕ) (c : Connection) (ran : ℕ) (written : List ℕ) (moves : List Move)
+        (after : Connection) → IsSoundSender c.sender → ConnectionComes id c ran written moves after
+        → KeepsConnection id ran written c moves after }
 {}

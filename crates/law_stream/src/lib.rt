@@ -2,5 +2,6 @@
 //! clauses are the law.
 #![tactic(auto)]
 
+pub mod children;
 pub mod connections;
 pub mod receivers;

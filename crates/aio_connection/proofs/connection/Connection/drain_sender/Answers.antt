@@ -19,7 +19,8 @@ returns-clause-tells c =
     c.args.parts.now c.drain.new.parts (record before { sender = c.drain.new.self }, said)))
     c.self.view_is
     (IfOk-weaker c.drain.result _ _
-    (λ said it. told_asked_on its_sender before c.drain.new.self (drain_sender c.args.yielded (length c.args.parts.now.futures)) said c.args.parts.now c.drain.new.parts it)
+    (λ said it. told_asked_on its_sender before c.drain.new.self
+      (drain_sender c.args.yielded (length c.args.parts.now.futures)) said c.args.parts.now c.drain.new.parts it)
     c.drain.ensures.tells)
 
 pub returns-clause-own : goal.returns-clause-own
