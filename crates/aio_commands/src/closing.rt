@@ -17,6 +17,7 @@ fn end_at<R: Wait, H: Heads>(rt: &R, heads: &mut H, roster: &mut Roster, number:
     ensures ended { EndsAt number roster.old.children roster.new.children (H.seen heads.old)
         (H.seen heads.new) }
     ensures lanes { HaveLanes roster.new.children (H.seen heads.new) }
+    ensures numbered_now { Numbered roster.new.children }
     ensures running { running_of roster.new.children ≡ running_of roster.old.children }
     ensures lent { LeavesFree roster.old.children roster.new.children }
     ensures noted { roster.new.noted ≡ roster.old.noted }
@@ -37,6 +38,7 @@ pub fn end<R: Wait, H: Heads>(rt: &R, heads: &mut H, roster: &mut Roster, number
         (H.seen heads.new) }
     ensures lanes { HaveLanes roster.new.children (H.seen heads.new) }
     ensures numbered { Numbered roster.old.children }
+    ensures numbered_now { Numbered roster.new.children }
     ensures running { running_of roster.new.children ≡ running_of roster.old.children }
     ensures lent { LeavesFree roster.old.children roster.new.children }
     ensures noted { roster.new.noted ≡ roster.old.noted }

@@ -26,6 +26,7 @@ fn feed_at<R: Wait, H: Heads>(
     ensures fed { FeedsAt number bytes roster.old.children roster.new.children result
         (H.seen heads.old) (H.seen heads.new) }
     ensures lanes { HaveLanes roster.new.children (H.seen heads.new) }
+    ensures numbered_now { Numbered roster.new.children }
     ensures running { running_of roster.new.children ≡ running_of roster.old.children }
     ensures lent { LeavesFree roster.old.children roster.new.children }
     ensures noted { roster.new.noted ≡ roster.old.noted }
@@ -53,6 +54,7 @@ pub fn feed<R: Wait, H: Heads>(
         (H.seen heads.old) (H.seen heads.new) }
     ensures lanes { HaveLanes roster.new.children (H.seen heads.new) }
     ensures numbered { Numbered roster.old.children }
+    ensures numbered_now { Numbered roster.new.children }
     ensures running { running_of roster.new.children ≡ running_of roster.old.children }
     ensures lent { LeavesFree roster.old.children roster.new.children }
     ensures noted { roster.new.noted ≡ roster.old.noted }

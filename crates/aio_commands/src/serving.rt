@@ -22,6 +22,7 @@ fn serve_one<R: Wait, H: Heads>(
     requires noted { roster.old.noted < 2 ^ 62 }
     ensures served { ServesOne watch.now k roster.old.children roster.new.children
         (H.seen heads.old) (H.seen heads.new) }
+    ensures numbered { Numbered roster.new.children }
     ensures lent { LeavesFree roster.old.children roster.new.children }
     ensures noted { roster.new.noted ≡ roster.old.noted }
 {
@@ -38,6 +39,7 @@ pub fn serve<R: Wait, H: Heads>(rt: &R, heads: &mut H, roster: &mut Roster, watc
     ensures served { ServesAll watch.now roster.old.children roster.new.children
         (H.seen heads.old) (H.seen heads.new) }
     ensures lanes { HaveLanes roster.new.children (H.seen heads.new) }
+    ensures numbered_now { Numbered roster.new.children }
     ensures running { running_of roster.new.children ≡ running_of roster.old.children }
     ensures numbered { Numbered roster.old.children }
     ensures lent { LeavesFree roster.old.children roster.new.children }

@@ -31,7 +31,8 @@ impl Roster {
 
     /// The child with this number, where it was launched.
     pub fn child(&self, number: u32) -> Option<Child>
-        ensures { IsFound number self.now result }
+        ensures found { IsFound number self.now result }
+        ensures numbered { Numbered self.now.children }
     {
         match self.children.get(number as usize) {
             Some(child) => Some(*child),
@@ -43,6 +44,7 @@ impl Roster {
     pub fn replace(&mut self, child: Child)
         requires { Replaces child self.old }
         ensures children { self.new.children ≡ slice_set self.old.children child.number child }
+        ensures numbered { Numbered self.new.children }
         ensures lent { LeavesFree self.old.children self.new.children }
         ensures noted { self.new.noted ≡ self.old.noted }
     {

@@ -9,12 +9,12 @@ use Rattle.aio_commands.proofs.closing.end_at.Goals as goal
 
 pub end_child-new-requires : goal.end_child-new-requires
 end_child-new-requires g c goes =
-    let is = c.in-Some.ensures.1 in
+    let is = c.in-Some.ensures.found.1 in
     has_lanes c.args.roster.now.children (g.H.Heads.seen c.args.heads.now) c.in-Some.child c.requires is.at goes
 
 pub replace-requires : goal.replace-requires
 replace-requires g c =
-    let is = c.in-Some.ensures.1 in
+    let is = c.in-Some.ensures.found.1 in
     let child = c.in-Some.child in
     let ended = c.end_child-new in
     let s = g.H.Heads.seen c.args.heads.now in
@@ -30,7 +30,7 @@ replace-requires g c =
 
 pub returns-clause-ended : goal.returns-clause-ended
 returns-clause-ended g c =
-    let is = c.in-Some.ensures in
+    let is = c.in-Some.ensures.found in
     let child = c.in-Some.child in
     let ended = c.end_child-new in
     let children = c.args.roster.now.children in
@@ -43,7 +43,7 @@ returns-clause-ended g c =
 
 pub returns-clause-lanes : goal.returns-clause-lanes
 returns-clause-lanes g c =
-    let is = c.in-Some.ensures.1 in
+    let is = c.in-Some.ensures.found.1 in
     let child = c.in-Some.child in
     let ended = c.end_child-new in
     let children = c.args.roster.now.children in
@@ -56,7 +56,7 @@ returns-clause-lanes g c =
 
 pub returns-clause-running : goal.returns-clause-running
 returns-clause-running g c =
-    let is = c.in-Some.ensures.1 in
+    let is = c.in-Some.ensures.found.1 in
     let child = c.in-Some.child in
     let ended = c.end_child-new in
     let children = c.args.roster.now.children in

@@ -9,12 +9,12 @@ use Rattle.aio_commands.proofs.feeding.feed_at.Goals as goal
 
 pub feed_child-answer-requires-clause-has : goal.feed_child-answer-requires-clause-has
 feed_child-answer-requires-clause-has g c goes =
-    let is = c.in-Some.ensures.1 in
+    let is = c.in-Some.ensures.found.1 in
     has_lanes c.args.roster.now.children (g.H.Heads.seen c.args.heads.now) c.in-Some.child c.requires.lanes is.at goes
 
 pub replace-requires : goal.replace-requires
 replace-requires g c =
-    let is = c.in-Some.ensures.1 in
+    let is = c.in-Some.ensures.found.1 in
     let child = c.in-Some.child in
     let fed = c.feed_child-answer in
     let s = g.H.Heads.seen c.args.heads.now in
@@ -30,7 +30,7 @@ replace-requires g c =
 
 pub returns-clause-fed : goal.returns-clause-fed
 returns-clause-fed g c =
-    let is = c.in-Some.ensures in
+    let is = c.in-Some.ensures.found in
     let child = c.in-Some.child in
     let fed = c.feed_child-answer in
     let children = c.args.roster.now.children in
@@ -44,7 +44,7 @@ returns-clause-fed g c =
 
 pub returns-clause-lanes : goal.returns-clause-lanes
 returns-clause-lanes g c =
-    let is = c.in-Some.ensures.1 in
+    let is = c.in-Some.ensures.found.1 in
     let child = c.in-Some.child in
     let fed = c.feed_child-answer in
     let children = c.args.roster.now.children in
@@ -57,7 +57,7 @@ returns-clause-lanes g c =
 
 pub returns-clause-running : goal.returns-clause-running
 returns-clause-running g c =
-    let is = c.in-Some.ensures.1 in
+    let is = c.in-Some.ensures.found.1 in
     let child = c.in-Some.child in
     let fed = c.feed_child-answer in
     let children = c.args.roster.now.children in

@@ -4,7 +4,7 @@ use Rattle.aio_commands.proofs.Passing.{none_yet, goes_on, runs_same, all_served
 use Rattle.aio_commands.proofs.serving.serve.Goals as goal
 
 pub loop-k-init : goal.loop-k-init
-loop-k-init g c = (none_yet c.args.watch.now c.args.roster.now.children (g.H.Heads.seen c.args.heads.now), refl, refl, λ seats lent. lent)
+loop-k-init g c = (none_yet c.args.watch.now c.args.roster.now.children (g.H.Heads.seen c.args.heads.now), refl, refl, (λ seats lent. lent), c.count_running-count.ensures.numbered)
 
 pub serve_one-requires : goal.serve_one-requires
 serve_one-requires g c =
@@ -25,7 +25,8 @@ loop-k-preserved g c = (
       c.count_running-count.ensures.numbered c.loop-k.invariant.0 c.serve_one.ensures.served
       ∙ c.loop-k.invariant.1,
   c.serve_one.ensures.noted ∙ c.loop-k.invariant.2,
-  λ seats lent. c.serve_one.ensures.lent seats (c.loop-k.invariant.3 seats lent),
+  (λ seats lent. c.serve_one.ensures.lent seats (c.loop-k.invariant.3 seats lent)),
+  c.serve_one.ensures.numbered,
 )
 
 pub returns : goal.returns
@@ -37,6 +38,7 @@ returns g c =
           (omega (arith, ap length c.loop-k.invariant.1, c.count_running-count.ensures.count, c.loop-k-test.false));
       lanes = λ k n h.
           c.loop-k.invariant.0.went.grows.has n ∙ c.requires.lanes k n (ap (λ l. slice_get l k) (sym c.loop-k.invariant.1) ∙ h);
+      numbered_now = c.loop-k.invariant.4;
       running = c.loop-k.invariant.1;
       numbered = c.count_running-count.ensures.numbered;
       lent = c.loop-k.invariant.3;

@@ -1,5 +1,5 @@
 use Rattle.std.proofs.Common.{◌≡◌}
-use Rattle.aio_roster.specs.Rosters.{running_of}
+use Rattle.aio_roster.specs.Rosters.{Numbered, running_of}
 use Rattle.aio_roster.specs.Changes.{LeavesFree}
 use Rattle.aio_commands.proofs.Passing.{Going}
 use Rattle.aio_commands.proofs.serving.serve.Given as goal
@@ -10,3 +10,4 @@ invariant-loop-k g l =
     × (running_of l.roster.children ≡ running_of l.initial.roster.children)
     × (l.roster.noted ≡ l.initial.roster.noted)
     × LeavesFree l.initial.roster.children l.roster.children
+    × Numbered l.roster.children

@@ -26,3 +26,10 @@ returns-clause-lent c =
     let it = subst (λ (r : RosterSeen). Replaces c.args.child r) (sym c.self.view_is) c.requires in
     subst (λ (r : RosterSeen). LeavesFree r.children (slice_set c.self.inside.children.items c.args.child.number c.args.child)) c.self.view_is
     (same_lent c.self.inside.children.items c.args.child.number it.old c.args.child it.at it.same)
+
+pub returns-clause-numbered : goal.returns-clause-numbered
+returns-clause-numbered c =
+    let inside = c.self.inside in
+    let it = subst (λ (r : RosterSeen). Replaces c.args.child r) (sym c.self.view_is) c.requires in
+    (changed_at inside.children.items inside.holders.items inside.running.items inside.noted c.self.invariant c.args.child.number it.old
+    c.args.child it.at it.same inside.noted (omega arith) it.short it.modest).numbered
