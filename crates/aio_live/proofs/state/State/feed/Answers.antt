@@ -1,10 +1,6 @@
-use Rattle.aio_postbox.specs.Fours.{seats_in}
-use Rattle.aio_lanes.specs.Given.{seen_of}
-use Rattle.aio_live.proofs.Keeping.{kept_state}
+use Rattle.aio_live.proofs.Alone.{feed_asks}
 use Rattle.aio_live.proofs.state.State.feed.Goals as goal
 
-pub invariant_of-self : goal.invariant_of-self
-invariant_of-self g c =
-    kept_state c.self.inside.pumped.roster.children c.feed.new.roster.children (seats_in c.self.inside.free.items)
-    (seen_of c.self.inside.lanes) (seen_of c.feed.new.heads) c.self.invariant c.feed.ensures.lent c.feed.ensures.lanes
-    c.feed.ensures.fed.commands.few
+pub returns-clause-asks : goal.returns-clause-asks
+returns-clause-asks g c =
+    feed_asks c.args.self.now c.feed_one.new.self c.args.number c.args.bytes c.feed_one.result c.feed_one.ensures
