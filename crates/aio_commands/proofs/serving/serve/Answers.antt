@@ -4,7 +4,13 @@ use Rattle.aio_commands.proofs.Passing.{none_yet, goes_on, runs_same, all_served
 use Rattle.aio_commands.proofs.serving.serve.Goals as goal
 
 pub loop-k-init : goal.loop-k-init
-loop-k-init g c = (none_yet c.args.watch.now c.args.roster.now.children (g.H.Heads.seen c.args.heads.now), refl, refl, (λ seats lent. lent), c.count_running-count.ensures.numbered)
+loop-k-init g c = (
+  none_yet c.args.watch.now c.args.roster.now.children (g.H.Heads.seen c.args.heads.now),
+  refl,
+  refl,
+  (λ seats lent. lent),
+  c.count_running-count.ensures.numbered,
+)
 
 pub serve_one-requires : goal.serve_one-requires
 serve_one-requires g c =
