@@ -23,8 +23,8 @@ use Rattle.model_machine.specs.Outcomes.{woken_with}
 use Rattle.model_machine.specs.State.{State, in_loop, noted, unbooked_in}
 use Rattle.model_machine.specs.Step.{step}
 use Rattle.model_machine.specs.Turn.{effect, ran}
-use Rattle.law_reach.specs.Closed.{is_of_streams}
-use Rattle.law_reach.proofs.Closed.{effect_none}
+use Rattle.law_trees.specs.Trees.{is_of_streams}
+use Rattle.law_cases.proofs.Closed.{effect_none}
 use Rattle.model_machine.specs.Went.{Goes}
 use Rattle.law_inside.specs.InStep.{LeavesStateSound}
 use Rattle.law_runs.proofs.Callbacks.{callback_in}

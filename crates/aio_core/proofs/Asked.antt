@@ -8,7 +8,7 @@ use Rattle.model_wire.specs.Call.{Answer, Call}
 use Rattle.model_wire.specs.Event.{Event, handed_by}
 use Rattle.model_wire.specs.Told.{WireSeen}
 use Rattle.model_machine.specs.Went.{answers_in}
-use Rattle.law_machine.specs.Growth.{turns_in}
+use Rattle.law_reach.specs.Asked.{asks_in}
 use Rattle.law_body.proofs.Noting.{answers-append}
 use Rattle.aio_wire.specs.EventList.{EventList}
 use Rattle.aio_wire.specs.Port.{events_after}
@@ -144,14 +144,14 @@ maybe_once call before after (inl none) = at none.0
     )
 
 -- ---- events among which no turn begins
-pub turns-append : (xs ys : List Event) → turns_in (xs ++ ys) ≡ turns_in xs + turns_in ys
+pub turns-append : (xs ys : List Event) → asks_in (xs ++ ys) ≡ asks_in xs + asks_in ys
 turns-append [] ys = omega arith
 turns-append (event.Called call ∷ xs) ys = let ih = turns-append xs ys in omega (arith, ih)
 turns-append (event.Got answer ∷ xs) ys = turns-append xs ys
 turns-append (event.Ran action ∷ xs) ys = turns-append xs ys
 turns-append (event.Said task text ∷ xs) ys = turns-append xs ys
 
-pub none_asked : (more : List Event) (seen : WireSeen) → turns_in more ≡ 0 → answers_in more ≡ 0 → Asks more seen seen
+pub none_asked : (more : List Event) (seen : WireSeen) → asks_in more ≡ 0 → answers_in more ≡ 0 → Asks more seen seen
 none_asked [] seen turns answers = asks_none seen
 none_asked (event.Called call ∷ more) seen turns answers = absurd (omega (arith, turns))
 none_asked (event.Got answer ∷ more) seen turns answers = absurd (omega (arith, answers))
@@ -160,7 +160,7 @@ none_asked (event.Ran action ∷ more) seen turns answers =
 none_asked (event.Said task text ∷ more) seen turns answers =
     let it = none_asked more seen turns answers in record { asked = it.asked; handed = it.handed }
 
-pub no_calls : (more : List Event) → turns_in more ≡ 0 → length (calls_in more) ≡ 0
+pub no_calls : (more : List Event) → asks_in more ≡ 0 → length (calls_in more) ≡ 0
 no_calls [] turns = refl
 no_calls (event.Called call ∷ more) turns = absurd (omega (arith, turns))
 no_calls (event.Got answer ∷ more) turns = no_calls more turns
@@ -169,14 +169,14 @@ no_calls (event.Said task text ∷ more) turns = no_calls more turns
 
 -- a call that had its answer, and events after which no turn began and no answer came
 abbrev pub answered_once : (call : Call) (answer : Answer) (before after : WireSeen) (more : List Event) → Asks (noted_by call (reply.Got answer)) before after
-    → (events : List Event) → turns_in (events ++ more) ≡ turns_in events → answers_in (events ++ more) ≡ answers_in events → AsksOnce before after
+    → (events : List Event) → asks_in (events ++ more) ≡ asks_in events → answers_in (events ++ more) ≡ answers_in events → AsksOnce before after
 answered_once call answer before after more asked events turns answers = (
   noted_by call (reply.Got answer) ++ more,
   (let none = no_calls more no_turns in omega (arith, none)),
   asks_then (noted_by call (reply.Got answer)) more before after after asked (none_asked more after no_turns no_answers),
 )
   where
-    no_turns : turns_in more ≡ 0
+    no_turns : asks_in more ≡ 0
     no_turns = let t = turns-append events more in omega (arith, turns, t)
 
     no_answers : answers_in more ≡ 0

@@ -10,7 +10,7 @@ use Rattle.model_wire.specs.Told.{WireSeen}
 use Rattle.model_machine.specs.State.{State, unbooked_in}
 use Rattle.model_machine.specs.Turn.{call_of, is_stalled, turned_by, woken_by}
 use Rattle.model_machine.specs.Went.{Went, Goes, Stops, answers_in, state_of}
-use Rattle.law_machine.specs.Growth.{turns_in}
+use Rattle.law_reach.specs.Asked.{asks_in}
 use Rattle.law_machine.proofs.Turns.{IsOn, turned-on}
 use Rattle.aio_wire.specs.EventList.{EventList}
 use Rattle.aio_wire.specs.Port.{Exchanges, StopsShort}
@@ -114,7 +114,7 @@ module _ {X : Type 0} {a : Added X} (old : Body X) (call : Call)
   noted_turn =
       let more = on.events.0 in
       let first = noted_by call (reply.Got answer) in (
-        answered_once call answer before after more got.is_asked answered.events (sym (ap turns_in on.events.1) ∙ on.turns)
+        answered_once call answer before after more got.is_asked answered.events (sym (ap asks_in on.events.1) ∙ on.turns)
             (sym (ap answers_in on.events.1) ∙ on.got),
         append_cancel_left past new.events.events (old.events.events ++ (first ++ more)) (
             sym (told_turned new bar said ended turned) ∙ on.events.1

@@ -15,5 +15,5 @@ pub turn_sound : {X : Type 0} {g : _} (a : Added X) (past : List Event) (answers
     → StandsFor a past answers kernel s → IsTurnSound a s
 turn_sound a past answers kernel s h = record {
   between = mids_in a.meaning (extra_sound a) s h.rests.1.sound;
-  after = turn_in a.meaning (extra_sound a) s h.rests.1.sound;
+  after = turn_in a.meaning (extra_sound a) s h.rests.1.stands.streams h.rests.1.sound;
 }

@@ -114,7 +114,7 @@ module _ {g : _} {program : Program} {how : Manner} {made left : ℕ} {kernel : 
   goes_on_here =
       let (rest, agrees) = agreed now_seen.left in
       let here = running.at rest in
-      let grew = run-grows step_limit no_extra how.turns left here.s here.stands.rests.1.stands.streams in
+      let grew = run-grows step_limit no_extra how.turns left here.s in
       record {
         entries = past ++ rest;
         agrees = running.told rest agrees;
@@ -257,7 +257,7 @@ module _ {g : _} {program : Program} {how : Manner} {made left : ℕ} {kernel : 
     goes_further =
         let (rest, agrees) = agreed new_seen.left in
         let (now, (went, stands)) = goes_over rest in
-        let grew = run-grows step_limit no_extra how.turns left now stands.rests.1.stands.streams in
+        let grew = run-grows step_limit no_extra how.turns left now in
         record {
           entries = past ++ (map Answered had ++ rest);
           agrees = running.told (map Answered had ++ rest) (takes rest agrees);

@@ -11,7 +11,7 @@ use Rattle.model_machine.specs.Replies as plain
 use Rattle.model_machine.specs.Replies.{RequestReply, given, numbered_if, reply}
 use Rattle.model_machine.specs.Sound.{IsClosed}
 use Rattle.model_machine.specs.State.{State}
-use Rattle.law_reach.proofs.Closed.{no_child, no_closable, no_conn, no_connect, no_launch, no_listen, no_reader, no_writer}
+use Rattle.law_cases.proofs.Closed.{no_child, no_closable, no_conn, no_connect, no_launch, no_listen, no_reader, no_writer}
 use Rattle.aio_serve.specs.Refusing.{refusal_of}
 
 module _ {S : Type 0} (added : Extra S) (task : ℕ) (s : State S) (closed : IsClosed s) where

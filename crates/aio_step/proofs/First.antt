@@ -183,8 +183,7 @@ module _ {X : Type 0} {a : Added X} (task : ℕ) (input : Input) (c : Setting a)
   made_first w =
       let living = b.deciding.asked.others.loop.parts.runs task (eq-eqb task task refl) in
       let there = within (begun_in task input s) living b.deciding.asked.others.generators in
-      let more = (decides-keeps a.meaning (generator_of task s).standing task (begun_by task input s).input (begun_in task input s)
-      b.deciding.asked.others.closed).generators in
+      let more = (decides-keeps a.meaning (generator_of task s).standing task (begun_by task input s).input (begun_in task input s)).generators in
       let same : length (reply_state (decided a.meaning task input s)).generators ≡ length body.slots.items =
       ap (λ (x : State a.Kept). length x.generators) w.kept ∙ w.rested.stands.told ∙ sym w.rested.stands.made in
       omega (arith, there, more, same)

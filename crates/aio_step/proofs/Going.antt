@@ -91,7 +91,7 @@ module _ {X : Type 0} {a : Added X} (task : ℕ) (first : Input) (old : Body X) 
           let r : RestsAt task c new after (resumed fresh task input o.now) = told c o.now o.serving in
           subst (Steps c last went.Goes)
           (sym (leads_end a.meaning task (resumed true task first s) (resumed fresh task input o.now)
-          (Goes r.now) o.leads r.goes h.sound.others.closed (inside c s h)))
+          (Goes r.now) o.leads r.goes (inside c s h)))
           (back task c new last after r.now r.rested r.sound beside items)
 
   module _ (new : Body X) where
@@ -103,7 +103,7 @@ module _ {X : Type 0} {a : Added X} (task : ℕ) (first : Input) (old : Body X) 
         let r : EndsAt task c new (resumed fresh task input o.now) = told c o.now o.serving in
         subst (Steps c new went.Goes)
         (sym (leads_end a.meaning task (resumed true task first s) (resumed fresh task input o.now)
-        (Goes r.now) o.leads r.goes h.sound.others.closed (inside c s h))) r.between
+        (Goes r.now) o.leads r.goes (inside c s h))) r.between
 
     pub runs_on : OnceResumed a task fresh input body coroutine (λ c s. RunsAway task c new s)
         → (c : Setting a) (s : State a.Kept) → IsServing task true first start c old s
@@ -113,5 +113,5 @@ module _ {X : Type 0} {a : Added X} (task : ℕ) (first : Input) (old : Body X) 
         let r : RunsAway task c new (resumed fresh task input o.now) = told c o.now o.serving in
         subst (Steps c new (went.Runaway task))
         (sym (leads_end a.meaning task (resumed true task first s) (resumed fresh task input o.now) (Stops (end.Runaway task) (resumed fresh task input o.now))
-        o.leads r.goes h.sound.others.closed (inside c s h)))
+        o.leads r.goes (inside c s h)))
         (refl, r.told)

@@ -66,7 +66,7 @@ module _ {X : Type 0} {a : Added X} (task : ℕ) (fresh : Bool) (input : Input) 
           → ((d : Setting a) (t : State a.Kept) → IsAskingFor task request d body t → Says task d new it (reply a.meaning task request t))
           → GoesOnBy task c new now it (resumed fresh task input s)
       asks_so request e new it serves =
-          answered task c new now it (resumed fresh task input s) request h.sound.others.closed made (says_asks request e)
+          answered task c new now it (resumed fresh task input s) request made (says_asks request e)
           (serves (holding now c) (resumed fresh task input s) (asking request e))
           (requests_sound a.meaning (extra_sound a) task request (resumed fresh task input s) h.sound (says_asks request e))
 

@@ -9,7 +9,7 @@ use Rattle.model_wire.specs.declared.event.End.TheVariants as end
 use Rattle.model_machine.specs.Extra.{Extra}
 use Rattle.model_machine.specs.Replies as plain
 use Rattle.model_machine.specs.Replies.{reply}
-use Rattle.model_machine.specs.Sound.{IsClosed, IsStateSound}
+use Rattle.model_machine.specs.Sound.{IsStateSound}
 use Rattle.model_machine.specs.State.{State, generator_of, resumed}
 use Rattle.model_machine.specs.Step.{most_answers, says_of, serve, serve_all, served, taken_as}
 use Rattle.model_machine.specs.Went.{Went, Goes, Stops}
@@ -82,23 +82,23 @@ leads_on added task first now next l goes = record {
 }
 
 pub leads_end : {S : Type 0} (added : Extra S) (task : ℕ) (first now : State S) (went : Went S) → LeadsTo added task first now
-    → ServedAs added task now (λ go_on. went) → IsClosed first
+    → ServedAs added task now (λ go_on. went)
     → task < length first.generators → serve_all step_limit added task first ≡ went
 unfolding serve
-leads_end added task first now went l goes closed within =
-    sym (ends_by_itself added task (suc l.count) first closed within)
+leads_end added task first now went l goes within =
+    sym (ends_by_itself added task (suc l.count) first within)
     ∙ sym (ap (λ k. serve step_limit added k task first) (move (most_answers step_limit (generator_of task first).tape) l.count))
     ∙ sym (l.same (suc (most_answers step_limit (generator_of task first).tape)))
     ∙ goes (serve step_limit added (most_answers step_limit (generator_of task first).tape) task)
 
 module _ {X : Type 0} {a : Added X} where
   pub answered : (task : ℕ) (c : Setting a) (body : Body X) (coroutine : Gen) (it : RequestReply) (s : State a.Kept) (request : Request)
-      → IsClosed s → task < length s.generators → says_of step_limit a.meaning task s ≡ Asks request
+      → task < length s.generators → says_of step_limit a.meaning task s ≡ Asks request
       → Says task (holding coroutine c) body it (reply a.meaning task request s)
       → RepliesInStep a.meaning false task (reply a.meaning task request s)
       → GoesOnBy task c body coroutine it s
-  answered task c body coroutine it s request closed made asks says sound =
-      at it (reply a.meaning task request s) (reply-keeps a.meaning task request s closed)
+  answered task c body coroutine it s request made asks says sound =
+      at it (reply a.meaning task request s) (reply-keeps a.meaning task request s)
       (λ go_on. ap (λ saying. served step_limit a.meaning saying task go_on s) asks) says sound
     where
       at : (it : RequestReply) (machine : plain.RequestReply a.Kept) → IsKeptInAnswer task s (reply_state machine)

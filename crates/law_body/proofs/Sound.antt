@@ -13,13 +13,13 @@ use Rattle.model_loop.specs.Tasks.{finish, lives}
 use Rattle.model_machine.specs.Arguments.{as_awaited}
 use Rattle.model_machine.specs.Extra.{Extra}
 use Rattle.model_machine.specs.Replies.{reply}
-use Rattle.model_machine.specs.Sound.{IsClosed, IsStateSound}
+use Rattle.model_machine.specs.Sound.{IsStateSound}
 use Rattle.model_machine.specs.State.{State, generator_of, unbooked_in}
 use Rattle.model_machine.specs.Step.{most_answers, says_of, serve}
 use Rattle.model_machine.specs.Turn.{ran}
 use Rattle.law_inside.specs.InStep.{IsStepSound, LeavesStateSound, RepliesInStep}
 use Rattle.law_machine.proofs.Bounded.{bound_is_enough}
-use Rattle.law_replies.proofs.Answering.{plain_futures}
+use Rattle.law_answered.proofs.Answering.{plain_futures}
 use Rattle.law_replies.proofs.Replying.{fits_in, reply_in}
 use Rattle.law_runs.proofs.Callbacks.{callback_in}
 use Rattle.law_extras.proofs.Calls.{allowed_keeps}
@@ -59,10 +59,10 @@ raised_sound added task fault s sound says = raises_sound added task s sound fau
 pub runs_living : {S : Type 0} (added : Extra S) → (task : ℕ) (s : State S) → IsStepSound added task s → lives s.loop.parts task ≡ true
 runs_living added task s sound = sound.others.loop.parts.runs task (eq-eqb task task refl)
 
-pub ends_by_itself : {S : Type 0} (added : Extra S) → (task more : ℕ) (s : State S) → IsClosed s → task < length s.generators
+pub ends_by_itself : {S : Type 0} (added : Extra S) → (task more : ℕ) (s : State S) → task < length s.generators
     → serve step_limit added (most_answers step_limit (generator_of task s).tape + more) task s
     ≡ serve step_limit added (most_answers step_limit (generator_of task s).tape) task s
-ends_by_itself added task more s closed within = bound_is_enough step_limit added task more s closed within
+ends_by_itself added task more s within = bound_is_enough step_limit added task more s within
 
 -- a dead handle is passed over
 pub dead_sound : {S : Type 0} (added : Extra S) → KeepsSound added → (s : State S) (handle : Handle) (rest : List Handle) → IsStateSound added s

@@ -12,8 +12,8 @@ use Rattle.model_loop.specs.Parts.{Parts}
 use Rattle.model_machine.specs.State.{Standing, Asked, Sleeping, Leaving, Serving, Connecting, Yielding, Reading, ReadingAll, State}
 use Rattle.model_machine.specs.Step.{given_up}
 use Rattle.law_changes.proofs.Parts.{parts_of}
-use Rattle.law_reach.specs.Changes.{StateChange, OfLoop, Says, MakesCoroutine, Stands, Resumes, NamesFuture, EndsMain, ChangesExtra, Runs, Calls}
-use Rattle.law_reach.specs.Changes.{Gets, MayInCallback, made, runner_of}
+use Rattle.law_reach.specs.Changes.{StateChange, OfLoop, Says, MakesCoroutine, Stands, Resumes, NamesFuture, EndsMain, ChangesExtra, ChangesStreams}
+use Rattle.law_reach.specs.Changes.{Runs, Hears, Calls, MayInCallback, made, runner_of}
 use Rattle.law_reach.specs.Reaches.{InCallback}
 use Rattle.law_changes.proofs.Folds.{fold, one}
 use Rattle.law_done.specs.Done.{is_of}
@@ -66,8 +66,19 @@ change_within r (Resumes fresh task input) s may = quiet r s _ (later_refl s.loo
 change_within r (NamesFuture future) s may = quiet r s _ (later_refl s.loop.parts) refl
 change_within r EndsMain s may = quiet r s _ (later_refl s.loop.parts) refl
 change_within r (ChangesExtra extra) s may = quiet r s _ (later_refl s.loop.parts) refl
-change_within r (Calls call) s may = absurd may
-change_within r (Gets answer left) s may = absurd may
+change_within r (ChangesStreams streams) s may = quiet r s _ (later_refl s.loop.parts) refl
+change_within r (Hears call answer left) s may = record {
+  later = later_refl s.loop.parts;
+  more = event.Called call ∷ event.Got answer ∷ [];
+  events = append_assoc s.events (event.Called call ∷ []) (event.Got answer ∷ []);
+  others = λ other h. refl;
+}
+change_within r (Calls call) s may = record {
+  later = later_refl s.loop.parts;
+  more = event.Called call ∷ [];
+  events = refl;
+  others = λ other h. refl;
+}
 
 pub within_row : {S : Type 0} {r : Option ℕ} {s t : State S} → InCallback r s t → IsWithin r s t
 within_row {r = r} row = fold (IsWithin r) (same r) (within_then r) (change_within r) row

@@ -31,7 +31,7 @@ use Rattle.law_inside.proofs.Given.{asked_leaves}
 use Rattle.law_inside.proofs.Keeping.{futures_kept, leaves_none, loop_keeps, open_of, says_same, stays_stood, stood_standing, tapes_blocks, with_open}
 use Rattle.law_inside.proofs.Nobody.{nobody, over_as}
 use Rattle.law_replies.specs.Added.{KeepsSound}
-use Rattle.law_replies.proofs.Answering.{half, left_before, pending_of, rest_stood, step_to, within}
+use Rattle.law_answered.proofs.Answering.{half, left_before, pending_of, rest_stood, step_to, within}
 use Rattle.law_replies.proofs.Table.{same_tapes, thrown}
 use Rattle.law_extras.specs.Allowed.{AreAllowed, IsAnswerAllowed, IsSaidAllowed, MakesAllowedSteps}
 use Rattle.law_extras.proofs.Steps.{all_after, all_sound}

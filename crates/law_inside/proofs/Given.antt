@@ -29,7 +29,7 @@ use Rattle.law_blocks.proofs.Growing.{said_of_given}
 use Rattle.law_after.specs.After.{IsLoopAfter}
 use Rattle.law_inside.specs.InStep.{SameTapes}
 use Rattle.law_inside.proofs.Counts.{and_first, and_second, and_both, lives_within, lives_before, unbegun_kept}
-use Rattle.law_inside.proofs.Keeping.{IsApart, asking_kept, standing_kept}
+use Rattle.law_inside.proofs.Keeping.{IsApart, asking_kept, standing_kept, streams_kept}
 use Rattle.law_inside.proofs.Tapes.{added_same, added_last, added_past, past_none, blocks_before, exchanges_before}
 
 -- ---- numbers of tasks
@@ -137,9 +137,9 @@ unfolding course
 unbegun_asks added task coroutine arguments s e =
     ap (λ (g : Generator). saying_of (course step_limit s.program g.coroutine g.arguments g.tape)) e
 
-module _ {S : Type 0} (added : Extra S) (task coroutine : ℕ) (arguments : List Value) (s t : State S) (tapes : SameTapes s t)
-    (a : IsLoopAfter (names_made (next_task s.loop.parts)) true (Some task) None None None s.loop t.loop)
-    (more : next_task t.loop.parts ≡ next_task s.loop.parts + 1) (is : IsApart (Some task) (Some task) added s) where
+module _ {S : Type 0} (added : Extra S) (running : Option ℕ) (coroutine : ℕ) (arguments : List Value) (s t : State S) (tapes : SameTapes s t)
+    (a : IsLoopAfter (names_made (next_task s.loop.parts)) true running None None None s.loop t.loop)
+    (more : next_task t.loop.parts ≡ next_task s.loop.parts + 1) (is : IsApart running running added s) where
   abbrev u : State S
   u = with_coroutine coroutine arguments t
 
@@ -190,15 +190,15 @@ module _ {S : Type 0} (added : Extra S) (task coroutine : ℕ) (arguments : List
     where
       at : (other < next_task s.loop.parts) ⊎ (next_task s.loop.parts ≤ other)
           → ((other < next_task s.loop.parts) × (lives s.loop.parts other ≡ true)) ⊎ (next_task s.loop.parts ≡ other)
-      at (inl h) = inl (h, lives_before _ _ (Some task) s.loop.parts t.loop.parts a.parts is.loop.parts.owns other h l)
+      at (inl h) = inl (h, lives_before _ _ running s.loop.parts t.loop.parts a.parts is.loop.parts.owns other h l)
       at (inr h) = let w = lives_within t.loop.parts other l in inr (omega (arith, w, more, h))
 
-  pub spawn_keeps : IsSound (Some task) (told_in t.events) t.loop → IsUnbegun t.loop.parts (next_task s.loop.parts)
+  pub spawn_keeps : IsSound running (told_in t.events) t.loop → IsUnbegun t.loop.parts (next_task s.loop.parts)
       → (t.main_done ≡ true → lives t.loop.parts 0 ≡ false) → list_all (names_made (next_task s.loop.parts)) arguments ≡ true
-      → AreScriptsFutures t → IsApart (Some task) (Some task) added u
+      → AreScriptsFutures t → IsApart running running added u
   spawn_keeps sound first over given_ scripts = record {
     loop = sound;
-    closed = tapes.streams ∙ is.closed;
+    streams = streams_kept s t tapes.streams (λ id h. a.parts.plain id h) is.streams;
     generators = length-append t.generators _ ∙ let c = count_is in omega (arith, c, more);
     asking = λ other l f. asking other f (living other l);
     unbegun = λ other l f e. unbegun other f e (living other l);
@@ -226,7 +226,7 @@ module _ {S : Type 0} (added : Extra S) (task coroutine : ℕ) (arguments : List
     };
   }
     where
-      asking : (other : ℕ) → is_running (Some task) other ≡ false
+      asking : (other : ℕ) → is_running running other ≡ false
           → ((other < next_task s.loop.parts) × (lives s.loop.parts other ≡ true)) ⊎ (next_task s.loop.parts ≡ other) → IsAsking added u other
       asking other f (inl h) = asking_kept added s u tapes.program other (old_same other h.0) (is.asking other h.1 f)
       asking other f (inr same) = subst (IsAsking added u) same (record {
@@ -235,17 +235,17 @@ module _ {S : Type 0} (added : Extra S) (task coroutine : ℕ) (arguments : List
         stands = ap (λ (g : Generator). stands_at g.standing request.Pause) new_is;
       })
 
-      unbegun : (other : ℕ) → is_running (Some task) other ≡ false → (generator_of other u).tape ≡ []
+      unbegun : (other : ℕ) → is_running running other ≡ false → (generator_of other u).tape ≡ []
           → ((other < next_task s.loop.parts) × (lives s.loop.parts other ≡ true)) ⊎ (next_task s.loop.parts ≡ other) → IsUnbegun t.loop.parts other
       unbegun other f e (inl h) =
-          unbegun_kept _ _ (Some task) s.loop.parts t.loop.parts a.parts other (a.parts.steps other f)
+          unbegun_kept _ _ running s.loop.parts t.loop.parts a.parts other (a.parts.steps other f)
           (is.unbegun other h.1 f (sym (ap (λ (g : Generator). g.tape) (old_same other h.0)) ∙ e))
       unbegun other f e (inr same) = subst (IsUnbegun t.loop.parts) same first
 
-      standing : (other : ℕ) → is_running (Some task) other ≡ false
+      standing : (other : ℕ) → is_running running other ≡ false
           → ((other < next_task s.loop.parts) × (lives s.loop.parts other ≡ true)) ⊎ (next_task s.loop.parts ≡ other) → StandsRightly u other
       standing other f (inl h) =
-          standing_kept added s u tapes.program other (old_same other h.0) _ _ (Some task) None None None a (λ id e. refl) (is.standing other h.1 f)
+          standing_kept added s u tapes.program other (old_same other h.0) _ _ running None None None a (λ id e. refl) (is.standing other h.1 f)
       standing other f (inr same) = subst (StandsRightly u) same (record {
         sleeping = λ tag e. absurd (never e);
         leaving = λ id e. absurd (never' e);
@@ -268,7 +268,7 @@ module _ {S : Type 0} (added : Extra S) (task coroutine : ℕ) (arguments : List
               let d = past_none other s (let c = is.generators in omega (arith, h, c)) in absurd (asked_leaves id (sym (ap (λ
               (g : Generator). g.standing) d) ∙ e))
 
-      left : (id : ℕ) → IsLeft t id → is_running (Some task) (group_of t.loop id).parent ≡ false
+      left : (id : ℕ) → IsLeft t id → is_running running (group_of t.loop id).parent ≡ false
           → (generator_of (group_of t.loop id).parent u).standing ≡ Leaving id
       left id e f =
           let g = a.groups id in
@@ -276,6 +276,6 @@ module _ {S : Type 0} (added : Extra S) (task coroutine : ℕ) (arguments : List
           and_both (group_of s.loop id).exiting (not (group_of s.loop id).ended)
           (sym (g.still refl) ∙ and_first (group_of t.loop id).exiting (not (group_of t.loop id).ended) e)
           (sym (ap not (g.ended refl)) ∙ and_second (group_of t.loop id).exiting (not (group_of t.loop id).ended) e) in
-          let stood = is.exits id was (sym (ap (is_running (Some task)) g.parent) ∙ f) in
+          let stood = is.exits id was (sym (ap (is_running running) g.parent) ∙ f) in
           ap (λ k. (generator_of k u).standing) g.parent
           ∙ ap (λ (x : Generator). x.standing) (old_same (group_of s.loop id).parent (there (group_of s.loop id).parent id stood)) ∙ stood

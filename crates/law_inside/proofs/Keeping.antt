@@ -19,13 +19,16 @@ use Rattle.model_loop.specs.Sound.{IsSound}
 use Rattle.model_loop.specs.Tasks.{lives, next_task}
 use Rattle.model_loop.specs.Ways.{is_running}
 use Rattle.model_machine.specs.Extra.{Extra}
-use Rattle.model_machine.specs.Sound.{AreBlocksOpen, AreScriptsFutures, IsAsking, IsLeft, IsSoundBut, IsSoundOver, IsStateSound, IsUnbegun}
+use Rattle.model_machine.specs.Sound.{AreBlocksOpen, AreScriptsFutures, AreStreamsFutures, IsAsking, IsLeft, IsSoundBut, IsSoundOver, IsStateSound, IsUnbegun}
 use Rattle.model_machine.specs.Sound.{StandsRightly, blocks_of, exchanges_of, names_block, names_made, sends_made, stands_at}
-use Rattle.model_machine.specs.State.{Standing, Asked, Leaving, Generator, State, generator, generator_of, resumed, stands}
+use Rattle.model_machine.specs.State.{Standing, Asked, Leaving, Generator, State, generator, generator_of, resumed, stands, with_streams}
+use Rattle.model_stream.specs.Kept.{StreamsKeep}
+use Rattle.model_stream.specs.Streams.{Streams}
+use Rattle.law_trees.proofs.Composing.{streams_more}
 use Rattle.model_machine.specs.Step.{says_of}
 use Rattle.model_machine.specs.Told.{told_in}
 use Rattle.law_after.specs.After.{IsAfter, IsLoopAfter}
-use Rattle.law_inside.specs.InStep.{SameTapes}
+use Rattle.law_inside.specs.InStep.{IsAsked, IsStepSound, SameTapes}
 use Rattle.law_inside.proofs.Blocks.{AreOpenAt}
 use Rattle.law_inside.proofs.Counts.{and_first, and_second, and_both, not_true, not_false, lives_within, lives_before, unbegun_kept, sleep_kept, plain_of}
 use Rattle.law_inside.proofs.Counts.{of_plain}
@@ -50,7 +53,7 @@ module _ {S : Type 0} (added : Extra S) (running excused : Option ℕ) (s : Stat
     standing = is.standing;
     exits = is.exits;
     blocks = others;
-    closed = is.closed;
+    streams = is.streams;
     futures = is.futures;
     made = is.made;
   }
@@ -79,7 +82,7 @@ module _ {S : Type 0} (added : Extra S) (s : State S) where
     standing = λ other l f. standing other l (cases_eq task other);
     exits = λ id e f. exits id e (cases_eq task (group_of s.loop id).parent);
     blocks = is.blocks;
-    closed = is.closed;
+    streams = is.streams;
     futures = is.futures;
     made = is.made;
   }
@@ -142,6 +145,50 @@ module _ {S : Type 0} (added : Extra S) (s t : State S) (program : t.program ≡
       stands_same : (generator_of task t).standing ≡ (generator_of task s).standing
       stands_same = ap (λ (g : Generator). g.standing) same
 
+-- ---- what streams keep
+pub streams_kept : {S : Type 0} (s t : State S) → t.streams ≡ s.streams
+    → ((id : ℕ) → is_plain s.loop.parts id ≡ true → is_plain t.loop.parts id ≡ true) → AreStreamsFutures s → AreStreamsFutures t
+streams_kept s t same plains kept =
+    subst (λ streams. StreamsKeep (λ id. is_plain t.loop.parts id ≡ true) streams) (sym same)
+    (streams_more (λ id. is_plain s.loop.parts id ≡ true) (λ id. is_plain t.loop.parts id ≡ true) plains s.streams kept)
+
+-- other streams, of which this holds too
+pub streams_replaced : {S : Type 0} (added : Extra S) (running excused : Option ℕ) (s : State S) (streams : Streams)
+    → AreStreamsFutures (with_streams streams s) → IsSoundBut running excused added s → IsSoundBut running excused added (with_streams streams s)
+streams_replaced added running excused s streams kept is = record {
+  loop = is.loop;
+  generators = is.generators;
+  asking = λ task l f. let a = is.asking task l f in record { asked = a.asked; says = a.says; stands = a.stands };
+  unbegun = is.unbegun;
+  main_over = is.main_over;
+  main_told = is.main_told;
+  standing = λ task l f.
+      let a = is.standing task l f in record { sleeping = a.sleeping; leaving = a.leaving; leaving_now = a.leaving_now };
+  exits = is.exits;
+  blocks = record { timeouts = is.blocks.timeouts; groups = is.blocks.groups; entered = is.blocks.entered; own = is.blocks.own };
+  streams = kept;
+  futures = record { plain = is.futures.plain; once = is.futures.once };
+  made = record { arguments = is.made.arguments; tape = is.made.tape; outcomes = is.made.outcomes };
+}
+
+pub step_replaced : {S : Type 0} (added : Extra S) (task : ℕ) (s : State S) (streams : Streams) → AreStreamsFutures (with_streams streams s)
+    → IsStepSound added task s → IsStepSound added task (with_streams streams s)
+step_replaced added task s streams kept is = record {
+  others = streams_replaced added (Some task) (Some task) s streams kept is.others;
+  standing = is.standing;
+  begun = is.begun;
+  exits = is.exits;
+}
+
+pub asked_replaced : {S : Type 0} (added : Extra S) (task : ℕ) (stood : Standing) (asked : Request) (s : State S) (streams : Streams)
+    → AreStreamsFutures (with_streams streams s) → IsAsked added task stood asked s → IsAsked added task stood asked (with_streams streams s)
+asked_replaced added task stood asked s streams kept is = record {
+  others = streams_replaced added (Some task) (Some task) s streams kept is.others;
+  standing = is.standing;
+  says = is.says;
+  exits = is.exits;
+}
+
 -- ---- a step of the loop, which no coroutine hears
 pub futures_kept : {S : Type 0} (s t : State S) → t.futures ≡ s.futures
     → ((id : ℕ) → is_plain s.loop.parts id ≡ true → is_plain t.loop.parts id ≡ true) → AreScriptsFutures s → AreScriptsFutures t
@@ -176,7 +223,7 @@ module _ {S : Type 0} (added : Extra S) (s t : State S) (tapes : SameTapes s t) 
       → IsApart running before added s → IsApart after excused added t
   loop_keeps a made sound fewer over stays leaves scripts is = record {
     loop = sound;
-    closed = tapes.streams ∙ is.closed;
+    streams = streams_kept s t tapes.streams (λ id h. a.plain id h) is.streams;
     generators = ap length tapes.generators ∙ is.generators ∙ sym made;
     asking = λ task l f. asking_kept added s t tapes.program task (same_at task) (is.asking task (lived task l) (fewer task f));
     unbegun = λ task l f e.
@@ -269,7 +316,7 @@ module _ {S : Type 0} (added : Extra S) (task : ℕ) (asked : Request) (fresh : 
       → IsApart (Some task) (Some task) added t → IsApart (Some task) (Some task) added u
   answer_keeps named good is = record {
     loop = is.loop;
-    closed = is.closed;
+    streams = is.streams;
     generators = set_length task (record it { tape = it.tape ++ entry ∷ [] }) t ∙ is.generators;
     asking = λ other l f. asking_kept added t u refl other (free_same other f) (is.asking other l f);
     unbegun = λ other l f e. is.unbegun other l f (sym (ap (λ (g : Generator). g.tape) (free_same other f)) ∙ e);
@@ -363,7 +410,7 @@ module _ {S : Type 0} (added : Extra S) (task : ℕ) (standing : Standing) (t : 
   pub stands_keeps : (running : Option ℕ) → IsApart running (Some task) added t → IsApart running (Some task) added stood
   stands_keeps running is = record {
     loop = is.loop;
-    closed = is.closed;
+    streams = is.streams;
     generators = set_length task (record (generator_of task t) { standing = standing }) t ∙ is.generators;
     asking = λ other l f. asking_kept added t stood refl other (free other f) (is.asking other l f);
     unbegun = λ other l f e. is.unbegun other l f (sym (ap (λ (g : Generator). g.tape) (free other f)) ∙ e);

@@ -17,12 +17,13 @@ use Rattle.model_loop.specs.Futures.{future_outcome}
 use Rattle.model_machine.specs.Extra.{Extra}
 use Rattle.model_machine.specs.Sound.{AreBlocksOf, AreTasksMade, IsAsking, IsMainTold, IsStateSound, IsUnbegun}
 use Rattle.model_machine.specs.Sound.{StandsRightly, blocks_of, exchanges_of, names_block, names_made, sends_made}
-use Rattle.model_machine.specs.State.{State, generator_of, start}
+use Rattle.model_machine.specs.State.{State, generator_of, start, with_streams}
+use Rattle.model_stream.specs.Streams.{no_streams}
 use Rattle.law_sound.proofs.Beginning.{first_sound}
 
-module _ {S : Type 0} (added : Extra S) (state : S) (program : Program) (answers : List Entry) where
+module _ {S : Type 0} (added : Extra S) (state : S) (program : Program) (answers : List Entry) (most : ℕ) where
   abbrev begun : State S
-  begun = start state program answers
+  begun = with_streams (no_streams most) (start state program answers)
 
   asking : (task : ℕ) → lives begun.loop.parts task ≡ true → IsAsking added begun task
   unfolding course
@@ -70,8 +71,9 @@ module _ {S : Type 0} (added : Extra S) (state : S) (program : Program) (answers
       outcomes zero value e = absurd (none-some _ e)
       outcomes (suc id) value e = absurd (none-some _ e)
 
-  pub begins_sound : IsStateSound added begun
-  begins_sound = record {
+  -- where so many listeners, connections and children can be numbered
+  pub begins_open : IsStateSound added begun
+  begins_open = record {
     loop = first_sound;
     generators = refl;
     asking = λ task l f. asking task l;
@@ -80,7 +82,7 @@ module _ {S : Type 0} (added : Extra S) (state : S) (program : Program) (answers
     main_told = main_told;
     standing = λ task l f. standing task l;
     exits = λ id e f. absurd (false≢true e);
-    closed = refl;
+    streams = record { connections = λ id c e. absurd (none-some c e); children = λ id p e. absurd (none-some p e) };
     blocks = record {
       timeouts = λ id h. absurd (omega (arith, h));
       groups = λ id h. absurd (omega (arith, h));
@@ -90,3 +92,6 @@ module _ {S : Type 0} (added : Extra S) (state : S) (program : Program) (answers
     futures = record { plain = λ place id e. absurd (none-some id e); once = λ place other id e f. absurd (none-some id e) };
     made = tasks_made;
   }
+
+pub begins_sound : {S : Type 0} (added : Extra S) (state : S) (program : Program) (answers : List Entry) → IsStateSound added (start state program answers)
+begins_sound added state program answers = begins_open added state program answers 0

@@ -8,7 +8,6 @@ use Rattle.model_says.specs.Endings.{Saying, Asks, Returns, Raises as Raised, Ru
 use Rattle.model_says.specs.Tape.{Resumed, Tape}
 use Rattle.model_machine.specs.Extra.{Extra}
 use Rattle.model_machine.specs.Replies.{RequestReply, Answers, Raises, Rests, Halts, reply}
-use Rattle.model_machine.specs.Sound.{IsClosed}
 use Rattle.model_machine.specs.State.{Generator, State, generator_of, resumed}
 use Rattle.model_machine.specs.Step.{most_answers, says_of, taken_as, served, serve}
 use Rattle.law_says.specs.Steps.{steps_in}
@@ -45,10 +44,10 @@ module _ {S : Type 0} (limit : ℕ) (added : Extra S) (task : ℕ) where
 
   -- more answers than enough change nothing
   abbrev Settles : ℕ → Type 0
-  Settles count = (s : State S) → IsClosed s → 0 < count → task < length s.generators → IsEnough limit count (tape_of task s)
+  Settles count = (s : State S) → 0 < count → task < length s.generators → IsEnough limit count (tape_of task s)
       → (more : ℕ) → serve limit added (count + more) task s ≡ serve limit added count task s
 
-  module _ (count : ℕ) (settles : Settles count) (more : ℕ) (s : State S) (closed : IsClosed s) where
+  module _ (count : ℕ) (settles : Settles count) (more : ℕ) (s : State S) where
     resumed_settles : (now : State S) → IsKeptInAnswer task s now → 0 < count → task < length s.generators → IsEnough limit (suc count) (tape_of task s)
         → (input : Input)
         → serve limit added (count + more) task (resumed false task input now) ≡ serve limit added count task (resumed false task input now)
@@ -58,7 +57,7 @@ module _ {S : Type 0} (limit : ℕ) (added : Extra S) (task : ℕ) where
         let tape : tape_of task next ≡ tape_of task s ++ entry_of input ∷ [] =
         resumed-tape input now (omega (arith, grown)) ∙ ap (λ t. t ++ entry_of input ∷ []) kept.tape in
         let same = resumed-length input now in
-        settles next (kept.streams ∙ closed) some (omega (arith, grown, same))
+        settles next some (omega (arith, grown, same))
         (subst (IsEnough limit count) (sym tape) (still count (tape_of task s) input enough)) more
 
     taken_settles : (it : RequestReply S) → IsKeptInAnswer task s (reply_state it) → 0 < count → task < length s.generators
@@ -74,24 +73,24 @@ module _ {S : Type 0} (limit : ℕ) (added : Extra S) (task : ℕ) where
     served_settles (Asks request) e there enough =
         let it = generator_of task s in
         let most = asked_at_most limit s.program it.coroutine it.arguments it.tape request e in
-        taken_settles (reply added task request s) (reply-keeps added task request s closed) (omega (arith, most, enough)) there enough
+        taken_settles (reply added task request s) (reply-keeps added task request s) (omega (arith, most, enough)) there enough
     served_settles (Returns value) e there enough = refl
     served_settles (Raised fault) e there enough = refl
     served_settles Runaway e there enough = refl
 
   serve_settles : (count : ℕ) → Settles count
   unfolding serve
-  serve_settles zero = λ s closed some there enough more. absurd (omega (arith, some))
-  serve_settles (suc count) = λ s closed some there enough more.
+  serve_settles zero = λ s some there enough more. absurd (omega (arith, some))
+  serve_settles (suc count) = λ s some there enough more.
       let one : suc count + more ≡ suc (count + more) = omega arith in
       ap (λ n. serve limit added n task s) one
-      ∙ served_settles count (serve_settles count) more s closed (says_of limit added task s) refl there enough
+      ∙ served_settles count (serve_settles count) more s (says_of limit added task s) refl there enough
 
-  pub bound_is_enough : (more : ℕ) (s : State S) → IsClosed s → task < length s.generators
+  pub bound_is_enough : (more : ℕ) (s : State S) → task < length s.generators
       → serve limit added (most_answers limit (generator_of task s).tape + more) task s ≡ serve limit added (most_answers limit
       (generator_of task s).tape) task s
-  bound_is_enough more s closed there =
+  bound_is_enough more s there =
       let tape = (generator_of task s).tape in
       let few = count_by-le-length (λ (e : Resumed). e.fresh) tape in
       let fits = mul-le-mul_left {m = steps_in tape + 1} {n = length tape + 1} limit (omega (arith, few)) in
-      serve_settles (most_answers limit tape) s closed (omega arith) there (omega (arith, fits)) more
+      serve_settles (most_answers limit tape) s (omega arith) there (omega (arith, fits)) more

@@ -9,7 +9,6 @@ use Rattle.model_loop.specs.Parts.{Handle, Parts}
 use Rattle.model_loop.specs.Tasks.{begin_step, cancelling_input, is_marked}
 use Rattle.model_loop.specs.Ways.{steps}
 use Rattle.model_machine.specs.Extra.{Extra}
-use Rattle.model_machine.specs.Sound.{IsClosed}
 use Rattle.model_machine.specs.State.{Standing, Asked, Sleeping, Leaving, Serving, Connecting, Yielding, Reading, ReadingAll, State, generator_of, unbooked_in}
 use Rattle.model_machine.specs.Step.{given_up}
 use Rattle.model_machine.specs.Turn.{run_first, turn_over, woken_by}
@@ -17,9 +16,9 @@ use Rattle.model_machine.specs.Went.{state_of}
 use Rattle.law_changes.proofs.Parts.{parts_of}
 use Rattle.law_reach.specs.Changes.{runner_of}
 use Rattle.law_reach.specs.Reaches.{InCallback}
-use Rattle.law_reach.proofs.Loops.{loop_of}
-use Rattle.law_reach.proofs.Running.{ran_goes}
-use Rattle.law_reach.proofs.Turning.{over_row, taken_row, woken_row}
+use Rattle.law_going.proofs.Loops.{loop_of}
+use Rattle.law_going.proofs.Running.{ran_goes}
+use Rattle.law_going.proofs.Turning.{over_row, taken_row, woken_row}
 use Rattle.law_promises.proofs.Falling.{cancels_input}
 use Rattle.law_promises.proofs.MarksStay.{row_marked}
 use Rattle.law_marks.specs.Marked.{IsMarkedIn, ThrowsCancel}
@@ -42,10 +41,10 @@ apart it me h e = at it h e
     at (action.Wakeup task) h e = same task h e
     at _ h e = absurd cc
 
-pub first_marked : {S : Type 0} (me limit : ℕ) (added : Extra S) (handle : Handle) (rest : List Handle) (s : State S) → IsClosed s
+pub first_marked : {S : Type 0} (me limit : ℕ) (added : Extra S) (handle : Handle) (rest : List Handle) (s : State S)
     → steps me handle.action ≡ false → IsMarkedIn me s → IsMarkedIn me (state_of (run_first limit added handle rest s))
-first_marked me limit added handle rest s closed h m =
-    row (ran_goes limit added handle.dead handle.action (unbooked_in (λ p. record p { pending = rest }) s) closed).reaches me (apart handle.action me h)
+first_marked me limit added handle rest s h m =
+    row (ran_goes limit added handle.dead handle.action (unbooked_in (λ p. record p { pending = rest }) s)).reaches me (apart handle.action me h)
     (row (taken_row rest s) me (nobody me) m)
 
 pub woken_by_marked : {S : Type 0} (me : ℕ) (answer : Answer) (s : State S) → IsMarkedIn me s → IsMarkedIn me (unbooked_in (woken_by answer) s)

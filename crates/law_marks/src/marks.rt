@@ -8,7 +8,6 @@ ghost use Rattle.model_loop.specs.Parts.{Handle};
 ghost use Rattle.model_loop.specs.Tasks.{begin_step};
 ghost use Rattle.model_loop.specs.Ways.{steps};
 ghost use Rattle.model_machine.specs.Extra.{Extra};
-ghost use Rattle.model_machine.specs.Sound.{IsClosed};
 ghost use Rattle.model_machine.specs.State.{State, generator_of, unbooked_in};
 ghost use Rattle.model_machine.specs.Step.{given_up};
 ghost use Rattle.model_machine.specs.Turn.{run_first, turn_over, woken_by};
@@ -20,7 +19,7 @@ ghost use Rattle.law_marks.specs.Marked.{IsMarkedIn, ThrowsCancel};
 pub fn a_mark_waits_for_its_tasks_step<S>()
     ensures callback { (limit : ℕ) (added : Extra S) (s : State S) (handle : Handle)
         (rest : List Handle) (task : ℕ)
-        → IsClosed s → steps task handle.action ≡ false → IsMarkedIn task s
+        → steps task handle.action ≡ false → IsMarkedIn task s
         → IsMarkedIn task (state_of (run_first limit added handle rest s)) }
     ensures woken { (answer : Answer) (s : State S) (task : ℕ) → IsMarkedIn task s
         → IsMarkedIn task (unbooked_in (woken_by answer) s) }

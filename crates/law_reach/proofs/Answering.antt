@@ -1,5 +1,5 @@
 -- What a request comes to is a row of changes.
-use Rattle.std.proofs.Common.{◌≡◌, ℕ, zero, suc, pos, refl, sym, subst, Bool, true, false, Option, Some, None}
+use Rattle.std.proofs.Common.{ℕ, zero, suc, ◌+◌, pos, refl, ap, inl, arith, length, Bool, true, false, Option, Some, None}
 use Rattle.model_value.specs.declared.action.Action.TheVariants as action
 use Rattle.model_value.specs.declared.input.Input.TheVariants.{Send, Throw}
 use Rattle.model_value.specs.Input.{Input}
@@ -17,21 +17,19 @@ use Rattle.model_machine.specs.Outcomes.{input_of}
 use Rattle.model_machine.specs.Replies.{RequestReply, Wake, alarmed, decides, ended, exits_as, exits_timeout, replied, reply, serves, serves_as}
 use Rattle.model_machine.specs.Replies.{serves_until}
 use Rattle.model_machine.specs.Replies.{shown_all, timed_out_if, waits, woken, woken_within}
-use Rattle.model_machine.specs.Sound.{IsClosed}
 use Rattle.model_machine.specs.State.{Standing, Asked, Sleeping, Leaving, Serving, Connecting, Yielding, Reading, ReadingAll, State, unbooked_in, with_loop}
 use Rattle.law_changes.specs.Changes.{CallsSoon, CallsLater, MakesFuture, Settles, MakesTask, OfParts}
 use Rattle.law_changes.specs.Reaches.{stays, goes, LoopReaches}
 use Rattle.law_changes.proofs.LoopRows.{asks_row, create_row, enter_group_row, enter_row, exit_begin_row, exit_timeout_row, exit_woken_row}
 use Rattle.law_changes.proofs.LoopRows.{reschedule_row, suspend_row, takes_row}
 use Rattle.law_changes.proofs.Folds.{one, on}
-use Rattle.law_reach.specs.Cases.{Replies, raises, leaves_none, exits_none, tells, names_itself, hands_on, pauses_on, alarms, awaits, prints, makes, sets}
-use Rattle.law_reach.specs.Cases.{fails, cancels, uncancels, spawns_it, enters}
-use Rattle.law_reach.specs.Cases.{leaves, moves, enters_one, exits, creates_it, serves_it}
+use Rattle.law_cases.specs.Cases.{Replies, raises, leaves_none, exits_none, tells, names_itself, hands_on, pauses_on, alarms, awaits, prints, makes, sets}
+use Rattle.law_cases.specs.Cases.{fails, cancels, uncancels, spawns_it, enters}
+use Rattle.law_cases.specs.Cases.{leaves, moves, enters_one, exits, creates_it, serves_it}
 use Rattle.law_reach.specs.Changes.{OfLoop, Says, MakesCoroutine, Stands, NamesFuture, ChangesExtra}
 use Rattle.law_reach.specs.Reaches.{ComesTo, InAnswer}
-use Rattle.law_reach.proofs.Cases.{reply_is}
-use Rattle.law_reach.specs.Closed.{stands_at_streams}
-use Rattle.law_reach.proofs.Closed.{decides_none}
+use Rattle.law_reach.proofs.Rows.{asks-said}
+use Rattle.law_reach.proofs.Trees.{comes_after}
 use Rattle.law_reach.proofs.Extras.{all_row}
 
 -- a row of the loop is one of the state
@@ -49,12 +47,12 @@ module _ {S : Type 0} (task : ℕ) where
   abbrev Comes : State S → RequestReply S → Type 0
   Comes s it = ComesTo (Some task) s it
 
-  replied_comes : (input : Input) (s : State S) → Comes s (replied input s)
-  replied_comes (Send value) s = record { reaches = stays; ends = tt }
-  replied_comes (Throw fault) s = record { reaches = stays; ends = tt }
+  pub replied_comes : (input : Input) (s : State S) → Comes s (replied input s)
+  replied_comes (Send value) s = record { reaches = stays; ends = tt; asks = refl }
+  replied_comes (Throw fault) s = record { reaches = stays; ends = tt; asks = refl }
 
   -- ---- waits
-  waits_row : (id : ℕ) (s : State S) → Row s (waits task id s)
+  pub waits_row : (id : ℕ) (s : State S) → Row s (waits task id s)
   waits_row id s = in_loop_row s (suspend_row task id s.loop)
 
   -- ---- timeouts and groups
@@ -62,99 +60,87 @@ module _ {S : Type 0} (task : ℕ) where
   exits_timeout_comes raised id s = at (exit_timeout raised id s.loop).timed_out
     where
       at : (b : Bool) → Comes s (timed_out_if b (with_loop (exit_timeout raised id s.loop).loop s))
-      at true = record { reaches = in_loop_row s (exit_timeout_row (Some task) raised id s.loop); ends = tt }
-      at false = record { reaches = in_loop_row s (exit_timeout_row (Some task) raised id s.loop); ends = tt }
+      at true = record { reaches = in_loop_row s (exit_timeout_row (Some task) raised id s.loop); ends = tt; asks = refl }
+      at false = record { reaches = in_loop_row s (exit_timeout_row (Some task) raised id s.loop); ends = tt; asks = refl }
 
-  exits_comes : (answer : GroupExit) (id : ℕ) (l : Loop) (s : State S) → LoopReaches (Some task) s.loop l → Comes s (exits_as answer task id (with_loop l s))
+  pub exits_comes : (answer : GroupExit) (id : ℕ) (l : Loop) (s : State S) → LoopReaches (Some task) s.loop l
+      → Comes s (exits_as answer task id (with_loop l s))
   exits_comes (Waits future) id l s row = record {
     reaches = goes (on (in_loop_row s row) (waits_row future (with_loop l s))) (Stands (Leaving id) task) refl;
     ends = tt;
+    asks = refl;
   }
-  exits_comes Passes id l s row = record { reaches = in_loop_row s row; ends = tt }
-  exits_comes (RaisedBy fault) id l s row = record { reaches = in_loop_row s row; ends = tt }
+  exits_comes Passes id l s row = record { reaches = in_loop_row s row; ends = tt; asks = refl }
+  exits_comes (RaisedBy fault) id l s row = record { reaches = in_loop_row s row; ends = tt; asks = refl }
 
   -- ---- what is added
   abbrev WakeComes : Wake S → Type 0
   WakeComes wake = (key : ℕ) (input : Input) (s : State S) → Comes s (wake key input s)
 
-  after : {s t : State S} {it : RequestReply S} → Row s t → Comes t it → Comes s it
-  after row it = record { reaches = on row it.reaches; ends = it.ends }
-
   until_comes : (o : Option Outcome) (wake : Wake S) (id key : ℕ) (s : State S) → WakeComes wake → Comes s (serves_until o wake task id key s)
   until_comes (Some outcome) wake id key s wakes = wakes key (input_of outcome) s
-  until_comes None wake id key s wakes = record { reaches = goes (waits_row id s) (Stands (Serving key) task) refl; ends = tt }
+  until_comes None wake id key s wakes = record { reaches = goes (waits_row id s) (Stands (Serving key) task) refl; ends = tt; asks = refl }
 
   as_comes : (answer : ExtraAnswer) (wake : Wake S) (s : State S) → WakeComes wake → Comes s (serves_as answer wake task s)
-  as_comes (extra.Answers value) wake s wakes = record { reaches = stays; ends = tt }
-  as_comes (extra.Raises fault) wake s wakes = record { reaches = stays; ends = tt }
+  as_comes (extra.Answers value) wake s wakes = record { reaches = stays; ends = tt; asks = refl }
+  as_comes (extra.Raises fault) wake s wakes = record { reaches = stays; ends = tt; asks = refl }
   as_comes (extra.Waits id key) wake s wakes = until_comes (ended s id) wake id key s wakes
 
   serves_comes : (said : ExtraSaid S) (wake : Wake S) (s : State S) → WakeComes wake → Comes s (serves said wake task s)
-  serves_comes said wake s wakes = after (called_row (Some task) said.call s) (as_comes said.answer wake (called said.call s) wakes)
+  serves_comes said wake s wakes = comes_after (Some task) (called_row (Some task) said.call s) refl (as_comes said.answer wake (called said.call s) wakes)
 
 module _ {S : Type 0} (added : Extra S) (task : ℕ) where
   within_comes : (wakes : ℕ) → WakeComes task (woken_within added wakes task)
-  within_comes zero key input s = record { reaches = stays; ends = tt }
+  within_comes zero key input s = record { reaches = stays; ends = inl tt; asks = omega arith }
   within_comes (suc wakes) key input s = serves_comes task (added.wake key input s) (woken_within added wakes task) s (within_comes wakes)
 
-  woken_comes : WakeComes task (woken added task)
+  pub woken_comes : WakeComes task (woken added task)
   woken_comes key input s = within_comes (suc (added.wakes_left key s.extra)) key input s
 
   -- ---- the table, by its cases
-  case_comes : (s : State S) {asked : Request} {it : RequestReply S} → Replies added task s asked it → ComesTo (Some task) s it
-  case_comes s (raises fault f) = record { reaches = stays; ends = tt }
-  case_comes s (leaves_none timeout raised fault e) = record { reaches = stays; ends = tt }
-  case_comes s (exits_none group raised fault e) = record { reaches = stays; ends = tt }
-  case_comes s (tells value none b) = record { reaches = stays; ends = tt }
-  case_comes s names_itself = record { reaches = stays; ends = tt }
+  pub case_comes : (s : State S) {asked : Request} {it : RequestReply S} → Replies added task s asked it → ComesTo (Some task) s it
+  case_comes s (raises fault f) = record { reaches = stays; ends = tt; asks = refl }
+  case_comes s (leaves_none timeout raised fault e) = record { reaches = stays; ends = tt; asks = refl }
+  case_comes s (exits_none group raised fault e) = record { reaches = stays; ends = tt; asks = refl }
+  case_comes s (tells value none b) = record { reaches = stays; ends = tt; asks = refl }
+  case_comes s names_itself = record { reaches = stays; ends = tt; asks = refl }
   case_comes s (hands_on on outcome e b) = replied_comes task (input_of outcome) s
-  case_comes s (pauses_on may b) = record { reaches = one (OfLoop (OfParts (CallsSoon (action.Step task)))) refl; ends = tt }
+  case_comes s (pauses_on may b) = record { reaches = one (OfLoop (OfParts (CallsSoon (action.Step task)))) refl; ends = tt; asks = refl }
   case_comes s (alarms x delay) = record {
     reaches = goes (on (goes (one (OfLoop (OfParts (MakesFuture Plain))) tt) (OfLoop (OfParts (CallsLater _ _))) tt)
         (waits_row task (next_future s.loop.parts) (unbooked_in (alarmed task (pos (suc delay))) s))) (Stands (Sleeping s.loop.parts.next_tag) task) refl;
     ends = tt;
+    asks = refl;
   }
-  case_comes s (awaits x id e none) = record { reaches = waits_row task id s; ends = tt }
-  case_comes s (prints values) = record { reaches = one (Says task (shown_all values)) refl; ends = tt }
+  case_comes s (awaits x id e none) = record { reaches = waits_row task id s; ends = tt; asks = refl }
+  case_comes s (prints values) = record {
+    reaches = one (Says task (shown_all values)) refl;
+    ends = tt;
+    asks = ap (λ n. n + length s.answers) (asks-said s.events task (shown_all values));
+  }
   case_comes s (makes few) = record {
     reaches = goes (one (NamesFuture (next_future s.loop.parts)) tt) (OfLoop (OfParts (MakesFuture Plain))) tt;
     ends = tt;
+    asks = refl;
   }
-  case_comes s (sets future value on e) = record { reaches = one (OfLoop (OfParts (Settles on _))) tt; ends = tt }
-  case_comes s (fails future fault on it e) = record { reaches = one (OfLoop (OfParts (Settles on _))) tt; ends = tt }
-  case_comes s (cancels x id) = record { reaches = in_loop_row s (asks_row (Some task) (ByScript task) id s.loop); ends = tt }
-  case_comes s (uncancels x other) = record { reaches = in_loop_row s (takes_row (Some task) (ByScript task) other s.loop); ends = tt }
+  case_comes s (sets future value on e) = record { reaches = one (OfLoop (OfParts (Settles on _))) tt; ends = tt; asks = refl }
+  case_comes s (fails future fault on it e) = record { reaches = one (OfLoop (OfParts (Settles on _))) tt; ends = tt; asks = refl }
+  case_comes s (cancels x id) = record { reaches = in_loop_row s (asks_row (Some task) (ByScript task) id s.loop); ends = tt; asks = refl }
+  case_comes s (uncancels x other) = record { reaches = in_loop_row s (takes_row (Some task) (ByScript task) other s.loop); ends = tt; asks = refl }
   case_comes s (spawns_it coroutine arguments few) = record {
     reaches = goes (one (OfLoop (OfParts MakesTask)) tt) (MakesCoroutine coroutine arguments) tt;
     ends = tt;
+    asks = refl;
   }
-  case_comes s (enters x delay few) = record { reaches = in_loop_row s (enter_row (Some task) task delay s.loop); ends = tt }
+  case_comes s (enters x delay few) = record { reaches = in_loop_row s (enter_row (Some task) task delay s.loop); ends = tt; asks = refl }
   case_comes s (leaves timeout raised id e) = exits_timeout_comes task raised id s
-  case_comes s (moves timeout x id when e) = record { reaches = in_loop_row s (reschedule_row (Some task) id when s.loop); ends = tt }
-  case_comes s (enters_one few) = record { reaches = in_loop_row s (enter_group_row (Some task) task s.loop); ends = tt }
+  case_comes s (moves timeout x id when e) = record { reaches = in_loop_row s (reschedule_row (Some task) id when s.loop); ends = tt; asks = refl }
+  case_comes s (enters_one few) = record { reaches = in_loop_row s (enter_group_row (Some task) task s.loop); ends = tt; asks = refl }
   case_comes s (exits group raised id e) =
       exits_comes task (exit_begin raised id s.loop).answer id (exit_begin raised id s.loop).loop s (exit_begin_row (Some task) raised id s.loop)
   case_comes s (creates_it group id coroutine arguments few e) = record {
     reaches = goes (in_loop_row s (create_row (Some task) id s.loop)) (MakesCoroutine coroutine arguments) tt;
     ends = tt;
+    asks = refl;
   }
   case_comes s (serves_it code arguments number items) = serves_comes task (added.ask task number items s) (woken added task) s woken_comes
-
-  pub reply_comes : (asked : Request) (s : State S) → IsClosed s → ComesTo (Some task) s (reply added task asked s)
-  reply_comes asked s closed = case_comes s (reply_is added task s asked (λ is. closed))
-
-  none_comes : (standing : Standing) (input : Input) (s : State S) → IsClosed s → stands_at_streams standing ≡ true
-      → ComesTo (Some task) s (decides added standing task input s)
-  none_comes standing input s closed is =
-      let it = decides_none s closed added task standing input is in subst (ComesTo (Some task) s) (sym it.1) (replied_comes task it.0 s)
-
-  pub decides_comes : (standing : Standing) (input : Input) (s : State S) → IsClosed s → ComesTo (Some task) s (decides added standing task input s)
-  decides_comes Asked input s closed = replied_comes task input s
-  decides_comes (Sleeping tag) input s closed = replied_comes task input s
-  decides_comes (Leaving group) input s closed =
-      exits_comes task (exit_woken input group s.loop).answer group (exit_woken input group s.loop).loop s (exit_woken_row (Some task) input group s.loop)
-  decides_comes (Serving key) input s closed = woken_comes key input s
-  decides_comes (Connecting conn) input s closed = none_comes (Connecting conn) input s closed refl
-  decides_comes (Yielding whom) input s closed = none_comes (Yielding whom) input s closed refl
-  decides_comes (Reading from op on) input s closed = none_comes (Reading from op on) input s closed refl
-  decides_comes (ReadingAll from taken on) input s closed = none_comes (ReadingAll from taken on) input s closed refl

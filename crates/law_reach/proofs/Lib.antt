@@ -1,8 +1,6 @@
 pub mod Answering
-pub mod Cases
-pub mod Closed
 pub mod Extras
-pub mod Loops
-pub mod Running
+pub mod Opened
+pub mod Rows
 pub mod Streams
-pub mod Turning
+pub mod Trees

@@ -1,5 +1,5 @@
 -- Whatever streams and children do is a row of changes, in a callback and in a request, and one lemma says so for each of them.
-use Rattle.std.proofs.Common.{◌≡◌, Bool, true, false, List, [], ◌∷◌, sym, subst}
+use Rattle.std.proofs.Common.{◌≡◌, refl, Bool, true, false, List, [], ◌∷◌, sym, subst}
 use Rattle.model_wire.specs.declared.event.Event.TheVariants as event
 use Rattle.model_wire.specs.Call.{Answer, Call}
 use Rattle.model_wire.specs.Fits.{fits}
@@ -11,9 +11,8 @@ use Rattle.model_machine.specs.Does.{changed, does}
 use Rattle.model_machine.specs.State.{State, noted, unbooked_in}
 use Rattle.model_machine.specs.Went.{answered_so, ask_so, fitted_so}
 use Rattle.law_changes.specs.Changes.{OfParts}
-use Rattle.law_changes.specs.Reaches.{goes}
 use Rattle.law_changes.proofs.Folds.{on, one}
-use Rattle.law_reach.specs.Changes.{Calls, Gets, OfLoop}
+use Rattle.law_reach.specs.Changes.{Calls, Hears, OfLoop}
 use Rattle.law_reach.specs.Reaches.{InRun}
 use Rattle.law_reach.specs.Streams.{of_doing}
 
@@ -23,16 +22,16 @@ module _ {S R : Type 0} (left : R → State S) (halts : End → State S → R) (
 
   asked_row : (call : Call) (next : Answer → State S → R) (s : State S) → ((answer : Answer) (t : State S) → InRun t (left (next answer t)))
       → InRun s (left (ask_so halts call next s))
-  asked_row call next s each = by s.answers
+  asked_row call next s each = by s.answers refl
     where
       fit : (b : Bool) (answer : Answer) {t : State S} → InRun s t → InRun s (left (fitted_so halts b call answer next t))
       fit true answer row = on row (each answer _)
       fit false answer row = halted _ row
 
-      by : (entries : List Entry) → InRun s (left (answered_so halts entries call next (noted (event.Called call) s)))
-      by [] = halted _ (one (Calls call) tt)
-      by (Refused line cause ∷ entries) = halted _ (one (Calls call) tt)
-      by (Answered answer ∷ entries) = fit (fits call answer) answer (goes (one (Calls call) tt) (Gets answer entries) tt)
+      by : (entries : List Entry) → s.answers ≡ entries → InRun s (left (answered_so halts entries call next (noted (event.Called call) s)))
+      by [] e = halted _ (one (Calls call) tt)
+      by (Refused line cause ∷ entries) e = halted _ (one (Calls call) tt)
+      by (Answered answer ∷ entries) e = fit (fits call answer) answer (one (Hears call answer entries) e)
 
   change_row : (change : doing.Change) (s : State S) → InRun s (unbooked_in (changed change) s)
   change_row doing.MakeFuture s = one (OfLoop (OfParts (of_doing doing.MakeFuture))) tt

@@ -1,14 +1,17 @@
 -- Small changes of the machine's state. Whatever the machine does is a row of them.
-use Rattle.std.specs.Prelude.{◌≡◌, ℕ, Bool, true, List, [], ◌∷◌, ◌++◌, Option, Some, None}
+use Rattle.std.specs.Prelude.{◌≡◌, ℕ, Bool, true, false, List, [], ◌∷◌, ◌++◌, Option, Some, None}
 use Rattle.model_value.specs.Action.{Action}
 use Rattle.model_value.specs.declared.action.Action.TheVariants as action
 use Rattle.model_value.specs.Input.{Input}
 use Rattle.model_value.specs.Value.{Value}
 use Rattle.model_wire.specs.declared.event.Event.TheVariants as event
 use Rattle.model_wire.specs.Call.{Answer, Call}
-use Rattle.model_wire.specs.Journal.{Entry}
-use Rattle.model_machine.specs.State.{Standing, State, in_loop, noted, resumed, stands, with_coroutine}
+use Rattle.model_wire.specs.Journal.{Entry, Answered}
+use Rattle.model_stream.specs.Streams.{Streams}
+use Rattle.model_machine.specs.Sound.{IsClosed}
+use Rattle.model_machine.specs.State.{Standing, State, in_loop, noted, resumed, stands, with_coroutine, with_streams}
 use Rattle.law_changes.specs.Changes.{LoopChange, MayInLoop, made_of_loop}
+use Rattle.law_trees.specs.Trees.{is_select}
 
 pub data StateChange (S : Type 0) : Type 0 where
   OfLoop : (change : LoopChange) → StateChange S
@@ -21,11 +24,13 @@ pub data StateChange (S : Type 0) : Type 0 where
   NamesFuture : (future : ℕ) → StateChange S
   EndsMain : StateChange S
   ChangesExtra : (extra : S) → StateChange S
+  ChangesStreams : (streams : Streams) → StateChange S
   -- a handle runs
   Runs : (it : Action) → StateChange S
-  -- the outside is asked, and answers
+  -- the outside is asked and answers, which leaves these answers
+  Hears : (call : Call) (answer : Answer) (left : List Entry) → StateChange S
+  -- the outside is asked and has no answer: the run ends
   Calls : (call : Call) → StateChange S
-  Gets : (answer : Answer) (left : List Entry) → StateChange S
 
 abbrev pub made : {S : Type 0} → StateChange S → State S → State S
 made (OfLoop change) s = in_loop (made_of_loop change) s
@@ -36,9 +41,24 @@ made (Resumes fresh task input) s = resumed fresh task input s
 made (NamesFuture future) s = record s { futures = s.futures ++ future ∷ [] }
 made EndsMain s = record s { main_done = true }
 made (ChangesExtra extra) s = record s { extra = extra }
+made (ChangesStreams streams) s = with_streams streams s
 made (Runs it) s = noted (event.Ran it) s
+made (Hears call answer left) s = noted (event.Got answer) (record (noted (event.Called call) s) { answers = left })
 made (Calls call) s = noted (event.Called call) s
-made (Gets answer left) s = noted (event.Got answer) (record s { answers = left })
+
+-- ---- what only happens where something is open or can be opened
+abbrev pub IsOpen : {S : Type 0} → State S → Type 0
+IsOpen s = IsClosed s → ⊥
+
+-- A call in the middle of a step, which is no select, and the answer that was next.
+pub record IsHeard {S : Type 0} (call : Call) (answer : Answer) (left : List Entry) (s : State S) : Type 0 where
+  pub opened : IsOpen s
+  pub other : is_select call ≡ false
+  pub answered : s.answers ≡ Answered answer ∷ left
+
+pub record IsUnheard {S : Type 0} (call : Call) (s : State S) : Type 0 where
+  pub opened : IsOpen s
+  pub other : is_select call ≡ false
 
 -- What may change while a request is answered: no coroutine is resumed then. A task speaks in its own step alone.
 abbrev pub MayInAnswer : {S : Type 0} → (runner : Option ℕ) → StateChange S → State S → Type 0
@@ -47,9 +67,10 @@ MayInAnswer runner (Says task text) s = runner ≡ Some task
 MayInAnswer runner (Stands standing task) s = runner ≡ Some task
 MayInAnswer runner (Resumes fresh task input) s = ⊥
 MayInAnswer runner EndsMain s = ⊥
+MayInAnswer runner (ChangesStreams streams) s = IsOpen s
 MayInAnswer runner (Runs it) s = ⊥
-MayInAnswer runner (Calls call) s = ⊥
-MayInAnswer runner (Gets answer left) s = ⊥
+MayInAnswer runner (Hears call answer left) s = IsHeard call answer left s
+MayInAnswer runner (Calls call) s = IsUnheard call s
 MayInAnswer runner _ s = Unit {0}
 
 -- whose step an action is
@@ -66,8 +87,15 @@ MayInCallback runner EndsMain s = Unit {0}
 MayInCallback runner (Runs it) s = runner_of it ≡ runner
 MayInCallback runner change s = MayInAnswer runner change s
 
--- what may change in a turn, once it has its answer
+-- what may change in a turn, once its select was answered
 abbrev pub MayInTurn : {S : Type 0} → StateChange S → State S → Type 0
-MayInTurn (Calls call) s = ⊥
-MayInTurn (Gets answer left) s = ⊥
+MayInTurn (ChangesStreams streams) s = IsOpen s
+MayInTurn (Hears call answer left) s = IsHeard call answer left s
+MayInTurn (Calls call) s = IsUnheard call s
 MayInTurn _ s = Unit {0}
+
+-- and in a run
+abbrev pub MayInRun : {S : Type 0} → StateChange S → State S → Type 0
+MayInRun (ChangesStreams streams) s = IsOpen s
+MayInRun (Hears call answer left) s = s.answers ≡ Answered answer ∷ left
+MayInRun _ s = Unit {0}

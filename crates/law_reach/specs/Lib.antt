@@ -1,5 +1,4 @@
-pub mod Cases
+pub mod Asked
 pub mod Changes
-pub mod Closed
 pub mod Reaches
 pub mod Streams

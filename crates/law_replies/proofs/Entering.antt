@@ -37,7 +37,8 @@ use Rattle.law_after.proofs.Made.{register_after, spawn_after}
 use Rattle.law_after.proofs.Loops.{parts_loop, create_loop}
 use Rattle.law_after.proofs.Deadlines.{schedule_loop}
 use Rattle.law_inside.specs.InStep.{IsStepSound, IsAsked, RepliesInStep}
-use Rattle.law_replies.proofs.Answering.{half, alive, within, left_before}
+use Rattle.law_answered.proofs.Handling.{spawned_step}
+use Rattle.law_answered.proofs.Answering.{half, alive, within, left_before}
 use Rattle.law_inside.proofs.Blocks.{open_kept, timeout_made_open, group_entered_open, entered_new, entered_is, entered_old, groups_longer}
 use Rattle.law_inside.proofs.Counts.{and_first, count_unbegun, lives_before, lives_within}
 use Rattle.law_inside.proofs.Given.{asked_leaves, task_made, spawn_keeps, spawned_blocks, old_same}
@@ -45,13 +46,6 @@ use Rattle.law_inside.proofs.Keeping.{IsApart, open_of, with_open, says_same, ta
 use Rattle.law_inside.proofs.Keeping.{resumed_others, resumed_standing, resumed_begun, answer_keeps}
 use Rattle.law_replies.proofs.Table.{same_tapes}
 use Rattle.law_inside.proofs.Tapes.{past_default}
-
--- ---- a new task's first step is pending
-spawned_step : (p : Parts) → 0 < pending_where (is_step (next_task p)) (spawn p).pending
-spawned_step p =
-    let a = soon-where (is_step (next_task p)) (Step (next_task p)) p in
-    let b : ◌≡◌ {A = ℕ} (cond (next_task p == next_task p) 1 0) 1 = ap (λ x. cond x 1 0) (eq-eqb (next_task p) (next_task p) refl) in
-    omega (arith, a, b)
 
 module _ {S : Type 0} (added : Extra S) (task : ℕ) (s : State S) (asked : Request) (is : IsAsked added task Asked asked s) where
   -- ---- main is over as before
@@ -80,12 +74,12 @@ module _ {S : Type 0} (added : Extra S) (task : ℕ) (s : State S) (asked : Requ
 
     made_half : IsApart (Some task) (Some task) added with_it
     made_half =
-        spawn_keeps added task coroutine arguments s (record s { loop = l }) (same_tapes s l) a more (half added task Asked asked s is) sound first
+        spawn_keeps added (Some task) coroutine arguments s (record s { loop = l }) (same_tapes s l) a more (half added task Asked asked s is) sound first
         (over_in true l a.parts) given_ (futures_kept s (record s { loop = l }) refl (λ id h. a.parts.plain id h) is.others.futures)
 
     its_same : generator_of task with_it ≡ generator_of task s
     its_same =
-        old_same added task coroutine arguments s (record s { loop = l }) (same_tapes s l) a more (half added task Asked asked s is) task
+        old_same added (Some task) coroutine arguments s (record s { loop = l }) (same_tapes s l) a more (half added task Asked asked s is) task
         (lives_within s.loop.parts task (alive added task Asked asked s is))
 
     its_within : task < length with_it.generators
@@ -101,10 +95,10 @@ module _ {S : Type 0} (added : Extra S) (task : ℕ) (s : State S) (asked : Requ
         subst (λ k. blocks_of told k ≡ blocks_of s k) e
         (resumed_blocks added task asked false (Send (Task (next_task s.loop.parts))) with_it its_within its_says
         ∙ plain (blocks_of with_it task) (Send (Task (next_task s.loop.parts)))
-        ∙ spawned_blocks added task coroutine arguments s (record s { loop = l }) (same_tapes s l) a more (half added task Asked asked s is) task)
+        ∙ spawned_blocks added (Some task) coroutine arguments s (record s { loop = l }) (same_tapes s l) a more (half added task Asked asked s is) task)
     its_blocks other (inr n) =
         resumed_others added task asked false (Send (Task (next_task s.loop.parts))) with_it its_within its_says other n
-        ∙ spawned_blocks added task coroutine arguments s (record s { loop = l }) (same_tapes s l) a more (half added task Asked asked s is) other
+        ∙ spawned_blocks added (Some task) coroutine arguments s (record s { loop = l }) (same_tapes s l) a more (half added task Asked asked s is) other
 
     pub made_in : IsStepSound added task (resumed false task (Send (Task (next_task s.loop.parts))) with_it)
     made_in = record {

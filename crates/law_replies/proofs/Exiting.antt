@@ -32,7 +32,7 @@ use Rattle.law_after.proofs.Exits.{ExitLeaves}
 use Rattle.law_after.proofs.Loops.{loop_on, book_loop}
 use Rattle.law_after.proofs.Requests.{suspend_after}
 use Rattle.law_inside.specs.InStep.{IsStepSound, IsAsked, RepliesInStep}
-use Rattle.law_replies.proofs.Answering.{half, within, left_before, rest_stood}
+use Rattle.law_answered.proofs.Answering.{half, within, left_before, rest_stood}
 use Rattle.law_inside.proofs.Blocks.{AreOpenAt, timeout_left_open, group_left_open}
 use Rattle.law_inside.proofs.Counts.{and_first, and_second, and_both, not_true, not_false, lives_before}
 use Rattle.law_inside.proofs.Given.{asked_leaves}

@@ -1,4 +1,3 @@
-pub mod Answering
 pub mod Innermost
 pub mod Table
 pub mod Entering

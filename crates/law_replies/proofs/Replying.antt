@@ -29,16 +29,18 @@ use Rattle.law_blocks.specs.Given.{InSaying}
 use Rattle.law_ledger.specs.Telling.{is_open as is_open_there}
 use Rattle.law_sound.proofs.Steps.{tags_of_sound}
 use Rattle.law_turns.specs.Replied.{RunsSound, RepliesSound, IsFit}
-use Rattle.law_turns.proofs.Replying.{reply_sound}
-use Rattle.law_reach.specs.Cases.{Replies, raises, leaves_none, exits_none, tells, names_itself, hands_on, pauses_on, alarms, awaits, prints, makes, sets}
-use Rattle.law_reach.specs.Cases.{fails, cancels, uncancels, spawns_it, enters, leaves, moves, enters_one, exits, creates_it, serves_it, is_exit}
-use Rattle.law_reach.specs.Cases.{is_of_block}
-use Rattle.law_reach.proofs.Cases.{reply_is}
+use Rattle.law_turns.proofs.Streaming.{reply_sound}
+use Rattle.law_cases.specs.Cases.{Replies, raises, leaves_none, exits_none, tells, names_itself, hands_on, pauses_on, alarms, awaits, prints, makes, sets}
+use Rattle.law_cases.specs.Cases.{fails, cancels, uncancels, spawns_it, enters, leaves, moves, enters_one, exits, creates_it, serves_it, is_exit}
+use Rattle.law_cases.specs.Cases.{is_of_block}
+use Rattle.law_cases.proofs.Cases.{reply_is}
 use Rattle.law_after.proofs.Deadlines.{reschedule_loop}
 use Rattle.law_after.proofs.Exits.{exit_begin_loop, exit_begin_leaves, exit_begin_marks}
 use Rattle.law_replies.specs.Added.{KeepsSound}
 use Rattle.law_inside.specs.InStep.{IsStepSound, IsAsked, RepliesInStep, is_added}
-use Rattle.law_replies.proofs.Answering.{half, alive, awaited_there, plain_futures, step_to}
+use Rattle.law_cases.specs.Closed.{is_to_streams}
+use Rattle.law_answered.proofs.Streaming.{streams_reply_in}
+use Rattle.law_answered.proofs.Answering.{half, alive, awaited_there, plain_futures, step_to}
 use Rattle.law_inside.proofs.Counts.{and_both, not_false, lives_within}
 use Rattle.law_replies.proofs.Entering.{spawns_in, creates_in, enters_timeout_in, enters_group_in}
 use Rattle.law_replies.proofs.Exiting.{timeout_there, timeout_open, exits_timeout_in, group_there, group_entered, group_its, group_unended, exits_in}
@@ -133,23 +135,23 @@ module _ {S : Type 0} (added : Extra S) (task : ℕ) (s : State S) (step : IsSte
   fits_in (request.TimeoutExit value raised) says own = timeout_fit value raised says
   fits_in (request.GroupExit value raised) says own = group_fit value raised says
   fits_in (request.Extra code arguments) says own = absurd (false≢true (sym own))
-  fits_in (request.Listen port coroutine) says own = step.others.closed
-  fits_in (request.Connect port) says own = step.others.closed
-  fits_in (request.Write stream bytes) says own = step.others.closed
-  fits_in (request.WriteEof stream) says own = step.others.closed
-  fits_in (request.Close x) says own = step.others.closed
-  fits_in (request.WaitClosed stream) says own = step.others.closed
-  fits_in (request.Drain stream) says own = step.others.closed
-  fits_in (request.Limits stream high low) says own = step.others.closed
-  fits_in (request.Read stream count) says own = step.others.closed
-  fits_in (request.ReadExactly stream count) says own = step.others.closed
-  fits_in (request.ReadUntil stream separator) says own = step.others.closed
-  fits_in (request.ReadLine stream) says own = step.others.closed
-  fits_in (request.Launch words) says own = step.others.closed
-  fits_in (request.StandardError child) says own = step.others.closed
-  fits_in (request.WaitChild child) says own = step.others.closed
-  fits_in (request.ReturnCode child) says own = step.others.closed
-  fits_in (request.Kill child) says own = step.others.closed
+  fits_in (request.Listen port coroutine) says own = step.others.streams
+  fits_in (request.Connect port) says own = step.others.streams
+  fits_in (request.Write stream bytes) says own = step.others.streams
+  fits_in (request.WriteEof stream) says own = step.others.streams
+  fits_in (request.Close x) says own = step.others.streams
+  fits_in (request.WaitClosed stream) says own = step.others.streams
+  fits_in (request.Drain stream) says own = step.others.streams
+  fits_in (request.Limits stream high low) says own = step.others.streams
+  fits_in (request.Read stream count) says own = step.others.streams
+  fits_in (request.ReadExactly stream count) says own = step.others.streams
+  fits_in (request.ReadUntil stream separator) says own = step.others.streams
+  fits_in (request.ReadLine stream) says own = step.others.streams
+  fits_in (request.Launch words) says own = step.others.streams
+  fits_in (request.StandardError child) says own = step.others.streams
+  fits_in (request.WaitChild child) says own = step.others.streams
+  fits_in (request.ReturnCode child) says own = step.others.streams
+  fits_in (request.Kill child) says own = step.others.streams
   fits_in _ says own = tt
 
   -- ---- what it comes to
@@ -164,7 +166,7 @@ module _ {S : Type 0} (added : Extra S) (task : ℕ) (s : State S) (step : IsSte
       main_told = step.others.main_told;
       standing = λ k l f. let a = step.others.standing k l f in record { sleeping = a.sleeping; leaving = a.leaving; leaving_now = a.leaving_now };
       exits = step.others.exits;
-      closed = step.others.closed;
+      streams = step.others.streams;
       blocks = record {
         timeouts = step.others.blocks.timeouts;
         groups = step.others.blocks.groups;
@@ -285,4 +287,10 @@ module _ {S : Type 0} (added : Extra S) (keeps : KeepsSound added) (task : ℕ) 
   pub reply_in : (asked : Request) → says_of step_limit added task s ≡ Asks asked → RepliesInStep added false task (reply added task asked s)
   reply_in (request.Extra code arguments) said =
       keeps.ask task code arguments s step (asked_is added task s step (request.Extra code arguments) said)
-  reply_in asked said = case_in asked (reply added task asked s) said refl (sound_of asked said refl) (reply_is added task s asked (λ is. step.others.closed))
+  reply_in asked said = at (is_to_streams asked) refl
+    where
+      at : (b : Bool) → is_to_streams asked ≡ b → RepliesInStep added false task (reply added task asked s)
+      at true is = streams_reply_in added task s step asked said is
+      at false is =
+          case_in asked (reply added task asked s) said refl (sound_of asked said refl)
+          (reply_is added task s asked (λ other. absurd (false≢true (sym is ∙ other))))

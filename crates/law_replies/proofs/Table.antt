@@ -31,7 +31,7 @@ use Rattle.law_after.proofs.Made.{make_after}
 use Rattle.law_after.proofs.Requests.{cancel_after, suspend_after}
 use Rattle.law_after.proofs.Loops.{refl_loop, loop_on, parts_loop, book_loop}
 use Rattle.law_inside.specs.InStep.{IsStepSound, IsAsked, RepliesInStep, SameTapes}
-use Rattle.law_replies.proofs.Answering.{half, left_before, within, step_to, rest_to, rest_stood}
+use Rattle.law_answered.proofs.Answering.{half, left_before, within, step_to, rest_to, rest_stood}
 use Rattle.law_inside.proofs.Counts.{none_sleep, no_sleep_of, sleep_kept}
 use Rattle.law_inside.proofs.Given.{ended_made, asked_leaves}
 use Rattle.law_inside.proofs.Keeping.{futures_kept, stood_standing}

@@ -20,7 +20,7 @@ use Rattle.model_loop.specs.Parts.{Handle, Parts}
 use Rattle.model_loop.specs.Tasks.{begin_step, cancelled_error, cancelling_input, is_cancelled, is_marked, lives, next_task}
 use Rattle.model_loop.specs.Ways.{is_running, one_if, steps, wanted}
 use Rattle.model_machine.specs.Extra.{Extra}
-use Rattle.model_machine.specs.Replies.{decides, exits_as, replied}
+use Rattle.model_machine.specs.Replies.{Answers, decides, exits_as, replied}
 use Rattle.model_machine.specs.Sound.{IsStateSound, ends_sleep_of, blocks_of, names_block, names_made, sends_made, stands_at}
 use Rattle.model_machine.specs.State.{Standing, Asked, Sleeping, Leaving, Serving, Connecting, Yielding, Reading}
 use Rattle.model_machine.specs.State.{ReadingAll, State, generator_of, noted, resumed, stands, unbooked_in}
@@ -38,10 +38,14 @@ use Rattle.law_after.proofs.Requests.{begin_after}
 use Rattle.law_after.proofs.Loops.{parts_loop, refl_loop}
 use Rattle.law_after.proofs.Exits.{exit_woken_loop, exit_woken_leaves}
 use Rattle.law_replies.specs.Added.{KeepsSound}
-use Rattle.law_reach.specs.Closed.{stands_at_streams}
-use Rattle.law_reach.proofs.Closed.{decides_none}
+use Rattle.law_cases.specs.Closed.{stands_at_streams}
+use Rattle.law_opened.specs.StreamReplies.{StreamReplies}
+use Rattle.law_opened.proofs.Replying.{streams_decide, woken_at}
+use Rattle.law_answered.proofs.Streaming.{streams_in, streams_leave}
+use Rattle.law_answered.proofs.Standing.{not_pause_at, streams_to, woken_asked, woken_tape}
+use Rattle.law_turns.proofs.Streaming.{streams_sound}
 use Rattle.law_inside.specs.InStep.{IsStepSound, IsAsked, RepliesInStep}
-use Rattle.law_replies.proofs.Answering.{left_before, step_to}
+use Rattle.law_answered.proofs.Answering.{left_before, step_to}
 use Rattle.law_inside.proofs.Blocks.{open_kept}
 use Rattle.law_inside.proofs.Counts.{and_first, and_second, not_true, lives_before, lives_within, no_sleep_of, sleep_none}
 use Rattle.law_replies.proofs.Exiting.{group_there, exits_in, leaving_is}
@@ -272,10 +276,10 @@ module _ {S : Type 0} (added : Extra S) (s : State S) (task : ℕ) (input : Inpu
       inside id out (inl l) = l
       inside id out (inr past) = absurd (false≢true (sym (ap (λ (g : GroupFields). g.exiting) (past_default s.loop.groups id (new_group 0) past)) ∙ out))
   standing_fit (Serving key) e n = absurd (n key refl)
-  standing_fit (Connecting conn) e n = sound.closed
-  standing_fit (Yielding whom) e n = sound.closed
-  standing_fit (Reading from op on) e n = sound.closed
-  standing_fit (ReadingAll from taken on) e n = sound.closed
+  standing_fit (Connecting conn) e n = sound.streams
+  standing_fit (Yielding whom) e n = sound.streams
+  standing_fit (Reading from op on) e n = sound.streams
+  standing_fit (ReadingAll from taken on) e n = sound.streams
 
   runs_as : (st : Standing) → (generator_of task s).standing ≡ st
       → RunsSound task (stands Asked task (unbooked_in (λ p. (begin_step task input (given_up st gone.loop.parts)).parts) gone))
@@ -368,13 +372,26 @@ module _ {S : Type 0} (added : Extra S) (s : State S) (task : ℕ) (input : Inpu
         (λ x. not_pause (sym (pause_first added task begun x) ∙ is.says))
         (exit_woken_leaves (names_made (next_task begun.loop.parts)) refl false (Some task) None None id heard_ begun.loop there) h
 
-    -- at a request on what isn't there
-    none_there : (st : Standing) → (generator_of task s).standing ≡ st → ((id : ℕ) → st ≡ Leaving id → ⊥) → (asked : Request)
-        → says_of step_limit added task s ≡ Asks asked → stands_at st asked ≡ true → stands_at_streams st ≡ true
-        → RepliesInStep added true task (decides added st task (heard st) begun)
-    none_there st e n asked says may at_streams =
-        let it = decides_none begun sound.closed added task st (heard st) at_streams in
-        subst (RepliesInStep added true task) (sym it.1) (answers st e n asked says may it.0 (it.2 (next_task s.loop.parts) (heard_made st)))
+    -- at a request on listeners, connections and children: the input is handed on, or a tree goes on
+    streams_on : (st : Standing) → (generator_of task s).standing ≡ st → (asked : Request) → says_of step_limit added task s ≡ Asks asked
+        → stands_at st asked ≡ true → stands_at_streams st ≡ true → RepliesInStep added true task (decides added st task (heard st) begun)
+    streams_on st e asked says may at_streams =
+        at (streams_decide added task begun (begun_asked asked says).others.streams asked st (heard st) at_streams may)
+      where
+        here : (heard_ : Input) → heard st ≡ heard_ → IsStepSound added task (resumed true task heard_ begun)
+        here heard_ same =
+            to st e (streams_leave st at_streams) asked says may heard_ (subst (λ i. sends_made (next_task s.loop.parts) i ≡ true) same (heard_made st))
+
+        at : ((value : Value) × (heard st ≡ Send value) × (decides added st task (heard st) begun ≡ Answers value begun))
+            ⊎ StreamReplies task (woken_at st begun) asked (decides added st task (heard st) begun)
+            → RepliesInStep added true task (decides added st task (heard st) begun)
+        at (inl told) = subst (RepliesInStep added true task) (sym told.2) (here (Send told.0) told.1)
+        at (inr it) =
+            let is = woken_asked st (begun_asked asked says) in
+            streams_in added task (generator_of task s).standing asked (woken_at st begun) is (λ id x. streams_leave st at_streams id (sym e ∙ x))
+            (woken_tape task begun st (λ x. not_pause_at st asked at_streams may (sym (pause_first added task begun x) ∙ (begun_asked asked says).says)))
+            (streams_to st asked at_streams may) true (decides added st task (heard st) begun)
+            (streams_sound task (woken_at st begun) asked (decides added st task (heard st) begun) it is.others.loop) it
 
     decided : (st : Standing) → (generator_of task s).standing ≡ st → (asked : Request) → says_of step_limit added task s ≡ Asks asked
         → stands_at st asked ≡ true → RepliesInStep added true task (decides added st task (heard st) begun)
@@ -395,13 +412,13 @@ module _ {S : Type 0} (added : Extra S) (s : State S) (task : ℕ) (input : Inpu
         (subst (λ q. IsAsked added task (Serving key) q begun) g.1.1
         (subst (λ st. IsAsked added task st asked begun) e (begun_asked asked says)))
     decided (Connecting conn) e asked says may =
-        none_there (Connecting conn) e (λ id x. absurd cc) asked says may refl
+        streams_on (Connecting conn) e asked says may refl
     decided (Yielding whom) e asked says may =
-        none_there (Yielding whom) e (λ id x. absurd cc) asked says may refl
+        streams_on (Yielding whom) e asked says may refl
     decided (Reading from op on) e asked says may =
-        none_there (Reading from op on) e (λ id x. absurd cc) asked says may refl
+        streams_on (Reading from op on) e asked says may refl
     decided (ReadingAll from taken on) e asked says may =
-        none_there (ReadingAll from taken on) e (λ id x. absurd cc) asked says may refl
+        streams_on (ReadingAll from taken on) e asked says may refl
 
     pub begins_in : RepliesInStep added true task (decides added (generator_of task s).standing task (heard (generator_of task s).standing) begun)
     begins_in =

@@ -44,8 +44,10 @@ use Rattle.law_after.proofs.Deadlines.{fire_loop}
 use Rattle.law_after.proofs.Loops.{child_done_loop, loop_on, parts_loop}
 use Rattle.law_after.proofs.Parts.{settle_after, taken_after}
 use Rattle.law_replies.specs.Added.{KeepsSound}
-use Rattle.law_reach.specs.Closed.{is_of_streams}
-use Rattle.law_reach.proofs.Closed.{effect_none}
+use Rattle.law_trees.specs.Trees.{is_of_streams}
+use Rattle.law_opened.proofs.Going.{effect_is}
+use Rattle.law_turns.proofs.Streaming.{streams_unfollowed}
+use Rattle.law_answered.proofs.Handling.{goes_in}
 use Rattle.law_inside.specs.InStep.{IsStepSound, LeavesStateSound, RepliesInStep}
 use Rattle.law_runs.proofs.Beginning.{begins_in}
 use Rattle.law_runs.proofs.Finishing.{returns_sound, raises_sound}
@@ -171,13 +173,14 @@ module _ {S : Type 0} (added : Extra S) (keeps : KeepsSound added) (s : State S)
       subst (λ a. LeavesStateSound added (step step_limit added task input (noted (event.Ran a) out))) is
       (step_in added keeps task s input handle rest first live (ap (steps task) is ∙ mine) sound given_)
 
-  -- of what isn't there
-  none_there : (it : Action) → handle.action ≡ it → is_of_streams it ≡ true → is_followed it ≡ false → ((id : ℕ) → fires id it ≡ false)
+  -- of listeners, connections and children
+  streams_handle : (it : Action) → handle.action ≡ it → is_of_streams it ≡ true → ((id : ℕ) → fires id it ≡ false)
       → ((group : ℕ) → told_by group it [] ≡ []) → ((other : ℕ) → is_step other it ≡ false)
       → LeavesStateSound added (effect step_limit added it (noted (event.Ran it) out))
-  none_there it is of unfollowed no_fire none steps_none =
-      subst (LeavesStateSound added) (sym (effect_none (noted (event.Ran it) out) sound.closed step_limit added it of))
-      (idle_in it is unfollowed no_fire none steps_none)
+  streams_handle it is of no_fire none steps_none =
+      let here = idle_in it is (streams_unfollowed it of) no_fire none steps_none in
+      goes_in added (noted (event.Ran it) out) here (effect step_limit added it (noted (event.Ran it) out))
+      (effect_is (noted (event.Ran it) out) here.streams step_limit added it of)
 
   lively : (it : Action) → handle.action ≡ it → handle.dead ≡ false → LeavesStateSound added (effect step_limit added it (noted (event.Ran it) out))
   unfolding effect
@@ -215,18 +218,18 @@ module _ {S : Type 0} (added : Extra S) (keeps : KeepsSound added) (s : State S)
       (idle_in (action.ExtraItem code bytes) is refl (λ id. refl) (λ g. refl) (λ other. refl))
   lively (action.Extra key) is live =
       keeps.act key (noted (event.Ran (action.Extra key)) out) (idle_in (action.Extra key) is refl (λ id. refl) (λ g. refl) (λ other. refl))
-  lively (action.Made conn) is live = none_there (action.Made conn) is refl refl (λ id. refl) (λ g. refl) (λ other. refl)
-  lively (action.StartRead conn) is live = none_there (action.StartRead conn) is refl refl (λ id. refl) (λ g. refl) (λ other. refl)
-  lively (action.Lost conn broken) is live = none_there (action.Lost conn broken) is refl refl (λ id. refl) (λ g. refl) (λ other. refl)
-  lively (action.HandlerDone conn task) is live = none_there (action.HandlerDone conn task) is refl refl (λ id. refl) (λ g. refl) (λ other. refl)
-  lively (action.ReadableServer server) is live = none_there (action.ReadableServer server) is refl refl (λ id. refl) (λ g. refl) (λ other. refl)
-  lively (action.Readable conn) is live = none_there (action.Readable conn) is refl refl (λ id. refl) (λ g. refl) (λ other. refl)
-  lively (action.Writable conn) is live = none_there (action.Writable conn) is refl refl (λ id. refl) (λ g. refl) (λ other. refl)
-  lively (action.Up conn) is live = none_there (action.Up conn) is refl refl (λ id. refl) (λ g. refl) (λ other. refl)
-  lively (action.Down conn) is live = none_there (action.Down conn) is refl refl (λ id. refl) (λ g. refl) (λ other. refl)
-  lively (action.WritableChild child) is live = none_there (action.WritableChild child) is refl refl (λ id. refl) (λ g. refl) (λ other. refl)
-  lively (action.ChildItem child told) is live = none_there (action.ChildItem child told) is refl refl (λ id. refl) (λ g. refl) (λ other. refl)
-  lively (action.LostChild child broken) is live = none_there (action.LostChild child broken) is refl refl (λ id. refl) (λ g. refl) (λ other. refl)
+  lively (action.Made conn) is live = streams_handle (action.Made conn) is refl (λ id. refl) (λ g. refl) (λ other. refl)
+  lively (action.StartRead conn) is live = streams_handle (action.StartRead conn) is refl (λ id. refl) (λ g. refl) (λ other. refl)
+  lively (action.Lost conn broken) is live = streams_handle (action.Lost conn broken) is refl (λ id. refl) (λ g. refl) (λ other. refl)
+  lively (action.HandlerDone conn task) is live = streams_handle (action.HandlerDone conn task) is refl (λ id. refl) (λ g. refl) (λ other. refl)
+  lively (action.ReadableServer server) is live = streams_handle (action.ReadableServer server) is refl (λ id. refl) (λ g. refl) (λ other. refl)
+  lively (action.Readable conn) is live = streams_handle (action.Readable conn) is refl (λ id. refl) (λ g. refl) (λ other. refl)
+  lively (action.Writable conn) is live = streams_handle (action.Writable conn) is refl (λ id. refl) (λ g. refl) (λ other. refl)
+  lively (action.Up conn) is live = streams_handle (action.Up conn) is refl (λ id. refl) (λ g. refl) (λ other. refl)
+  lively (action.Down conn) is live = streams_handle (action.Down conn) is refl (λ id. refl) (λ g. refl) (λ other. refl)
+  lively (action.WritableChild child) is live = streams_handle (action.WritableChild child) is refl (λ id. refl) (λ g. refl) (λ other. refl)
+  lively (action.ChildItem child told) is live = streams_handle (action.ChildItem child told) is refl (λ id. refl) (λ g. refl) (λ other. refl)
+  lively (action.LostChild child broken) is live = streams_handle (action.LostChild child broken) is refl (λ id. refl) (λ g. refl) (λ other. refl)
 
   pub callback_in : LeavesStateSound added (run_first step_limit added handle rest s)
   callback_in = at handle.dead refl

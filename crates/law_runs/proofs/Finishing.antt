@@ -29,7 +29,7 @@ use Rattle.law_after.specs.After.{IsLoopAfter, ResultIn}
 use Rattle.law_after.proofs.Loops.{parts_loop}
 use Rattle.law_after.proofs.Requests.{finish_after}
 use Rattle.law_inside.specs.InStep.{IsStepSound}
-use Rattle.law_replies.proofs.Answering.{left_before}
+use Rattle.law_answered.proofs.Answering.{left_before}
 use Rattle.law_inside.proofs.Blocks.{open_kept}
 use Rattle.law_inside.proofs.Counts.{lives_before, lives_within}
 use Rattle.law_inside.proofs.Given.{Made, said_made}

@@ -147,10 +147,10 @@ module _ {S : Type 0} (added : Extra S) where
         finished None left sound = goes left sound
         finished (Some outcome) left sound = stops _ left sound
 
-    pub turn_left : ((answer : Answer) (t : State S) → IsStateSound added t → Left (turned_by step_limit added answer t))
-        → (s : State S) → IsStateSound added s → Left (turn step_limit added s)
+    pub turn_left : (s : State S) → ((answer : Answer) (t : State S) → t.streams ≡ s.streams → IsStateSound added t
+        → Left (turned_by step_limit added answer t)) → IsStateSound added s → Left (turn step_limit added s)
     unfolding turn
-    turn_left turned s sound = unless (is_stalled added s)
+    turn_left s turned sound = unless (is_stalled added s)
       where
         asked : IsStateSound added (noted (event.Called (call_of added s)) s)
         asked =
@@ -162,7 +162,7 @@ module _ {S : Type 0} (added : Extra S) where
         fit : (b : Bool) (entries : List Entry) (answer : Answer)
             → Left (fitted b (call_of added s) answer (turned_by step_limit added)
             (noted (event.Got answer) (record (noted (event.Called (call_of added s)) s) { answers = entries })))
-        fit true entries answer = turned answer _ (noted_in s entries (call_of added s) answer sound)
+        fit true entries answer = turned answer _ refl (noted_in s entries (call_of added s) answer sound)
         fit false entries answer = stops _ _ (noted_in s entries (call_of added s) answer sound)
 
         by : (entries : List Entry)
@@ -233,7 +233,7 @@ module _ {S : Type 0} (added : Extra S) where
         (pending_in (unbooked_in (woken_by answer) s) (woken_in s answer sound))
 
     pub turn_in : (s : State S) → IsStateSound added s → LeavesStateSound added (turn step_limit added s)
-    turn_in = turn_left (LeavesStateSound added) (λ now h. h) (λ how last h. tt) turned_in
+    turn_in s sound = turn_left (LeavesStateSound added) (λ now h. h) (λ how last h. tt) s (λ answer t same h. turned_in answer t h) sound
 
     pub mids_in : (s : State S) → IsStateSound added s → AreStatesSound added (mids step_limit added s)
     mids_in s sound = unless (is_stalled added s)

@@ -1,3 +1,4 @@
 pub mod Reading
 pub mod Replies
 pub mod Turns
+pub mod Streaming

@@ -33,17 +33,18 @@ use Rattle.model_machine.specs.Replies.{RequestReply, replied, ended, waits, ala
 use Rattle.model_machine.specs.Replies.{sleeps_for, timed_out_if, exits_timeout}
 use Rattle.model_machine.specs.Replies.{exits_as, exits_group, Wake, serves_until}
 use Rattle.model_machine.specs.Replies.{serves_as, serves, woken_within, woken, reply, decides}
-use Rattle.model_machine.specs.Sound.{IsClosed, AreBlocksOf, AreBlocksOpen, blocks_of, has_open, is_open}
+use Rattle.model_machine.specs.Sound.{AreBlocksOf, AreBlocksOpen, AreStreamsFutures, blocks_of, has_open, is_open, stands_at}
 use Rattle.model_machine.specs.State.{Standing, Asked, Sleeping, Leaving, Serving, Connecting, Yielding}
 use Rattle.model_machine.specs.State.{Reading, ReadingAll, Generator, State, generator, with_loop}
 use Rattle.model_machine.specs.Step.{says_of}
 use Rattle.law_changes.specs.Changes.{CallsSoon, CallsLater, MakesFuture, OfParts}
-use Rattle.law_reach.specs.Cases.{Replies, raises, leaves_none, exits_none, tells, names_itself, hands_on, pauses_on, alarms, awaits, prints, makes}
-use Rattle.law_reach.specs.Cases.{sets}
-use Rattle.law_reach.specs.Cases.{fails, cancels, uncancels, spawns_it, enters, leaves, moves, enters_one, exits, creates_it, serves_it}
-use Rattle.law_reach.specs.Closed.{stands_at_streams}
-use Rattle.law_reach.proofs.Closed.{decides_none}
-use Rattle.law_reach.proofs.Cases.{reply_is}
+use Rattle.law_cases.specs.Cases.{Replies, raises, leaves_none, exits_none, tells, names_itself, hands_on, pauses_on, alarms, awaits, prints, makes}
+use Rattle.law_cases.specs.Cases.{sets}
+use Rattle.law_cases.specs.Cases.{fails, cancels, uncancels, spawns_it, enters, leaves, moves, enters_one, exits, creates_it, serves_it}
+use Rattle.law_cases.specs.Closed.{is_to_streams}
+use Rattle.law_opened.proofs.Replying.{streams_reply}
+use Rattle.law_taken.proofs.Streaming.{decides_covers, streams_covers}
+use Rattle.law_cases.proofs.Cases.{reply_is}
 use Rattle.law_machine.proofs.Kept.{reply_state}
 use Rattle.law_inside.specs.InStep.{IsStepSound}
 use Rattle.law_inside.proofs.Counts.{own_there, lives_within}
@@ -198,25 +199,23 @@ woken_within_in added (suc wakes) task key input s is =
 woken_in : {S : Type 0} (added : Extra S) (task : ℕ) → WakeCovers (woken added task)
 woken_in added task key input s is = woken_within_in added (suc (added.wakes_left key s.extra)) task key input s is
 
--- at a request on what isn't there
-none_in : {S : Type 0} (added : Extra S) (standing : Standing) (task : ℕ) (input : Input) (s : State S) → IsClosed s
-    → stands_at_streams standing ≡ true → IsGood s.loop → Covers (decides added standing task input s)
-none_in added standing task input s closed at_streams is =
-    let it = decides_none s closed added task standing input at_streams in subst Covers (sym it.1) (replied_in it.0 s is.covered)
-
-pub decides_in : {S : Type 0} (added : Extra S) (standing : Standing) (task : ℕ) (input : Input) (s : State S) → IsClosed s → IsGood s.loop
-    → Covers (decides added standing task input s)
-decides_in added Asked task input s closed is = replied_in input s is.covered
-decides_in added (Sleeping tag) task input s closed is = replied_in input s is.covered
-decides_in added (Leaving group) task input s closed is =
+pub decides_in : {S : Type 0} (added : Extra S) (standing : Standing) (task : ℕ) (input : Input) (s : State S) → AreStreamsFutures s → (asked : Request)
+    → stands_at standing asked ≡ true → IsGood s.loop → Covers (decides added standing task input s)
+decides_in added Asked task input s kept asked may is = replied_in input s is.covered
+decides_in added (Sleeping tag) task input s kept asked may is = replied_in input s is.covered
+decides_in added (Leaving group) task input s kept asked may is =
     let l = (exit_woken input group s.loop).loop in
     exits_in (exit_woken input group s.loop).answer task group l s (woken_right input group s.loop is.right)
     (covers s.loop l (easy_woken input group s.loop) is.right is.covered)
-decides_in added (Serving key) task input s closed is = woken_in added task key input s is
-decides_in added (Connecting conn) task input s closed is = none_in added (Connecting conn) task input s closed refl is
-decides_in added (Yielding whom) task input s closed is = none_in added (Yielding whom) task input s closed refl is
-decides_in added (Reading from op on) task input s closed is = none_in added (Reading from op on) task input s closed refl is
-decides_in added (ReadingAll from taken on) task input s closed is = none_in added (ReadingAll from taken on) task input s closed refl is
+decides_in added (Serving key) task input s kept asked may is = woken_in added task key input s is
+decides_in added (Connecting conn) task input s kept asked may is =
+    decides_covers added task s is.right is.covered kept asked (Connecting conn) input refl may
+decides_in added (Yielding whom) task input s kept asked may is =
+    decides_covers added task s is.right is.covered kept asked (Yielding whom) input refl may
+decides_in added (Reading from op on) task input s kept asked may is =
+    decides_covers added task s is.right is.covered kept asked (Reading from op on) input refl may
+decides_in added (ReadingAll from taken on) task input s kept asked may is =
+    decides_covers added task s is.right is.covered kept asked (ReadingAll from taken on) input refl may
 
 -- ---- the table
 module _ {S : Type 0} (added : Extra S) (task : ℕ) (s : State S) (step : IsStepSound added task s) (c : IsCovered s.loop) where
@@ -285,4 +284,8 @@ module _ {S : Type 0} (added : Extra S) (task : ℕ) (s : State S) (step : IsSte
       said_in (added.ask task number items s) (woken added task) task s (woken_in added task) (record { right = right; covered = c })
 
   pub reply_in : (asked : Request) → says_of step_limit added task s ≡ Asks asked → Covers (reply added task asked s)
-  reply_in asked said = case_in asked (reply added task asked s) said (reply_is added task s asked (λ is. step.others.closed))
+  reply_in asked said = at (is_to_streams asked) refl
+    where
+      at : (b : Bool) → is_to_streams asked ≡ b → Covers (reply added task asked s)
+      at true is = streams_covers s right c task asked (reply added task asked s) (streams_reply added task s step.others.streams asked is)
+      at false is = case_in asked (reply added task asked s) said (reply_is added task s asked (λ other. absurd (false≢true (sym is ∙ other))))

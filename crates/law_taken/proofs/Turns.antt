@@ -40,10 +40,11 @@ use Rattle.law_replies.proofs.Replying.{reply_in as replies_sound}
 use Rattle.law_inside.specs.InStep.{IsStepSound, LeavesStateSound, RepliesInStep}
 use Rattle.law_changes.proofs.Folds.{on}
 use Rattle.law_changes.proofs.PartsRows.{begin_row}
-use Rattle.law_reach.specs.Closed.{is_of_streams}
-use Rattle.law_reach.proofs.Closed.{effect_none}
-use Rattle.law_reach.proofs.Running.{given_up_row}
-use Rattle.law_runs.proofs.Beginning.{begins_in}
+use Rattle.law_trees.specs.Trees.{is_of_streams}
+use Rattle.law_opened.proofs.Going.{effect_is}
+use Rattle.law_taken.proofs.Streaming.{goes_covers}
+use Rattle.law_going.proofs.Running.{given_up_row}
+use Rattle.law_runs.proofs.Beginning.{begins_in, begun_asked, stepped_lives}
 use Rattle.law_runs.proofs.Callbacks.{woken_made}
 use Rattle.law_runs.proofs.Folding.{turn_through}
 use Rattle.law_runs.proofs.Turning.{turn_in}
@@ -121,9 +122,12 @@ module _ {S : Type 0} (added : Extra S) (keeps : KeepsSound added) (task : ℕ) 
       let standing = (generator_of task s).standing in
       let begun = begin_step task input (given_up standing gone.loop.parts) in
       let awake = stands Asked task (unbooked_in (λ p. begun.parts) gone) in
+      let a = sound.asking task (stepped_lives added s task input handle rest first live mine sound) refl in
       after_in (serve_all step_limit added task) (λ t h d. serve_in (most_answers step_limit (generator_of task t).tape) t h d) true _
       (begins_in added s task input handle rest first live mine sound keeps given_)
-      (decides_in added standing task begun.input awake sound.closed (begun_good standing input s.loop rest is))
+      (decides_in added standing task begun.input awake
+      (begun_asked added s task input handle rest first live mine sound a.asked a.says).others.streams a.asked a.stands
+      (begun_good standing input s.loop rest is))
 
 -- ---- a callback
 module _ {S : Type 0} (added : Extra S) (keeps : KeepsSound added) (s : State S) (handle : Handle) (rest : List Handle)
@@ -145,10 +149,11 @@ module _ {S : Type 0} (added : Extra S) (keeps : KeepsSound added) (s : State S)
       subst (λ a. IsCovered (state_of (step step_limit added task input (noted (event.Ran a) out))).loop) is
       (step_in added keeps task s input handle rest first live (ap (steps task) is ∙ mine) sound given_ (record { right = right; covered = c }))
 
-  -- of what isn't there
-  none_there : (it : Action) → is_of_streams it ≡ true → IsCovered (state_of (effect step_limit added it (noted (event.Ran it) out))).loop
-  none_there it of =
-      subst (λ (w : Went S). IsCovered (state_of w).loop) (sym (effect_none (noted (event.Ran it) out) sound.closed step_limit added it of)) good.covered
+  -- of listeners, connections and children
+  streams_handle : (it : Action) → is_of_streams it ≡ true → IsCovered (state_of (effect step_limit added it (noted (event.Ran it) out))).loop
+  streams_handle it of =
+      goes_covers (noted (event.Ran it) out) good.right good.covered (effect step_limit added it (noted (event.Ran it) out))
+      (effect_is (noted (event.Ran it) out) (record { connections = sound.streams.connections; children = sound.streams.children }) step_limit added it of)
 
   lively : (it : Action) → handle.action ≡ it → handle.dead ≡ false → IsCovered (state_of (effect step_limit added it (noted (event.Ran it) out))).loop
   unfolding effect
@@ -165,18 +170,18 @@ module _ {S : Type 0} (added : Extra S) (keeps : KeepsSound added) (s : State S)
       (all_good (added.item code bytes (noted (event.Ran (action.ExtraItem code bytes)) out)).steps out.loop good).covered
   lively (action.Extra key) is live = (all_good (added.act key (noted (event.Ran (action.Extra key)) out)).steps out.loop good).covered
   lively action.MainDone is live = good.covered
-  lively (action.Made conn) is live = none_there (action.Made conn) refl
-  lively (action.StartRead conn) is live = none_there (action.StartRead conn) refl
-  lively (action.Lost conn broken) is live = none_there (action.Lost conn broken) refl
-  lively (action.HandlerDone conn task) is live = none_there (action.HandlerDone conn task) refl
-  lively (action.ReadableServer server) is live = none_there (action.ReadableServer server) refl
-  lively (action.Readable conn) is live = none_there (action.Readable conn) refl
-  lively (action.Writable conn) is live = none_there (action.Writable conn) refl
-  lively (action.Up conn) is live = none_there (action.Up conn) refl
-  lively (action.Down conn) is live = none_there (action.Down conn) refl
-  lively (action.WritableChild child) is live = none_there (action.WritableChild child) refl
-  lively (action.ChildItem child told) is live = none_there (action.ChildItem child told) refl
-  lively (action.LostChild child broken) is live = none_there (action.LostChild child broken) refl
+  lively (action.Made conn) is live = streams_handle (action.Made conn) refl
+  lively (action.StartRead conn) is live = streams_handle (action.StartRead conn) refl
+  lively (action.Lost conn broken) is live = streams_handle (action.Lost conn broken) refl
+  lively (action.HandlerDone conn task) is live = streams_handle (action.HandlerDone conn task) refl
+  lively (action.ReadableServer server) is live = streams_handle (action.ReadableServer server) refl
+  lively (action.Readable conn) is live = streams_handle (action.Readable conn) refl
+  lively (action.Writable conn) is live = streams_handle (action.Writable conn) refl
+  lively (action.Up conn) is live = streams_handle (action.Up conn) refl
+  lively (action.Down conn) is live = streams_handle (action.Down conn) refl
+  lively (action.WritableChild child) is live = streams_handle (action.WritableChild child) refl
+  lively (action.ChildItem child told) is live = streams_handle (action.ChildItem child told) refl
+  lively (action.LostChild child broken) is live = streams_handle (action.LostChild child broken) refl
 
   pub first_in : IsCovered (state_of (run_first step_limit added handle rest s)).loop
   first_in = at handle.dead refl

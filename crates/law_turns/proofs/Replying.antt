@@ -33,12 +33,8 @@ use Rattle.law_sound.proofs.Steps.{spawn_step_sound, later_step_sound}
 use Rattle.law_sound.proofs.GroupSteps.{make_group_sound, enter_group_sound, create_sound, exit_begin_sound}
 use Rattle.law_sound.proofs.TimeoutSteps.{enter_timeout_sound, reschedule_sound, exit_timeout_sound}
 use Rattle.law_groups.proofs.Waits.{exit_waits}
-use Rattle.law_reach.specs.Cases.{Replies, raises, leaves_none, exits_none, tells, names_itself, hands_on, pauses_on, alarms, awaits, prints, makes, sets}
-use Rattle.law_reach.specs.Cases.{fails, cancels, uncancels, spawns_it, enters, leaves, moves, enters_one, exits, creates_it, serves_it}
-use Rattle.law_reach.specs.Closed.{is_to_streams}
-use Rattle.law_reach.proofs.Cases.{reply_is}
-use Rattle.model_machine.specs.Sound.{IsClosed}
-use Rattle.std.proofs.lemmas.Bool.{false≢true}
+use Rattle.law_cases.specs.Cases.{Replies, raises, leaves_none, exits_none, tells, names_itself, hands_on, pauses_on, alarms, awaits, prints, makes, sets}
+use Rattle.law_cases.specs.Cases.{fails, cancels, uncancels, spawns_it, enters, leaves, moves, enters_one, exits, creates_it, serves_it}
 use Rattle.law_turns.specs.Replied.{RunsSound, HasPlainFutures, RepliesSound, IsFit}
 use Rattle.law_turns.proofs.Turning.{as_told}
 
@@ -92,7 +88,7 @@ module _ {S : Type 0} (task : ℕ) where
       at (RaisedBy fault) e = begun
 
   -- ---- each case
-  case_sound : (added : Extra S) (asked : Request) (it : RequestReply S) (s : State S) → RunsSound task s → HasPlainFutures s → IsFit asked s
+  pub case_sound : (added : Extra S) (asked : Request) (it : RequestReply S) (s : State S) → RunsSound task s → HasPlainFutures s → IsFit asked s
       → Replies added task s asked it → RepliesSound task it
   case_sound added asked it s sound plain fit (raises fault f) = sound
   case_sound added asked it s sound plain fit (leaves_none timeout raised fault e) = sound
@@ -133,27 +129,3 @@ module _ {S : Type 0} (task : ℕ) where
   case_sound added asked it s sound plain fit (exits group raised id e) = exits_sound raised id s sound (fit id e)
   case_sound added asked it s sound plain fit (creates_it group id coroutine arguments few e) = create_sound (Some task) (told_in s.events) id s.loop sound
   case_sound added asked it s sound plain fit (serves_it code arguments number items) = absurd fit
-
-  fit_closed : (it : Request) (s : State S) → IsFit it s → is_to_streams it ≡ true → IsClosed s
-  fit_closed (request.Listen port coroutine) s fit is = fit
-  fit_closed (request.Connect port) s fit is = fit
-  fit_closed (request.Write stream bytes) s fit is = fit
-  fit_closed (request.WriteEof stream) s fit is = fit
-  fit_closed (request.Close x) s fit is = fit
-  fit_closed (request.WaitClosed stream) s fit is = fit
-  fit_closed (request.Drain stream) s fit is = fit
-  fit_closed (request.Limits stream high low) s fit is = fit
-  fit_closed (request.Read stream count) s fit is = fit
-  fit_closed (request.ReadExactly stream count) s fit is = fit
-  fit_closed (request.ReadUntil stream separator) s fit is = fit
-  fit_closed (request.ReadLine stream) s fit is = fit
-  fit_closed (request.Launch words) s fit is = fit
-  fit_closed (request.StandardError child) s fit is = fit
-  fit_closed (request.WaitChild child) s fit is = fit
-  fit_closed (request.ReturnCode child) s fit is = fit
-  fit_closed (request.Kill child) s fit is = fit
-  fit_closed _ s fit is = absurd (false≢true is)
-
-  pub reply_sound : (added : Extra S) (it : Request) (s : State S) → RunsSound task s → HasPlainFutures s → IsFit it s
-      → RepliesSound task (reply added task it s)
-  reply_sound added it s sound plain fit = case_sound added it (reply added task it s) s sound plain fit (reply_is added task s it (fit_closed it s fit))

@@ -15,7 +15,7 @@ use Rattle.model_loop.specs.Ways.{steps}
 use Rattle.model_machine.specs.Extra.{Extra}
 use Rattle.model_machine.specs.Mids.{then_mids, mids_if, next_mids, mids_below, mids_from}
 use Rattle.model_machine.specs.Outcomes.{woken_with}
-use Rattle.model_machine.specs.Sound.{IsClosed}
+use Rattle.model_machine.specs.Sound.{AreStreamsFutures}
 use Rattle.model_machine.specs.State.{State, generator_of, noted, unbooked_in}
 use Rattle.model_machine.specs.Step.{step}
 use Rattle.model_machine.specs.Told.{told_by, told_in}
@@ -23,13 +23,14 @@ use Rattle.model_machine.specs.Turn.{effect, run_first, run_if, next_below, run_
 use Rattle.model_machine.specs.Went.{Went, Goes, Stops, went_on}
 use Rattle.law_settling.specs.Frames.{taken, is_followed}
 use Rattle.law_sound.proofs.Steps.{idle_sound}
-use Rattle.law_reach.specs.Closed.{is_of_streams}
-use Rattle.law_reach.proofs.Closed.{effect_none}
+use Rattle.law_trees.specs.Trees.{is_of_streams}
+use Rattle.law_opened.proofs.Going.{effect_is}
 use Rattle.law_turns.specs.Fits.{FitsStep}
 use Rattle.law_turns.specs.FitsTurn.{AreSound, GoesOnFit, FitsAction, FitsLive, FitsIf, FitsNext, FitsBelow, FitsPending}
 use Rattle.law_turns.specs.Replied.{IsStanding}
 use Rattle.law_turns.specs.SoundState.{HasSoundLoop, LeavesSoundLoop}
 use Rattle.law_turns.proofs.Serving.{step_handle}
+use Rattle.law_turns.proofs.Streaming.{goes_sound, streams_unfollowed}
 use Rattle.law_turns.proofs.Turning.{as_told, tells_none, dead_handle, live_as, main_done_handle, sleep_done_handle, fires_handle, group_done_handle}
 
 module _ {S : Type 0} (limit : ℕ) (added : Extra S) where
@@ -61,12 +62,14 @@ module _ {S : Type 0} (limit : ℕ) (added : Extra S) where
         (step_handle limit added s task input handle rest first live (ap (steps task) is ∙ mine) sound standing
         (subst (λ a. FitsStep limit added task input (noted (event.Ran a) out)) (sym is) fit))
 
-    -- ---- one of what isn't there
-    none_there : (it : Action) → handle.dead ≡ false → handle.action ≡ it → is_of_streams it ≡ true → is_followed it ≡ false
-        → ((id : ℕ) → fires id it ≡ false) → ((group : ℕ) → told_by group it [] ≡ []) → IsClosed s → LeavesSoundLoop (run_first limit added handle rest s)
-    none_there it live is of unfollowed no_fire none closed =
+    -- ---- one of listeners, connections and children
+    streams_handle : (it : Action) → handle.dead ≡ false → handle.action ≡ it → is_of_streams it ≡ true → ((id : ℕ) → fires id it ≡ false)
+        → ((group : ℕ) → told_by group it [] ≡ []) → AreStreamsFutures s → LeavesSoundLoop (run_first limit added handle rest s)
+    streams_handle it live is of no_fire none kept =
         live_as limit added s handle rest first sound it live is
-        (subst LeavesSoundLoop (sym (effect_none (noted (event.Ran it) out) closed limit added it of)) (idle_handle it is unfollowed no_fire none))
+        (goes_sound (noted (event.Ran it) out) (effect limit added it (noted (event.Ran it) out))
+        (effect_is (noted (event.Ran it) out) (record { connections = kept.connections; children = kept.children }) limit added it of)
+        (idle_handle it is (streams_unfollowed it of) no_fire none))
 
     lively : (it : Action) → handle.dead ≡ false → handle.action ≡ it → FitsAction limit added it s (noted (event.Ran it) out)
         → LeavesSoundLoop (run_first limit added handle rest s)
@@ -87,18 +90,18 @@ module _ {S : Type 0} (limit : ℕ) (added : Extra S) where
     lively (action.ExtraItem code bytes) live is fit =
         live_as limit added s handle rest first sound (action.ExtraItem code bytes) live is fit
     lively (action.Extra key) live is fit = live_as limit added s handle rest first sound (action.Extra key) live is fit
-    lively (action.Made conn) live is closed = none_there (action.Made conn) live is refl refl (λ id. refl) (λ g. refl) closed
-    lively (action.StartRead conn) live is closed = none_there (action.StartRead conn) live is refl refl (λ id. refl) (λ g. refl) closed
-    lively (action.Lost conn broken) live is closed = none_there (action.Lost conn broken) live is refl refl (λ id. refl) (λ g. refl) closed
-    lively (action.HandlerDone conn task) live is closed = none_there (action.HandlerDone conn task) live is refl refl (λ id. refl) (λ g. refl) closed
-    lively (action.ReadableServer server) live is closed = none_there (action.ReadableServer server) live is refl refl (λ id. refl) (λ g. refl) closed
-    lively (action.Readable conn) live is closed = none_there (action.Readable conn) live is refl refl (λ id. refl) (λ g. refl) closed
-    lively (action.Writable conn) live is closed = none_there (action.Writable conn) live is refl refl (λ id. refl) (λ g. refl) closed
-    lively (action.Up conn) live is closed = none_there (action.Up conn) live is refl refl (λ id. refl) (λ g. refl) closed
-    lively (action.Down conn) live is closed = none_there (action.Down conn) live is refl refl (λ id. refl) (λ g. refl) closed
-    lively (action.WritableChild child) live is closed = none_there (action.WritableChild child) live is refl refl (λ id. refl) (λ g. refl) closed
-    lively (action.ChildItem child told) live is closed = none_there (action.ChildItem child told) live is refl refl (λ id. refl) (λ g. refl) closed
-    lively (action.LostChild child broken) live is closed = none_there (action.LostChild child broken) live is refl refl (λ id. refl) (λ g. refl) closed
+    lively (action.Made conn) live is kept = streams_handle (action.Made conn) live is refl (λ id. refl) (λ g. refl) kept
+    lively (action.StartRead conn) live is kept = streams_handle (action.StartRead conn) live is refl (λ id. refl) (λ g. refl) kept
+    lively (action.Lost conn broken) live is kept = streams_handle (action.Lost conn broken) live is refl (λ id. refl) (λ g. refl) kept
+    lively (action.HandlerDone conn task) live is kept = streams_handle (action.HandlerDone conn task) live is refl (λ id. refl) (λ g. refl) kept
+    lively (action.ReadableServer server) live is kept = streams_handle (action.ReadableServer server) live is refl (λ id. refl) (λ g. refl) kept
+    lively (action.Readable conn) live is kept = streams_handle (action.Readable conn) live is refl (λ id. refl) (λ g. refl) kept
+    lively (action.Writable conn) live is kept = streams_handle (action.Writable conn) live is refl (λ id. refl) (λ g. refl) kept
+    lively (action.Up conn) live is kept = streams_handle (action.Up conn) live is refl (λ id. refl) (λ g. refl) kept
+    lively (action.Down conn) live is kept = streams_handle (action.Down conn) live is refl (λ id. refl) (λ g. refl) kept
+    lively (action.WritableChild child) live is kept = streams_handle (action.WritableChild child) live is refl (λ id. refl) (λ g. refl) kept
+    lively (action.ChildItem child told) live is kept = streams_handle (action.ChildItem child told) live is refl (λ id. refl) (λ g. refl) kept
+    lively (action.LostChild child broken) live is kept = streams_handle (action.LostChild child broken) live is refl (λ id. refl) (λ g. refl) kept
 
     handle_sound : (dead : Bool) → handle.dead ≡ dead → FitsLive limit added dead handle.action s (noted (event.Ran handle.action) out)
         → LeavesSoundLoop (run_first limit added handle rest s)

@@ -15,7 +15,7 @@ use Rattle.law_sound.proofs.Steps.{finish_step_sound}
 use Rattle.law_turns.specs.Fits.{FitsAfter, FitsSaying, FitsWithin, FitsAll, FitsStep}
 use Rattle.law_turns.specs.Replied.{RunsSound, RepliesSound, IsStanding}
 use Rattle.law_turns.specs.SoundState.{HasSoundLoop, LeavesSoundLoop}
-use Rattle.law_turns.proofs.Replying.{reply_sound}
+use Rattle.law_turns.proofs.Streaming.{reply_sound}
 use Rattle.law_turns.proofs.Stepping.{step_begins}
 
 module _ {S : Type 0} (limit : ℕ) (added : Extra S) (task : ℕ) where

@@ -5,21 +5,25 @@ use Rattle.std.proofs.Common.{arith}
 use Rattle.std.proofs.lemmas.Bool.{cases_eq, eq-eqb, ne_eqb, false≢true}
 use Rattle.model_value.specs.Action.{Action}
 use Rattle.model_value.specs.declared.action.Action.TheVariants.{SleepDone, GroupDone}
+use Rattle.model_value.specs.declared.input.Input.TheVariants.{Send}
+use Rattle.model_value.specs.declared.request.Request.TheVariants as request
 use Rattle.model_value.specs.Input.{Input}
+use Rattle.model_value.specs.Request.{Request}
+use Rattle.model_value.specs.Value.{Value, Nothing}
 use Rattle.model_wire.specs.declared.event.Event.TheVariants as event
 use Rattle.model_loop.specs.Parts.{Handle}
 use Rattle.model_loop.specs.Loop.{Loop, in_parts}
 use Rattle.model_loop.specs.Handles.{cancelled_if, revoke}
 use Rattle.model_loop.specs.Tasks.{begin_step}
 use Rattle.model_loop.specs.Groups.{GroupExit, Waits, Passes, Raises as RaisedBy, group_of, exit_woken, hear, set_group}
+use Rattle.model_loop.specs.Owning.{is_plain}
 use Rattle.model_loop.specs.Ways.{steps}
 use Rattle.model_loop.specs.Entries.{entries, is_sleep_end, no_sleep_as}
 use Rattle.model_loop.specs.Sound.{IsSound}
 use Rattle.model_machine.specs.Extra.{Extra}
-use Rattle.model_machine.specs.Replies.{decides, exits_as, exits_group}
-use Rattle.law_reach.specs.Closed.{stands_at_streams}
-use Rattle.law_reach.proofs.Closed.{decides_none}
-use Rattle.model_machine.specs.Sound.{IsClosed}
+use Rattle.model_machine.specs.Replies.{Answers, decides, exits_as, exits_group}
+use Rattle.law_cases.specs.Closed.{stands_at_streams}
+use Rattle.model_machine.specs.Sound.{AreStreamsFutures, stands_at}
 use Rattle.model_machine.specs.State.{Standing, Asked, Sleeping, Leaving, Serving, Connecting, Yielding}
 use Rattle.model_machine.specs.State.{Reading, ReadingAll, State, noted, stands, unbooked_in, with_loop}
 use Rattle.model_machine.specs.Step.{given_up}
@@ -32,7 +36,12 @@ use Rattle.law_sound.proofs.GroupSteps.{exit_woken_step_sound}
 use Rattle.law_turns.specs.Replied.{RunsSound, RepliesSound, IsStanding}
 use Rattle.law_turns.specs.SoundState.{HasSoundLoop}
 use Rattle.law_turns.proofs.Turning.{as_told, tells_none}
+use Rattle.law_after.proofs.Requests.{begin_after}
+use Rattle.law_trees.proofs.Composing.{streams_more}
+use Rattle.law_opened.specs.StreamReplies.{StreamReplies}
+use Rattle.law_opened.proofs.Replying.{streams_decide, woken_at}
 use Rattle.law_turns.proofs.Replying.{replied_sound}
+use Rattle.law_turns.proofs.Streaming.{streams_sound}
 
 -- a step tells no group
 step_tells_none : (task : ℕ) (it : Action) → steps task it ≡ true → (group : ℕ) → told_by group it [] ≡ []
@@ -115,11 +124,54 @@ module _ {S : Type 0} (added : Extra S) (s : State S) (task : ℕ) (input : Inpu
       at Passes e = woken
       at (RaisedBy fault) e = woken
 
-  -- at a request on what isn't there
-  streams_begin : (standing : Standing) (with_ : Input) (now : State S) → stands_at_streams standing ≡ true → IsClosed now → RunsSound task now
+  -- a request of a kind at which a task may stand so
+  asked_at : Standing → Request
+  asked_at (Connecting conn) = request.Connect Nothing
+  asked_at (Yielding whom) = request.Drain Nothing
+  asked_at (Reading from op on) = request.ReadLine Nothing
+  asked_at (ReadingAll from taken on) = request.Read Nothing Nothing
+  asked_at _ = request.Pause
+
+  stands_there : (standing : Standing) → stands_at_streams standing ≡ true → stands_at standing (asked_at standing) ≡ true
+  unfolding asked_at
+  stands_there (Connecting conn) is = refl
+  stands_there (Yielding whom) is = refl
+  stands_there (Reading from op on) is = refl
+  stands_there (ReadingAll from taken on) is = refl
+  stands_there Asked is = absurd (false≢true is)
+  stands_there (Sleeping tag) is = absurd (false≢true is)
+  stands_there (Leaving group) is = absurd (false≢true is)
+  stands_there (Serving key) is = absurd (false≢true is)
+
+  woken_sound : (standing : Standing) (now : State S) → RunsSound task now → RunsSound task (woken_at standing now)
+  woken_sound Asked now h = h
+  woken_sound (Sleeping tag) now h = h
+  woken_sound (Leaving group) now h = h
+  woken_sound (Serving key) now h = h
+  woken_sound (Connecting conn) now h = h
+  woken_sound (Yielding whom) now h = h
+  woken_sound (Reading from op on) now h = h
+  woken_sound (ReadingAll from taken on) now h = h
+
+  -- at a request on listeners, connections and children
+  streams_begin : (standing : Standing) (with_ : Input) (now : State S) → stands_at_streams standing ≡ true → AreStreamsFutures now → RunsSound task now
       → RepliesSound task (decides added standing task with_ now)
-  streams_begin standing with_ now is closed h =
-      let it = decides_none now closed added task standing with_ is in subst (RepliesSound task) (sym it.1) (replied_sound task it.0 now h)
+  streams_begin standing with_ now is kept h =
+      at (streams_decide added task now kept (asked_at standing) standing with_ is (stands_there standing is))
+    where
+      at : ((value : Value) × (with_ ≡ Send value) × (decides added standing task with_ now ≡ Answers value now))
+          ⊎ StreamReplies task (woken_at standing now) (asked_at standing) (decides added standing task with_ now)
+          → RepliesSound task (decides added standing task with_ now)
+      at (inl told) = subst (RepliesSound task) (sym told.2) h
+      at (inr it) =
+          streams_sound task (woken_at standing now) (asked_at standing) (decides added standing task with_ now) it (woken_sound standing now h)
+
+  -- what was plain is so once the step began
+  kept_begun : (standing : Standing) → given_up standing gone.loop.parts ≡ gone.loop.parts → AreStreamsFutures s → AreStreamsFutures (begun standing)
+  kept_begun standing same kept =
+      streams_more (λ future. is_plain s.loop.parts future ≡ true) (λ future. is_plain (begun standing).loop.parts future ≡ true)
+      (λ future h. subst (λ p. is_plain (begin_step task input p).parts future ≡ true) (sym same)
+      ((begin_after (λ value. true) false None task input gone.loop.parts).plain future h)) s.streams kept
 
   pub step_begins : (standing : Standing) → IsStanding standing s
       → RepliesSound task (decides added standing task (begin_step task input (given_up standing gone.loop.parts)).input (begun standing))
@@ -130,11 +182,16 @@ module _ {S : Type 0} (added : Extra S) (s : State S) (task : ℕ) (input : Inpu
       leaves id (begin_step task input gone.loop.parts).input (begun (Leaving id)) (runs (Leaving id) fit) fit
   step_begins (Serving key) fit = absurd fit
   step_begins (Connecting conn) fit =
-      streams_begin (Connecting conn) (begin_step task input gone.loop.parts).input (begun (Connecting conn)) refl fit (runs (Connecting conn) fit)
+      streams_begin (Connecting conn) (begin_step task input gone.loop.parts).input (begun (Connecting conn)) refl (kept_begun (Connecting conn) refl fit)
+      (runs (Connecting conn) fit)
   step_begins (Yielding whom) fit =
-      streams_begin (Yielding whom) (begin_step task input gone.loop.parts).input (begun (Yielding whom)) refl fit (runs (Yielding whom) fit)
+      streams_begin (Yielding whom) (begin_step task input gone.loop.parts).input (begun (Yielding whom)) refl (kept_begun (Yielding whom) refl fit)
+      (runs (Yielding whom) fit)
   step_begins (Reading from op on) fit =
-      streams_begin (Reading from op on) (begin_step task input gone.loop.parts).input (begun (Reading from op on)) refl fit (runs (Reading from op on) fit)
+      streams_begin (Reading from op on) (begin_step task input gone.loop.parts).input (begun (Reading from op on)) refl
+      (kept_begun (Reading from op on) refl fit)
+      (runs (Reading from op on) fit)
   step_begins (ReadingAll from taken on) fit =
-      streams_begin (ReadingAll from taken on) (begin_step task input gone.loop.parts).input (begun (ReadingAll from taken on)) refl fit
+      streams_begin (ReadingAll from taken on) (begin_step task input gone.loop.parts).input (begun (ReadingAll from taken on)) refl
+      (kept_begun (ReadingAll from taken on) refl fit)
       (runs (ReadingAll from taken on) fit)

@@ -1,5 +1,5 @@
--- What the callbacks of a turn need: each step of a task is fit, what is added keeps the loop sound by itself, and no
--- connection or child is open so far.
+-- What the callbacks of a turn need: each step of a task is fit, what is added keeps the loop sound by itself, and what
+-- connections and children keep are plain futures.
 use Rattle.std.specs.Prelude.{ℕ, zero, suc, Bool, true, false, List, [], ◌∷◌, length, nat_lt}
 use Rattle.model_value.specs.Action.{Action}
 use Rattle.model_value.specs.Value.{Nothing}
@@ -10,7 +10,7 @@ use Rattle.model_loop.specs.Circles.{circle_fault}
 use Rattle.model_loop.specs.Parts.{Handle}
 use Rattle.model_machine.specs.Extra.{Extra}
 use Rattle.model_machine.specs.Outcomes.{woken_with}
-use Rattle.model_machine.specs.Sound.{IsClosed}
+use Rattle.model_machine.specs.Sound.{AreStreamsFutures}
 use Rattle.model_machine.specs.State.{State, generator_of, noted, unbooked_in}
 use Rattle.model_machine.specs.Turn.{effect, run_first}
 use Rattle.model_machine.specs.Went.{Went, Goes, Stops}
@@ -40,18 +40,18 @@ module _ {S : Type 0} (limit : ℕ) (added : Extra S) where
   FitsAction (action.ExtraItem code bytes) s gone =
       LeavesSoundLoop (effect limit added (action.ExtraItem code bytes) gone)
   FitsAction (action.Extra key) s gone = LeavesSoundLoop (effect limit added (action.Extra key) gone)
-  FitsAction (action.Made conn) s gone = IsClosed s
-  FitsAction (action.StartRead conn) s gone = IsClosed s
-  FitsAction (action.Lost conn broken) s gone = IsClosed s
-  FitsAction (action.HandlerDone conn task) s gone = IsClosed s
-  FitsAction (action.ReadableServer server) s gone = IsClosed s
-  FitsAction (action.Readable conn) s gone = IsClosed s
-  FitsAction (action.Writable conn) s gone = IsClosed s
-  FitsAction (action.Up conn) s gone = IsClosed s
-  FitsAction (action.Down conn) s gone = IsClosed s
-  FitsAction (action.WritableChild child) s gone = IsClosed s
-  FitsAction (action.ChildItem child told) s gone = IsClosed s
-  FitsAction (action.LostChild child broken) s gone = IsClosed s
+  FitsAction (action.Made conn) s gone = AreStreamsFutures s
+  FitsAction (action.StartRead conn) s gone = AreStreamsFutures s
+  FitsAction (action.Lost conn broken) s gone = AreStreamsFutures s
+  FitsAction (action.HandlerDone conn task) s gone = AreStreamsFutures s
+  FitsAction (action.ReadableServer server) s gone = AreStreamsFutures s
+  FitsAction (action.Readable conn) s gone = AreStreamsFutures s
+  FitsAction (action.Writable conn) s gone = AreStreamsFutures s
+  FitsAction (action.Up conn) s gone = AreStreamsFutures s
+  FitsAction (action.Down conn) s gone = AreStreamsFutures s
+  FitsAction (action.WritableChild child) s gone = AreStreamsFutures s
+  FitsAction (action.ChildItem child told) s gone = AreStreamsFutures s
+  FitsAction (action.LostChild child broken) s gone = AreStreamsFutures s
   FitsAction _ s gone = Unit {0}
 
   -- a dead handle needs nothing

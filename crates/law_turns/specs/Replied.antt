@@ -12,7 +12,7 @@ use Rattle.model_loop.specs.Sound.{IsSound}
 use Rattle.model_loop.specs.Timeouts.{timeout_of}
 use Rattle.model_machine.specs.Arguments.{as_awaited, as_timeout, as_group}
 use Rattle.model_machine.specs.Replies.{RequestReply, Answers, Raises, Rests, Halts}
-use Rattle.model_machine.specs.Sound.{IsClosed}
+use Rattle.model_machine.specs.Sound.{AreStreamsFutures}
 use Rattle.model_machine.specs.State.{Standing, Asked, Sleeping, Leaving, Serving, Connecting, Yielding, Reading, ReadingAll, State}
 use Rattle.model_machine.specs.Told.{told_in}
 use Rattle.law_ledger.specs.Telling.{is_open}
@@ -33,8 +33,8 @@ RepliesSound task (Raises fault now) = RunsSound task now
 RepliesSound task (Rests now) = HasSoundLoop now
 RepliesSound task (Halts end last) = Unit {0}
 
--- What is awaited is there; a block that is left is open. Requests that are added are none of these. Of connections and
--- children none is open so far.
+-- What is awaited is there; a block that is left is open; what connections and children keep are plain futures. Requests that
+-- are added are none of these.
 abbrev pub IsFit : {S : Type 0} → Request → State S → Type 0
 IsFit (Await x) s =
     (on : ℕ) → as_awaited s x ≡ Some on → future_outcome s.loop.parts on ≡ None → is_pending s.loop.parts on ≡ true
@@ -45,34 +45,34 @@ IsFit (GroupExit group raised) s =
     (id : ℕ) → as_group group ≡ Some id
     → (id < length s.loop.groups) × ((group_of s.loop id).entered ≡ true) × ((group_of s.loop id).exiting ≡ false)
 IsFit (Extra code arguments) s = ⊥
-IsFit (Listen port coroutine) s = IsClosed s
-IsFit (Connect port) s = IsClosed s
-IsFit (Write stream bytes) s = IsClosed s
-IsFit (WriteEof stream) s = IsClosed s
-IsFit (Close x) s = IsClosed s
-IsFit (WaitClosed stream) s = IsClosed s
-IsFit (Drain stream) s = IsClosed s
-IsFit (Limits stream high low) s = IsClosed s
-IsFit (Read stream count) s = IsClosed s
-IsFit (ReadExactly stream count) s = IsClosed s
-IsFit (ReadUntil stream separator) s = IsClosed s
-IsFit (ReadLine stream) s = IsClosed s
-IsFit (Launch words) s = IsClosed s
-IsFit (StandardError child) s = IsClosed s
-IsFit (WaitChild child) s = IsClosed s
-IsFit (ReturnCode child) s = IsClosed s
-IsFit (Kill child) s = IsClosed s
+IsFit (Listen port coroutine) s = AreStreamsFutures s
+IsFit (Connect port) s = AreStreamsFutures s
+IsFit (Write stream bytes) s = AreStreamsFutures s
+IsFit (WriteEof stream) s = AreStreamsFutures s
+IsFit (Close x) s = AreStreamsFutures s
+IsFit (WaitClosed stream) s = AreStreamsFutures s
+IsFit (Drain stream) s = AreStreamsFutures s
+IsFit (Limits stream high low) s = AreStreamsFutures s
+IsFit (Read stream count) s = AreStreamsFutures s
+IsFit (ReadExactly stream count) s = AreStreamsFutures s
+IsFit (ReadUntil stream separator) s = AreStreamsFutures s
+IsFit (ReadLine stream) s = AreStreamsFutures s
+IsFit (Launch words) s = AreStreamsFutures s
+IsFit (StandardError child) s = AreStreamsFutures s
+IsFit (WaitChild child) s = AreStreamsFutures s
+IsFit (ReturnCode child) s = AreStreamsFutures s
+IsFit (Kill child) s = AreStreamsFutures s
 IsFit _ s = Unit {0}
 
--- A task whose step begins stands at nothing that was added; a sleep's tag names ends of sleeps alone, and a group whose exit
--- it left waiting is exiting.
+-- A task whose step begins stands at nothing that was added; a sleep's tag names ends of sleeps alone, a group whose exit it
+-- left waiting is exiting, and what connections and children keep are plain futures.
 abbrev pub IsStanding : {S : Type 0} → Standing → State S → Type 0
 IsStanding Asked s = Unit {0}
 IsStanding (Sleeping tag) s = entries (no_sleep_as tag) s.loop.parts ≡ 0
 IsStanding (Leaving id) s =
     (id < length s.loop.groups) × ((group_of s.loop id).exiting ≡ true) × ((group_of s.loop id).ended ≡ false)
 IsStanding (Serving key) s = ⊥
-IsStanding (Connecting conn) s = IsClosed s
-IsStanding (Yielding whom) s = IsClosed s
-IsStanding (Reading from op on) s = IsClosed s
-IsStanding (ReadingAll from taken on) s = IsClosed s
+IsStanding (Connecting conn) s = AreStreamsFutures s
+IsStanding (Yielding whom) s = AreStreamsFutures s
+IsStanding (Reading from op on) s = AreStreamsFutures s
+IsStanding (ReadingAll from taken on) s = AreStreamsFutures s

@@ -17,13 +17,14 @@ use Rattle.model_says.specs.Says.{exchanges_along, step_limit}
 use Rattle.model_loop.specs.Futures.{future_outcome, next_future}
 use Rattle.model_loop.specs.Groups.{group_of}
 use Rattle.model_loop.specs.Loop.{Loop, TimeoutState, Active, Expiring}
-use Rattle.model_loop.specs.Owning.{is_main_done}
+use Rattle.model_loop.specs.Owning.{is_main_done, is_plain}
 use Rattle.model_loop.specs.Parts.{Future, Handle, Parts, Plain, Timer}
 use Rattle.model_loop.specs.Sound.{IsSound}
 use Rattle.model_loop.specs.Tasks.{future_of, lives, next_task}
 use Rattle.model_loop.specs.Timeouts.{timeout_of}
 use Rattle.model_loop.specs.Totals.{callbacks_of, pending_where}
 use Rattle.model_loop.specs.Ways.{is_running}
+use Rattle.model_stream.specs.Kept.{StreamsKeep}
 use Rattle.model_stream.specs.Streams.{no_streams}
 use Rattle.model_machine.specs.Extra.{Extra}
 use Rattle.model_machine.specs.State.{Standing, Asked, Sleeping, Leaving, Serving, Connecting, Yielding, Reading, ReadingAll, State, generator_of}
@@ -171,9 +172,13 @@ pub record AreScriptsFutures {S : Type 0} (s : State S) : Type 0 where
   pub once : (place other id : ℕ) → slice_get s.futures place ≡ Some id → slice_get s.futures other ≡ Some id → place ≡ other
 
 -- ---- streams
--- so far nothing is open, and nothing can be opened
+-- nothing is open, and nothing can be opened
 abbrev pub IsClosed : {S : Type 0} → State S → Type 0
 IsClosed s = s.streams ≡ no_streams 0
+
+-- each future that a connection or a child keeps was made, and is a plain one
+abbrev pub AreStreamsFutures : {S : Type 0} → State S → Type 0
+AreStreamsFutures s = StreamsKeep (λ future. is_plain s.loop.parts future ≡ true) s.streams
 
 -- ---- all of it
 -- A state that is sound while this task runs, but for what the excused task asks and stands at. Of its blocks it says `Blocks`.
@@ -190,7 +195,7 @@ pub record IsSoundOver {S : Type 0} (Blocks : Type 0) (running excused : Option 
   pub exits : (id : ℕ) → IsLeft s id → is_running excused (group_of s.loop id).parent ≡ false
       → (generator_of (group_of s.loop id).parent s).standing ≡ Leaving id
   pub blocks : Blocks
-  pub closed : IsClosed s
+  pub streams : AreStreamsFutures s
   pub futures : AreScriptsFutures s
   pub made : AreTasksMade s
 

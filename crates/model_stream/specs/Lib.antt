@@ -3,6 +3,7 @@ pub mod Children
 pub mod Connections
 pub mod Doing
 pub mod History
+pub mod Kept
 pub mod Listeners
 pub mod Reading
 pub mod Receivers

@@ -7,7 +7,7 @@ use Rattle.model_value.specs.declared.outcome.Outcome.TheVariants.{Value as Retu
 use Rattle.model_says.specs.Says.{step_limit}
 use Rattle.model_machine.specs.Sound.{sends_made}
 use Rattle.model_machine.specs.Step.{step}
-use Rattle.law_reach.specs.Closed.{is_of_streams}
+use Rattle.law_trees.specs.Trees.{is_of_streams}
 use Rattle.aio_ready.specs.Queue.{soon_all}
 use Rattle.aio_future.specs.Settled as settled
 use Rattle.aio_future.specs.Settled.{called}

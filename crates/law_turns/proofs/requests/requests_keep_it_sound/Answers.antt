@@ -1,4 +1,4 @@
-use Rattle.law_turns.proofs.Replying.{reply_sound}
+use Rattle.law_turns.proofs.Streaming.{reply_sound}
 use Rattle.law_turns.proofs.requests.requests_keep_it_sound.Goals as goal
 
 pub returns : goal.returns

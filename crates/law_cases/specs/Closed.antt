@@ -1,25 +1,8 @@
--- The callbacks of listeners, connections and children, the requests on them, and what a task stands at where it waits for them.
+-- The requests on listeners, connections and children, and what a task stands at where it waits for them.
 use Rattle.std.specs.Prelude.{Bool, true, false}
-use Rattle.model_value.specs.declared.action.Action.TheVariants as action
 use Rattle.model_value.specs.declared.request.Request.TheVariants as request
-use Rattle.model_value.specs.Action.{Action}
 use Rattle.model_value.specs.Request.{Request}
 use Rattle.model_machine.specs.State.{Standing, Asked, Sleeping, Leaving, Serving, Connecting, Yielding, Reading, ReadingAll}
-
-abbrev pub is_of_streams : Action → Bool
-is_of_streams (action.Made conn) = true
-is_of_streams (action.StartRead conn) = true
-is_of_streams (action.Lost conn broken) = true
-is_of_streams (action.HandlerDone conn task) = true
-is_of_streams (action.ReadableServer server) = true
-is_of_streams (action.Readable conn) = true
-is_of_streams (action.Writable conn) = true
-is_of_streams (action.Up conn) = true
-is_of_streams (action.Down conn) = true
-is_of_streams (action.WritableChild child) = true
-is_of_streams (action.ChildItem child told) = true
-is_of_streams (action.LostChild child broken) = true
-is_of_streams _ = false
 
 abbrev pub is_to_streams : Request → Bool
 is_to_streams (request.Listen port coroutine) = true

@@ -2,7 +2,8 @@
 use Rattle.std.proofs.Common.{ℕ, Option}
 use Rattle.model_machine.specs.State.{State}
 use Rattle.law_changes.specs.Reaches.{LoopReaches, stays, goes}
-use Rattle.law_reach.specs.Changes.{OfLoop, Says, MakesCoroutine, Stands, Resumes, NamesFuture, EndsMain, ChangesExtra, Runs, Calls, Gets}
+use Rattle.law_reach.specs.Changes.{OfLoop, Says, MakesCoroutine, Stands, Resumes, NamesFuture, EndsMain, ChangesExtra, ChangesStreams}
+use Rattle.law_reach.specs.Changes.{Runs, Hears, Calls}
 use Rattle.law_reach.specs.Reaches.{InCallback}
 
 pub loop_of : {S : Type 0} {r : Option ℕ} {s t : State S} → InCallback r s t → LoopReaches r s.loop t.loop
@@ -15,6 +16,7 @@ loop_of (goes row (Resumes fresh task input) may) = loop_of row
 loop_of (goes row (NamesFuture future) may) = loop_of row
 loop_of (goes row EndsMain may) = loop_of row
 loop_of (goes row (ChangesExtra extra) may) = loop_of row
+loop_of (goes row (ChangesStreams streams) may) = loop_of row
 loop_of (goes row (Runs it) may) = loop_of row
 loop_of (goes row (Calls call) may) = loop_of row
-loop_of (goes row (Gets answer left) may) = loop_of row
+loop_of (goes row (Hears call answer left) may) = loop_of row

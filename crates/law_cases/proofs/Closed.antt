@@ -25,10 +25,8 @@ use Rattle.model_machine.specs.State.{Standing, Asked, Sleeping, Leaving, Servin
 use Rattle.model_machine.specs.Extra.{Extra}
 use Rattle.model_machine.specs.Turn.{effect, has_returned, made_by, streams_go}
 use Rattle.model_machine.specs.Went.{Goes}
-use Rattle.law_reach.specs.Closed.{is_of_streams, stands_at_streams}
-use Rattle.law_changes.specs.Reaches.{Reaches, stays, goes}
-use Rattle.law_reach.specs.Changes.{StateChange, OfLoop, Says, MakesCoroutine, Stands, Resumes, NamesFuture, EndsMain, ChangesExtra, Runs, Calls}
-use Rattle.law_reach.specs.Changes.{Gets, made}
+use Rattle.law_cases.specs.Closed.{stands_at_streams}
+use Rattle.law_trees.specs.Trees.{is_of_streams}
 
 none_below : (id : ℕ) → nat_lt id 0 ≡ false
 none_below id = at (nat_lt id 0) refl
@@ -36,24 +34,6 @@ none_below id = at (nat_lt id 0) refl
     at : (b : Bool) → nat_lt id 0 ≡ b → b ≡ false
     at false e = refl
     at true e = absurd (let w = ltb-true id 0 e in omega (arith, w))
-
--- no change opens anything
-change_closed : {S : Type 0} (change : StateChange S) (s : State S) → (made change s).streams ≡ s.streams
-change_closed (OfLoop change) s = refl
-change_closed (Says task text) s = refl
-change_closed (MakesCoroutine coroutine arguments) s = refl
-change_closed (Stands standing task) s = refl
-change_closed (Resumes fresh task input) s = refl
-change_closed (NamesFuture future) s = refl
-change_closed EndsMain s = refl
-change_closed (ChangesExtra extra) s = refl
-change_closed (Runs it) s = refl
-change_closed (Calls call) s = refl
-change_closed (Gets answer left) s = refl
-
-pub row_closed : {S : Type 0} {May : StateChange S → State S → Type 0} {s t : State S} → Reaches made May s t → IsClosed s → IsClosed t
-row_closed stays closed = closed
-row_closed (goes row change may) closed = change_closed change _ ∙ row_closed row closed
 
 acts_none : (next : ℕ) (returned : Bool) (it : Action) → act next returned it (no_streams 0) ≡ Ends (no_streams 0)
 acts_none next returned (action.ReadableServer id) = refl
@@ -184,7 +164,7 @@ module _ {S : Type 0} (s : State S) (closed : IsClosed s) where
       (λ done now. reads_all_as task (OfChild pipe id) (taken ++ done.1.taken) done.1.got (with_streams done.0 now)) s) closed
       ∙ ap (Answers (Bytes (taken ++ []))) unchanged
 
-  gives_up_none : (on : ℕ) (from : StreamReader) → waits_no_more on from s ≡ s
+  pub gives_up_none : (on : ℕ) (from : StreamReader) → waits_no_more on from s ≡ s
   gives_up_none on (OfConn id) = ap (λ streams. with_streams (give_up_read on (OfConn id) streams) s) closed ∙ unchanged
   gives_up_none on (OfChild pipe id) = ap (λ streams. with_streams (give_up_read on (OfChild pipe id) streams) s) closed ∙ unchanged
 

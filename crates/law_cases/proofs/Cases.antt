@@ -22,11 +22,11 @@ use Rattle.model_machine.specs.State.{State, in_loop, unbooked_in}
 use Rattle.model_machine.specs.Arguments.{as_conn, as_child, as_writer, as_reader, as_closable, as_words}
 use Rattle.model_machine.specs.Sound.{IsClosed}
 use Rattle.model_stream.specs.Streams.{may_connect, may_launch, may_listen}
-use Rattle.law_reach.specs.Closed.{is_to_streams}
-use Rattle.law_reach.proofs.Closed.{no_child, no_closable, no_conn, no_connect, no_launch, no_listen, no_reader, no_writer}
-use Rattle.law_reach.specs.Cases.{Replies, raises, leaves_none, exits_none, tells, names_itself, hands_on, pauses_on, alarms, awaits, prints, makes, sets}
-use Rattle.law_reach.specs.Cases.{fails, cancels, uncancels, spawns_it, enters, is_exit, is_of_block}
-use Rattle.law_reach.specs.Cases.{leaves, moves, enters_one, exits, creates_it, serves_it}
+use Rattle.law_cases.specs.Closed.{is_to_streams}
+use Rattle.law_cases.proofs.Closed.{no_child, no_closable, no_conn, no_connect, no_launch, no_listen, no_reader, no_writer}
+use Rattle.law_cases.specs.Cases.{Replies, raises, leaves_none, exits_none, tells, names_itself, hands_on, pauses_on, alarms, awaits, prints, makes, sets}
+use Rattle.law_cases.specs.Cases.{fails, cancels, uncancels, spawns_it, enters, is_exit, is_of_block}
+use Rattle.law_cases.specs.Cases.{leaves, moves, enters_one, exits, creates_it, serves_it}
 
 module _ {S : Type 0} (added : Extra S) (task : ℕ) (s : State S) where
   module _ (asked : Request) where

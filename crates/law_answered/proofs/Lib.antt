@@ -1,0 +1,4 @@
+pub mod Answering
+pub mod Handling
+pub mod Standing
+pub mod Streaming

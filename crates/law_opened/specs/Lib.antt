@@ -1,0 +1,2 @@
+pub mod StreamReplies
+pub mod TreeEnd

@@ -1,0 +1,6 @@
+pub mod Composing
+pub mod Reading
+pub mod Sending
+pub mod Standing
+pub mod Opening
+pub mod Asking

@@ -1,0 +1,100 @@
+-- What a tree of streams does to the loop: the handles that it appends are of streams, it asks no select, the futures that it
+-- settles are its own, with no value of a script's, and those that are kept then were its own or made in it.
+use Rattle.std.specs.Prelude.{◌≡◌, ◌⊎◌, ℕ, ◌+◌, ◌≤◌, ◌<◌, Bool, true, false, Option, Some, None}
+use Rattle.model_value.specs.declared.action.Action.TheVariants as action
+use Rattle.model_value.specs.declared.outcome.Outcome.TheVariants.{Value as Returned, Failed}
+use Rattle.model_value.specs.Action.{Action}
+use Rattle.model_value.specs.Value.{Nothing, Int, Conn, Outcome}
+use Rattle.model_wire.specs.declared.call.Call.TheVariants as call
+use Rattle.model_wire.specs.Call.{Call, Answer}
+use Rattle.model_stream.specs.declared.answers.ChildWait.{ChildWait}
+use Rattle.model_stream.specs.declared.answers.ChildWait.TheVariants as wait_as
+use Rattle.model_stream.specs.declared.answers.Drain.TheVariants as drain_as
+use Rattle.model_stream.specs.declared.answers.StreamGot.TheVariants as got_as
+use Rattle.model_stream.specs.Doing.{Doing, Ends, Changes, Asks, MakeFuture, CallSoon, Settle}
+use Rattle.model_stream.specs.Receivers.{StreamGot, AllGot}
+use Rattle.model_stream.specs.Senders.{Drain}
+use Rattle.model_stream.specs.Streams.{Streams}
+use Rattle.model_stream.specs.Kept.{StreamsKeep}
+
+-- a callback of a listener, a connection or a child
+abbrev pub is_of_streams : Action → Bool
+is_of_streams (action.Made conn) = true
+is_of_streams (action.StartRead conn) = true
+is_of_streams (action.Lost conn broken) = true
+is_of_streams (action.HandlerDone conn task) = true
+is_of_streams (action.ReadableServer server) = true
+is_of_streams (action.Readable conn) = true
+is_of_streams (action.Writable conn) = true
+is_of_streams (action.Up conn) = true
+is_of_streams (action.Down conn) = true
+is_of_streams (action.WritableChild child) = true
+is_of_streams (action.ChildItem child told) = true
+is_of_streams (action.LostChild child broken) = true
+is_of_streams _ = false
+
+abbrev pub is_select : Call → Bool
+is_select (call.Select wait watch) = true
+is_select _ = false
+
+-- an outcome that is no value of a script's
+abbrev pub names_nobody : Outcome → Bool
+names_nobody (Returned Nothing) = true
+names_nobody (Returned (Int number)) = true
+names_nobody (Returned (Conn id)) = true
+names_nobody (Failed fault) = true
+names_nobody _ = false
+
+-- ---- futures: `own` tells those that were kept before
+abbrev pub IsOwn : (own : ℕ → Bool) → ℕ → Type 0
+IsOwn own future = own future ≡ true
+
+-- numbered from `first` on, and below `next`
+abbrev pub IsMade : (first next : ℕ) → ℕ → Type 0
+IsMade first next future = (first ≤ future) × (future < next)
+
+abbrev pub IsKnown : (own : ℕ → Bool) → (first next : ℕ) → ℕ → Type 0
+IsKnown own first next future = IsOwn own future ⊎ IsMade first next future
+
+-- ---- a tree, where the future that is made next has the number `next`; `Left` is of what it ends with
+abbrev pub Keeping : {A : Type 0} → (Left : (next : ℕ) → A → Type 0) → (own : ℕ → Bool) → (next : ℕ) → Doing A → Type 0
+Keeping Left own next (Ends result) = Left next result
+Keeping Left own next (Changes MakeFuture rest) = Keeping Left own (next + 1) rest
+Keeping Left own next (Changes (CallSoon it) rest) = (is_of_streams it ≡ true) × Keeping Left own next rest
+Keeping Left own next (Changes (Settle future outcome) rest) =
+    (IsOwn own future × (names_nobody outcome ≡ true)) × Keeping Left own next rest
+Keeping Left own next (Asks asked rest) = (is_select asked ≡ false) × ((answer : Answer) → Keeping Left own next (rest answer))
+
+-- ---- what a tree ends with: streams
+abbrev pub KeepsStreams : (own : ℕ → Bool) → (first next : ℕ) → Streams → Type 0
+KeepsStreams own first next s = StreamsKeep (IsKnown own first next) s
+
+-- and an answer: a future that it waits on was made in it
+abbrev pub AnswersStreams : {R : Type 0} → (Waits : (ℕ → Type 0) → R → Type 0) → (own : ℕ → Bool) → (first next : ℕ) → Streams × R → Type 0
+AnswersStreams Waits own first next done = KeepsStreams own first next done.0 × Waits (IsMade first next) done.1
+
+abbrev pub WaitsNever : {R : Type 0} → (ℕ → Type 0) → R → Type 0
+WaitsNever P answer = Unit {0}
+
+abbrev pub DrainWaits : (ℕ → Type 0) → Drain → Type 0
+DrainWaits P (drain_as.Waits on) = P on
+DrainWaits P drain_as.Goes = Unit {0}
+DrainWaits P drain_as.Yields = Unit {0}
+DrainWaits P (drain_as.Raises fault) = Unit {0}
+
+abbrev pub ReadWaits : (ℕ → Type 0) → StreamGot → Type 0
+ReadWaits P (got_as.Waits on) = P on
+ReadWaits P (got_as.Bytes bytes) = Unit {0}
+ReadWaits P (got_as.Raises fault) = Unit {0}
+
+abbrev pub AllWaits : (ℕ → Type 0) → AllGot → Type 0
+AllWaits P said = ReadWaits P said.got
+
+abbrev pub ExitWaits : (ℕ → Type 0) → ChildWait → Type 0
+ExitWaits P (wait_as.Waits on) = P on
+ExitWaits P (wait_as.Code code) = Unit {0}
+
+-- a connect: the connection's number, and the future that it waits on
+abbrev pub ConnectWaits : (ℕ → Type 0) → Option (ℕ × ℕ) → Type 0
+ConnectWaits P None = Unit {0}
+ConnectWaits P (Some begun) = P begun.1

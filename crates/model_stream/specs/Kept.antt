@@ -1,0 +1,32 @@
+-- The futures that streams keep: those that drains wait on and the one that `wait_closed` awaits, the one that a read waits on,
+-- the one that a connect waits on, and those that waits for a child's exit are on. Of each kind, that all of them are so.
+use Rattle.std.specs.Prelude.{◌≡◌, ℕ, List, [], ◌∷◌, Option, Some, None, slice_get}
+use Rattle.model_stream.specs.Children.{Child}
+use Rattle.model_stream.specs.Connections.{Connection}
+use Rattle.model_stream.specs.Receivers.{Receiver}
+use Rattle.model_stream.specs.Senders.{Sender}
+use Rattle.model_stream.specs.Streams.{Streams}
+
+abbrev pub AllAre : (ℕ → Type 0) → List ℕ → Type 0
+AllAre P [] = Unit {0}
+AllAre P (future ∷ futures) = P future × AllAre P futures
+
+abbrev pub OneIs : (ℕ → Type 0) → Option ℕ → Type 0
+OneIs P None = Unit {0}
+OneIs P (Some future) = P future
+
+abbrev pub SenderKeeps : (ℕ → Type 0) → Sender → Type 0
+SenderKeeps P s = P s.closed_future × AllAre P s.drains
+
+abbrev pub ReceiverKeeps : (ℕ → Type 0) → Receiver → Type 0
+ReceiverKeeps P r = OneIs P r.waiter
+
+abbrev pub ConnectionKeeps : (ℕ → Type 0) → Connection → Type 0
+ConnectionKeeps P c = OneIs P c.making × SenderKeeps P c.sender × ReceiverKeeps P c.receiver
+
+abbrev pub ChildKeeps : (ℕ → Type 0) → Child → Type 0
+ChildKeeps P p = SenderKeeps P p.stdin × ReceiverKeeps P p.out × ReceiverKeeps P p.errs × AllAre P p.waits
+
+pub record StreamsKeep (P : ℕ → Type 0) (s : Streams) : Type 0 where
+  pub connections : (id : ℕ) (c : Connection) → slice_get s.connections id ≡ Some c → ConnectionKeeps P c
+  pub children : (id : ℕ) (p : Child) → slice_get s.children id ≡ Some p → ChildKeeps P p
