@@ -20,7 +20,7 @@ returns-clause-tells c =
     c.self.view_is
     (IfOk-weaker c.drain.result _ _
     (λ said it. told_asked_on its_sender before c.drain.new.self
-      (drain_sender c.args.yielded (length c.args.parts.now.futures)) said c.args.parts.now c.drain.new.parts it)
+    (drain_sender c.args.yielded (length c.args.parts.now.futures)) said c.args.parts.now c.drain.new.parts it)
     c.drain.ensures.tells)
 
 pub returns-clause-own : goal.returns-clause-own
