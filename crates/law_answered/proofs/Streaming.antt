@@ -24,7 +24,8 @@ use Rattle.model_machine.specs.Extra.{Extra}
 use Rattle.model_machine.specs.Outcomes.{input_of}
 use Rattle.model_machine.specs.Replies.{RequestReply, replied, reply, waits}
 use Rattle.model_machine.specs.Sound.{AreScriptsFutures, AreStreamsFutures, IsLeft, IsStateSound, StandsRightly, names_block, names_made, sends_made, stands_at}
-use Rattle.model_machine.specs.State.{Standing, Asked, Sleeping, Leaving, Serving, Connecting, Yielding, Reading, ReadingAll, State, generator_of, resumed, stands}
+use Rattle.model_machine.specs.State.{Standing, Asked, Sleeping, Leaving, Serving, Connecting, Yielding}
+use Rattle.model_machine.specs.State.{Reading, ReadingAll, State, generator_of, resumed, stands}
 use Rattle.model_machine.specs.State.{unbooked_in, with_streams}
 use Rattle.model_machine.specs.Step.{says_of}
 use Rattle.law_changes.specs.Changes.{PartsChange, CallsSoon, CallsLater, Revokes, MakesFuture, Settles, Registers, KeepsAsked, MakesTask, WaitsFor, Marks}

@@ -1,6 +1,7 @@
 -- What each request on listeners, connections and children comes to is one of the cases, whatever is open; and what the request
 -- at which a task stands makes of its input.
-use Rattle.std.proofs.Common.{◌≡◌, inl, inr, ◌⊎◌, ℕ, zero, suc, ◌&&◌, ℤ, pos, negsuc, refl, sym, subst, ap, ◌∙◌, Bool, true, false, List, [], ◌++◌, Option, Some, None}
+use Rattle.std.proofs.Common.{◌≡◌, inl, inr, ◌⊎◌, ℕ, zero, suc, ◌&&◌, ℤ, pos, negsuc, refl, sym, subst}
+use Rattle.std.proofs.Common.{ap, ◌∙◌, Bool, true, false, List, [], ◌++◌, Option, Some, None}
 use Rattle.std.proofs.Common.{is_none, nat_lt, slice_get}
 use Rattle.std.proofs.lemmas.Bool.{false≢true}
 use Rattle.std.specs.Option.{option_map, option_map_or}
@@ -33,15 +34,19 @@ use Rattle.model_stream.specs.Requests.{StreamReader, write, drain, limits, writ
 use Rattle.model_stream.specs.Requests.{returncode}
 use Rattle.model_stream.specs.Senders.{Drain}
 use Rattle.model_stream.specs.Streams.{Streams, may_listen, may_connect, may_launch, listen, connect, launch, close_server}
-use Rattle.model_machine.specs.Arguments.{AServer, AWriter, Closable, as_bytes, as_child, as_closable, as_conn, as_delay, as_int, as_reader, as_words, as_writer}
+use Rattle.model_machine.specs.Arguments.{AServer, AWriter, Closable, as_bytes, as_child, as_closable}
+use Rattle.model_machine.specs.Arguments.{as_conn, as_delay, as_int, as_reader, as_words, as_writer}
 use Rattle.model_machine.specs.Extra.{Extra}
 use Rattle.model_machine.specs.Replies.{RequestReply, Answers, Raises, Rests, Halts, awaits_as, awaits_closed_as, awaits_exit_as, closes, code_of, connects}
-use Rattle.model_machine.specs.Replies.{connects_as, decides, drains, drains_as, ended, given, hears, launches, launches_as, limits_as, listens, listens_as, numbered_if}
-use Rattle.model_machine.specs.Replies.{reads, reads_all, reads_all_as, reads_as, reads_count, reply, streams_change, streams_do, to_port, to_port_if, waits_no_more}
+use Rattle.model_machine.specs.Replies.{connects_as, decides, drains, drains_as, ended, given, hears, launches}
+use Rattle.model_machine.specs.Replies.{launches_as, limits_as, listens, listens_as, numbered_if}
+use Rattle.model_machine.specs.Replies.{reads, reads_all, reads_all_as, reads_as, reads_count, reply}
+use Rattle.model_machine.specs.Replies.{streams_change, streams_do, to_port, to_port_if, waits_no_more}
 use Rattle.model_machine.specs.Replies.{writes_as}
 use Rattle.model_machine.specs.Sound.{AreStreamsFutures, stands_at}
 use Rattle.model_machine.specs.State.{Standing, Asked, Sleeping, Leaving, Serving, Connecting, Yielding, Reading, ReadingAll, State, with_streams}
-use Rattle.law_trees.specs.Trees.{AllWaits, AnswersStreams, ConnectWaits, DrainWaits, ExitWaits, IsKnown, IsMade, IsOwn, Keeping, KeepsStreams, ReadWaits, WaitsNever}
+use Rattle.law_trees.specs.Trees.{AllWaits, AnswersStreams, ConnectWaits, DrainWaits, ExitWaits, IsKnown}
+use Rattle.law_trees.specs.Trees.{IsMade, IsOwn, Keeping, KeepsStreams, ReadWaits, WaitsNever}
 use Rattle.law_trees.proofs.Composing.{streams_more}
 use Rattle.law_trees.proofs.Asking as asking
 use Rattle.law_trees.proofs.Opening as opening

@@ -1,5 +1,6 @@
 -- What each request and each wait comes to, whatever is open.
-use Rattle.std.proofs.Common.{◌≡◌, inl, inr, ◌⊎◌, ℕ, zero, suc, ◌&&◌, ℤ, pos, negsuc, refl, sym, subst, ap, ◌∙◌, Bool, true, false, List, [], ◌++◌, Option, Some, None}
+use Rattle.std.proofs.Common.{◌≡◌, inl, inr, ◌⊎◌, ℕ, zero, suc, ◌&&◌, ℤ, pos, negsuc, refl, sym, subst}
+use Rattle.std.proofs.Common.{ap, ◌∙◌, Bool, true, false, List, [], ◌++◌, Option, Some, None}
 use Rattle.std.proofs.Common.{nat_lt}
 use Rattle.std.proofs.lemmas.Bool.{false≢true}
 use Rattle.model_value.specs.declared.action.Action.TheVariants as action
@@ -24,14 +25,18 @@ use Rattle.model_stream.specs.declared.read_op.ReadOp.TheVariants.{UpTo, Exactly
 use Rattle.model_stream.specs.Doing.{Doing}
 use Rattle.model_stream.specs.Reading.{ReadOp}
 use Rattle.model_stream.specs.Receivers.{AllGot, StreamGot}
-use Rattle.model_stream.specs.Requests.{StreamReader, write, drain, limits, write_eof, close, closed_future, drop_connect, read, read_all, give_up_read, wait, kill}
+use Rattle.model_stream.specs.Requests.{StreamReader, write, drain, limits, write_eof, close, closed_future}
+use Rattle.model_stream.specs.Requests.{drop_connect, read, read_all, give_up_read, wait, kill}
 use Rattle.model_stream.specs.Senders.{Drain}
 use Rattle.model_stream.specs.Streams.{Streams, may_listen, may_connect, may_launch, listen, connect, launch, close_server}
-use Rattle.model_machine.specs.Arguments.{AServer, AWriter, Closable, as_bytes, as_child, as_closable, as_conn, as_delay, as_int, as_reader, as_words, as_writer}
+use Rattle.model_machine.specs.Arguments.{AServer, AWriter, Closable, as_bytes, as_child, as_closable}
+use Rattle.model_machine.specs.Arguments.{as_conn, as_delay, as_int, as_reader, as_words, as_writer}
 use Rattle.model_machine.specs.Extra.{Extra}
 use Rattle.model_machine.specs.Outcomes.{input_of}
-use Rattle.model_machine.specs.Replies.{RequestReply, Answers, Raises, Rests, awaits, awaits_as, awaits_closed_as, awaits_exit_as, closes, connects, connects_as}
-use Rattle.model_machine.specs.Replies.{decides, drains, drains_as, ended, given, hears, launches, launches_as, limits_as, listens, listens_as, numbered_if, reads}
+use Rattle.model_machine.specs.Replies.{RequestReply, Answers, Raises, Rests, awaits, awaits_as}
+use Rattle.model_machine.specs.Replies.{awaits_closed_as, awaits_exit_as, closes, connects, connects_as}
+use Rattle.model_machine.specs.Replies.{decides, drains, drains_as, ended, given, hears, launches}
+use Rattle.model_machine.specs.Replies.{launches_as, limits_as, listens, listens_as, numbered_if, reads}
 use Rattle.model_machine.specs.Replies.{reads_all, reads_all_as, reads_as, reads_count, reply, streams_change, streams_do, to_port, to_port_if, waits}
 use Rattle.model_machine.specs.Replies.{waits_no_more, writes_as}
 use Rattle.model_machine.specs.Sound.{IsClosed}

@@ -100,7 +100,8 @@ module _ (own : ℕ → Bool) (first : ℕ) where
       keeping_if own (KeepsStreams own first) next (may_connect s) _ (Ends s) (
         refl,
         λ came.
-            keeping_if own (KeepsStreams own first) next (is_conn came) (and_then (accept handler next s) (accept_most more server handler (next + 1))) (Ends s) (
+            keeping_if own (KeepsStreams own first) next (is_conn came)
+            (and_then (accept handler next s) (accept_most more server handler (next + 1))) (Ends s) (
               refl,
               (
                 refl,
@@ -186,7 +187,8 @@ module _ (own : ℕ → Bool) (first : ℕ) where
     refl,
     λ came.
         keeping_if own (AnswersStreams ConnectWaits own first) first (is_conn came)
-        (Changes MakeFuture (Changes MakeFuture (Ends (add_connection (connecting first (first + 1)) s, Some (length s.connections, first + 1))))) (Ends (s, None)) (
+        (Changes MakeFuture (Changes MakeFuture
+        (Ends (add_connection (connecting first (first + 1)) s, Some (length s.connections, first + 1))))) (Ends (s, None)) (
           connection_comes (Known (first + 1 + 1)) s (still (first + 1 + 1) s kept) (connecting first (first + 1))
               (inr (omega arith, omega arith), (inr (omega arith, omega arith), tt), tt),
           (omega arith, omega arith),

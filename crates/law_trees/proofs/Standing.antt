@@ -1,5 +1,6 @@
 -- Connections and children.
-use Rattle.std.proofs.Common.{◌≡◌, inl, inr, ℕ, ◌+◌, ℤ, Bool, true, false, cond, not, ◌&&◌, ◌||◌, List, [], ◌∷◌, ◌++◌, Option, Some, None, is_some, is_none, refl}
+use Rattle.std.proofs.Common.{◌≡◌, inl, inr, ℕ, ◌+◌, ℤ, Bool, true, false, cond, not, ◌&&◌, ◌||◌, List}
+use Rattle.std.proofs.Common.{[], ◌∷◌, ◌++◌, Option, Some, None, is_some, is_none, refl}
 use Rattle.model_pump.specs.declared.stream.Stream.{Stream}
 use Rattle.model_pump.specs.declared.stream.Stream.TheVariants as stream
 use Rattle.model_value.specs.declared.action.ChildItem.{ChildItem}
@@ -18,7 +19,8 @@ use Rattle.model_stream.specs.declared.put.Limited.{Limited}
 use Rattle.model_stream.specs.Children.{Child, inlet, its_stdin, its_pipe, lose_child, fed, feed_more, break_stdin, told_pipe, exit_with, tell_child}
 use Rattle.model_stream.specs.Children.{close_child, write_child, drain_child, limits_child, wait_child, kill}
 use Rattle.model_stream.specs.Connections.{Connection, outlet, its_sender, its_receiver, reads, start_read, fail, received, readable, lose, flushed}
-use Rattle.model_stream.specs.Connections.{writable, up, down, stand_up, close, handler_done, drop_connect, unmade, connect_refused, write_to, write_eof, drain_of, limits_of}
+use Rattle.model_stream.specs.Connections.{writable, up, down, stand_up, close, handler_done, drop_connect, unmade}
+use Rattle.model_stream.specs.Connections.{connect_refused, write_to, write_eof, drain_of, limits_of}
 use Rattle.model_stream.specs.Doing.{Doing, Ends, Changes, Asks, MakeFuture, Settle, and_then, asks, on, asked_on, settles}
 use Rattle.model_stream.specs.Receivers.{Receiver, StreamGot, AllGot, takes_more, receive, receive_end, receive_loss}
 use Rattle.model_stream.specs.Senders.{Sender, Drain, has_unsent, is_closing, is_flushed, with_writer, close_sender, fail_sender, lose_sender, send_more}
