@@ -35,4 +35,5 @@ pub fn sent_by(answer: &Answer) -> Sent
     }
 }
 
+/// An answer is let go.
 pub fn forget_answer(_answer: Answer) {}

@@ -14,6 +14,7 @@ pub struct Lists {
 }
 
 impl Lists {
+    /// No list so far.
     pub fn new(alloc: Global) -> Lists {
         Lists {
             words: Vec::new(alloc),
