@@ -1,3 +1,4 @@
+pub use Rattle.aio_core.specs.Asked
 pub mod Drive
 pub mod Ending
 pub mod Outcome

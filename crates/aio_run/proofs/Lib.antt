@@ -1,2 +1,4 @@
 pub mod Outcomes
+pub mod Promise
 pub mod TextFronts
+pub mod WireRuns

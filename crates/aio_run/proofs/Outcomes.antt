@@ -55,7 +55,7 @@ begins_from None had rest agrees = tt
 begins_from (Some None) had rest agrees = append-nothing had rest (outright [] (had ++ rest) agrees)
 begins_from (Some (Some text)) had rest agrees = (rest, outright (entries_of text) (had ++ rest) agrees)
 
-none_failed : (old new : ShelfSeen) → new ≡ old → NoneFailed old new
+pub none_failed : (old new : ShelfSeen) → new ≡ old → NoneFailed old new
 none_failed old new same = ap (λ (s : ShelfSeen). s.faults) same
 
 -- A program's run that was driven over a journal of a shelf, by what is seen of the shelf before and after.
@@ -210,7 +210,7 @@ replay_by_script script old mid new name how spells same output may =
     let here = subst (λ (s : ShelfSeen). MayRunIf s new (is_served script) script how output) same may in
     inr (spells.0, spells.1, subst (λ (p : Judged Program). MayRunScript old new p how output) (sym spells.2) here)
 
-refused_as : (number cause : ℕ) (why : Cause) (output : ProgramOutput) → cause ≡ cause_number why → Tells (Refused number cause) output
+pub refused_as : (number cause : ℕ) (why : Cause) (output : ProgramOutput) → cause ≡ cause_number why → Tells (Refused number cause) output
     → output ≡ script_refused (record { line = number; cause = why })
 refused_as number cause why output same tells =
     tells ∙ ap (λ (n : ℕ). record { text = line (refusal_text number n); status = 3 }) same

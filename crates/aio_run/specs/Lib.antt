@@ -1,2 +1,3 @@
 pub mod Manner
+pub mod Running
 pub mod Script

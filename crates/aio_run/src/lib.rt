@@ -4,6 +4,7 @@
 mod checking;
 mod program;
 mod replaying;
+mod running;
 mod script;
 
 pub use program::aio_main;

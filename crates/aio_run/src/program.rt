@@ -1,13 +1,15 @@
 //! What the program does for its words.
 ghost use Rattle.std.specs.Prelude.{◌≡◌, None, IfOk, IfErr, map, string_bytes};
-ghost use Rattle.model_wire.specs.Told.{NoneFailed};
-ghost use Rattle.model_machine.specs.Program.{MayWrite};
-ghost use Rattle.model_machine.specs.Theorem.{Behaves, WritesWhole};
-ghost use Rattle.model_machine.specs.Words.{command_of as plain_command_of};
+ghost use Rattle.model_words.specs.Words.{command_of as plain_command_of};
+ghost use Rattle.model_machine.specs.Theorem.{WritesWhole};
+ghost use Rattle.model_commands.specs.Outputs.{IsUnbegun, KeepsFiles, KeepsWire, MayWrite};
+ghost use Rattle.model_commands.specs.Promise.{Behaves};
 ghost use Rattle.aio_drive.specs.Outcome.{EndsEarly};
+ghost use Rattle.aio_run.specs.Running.{asked_all, asked_until, outside};
 
 use crate::checking::check;
 use crate::replaying::replay;
+use crate::running::run_unless_recorded;
 use aio_drive::{Halt, Manner, say};
 use aio_wire::{Shelf, Sink, Wire};
 use aio_words::{Command, command_of};
@@ -17,13 +19,14 @@ use std::alloc::Global;
 ///
 /// `check SCRIPT` writes the canonical text of a script of the shelf to the sink.
 /// `replay SCRIPT JOURNAL` runs a script of the shelf over the answers of a journal of the shelf,
-/// and writes the transcript; `--trace` adds a line for each call, answer and handle, and
-/// `--turns N` allows so many turns. The statuses: 0, the script was checked, or main returned; 1,
-/// main raised or was cancelled; 2, the words are refused; 3, the script is, or it doesn't run so
-/// far; 4, a line of the journal that is needed is refused; 5, an answer doesn't fit its call; 6,
-/// no answer is left; 7, nothing is pending and nothing can come; 8, a step has too many
-/// statements; 9, the shelf or the sink failed; 10, as many turns were made as are allowed; 11,
-/// memory was refused. The wire is not asked.
+/// and writes the transcript; `run SCRIPT` runs it over the wire. In both, `--trace` adds a line
+/// for each call, answer and handle, and `--turns N` allows so many turns. So far `run` with
+/// `--record NAME` is refused as words are, and `work N` as a script that doesn't run. The
+/// statuses: 0, the script was checked, or main returned; 1, main raised or was cancelled; 2, the
+/// words are refused; 3, the script is, or it doesn't run so far; 4, a line of the journal that is
+/// needed is refused; 5, an answer doesn't fit its call; 6, no answer is left; 7, nothing is
+/// pending and nothing can come; 8, a step has too many statements; 9, the shelf, the wire or the
+/// sink failed; 10, as many turns were made as are allowed; 11, memory was refused.
 pub fn aio_main<F: Shelf, W: Wire, K: Sink>(
     alloc: Global,
     words: &Vec<String>,
@@ -31,23 +34,26 @@ pub fn aio_main<F: Shelf, W: Wire, K: Sink>(
     wire: &mut W,
     out: &mut K,
 ) -> u8
-    ensures { Behaves MayWrite (map string_bytes words.now.items)
+    ensures { Behaves (map string_bytes words.now.items)
         (record {
           shelf = shelf.old;
-          files = F.seen shelf.old;
           wire = wire.old;
+          files = F.seen shelf.old;
+          told = W.seen wire.old;
+          fails = W.fails wire.old;
           sink = K.seen out.old;
         })
         (record {
           shelf = shelf.new;
-          files = F.seen shelf.new;
           wire = wire.new;
+          files = F.seen shelf.new;
+          told = W.seen wire.new;
+          fails = W.fails wire.new;
           sink = K.seen out.new;
         })
         result }
 {
-    let _ = wire;
-    match serve(alloc, words.as_slice(), shelf, out) {
+    match serve(alloc, words.as_slice(), shelf, wire, out) {
         Ok(status) => status,
         Err(Halt::Memory) => 11,
         Err(Halt::Sink) => 9,
@@ -55,21 +61,29 @@ pub fn aio_main<F: Shelf, W: Wire, K: Sink>(
 }
 
 /// Does what the words ask for.
-fn serve<F: Shelf, K: Sink>(
+fn serve<F: Shelf, W: Wire, K: Sink>(
     alloc: Global,
     words: &[String],
     shelf: &mut F,
+    wire: &mut W,
     out: &mut K,
 ) -> Result<u8, Halt>
     ensures ok { IfOk result (WritesWhole
-        (MayWrite (F.seen shelf.old) (F.seen shelf.new)
+        (MayWrite (outside (F.seen shelf.old) (F.seen shelf.new)
+        (asked_all (W.seen wire.old) (W.seen wire.new) (W.fails wire.old)))
         (plain_command_of (map string_bytes words.now)))
         (K.seen out.old) (K.seen out.new)) }
-    ensures err { IfErr result (EndsEarly
-        (MayWrite (F.seen shelf.old) (F.seen shelf.new)
+    ensures err { IfErr result (λ halt. EndsEarly
+        (MayWrite (outside (F.seen shelf.old) (F.seen shelf.new)
+        (asked_until halt (W.seen wire.old) (W.seen wire.new) (W.fails wire.old)))
         (plain_command_of (map string_bytes words.now)))
-        (NoneFailed (F.seen shelf.old) (F.seen shelf.new)) (K.seen out.old) (K.seen out.new)) }
-    ensures files { (F.seen shelf.new).file ≡ (F.seen shelf.old).file }
+        (IsUnbegun (outside (F.seen shelf.old) (F.seen shelf.new)
+        (asked_until halt (W.seen wire.old) (W.seen wire.new) (W.fails wire.old)))
+        (plain_command_of (map string_bytes words.now)))
+        (K.seen out.old) (K.seen out.new) halt) }
+    ensures files { KeepsFiles (plain_command_of (map string_bytes words.now))
+        (F.seen shelf.old) (F.seen shelf.new) }
+    ensures wire { KeepsWire (plain_command_of (map string_bytes words.now)) wire.old wire.new }
     ensures words { plain_command_of (map string_bytes words.now) ≡ None → shelf.new ≡ shelf.old }
 {
     match command_of(words) {
@@ -82,6 +96,23 @@ fn serve<F: Shelf, K: Sink>(
                 turns,
             },
         ) => replay(alloc, script, journal, Manner { trace, turns }, shelf, out),
+        Some(
+            Command::Run {
+                script,
+                recorded,
+                trace,
+                turns,
+            },
+        ) => run_unless_recorded(
+            alloc,
+            script,
+            recorded,
+            Manner { trace, turns },
+            shelf,
+            wire,
+            out,
+        ),
+        Some(Command::Work { .. }) => say(alloc, "! script 1 9\n", 3, out),
         None => say(alloc, "! words\n", 2, out),
     }
 }

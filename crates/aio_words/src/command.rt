@@ -1,10 +1,11 @@
 //! Commands and their words.
 ghost use Rattle.std.specs.Prelude.{◌≡◌, [], ◌∷◌, map, string_bytes, IfSome};
 ghost use Rattle.std.specs.Option.{option_map};
-ghost use Rattle.model_machine.specs.Words.{command_of as plain_command_of, check_of, replay_of, is_name};
+ghost use Rattle.model_words.specs.Words.{command_of as plain_command_of, check_of, replay_of, run_of, work_of, is_name};
 ghost use Rattle.aio_words.specs.Commands.{AllowsSome, plain_command};
 
-use crate::given::{Given, command_from};
+use crate::given::{Given, Verb, command_from};
+use aio_text::number;
 
 /// What the words ask for.
 #[derive(Clone, Copy)]
@@ -20,10 +21,24 @@ pub enum Command<'a> {
         trace: bool,
         turns: u64,
     },
+    /// Runs a script over the outside's answers, of at most so many turns. Where a file is named,
+    /// each answer is recorded in it.
+    Run {
+        script: &'a str,
+        recorded: Option<&'a str>,
+        trace: bool,
+        turns: u64,
+    },
+    /// Runs the work that a seed makes.
+    Work {
+        seed: u64,
+    },
 }
 
-/// What the words ask for, where they ask for something: `check SCRIPT`, or `replay SCRIPT JOURNAL`, with `--trace` and
-/// `--turns N` among the names in any order. No name is empty or begins with a dash, and at least one turn is allowed.
+/// What the words ask for, where they ask for something: `check SCRIPT`, `replay SCRIPT JOURNAL`
+/// or `run SCRIPT` with `--trace` and `--turns N` among the names in any order, and in `run` with
+/// `--record NAME` too, or `work N`. No name is empty or begins with a dash, at least one turn is
+/// allowed, and a seed has 1 to 6 digits.
 pub fn command_of(words: &[String]) -> Option<Command<'_>>
     ensures command { option_map plain_command result
         ≡ plain_command_of (map string_bytes words.now) }
@@ -44,6 +59,10 @@ fn command_with<'a>(verb: &str, words: &'a [String]) -> Option<Command<'a>>
         check_of(words)
     } else if verb == "replay" {
         replay_of(words)
+    } else if verb == "run" {
+        run_of(words)
+    } else if verb == "work" {
+        work_of(words)
     } else {
         None
     }
@@ -74,7 +93,36 @@ fn replay_of(words: &[String]) -> Option<Command<'_>>
     ensures command { option_map plain_command result ≡ replay_of (map string_bytes words.now) }
     ensures some { IfSome result AllowsSome }
 {
-    command_from(Given::none(), words)
+    command_from(Given::none(Verb::Replay), words)
+}
+
+fn run_of(words: &[String]) -> Option<Command<'_>>
+    ensures command { option_map plain_command result ≡ run_of (map string_bytes words.now) }
+    ensures some { IfSome result AllowsSome }
+{
+    command_from(Given::none(Verb::Run), words)
+}
+
+fn work_of(words: &[String]) -> Option<Command<'_>>
+    ensures command { option_map plain_command result ≡ work_of (map string_bytes words.now) }
+    ensures some { IfSome result AllowsSome }
+{
+    match words {
+        [seed] => work_seed(seed.as_str().as_bytes()),
+        _ => None,
+    }
+}
+
+/// The work of a seed of 1 to 6 digits.
+fn work_seed<'a>(seed: &[u8]) -> Option<Command<'a>>
+    ensures command { option_map plain_command result ≡ work_of (seed.now ∷ []) }
+    ensures some { IfSome result AllowsSome }
+{
+    if seed.len() > 6 {
+        return None;
+    }
+    let seed = number(seed)?;
+    Some(Command::Work { seed })
 }
 
 /// Whether a word names a file: it is not empty and does not begin with a dash.

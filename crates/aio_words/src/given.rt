@@ -1,15 +1,22 @@
-//! The words of a replay that were taken so far.
-ghost use Rattle.std.specs.Prelude.{◌≡◌, ◌≤◌, ◌∷◌, ℕ, true, [], List, Some, None, map, string_bytes, codes, IfSome, MatchOption};
+//! The words of a replay or a run that were taken so far.
+ghost use Rattle.std.specs.Prelude.{◌≡◌, ◌≤◌, ◌∷◌, ℕ, true, false, [], List, Some, None, map, string_bytes, codes, IfSome, MatchOption, if◌then◌else◌};
 ghost use Rattle.std.specs.Option.{option_copied, option_map};
-ghost use Rattle.model_machine.specs.Words.{is_name, limit_of, replay_of, replay_with, turns_of};
+ghost use Rattle.model_words.specs.Words.{is_name, is_record, is_trace, is_turns, limit_of, limited, record_of, replay_named, run_named, turns_of};
 ghost use Rattle.aio_words.specs.Commands.{AllowsSome, plain_command};
-ghost use Rattle.aio_words.specs.Given.{gathered, left, limits_of, traces_of, with_option};
+ghost use Rattle.aio_words.specs.Given.{asked_of, gathered, left, limits_of, names_of, records_of, traces_of, with_option, with_record_option};
 
 use crate::command::{Command, is_name};
 use aio_text::number;
 
 /// How many turns are allowed where no word says how many.
 const MOST_TURNS: u64 = 1 << 40;
+
+/// A command whose words have names and options in any order.
+#[derive(Clone, Copy)]
+pub enum Verb {
+    Replay,
+    Run,
+}
 
 /// The names of files, as far as they came.
 #[derive(Clone, Copy)]
@@ -19,22 +26,27 @@ pub enum Names<'a> {
     Both { script: &'a str, journal: &'a str },
 }
 
-/// The words of a replay that were taken so far: names, whether `--trace` stood among them, and the value of `--turns`.
+/// The words that were taken so far of what this verb asks for: names, whether `--trace` stood among them, and the values
+/// of `--turns` and of `--record`.
 #[derive(Clone, Copy)]
 pub struct Given<'a> {
+    verb: Verb,
     names: Names<'a>,
     trace: bool,
     turns: Option<&'a [u8]>,
+    recorded: Option<&'a str>,
 }
 
 impl<'a> Given<'a> {
-    pub fn none() -> Given<'a>
-        ensures { (words : List (List ℕ)) → left result words ≡ replay_of words }
+    pub fn none(verb: Verb) -> Given<'a>
+        ensures { (words : List (List ℕ)) → left result words ≡ asked_of verb words }
     {
         Given {
+            verb,
             names: Names::None,
             trace: false,
             turns: None,
+            recorded: None,
         }
     }
 
@@ -51,9 +63,25 @@ impl<'a> Given<'a> {
         if word == "--trace" {
             return self.with_trace();
         }
-        match word.as_bytes() {
-            [b'-', b'-', b't', b'u', b'r', b'n', b's', b'=', value @ ..] => self.with_turns(value),
-            _ => None,
+        match turns_value(word) {
+            Some(value) => self.with_turns(value),
+            None => self.with_other(word),
+        }
+    }
+
+    /// The same of a word that is no name, no `--trace` and no `--turns=V`.
+    fn with_other(self, word: &'a str) -> Option<Given<'a>>
+        requires no_name { is_name word.now ≡ false }
+        requires no_trace { is_trace word.now ≡ false }
+        requires no_turns { is_turns word.now ≡ false }
+        ensures { MatchOption result
+            ((words : List (List ℕ)) → gathered self.entry (word.now ∷ words) ≡ None)
+            (λ given. (words : List (List ℕ)) → gathered self.entry (word.now ∷ words)
+            ≡ gathered given words) }
+    {
+        match record_name(word) {
+            Some(name) => self.with_record(name),
+            None => None,
         }
     }
 
@@ -105,36 +133,108 @@ impl<'a> Given<'a> {
         })
     }
 
+    fn with_record(self, name: &'a str) -> Option<Given<'a>>
+        ensures { MatchOption result
+            ((words : List (List ℕ)) → gathered self.entry (with_record_option name.now ∷ words) ≡ None)
+            (λ given. (words : List (List ℕ)) → gathered self.entry (with_record_option name.now ∷ words)
+            ≡ gathered given words) }
+    {
+        if self.recorded.is_some() {
+            return None;
+        }
+        Some(Given {
+            recorded: Some(name),
+            ..self
+        })
+    }
+
     /// What was asked for, where no word is left.
     pub fn command(self) -> Option<Command<'a>>
         ensures command { option_map plain_command result ≡ left self.entry [] }
         ensures some { IfSome result AllowsSome }
     {
-        match self.names {
-            Names::Both { script, journal } => replay(script, journal, self.trace, self.turns),
-            Names::None | Names::Script(_) => None,
+        match self.verb {
+            Verb::Replay => self.replay(),
+            Verb::Run => self.run(),
         }
+    }
+
+    /// A replay has two names, and no record.
+    fn replay(self) -> Option<Command<'a>>
+        ensures command { option_map plain_command result
+            ≡ limited (replay_named (names_of self.entry.names) (records_of (option_copied self.entry.recorded)))
+            (traces_of self.entry.trace) (limits_of (option_copied self.entry.turns)) }
+        ensures some { IfSome result AllowsSome }
+    {
+        match (self.names, self.recorded) {
+            (Names::Both { script, journal }, None) => {
+                let turns = limit_of(self.turns)?;
+                Some(Command::Replay {
+                    script,
+                    journal,
+                    trace: self.trace,
+                    turns,
+                })
+            }
+            _ => None,
+        }
+    }
+
+    /// A run has one name.
+    fn run(self) -> Option<Command<'a>>
+        ensures command { option_map plain_command result
+            ≡ limited (run_named (names_of self.entry.names) (records_of (option_copied self.entry.recorded)))
+            (traces_of self.entry.trace) (limits_of (option_copied self.entry.turns)) }
+        ensures some { IfSome result AllowsSome }
+    {
+        let Names::Script(script) = self.names else {
+            return None;
+        };
+        if !names_a_file(self.recorded) {
+            return None;
+        }
+        let turns = limit_of(self.turns)?;
+        Some(Command::Run {
+            script,
+            recorded: self.recorded,
+            trace: self.trace,
+            turns,
+        })
     }
 }
 
-fn replay<'a>(
-    script: &'a str,
-    journal: &'a str,
-    trace: bool,
-    turns: Option<&[u8]>,
-) -> Option<Command<'a>>
-    ensures command { option_map plain_command result
-        ≡ replay_with (script.now ∷ journal.now ∷ []) (traces_of trace)
-        (limits_of (option_copied turns.entry)) }
-    ensures some { IfSome result AllowsSome }
+/// Whether the value of `--record`, if there is one, names a file.
+fn names_a_file(recorded: Option<&str>) -> bool
+    ensures { record_of (records_of (option_copied recorded.entry))
+        ≡ if result then Some (option_copied recorded.entry) else None }
 {
-    let turns = limit_of(turns)?;
-    Some(Command::Replay {
-        script,
-        journal,
-        trace,
-        turns,
-    })
+    match recorded {
+        Some(name) => is_name(name),
+        None => true,
+    }
+}
+
+/// The value of `--turns` that stands in one word with it.
+fn turns_value(word: &str) -> Option<&[u8]>
+    ensures { MatchOption result (is_turns word.now ≡ false) (λ value. word.now ≡ with_option value.now) }
+{
+    match word.as_bytes() {
+        [b'-', b'-', b't', b'u', b'r', b'n', b's', b'=', value @ ..] => Some(value),
+        _ => None,
+    }
+}
+
+/// The value of `--record` that stands in one word with it.
+fn record_name(word: &str) -> Option<&str>
+    ensures { MatchOption result (is_record word.now ≡ false)
+        (λ name. word.now ≡ with_record_option name.now) }
+{
+    match word.as_bytes() {
+        [b'-', b'-', b'r', b'e', b'c', b'o', b'r', b'd', b'=', ..] => word.strip_prefix(
+            "--record=",
+        ),
+        _ => None,
+    }
 }
 
 /// How many turns are allowed.
@@ -162,7 +262,7 @@ fn turns_of(value: &[u8]) -> Option<u64>
     }
 }
 
-/// What a replay's words ask for, of which some were taken. It goes on for as many words as may stand.
+/// What words ask for, of which some were taken. It goes on for as many words as may stand.
 pub fn command_from<'a>(given: Given<'a>, rest: &'a [String]) -> Option<Command<'a>>
     ensures command { option_map plain_command result
         ≡ left given.entry (map string_bytes rest.now) }
@@ -177,6 +277,8 @@ pub fn command_from<'a>(given: Given<'a>, rest: &'a [String]) -> Option<Command<
     }
     if word == "--turns" {
         command_from(given.with_turns(rest[1].as_str().as_bytes())?, &rest[2..])
+    } else if word == "--record" {
+        command_from(given.with_record(rest[1].as_str())?, &rest[2..])
     } else {
         command_from(given.with_word(word)?, &rest[1..])
     }

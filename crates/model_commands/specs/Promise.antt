@@ -1,0 +1,56 @@
+-- What the program promises: the theorem, and its words.
+use Rattle.std.specs.Prelude.{◌≡◌, ◌≢◌, ℕ, List, None, ◌⊎◌}
+use Rattle.model_wire.specs.Event.{Event}
+use Rattle.model_wire.specs.Told.{ShelfSeen, SinkSeen, WireSeen}
+use Rattle.model_machine.specs.Theorem.{SinkStops, StopsShort, WritesWhole}
+use Rattle.model_words.specs.Words.{command_of}
+use Rattle.model_commands.specs.Asked.{Asks, AsksFirst, AsksFirstAndOne}
+use Rattle.model_commands.specs.Outputs.{IsUnbegun, KeepsFiles, KeepsWire, MayWrite, Outside}
+
+-- The outside at a moment: the shelf and the wire; what is seen of the shelf, of the wire and of the sink; and that each call of the wire
+-- fails.
+pub record Moment (F W : Type 0) : Type 1 where
+  pub shelf : F
+  pub wire : W
+  pub files : ShelfSeen
+  pub told : WireSeen
+  pub fails : Type 0
+  pub sink : SinkSeen
+
+-- what is known of it between two moments, where this is how the wire was asked
+abbrev pub between : {F W : Type 0} → (old new : Moment F W) → (asked : (before after : WireSeen) → List Event → Type 0) → Outside
+between old new asked = record {
+  old = old.files;
+  new = new.files;
+  wire = record { before = old.told; after = new.told; fails = old.fails; asked = asked old.told new.told };
+}
+
+-- The wire was asked all that the run's events say; or, where the run was cut short, what the first of them say, and after want of
+-- memory perhaps one call besides.
+abbrev pub whole : {F W : Type 0} → (old new : Moment F W) → Outside
+whole old new = between old new (λ before after events. Asks events before after)
+
+abbrev pub stopped : {F W : Type 0} → (old new : Moment F W) → Outside
+stopped old new = between old new AsksFirst
+
+abbrev pub starved : {F W : Type 0} → (old new : Moment F W) → Outside
+starved old new = between old new AsksFirstAndOne
+
+-- The theorem: what the program does for the words behind its name, for every shelf, wire and sink, by its exit status.
+pub record Behaves {F W : Type 0} (given : List (List ℕ)) (old new : Moment F W) (status : ℕ) : Type 0 where
+  -- Under every status but 9 and 11 the sink took exactly the text of an output that may be, and the status is its own.
+  pub written : status ≢ 9 → status ≢ 11 → WritesWhole (MayWrite (whole old new) (command_of given)) old.sink new.sink status
+  -- Under 9 it took the whole of an output that has this status, which there is only where a file or the wire failed; or it
+  -- took a front, and failed.
+  pub fault : status ≡ 9
+      → WritesWhole (MayWrite (whole old new) (command_of given)) old.sink new.sink 9
+      ⊎ SinkStops (MayWrite (stopped old new) (command_of given)) (IsUnbegun (stopped old new) (command_of given)) old.sink new.sink
+  -- Under 11 it took a front, and did not fail; where a file or the wire failed, it is a front of that fault's output.
+  pub memory : status ≡ 11
+      → StopsShort (MayWrite (starved old new) (command_of given)) (IsUnbegun (starved old new) (command_of given)) old.sink new.sink
+  -- Files change as the command says.
+  pub files : KeepsFiles (command_of given) old.files new.files
+  -- The wire is asked by those commands alone that say so.
+  pub wire : KeepsWire (command_of given) old.wire new.wire
+  -- Words that are refused ask nothing of the shelf.
+  pub words : command_of given ≡ None → new.shelf ≡ old.shelf
