@@ -38,14 +38,19 @@ failed_on first now after done piece had failed =
     let (taken, rose) = subst (λ (s : SinkSeen). SinkFailed piece s after) had failed in
     (taken ∙ grown-grown first.taken done piece, rose)
 
+-- what is left, once a front of the rest is gone too
+pub rest_whole : (done rest text : List ℕ) (count : ℕ) → done ++ rest ≡ text
+    → (done ++ take count rest) ++ take (length rest - count) (drop count rest) ≡ text
+rest_whole done rest text count whole =
+    ap (λ (r : List ℕ). (done ++ take count rest) ++ r) (take_rest rest count)
+    ∙ append_assoc done (take count rest) (drop count rest) ∙ ap (λ (r : List ℕ). done ++ r) (take-append-drop count rest) ∙ whole
+
 -- a front of the rest is handed over
 pub wrote_more : (done rest text : List ℕ) (old mid new : SinkSeen) (count : ℕ) → WroteSoFar done rest text old mid → new ≡ took mid (take count rest)
     → WroteSoFar (done ++ take count rest) (take (length rest - count) (drop count rest)) text old new
 wrote_more done rest text old mid new count wrote wrote_next =
     record {
-      whole =
-          ap (λ (r : List ℕ). (done ++ take count rest) ++ r) (take_rest rest count)
-          ∙ append_assoc done (take count rest) (drop count rest) ∙ ap (λ (r : List ℕ). done ++ r) (take-append-drop count rest) ∙ wrote.whole;
+      whole = rest_whole done rest text count wrote.whole;
       sink = took_on old mid new done (take count rest) wrote.sink wrote_next;
     }
 

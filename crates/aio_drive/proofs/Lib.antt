@@ -1,6 +1,9 @@
+pub mod Asking
 pub mod Driving
 pub mod Exits
 pub mod Fronts
+pub mod Growing
 pub mod Rounds
 pub mod Turns
+pub mod Unrecorded
 pub mod Written

@@ -1,6 +1,6 @@
-pub use Rattle.aio_core.specs.Asked
 pub mod Drive
 pub mod Ending
 pub mod Outcome
+pub mod Recording
 pub mod Silence
 pub mod Writing
