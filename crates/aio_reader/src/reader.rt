@@ -132,6 +132,19 @@ impl Reader {
         }
     }
 
+    /// Takes all that is held.
+    pub fn take_all(&mut self, alloc: Global) -> Result<Blob, Memory>
+        ensures bytes { IfOk result (λ bytes. bytes ≡ self.old.held) }
+        ensures after { OnOk result (self.new
+            ≡ after_take (reading.gives (length self.old.held) self.old.held) self.old) }
+        ensures unchanged { OnErr result (self.new ≡ self.old) }
+    {
+        let count = self.held.len();
+        let bytes = self.held.take_front(alloc, count)?;
+        self.paused = self.paused && self.held.len() > self.limit;
+        Ok(bytes)
+    }
+
     fn take_up_to(&mut self, alloc: Global, count: u64) -> Result<Taken, Memory>
         ensures answer { IfOk result (λ taken. taken ≡ (reading.take_up_to count self.old).answer) }
         ensures after { OnOk result

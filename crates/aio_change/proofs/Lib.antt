@@ -1,0 +1,4 @@
+pub mod AfterAsking
+pub mod ByPart
+pub mod InOrder
+pub mod Owning

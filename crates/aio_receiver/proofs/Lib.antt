@@ -1,0 +1,3 @@
+pub mod Needing
+pub mod Taking
+pub mod Waking

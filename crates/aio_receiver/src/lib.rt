@@ -1,0 +1,6 @@
+//! The receiving side of a connection, and each pipe that a child writes: a reader with the future that a read waits on.
+#![tactic(auto)]
+
+mod receiver;
+
+pub use receiver::{AllGot, Receiver, StreamGot};

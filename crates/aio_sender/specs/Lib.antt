@@ -1,0 +1,3 @@
+pub mod Offers
+pub mod Owned
+pub mod SentAs
