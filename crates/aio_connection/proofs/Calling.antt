@@ -1,5 +1,6 @@
 -- What a connection's calls come to, by the tree.
-use Rattle.std.proofs.Common.{◌≡◌, ℕ, Bool, true, false, not, ◌&&◌, ◌||◌, if◌then◌else◌, List, [], Option, Some, None, Result, Ok, Err, is_some, ◌∙◌, refl, sym, ap, subst}
+use Rattle.std.proofs.Common.{◌≡◌, ℕ, Bool, true, false, not, ◌&&◌, ◌||◌, if◌then◌else◌, List, [], Option, Some, None, Result}
+use Rattle.std.proofs.Common.{Ok, Err, is_some, ◌∙◌, refl, sym, ap, subst}
 use Rattle.model_value.specs.Action.{Action}
 use Rattle.model_value.specs.Value.{Conn as ConnValue, Exc, Outcome}
 use Rattle.model_value.specs.declared.action.Action.TheVariants.{Made, StartRead}
@@ -123,7 +124,8 @@ module _ {W : Type 0} (o : Outside W) (laws : IsOutside o) (id : ℕ) (c : Conne
   flushes = if is_closing c.sender then lose id false c else passes_on
 
   pub not_flushed : (at : Reach View W) → is_flushed c.sender ≡ false → Follows o seen_changed (flushed id c) at at (Ok c)
-  not_flushed at e = follows_where o laws seen_changed (not (is_flushed c.sender)) (Ends c) flushes at at (Ok c) (ap not e) (follows_ends o laws seen_changed c at)
+  not_flushed at e = follows_where o laws seen_changed (not (is_flushed c.sender)) (Ends c) flushes at at (Ok c) (ap not e)
+      (follows_ends o laws seen_changed c at)
 
   is_flushed_so : (old new : Reach View W) (result : Result Connection Stop) → is_flushed c.sender ≡ true
       → Follows o seen_changed flushes old new result → Follows o seen_changed (flushed id c) old new result
@@ -139,7 +141,8 @@ module _ {W : Type 0} (o : Outside W) (laws : IsOutside o) (id : ℕ) (c : Conne
   flushed_on at e going none =
       is_flushed_so at at (Ok c) e
       (follows_unless o laws seen_changed (is_closing c.sender) (lose id false c) passes_on at at (Ok c) going
-      (follows_unless o laws seen_changed c.sender.writer.eof (asks (call.Shut id) (Ends c)) (Ends c) at at (Ok c) none (follows_ends o laws seen_changed c at)))
+      (follows_unless o laws seen_changed c.sender.writer.eof (asks (call.Shut id) (Ends c)) (Ends c) at at (Ok c) none
+      (follows_ends o laws seen_changed c at)))
 
   pub flushed_shuts : (old new : Reach View W) (result : Result Connection Stop) → is_flushed c.sender ≡ true → is_closing c.sender ≡ false
       → c.sender.writer.eof ≡ true → Follows o seen_changed (Asks (call.Shut id) (λ came. Ends c)) old new result
@@ -155,7 +158,8 @@ module _ {W : Type 0} (o : Outside W) (laws : IsOutside o) (id : ℕ) (c : Conne
 
   pub nothing_unsent : (at : Reach View W) → has_unsent c.sender ≡ false → Follows o seen_changed (writable id c) at at (Ok c)
   nothing_unsent at e =
-      follows_unless o laws seen_changed (has_unsent c.sender) (and_then sends_more (flushed id)) (Ends c) at at (Ok c) e (follows_ends o laws seen_changed c at)
+      follows_unless o laws seen_changed (has_unsent c.sender) (and_then sends_more (flushed id)) (Ends c) at at (Ok c) e
+      (follows_ends o laws seen_changed c at)
 
   pub sends_then : (between : Connection) (old mid new : Reach View W) (result : Result Connection Stop) → has_unsent c.sender ≡ true
       → Follows o seen_changed sends_more old mid (Ok between) → Follows o seen_changed (flushed id between) mid new result
@@ -209,7 +213,8 @@ module _ {W : Type 0} (o : Outside W) (laws : IsOutside o) (id : ℕ) (c : Conne
 
   pub end_before : (at : Reach View W) → (is_closing c.sender || c.sender.writer.eof) ≡ true → Follows o seen_changed (write_eof id c) at at (Ok c)
   end_before at e =
-      follows_where o laws seen_changed (is_closing c.sender || c.sender.writer.eof) (Ends c) writes_end at at (Ok c) e (follows_ends o laws seen_changed c at)
+      follows_where o laws seen_changed (is_closing c.sender || c.sender.writer.eof) (Ends c) writes_end at at (Ok c) e
+      (follows_ends o laws seen_changed c at)
 
   pub end_later : (after : Connection) (at : Reach View W) → (is_closing c.sender || c.sender.writer.eof) ≡ false → has_unsent c.sender ≡ true
       → after ≡ with_eof → Follows o seen_changed (write_eof id c) at at (Ok after)

@@ -27,5 +27,6 @@ returns-clause-own c =
     subst (λ (v : Connection). OnOk c.close.result (OwnsConnection c.args.parts.now v
     → OwnsConnection c.close.new.parts (record before { sender = c.close.new.self })))
     c.self.view_is
-    (own_if_told before c.args.parts.now c.close.new.parts c.close.new.self (close_sender (outlet c.args.id) before.sender) c.close.result c.close.ensures.tells
+    (own_if_told before c.args.parts.now c.close.new.parts c.close.new.self (close_sender
+    (outlet c.args.id) before.sender) c.close.result c.close.ensures.tells
     c.close.ensures.own)

@@ -32,7 +32,8 @@ returns-clause-follows g c =
     subst (λ (v : Connection). Follows (outside g) seen_changed (on its_sender (lose_sender (outlet c.args.id) c.args.broken) v) old new
     (after_of (record before { sender = c.lose.new.self }) c.lose.result))
     c.self.view_is
-    (went_on its_sender before c.lose.new.self (outside g) (laws g) old new (lose_sender (outlet c.args.id) c.args.broken) c.lose.result c.lose.ensures.follows)
+    (went_on its_sender before c.lose.new.self (outside g) (laws g) old new (lose_sender
+    (outlet c.args.id) c.args.broken) c.lose.result c.lose.ensures.follows)
 
 pub returns-clause-own : goal.returns-clause-own
 returns-clause-own g c =
@@ -40,5 +41,6 @@ returns-clause-own g c =
     let new : Reach View g.row.W.Denot = reach c.lose.new.parts c.lose.new.port.wire.now c.lose.new.port.events.now in
     let i = c.self.inside in
     let before : Connection = record { making = i.making; handler = i.handler; began = i.began; sender = i.sender; receiver = i.receiver } in
-    own_if_went (outside g) before c.lose.new.self old new (lose_sender (outlet c.args.id) c.args.broken before.sender) c.lose.result c.lose.ensures.follows c.lose.ensures.own
+    own_if_went (outside g) before c.lose.new.self old new (lose_sender
+    (outlet c.args.id) c.args.broken before.sender) c.lose.result c.lose.ensures.follows c.lose.ensures.own
     (subst (OwnsConnection old.parts) (sym c.self.view_is) c.requires.own)

@@ -24,5 +24,6 @@ pub returns-clause-own : goal.returns-clause-own
 returns-clause-own c =
     let i = c.self.inside in
     let before : Connection = record { making = i.making; handler = i.handler; began = i.began; sender = i.sender; receiver = i.receiver } in
-    own_if_received before c.args.parts.now c.receive.new.parts c.receive.new.self (receive c.args.piece.now before.receiver) c.receive.result c.receive.ensures.tells
+    own_if_received before c.args.parts.now c.receive.new.parts c.receive.new.self
+    (receive c.args.piece.now before.receiver) c.receive.result c.receive.ensures.tells
     c.receive.ensures.nobody (subst (OwnsConnection c.args.parts.now) (sym c.self.view_is) c.requires.own)

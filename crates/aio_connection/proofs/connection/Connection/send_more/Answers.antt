@@ -32,7 +32,8 @@ returns-clause-follows g c =
     subst (λ (v : Connection). Follows (outside g) seen_changed (on its_sender (send_more (outlet c.args.id)) v) old new
     (after_of (record before { sender = c.send_more.new.self }) c.send_more.result))
     c.self.view_is
-    (went_on its_sender before c.send_more.new.self (outside g) (laws g) old new (send_more (outlet c.args.id)) c.send_more.result c.send_more.ensures.follows)
+    (went_on its_sender before c.send_more.new.self (outside g) (laws g) old new (send_more
+    (outlet c.args.id)) c.send_more.result c.send_more.ensures.follows)
 
 pub returns-clause-own : goal.returns-clause-own
 returns-clause-own g c =
@@ -40,5 +41,6 @@ returns-clause-own g c =
     let new : Reach View g.row.W.Denot = reach c.send_more.new.parts c.send_more.new.port.wire.now c.send_more.new.port.events.now in
     let i = c.self.inside in
     let before : Connection = record { making = i.making; handler = i.handler; began = i.began; sender = i.sender; receiver = i.receiver } in
-    own_if_went (outside g) before c.send_more.new.self old new (send_more (outlet c.args.id) before.sender) c.send_more.result c.send_more.ensures.follows c.send_more.ensures.own
+    own_if_went (outside g) before c.send_more.new.self old new (send_more
+    (outlet c.args.id) before.sender) c.send_more.result c.send_more.ensures.follows c.send_more.ensures.own
     (subst (OwnsConnection old.parts) (sym c.self.view_is) c.requires.own)

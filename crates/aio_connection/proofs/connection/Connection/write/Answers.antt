@@ -30,10 +30,12 @@ returns-clause-follows g c =
     let new : Reach View g.row.W.Denot = reach c.write.new.parts c.write.new.port.wire.now c.write.new.port.events.now in
     let i = c.self.inside in
     let before : Connection = record { making = i.making; handler = i.handler; began = i.began; sender = i.sender; receiver = i.receiver } in
-    subst (λ (v : Connection). Follows {A = Connection × Wrote} (outside g) seen_changed (asked_on its_sender (write (outlet c.args.id) c.args.piece.now) v) old new
+    subst (λ (v : Connection). Follows {A = Connection × Wrote} (outside g) seen_changed (asked_on its_sender (write
+    (outlet c.args.id) c.args.piece.now) v) old new
     (with_after (record before { sender = c.write.new.self }) c.write.result))
     c.self.view_is
-    (went_asked_on its_sender before c.write.new.self (outside g) (laws g) old new (write (outlet c.args.id) c.args.piece.now) c.write.result c.write.ensures.follows)
+    (went_asked_on its_sender before c.write.new.self (outside g) (laws g) old new (write
+    (outlet c.args.id) c.args.piece.now) c.write.result c.write.ensures.follows)
 
 pub returns-clause-own : goal.returns-clause-own
 returns-clause-own g c =

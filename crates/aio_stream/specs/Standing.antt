@@ -1,0 +1,38 @@
+-- The streams that code stands for, and what a call on them comes to.
+use Rattle.std.specs.Prelude.{◌≡◌, ℕ, ◌^◌, Result, OnOk}
+use Rattle.model_stream.specs.Doing.{Doing}
+use Rattle.model_stream.specs.Streams.{Streams}
+use Rattle.aio_wire.specs.declared.stop.Stop.{Stop}
+use Rattle.aio_exchange.specs.Outside.{Outside}
+use Rattle.law_doing.specs.Follows.{Follows, Reach, after_of, with_after}
+use Rattle.law_doing.specs.Tells.{Tells}
+use Rattle.aio_task.specs.View.{View}
+use Rattle.aio_change.specs.Seen.{seen_changed}
+use Rattle.aio_stream.specs.Kept.{Kept}
+
+-- It keeps no history: what was written stands in the streams alone.
+pub record StandsFor (k : Kept) (s : Streams) : Type 0 where
+  pub servers : s.servers ≡ k.servers
+  pub connections : s.connections ≡ k.connections
+  pub opened : s.opened ≡ k.opened
+  pub most : s.most ≡ 2 ^ 32
+
+-- A call does what a tree says, whatever the streams that it stands for, and then stands for those that come of it.
+abbrev pub Comes : {W R : Type 0} → Outside W → (Streams → Doing Streams) → (old new : Kept) → (from to : Reach View W) → Result R Stop → Type 0
+Comes o tree old new from to result =
+    (s : Streams) → StandsFor old s
+    → (after : Streams) × (Follows o seen_changed (tree s) from to (after_of after result) × OnOk result (StandsFor new after))
+
+abbrev pub Answers : {W R : Type 0} → Outside W → (Streams → Doing (Streams × R)) → (old new : Kept) → (from to : Reach View W) → Result R Stop → Type 0
+Answers o tree old new from to result =
+    (s : Streams) → StandsFor old s
+    → (after : Streams) × (Follows o seen_changed (tree s) from to (with_after after result) × OnOk result (StandsFor new after))
+
+-- the same of a call that asks nothing
+abbrev pub Told : (Streams → Doing Streams) → (old new : Kept) → (from to : View) → Type 0
+Told tree old new from to =
+    (s : Streams) → StandsFor old s → (after : Streams) × (Tells seen_changed (tree s) from to after × StandsFor new after)
+
+abbrev pub ToldWith : {R : Type 0} → (Streams → Doing (Streams × R)) → (old new : Kept) → (from to : View) → R → Type 0
+ToldWith tree old new from to result =
+    (s : Streams) → StandsFor old s → (after : Streams) × (Tells seen_changed (tree s) from to (after, result) × StandsFor new after)

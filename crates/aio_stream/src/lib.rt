@@ -1,0 +1,10 @@
+//! Listeners and connections by number, and the callbacks and requests on them.
+#![tactic(auto)]
+
+mod opened;
+mod server;
+mod streams;
+
+pub use opened::Opened;
+pub use server::Server;
+pub use streams::Streams;

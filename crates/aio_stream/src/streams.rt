@@ -1,0 +1,32 @@
+//! All listeners and connections of a run.
+mod callbacks;
+mod opening;
+mod requests;
+
+use crate::opened::Opened;
+use crate::server::Server;
+use aio_connection::Connection;
+use std::marker::Model;
+
+/// Listeners and connections by number, and what was opened, in order.
+#[derive(Drop)]
+pub struct Streams {
+    servers: Vec<Server>,
+    connections: Vec<Connection>,
+    opened: Vec<Opened>,
+}
+
+impl Model for Streams {
+    ghost use Rattle.aio_stream.specs.Kept.{Kept, all_opened};
+    ghost use Rattle.aio_stream.specs.Code.{coded_kept};
+
+    ghost Value = { Kept };
+
+    ghost coded = { coded_kept };
+
+    ghost view = { λ s. record {
+      servers = s.servers.items;
+      connections = s.connections.items;
+      opened = all_opened s.opened.items;
+    } };
+}

@@ -1,0 +1,37 @@
+//! What is known of listeners and connections.
+ghost use Rattle.std.specs.Prelude.{◌≡◌, [], length, slice_get};
+ghost use Rattle.std.specs.Option.{option_map};
+ghost use Rattle.model_stream.specs.Connections.{Connection as PlainConnection};
+
+use super::Streams;
+use aio_task::FutureId;
+use std::alloc::Global;
+
+impl Streams {
+    /// Nothing was opened so far.
+    pub fn new(alloc: Global) -> Streams
+        ensures { result ≡ record { servers = []; connections = []; opened = [] } }
+    {
+        Streams {
+            servers: Vec::new(alloc),
+            connections: Vec::new(alloc),
+            opened: Vec::new(alloc),
+        }
+    }
+
+    /// How many connections were numbered so far.
+    pub fn opened(&self) -> u64
+        ensures { result ≡ length self.now.connections }
+    {
+        self.connections.len() as u64
+    }
+
+    /// The future that `wait_closed` of a connection awaits.
+    pub fn closed(&self, id: u32) -> Option<FutureId>
+        ensures { result ≡ option_map (λ (c : PlainConnection). c.sender.closed_future)
+            (slice_get self.now.connections id) }
+    {
+        let connection = self.connections.get(id as usize)?;
+        Some(connection.closed())
+    }
+}
