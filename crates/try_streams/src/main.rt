@@ -1,8 +1,9 @@
-//! Runs worked cases of what streams rest on: a reader, a writer's flow, a source in memory, the
+//! Runs worked cases of streams and of what they rest on: connections, a reader, a writer's flow, a source in memory, the
 //! bytes that a journal's wire hands on, and calls of the outside that are made to fail. For each
 //! row that comes out otherwise it prints a line, and at the end how many rows there were.
 #![tactic(auto)]
 
+mod connections;
 mod failing;
 mod handed;
 mod row_count;
@@ -11,6 +12,7 @@ mod takes;
 mod writes;
 
 use aio_flow::Flow;
+use connections::CONNECTIONS;
 use row_count::RowCount;
 use std::alloc::Global;
 use std::io;
@@ -33,6 +35,7 @@ fn run_rows<R: Print>(rt: &R, alloc: Global) -> Result<u64, io::Error> {
     run_writes(rt, alloc, &mut tally)?;
     run_large_writes(rt, alloc, &mut tally)?;
     run_others(rt, alloc, &mut tally)?;
+    run_connections(rt, alloc, &mut tally)?;
     println!(rt; "{} rows, {} differ", tally.rows, tally.differ)?;
     Ok(tally.differ)
 }
@@ -40,6 +43,15 @@ fn run_rows<R: Print>(rt: &R, alloc: Global) -> Result<u64, io::Error> {
 /// Each on a reader of its own.
 fn run_takes<R: Print>(rt: &R, alloc: Global, tally: &mut RowCount) -> Result<(), io::Error> {
     for row in &TAKES {
+        let right = row.is_right(alloc);
+        tally.count(rt, row.name, right)?;
+    }
+    Ok(())
+}
+
+/// Each on a connection of its own.
+fn run_connections<R: Print>(rt: &R, alloc: Global, tally: &mut RowCount) -> Result<(), io::Error> {
+    for row in &CONNECTIONS {
         let right = row.is_right(alloc);
         tally.count(rt, row.name, right)?;
     }
