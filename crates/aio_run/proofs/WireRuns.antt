@@ -15,6 +15,7 @@ use Rattle.model_machine.specs.Served.{is_served}
 use Rattle.model_machine.specs.Theorem.{ProgramOutput}
 use Rattle.model_commands.specs.Asked as plain
 use Rattle.model_commands.specs.Outputs.{AskedWire, Pace, MayRun, MayRunIf, MayRunOver, MayRunScript}
+use Rattle.aio_exchange.specs.Exchanged as told
 use Rattle.aio_drive.specs.Asked as code
 use Rattle.aio_drive.specs.Drive.{MayDrive, Undisturbed}
 use Rattle.aio_drive.specs.Drive as drive
@@ -48,12 +49,12 @@ bytes-same (event.Got answer ∷ events) last to =
 bytes-same (event.Ran action ∷ events) last to = bytes-same events last to
 bytes-same (event.Said task text ∷ events) last to = bytes-same events last to
 
-asked-same : (calls : List Call) (before after : Option (List Call)) → after ≡ code.asked_by calls before
+asked-same : (calls : List Call) (before after : Option (List Call)) → after ≡ told.asked_by calls before
     → after ≡ option_map (λ held. held ++ calls) before
 asked-same calls None after is = is
 asked-same calls (Some held) after is = is
 
-handed-same : (more : Handed → List ℕ) (before after : Option (Handed → List ℕ)) → after ≡ code.handed_to more before
+handed-same : (more : Handed → List ℕ) (before after : Option (Handed → List ℕ)) → after ≡ told.handed_to more before
     → after ≡ option_map (λ held to. held to ++ more to) before
 handed-same more None after is = is
 handed-same more (Some held) after is = is
