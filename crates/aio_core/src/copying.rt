@@ -1,7 +1,8 @@
 //! Copies of what handles run, which stand in the events besides where they run.
 ghost use Rattle.std.specs.Prelude.{◌≡◌, IfOk};
 
-use aio_base::{Action, Blob, ChildItem, Memory};
+use aio_base::{Action, Memory};
+use aio_wire::{copy_of_bytes, copy_of_news};
 use std::alloc::Global;
 
 /// A copy of what a handle runs. Bytes alone take memory.
@@ -37,23 +38,4 @@ pub fn copy_of_action(alloc: Global, action: &Action) -> Result<Action, Memory>
         }),
         &Action::Extra(key) => Ok(Action::Extra(key)),
     }
-}
-
-fn copy_of_news(alloc: Global, item: &ChildItem) -> Result<ChildItem, Memory>
-    ensures { IfOk result (λ copy. copy ≡ item.now) }
-{
-    match item {
-        ChildItem::Broken => Ok(ChildItem::Broken),
-        ChildItem::Out(bytes) => Ok(ChildItem::Out(copy_of_bytes(alloc, bytes)?)),
-        ChildItem::OutEnd => Ok(ChildItem::OutEnd),
-        ChildItem::Errs(bytes) => Ok(ChildItem::Errs(copy_of_bytes(alloc, bytes)?)),
-        ChildItem::ErrsEnd => Ok(ChildItem::ErrsEnd),
-        ChildItem::Exit(code) => Ok(ChildItem::Exit(*code)),
-    }
-}
-
-fn copy_of_bytes(alloc: Global, bytes: &Blob) -> Result<Blob, Memory>
-    ensures { IfOk result (λ copy. copy ≡ bytes.now) }
-{
-    Ok(Blob::of(Vec::from_slice(alloc, bytes.items())?))
 }

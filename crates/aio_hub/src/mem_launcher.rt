@@ -10,7 +10,7 @@ use crate::plan::CallPlan;
 use crate::play::play_all;
 use aio_base::Memory;
 use aio_inbox::{Inbox, InboxName, Poster};
-use aio_wire::WordList;
+use aio_wire::{copy_of_words, WordList};
 use std::alloc::Global;
 use std::collections::VecDeque;
 use std::marker::Model;
@@ -117,16 +117,6 @@ impl<R> MemLauncher<R> {
         self.words = words;
         self.child = child;
     }
-}
-
-fn copy_of_words(alloc: Global, words: &WordList) -> Result<WordList, Memory>
-    ensures { IfOk result (λ copy. copy ≡ words.now) }
-{
-    let mut copies = Vec::new(alloc);
-    for word in words.items() {
-        copies.push(word.clone()?)?;
-    }
-    Ok(WordList::of(copies))
 }
 
 impl<N: InboxName, R: Wait> Launcher<Inbox<N>, Poster<N>> for MemLauncher<R> {

@@ -62,13 +62,15 @@ pub fn copy_of_answer(alloc: Global, answer: &Answer) -> Result<Answer, Memory>
     })
 }
 
-fn copy_of_bytes(alloc: Global, bytes: &Blob) -> Result<Blob, Memory>
+/// A copy of bytes.
+pub fn copy_of_bytes(alloc: Global, bytes: &Blob) -> Result<Blob, Memory>
     ensures { IfOk result (λ copy. copy ≡ bytes.now) }
 {
     Ok(Blob::of(Vec::from_slice(alloc, bytes.items())?))
 }
 
-fn copy_of_words(alloc: Global, words: &WordList) -> Result<WordList, Memory>
+/// A copy of words.
+pub fn copy_of_words(alloc: Global, words: &WordList) -> Result<WordList, Memory>
     ensures { IfOk result (λ copy. copy ≡ words.now) }
 {
     let mut copies = Vec::new(alloc);
@@ -111,7 +113,8 @@ fn copy_of_item(alloc: Global, item: &Item) -> Result<Item, Memory>
     })
 }
 
-fn copy_of_news(alloc: Global, item: &ChildItem) -> Result<ChildItem, Memory>
+/// A copy of what is told of a child.
+pub fn copy_of_news(alloc: Global, item: &ChildItem) -> Result<ChildItem, Memory>
     ensures { IfOk result (λ copy. copy ≡ item.now) }
 {
     Ok(match item {
