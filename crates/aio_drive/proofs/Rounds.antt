@@ -9,7 +9,7 @@ use Rattle.model_wire.specs.Told.{Rose, SinkSeen, WireSeen, took}
 use Rattle.model_wire.specs.Trace.{End, end_text, line, lines_of_events}
 use Rattle.model_machine.specs.Outcomes.{end_of}
 use Rattle.model_machine.specs.State.{State}
-use Rattle.model_machine.specs.Theorem.{ProgramOutput, WritesWhole}
+use Rattle.model_machine.specs.Written.{ProgramOutput, WritesWhole}
 use Rattle.model_machine.specs.Transcript.{status_of}
 use Rattle.aio_wire.specs.declared.stop.Stop.TheVariants as stop
 use Rattle.aio_extra.specs.Nothing.{nothing_added}

@@ -7,7 +7,7 @@ use Rattle.model_wire.specs.Told.{Rose, SinkSeen, WireSeen, took}
 use Rattle.model_wire.specs.Trace.{End, end_text, line, lines_of_events}
 use Rattle.model_machine.specs.Program.{output_of}
 use Rattle.model_machine.specs.Run.{Run, run}
-use Rattle.model_machine.specs.Theorem.{ProgramOutput, WritesWhole}
+use Rattle.model_machine.specs.Written.{ProgramOutput, WritesWhole}
 use Rattle.model_machine.specs.Transcript.{status_of, transcript}
 use Rattle.aio_core.specs.Asked.{Asks}
 use Rattle.aio_drive.specs.Drive.{AsksUntil, IsUnbegun, MayDrive, over_all, over_front}

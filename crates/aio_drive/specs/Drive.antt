@@ -9,7 +9,7 @@ use Rattle.model_machine.specs.Extra.{no_extra}
 use Rattle.model_machine.specs.Program.{IsOver, output_of}
 use Rattle.model_machine.specs.Run.{run, turns_over}
 use Rattle.model_machine.specs.State.{State}
-use Rattle.model_machine.specs.Theorem.{ProgramOutput}
+use Rattle.model_machine.specs.Written.{ProgramOutput}
 use Rattle.model_machine.specs.Turn.{is_stalled}
 use Rattle.aio_extra.specs.Nothing.{nothing_added}
 use Rattle.aio_extra.specs.declared.nothing.NoExtra.{NoExtra}

@@ -1,6 +1,6 @@
 //! The one loop that holds kernel, wire and sink.
 ghost use Rattle.std.specs.Prelude.{◌≤◌, IfOk, IfErr};
-ghost use Rattle.model_machine.specs.Theorem.{WritesWhole};
+ghost use Rattle.model_machine.specs.Written.{WritesWhole};
 ghost use Rattle.aio_drive.specs.Drive.{IsUnbegun, LastOf, MayDrive, Undisturbed, over_all, over_front};
 ghost use Rattle.aio_drive.specs.Outcome.{EndsEarly};
 

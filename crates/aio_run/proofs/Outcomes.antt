@@ -19,7 +19,7 @@ use Rattle.model_wire.specs.Trace.{line}
 use Rattle.model_machine.specs.Program.{Manner, script_refused, FileSays, JournalSays, JournalBegins, MayRun, MayRunIf, MayRunScript, MayReplay}
 use Rattle.model_machine.specs.Program.{MayCheck, checked, not_run}
 use Rattle.model_machine.specs.Served.{is_served}
-use Rattle.model_machine.specs.Theorem.{ProgramOutput, MayBegin, WritesWhole}
+use Rattle.model_machine.specs.Written.{ProgramOutput, MayBegin, WritesWhole}
 use Rattle.aio_memwire.specs.declared.buffers.Buffers.{Buffers}
 use Rattle.aio_memwire.specs.JournalWire.{left_of, seen_of}
 use Rattle.aio_memwire.specs.Reading.{IsFront}

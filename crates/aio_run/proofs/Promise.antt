@@ -6,7 +6,7 @@ use Rattle.model_text.specs.SecondPass.{Judged}
 use Rattle.model_wire.specs.Event.{Event}
 use Rattle.model_wire.specs.Told.{ShelfSeen, SinkSeen, WireSeen}
 use Rattle.model_machine.specs.Served.{is_served}
-use Rattle.model_machine.specs.Theorem.{ProgramOutput, SinkStops, StopsShort, WritesWhole}
+use Rattle.model_machine.specs.Written.{ProgramOutput, SinkStops, StopsShort, WritesWhole}
 use Rattle.model_words.specs.Words.{Command, Check, Replay, Run, Work, command_of}
 use Rattle.model_commands.specs.Asked.{Asks, AsksFirstAndOne}
 use Rattle.model_commands.specs.Outputs.{AskedWire, IsUnbegun, KeepsFiles, KeepsWire, MayRun, MayRunIf, MayRunOver, MayRunScript, MayWrite}

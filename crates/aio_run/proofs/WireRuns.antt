@@ -12,7 +12,7 @@ use Rattle.model_wire.specs.Call.{Answer, Call}
 use Rattle.model_wire.specs.Event.{Event}
 use Rattle.model_wire.specs.Told.{ShelfSeen, WireSeen}
 use Rattle.model_machine.specs.Served.{is_served}
-use Rattle.model_machine.specs.Theorem.{ProgramOutput}
+use Rattle.model_machine.specs.Written.{ProgramOutput}
 use Rattle.model_commands.specs.Asked as plain
 use Rattle.model_commands.specs.Outputs.{AskedWire, Pace, MayRun, MayRunIf, MayRunOver, MayRunScript}
 use Rattle.aio_exchange.specs.Exchanged as told

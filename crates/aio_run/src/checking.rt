@@ -2,7 +2,7 @@
 ghost use Rattle.std.specs.Prelude.{◌≡◌, IfOk, IfErr};
 ghost use Rattle.model_wire.specs.Told.{NoneFailed};
 ghost use Rattle.model_machine.specs.Program.{MayCheck};
-ghost use Rattle.model_machine.specs.Theorem.{WritesWhole};
+ghost use Rattle.model_machine.specs.Written.{WritesWhole};
 ghost use Rattle.aio_drive.specs.Outcome.{EndsEarly};
 
 use crate::script::{read_script, refuse};

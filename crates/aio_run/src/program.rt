@@ -1,7 +1,7 @@
 //! What the program does for its words.
 ghost use Rattle.std.specs.Prelude.{◌≡◌, None, IfOk, IfErr, map, string_bytes};
 ghost use Rattle.model_words.specs.Words.{command_of as plain_command_of};
-ghost use Rattle.model_machine.specs.Theorem.{WritesWhole};
+ghost use Rattle.model_machine.specs.Written.{WritesWhole};
 ghost use Rattle.model_commands.specs.Outputs.{IsUnbegun, KeepsFiles, KeepsWire, MayWrite};
 ghost use Rattle.model_commands.specs.Promise.{Behaves};
 ghost use Rattle.aio_drive.specs.Outcome.{EndsEarly};

@@ -3,7 +3,7 @@ ghost use Rattle.std.specs.Prelude.{◌≡◌, ◌≤◌, IfOk, IfErr};
 ghost use Rattle.std.specs.Option.{option_copied};
 ghost use Rattle.model_wire.specs.Told.{NoneFailed};
 ghost use Rattle.model_machine.specs.Served.{is_served};
-ghost use Rattle.model_machine.specs.Theorem.{WritesWhole};
+ghost use Rattle.model_machine.specs.Written.{WritesWhole};
 ghost use Rattle.model_commands.specs.Asked.{AsksOnce};
 ghost use Rattle.model_commands.specs.Outputs.{KeepsUnrun, MayRun, MayRunIf, MayRunOver, MayRunUnless};
 ghost use Rattle.aio_drive.specs.Outcome.{EndsEarly};

@@ -10,7 +10,7 @@ use Rattle.model_wire.specs.Told.{Agrees, FileFailed, NoneFailed, Rose, ShelfSee
 use Rattle.model_machine.specs.Program.{FileSays, IsOver, MayCheck, MayReplay, not_run, output_of, script_failed, script_refused, words_refused}
 use Rattle.model_machine.specs.Run.{Run, run}
 use Rattle.model_machine.specs.Served.{is_served}
-use Rattle.model_machine.specs.Theorem.{ProgramOutput}
+use Rattle.model_machine.specs.Written.{ProgramOutput}
 use Rattle.model_words.specs.Words.{Command, Check, Replay, Run as RunIt, Work}
 use Rattle.model_commands.specs.Asked.{AsksOnce}
 

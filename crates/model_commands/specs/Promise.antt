@@ -2,7 +2,7 @@
 use Rattle.std.specs.Prelude.{◌≡◌, ◌≢◌, ℕ, List, None, ◌⊎◌}
 use Rattle.model_wire.specs.Event.{Event}
 use Rattle.model_wire.specs.Told.{ShelfSeen, SinkSeen, WireSeen}
-use Rattle.model_machine.specs.Theorem.{SinkStops, StopsShort, WritesWhole}
+use Rattle.model_machine.specs.Written.{SinkStops, StopsShort, WritesWhole}
 use Rattle.model_words.specs.Words.{command_of}
 use Rattle.model_commands.specs.Asked.{Asks, AsksFirst, AsksFirstAndOne}
 use Rattle.model_commands.specs.Outputs.{IsUnbegun, KeepsFiles, KeepsWire, MayWrite, Outside}

@@ -11,9 +11,8 @@ pub mod Served
 pub mod Sound
 pub mod State
 pub mod Step
-pub mod Theorem
 pub mod Told
 pub mod Transcript
 pub mod Turn
 pub mod Went
-pub mod Words
+pub mod Written

@@ -14,9 +14,8 @@ use Rattle.model_wire.specs.Told.{ShelfSeen, FileFailed, NoneFailed}
 use Rattle.model_wire.specs.Trace.{End}
 use Rattle.model_machine.specs.Run.{Run, run}
 use Rattle.model_machine.specs.Served.{is_served}
-use Rattle.model_machine.specs.Theorem.{ProgramOutput}
+use Rattle.model_machine.specs.Written.{ProgramOutput}
 use Rattle.model_machine.specs.Transcript.{transcript, status_of}
-use Rattle.model_machine.specs.Words.{Command, Check, Replay}
 
 -- what is written of a whole run
 abbrev pub output_of : (trace : Bool) → Run → ProgramOutput
@@ -107,10 +106,3 @@ abbrev pub MayCheck : ShelfSeen → ShelfSeen → (script : List ℕ) → Progra
 MayCheck old new script output =
     (FileFailed script old new × (output ≡ script_failed))
     ⊎ (NoneFailed old new × (text : List ℕ) × FileSays (old.file script) text × (output ≡ checked (script_of text)))
-
--- What may be written for words, by what is seen of the shelf before and after.
-abbrev pub MayWrite : ShelfSeen → ShelfSeen → Option Command → ProgramOutput → Type 0
-MayWrite old new None output = NoneFailed old new × (output ≡ words_refused)
-MayWrite old new (Some (Check script)) output = MayCheck old new script output
-MayWrite old new (Some (Replay script journal trace turns)) output =
-    MayReplay old new script (record { journal = journal; trace = trace; turns = turns }) output

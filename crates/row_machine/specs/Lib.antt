@@ -7,4 +7,3 @@ pub mod Reading
 pub mod Streams
 pub mod Timeouts
 pub mod Turns
-pub mod Words

@@ -10,4 +10,3 @@ pub mod outputs;
 pub mod streams;
 pub mod timeouts;
 pub mod turns;
-pub mod words;

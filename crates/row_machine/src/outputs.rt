@@ -5,7 +5,7 @@ ghost use Rattle.std.specs.Prelude.{◌≡◌, [], ◌∷◌, ◌++◌, codes, t
 ghost use Rattle.model_wire.specs.Trace.{line, lines_of_events};
 ghost use Rattle.model_machine.specs.Program.{faulted, output_of};
 ghost use Rattle.model_machine.specs.Served.{is_served};
-ghost use Rattle.model_machine.specs.Words.{most_turns};
+ghost use Rattle.model_words.specs.Words.{most_turns};
 ghost use Rattle.row_machine.specs.Reading.{program_of};
 ghost use Rattle.row_machine.specs.Turns.{hello_text};
 ghost use Rattle.row_machine.specs.Outputs.{asks_deep_inside, at_refused, hello_over, listens, misfit, out_of_answers, out_of_turns, whole};

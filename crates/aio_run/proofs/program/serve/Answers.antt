@@ -3,7 +3,7 @@ use Rattle.std.proofs.lemmas.Result.{IfOk-weaker, IfErr-weaker}
 use Rattle.model_wire.specs.Told.{took}
 use Rattle.model_words.specs.Words.{Command, command_of}
 use Rattle.model_machine.specs.Program.{not_run, words_refused}
-use Rattle.model_machine.specs.Theorem.{WritesWhole}
+use Rattle.model_machine.specs.Written.{WritesWhole}
 use Rattle.model_commands.specs.Outputs.{IsUnbegun, KeepsFiles, KeepsWire, MayWrite}
 use Rattle.aio_drive.specs.Outcome.{EndsEarly}
 use Rattle.aio_run.specs.Running.{asked_all, asked_until, outside}

@@ -3,7 +3,7 @@ use Rattle.std.proofs.lemmas.Result.{IfOk-weaker, IfErr-weaker}
 use Rattle.model_wire.specs.Told.{NoneFailed, took}
 use Rattle.model_machine.specs.Program.{MayRunIf, not_run}
 use Rattle.model_machine.specs.Served.{is_served}
-use Rattle.model_machine.specs.Theorem.{WritesWhole}
+use Rattle.model_machine.specs.Written.{WritesWhole}
 use Rattle.aio_drive.specs.Outcome.{EndsEarly}
 use Rattle.aio_run.specs.Manner.{manner_of}
 use Rattle.aio_run.proofs.Outcomes.{line_early, not_run_text}

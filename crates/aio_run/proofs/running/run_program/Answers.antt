@@ -3,7 +3,7 @@ use Rattle.std.proofs.lemmas.Result.{IfOk-weaker, IfErr-weaker}
 use Rattle.model_wire.specs.Told.{took}
 use Rattle.model_machine.specs.Program.{not_run}
 use Rattle.model_machine.specs.Served.{is_served}
-use Rattle.model_machine.specs.Theorem.{WritesWhole}
+use Rattle.model_machine.specs.Written.{WritesWhole}
 use Rattle.model_commands.specs.Asked.{AsksOnce}
 use Rattle.model_commands.specs.Outputs.{MayRunIf}
 use Rattle.aio_drive.specs.Outcome.{EndsEarly}

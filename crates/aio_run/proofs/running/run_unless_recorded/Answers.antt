@@ -3,7 +3,7 @@ use Rattle.std.specs.Option.{option_copied}
 use Rattle.std.proofs.lemmas.Result.{IfOk-weaker, IfErr-weaker}
 use Rattle.model_wire.specs.Told.{NoneFailed}
 use Rattle.model_machine.specs.Program.{words_refused}
-use Rattle.model_machine.specs.Theorem.{WritesWhole}
+use Rattle.model_machine.specs.Written.{WritesWhole}
 use Rattle.model_commands.specs.Asked.{AsksOnce}
 use Rattle.model_commands.specs.Outputs.{KeepsUnrun, MayRunUnless}
 use Rattle.aio_drive.specs.Outcome.{EndsEarly}
