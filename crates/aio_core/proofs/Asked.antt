@@ -5,7 +5,7 @@ use Rattle.std.proofs.Math.Path.{fun_ext}
 use Rattle.model_wire.specs.declared.event.Event.TheVariants as event
 use Rattle.model_wire.specs.declared.event.Handed.{Handed}
 use Rattle.model_wire.specs.Call.{Answer, Call}
-use Rattle.model_wire.specs.Event.{Event, handed_by}
+use Rattle.model_wire.specs.Event.{Event, calls_in, handed_after, handed_by, handed_in}
 use Rattle.model_wire.specs.Told.{WireSeen}
 use Rattle.model_machine.specs.Went.{answers_in}
 use Rattle.law_reach.specs.Asked.{asks_in}
@@ -18,7 +18,7 @@ use Rattle.aio_wire.specs.declared.wire.Reply.{Reply}
 use Rattle.aio_wire.specs.declared.wire.Reply.TheVariants as reply
 use Rattle.aio_exchange.specs.Exchanged.{asked_by, handed_to}
 use Rattle.aio_exchange.proofs.Exchanging.{asked-on, asked_none, handed-on, handed_none}
-use Rattle.aio_core.specs.Asked.{Asks, AsksOnce, bytes_in, bytes_of, calls_in}
+use Rattle.aio_core.specs.Asked.{Asks, AsksOnce}
 
 -- ---- events after others
 pub calls-append : (xs ys : List Event) → calls_in (xs ++ ys) ≡ calls_in xs ++ calls_in ys
@@ -37,13 +37,13 @@ last_in (event.Ran action ∷ events) last = last_in events last
 last_in (event.Said task text ∷ events) last = last_in events last
 
 bytes-append : (xs ys : List Event) (last : Option Call) (to : Handed)
-    → bytes_in (xs ++ ys) last to ≡ bytes_in xs last to ++ bytes_in ys (last_in xs last) to
+    → handed_in (xs ++ ys) last to ≡ handed_in xs last to ++ handed_in ys (last_in xs last) to
 unfolding last_in
 bytes-append [] ys last to = refl
 bytes-append (event.Called call ∷ xs) ys last to = bytes-append xs ys (Some call) to
 bytes-append (event.Got answer ∷ xs) ys last to =
-    ap (λ bs. bytes_of last answer to ++ bs) (bytes-append xs ys last to)
-    ∙ sym (append_assoc (bytes_of last answer to) (bytes_in xs last to) (bytes_in ys (last_in xs last) to))
+    ap (λ bs. handed_after last answer to ++ bs) (bytes-append xs ys last to)
+    ∙ sym (append_assoc (handed_after last answer to) (handed_in xs last to) (handed_in ys (last_in xs last) to))
 bytes-append (event.Ran action ∷ xs) ys last to = bytes-append xs ys last to
 bytes-append (event.Said task text ∷ xs) ys last to = bytes-append xs ys last to
 
@@ -57,8 +57,8 @@ asks_then xs ys before between after first second = record {
       second.asked ∙ ap (asked_by (calls_in ys)) first.asked ∙ asked-on (calls_in xs) (calls_in ys) before.asked
       ∙ ap (λ cs. asked_by cs before.asked) (sym (calls-append xs ys));
   handed = λ last.
-      second.handed (last_in xs last) ∙ ap (handed_to (bytes_in ys (last_in xs last))) (first.handed last)
-      ∙ handed-on (bytes_in xs last) (bytes_in ys (last_in xs last)) before.handed
+      second.handed (last_in xs last) ∙ ap (handed_to (handed_in ys (last_in xs last))) (first.handed last)
+      ∙ handed-on (handed_in xs last) (handed_in ys (last_in xs last)) before.handed
       ∙ ap (λ bs. handed_to bs before.handed) (fun_ext (λ to. sym (bytes-append xs ys last to)));
 }
 

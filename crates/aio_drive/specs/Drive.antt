@@ -1,7 +1,7 @@
 -- What driving a run leaves.
 use Rattle.std.specs.Prelude.{◌≡◌, ℕ, ◌≤◌, List, ◌++◌, ◌⊎◌, length}
 use Rattle.model_tree.specs.Syntax.{Program}
-use Rattle.model_wire.specs.Event.{Event}
+use Rattle.model_wire.specs.Event.{Event, calls_in}
 use Rattle.model_wire.specs.Journal.{Entry}
 use Rattle.model_wire.specs.Told.{Agrees, Rose, WireSeen}
 use Rattle.model_wire.specs.Trace.{End}
@@ -13,7 +13,7 @@ use Rattle.model_machine.specs.Written.{ProgramOutput}
 use Rattle.model_machine.specs.Turn.{is_stalled}
 use Rattle.aio_extra.specs.Nothing.{nothing_added}
 use Rattle.aio_extra.specs.declared.nothing.NoExtra.{NoExtra}
-use Rattle.aio_core.specs.Asked.{Asks, AsksOnce, calls_in}
+use Rattle.aio_core.specs.Asked.{Asks, AsksOnce}
 use Rattle.aio_core.specs.Turned.{StandsFor}
 use Rattle.aio_core.specs.declared.kernel.Kernel.{Kernel}
 use Rattle.aio_drive.specs.declared.driver.Manner.{Manner}

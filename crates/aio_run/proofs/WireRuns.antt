@@ -6,10 +6,9 @@ use Rattle.model_tree.specs.Syntax.{Program}
 use Rattle.model_text.specs.FirstPass.{fault_at}
 use Rattle.model_text.specs.SecondPass.{Judged}
 use Rattle.model_wire.specs.declared.event.End.TheVariants as end
-use Rattle.model_wire.specs.declared.event.Event.TheVariants as event
 use Rattle.model_wire.specs.declared.event.Handed.{Handed}
-use Rattle.model_wire.specs.Call.{Answer, Call}
-use Rattle.model_wire.specs.Event.{Event}
+use Rattle.model_wire.specs.Call.{Call}
+use Rattle.model_wire.specs.Event.{Event, calls_in, handed_in}
 use Rattle.model_wire.specs.Told.{ShelfSeen, WireSeen}
 use Rattle.model_machine.specs.Served.{is_served}
 use Rattle.model_machine.specs.Written.{ProgramOutput}
@@ -28,27 +27,7 @@ use Rattle.aio_run.specs.declared.script.NoScript.{NoScript}
 use Rattle.aio_run.specs.declared.script.NoScript.TheVariants.{Refused, Failed, Memory as NoMemory}
 use Rattle.aio_run.proofs.Outcomes.{none_failed, refused_as}
 
--- ---- what a wire was asked, by both definitions
-calls-same : (events : List Event) → code.calls_in events ≡ plain.calls_in events
-calls-same [] = refl
-calls-same (event.Called call ∷ events) = ap (λ calls. call ∷ calls) (calls-same events)
-calls-same (event.Got answer ∷ events) = calls-same events
-calls-same (event.Ran action ∷ events) = calls-same events
-calls-same (event.Said task text ∷ events) = calls-same events
-
-taken-same : (last : Option Call) (answer : Answer) (to : Handed) → code.bytes_of last answer to ≡ plain.bytes_of last answer to
-taken-same None answer to = refl
-taken-same (Some call) answer to = refl
-
-bytes-same : (events : List Event) (last : Option Call) (to : Handed) → code.bytes_in events last to ≡ plain.bytes_in events last to
-bytes-same [] last to = refl
-bytes-same (event.Called call ∷ events) last to = bytes-same events (Some call) to
-bytes-same (event.Got answer ∷ events) last to =
-    ap (λ bytes. bytes ++ code.bytes_in events last to) (taken-same last answer to)
-    ∙ ap (λ bytes. plain.bytes_of last answer to ++ bytes) (bytes-same events last to)
-bytes-same (event.Ran action ∷ events) last to = bytes-same events last to
-bytes-same (event.Said task text ∷ events) last to = bytes-same events last to
-
+-- ---- what a wire was asked: the code's record, and the theorem's
 asked-same : (calls : List Call) (before after : Option (List Call)) → after ≡ told.asked_by calls before
     → after ≡ option_map (λ held. held ++ calls) before
 asked-same calls None after is = is
@@ -61,26 +40,18 @@ handed-same more (Some held) after is = is
 
 pub asks-same : (events : List Event) (before after : WireSeen) → code.Asks events before after → plain.Asks events before after
 asks-same events before after asks = record {
-  asked =
-      asked-same (code.calls_in events) before.asked after.asked asks.asked
-      ∙ ap (λ (calls : List Call). option_map (λ held. held ++ calls) before.asked) (calls-same events);
-  handed =
-      handed-same (code.bytes_in events None) before.handed after.handed (asks.handed None)
-      ∙ ap (λ (more : Handed → List ℕ). option_map (λ held to. held to ++ more to) before.handed)
-      (fun_ext (λ to. bytes-same events None to));
+  asked = asked-same (calls_in events) before.asked after.asked asks.asked;
+  handed = handed-same (handed_in events None) before.handed after.handed (asks.handed None);
 }
-
-one-call : (events : List Event) → length (code.calls_in events) ≤ 1 → length (plain.calls_in events) ≤ 1
-one-call events one = subst (λ (calls : List Call). length calls ≤ 1) (calls-same events) one
 
 -- one call at most
 pub once-same : (before after : WireSeen) → code.AsksOnce before after → plain.AsksOnce before after
-once-same before after once = (once.0, one-call once.0 once.1, asks-same once.0 before after once.2)
+once-same before after once = (once.0, once.1, asks-same once.0 before after once.2)
 
 pub until-same : (halt : Halt) (before after : WireSeen) (events : List Event) → drive.AsksUntil halt before after events
     → AsksUntil halt before after events
 until-same Memory before after events (front, rest, is, more, one, asks) =
-    (front, rest, is, more, one-call more one, asks-same (front ++ more) before after asks)
+    (front, rest, is, more, one, asks-same (front ++ more) before after asks)
 until-same Sink before after events (front, rest, is, asks) = (front, rest, is, asks-same front before after asks)
 
 -- nothing was asked
