@@ -68,7 +68,7 @@ impl MemPoller {
         let Some(next) = self.answers.get(self.next) else {
             return Ok(spare_answer(alloc, call));
         };
-        if !fits(call, next) {
+        if !fits(alloc, call, next)? {
             return Ok(spare_answer(alloc, call));
         }
         let answer = copy_of_answer(alloc, next)?;

@@ -1,3 +1,5 @@
+pub mod Clashing
 pub mod GivenLemmas
 pub mod GotLemmas
 pub mod ShelvedLemmas
+pub mod Watching

@@ -2,6 +2,7 @@ pub mod EventList
 pub mod Events
 pub mod Files
 pub mod Got
+pub mod Places
 pub mod Port
 pub mod Replied
 pub mod Shelved

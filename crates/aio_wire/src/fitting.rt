@@ -1,12 +1,15 @@
 //! Which answers fit a call.
-ghost use Rattle.std.specs.Prelude.{◌≡◌, ◌&&◌, map, sum, nat_le};
+ghost use Rattle.std.specs.Prelude.{◌≡◌, ◌&&◌, map, sum, nat_le, IfOk};
 ghost use Rattle.std.specs.List.{list_all, list_any};
 ghost use Rattle.model_wire.specs.Fits.{fits, turn_fits, are_few, are_awaited, is_awaited, is_some_within, is_ready_for, is_told, is_watched_by, is_watched, interest_of, news_interest, clashes, stand_apart, bytes_in, news_bytes, is_sized, is_piece, most_bytes};
 
+use crate::apart::stand_apart;
+use crate::awaited::each_is_awaited;
 use crate::call::{Answer, Call};
 use crate::lists::{Item, Watch};
-use aio_base::ChildItem;
+use aio_base::{ChildItem, Memory};
 use model_wire::{Interest, Readiness};
+use std::alloc::Global;
 
 /// The greatest number of bytes that one recv, one turn or one answer to an extra has.
 const MOST_BYTES: u64 = 262_144;
@@ -22,14 +25,13 @@ const MOST_TIME: u64 = 0x7FFF_FFFF_FFFF_FFFF;
 
 /// Whether an answer fits a call. A turn fits where its time is in range, each item is watched, no
 /// listener, connection or letter of a child stands twice, and there are not too many items and
-/// bytes. It takes no memory, and as many steps as there are pairs of items, and of items with
-/// watch entries.
-pub fn fits(call: &Call, answer: &Answer) -> bool
-    ensures { result ≡ fits call.now answer.now }
+/// bytes. It takes about as many steps as there are items and watch entries.
+pub fn fits(alloc: Global, call: &Call, answer: &Answer) -> Result<bool, Memory>
+    ensures { IfOk result (λ it_fits. it_fits ≡ fits call.now answer.now) }
 {
-    match call {
+    Ok(match call {
         Call::Select { watch, .. } => match answer {
-            Answer::Turn { now, items } => turn_fits(watch.items(), *now, items.items()),
+            Answer::Turn { now, items } => turn_fits(alloc, watch.items(), *now, items.items())?,
             _ => false,
         },
         Call::Listen(_) => matches!(answer, Answer::Done | Answer::Refused),
@@ -53,31 +55,25 @@ pub fn fits(call: &Call, answer: &Answer) -> bool
             Answer::Refused => true,
             _ => false,
         },
-    }
+    })
 }
 
-fn turn_fits(watch: &[Watch], now: u64, items: &[Item]) -> bool
-    ensures { result ≡ turn_fits watch.now now items.now }
+/// Whether a turn fits a select with this watch list.
+pub fn turn_fits(alloc: Global, watch: &[Watch], now: u64, items: &[Item]) -> Result<bool, Memory>
+    ensures { IfOk result (λ it_fits. it_fits ≡ turn_fits watch.now now items.now) }
 {
-    now <= MOST_TIME && are_few(items) && are_awaited(watch, items)
+    Ok(
+        now <= MOST_TIME
+            && are_few(items)
+            && each_is_awaited(alloc, watch, items)?
+            && stand_apart(alloc, items)?,
+    )
 }
 
 fn are_few(items: &[Item]) -> bool
     ensures { result ≡ are_few items.now }
 {
     items.len() <= MOST_ITEMS && bytes_of(items) <= MOST_BYTES
-}
-
-fn are_awaited(watch: &[Watch], items: &[Item]) -> bool
-    ensures { result ≡ are_awaited watch.now items.now }
-{
-    each_is_awaited(watch, items) && stand_apart(items)
-}
-
-fn each_is_awaited(watch: &[Watch], items: &[Item]) -> bool
-    ensures { result ≡ list_all (is_awaited watch.now) items.now }
-{
-    items.iter().all(|item| is_awaited(watch, item))
 }
 
 /// Whether an item of a turn is one that these watch entries await, and no piece in it is empty or over
@@ -100,7 +96,7 @@ fn is_watched(watch: &[Watch], item: &Item) -> bool
     watch.iter().any(|entry| is_watched_by(item, entry))
 }
 
-fn is_watched_by(item: &Item, entry: &Watch) -> bool
+pub fn is_watched_by(item: &Item, entry: &Watch) -> bool
     ensures { result ≡ is_watched_by item.now entry.now }
 {
     match (item, entry) {
@@ -161,7 +157,7 @@ fn is_told(item: &ChildItem, stdin: bool, out: bool, errs: bool, exit: bool) -> 
 }
 
 /// What an item takes up, and of which listener, connection or child.
-fn interest_of(item: &Item) -> Option<(Interest, u32)>
+pub fn interest_of(item: &Item) -> Option<(Interest, u32)>
     ensures { result ≡ interest_of item.now }
 {
     match item {
@@ -200,24 +196,7 @@ pub fn clashes(first: &Item, second: &Item) -> bool
     interest == other && id == other_id
 }
 
-fn clashes_with_any(first: &Item, others: &[Item]) -> bool
-    ensures { result ≡ list_any (clashes first.now) others.now }
-{
-    others.iter().any(|other| clashes(first, other))
-}
-
-fn stand_apart(items: &[Item]) -> bool
-    ensures { result ≡ stand_apart items.now }
-{
-    for at in 0..items.len() {
-        if clashes_with_any(&items[at], &items[at + 1..]) {
-            return false;
-        }
-    }
-    true
-}
-
-fn is_sized(item: &Item) -> bool
+pub fn is_sized(item: &Item) -> bool
     ensures { result ≡ is_sized item.now }
 {
     match item {

@@ -2,6 +2,8 @@
 //! calls; and each of them in memory.
 #![tactic(auto)]
 
+mod apart;
+mod awaited;
 mod call;
 mod copying;
 mod event;

@@ -1,5 +1,8 @@
 //! Where the loop asks the outside.
-ghost use Rattle.std.specs.Prelude.{◌≡◌, ◌⊎◌};
+ghost use Rattle.std.specs.Prelude.{◌≡◌, ◌⊎◌, IfOk, OnOk, OnErr};
+ghost use Rattle.model_wire.specs.declared.event.Event.TheVariants as event;
+ghost use Rattle.model_wire.specs.Fits.{fits};
+ghost use Rattle.aio_wire.specs.Events.{pushed};
 ghost use Rattle.aio_wire.specs.Port.{Exchanges, StopsShort, AlwaysFails, UnlessStopped};
 ghost use Rattle.aio_wire.specs.Replied.{Replied, MayHaveReplied, Stays};
 ghost use Rattle.aio_wire.specs.declared.wire.Reply.{Reply as AnyReply};
@@ -10,6 +13,7 @@ use crate::event::{Event, Events};
 use crate::fitting::fits;
 use crate::stop::Stop;
 use crate::wire::{Reply, Wire};
+use aio_base::Memory;
 use std::alloc::Global;
 
 /// A wire with the events of the run that asks it. It keeps its two borrows while it stands.
@@ -52,21 +56,42 @@ impl<'a, W: Wire> Port<'a, W> {
         ensures keeps { W.keeps self.old.wire.now self.new.wire.now }
         ensures quiet { UnlessStopped (W.quiet self.old.wire.now self.new.wire.now) result }
     {
-        let noted = copy_of_call(alloc, &call)?;
-        self.events.push(Event::Called(noted))?;
+        note_call(alloc, self.events, &call)?;
         match self.wire.ask(alloc, &call)? {
-            Reply::Got(answer) => {
-                let noted = copy_of_answer(alloc, &answer)?;
-                self.events.push(Event::Got(noted))?;
-                if fits(&call, &answer) {
-                    Ok(answer)
-                } else {
-                    Err(Stop::Mismatch(self.events.answers(), call))
-                }
-            }
+            Reply::Got(answer) => match note_answer(alloc, self.events, &call, &answer) {
+                Ok(true) => Ok(answer),
+                Ok(false) => Err(Stop::Mismatch(self.events.answers(), call)),
+                Err(Memory) => Err(Stop::Memory),
+            },
             Reply::Over => Err(Stop::Over(call)),
             Reply::Bad(fault) => Err(Stop::Bad(fault)),
             Reply::Failed => Err(Stop::Failed(call)),
         }
     }
+}
+
+// Notes a call.
+fn note_call(alloc: Global, events: &mut Events, call: &Call) -> Result<(), Memory>
+    ensures noted { OnOk result (events.new ≡ pushed events.old (event.Called call.now)) }
+    ensures none { OnErr result (events.new ≡ events.old) }
+{
+    let noted = copy_of_call(alloc, call)?;
+    events.push(Event::Called(noted))
+}
+
+// Notes an answer, and says whether it fits.
+fn note_answer(
+    alloc: Global,
+    events: &mut Events,
+    call: &Call,
+    answer: &Answer,
+) -> Result<bool, Memory>
+    ensures fits { IfOk result (λ it_fits. it_fits ≡ fits call.now answer.now) }
+    ensures noted { OnOk result (events.new ≡ pushed events.old (event.Got answer.now)) }
+    ensures none { OnErr result (events.new ≡ events.old) }
+{
+    let it_fits = fits(alloc, call, answer)?;
+    let noted = copy_of_answer(alloc, answer)?;
+    events.push(Event::Got(noted))?;
+    Ok(it_fits)
 }

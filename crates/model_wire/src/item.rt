@@ -32,7 +32,7 @@ pub enum Item<B> {
 
 /// What an item takes up. No two items of one turn take up the same of one listener, connection or
 /// child.
-#[derive(Clone, Copy, PartialEq, Eq)]
+#[derive(Clone, Copy, PartialEq, Eq, Hash)]
 pub enum Interest {
     Server,
     Conn,
