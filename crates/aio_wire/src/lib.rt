@@ -24,7 +24,7 @@ pub use aio_base::ChildItem;
 pub use call::{Answer, Call};
 pub use copying::{copy_of_answer, copy_of_bytes, copy_of_call, copy_of_news, copy_of_words};
 pub use event::{Event, Events};
-pub use fitting::{bytes_in, clashes, fits, is_awaited};
+pub use fitting::{bytes_in, clashes, fits, is_awaited, turn_fits};
 pub use lists::{Item, ItemList, Watch, WatchList, WordList};
 pub use mem_shelf::MemShelf;
 pub use mem_sink::MemSink;
