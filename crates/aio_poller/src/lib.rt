@@ -1,0 +1,13 @@
+//! The sockets of the system: listeners and connections on 127.0.0.1, polled over epoll.
+#![tactic(auto)]
+
+mod bell;
+mod conn;
+mod errors;
+mod registration;
+mod server;
+mod sockets;
+mod system;
+
+pub use bell::PollerBell;
+pub use system::RealPoller;

@@ -1,0 +1,363 @@
+//! The open sockets. A call may fail; that is counted above.
+use crate::bell::PollerBell;
+use crate::conn::Conn;
+use crate::errors::{is_lost, is_short, refused, unready};
+use crate::server::Server;
+use aio_base::{Blob, Memory};
+use aio_wire::{Answer, Call, Item, Readiness, Watch};
+use indexmap::IndexMap;
+use mio::event::Event;
+use mio::net::{TcpListener, TcpStream};
+use mio::{Events, Interest, Poll, Token, Waker};
+use std::alloc::Global;
+use std::io;
+use std::io::{ErrorKind, Read, Write};
+use std::net::{Ipv4Addr, Net, Shutdown, SocketAddr};
+use std::sync::Arc;
+use std::time::{Clock, Duration, Instant};
+
+/// The most bytes that one recv takes.
+const MOST_BYTES: usize = 262_144;
+
+/// The most items that one poll finds.
+const MOST_ITEMS: usize = 4_096;
+
+/// The bell's token. That of listener N is twice N, that of connection N twice N and one.
+const BELL: Token = Token(usize::MAX);
+
+#[derive(Drop)]
+pub struct Sockets<R> {
+    rt: R,
+    start: Instant,
+    poll: Poll,
+    events: Events,
+    waker: Arc<Waker, Global>,
+    servers: IndexMap<u32, Server>,
+    conns: IndexMap<u32, Conn>,
+    servers_made: u32,
+    conns_made: u32,
+    /// How many sockets were closed.
+    closed: u64,
+    round: u64,
+    buffer: Vec<u8>,
+}
+
+impl<R: Net + Clock + Drop> Sockets<R> {
+    /// No socket. The time begins now.
+    pub fn make(rt: R, alloc: Global) -> io::Result<Sockets<R>> {
+        let poll = Poll::new(&rt)?;
+        let waker = Arc::new(alloc, Waker::new(poll.registry(), BELL)?)?;
+        let start = Instant::now(&rt)?;
+        Ok(Sockets {
+            rt,
+            start,
+            poll,
+            events: Events::with_capacity(alloc, MOST_ITEMS)?,
+            waker,
+            servers: IndexMap::new(alloc),
+            conns: IndexMap::new(alloc),
+            servers_made: 0,
+            conns_made: 0,
+            closed: 0,
+            round: 0,
+            buffer: vec![in alloc; 0; MOST_BYTES]?,
+        })
+    }
+}
+
+impl<R> Sockets<R> {
+    pub fn bell(&self) -> Result<PollerBell, Memory> {
+        Ok(PollerBell::of(Arc::try_clone(&self.waker)?))
+    }
+}
+
+impl<R: Net + Clock> Sockets<R> {
+    /// Milliseconds since it was made. The clock never goes back.
+    fn now(&self) -> io::Result<u64> {
+        let since = self.start.elapsed(&self.rt)?;
+        Ok(since.as_millis().min(i64::MAX as u128) as u64)
+    }
+
+    /// Waits for what is watched; when it was done, and what was found.
+    pub fn find(
+        &mut self,
+        alloc: Global,
+        wait: Option<u64>,
+        watch: &[Watch],
+    ) -> io::Result<(u64, Vec<Item>)> {
+        let now = self.wait_for(wait, watch)?;
+        let items = self.items_of(alloc, watch)?;
+        Ok((now, items))
+    }
+
+    /// Waits for what is watched, and says when it was done. What was found stands in the sockets.
+    fn wait_for(&mut self, wait: Option<u64>, watch: &[Watch]) -> io::Result<u64> {
+        self.round = self.round.wrapping_add(1);
+        let mut wait = wait;
+        let now = self.now()?;
+        for entry in watch {
+            if let Some(rest) = self.watch_entry(*entry, now)? {
+                wait = Some(wait.map_or(rest, |other| other.min(rest)));
+            }
+        }
+        self.let_others_rest()?;
+        match self.poll.poll(&mut self.events, wait.map(Duration::from_millis)) {
+            Ok(()) => self.note_events(),
+            Err(error) if error.kind() == ErrorKind::Interrupted => {}
+            Err(error) => return Err(error),
+        }
+        self.now()
+    }
+
+    fn note_events(&mut self) {
+        for event in self.events.iter() {
+            note(&mut self.servers, &mut self.conns, event);
+        }
+    }
+
+    /// Watches an entry. A listener that rests isn't watched; then it says for how long.
+    fn watch_entry(&mut self, entry: Watch, now: u64) -> io::Result<Option<u64>> {
+        match entry {
+            Watch::Server(number) => self.watch_server(number, now),
+            Watch::Making(number) => self.watch_conn(number, Interest::WRITABLE),
+            Watch::Conn {
+                conn,
+                reads,
+                writes,
+            } => match (reads, writes) {
+                (true, true) => self.watch_conn(conn, Interest::READABLE | Interest::WRITABLE),
+                (true, false) => self.watch_conn(conn, Interest::READABLE),
+                (false, true) => self.watch_conn(conn, Interest::WRITABLE),
+                (false, false) => Ok(None),
+            },
+            Watch::Child { .. } | Watch::Extra => Ok(None),
+        }
+    }
+
+    fn watch_server(&mut self, number: u32, now: u64) -> io::Result<Option<u64>> {
+        let Some(server) = self.servers.get_mut(&number) else {
+            return Ok(None);
+        };
+        if let Some(rest) = server.rests_for(now, self.closed) {
+            server.registration.begin(0);
+            return Ok(Some(rest));
+        }
+        server.registration.watch(
+            &self.poll,
+            &mut server.listener,
+            Token(number as usize * 2),
+            Interest::READABLE,
+            self.round,
+        )?;
+        Ok(None)
+    }
+
+    fn watch_conn(&mut self, number: u32, interest: Interest) -> io::Result<Option<u64>> {
+        if let Some(conn) = self.conns.get_mut(&number) {
+            conn.registration.watch(
+                &self.poll,
+                &mut conn.stream,
+                Token(number as usize * 2 + 1),
+                interest,
+                self.round,
+            )?;
+        }
+        Ok(None)
+    }
+
+    fn let_others_rest(&mut self) -> io::Result<()> {
+        for server in self.servers.values_mut() {
+            server
+                .registration
+                .rest(&self.poll, &mut server.listener, self.round)?;
+        }
+        for conn in self.conns.values_mut() {
+            conn.registration
+                .rest(&self.poll, &mut conn.stream, self.round)?;
+        }
+        Ok(())
+    }
+
+    /// What was found of what is watched, in that order.
+    fn items_of(&mut self, alloc: Global, watch: &[Watch]) -> io::Result<Vec<Item>> {
+        let mut items = Vec::new(alloc);
+        for entry in watch {
+            if items.len() >= MOST_ITEMS {
+                break;
+            }
+            if let Some(item) = self.item_of(*entry)? {
+                items.push(item)?;
+            }
+        }
+        Ok(items)
+    }
+
+    fn item_of(&mut self, entry: Watch) -> io::Result<Option<Item>> {
+        match entry {
+            Watch::Server(number) => Ok(self.server_item(number)),
+            Watch::Making(number) => self.making_item(number),
+            Watch::Conn {
+                conn,
+                reads,
+                writes,
+            } => Ok(self.conn_item(conn, reads, writes)),
+            Watch::Child { .. } | Watch::Extra => Ok(None),
+        }
+    }
+
+    fn server_item(&self, number: u32) -> Option<Item> {
+        let server = self.servers.get(&number)?;
+        server
+            .registration
+            .is_readable
+            .then_some(Item::ReadableServer(number))
+    }
+
+    fn making_item(&mut self, number: u32) -> io::Result<Option<Item>> {
+        let Some(conn) = self.conns.get_mut(&number) else {
+            return Ok(None);
+        };
+        Ok(match conn.outcome()? {
+            Some(true) => Some(Item::Up(number)),
+            Some(false) => Some(Item::Down(number)),
+            None => None,
+        })
+    }
+
+    fn conn_item(&self, conn: u32, reads: bool, writes: bool) -> Option<Item> {
+        let registration = self.conns.get(&conn)?.registration;
+        let ready = match (
+            reads && registration.is_readable,
+            writes && registration.is_writable,
+        ) {
+            (true, true) => Readiness::Both,
+            (true, false) => Readiness::Read,
+            (false, true) => Readiness::Write,
+            (false, false) => return None,
+        };
+        Some(Item::Ready { conn, ready })
+    }
+
+    /// What a call on a socket comes to.
+    pub fn answer(&mut self, alloc: Global, call: &Call) -> io::Result<Answer> {
+        match call {
+            Call::Listen(port) => self.listen(*port),
+            Call::Accept(server) => self.accept(*server),
+            Call::Connect(port) => self.connect(*port),
+            Call::Recv(conn) => self.recv(alloc, *conn),
+            Call::Send { conn, bytes } => self.send(*conn, bytes.items()),
+            Call::Shut(conn) => self.shut(*conn),
+            Call::Close(conn) => {
+                self.conns.swap_remove(conn);
+                self.closed = self.closed.wrapping_add(1);
+                Ok(Answer::Done)
+            }
+            Call::CloseServer(server) => {
+                self.servers.swap_remove(server);
+                self.closed = self.closed.wrapping_add(1);
+                Ok(Answer::Done)
+            }
+            Call::Select { .. }
+            | Call::Feed { .. }
+            | Call::End(_)
+            | Call::Kill(_)
+            | Call::Launch(_)
+            | Call::Extra { .. } => Err(io::Error::from(ErrorKind::Unsupported)),
+        }
+    }
+
+    fn listen(&mut self, port: u16) -> io::Result<Answer> {
+        let listener = match TcpListener::bind(&self.rt, here(port)) {
+            Ok(listener) => listener,
+            Err(error) => return refused(error),
+        };
+        let number = self.servers_made;
+        self.servers.insert(number, Server::new(listener))?;
+        self.servers_made = number.saturating_add(1);
+        Ok(Answer::Done)
+    }
+
+    fn accept(&mut self, number: u32) -> io::Result<Answer> {
+        let now = self.now()?;
+        let Some(server) = self.servers.get_mut(&number) else {
+            return Ok(Answer::Broken);
+        };
+        match server.listener.accept() {
+            Ok((stream, _)) => self.keep(Conn::accepted(stream)),
+            Err(error) if is_short(&error) => {
+                server.rest(now, self.closed);
+                Ok(Answer::Again)
+            }
+            Err(error) => unready(error),
+        }
+    }
+
+    fn connect(&mut self, port: u16) -> io::Result<Answer> {
+        match TcpStream::connect(&self.rt, here(port)) {
+            Ok(stream) => self.keep(Conn::begun(stream)),
+            Err(error) => refused(error),
+        }
+    }
+
+    fn keep(&mut self, conn: Conn) -> io::Result<Answer> {
+        conn.stream.set_nodelay(true)?;
+        let number = self.conns_made;
+        self.conns.insert(number, conn)?;
+        self.conns_made = number.saturating_add(1);
+        Ok(Answer::Conn)
+    }
+
+    fn recv(&mut self, alloc: Global, conn: u32) -> io::Result<Answer> {
+        let Some(conn) = self.conns.get(&conn) else {
+            return Ok(Answer::Broken);
+        };
+        match (&conn.stream).read(self.buffer.as_mut_slice()) {
+            Ok(0) => Ok(Answer::Eof),
+            Ok(count) => {
+                let bytes = Vec::from_slice(alloc, &self.buffer[..count])?;
+                Ok(Answer::Data(Blob::of(bytes)))
+            }
+            Err(error) => unready(error),
+        }
+    }
+
+    fn send(&mut self, conn: u32, bytes: &[u8]) -> io::Result<Answer> {
+        let Some(conn) = self.conns.get(&conn) else {
+            return Ok(Answer::Broken);
+        };
+        match (&conn.stream).write(bytes) {
+            Ok(0) => Ok(Answer::Again),
+            Ok(count) => Ok(Answer::Took(count as u64)),
+            Err(error) => unready(error),
+        }
+    }
+
+    fn shut(&mut self, conn: u32) -> io::Result<Answer> {
+        let Some(conn) = self.conns.get(&conn) else {
+            return Ok(Answer::Done);
+        };
+        match conn.stream.shutdown(Shutdown::Write) {
+            Err(error) if !is_lost(error.kind()) => Err(error),
+            _ => Ok(Answer::Done),
+        }
+    }
+}
+
+/// Notes an event at the socket that its token names.
+fn note(servers: &mut IndexMap<u32, Server>, conns: &mut IndexMap<u32, Conn>, event: &Event) {
+    let Token(token) = event.token();
+    let Ok(number) = u32::try_from(token / 2) else {
+        return;
+    };
+    if token % 2 == 0 {
+        if let Some(server) = servers.get_mut(&number) {
+            server.registration.note(event);
+        }
+    } else if let Some(conn) = conns.get_mut(&number) {
+        conn.registration.note(event);
+    }
+}
+
+fn here(port: u16) -> SocketAddr {
+    SocketAddr::from((Ipv4Addr::LOCALHOST, port))
+}
