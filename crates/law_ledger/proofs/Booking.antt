@@ -5,9 +5,10 @@ use Rattle.model_loop.specs.Ledger.{Asked, Began, ByGroup, ByTimeout, LedgerEntr
 use Rattle.model_loop.specs.Timeouts.{exit_timeout, fire, has_expired, is_active, leave_from, no_timeout, set_timeout, timeout_of, without_handle}
 use Rattle.std.proofs.lemmas.Bool.{cases_eq, eq-eqb, false≢true, ne_eqb}
 use Rattle.model_loop.specs.Cancel.{cancel}
-use Rattle.law_ledger.proofs.Quietly.{abort_quietly, group_quietly, quietly_tells, raised_entries, raised_none, timeout_quietly}
+use Rattle.law_changes.specs.Changes.{ChangesTimeout, ChangesGroup}
+use Rattle.law_ledger.proofs.Quietly.{abort_seen, abort_tells, change_tells, raised_entries, raised_none, seen-set}
+use Rattle.law_ledger.proofs.Quietly.{wait_or_end_tells, wake_tells, without_tells}
 use Rattle.law_ledger.proofs.Counting.{count-append, count-cons}
-use Rattle.law_ledger.proofs.Quietly.{wait_or_end_quietly, wake_quietly, without_quietly}
 use Rattle.std.proofs.lemmas.List.{get_or-set_other, get_or-set_same}
 use Rattle.model_loop.specs.Tasks.{cancelling, future_of}
 use Rattle.model_loop.specs.Groups.{abort, abort_and_request_unless, abort_if_raised, abort_where, begin_exit, blame, child_done, exit_begin, failure_of}
@@ -16,7 +17,7 @@ use Rattle.model_value.specs.Value.{Exc}
 use Rattle.model_loop.specs.Balance.{GroupBalances, TimeoutBalances, asks, begins, is_by_group, is_by_timeout, is_expired, takes}
 use Rattle.law_ledger.proofs.Asked.{ask_asked, begin_asked, quiet_asked}
 use Rattle.std.proofs.Math.ListN.{length-set}
-use Rattle.law_ledger.specs.Telling.{BooksNone, Tells, is_open, taken_back}
+use Rattle.law_ledger.specs.Telling.{BooksNone, Tells, is_open, seen_of_group, taken_back}
 use Rattle.model_loop.specs.Loop.{Active, Created, Expired, Expiring, Finished, Group, Loop, Timeout, TimeoutState, book}
 use Rattle.model_loop.specs.Ways.{one_if}
 use Rattle.std.specs.List.{count_by}
@@ -150,7 +151,7 @@ module _ (id : ℕ) (l : Loop) (within : id < length l.timeouts) (is : Tells l) 
 
   finished_tells : (has_expired (timeout_of l id).state ≡ false) → (is_expired (timeout_of l id).state ≡ false)
       → Tells (set_timeout id (record (timeout_of l id) { state = Finished }) l)
-  finished_tells x y = quietly_tells l _ (timeout_quietly id (record (timeout_of l id) { state = Finished }) l (sym x) (sym y)) is
+  finished_tells x y = change_tells (ChangesTimeout id (record (timeout_of l id) { state = Finished })) l (λ i. (sym x i, sym y i)) is
 
   -- a block that is open: active or expiring
   pub leave_tells : (raised : Option Exc) (state : TimeoutState) → (timeout_of l id).state ≡ state → is_open state ≡ true
@@ -165,7 +166,7 @@ pub exit_tells : (raised : Option Exc) (id : ℕ) (l : Loop) → id < length l.t
     → Tells l → Tells (exit_timeout raised id l).loop
 exit_tells raised id l within open_ is =
     leave_tells id (without_handle id l) (subst (λ (n : ℕ). id < n) (sym (length-set l.timeouts id _)) within)
-    (quietly_tells l (without_handle id l) (without_quietly id l) is) raised (timeout_of l id).state same open_
+    (without_tells id l is) raised (timeout_of l id).state same open_
   where
     same : (timeout_of (without_handle id l) id).state ≡ (timeout_of l id).state
     same =
@@ -227,7 +228,7 @@ blame_tells (Some fault) id l within is = go (group_of l id).aborting (group_of 
     heard = set_group id (record (group_of l id) { errors = (group_of l id).errors ++ fault ∷ [] }) l
 
     noted : Tells (set_group id (record (group_of l id) { errors = (group_of l id).errors ++ fault ∷ [] }) l)
-    noted = quietly_tells l _ (group_quietly id (record (group_of l id) { errors = (group_of l id).errors ++ fault ∷ [] }) l refl refl) is
+    noted = change_tells (ChangesGroup id (record (group_of l id) { errors = (group_of l id).errors ++ fault ∷ [] })) l refl is
 
     go : (aborting requested : Bool) → (group_of l id).requested ≡ requested
         → Tells (abort_and_request_unless (aborting || requested) id
@@ -238,17 +239,15 @@ blame_tells (Some fault) id l within is = go (group_of l id).aborting (group_of 
         let l1 = set_group id (record (group_of l id) { errors = (group_of l id).errors ++ fault ∷ [] }) l in
         let w1 : id < length l1.groups = subst (λ (n : ℕ). id < n) (sym (length-set l.groups id _)) within in
         let same : (group_of (abort id l1) id).requested ≡ false =
-        (abort_quietly id l1).requested id
-        ∙ (group_quietly id (record (group_of l id) { errors = (group_of l id).errors ++ fault ∷ [] }) l refl refl).requested id ∙ e in
+        ap (λ (v : Bool × Bool). v.0) (abort_seen id l1 ∙ seen-set seen_of_group l.groups id _ (new_group 0) refl id) ∙ e in
         request_tells id (abort id l1) (subst (λ (n : ℕ). id < n) (sym (length-set l1.groups id _)) w1)
-        (quietly_tells l1 (abort id l1) (abort_quietly id l1) noted) same
+        (abort_tells id l1 noted) same
 
 pub child_done_tells : (id task : ℕ) (l : Loop) → id < length l.groups → Tells l → Tells (child_done id task l)
 child_done_tells id task l within is =
     blame_tells (failure_of l.parts task) id (wake_exit id (without_child id task l))
     (subst (λ (n : ℕ). id < n) (sym (length-set l.groups id _)) within)
-    (quietly_tells (without_child id task l) _ (wake_quietly id (without_child id task l))
-    (quietly_tells l (without_child id task l) (group_quietly id _ l refl refl) is))
+    (wake_tells id (without_child id task l) (change_tells (ChangesGroup id _) l refl is))
 
 -- ---- its exit begins
 module _ (raised : Option Exc) (id : ℕ) (l : Loop) (within : id < length l.groups) (outside : (group_of l id).exiting ≡ false) (is : Tells l) where
@@ -316,7 +315,7 @@ module _ (raised : Option Exc) (id : ℕ) (l : Loop) (within : id < length l.gro
   taken_tells true r =
       elim (cancelling taken.parts (group_of begun id).parent == 0) as
       (λ b. Tells (cond b (set_group id (record (group_of begun id) { kept = None }) taken) taken)) [
-        | true ↦ quietly_tells taken _ (group_quietly id (record (group_of begun id) { kept = None }) taken refl refl) told
+        | true ↦ change_tells (ChangesGroup id (record (group_of begun id) { kept = None })) taken refl told
         | false ↦ told
       ]
     where
@@ -345,7 +344,7 @@ module _ (raised : Option Exc) (id : ℕ) (l : Loop) (within : id < length l.gro
           (begin_asked id (group_of begun id).parent (nat_lt 0 (cancelling l.parts (group_of begun id).parent)) (group_of l id).requested l.ledger was))
 
   abort_where_tells : (b : Bool) (q : Loop) → Tells q → Tells (abort_where b id q)
-  abort_where_tells true q t = quietly_tells q (abort id q) (abort_quietly id q) t
+  abort_where_tells true q t = abort_tells id q t
   abort_where_tells false q t = t
 
   pub begin_tells : Tells (exit_begin raised id l).loop
@@ -353,5 +352,5 @@ module _ (raised : Option Exc) (id : ℕ) (l : Loop) (within : id < length l.gro
       let taken = take_back id begun in
       let told : Tells (take_back id begun) =
       subst (λ b. Tells (take_back_where b id begun)) (sym (ap (λ (g : Group). g.requested) begun_same)) (taken_tells (group_of l id).requested refl) in
-      quietly_tells (abort_if_raised raised id taken) _ (wait_or_end_quietly id (abort_if_raised raised id taken))
+      wait_or_end_tells id (abort_if_raised raised id taken)
       (abort_where_tells (is_some raised && not (group_of taken id).aborting) taken told)

@@ -2,7 +2,7 @@
 use Rattle.std.specs.Prelude.{◌≡◌, ℕ, Bool, true, false, List, [], ◌∷◌, ◌++◌}
 use Rattle.std.specs.List.{count_by}
 use Rattle.model_loop.specs.Ledger.{Origin, ByGroup, LedgerEntry, Took}
-use Rattle.model_loop.specs.Loop.{TimeoutState, Active, Expiring, Loop}
+use Rattle.model_loop.specs.Loop.{TimeoutState, Active, Expiring, Timeout, Group, Loop}
 use Rattle.model_loop.specs.Timeouts.{timeout_of, has_expired}
 use Rattle.model_loop.specs.Groups.{group_of}
 use Rattle.model_loop.specs.Balance.{is_by_timeout, is_by_group, asks, takes, begins, is_expired, TimeoutBalances, GroupBalances}
@@ -24,15 +24,20 @@ pub record BooksNone (entries : List LedgerEntry) : Type 0 where
   pub groups_take : (id : ℕ) → count_by (takes (is_by_group id)) entries ≡ 0
   pub groups_begin : (id : ℕ) → count_by (begins id) entries ≡ 0
 
+-- what the ledger tells of a timeout, and of a group
+abbrev pub seen_of_timeout : Timeout → Bool × Bool
+seen_of_timeout it = (has_expired it.state, is_expired it.state)
+
+abbrev pub seen_of_group : Group → Bool × Bool
+seen_of_group it = (it.requested, it.exiting)
+
 -- a step that books such entries, and leaves what the ledger tells of
 pub record BooksQuietly (l q : Loop) : Type 0 where
   pub more : List LedgerEntry
   pub ledger : q.ledger ≡ l.ledger ++ more
   pub none : BooksNone more
-  pub requested : (id : ℕ) → (group_of q id).requested ≡ (group_of l id).requested
-  pub exiting : (id : ℕ) → (group_of q id).exiting ≡ (group_of l id).exiting
-  pub expired : (id : ℕ) → has_expired (timeout_of q id).state ≡ has_expired (timeout_of l id).state
-  pub over : (id : ℕ) → is_expired (timeout_of q id).state ≡ is_expired (timeout_of l id).state
+  pub groups : (id : ℕ) → seen_of_group (group_of q id) ≡ seen_of_group (group_of l id)
+  pub timeouts : (id : ℕ) → seen_of_timeout (timeout_of q id) ≡ seen_of_timeout (timeout_of l id)
 
 -- what an exit books as it begins, after that it began
 abbrev pub taken_back : Bool → (id parent : ℕ) (lowered : Bool) → List LedgerEntry

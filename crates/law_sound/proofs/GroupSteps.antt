@@ -3,7 +3,8 @@ use Rattle.std.proofs.Common.{◌≡◌, ℕ, List, None, Option, ap, false, len
 use Rattle.model_loop.specs.Groups.{child_done, create, enter_group, exit_begin, exit_woken, group_of, make_group}
 use Rattle.law_groups.proofs.Entering.{entered_holds, entered_orderly, made_holds, made_orderly}
 use Rattle.law_sound.proofs.Steps.{build, holds_of, off, rest_of, tells_of}
-use Rattle.law_ledger.proofs.Quietly.{create_quietly, group_quietly, make_group_quietly, quietly_tells, woken_quietly}
+use Rattle.law_changes.specs.Changes.{MakesGroup, ChangesGroup}
+use Rattle.law_ledger.proofs.Quietly.{change_tells, create_tells, woken_tells}
 use Rattle.model_value.specs.Input.{Input}
 use Rattle.law_ledger.proofs.Booking.{begin_tells, child_done_tells}
 use Rattle.law_sound.proofs.Carrying.{LoopCarries, begin_loop, child_done_loop, create_loop, group_loop, loop_on, parts_loop, refl_carries, taken_carries}
@@ -34,7 +35,7 @@ make_group_sound running told parent l s =
     (rest_of running told l (make_group parent l) s (record { parts = refl_carries l.parts; timeouts = refl }))
     (made_holds running running told parent l (holds_of running told l s))
     (made_orderly parent l (λ id. (s.groups id).orderly)) s.balance.tasks
-    (quietly_tells l (make_group parent l) (make_group_quietly parent l) (tells_of running told l s))
+    (change_tells (MakesGroup parent) l tt (tells_of running told l s))
 
 pub enter_group_sound : (running : Option ℕ) (told : ℕ → List ℕ) (id : ℕ) (l : Loop) → id < length l.groups
     → lives l.parts (group_of l id).parent ≡ true → IsSound running told l → IsSound running told (enter_group id l)
@@ -42,13 +43,13 @@ enter_group_sound running told id l within living s =
     build running told (enter_group id l) (rest_of running told l (enter_group id l) s (group_loop id _ l))
     (entered_holds id l within running running told living (holds_of running told l s))
     (entered_orderly id l within (λ id. (s.groups id).orderly)) s.balance.tasks
-    (quietly_tells l (enter_group id l) (group_quietly id _ l refl refl) (tells_of running told l s))
+    (change_tells (ChangesGroup id _) l refl (tells_of running told l s))
 
 pub create_sound : (running : Option ℕ) (told : ℕ → List ℕ) (id : ℕ) (l : Loop) → IsSound running told l → IsSound running told (create id l)
 create_sound running told id l s =
     build running told (create id l) (rest_of running told l (create id l) s (create_loop id l))
     (create_holds running running told id l (holds_of running told l s)) (create_orderly id l (λ id. (s.groups id).orderly))
-    (create_keeps id l s.balance.tasks) (quietly_tells l (create id l) (create_quietly id l) (tells_of running told l s))
+    (create_keeps id l s.balance.tasks) (create_tells id l (tells_of running told l s))
 
 pub child_done_step_sound : (told : ℕ → List ℕ) (id task : ℕ) (handle : Handle) (rest : List Handle) (l : Loop)
     → l.parts.pending ≡ handle ∷ rest → handle.dead ≡ false → handle.action ≡ GroupDone id task → IsSound None told l
@@ -95,4 +96,4 @@ exit_woken_step_sound running told input id l within exiting open_ s =
     let w = exit_woken_sound running running (λ t r. r) told input id l within exiting open_ (holds_of running told l s) (λ j. (s.groups j).orderly) in
     build running told (exit_woken input id l).loop (rest_of running told l (exit_woken input id l).loop s (woken_loop input id l))
     w.0 w.1 (exit_woken_keeps input id l s.balance.tasks)
-    (quietly_tells l (exit_woken input id l).loop (woken_quietly input id l) (tells_of running told l s))
+    (woken_tells input id l (tells_of running told l s))

@@ -8,10 +8,11 @@ use Rattle.law_timeouts.proofs.Entries.{entries-later}
 use Rattle.law_settling.proofs.CancelSound.{plain_no_task}
 use Rattle.model_loop.specs.Ledger.{Booked, ByEnd, Origin, ask_cancel, request_each, uncancel_by}
 use Rattle.std.specs.List.{All, count_by, range_with_len}
-use Rattle.law_ledger.specs.Telling.{BooksNone, IsOther, Tells}
+use Rattle.law_ledger.specs.Telling.{IsOther, Tells}
 use Rattle.model_value.specs.Input.{Input}
 use Rattle.law_told.proofs.Holding.{cancel_holds, looks_holds, request_each_holds, settle_holds}
-use Rattle.law_ledger.proofs.Quietly.{book_quietly, each_none, parts_quietly, quietly_tells, request_none, suspend_none, uncancel_none}
+use Rattle.law_changes.specs.Changes.{AsksCancel, TakesBack}
+use Rattle.law_ledger.proofs.Quietly.{book_tells, change_tells, each_tells, suspend_none}
 use Rattle.law_timeouts.specs.Tags.{HaveTags, IsQuiet, KeepsTags}
 use Rattle.law_settling.proofs.Looks.{LooksSame, handles_look_same}
 use Rattle.law_sound.proofs.Carrying.{Carries, LoopCarries, book_loop, cancel_carries, carries_on, change_carries, each_carries, looks_carries, parts_loop}
@@ -114,11 +115,11 @@ rest_of running told l q s c = record {
 -- ---- a step of the parts alone, by what it books
 booked_sound : (running after : Option ℕ) (told : ℕ → List ℕ) (change : Parts → Booked) (l : Loop) → IsSound running told l
     → Carries l.parts (change l.parts).parts → Holds after after told told (group_of l) (change l.parts).parts
-    → Balances l.parts (change l.parts) → BooksNone (change l.parts).entries → IsSound after told (book change l)
-booked_sound running after told change l s c h balances none =
+    → Balances l.parts (change l.parts) → (Tells l → Tells (book change l)) → IsSound after told (book change l)
+booked_sound running after told change l s c h balances tells =
     build after told (book change l) (rest_of running told l (book change l) s (book_loop change l c)) h
     (λ id. (s.groups id).orderly) (book_keeps change l balances s.balance.tasks)
-    (quietly_tells l (book change l) (book_quietly change l none) (tells_of running told l s))
+    (tells (tells_of running told l s))
 
 -- and where it books nothing
 pub parts_sound : (running after : Option ℕ) (told : ℕ → List ℕ) (l : Loop) (q : Parts) → IsSound running told l
@@ -128,7 +129,7 @@ parts_sound running after told l q s c h counts =
     build after told (record l { parts = q }) (rest_of running told l (record l { parts = q }) s (parts_loop l q c)) h
     (λ id. (s.groups id).orderly)
     (λ task. ap (λ n. n + count_by (lowers task) l.ledger) (counts task) ∙ s.balance.tasks task)
-    (quietly_tells l (record l { parts = q }) (parts_quietly l q) (tells_of running told l s))
+    (record { timeouts = s.balance.timeouts; groups = s.balance.groups })
 
 -- ---- counts
 count_kept : (id : ℕ) (change : Task → Task) (p : Parts) → ((t : Task) → (change t).cancels ≡ t.cancels) → (task : ℕ)
@@ -229,7 +230,7 @@ later_step_sound running told when task future l plain s =
       tags = λ id. tag_kept l.parts q.parts tags id (timeout_of l id) (s.timeouts id);
     }) (looks_holds running running told told (group_of l) l.parts q.parts (handles_look_same l.parts q.parts refl refl (λ test f. refl))
     (λ t m. m) (holds_of running told l s)) (λ id. (s.groups id).orderly) s.balance.tasks
-    (quietly_tells l q (parts_quietly l q.parts) (tells_of running told l s))
+    (record { timeouts = s.balance.timeouts; groups = s.balance.groups })
   where
     q : Loop
     q = in_parts (later when (SleepDone task future)) l
@@ -301,7 +302,7 @@ suspend_step_sound told task on l here s =
       callbacks = λ a. waits.parts.callbacks;
       quiet = suspend_quiet task on l.parts;
       plains = λ id h. (suspend_names told told (group_of l) task on l.parts here (holds_of (Some task) told l s)).plains id ∙ h;
-    }) waits (suspend_balances task on l.parts) (suspend_none task on l.parts)
+    }) waits (suspend_balances task on l.parts) (book_tells (suspend task on) l (suspend_none task on l.parts))
   where
     waits : Holds None None told told (group_of l) (suspend task on l.parts).parts
     waits = suspend_holds told told (group_of l) task on l.parts here (holds_of (Some task) told l s)
@@ -355,7 +356,7 @@ pub request_step_sound : (running : Option ℕ) (told : ℕ → List ℕ) (by : 
 request_step_sound running told by id l other s =
     booked_sound running running told (ask_cancel by id) l s (cancel_carries id l.parts)
     (cancel_holds running running (λ t r. r) told told (group_of l) id l.parts (holds_of running told l s))
-    (request_balances by id l.parts) (request_none by id l.parts other)
+    (request_balances by id l.parts) (change_tells (AsksCancel by id) l other)
 
 pub uncancel_step_sound : (running : Option ℕ) (told : ℕ → List ℕ) (by : Origin) (task : ℕ) (l : Loop) → IsOther by
     → IsSound running told l → IsSound running told (book (uncancel_by by task) l)
@@ -363,7 +364,7 @@ uncancel_step_sound running told by task l other s =
     booked_sound running running told (uncancel_by by task) l s (uncancel_carries task l.parts)
     (looks_holds running running told told (group_of l) l.parts (uncancel task l.parts) (uncancel_looks_same task l.parts)
     (uncancel_fewer task l.parts) (holds_of running told l s))
-    (uncancel_balances by task l.parts) (uncancel_none by task l.parts other)
+    (uncancel_balances by task l.parts) (change_tells (TakesBack by task) l other)
 
 pub end_of_run_sound : (running : Option ℕ) (told : ℕ → List ℕ) (l : Loop) → IsSound running told l → IsSound running told (cancel_everything l)
 end_of_run_sound running told l s =
@@ -371,4 +372,4 @@ end_of_run_sound running told l s =
     (each_carries ByEnd (range_with_len 0 (next_task l.parts)) l.parts)
     (request_each_holds running running (λ t r. r) told told (group_of l) ByEnd (range_with_len 0 (next_task l.parts)) l.parts (holds_of running told l s))
     (request_each_balances ByEnd (range_with_len 0 (next_task l.parts)) l.parts)
-    (each_none ByEnd (range_with_len 0 (next_task l.parts)) l.parts (record { timeout = λ id. refl; group = λ id. refl }))
+    (each_tells ByEnd (range_with_len 0 (next_task l.parts)) l (record { timeout = λ id. refl; group = λ id. refl }))

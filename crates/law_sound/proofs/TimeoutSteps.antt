@@ -31,7 +31,7 @@ use Rattle.law_steps.proofs.Stepping.{uncancel_fewer, uncancel_looks_same}
 use Rattle.model_loop.specs.Balance.{TasksBalance}
 use Rattle.law_told.proofs.Holding.{cancel_holds, looks_holds}
 use Rattle.std.specs.Option.{option_map_or}
-use Rattle.law_ledger.proofs.Quietly.{enter_quietly, quietly_tells, reschedule_quietly}
+use Rattle.law_ledger.proofs.Quietly.{enter_tells, reschedule_tells}
 use Rattle.law_timeouts.proofs.Tagging.{reschedule_tags}
 use Rattle.model_value.specs.declared.action.Action.TheVariants.{Fires}
 use Rattle.law_ledger.specs.Telling.{Tells, is_open}
@@ -153,14 +153,14 @@ enter_timeout_sound running told task delay l s =
     let k = schedules (next_timeout l) (option_map (deadline l.parts.time) delay) (make_timeout task l) (make_timeout_tags task l is) in
     scheduled running told l (enter_timeout task delay l) s (enter_tags task delay l is) k.looks
     (marked_of l.parts (enter_timeout task delay l).parts k.tasks) k.times k.groups (enter_timeout_keeps task delay l s.balance.tasks)
-    (quietly_tells l (enter_timeout task delay l) (enter_quietly task delay l) (tells_of running told l s))
+    (enter_tells task delay l (tells_of running told l s))
 
 pub reschedule_sound : (running : Option ℕ) (told : ℕ → List ℕ) (id : ℕ) (when : Option ℤ) (l : Loop) → IsSound running told l
     → IsSound running told (reschedule id when l)
 reschedule_sound running told id when l s =
     scheduled running told l (reschedule id when l) s (reschedule_tags id when l is) k.looks
     (marked_of l.parts (reschedule id when l).parts k.tasks) k.times k.groups (reschedule_keeps id when l s.balance.tasks)
-    (quietly_tells l (reschedule id when l) (reschedule_quietly id when l) (tells_of running told l s))
+    (reschedule_tells id when l (tells_of running told l s))
   where
     is : HaveTags l
     is = tags_of_sound running told l s
