@@ -1,3 +1,4 @@
+pub mod ChildEnds
 pub mod ChildOrder
 pub mod ConnectionOrder
 pub mod Losses

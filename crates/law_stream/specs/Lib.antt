@@ -1,3 +1,4 @@
+pub mod ChildEnds
 pub mod ChildSteps
 pub mod ConnectionSteps
 pub mod ReceiverOrder

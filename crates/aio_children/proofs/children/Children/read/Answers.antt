@@ -1,0 +1,45 @@
+use Rattle.std.proofs.Common.{[], IfOk, length, slice_set, sym, subst}
+use Rattle.model_stream.specs.declared.answers.StreamGot.TheVariants as got_as
+use Rattle.model_stream.specs.Children.{its_pipe}
+use Rattle.model_stream.specs.Doing.{asked_on}
+use Rattle.model_stream.specs.Receivers as receivers
+use Rattle.model_stream.specs.Requests as requests
+use Rattle.aio_children.specs.Kept.{Kept}
+use Rattle.aio_children.specs.Owned.{OwnsChildren}
+use Rattle.aio_children.specs.Standing.{ToldWith}
+use Rattle.aio_children.proofs.Placing.{at_place, own_said, past_place, said_absent, said_placed}
+use Rattle.aio_children.proofs.children.Children.read.Goals as goal
+
+pub returns-in_default-clause-told : goal.returns-in_default-clause-told
+returns-in_default-clause-told c =
+    let i = c.self.inside in
+    let before : Kept = record { children = i.children.items; most = i.most } in
+    subst (λ (k : Kept). ToldWith (requests.read (length c.args.parts.now.futures) c.args.op.now
+    (requests.OfChild c.args.pipe c.args.id)) k before c.args.parts.now c.args.parts.now (c.no_bytes.result)) c.self.view_is
+    (subst (λ (it : receivers.StreamGot). ToldWith (requests.read (length c.args.parts.now.futures) c.args.op.now
+    (requests.OfChild c.args.pipe c.args.id)) before before c.args.parts.now c.args.parts.now it) (sym c.no_bytes.ensures)
+    (said_absent before c.args.id (past_place i.children.items c.args.id c.in_default.ensures.item.3) (got_as.Bytes []) (asked_on (its_pipe c.args.pipe)
+    (receivers.read (length c.args.parts.now.futures) c.args.op.now)) c.args.parts.now))
+
+pub returns-clause-told : goal.returns-clause-told
+returns-clause-told c =
+    let i = c.self.inside in
+    let before : Kept = record { children = i.children.items; most = i.most } in
+    subst (λ (k : Kept). IfOk c.read.result (λ said. ToldWith
+    (requests.read (length c.args.parts.now.futures) c.args.op.now (requests.OfChild c.args.pipe c.args.id)) k
+    (record before { children = slice_set i.children.items c.args.id c.read.new.self }) c.args.parts.now c.read.new.parts (said)))
+    c.self.view_is
+    (said_placed before c.args.id c.in-Some.child.now c.read.new.self
+    (at_place i.children.items c.args.id c.in-Some.child.now c.in-Some.ensures.item.3.0 c.in-Some.ensures.item.1)
+    (got_as.Bytes []) (asked_on (its_pipe c.args.pipe) (receivers.read (length c.args.parts.now.futures) c.args.op.now)) (λ
+    (said : receivers.StreamGot). said) c.args.parts.now c.read.new.parts c.read.result c.read.ensures.tells)
+
+pub returns-clause-own : goal.returns-clause-own
+returns-clause-own c =
+    let i = c.self.inside in
+    let before : Kept = record { children = i.children.items; most = i.most } in
+    own_said before c.args.id c.in-Some.child.now c.read.new.self
+    (at_place i.children.items c.args.id c.in-Some.child.now c.in-Some.ensures.item.3.0 c.in-Some.ensures.item.1)
+    (got_as.Bytes []) (asked_on (its_pipe c.args.pipe) (receivers.read (length c.args.parts.now.futures) c.args.op.now)) (λ
+    (said : receivers.StreamGot). said) c.args.parts.now c.read.new.parts c.read.result c.read.ensures.tells c.read.ensures.own
+    (subst (OwnsChildren c.args.parts.now) (sym c.self.view_is) c.requires.own)

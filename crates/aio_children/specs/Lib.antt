@@ -1,0 +1,4 @@
+pub mod Code
+pub mod Kept
+pub mod Owned
+pub mod Standing
