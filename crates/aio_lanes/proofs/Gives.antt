@@ -191,7 +191,7 @@ lanes_if : {Run : Type 0} (xs : List (Option (ChildLanes Run))) (n m : ℕ) (x :
 lanes_if xs n m x true lt is = ap (lanes_at (slice_set xs n x)) (eqb-true m n is) ∙ lanes_here xs n x lt
 lanes_if xs n m x false lt is = lanes_there xs n m x (λ same. false≢true (sym is ∙ eq-eqb m n same))
 
-lanes_set : {Run : Type 0} (xs : List (Option (ChildLanes Run))) (n m : ℕ) (x : Option (ChildLanes Run)) → n < length xs
+pub lanes_set : {Run : Type 0} (xs : List (Option (ChildLanes Run))) (n m : ℕ) (x : Option (ChildLanes Run)) → n < length xs
     → lanes_at (slice_set xs n x) m ≡ cond (m == n) x (lanes_at xs m)
 lanes_set xs n m x lt = lanes_if xs n m x (m == n) lt refl
 

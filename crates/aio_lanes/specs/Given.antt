@@ -46,6 +46,10 @@ pub record GivesTo {Run : Type 0} (at : Pump) (command : Command) (said : Giving
 abbrev pub lanes_at : {Run : Type 0} → List (Option (ChildLanes Run)) → ℕ → Option (ChildLanes Run)
 lanes_at children number = elim (slice_get children number) [ None ↦ None | Some lanes ↦ lanes ]
 
+-- nobody has other lanes
+abbrev pub HaveSameLanes : {Run : Type 0} → (children children_now : List (Option (ChildLanes Run))) → Type 0
+HaveSameLanes children children_now = (n : ℕ) → lanes_at children_now n ≡ lanes_at children n
+
 abbrev pub given_at : {Run : Type 0} → Option (ChildLanes Run) → Pump → List Command
 given_at None at = []
 given_at (Some lanes) at = given_to at lanes

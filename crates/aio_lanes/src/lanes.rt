@@ -1,6 +1,6 @@
 //! The lanes of all children.
-ghost use Rattle.std.specs.Prelude.{◌≡◌, ◌∷◌, ◌++◌, [], Some, None, length, slice_set, OnOk, OnErr};
-ghost use Rattle.aio_lanes.specs.Given.{lanes_at};
+ghost use Rattle.std.specs.Prelude.{◌≡◌, ◌<◌, [], Some, None, length, slice_set, OnOk};
+ghost use Rattle.aio_lanes.specs.Given.{lanes_at, HaveSameLanes};
 
 use crate::child_lanes::ChildLanes;
 use aio_base::Memory;
@@ -36,13 +36,23 @@ impl<Run: Drop> Lanes<Run> {
         }
     }
 
-    /// The lanes and the run of the child with the next number. After want of memory all is as before.
-    pub fn add(&mut self, lanes: ChildLanes<Run>) -> Result<(), Memory>
-        ensures added { OnOk result (self.new ≡ self.old ++ Some lanes ∷ []) }
-        ensures err { OnErr result (self.new ≡ self.old) }
+    /// Makes a place for the lanes of the child with this number. What the others have stays.
+    pub fn place(&mut self, number: u32) -> Result<(), Memory>
+        ensures placed { OnOk result (number < length self.new) }
+        ensures same { HaveSameLanes self.old self.new }
     {
-        self.children.push(Some(lanes))?;
+        while self.children.len() <= number as usize {
+            self.children.push(None)?;
+        }
         Ok(())
+    }
+
+    /// The lanes and the run of the child with this number, which has a place.
+    pub fn put(&mut self, number: u32, lanes: ChildLanes<Run>)
+        requires { number < length self.old }
+        ensures { self.new ≡ slice_set self.old number (Some lanes) }
+    {
+        self.children[number as usize] = Some(lanes);
     }
 
     /// Gives up the lanes of a child, and gives back its run.

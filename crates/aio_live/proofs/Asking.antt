@@ -39,19 +39,19 @@ is_it (Some c) child goes is = ap Some is
 abbrev runs_in : Option Child → Bool
 runs_in o = elim o [ None ↦ false | Some c ↦ runs c.stay ]
 
-runs_there : (n : ℕ) (hub : Hub) (child : Child) → slice_get hub.children n ≡ Some child → runs child.stay ≡ true → is_running n hub ≡ true
+pub runs_there : (n : ℕ) (hub : Hub) (child : Child) → slice_get hub.children n ≡ Some child → runs child.stay ≡ true → is_running n hub ≡ true
 runs_there n hub child at goes = ap runs_in at ∙ goes
 
 module _ {Run : Type 0} (asks : Call) (others : Others) (old new : StateSeen Run) (rests : Rests old new)
     (commands : Commands asks others.lanes old.hub.children (heads_of old) (heads_of new)) where
-  to_lanes : (child : Child) (lane : Pump) → is_running child.number old.hub ≡ true → is_running child.number new.hub ≡ true
+  pub to_lanes : (child : Child) (lane : Pump) → is_running child.number old.hub ≡ true → is_running child.number new.hub ≡ true
       → of_child child (λ (here : Child). here) child.number old.hub.children ≡ child
       → (heads_of new).given child.number lane ≡ (heads_of old).given child.number lane ++ commands_to asks others.lanes child lane
   to_lanes child lane goes goes_on is =
       commands.given child.number child (is_it (slice_get old.hub.children child.number) child goes is) lane
 
   -- those that run, run before
-  ran : (n : ℕ) → is_running n new.hub ≡ true → is_running n old.hub ≡ true
+  pub ran : (n : ℕ) → is_running n new.hub ≡ true → is_running n old.hub ≡ true
   ran n h =
       let at = running_at n new.hub h in
       let kth = kth_of new.hub.children n at.0 at.1 at.2 in
@@ -64,12 +64,12 @@ module _ {Run : Type 0} (asks : Call) (others : Others) (old new : StateSeen Run
   to_begin : (number : ℕ) (lane : Pump) → is_running number old.hub ≡ false → is_running number new.hub ≡ true → (heads_of new).given number lane ≡ []
   to_begin number lane none goes = absurd (false≢true (sym none ∙ ran number goes))
 
-  to_full : (number : ℕ) (offer : Offer) → is_running number old.hub ≡ true → is_running number new.hub ≡ true → others.lanes number offer ≡ Full
+  pub to_full : (number : ℕ) (offer : Offer) → is_running number old.hub ≡ true → is_running number new.hub ≡ true → others.lanes number offer ≡ Full
       → (heads_of old).fulls number (lane_of offer) < (heads_of new).fulls number (lane_of offer)
   to_full number offer goes goes_on is =
       let at = running_at number old.hub goes in (commands.each number at.0 at.1 at.2 offer).full is
 
-  to_spent : (number : ℕ) (offer : Offer) → is_running number old.hub ≡ true → is_running number new.hub ≡ true → others.lanes number offer ≡ Spent
+  pub to_spent : (number : ℕ) (offer : Offer) → is_running number old.hub ≡ true → is_running number new.hub ≡ true → others.lanes number offer ≡ Spent
       → length ((heads_of new).given number (lane_of offer)) ≡ 2 ^ 61
   to_spent number offer goes goes_on is =
       let at = running_at number old.hub goes in

@@ -1,3 +1,6 @@
 pub mod Keeping
 pub mod Asking
 pub mod Alone
+pub mod AllFree
+pub mod Admitted
+pub mod Launched

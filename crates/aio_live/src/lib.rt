@@ -2,6 +2,10 @@
 #![tactic(auto)]
 
 mod calls;
+mod launching;
+mod making;
+mod memory;
+mod opening;
 mod pumped;
 mod state;
 

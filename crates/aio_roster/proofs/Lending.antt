@@ -1,6 +1,6 @@
 -- A child is launched, and its seats are lent to it; or it runs no longer.
-use Rattle.std.proofs.Common.{◌≡◌, ℕ, zero, suc, ◌<◌, ◌==◌, Bool, true, false, cond, List, [], ◌∷◌, ◌++◌, Option}
-use Rattle.std.proofs.Common.{Some, None, length, refl, sym, ap, ◌∙◌, subst, arith}
+use Rattle.std.proofs.Common.{◌≡◌, ℕ, zero, suc, ◌-◌, ◌^◌, ◌<◌, ◌==◌, Bool, true, false, cond, List, [], ◌∷◌, ◌++◌, Option}
+use Rattle.std.proofs.Common.{Some, None, length, refl, sym, ap, ◌∙◌, subst, arith, length-append}
 use Rattle.std.specs.Prelude.{is_some, slice_get, slice_set}
 use Rattle.std.specs.List.{remove}
 use Rattle.std.proofs.lemmas.Bool.{eqb-true, false≢true}
@@ -128,7 +128,8 @@ module _ (number : ℕ) (seats : Seats) (holders : List (Option ℕ)) where
 
 -- ---- a child is launched
 module _ (children : List Child) (holders : List (Option ℕ)) (running : List ℕ) (noted : ℕ)
-    (roster : IsRoster children holders running noted) (seats : Seats) (lent : MayBeLent children seats) where
+    (roster : IsRoster children holders running noted) (seats : Seats) (lent : MayBeLent children seats)
+    (less : length children < 2 ^ 32 - 1) where
   abbrev added : Child
   added = new_child (length children) seats
 
@@ -160,6 +161,7 @@ module _ (children : List Child) (holders : List (Option ℕ)) (running : List �
   added_one =
       record {
         sized = lent_size (length children) seats holders ∙ roster.sized;
+        few = omega (arith, less, length-append children (added ∷ []));
         numbered = snoc_case (λ n c. c.number ≡ n) children added roster.numbered refl;
         held = λ n seat child at has.
             snoc_case (λ m c. is_some (pump_of seat c) ≡ true → slice_get (lend_to (length children) seats holders) seat ≡ Some (Some m))

@@ -165,8 +165,9 @@ module _ (children : List Child) (holders : List (Option ℕ)) (running : List �
   child_at child is_child = got children number child is_child within_all
 
   -- it is the child with the k-th of the numbers of those that run
-  pub kth : (child : Child) → child ≡ get_or children number child → IsKth k (record { children = children; noted = noted }) child
-  kth child is_child =
+  pub kth : (room : Bool) (child : Child) → child ≡ get_or children number child
+      → IsKth k (record { children = children; noted = noted; room = room }) child
+  kth room child is_child =
       let at = child_at child is_child in
       let there = stands children k number roster.numbered named_by in
       let same = roster.numbered number child at in

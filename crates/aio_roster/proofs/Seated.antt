@@ -4,6 +4,7 @@ use Rattle.std.proofs.Common.{Some, None, map, refl, sym, ap, ◌∙◌, append-
 use Rattle.std.specs.Prelude.{is_some, slice_get, slice_set, ◌⊎◌}
 use Rattle.std.specs.List.{filter}
 use Rattle.std.proofs.lemmas.Bool.{false≢true}
+use Rattle.std.proofs.lemmas.List.{length-set}
 use Rattle.model_pump.specs.Posts.{Post}
 use Rattle.model_hub.specs.declared.child.Child.{Child}
 use Rattle.model_hub.specs.declared.pump.Pump.{Pump}
@@ -51,12 +52,13 @@ module _ (children : List Child) (holders : List (Option ℕ)) (running : List �
     named : slice_get holders seat ≡ Some (Some number)
     named = named_is (slice_get holders seat) number is
 
-    pub holds : (o : Option Holder) → HeldBy seat children number o → HoldsSeat seat (record { children = children; noted = noted }) o
-    holds None none =
+    pub holds : (room : Bool) (o : Option Holder) → HeldBy seat children number o
+        → HoldsSeat seat (record { children = children; noted = noted; room = room }) o
+    holds room None none =
         free (λ n child held at.
         let same = some_is n number (some_is (Some n) (Some number) (sym held ∙ named)) in
         none child (ap (slice_get children) (sym same) ∙ at))
-    holds (Some holder) held =
+    holds room (Some holder) held =
         let at = ap (slice_get children) held.0 ∙ held.1 in
         record {
           at = at;
@@ -167,6 +169,7 @@ module _ (children : List Child) (holders : List (Option ℕ)) (running : List �
   one_more_noted =
       record {
         sized = roster.sized;
+        few = roster.few;
         numbered = roster.numbered;
         held = roster.held;
         short = λ n child at. shorter child (roster.short n child at);
@@ -205,6 +208,7 @@ module _ (children : List Child) (holders : List (Option ℕ)) (running : List �
     put_at =
         record {
           sized = roster.sized;
+          few = omega (arith, length-set children number new, roster.few);
           numbered = λ n child is. numbered_now n child (get_set children number n new child is);
           held = λ n seat child is has. held_now n seat child has (get_set children number n new child is);
           short = λ n child is. short_now n child (get_set children number n new child is);

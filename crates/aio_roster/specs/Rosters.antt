@@ -1,5 +1,7 @@
 -- What a roster is.
-use Rattle.std.specs.Prelude.{◌≡◌, ℕ, ◌≤◌, true, List, Option, Some, None, is_some, length, slice_get, map}
+use Rattle.std.specs.Prelude.{◌≡◌, ℕ, ◌-◌, ◌^◌, ◌≤◌, Bool, true, ◌&&◌, nat_lt, List, Option, Some, None, is_some, length, slice_get, map}
+use Rattle.std.specs.Vec.{vec_len, vec_capacity}
+use Rattle.std.specs.declared.vec.Vec.{Vec}
 use Rattle.std.specs.List.{filter}
 use Rattle.model_hub.specs.declared.child.Child.{Child}
 use Rattle.model_hub.specs.Children.{pump_of, runs}
@@ -28,6 +30,7 @@ Numbered children = (n : ℕ) (child : Child) → slice_get children n ≡ Some 
 -- posts were noted.
 pub record IsRoster (children : List Child) (holders : List (Option ℕ)) (running : List ℕ) (noted : ℕ) : Type 0 where
   pub sized : length holders ≡ 1024
+  pub few : length children ≤ 2 ^ 32 - 1
   pub numbered : Numbered children
   pub held : (n seat : ℕ) (child : Child) → slice_get children n ≡ Some child → is_some (pump_of seat child) ≡ true
       → slice_get holders seat ≡ Some (Some n)
@@ -35,10 +38,17 @@ pub record IsRoster (children : List Child) (holders : List (Option ℕ)) (runni
   pub modest : (n : ℕ) (child : Child) → slice_get children n ≡ Some child → IsModest child
   pub runs : running ≡ running_of children
 
--- what is seen of a roster
+-- what is seen of a roster; there is room where a child more takes no memory
 pub record RosterSeen : Type 0 where
   pub children : List Child
   pub noted : ℕ
+  pub room : Bool
+
+abbrev pub has_room : {X Z : Type 0} → Vec X Z → Bool
+has_room items = nat_lt (vec_len items) (vec_capacity items)
+
+abbrev pub have_room : {X Y Z : Type 0} → Vec X Z → Vec Y Z → Bool
+have_room children running = has_room children && has_room running
 
 -- nobody has this seat
 abbrev pub IsFree : ℕ → List Child → Type 0

@@ -1,5 +1,5 @@
 //! How the children of a roster change: one is replaced, launched or taken in.
-ghost use Rattle.std.specs.Prelude.{◌≡◌, ◌∷◌, ◌++◌, [], ◌<◌, ◌-◌, ◌^◌, false, length, slice_set, OnOk, OnErr};
+ghost use Rattle.std.specs.Prelude.{◌≡◌, ◌∷◌, ◌++◌, [], ◌<◌, ◌≤◌, ◌-◌, ◌^◌, true, false, length, slice_set, OnOk};
 ghost use Rattle.std.specs.List.{remove};
 ghost use Rattle.model_hub.specs.declared.child.Seats.{Seats};
 ghost use Rattle.model_hub.specs.Children.{new_child, runs};
@@ -51,25 +51,41 @@ impl Roster {
         self.children[child.number as usize] = child;
     }
 
-    /// Adds a child that runs, and lends these seats to it. After want of memory all is as before.
-    pub fn add(&mut self, seats: Seats) -> Result<(), Memory>
-        requires few { length self.old.children < 2 ^ 32 - 1 }
-        requires lent { MayBeLent self.old.children seats }
-        ensures added { OnOk result (self.new.children
-            ≡ self.old.children ++ new_child (length self.old.children) seats ∷ []) }
-        ensures err { OnErr result (self.new.children ≡ self.old.children) }
-        ensures lent { OnOk result ((other : Seats) → AreApart other seats → MayBeLent
-            self.old.children other
-            → MayBeLent self.new.children other) }
+    /// How many children were launched.
+    pub fn count(&self) -> usize
+        ensures count { result ≡ length self.now.children }
+        ensures few { result ≤ 2 ^ 32 - 1 }
+    {
+        self.children.len()
+    }
+
+    /// Makes room for a child more.
+    pub fn reserve(&mut self) -> Result<(), Memory>
+        ensures room { OnOk result (self.new.room ≡ true) }
+        ensures children { self.new.children ≡ self.old.children }
         ensures noted { self.new.noted ≡ self.old.noted }
     {
         self.children.reserve(1)?;
         self.running.reserve(1)?;
+        Ok(())
+    }
+
+    /// Adds a child that runs, and lends these seats to it. Room was made for it.
+    pub fn admit(&mut self, seats: Seats)
+        requires room { self.old.room ≡ true }
+        requires few { length self.old.children < 2 ^ 32 - 1 }
+        requires lent { MayBeLent self.old.children seats }
+        ensures added { self.new.children
+            ≡ self.old.children ++ new_child (length self.old.children) seats ∷ [] }
+        ensures lent { (other : Seats) → AreApart other seats → MayBeLent self.old.children other
+            → MayBeLent self.new.children other }
+        ensures numbered_now { Numbered self.new.children }
+        ensures noted { self.new.noted ≡ self.old.noted }
+    {
         let number = self.children.len() as u32;
         self.running.push_reserved(number);
         self.children.push_reserved(new_child(number, seats));
         lend(&mut self.holders, number, &seats);
-        Ok(())
     }
 
     /// The child with the k-th of the numbers of those that run does so no longer, but holds its seats

@@ -1,5 +1,5 @@
 //! The children by number.
-ghost use Rattle.std.specs.Prelude.{◌≡◌, [], IfOk, ◌<◌, ◌+◌, ◌-◌, ◌^◌, nat_lt, map};
+ghost use Rattle.std.specs.Prelude.{◌≡◌, [], IfOk, ◌<◌, ◌+◌, ◌-◌, ◌^◌, false, nat_lt, map};
 ghost use Rattle.model_hub.specs.Posts.{note, told_of};
 ghost use Rattle.model_hub.specs.Hub.{waiting_of, is_broken};
 ghost use Rattle.model_hub.specs.Gathering.{most_waiting, halt_at};
@@ -31,7 +31,7 @@ pub struct Holder {
 }
 
 /// The children that a hub launched, by number, with the seats that are lent to them. Contracts see the
-/// children, and how many posts were noted.
+/// children, how many posts were noted, and whether there is room for a child more.
 #[derive(Drop)]
 pub struct Roster {
     pub(crate) children: Vec<Child>,
@@ -41,11 +41,15 @@ pub struct Roster {
 }
 
 impl Model for Roster {
-    ghost use Rattle.aio_roster.specs.Rosters.{IsRoster, RosterSeen};
+    ghost use Rattle.aio_roster.specs.Rosters.{IsRoster, RosterSeen, have_room};
 
     ghost Value = { RosterSeen };
 
-    ghost view = { λ roster. record { children = roster.children.items; noted = roster.noted } };
+    ghost view = { λ roster. record {
+      children = roster.children.items;
+      noted = roster.noted;
+      room = have_room roster.children roster.running;
+    } };
 
     ghost invariant = { λ roster. IsRoster roster.children.items roster.holders.items roster.running.items roster.noted };
 }
@@ -53,7 +57,8 @@ impl Model for Roster {
 impl Roster {
     /// No child, over the 1,024 seats of an inbox.
     pub fn new(alloc: Global) -> Result<Roster, Memory>
-        ensures { IfOk result (λ roster. roster ≡ record { children = []; noted = 0 }) }
+        ensures { IfOk result (λ roster. roster
+            ≡ record { children = []; noted = 0; room = false }) }
     {
         let holders = vec![in alloc; None; SEATS]?;
         Ok(Roster {

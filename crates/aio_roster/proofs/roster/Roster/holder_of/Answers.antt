@@ -1,5 +1,6 @@
 use Rattle.std.proofs.Common.{List, sym, ap, ◌∙◌, subst}
 use Rattle.model_hub.specs.declared.child.Child.{Child}
+use Rattle.aio_roster.specs.Rosters.{have_room}
 use Rattle.aio_roster.specs.Holders.{HeldBy, named_in}
 use Rattle.aio_roster.proofs.Seated.{unnamed, holds}
 use Rattle.aio_roster.proofs.roster.Roster.holder_of.Goals as goal
@@ -17,4 +18,4 @@ returns-in-Some c =
     let held = subst (λ (cs : List Child). HeldBy c.args.seat cs c.in-Some.number c.held_by.result) c.as_slice-in-Some.ensures.value c.held_by.ensures in
     rw (sym c.self.view_is)
     (holds inside.children.items inside.holders.items inside.running.items inside.noted c.self.invariant
-    c.args.seat c.in-Some.number some c.held_by.result held)
+    c.args.seat c.in-Some.number some (have_room inside.children inside.running) c.held_by.result held)

@@ -1,4 +1,4 @@
-use Rattle.std.proofs.Common.{◌<◌, length, sym, subst, arith}
+use Rattle.std.proofs.Common.{◌<◌, false, length, sym, subst, arith}
 use Rattle.std.proofs.lemmas.Grind.{common_steps}
 use Rattle.aio_roster.specs.Rosters.{RosterSeen, running_of}
 use Rattle.aio_roster.proofs.Running.{within_all, named_by, child_at, kth}
@@ -34,7 +34,7 @@ invariant_of-self c =
     let at = child_at inside.children.items inside.holders.items inside.running.items inside.noted c.self.invariant c.args.k
     c.remove-number.result c.remove-number.ensures.value few c.index-child.result.now c.index-child.ensures in
     let it = kth inside.children.items inside.holders.items inside.running.items inside.noted c.self.invariant c.args.k
-    c.remove-number.result c.remove-number.ensures.value few c.index-child.result.now c.index-child.ensures in
+    c.remove-number.result c.remove-number.ensures.value few false c.index-child.result.now c.index-child.ensures in
     rw (c.remove-number.ensures.items)
     (left_one inside.children.items inside.holders.items inside.running.items inside.noted c.self.invariant c.args.k
     c.remove-number.result c.index-child.result.now c.args.stay named at it.goes c.requires.over)
@@ -49,7 +49,7 @@ returns-clause-left c =
     let at = child_at inside.children.items inside.holders.items inside.running.items inside.noted c.self.invariant c.args.k
     c.remove-number.result c.remove-number.ensures.value few c.index-child.result.now c.index-child.ensures in
     let it = kth inside.children.items inside.holders.items inside.running.items inside.noted c.self.invariant c.args.k
-    c.remove-number.result c.remove-number.ensures.value few c.index-child.result.now c.index-child.ensures in
+    c.remove-number.result c.remove-number.ensures.value few false c.index-child.result.now c.index-child.ensures in
     rw (sym c.self.view_is)
     (leaves inside.children.items inside.holders.items inside.running.items inside.noted c.self.invariant c.args.k
     c.remove-number.result c.index-child.result.now c.args.stay named at it.goes c.requires.over)
@@ -64,7 +64,7 @@ returns-clause-lent c =
     let at = child_at inside.children.items inside.holders.items inside.running.items inside.noted c.self.invariant c.args.k
     c.remove-number.result c.remove-number.ensures.value few c.index-child.result.now c.index-child.ensures in
     let it = kth inside.children.items inside.holders.items inside.running.items inside.noted c.self.invariant c.args.k
-    c.remove-number.result c.remove-number.ensures.value few c.index-child.result.now c.index-child.ensures in
+    c.remove-number.result c.remove-number.ensures.value few false c.index-child.result.now c.index-child.ensures in
     rw (sym c.self.view_is)
     (set_lent inside.children.items c.remove-number.result c.index-child.result.now (record c.index-child.result.now { stay = c.args.stay }) at
     (λ seat has. has_before c.index-child.result.now c.args.stay seat it.goes has))
@@ -79,7 +79,7 @@ returns-clause-back c =
     let at = child_at inside.children.items inside.holders.items inside.running.items inside.noted c.self.invariant c.args.k
     c.remove-number.result c.remove-number.ensures.value few c.index-child.result.now c.index-child.ensures in
     let it = kth inside.children.items inside.holders.items inside.running.items inside.noted c.self.invariant c.args.k
-    c.remove-number.result c.remove-number.ensures.value few c.index-child.result.now c.index-child.ensures in
+    c.remove-number.result c.remove-number.ensures.value few false c.index-child.result.now c.index-child.ensures in
     rw (sym c.self.view_is)
     (gives_back inside.children.items inside.holders.items inside.running.items inside.noted c.self.invariant c.args.k
     c.remove-number.result c.index-child.result.now c.args.stay named at it.goes)

@@ -1,6 +1,6 @@
 use Rattle.std.proofs.Common.{◌<◌, length, ap, sym, subst, arith}
 use Rattle.std.proofs.lemmas.Grind.{common_steps}
-use Rattle.aio_roster.specs.Rosters.{RosterSeen, running_of}
+use Rattle.aio_roster.specs.Rosters.{RosterSeen, running_of, have_room}
 use Rattle.aio_roster.proofs.Running.{within_all, kth}
 use Rattle.aio_roster.proofs.roster.Roster.running_child.Goals as goal
 
@@ -25,4 +25,4 @@ returns c =
     subst (λ (r : RosterSeen). c.args.k < length (running_of r.children)) (sym c.self.view_is) c.requires in
     rw (sym c.self.view_is)
     (kth inside.children.items inside.holders.items inside.running.items inside.noted c.self.invariant c.args.k
-    c.index-number.result.now c.index-number.ensures few c.index-child.result.now c.index-child.ensures)
+    c.index-number.result.now c.index-number.ensures few (have_room inside.children inside.running) c.index-child.result.now c.index-child.ensures)

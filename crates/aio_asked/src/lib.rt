@@ -1,0 +1,8 @@
+//! A hub: what it keeps from call to call, over what polls sockets and what starts children.
+#![tactic(auto)]
+
+mod asking;
+mod calls;
+mod hub;
+
+pub use hub::Hub;

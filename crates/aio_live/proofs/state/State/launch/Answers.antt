@@ -1,0 +1,8 @@
+use Rattle.aio_live.proofs.Launched.{launch_all}
+use Rattle.aio_live.proofs.state.State.launch.Goals as goal
+
+pub returns-clause-asks : goal.returns-clause-asks
+returns-clause-asks g c =
+    launch_all c.args.words.now c.launch_next.result c.args.self.now c.serve.new.self c.launch_next.new.self
+    (g.L.Launcher.seen c.args.launcher.now) (g.L.Launcher.seen c.launch_next.new.launcher) c.serve.ensures c.launch_next.ensures.launches
+    c.launch_next.ensures.told
