@@ -55,6 +55,7 @@ impl<N: InboxName, R: Wait, P: Poller, L: Launcher<Inbox<N>, Poster<N>>> Hub<N, 
             IfOk result (λ answer. AsksOn (call.Launch words.now) old new (Got answer)) }
         ensures err { OnErr result (self.new.state.hub.starved ≡ true) }
     {
-        self.state.launch(&self.rt, alloc, &mut self.launcher, words)
+        self.state
+            .launch(&self.rt, alloc, &mut self.launcher, words)
     }
 }

@@ -10,7 +10,7 @@ use crate::plan::CallPlan;
 use crate::play::play_all;
 use aio_base::Memory;
 use aio_inbox::{Inbox, InboxName, Poster};
-use aio_wire::{copy_of_words, WordList};
+use aio_wire::{WordList, copy_of_words};
 use std::alloc::Global;
 use std::collections::VecDeque;
 use std::marker::Model;

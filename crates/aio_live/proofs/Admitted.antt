@@ -67,7 +67,7 @@ module _ {Run : Type 0} (children : List Child) (free rest : List Seats) (lanes 
     module _ (number : ℕ) (heads : Heads) (run : Run) (last : number ≡ length children) (new : AreNew heads)
         (placed : number < length lanes_now)
         (lends : (other : Seats) → AreApart other seats → MayBeLent children other
-            → MayBeLent (children ++ new_child number seats ∷ []) other)
+        → MayBeLent (children ++ new_child number seats ∷ []) other)
         (numbered : Numbered (children ++ new_child number seats ∷ [])) where
       abbrev child : Child
       child = new_child number seats

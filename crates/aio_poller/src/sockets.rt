@@ -101,7 +101,10 @@ impl<R: Net + Clock> Sockets<R> {
             }
         }
         self.let_others_rest()?;
-        match self.poll.poll(&mut self.events, wait.map(Duration::from_millis)) {
+        match self
+            .poll
+            .poll(&mut self.events, wait.map(Duration::from_millis))
+        {
             Ok(()) => self.note_events(),
             Err(error) if error.kind() == ErrorKind::Interrupted => {}
             Err(error) => return Err(error),

@@ -10,6 +10,7 @@ use std::time::Clock;
 
 /// The ports that are tried, from the first, until one is free.
 const FIRST_PORT: u16 = 28_411;
+
 const PORTS: u16 = 200;
 
 /// A poll that waits for an item asks so often.
