@@ -1,10 +1,9 @@
 //! What wakes the poller from another thread.
 ghost use Rattle.std.specs.Prelude.{None};
 
-use aio_base::Memory;
 use aio_pump::Bell;
 use mio::Waker;
-use std::alloc::Global;
+use std::alloc::{AllocError, Global};
 use std::sync::Arc;
 
 /// A bell of the poller that it was made of. It tells nothing of its rings, and no clause says that anybody is woken.
@@ -20,7 +19,7 @@ impl PollerBell {
     }
 
     /// Another bell of the same poller, for another thread.
-    pub fn again(&self) -> Result<PollerBell, Memory> {
+    pub fn again(&self) -> Result<PollerBell, AllocError> {
         Ok(PollerBell {
             waker: Arc::try_clone(&self.waker)?,
         })

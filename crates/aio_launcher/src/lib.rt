@@ -1,0 +1,15 @@
+//! The programs of the system: children with their pipes and their exits, each with four pumps on threads of their own.
+#![tactic(auto)]
+
+mod exit;
+mod launcher;
+mod pipes;
+mod process;
+mod pumps;
+mod slot;
+mod starter;
+
+pub use exit::ChildExit;
+pub use launcher::{RealLauncher, Run};
+pub use pipes::{PipeSink, PipeSource};
+pub use process::Process;

@@ -1,0 +1,128 @@
+//! A child's pipes, each with a count of the system's failures.
+ghost use Rattle.std.specs.Prelude.{◌≤◌, ◌<◌, length, vec_len, IfOk};
+ghost use Rattle.std.specs.Io.{ReadsAtMost, WritesAtMost};
+ghost use Rattle.aio_wire.specs.Got.{FitsRead, ReadLeaves};
+ghost use Rattle.aio_wire.specs.Took.{FitsWrite, WriteLeaves};
+ghost use Rattle.aio_launcher.specs.Counts.{untold, untaken};
+
+use aio_base::{Blob, Memory};
+use aio_wire::{Sink, SinkTook, Source, SourceGot};
+use std::alloc::Global;
+use std::io;
+use std::io::{ErrorKind, Read, Write};
+
+/// A pipe that a child writes. It tells nothing of what comes.
+/// Source: `unix_events.py`, `_UnixReadPipeTransport`.
+#[derive(Drop)]
+pub struct PipeSource<P> {
+    pipe: P,
+    faults: u64,
+}
+
+impl<P> PipeSource<P> {
+    pub fn make(pipe: P) -> PipeSource<P> {
+        PipeSource { pipe, faults: 0 }
+    }
+
+    // What is answered where the system read so: an error is a failure, and no bytes are the end.
+    fn got(&mut self, read: io::Result<usize>, mut piece: Vec<u8>) -> SourceGot
+        requires { ReadsAtMost read piece.items }
+        ensures size { FitsRead (vec_len piece) result }
+        ensures left { ReadLeaves (untold self.old.faults) (untold self.new.faults) result }
+        ensures later { self.old.faults ≤ self.new.faults }
+    {
+        match read {
+            Ok(0) => SourceGot::End,
+            Ok(count) => {
+                piece.truncate(count);
+                SourceGot::Bytes(Blob::of(piece))
+            }
+            Err(_) => {
+                self.faults = self.faults.saturating_add(1);
+                SourceGot::Failed
+            }
+        }
+    }
+}
+
+impl<P: Read> Source for PipeSource<P> {
+    ghost seen = { λ source. untold source.faults };
+
+    fn read(&mut self, alloc: Global, max: usize) -> Result<SourceGot, Memory> {
+        let mut piece = vec![in alloc; 0u8; max]?;
+        let read = read_some(&mut self.pipe, piece.as_mut_slice());
+        Ok(self.got(read, piece))
+    }
+}
+
+/// Reads once, and again where the read was interrupted.
+fn read_some<P: Read>(pipe: &mut P, piece: &mut [u8]) -> io::Result<usize>
+    ensures bound { ReadsAtMost result piece.new }
+{
+    for _ in 0..u64::MAX {
+        match pipe.read(piece) {
+            Err(error) if error.kind() == ErrorKind::Interrupted => {}
+            read => return read,
+        }
+    }
+    Err(io::Error::from(ErrorKind::Interrupted))
+}
+
+/// A pipe that a child reads. It tells nothing of what it took. A child that has gone takes nothing: that is a failure, and
+/// raises no signal.
+/// Source: `unix_events.py`, `_UnixWritePipeTransport`.
+#[derive(Drop)]
+pub struct PipeSink<P> {
+    pipe: P,
+    faults: u64,
+}
+
+impl<P> PipeSink<P> {
+    pub fn make(pipe: P) -> PipeSink<P> {
+        PipeSink { pipe, faults: 0 }
+    }
+
+    // What is answered where the system wrote so: an error is a failure.
+    fn took(&mut self, wrote: io::Result<usize>, piece: &[u8]) -> SinkTook
+        requires bound { WritesAtMost wrote piece.now }
+        requires some { IfOk wrote (λ count. 0 < length piece.now → 0 < count) }
+        ensures size { FitsWrite piece.now result }
+        ensures took { WriteLeaves piece.now (untaken self.old.faults) (untaken self.new.faults)
+            result }
+    {
+        match wrote {
+            Ok(count) => SinkTook::Took(count),
+            Err(_) => {
+                self.faults = self.faults.saturating_add(1);
+                SinkTook::Failed
+            }
+        }
+    }
+}
+
+impl<P: Write> Sink for PipeSink<P> {
+    ghost seen = { λ sink. untaken sink.faults };
+
+    fn write(&mut self, _alloc: Global, piece: &[u8]) -> Result<SinkTook, Memory> {
+        let wrote = write_some(&mut self.pipe, piece);
+        Ok(self.took(wrote, piece))
+    }
+}
+
+/// Writes once, and again where the write was interrupted.
+fn write_some<P: Write>(pipe: &mut P, piece: &[u8]) -> io::Result<usize>
+    ensures bound { WritesAtMost result piece.now }
+    ensures some { IfOk result (λ count. 0 < length piece.now → 0 < count) }
+{
+    if piece.is_empty() {
+        return Ok(0);
+    }
+    for _ in 0..u64::MAX {
+        match pipe.write(piece) {
+            Ok(0) => return Err(io::Error::from(ErrorKind::WriteZero)),
+            Err(error) if error.kind() == ErrorKind::Interrupted => {}
+            written => return written,
+        }
+    }
+    Err(io::Error::from(ErrorKind::Interrupted))
+}

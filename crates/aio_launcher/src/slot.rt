@@ -1,0 +1,48 @@
+//! A place for one value, which one thread puts and another takes.
+use std::sync::{Condvar, Mutex, Wait};
+
+/// Holds at most one value. It takes no memory.
+#[derive(Drop)]
+pub struct Slot<T> {
+    item: Mutex<Option<T>>,
+    came: Condvar,
+    left: Condvar,
+}
+
+impl<T: Drop> Slot<T> {
+    pub fn new() -> Slot<T> {
+        Slot {
+            item: Mutex::new(None),
+            came: Condvar::new(),
+            left: Condvar::new(),
+        }
+    }
+
+    /// Puts a value. It waits until the one before was taken.
+    pub fn put<R: Wait>(&self, rt: &R, value: T) {
+        let mut item = self.item.lock(rt);
+        for _ in rt.forever() {
+            if item.is_none() {
+                break;
+            }
+            item = self.left.wait(rt, item);
+        }
+        *item = Some(value);
+        drop(item);
+        self.came.notify_one();
+    }
+
+    /// Takes the value. It waits until one is there.
+    pub fn next<R: Wait>(&self, rt: &R) -> T {
+        let mut item = self.item.lock(rt);
+        for _ in rt.forever() {
+            if let Some(value) = item.take() {
+                drop(item);
+                self.left.notify_one();
+                return value;
+            }
+            item = self.came.wait(rt, item);
+        }
+        unreachable!()
+    }
+}
