@@ -19,8 +19,9 @@ use Rattle.model_loop.specs.Ways.{is_running}
 use Rattle.model_machine.specs.Arguments.{as_awaited}
 use Rattle.model_machine.specs.Extra.{Extra}
 use Rattle.model_machine.specs.Sound.{AreScriptsFutures, IsStateSound, StandsRightly, blocks_of, names_block, names_made, sends_made, stands_at}
-use Rattle.model_machine.specs.Sound.{IsLeft}
-use Rattle.model_machine.specs.State.{Standing, Asked, Leaving, Generator, State, generator, generator_of, resumed, stands}
+use Rattle.model_machine.specs.Sound.{IsLeft, IsOpenedAt}
+use Rattle.model_stream.specs.Streams.{Streams}
+use Rattle.model_machine.specs.State.{Standing, Asked, Leaving, Generator, State, generator, generator_of, resumed, stands, with_streams}
 use Rattle.model_machine.specs.Step.{says_of}
 use Rattle.law_turns.specs.Replied.{RunsSound, HasPlainFutures}
 use Rattle.law_turns.specs.SoundState.{HasSoundLoop}
@@ -33,6 +34,7 @@ use Rattle.law_inside.proofs.Given.{Made, said_made, made_task, asked_sleeps, as
 use Rattle.law_inside.proofs.Keeping.{IsApart, apart_of, open_of, with_open, joined, says_same, tapes_blocks, loop_keeps, stays_stood, leaves_none}
 use Rattle.law_inside.proofs.Keeping.{resumed_blocks, resumed_others, resumed_standing, resumed_begun, answer_keeps, stood_standing, stood_tape, stood_says}
 use Rattle.law_inside.proofs.Keeping.{stood_blocks, stands_keeps}
+use Rattle.law_inside.proofs.Replacing.{Replaces, over_replaced}
 
 -- ---- a future that isn't done is pending
 pub pending_of : {S : Type 0} (s : State S) (on : ℕ) (future : Future) → slice_get s.loop.parts.futures on ≡ Some future
@@ -47,6 +49,7 @@ stands_asked s task e = record {
   sleeping = λ tag h. absurd (asked_sleeps tag (sym e ∙ h));
   leaving = λ id h. absurd (asked_leaves id (sym e ∙ h));
   leaving_now = λ id h. absurd (asked_leaves id (sym e ∙ h));
+  opened = subst (IsOpenedAt s.streams) (sym e) tt;
 }
 
 -- ---- groups that are being left were so before
@@ -156,24 +159,43 @@ module _ {S : Type 0} (added : Extra S) (task : ℕ) (stood : Standing) (asked :
         (λ l. stands_asked t task t_standing)
         (λ id e mine. absurd (still id (is.exits id (left_before s t _ _ (Some task) None None None a id refl refl e) (mine ∙ (a.groups id).parent))))
 
-    -- ---- the step ends, and the task stands at its request
+    -- ---- the step ends, and the task stands at its request, with these streams
+    stood_from : (streams : Streams) (standing : Standing) (begun : Option ℕ)
+        → IsLoopAfter (names_made (next_task s.loop.parts)) false (Some task) None None begun s.loop t.loop
+        → IsApart None (Some task) added (with_streams streams t) → ((generator_of task s).tape ≡ [] → ⊥) → stands_at standing asked ≡ true
+        → StandsRightly (stands standing task (with_streams streams t)) task
+        → ((id : ℕ) → IsLeft t id → task ≡ (group_of t.loop id).parent → standing ≡ Leaving id)
+        → IsStateSound added (stands standing task (with_streams streams t))
+    stood_from streams standing begun a apart begun_ may right left =
+        let v = with_streams streams t in
+        joined added (stands standing task v) task
+        (with_open added None (Some task) (stands standing task v) (stands_keeps added task standing v t_within None apart)
+        (open_kept _ _ (Some task) begun s.loop t.loop (blocks_of s) (blocks_of (stands standing task v)) a
+        (λ other. stood_blocks added task standing v t_within other ∙ t_blocks other) (open_of added (Some task) (Some task) s is.others.blocks)))
+        (λ l. record {
+          asked = asked;
+          says = stood_says added task standing v t_within ∙ t_says;
+          stands = ap (λ st. stands_at st asked) (stood_standing added task standing v t_within) ∙ may;
+        })
+        (λ e. begun_ (sym (stood_tape added task standing v t_within
+        ∙ ap (λ (gs : List Generator). (slice_index_or gs task (generator 0 [])).tape) tapes.generators) ∙ e))
+        (λ l. right)
+        (λ id e m. stood_standing added task standing v t_within ∙ left id e m)
+
     pub rest_stood : (standing : Standing) (begun : Option ℕ)
         → IsLoopAfter (names_made (next_task s.loop.parts)) false (Some task) None None begun s.loop t.loop → HasSoundLoop t
         → ((id : ℕ) → is_running (Some task) (group_of s.loop id).parent ≡ false → is_running begun id ≡ false)
         → ((generator_of task s).tape ≡ [] → ⊥) → stands_at standing asked ≡ true → StandsRightly (stands standing task t) task
         → ((id : ℕ) → IsLeft t id → task ≡ (group_of t.loop id).parent → standing ≡ Leaving id) → IsStateSound added (stands standing task t)
     rest_stood standing begun a sound mine begun_ may right left =
-        joined added (stands standing task t) task
-        (with_open added None (Some task) (stands standing task t)
-        (stands_keeps added task standing t t_within None (rested begun a sound mine))
-        (open_kept _ _ (Some task) begun s.loop t.loop (blocks_of s) (blocks_of (stands standing task t)) a
-        (λ other. stood_blocks added task standing t t_within other ∙ t_blocks other) (open_of added (Some task) (Some task) s is.others.blocks)))
-        (λ l. record {
-          asked = asked;
-          says = stood_says added task standing t t_within ∙ t_says;
-          stands = ap (λ st. stands_at st asked) (stood_standing added task standing t t_within) ∙ may;
-        })
-        (λ e. begun_ (sym (stood_tape added task standing t t_within
-        ∙ ap (λ (gs : List Generator). (slice_index_or gs task (generator 0 [])).tape) tapes.generators) ∙ e))
-        (λ l. right)
-        (λ id e m. stood_standing added task standing t t_within ∙ left id e m)
+        stood_from t.streams standing begun a (rested begun a sound mine) begun_ may right left
+
+    pub rest_replaced : (streams : Streams) → Replaces t streams → (standing : Standing)
+        → IsLoopAfter (names_made (next_task s.loop.parts)) false (Some task) None None None s.loop t.loop → HasSoundLoop t
+        → ((generator_of task s).tape ≡ [] → ⊥) → stands_at standing asked ≡ true
+        → StandsRightly (stands standing task (with_streams streams t)) task
+        → ((id : ℕ) → IsLeft t id → task ≡ (group_of t.loop id).parent → standing ≡ Leaving id)
+        → IsStateSound added (stands standing task (with_streams streams t))
+    rest_replaced streams new standing a sound begun_ may right left =
+        let apart = rested None a sound (λ id f. refl) in
+        stood_from streams standing None a (over_replaced added None (Some task) t streams new apart apart.blocks) begun_ may right left

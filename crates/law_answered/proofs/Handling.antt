@@ -24,9 +24,10 @@ use Rattle.law_inside.specs.InStep.{LeavesStateSound, SameTapes}
 use Rattle.law_inside.proofs.Blocks.{open_kept}
 use Rattle.law_inside.proofs.Counts.{count_unbegun, lives_before}
 use Rattle.law_inside.proofs.Given.{spawn_keeps, spawned_blocks}
-use Rattle.law_inside.proofs.Keeping.{apart_of, futures_kept, open_of, streams_replaced, with_open}
+use Rattle.law_inside.proofs.Keeping.{apart_of, futures_kept, open_of, with_open}
+use Rattle.law_inside.proofs.Replacing.{streams_replaced}
 use Rattle.law_inside.proofs.Nobody.{nobody, over_as}
-use Rattle.law_answered.proofs.Streaming.{end_loop, end_tapes}
+use Rattle.law_answered.proofs.Streaming.{end_loop, end_replaces, end_tapes}
 
 -- ---- a new task's first step is pending
 pub spawned_step : (p : Parts) → 0 < pending_where (is_step (next_task p)) (spawn p).pending
@@ -76,14 +77,15 @@ module _ {S : Type 0} (added : Extra S) (s : State S) (sound : IsStateSound adde
     handler_sound loop =
         with_open added None None (with_coroutine coroutine (Conn conn ∷ []) t)
         (spawn_keeps added None coroutine (Conn conn ∷ []) s t tapes a more (apart_of added None None s sound) loop
-        (count_unbegun made (next_task s.loop.parts) begun) over refl (futures_kept s t refl (λ id h. a.parts.plain id h) sound.futures))
+        (count_unbegun made (next_task s.loop.parts) begun) over refl (futures_kept s t refl refl (λ id h. a.parts.plain id h) sound.futures))
         (open_kept _ _ None None s.loop t.loop (blocks_of s) (blocks_of (with_coroutine coroutine (Conn conn ∷ []) t)) a
         (spawned_blocks added None coroutine (Conn conn ∷ []) s t tapes a more (apart_of added None None s sound)) (open_of added None None s sound.blocks))
 
   pub goes_in : (it : Went S) → StreamGoes s it → LeavesStateSound added it
   goes_in it stays_so = sound
   goes_in it (goes_so t streams end) =
-      streams_replaced added None None t streams end.kept
+      streams_replaced added None None t streams
+      (end_replaces s t t streams end sound.streams sound.kept_once sound.futures end.ended.futures end.ended.streams (λ future h. h))
       (nobody added s sound t (end_tapes None s t end.ended) end.ended.futures
       (λ done. over_as added s sound t.loop (end_loop None s t end.ended) (sym end.ended.main_done ∙ done)) (end_loop None s t end.ended)
       (end_sound None s t end.ended sound.loop))

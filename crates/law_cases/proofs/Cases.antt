@@ -1,6 +1,6 @@
 -- What a request comes to is one of the cases.
-use Rattle.std.proofs.Common.{◌≡◌, ℕ, ◌<◌, zero, suc, ℤ, pos, negsuc, refl, Bool, true, false, List, Option, Some, None, length, nat_lt, is_some, subst, sym}
-use Rattle.std.proofs.lemmas.Bool.{ltb-true}
+use Rattle.std.proofs.Common.{◌≡◌, ℕ, ◌<◌, zero, suc, ℤ, pos, negsuc, refl, Bool, true, false, List, Option, Some, None, length, nat_lt, is_some, sym}
+use Rattle.std.proofs.lemmas.Bool.{false≢true, ltb-true}
 use Rattle.model_value.specs.declared.outcome.Outcome.TheVariants.{Value as Returned, Failed}
 use Rattle.model_value.specs.declared.request.Request.TheVariants as request
 use Rattle.model_value.specs.Request.{Request}
@@ -19,11 +19,7 @@ use Rattle.model_machine.specs.Replies.{settles_if, settles, requests, counted, 
 use Rattle.model_machine.specs.Replies.{enters_group}
 use Rattle.model_machine.specs.Replies.{awaits as awaits_it, exits_group, creates_unless, creates, serves, woken, reply}
 use Rattle.model_machine.specs.State.{State, in_loop, unbooked_in}
-use Rattle.model_machine.specs.Arguments.{as_conn, as_child, as_writer, as_reader, as_closable, as_words}
-use Rattle.model_machine.specs.Sound.{IsClosed}
-use Rattle.model_stream.specs.Streams.{may_connect, may_launch, may_listen}
 use Rattle.law_cases.specs.Closed.{is_to_streams}
-use Rattle.law_cases.proofs.Closed.{no_child, no_closable, no_conn, no_connect, no_launch, no_listen, no_reader, no_writer}
 use Rattle.law_cases.specs.Cases.{Replies, raises, leaves_none, exits_none, tells, names_itself, hands_on, pauses_on, alarms, awaits, prints, makes, sets}
 use Rattle.law_cases.specs.Cases.{fails, cancels, uncancels, spawns_it, enters, is_exit, is_of_block}
 use Rattle.law_cases.specs.Cases.{leaves, moves, enters_one, exits, creates_it, serves_it}
@@ -44,14 +40,6 @@ module _ {S : Type 0} (added : Extra S) (task : ℕ) (s : State S) where
         → Is (given o next s)
     given_is f None next each = raises _ f
     given_is f (Some a) next each = each a refl
-
-    -- an argument of a kind of which none is open
-    none_is : {A : Type 0} → is_exit asked ≡ false → (o : Option A) (next : A → State S → RequestReply S) → o ≡ None → Is (given o next s)
-    none_is f o next none = subst (λ a. Is (given a next s)) (sym none) (raises _ f)
-
-    -- and where none can be opened
-    full_is : is_exit asked ≡ false → (b : Bool) (next : State S → RequestReply S) → b ≡ false → Is (numbered_if b next s)
-    full_is f b next full = subst (λ a. Is (numbered_if a next s)) (sym full) (raises _ f)
 
     result_is : is_of_block asked ≡ false → is_exit asked ≡ false → (on : ℕ) → Is (result_of (ended s on) s)
     result_is b f on = at (ended s on) refl
@@ -114,77 +102,54 @@ module _ {S : Type 0} (added : Extra S) (task : ℕ) (s : State S) where
       at (Some cause) e = raises _ refl
       at None e = creates_it group id coroutine arguments few e
 
-  pub reply_is : (asked : Request) → (is_to_streams asked ≡ true → IsClosed s) → Replies added task s asked (reply added task asked s)
+  pub reply_is : (asked : Request) → is_to_streams asked ≡ false → Replies added task s asked (reply added task asked s)
   unfolding reply
-  reply_is request.Pause closed = pauses_on refl refl
-  reply_is (request.Await x) closed = given_is (request.Await x) refl (as_awaited s x) (awaits_it task) (awaits_is x)
-  reply_is (request.Print values) closed = prints values
-  reply_is request.MakeFuture closed = numbered_is request.MakeFuture refl (length s.futures) makes_future makes
-  reply_is (request.Set future value) closed =
+  reply_is request.Pause other = pauses_on refl refl
+  reply_is (request.Await x) other = given_is (request.Await x) refl (as_awaited s x) (awaits_it task) (awaits_is x)
+  reply_is (request.Print values) other = prints values
+  reply_is request.MakeFuture other = numbered_is request.MakeFuture refl (length s.futures) makes_future makes
+  reply_is (request.Set future value) other =
       let q = request.Set future value in
       given_is q refl (as_future s future) (λ on. settles on (Returned value))
       (λ on e. settled_is q refl on (Returned value) (sets future value on e))
-  reply_is (request.Fail future fault) closed =
+  reply_is (request.Fail future fault) other =
       let q = request.Fail future fault in
       given_is q refl (as_future s future) (λ on. given (as_failure fault) (λ it. settles on (Failed it)))
       (λ on e. given_is q refl (as_failure fault) (λ it. settles on (Failed it)) (λ it f. settled_is q refl on (Failed it) (fails future fault on it e)))
-  reply_is (request.IsDone x) closed = given_is (request.IsDone x) refl (as_awaited s x) _ (λ on e. tells _ (λ n. refl) refl)
-  reply_is (request.IsCancelled x) closed = given_is (request.IsCancelled x) refl (as_awaited s x) _ (λ on e. tells _ (λ n. refl) refl)
-  reply_is (request.ResultOf x) closed =
+  reply_is (request.IsDone x) other = given_is (request.IsDone x) refl (as_awaited s x) _ (λ on e. tells _ (λ n. refl) refl)
+  reply_is (request.IsCancelled x) other = given_is (request.IsCancelled x) refl (as_awaited s x) _ (λ on e. tells _ (λ n. refl) refl)
+  reply_is (request.ResultOf x) other =
       let q = request.ResultOf x in
       given_is q refl (as_awaited s x) (λ on now. result_of (ended now on) now) (λ on e. result_is q refl refl on)
-  reply_is (request.Cancel x) closed = given_is (request.Cancel x) refl (as_awaited s x) (requests task) (λ on e. cancels x on)
-  reply_is (request.Cancelling x) closed = given_is (request.Cancelling x) refl (as_task x) counted (λ other e. tells _ (λ n. refl) refl)
-  reply_is (request.Uncancel x) closed =
+  reply_is (request.Cancel x) other = given_is (request.Cancel x) refl (as_awaited s x) (requests task) (λ on e. cancels x on)
+  reply_is (request.Cancelling x) other = given_is (request.Cancelling x) refl (as_task x) counted (λ other e. tells _ (λ n. refl) refl)
+  reply_is (request.Uncancel x) other =
       given_is (request.Uncancel x) refl (as_task x) (λ other now. counted other (in_loop (book (uncancel_by (ByScript task) other)) now))
       (λ other e. uncancels x other)
-  reply_is request.Current closed = names_itself
-  reply_is request.Time closed = tells _ (λ n. refl) refl
-  reply_is (request.Spawn coroutine arguments) closed =
+  reply_is request.Current other = names_itself
+  reply_is request.Time other = tells _ (λ n. refl) refl
+  reply_is (request.Spawn coroutine arguments) other =
       numbered_is (request.Spawn coroutine arguments) refl (next_task s.loop.parts) (spawns coroutine arguments) (spawns_it coroutine arguments)
-  reply_is (request.Sleep delay) closed = given_is (request.Sleep delay) refl (as_int delay) (sleeps task) (λ it e. sleeps_is delay it)
-  reply_is (request.TimeoutEnter delay) closed =
+  reply_is (request.Sleep delay) other = given_is (request.Sleep delay) refl (as_int delay) (sleeps task) (λ it e. sleeps_is delay it)
+  reply_is (request.TimeoutEnter delay) other =
       let q = request.TimeoutEnter delay in
       given_is q refl (as_delay delay) (λ it now. numbered (next_timeout now.loop) (enters_timeout task it) now)
       (λ it e. numbered_is q refl (next_timeout s.loop) (enters_timeout task it) (enters delay it))
-  reply_is (request.TimeoutExit timeout raised) closed = leaves_is timeout raised
-  reply_is (request.Reschedule timeout when) closed =
+  reply_is (request.TimeoutExit timeout raised) other = leaves_is timeout raised
+  reply_is (request.Reschedule timeout when) other =
       let q = request.Reschedule timeout when in
       given_is q refl (as_timeout timeout) (λ id. given (as_delay when) (λ it. reschedules id it))
       (λ id e. given_is q refl (as_delay when) (λ it. reschedules id it) (λ it f. reschedules_is timeout when id it))
-  reply_is (request.Expired timeout) closed = given_is (request.Expired timeout) refl (as_timeout timeout) _ (λ id e. tells _ (λ n. refl) refl)
-  reply_is request.GroupEnter closed = numbered_is request.GroupEnter refl (next_group s.loop) (enters_group task) enters_one
-  reply_is (request.GroupExit group raised) closed = exits_is group raised
-  reply_is (request.Create group coroutine arguments) closed =
+  reply_is (request.Expired timeout) other = given_is (request.Expired timeout) refl (as_timeout timeout) _ (λ id e. tells _ (λ n. refl) refl)
+  reply_is request.GroupEnter other = numbered_is request.GroupEnter refl (next_group s.loop) (enters_group task) enters_one
+  reply_is (request.GroupExit group raised) other = exits_is group raised
+  reply_is (request.Create group coroutine arguments) other =
       let q = request.Create group coroutine arguments in
       given_is q refl (as_group group) (λ id now. numbered (next_task now.loop.parts) (creates id coroutine arguments) now)
       (λ id e. numbered_is q refl (next_task s.loop.parts) (creates id coroutine arguments) (creates_is group id coroutine arguments))
-  reply_is (request.Extra code arguments) closed =
+  reply_is (request.Extra code arguments) other =
       let q = request.Extra code arguments in
       given_is q refl (as_int code) (λ number. given (as_list arguments) (λ items now. serves (added.ask task number items now) (woken added task) task now))
       (λ number e. given_is q refl (as_list arguments) (λ items now. serves (added.ask task number items now) (woken added task) task now)
       (λ items f. serves_it code arguments number items))
-  reply_is (request.Listen port handler) closed =
-      given_is (request.Listen port handler) refl (as_int port) _
-      (λ number e. full_is (request.Listen port handler) refl (may_listen s.streams) _ (no_listen s (closed refl)))
-  reply_is (request.Connect port) closed =
-      given_is (request.Connect port) refl (as_int port) _
-      (λ number e. full_is (request.Connect port) refl (may_connect s.streams) _ (no_connect s (closed refl)))
-  reply_is (request.Launch words) closed =
-      given_is (request.Launch words) refl (as_words words) _
-      (λ program e. full_is (request.Launch words) refl (may_launch s.streams) _ (no_launch s (closed refl)))
-  reply_is (request.Write stream bytes) closed = none_is (request.Write stream bytes) refl (as_writer s stream) _ (no_writer s (closed refl) stream)
-  reply_is (request.WriteEof stream) closed = none_is (request.WriteEof stream) refl (as_conn s stream) _ (no_conn s (closed refl) stream)
-  reply_is (request.Close x) closed = none_is (request.Close x) refl (as_closable s x) _ (no_closable s (closed refl) x)
-  reply_is (request.WaitClosed stream) closed = none_is (request.WaitClosed stream) refl (as_writer s stream) _ (no_writer s (closed refl) stream)
-  reply_is (request.Drain stream) closed = none_is (request.Drain stream) refl (as_writer s stream) _ (no_writer s (closed refl) stream)
-  reply_is (request.Limits stream high low) closed = none_is (request.Limits stream high low) refl (as_writer s stream) _ (no_writer s (closed refl) stream)
-  reply_is (request.Read stream count) closed = none_is (request.Read stream count) refl (as_reader s stream) _ (no_reader s (closed refl) stream)
-  reply_is (request.ReadExactly stream count) closed = none_is (request.ReadExactly stream count) refl (as_reader s stream) _ (no_reader s (closed refl) stream)
-  reply_is (request.ReadUntil stream separator) closed = none_is (request.ReadUntil stream separator) refl
-      (as_reader s stream) _ (no_reader s (closed refl) stream)
-  reply_is (request.ReadLine stream) closed = none_is (request.ReadLine stream) refl (as_reader s stream) _ (no_reader s (closed refl) stream)
-  reply_is (request.StandardError child) closed = none_is (request.StandardError child) refl (as_child s child) _ (no_child s (closed refl) child)
-  reply_is (request.WaitChild child) closed = none_is (request.WaitChild child) refl (as_child s child) _ (no_child s (closed refl) child)
-  reply_is (request.ReturnCode child) closed = none_is (request.ReturnCode child) refl (as_child s child) _ (no_child s (closed refl) child)
-  reply_is (request.Kill child) closed = none_is (request.Kill child) refl (as_child s child) _ (no_child s (closed refl) child)
+  reply_is _ other = absurd (false≢true (sym other))

@@ -14,18 +14,22 @@ use Rattle.model_stream.specs.Requests.{StreamReader, OfConn, OfChild, drop_conn
 use Rattle.model_stream.specs.Doing.{Ends}
 use Rattle.model_stream.specs.Streams.{Streams, act, handler_of, no_streams, may_connect, may_launch, may_listen}
 use Rattle.model_loop.specs.Futures.{next_future}
-use Rattle.model_machine.specs.Arguments.{AServer, AWriter, as_conn, as_child, as_writer, as_reader, as_closable}
+use Rattle.model_value.specs.declared.request.Request.TheVariants as request
+use Rattle.model_value.specs.Request.{Request}
+use Rattle.model_says.specs.Operations.{out_of_range}
+use Rattle.model_says.specs.Requests.{bad_argument}
+use Rattle.model_machine.specs.Arguments.{AServer, AWriter, as_conn, as_child, as_writer, as_reader, as_closable, as_int, as_words}
 use Rattle.model_machine.specs.Does.{does}
 use Rattle.model_value.specs.declared.input.Input.TheVariants.{Send, Throw}
 use Rattle.model_value.specs.Input.{Input}
-use Rattle.model_machine.specs.Replies.{RequestReply, Answers, Raises, Halts, decides, replied, drains, drains_as, reads}
+use Rattle.model_machine.specs.Replies.{RequestReply, Answers, Raises, Halts, decides, given, numbered_if, replied, reply, drains, drains_as, reads}
 use Rattle.model_machine.specs.Replies.{reads_as, reads_all, reads_all_as, streams_change, waits_no_more}
 use Rattle.model_machine.specs.Sound.{IsClosed, sends_made}
 use Rattle.model_machine.specs.State.{Standing, Asked, Sleeping, Leaving, Serving, Connecting, Yielding, Reading, ReadingAll, State, with_streams}
 use Rattle.model_machine.specs.Extra.{Extra}
 use Rattle.model_machine.specs.Turn.{effect, has_returned, made_by, streams_go}
 use Rattle.model_machine.specs.Went.{Goes}
-use Rattle.law_cases.specs.Closed.{stands_at_streams}
+use Rattle.law_cases.specs.Closed.{is_to_streams, stands_at_streams}
 use Rattle.law_trees.specs.Trees.{is_of_streams}
 
 none_below : (id : ℕ) → nat_lt id 0 ≡ false
@@ -95,6 +99,40 @@ module _ {S : Type 0} (s : State S) (closed : IsClosed s) where
 
   pub no_launch : may_launch s.streams ≡ false
   no_launch = ap may_launch closed
+
+  -- ---- requests
+  abbrev Refused : RequestReply S → Type 0
+  Refused it = (fault : Exc) × (it ≡ Raises fault s)
+
+  -- an argument of a kind of which none is open
+  none : {A : Type 0} (o : Option A) (next : A → State S → RequestReply S) → o ≡ None → Refused (given o next s)
+  none o next e = (bad_argument, ap (λ found. given found next s) e)
+
+  -- and where none can be opened
+  full : {A : Type 0} (o : Option A) (b : Bool) (next : A → State S → RequestReply S) → b ≡ false → Refused (given o (λ a. numbered_if b (next a)) s)
+  full None b next e = (bad_argument, refl)
+  full (Some a) b next e = (out_of_range, ap (λ numbered. numbered_if numbered (next a) s) e)
+
+  pub refused : (added : Extra S) (task : ℕ) (asked : Request) → is_to_streams asked ≡ true → Refused (reply added task asked s)
+  unfolding reply
+  refused added task (request.Listen port handler) is = full (as_int port) (may_listen s.streams) _ no_listen
+  refused added task (request.Connect port) is = full (as_int port) (may_connect s.streams) _ no_connect
+  refused added task (request.Launch words) is = full (as_words words) (may_launch s.streams) _ no_launch
+  refused added task (request.Write stream bytes) is = none (as_writer s stream) _ (no_writer stream)
+  refused added task (request.WriteEof stream) is = none (as_conn s stream) _ (no_conn stream)
+  refused added task (request.Close x) is = none (as_closable s x) _ (no_closable x)
+  refused added task (request.WaitClosed stream) is = none (as_writer s stream) _ (no_writer stream)
+  refused added task (request.Drain stream) is = none (as_writer s stream) _ (no_writer stream)
+  refused added task (request.Limits stream high low) is = none (as_writer s stream) _ (no_writer stream)
+  refused added task (request.Read stream count) is = none (as_reader s stream) _ (no_reader stream)
+  refused added task (request.ReadExactly stream count) is = none (as_reader s stream) _ (no_reader stream)
+  refused added task (request.ReadUntil stream separator) is = none (as_reader s stream) _ (no_reader stream)
+  refused added task (request.ReadLine stream) is = none (as_reader s stream) _ (no_reader stream)
+  refused added task (request.StandardError child) is = none (as_child s child) _ (no_child child)
+  refused added task (request.WaitChild child) is = none (as_child s child) _ (no_child child)
+  refused added task (request.ReturnCode child) is = none (as_child s child) _ (no_child child)
+  refused added task (request.Kill child) is = none (as_child s child) _ (no_child child)
+  refused added task _ is = absurd (false≢true is)
 
   pub unchanged : with_streams (no_streams 0) s ≡ s
   unchanged = ap (λ streams. with_streams streams s) (sym closed)

@@ -1,2 +1,1 @@
-pub mod RunningAway
 pub mod Leaving

@@ -6,15 +6,15 @@ ghost use Rattle.model_says.specs.Says.{step_limit};
 ghost use Rattle.model_wire.specs.Journal.{Entry};
 ghost use Rattle.model_loop.specs.Parts.{Handle};
 ghost use Rattle.model_machine.specs.Extra.{Extra, no_extra};
-ghost use Rattle.model_machine.specs.Sound.{IsClosed, IsStateSound};
+ghost use Rattle.model_machine.specs.Sound.{IsStateSound};
 ghost use Rattle.model_machine.specs.State.{State, start};
 ghost use Rattle.model_machine.specs.Turn.{run_first, run_pending, turn};
 ghost use Rattle.law_replies.specs.Added.{KeepsSound};
-ghost use Rattle.law_reach.specs.Reaches.{OnlyRunsAway, StopsIn};
-ghost use Rattle.law_ends.specs.Ends.{IsLeftSound, IsLeftSettled, EndsSound, EndsSettled};
+ghost use Rattle.law_reach.specs.Reaches.{StopsIn};
+ghost use Rattle.law_ends.specs.Ends.{IsLeftSound, EndsSound};
 
-/// A callback ends a run in two ways: it steps a task that runs away, or it asks the outside, which
-/// has no answer that fits. So do all callbacks of a turn.
+/// A callback ends a run in two ways: it steps a task that runs away, or, where something is open,
+/// it asks the outside, which has no answer that fits. So do all callbacks of a turn.
 pub fn callbacks_end_a_run_so<S>()
     ensures callback { (limit : ℕ) (added : Extra S) (handle : Handle) (rest : List Handle)
         (s : State S)
@@ -23,35 +23,23 @@ pub fn callbacks_end_a_run_so<S>()
         → StopsIn s (run_pending limit added s) }
 {}
 
-/// Where nothing is open, they do in the first way alone.
-pub fn callbacks_end_a_run_by_running_away<S>()
-    ensures callback { (limit : ℕ) (added : Extra S) (handle : Handle) (rest : List Handle)
-        (s : State S) → IsClosed s
-        → OnlyRunsAway (run_first limit added handle rest s) }
-    ensures pending { (limit : ℕ) (added : Extra S) (s : State S) → IsClosed s
-        → OnlyRunsAway (run_pending limit added s) }
-{}
-
-/// A turn from a sound state in which nothing is open leaves a sound state, unless a task runs away
-/// in it: where the run goes on, where it finishes, where it is stalled, and where the outside has no
-/// answer that fits. Where something is open, that last may end the run in the middle of a step.
+/// A turn from a sound state leaves a sound state, unless a callback ended the run so: where the
+/// run goes on, where it finishes, where it is stalled, and where its select has no answer that
+/// fits.
 pub fn a_turn_leaves_a_sound_state<S>()
-    ensures closed { (added : Extra S) → KeepsSound added
-        → (s : State S) → IsClosed s → IsStateSound added s
-        → IsLeftSound added (turn step_limit added s) }
-    ensures open_ { (added : Extra S) → KeepsSound added
-        → (s : State S) → IsStateSound added s → IsLeftSettled added (turn step_limit added s) }
+    ensures { (added : Extra S) → KeepsSound added
+        → (s : State S) → IsStateSound added s → IsLeftSound added s (turn step_limit added s) }
 {}
 
 /// So the state in which a run ends is sound, for every program and whatever the outside answers,
-/// unless a task runs away; and from every sound state, unless a task runs away or a call has no
-/// answer that fits.
+/// unless a callback ended it; and so from every sound state on. As a run of a program begins
+/// nothing is open, so there that callback steps a task that runs away.
 pub fn every_run_ends_sound<S>()
     ensures nothing_added { (program : Program) (answers : List Entry) (turns : ℕ)
-        → EndsSound no_extra turns (start tt program answers) }
+        → let begun = start tt program answers in EndsSound no_extra begun turns begun }
     ensures added { (added : Extra S) → KeepsSound added
         → (state : S) (program : Program) (answers : List Entry) (turns : ℕ)
-        → EndsSound added turns (start state program answers) }
+        → let begun = start state program answers in EndsSound added begun turns begun }
     ensures from_any { (added : Extra S) → KeepsSound added
-        → (s : State S) → IsStateSound added s → (turns : ℕ) → EndsSettled added turns s }
+        → (s : State S) → IsStateSound added s → (turns : ℕ) → EndsSound added s turns s }
 {}

@@ -1,5 +1,5 @@
 -- What is added makes allowed steps alone: then its requests, their waits, its handles and its news keep states sound.
-use Rattle.std.proofs.Common.{◌≡◌, ℕ, ℤ, ◌<◌, zero, suc, Bool, true, false, List, [], Option, Some, None, length, refl, sym, ap, ◌∙◌}
+use Rattle.std.proofs.Common.{◌≡◌, ℕ, ℤ, ◌<◌, zero, suc, Bool, true, false, List, [], Option, Some, None, length, refl, sym, ap, subst, ◌∙◌}
 use Rattle.std.proofs.lemmas.Bool.{false≢true}
 use Rattle.model_value.specs.Input.{Input}
 use Rattle.model_value.specs.Value.{Value, Exc, Outcome}
@@ -16,7 +16,7 @@ use Rattle.model_machine.specs.Extra as extra
 use Rattle.model_machine.specs.Extra.{Extra, ExtraAnswer, ExtraCall, ExtraSaid, called, made_by_all}
 use Rattle.model_machine.specs.Outcomes.{input_of}
 use Rattle.model_machine.specs.Replies.{Wake, ended, given, reply, serves, serves_as, serves_until, waits, woken, woken_within}
-use Rattle.model_machine.specs.Sound.{IsStateSound, StandsRightly, blocks_of, names_made, sends_made}
+use Rattle.model_machine.specs.Sound.{IsOpenedAt, IsStateSound, StandsRightly, blocks_of, names_made, sends_made}
 use Rattle.model_machine.specs.State.{Standing, Asked, Sleeping, Leaving, Serving, State, generator_of, resumed, stands}
 use Rattle.model_machine.specs.Step.{says_of}
 use Rattle.model_machine.specs.Told.{told_in}
@@ -81,7 +81,7 @@ module _ {S : Type 0} (added : Extra S) (task : ℕ) (stood : Standing) (still :
           (all_sound (Some task) (told_in s.events) call.steps s.loop may is.others.loop) (λ other f. f) over
           (stays_stood added s t tapes (Some task) (Some task) (Some task) (Some task) _ _ None None None moved (λ other id f e r. refl))
           (leaves_none added s t tapes (Some task) (Some task) (Some task) (Some task) _ _ None None None moved (λ id f. (refl, refl)))
-          (futures_kept s t refl (λ id h. moved.parts.plain id h) is.others.futures) (half added task stood (request.Extra code arguments) s is))
+          (futures_kept s t refl tapes.streams (λ id h. moved.parts.plain id h) is.others.futures) (half added task stood (request.Extra code arguments) s is))
           (open_kept _ _ (Some task) None s.loop t.loop (blocks_of s) (blocks_of t) moved
           (tapes_blocks added s t tapes (Some task) (Some task) (Some task) (Some task)) (open_of added (Some task) (Some task) s is.others.blocks));
       standing = is.standing;
@@ -116,13 +116,14 @@ module _ {S : Type 0} (added : Extra S) (task : ℕ) (stood : Standing) (still :
       sleeping = λ tag e. absurd (serving_sleeps key tag (sym stood_so ∙ e));
       leaving = λ id e. absurd (serving_leaves key id (sym stood_so ∙ e));
       leaving_now = λ id e. absurd (serving_leaves key id (sym stood_so ∙ e));
+      opened = subst (IsOpenedAt s.streams) (sym stood_so) tt;
     }
 
     pub waits_in : IsStateSound added (stands (Serving key) task (waits task on s))
     waits_in =
         let f = get_there s.loop.parts.futures on there in
         rest_stood added task stood (request.Extra code arguments) s is u (same_tapes s u.loop)
-        (futures_kept s u refl (λ id h. after.parts.plain id h) is.others.futures) refl (after.parts.same refl) (Serving key) None after
+        (futures_kept s u refl refl (λ id h. after.parts.plain id h) is.others.futures) refl (after.parts.same refl) (Serving key) None after
         (suspend_step_sound (told_in s.events) task on s.loop (pending_of s on f.0 f.1 open_) is.others.loop) (λ id f. refl)
         (λ e. no_pause (sym (pause_first added task s e) ∙ is.says)) refl rightly
         (λ id e mine. absurd (still id (is.exits id (left_before s u _ _ (Some task) None None None after id refl refl e) (mine ∙ (after.groups id).parent))))

@@ -1,5 +1,5 @@
 -- What a task's step, a callback and the rest of a turn come to are rows of changes.
-use Rattle.std.proofs.Common.{◌≡◌, inl, inr, ◌⊎◌, ℕ, zero, suc, ◌+◌, refl, ap, sym, subst, Bool, true, false, List, [], ◌∷◌, Option, Some, None, Ok, Err}
+use Rattle.std.proofs.Common.{◌≡◌, inl, inr, ◌⊎◌, ℕ, zero, suc, ◌+◌, refl, ap, sym, subst, Bool, true, false, [], ◌∷◌, Option, Some, None, Ok, Err}
 use Rattle.std.proofs.Common.{length, nat_lt, arith}
 use Rattle.model_value.specs.Action.{Action}
 use Rattle.model_value.specs.declared.action.Action.TheVariants as action
@@ -111,10 +111,10 @@ module _ {S : Type 0} (limit : ℕ) (added : Extra S) where
           subst (GoesTo None s) (sym (effect_none s closed limit added it is)) (record { reaches = stays; ends = tt; asks = refl })
       at (inr opened) = each opened
 
-  streams_goes_on : (tree : Doing Streams) (s : State S) → Keeping (KeepsStreams any (next_future s.loop.parts)) any (next_future s.loop.parts) tree
+  streams_goes_on : (tree : Doing Streams) (s : State S) → Keeping (KeepsStreams any (next_future s.loop.parts) s.streams) any (next_future s.loop.parts) tree
       → IsOpen s → GoesTo None s (streams_go tree s)
   streams_goes_on tree s keeps opened =
-      tree_goes None (KeepsStreams any (next_future s.loop.parts)) any (next_future s.loop.parts) tree goes_with s keeps opened
+      tree_goes None (KeepsStreams any (next_future s.loop.parts) s.streams) any (next_future s.loop.parts) tree goes_with s keeps opened
       (λ streams t o. record { reaches = one (ChangesStreams streams) o; ends = tt; asks = refl })
 
   acts_goes : (it : Action) (returned : Bool) (s : State S) → IsOpen s → GoesTo None s (streams_go (act (next_future s.loop.parts) returned it s.streams) s)

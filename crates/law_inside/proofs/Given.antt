@@ -18,7 +18,9 @@ use Rattle.model_loop.specs.Tasks.{lives, next_task}
 use Rattle.model_loop.specs.Ways.{is_running}
 use Rattle.model_machine.specs.Extra.{Extra}
 use Rattle.model_machine.specs.Outcomes.{input_of}
-use Rattle.model_machine.specs.Sound.{AreScriptsFutures, IsAsking, IsLeft, IsUnbegun, StandsRightly, all_made, blocks_of, names_block, names_made}
+use Rattle.model_stream.specs.Kept.{times_kept}
+use Rattle.model_stream.specs.Streams.{Streams}
+use Rattle.model_machine.specs.Sound.{AreScriptsFutures, IsAsking, IsLeft, IsOpenedAt, IsUnbegun, StandsRightly, all_made, blocks_of, names_block, names_made}
 use Rattle.model_machine.specs.Sound.{sends_made, stands_at}
 use Rattle.model_machine.specs.State.{Asked, Sleeping, Leaving, Generator, State, generator, generator_of, with_coroutine}
 use Rattle.model_machine.specs.Step.{says_of}
@@ -199,6 +201,7 @@ module _ {S : Type 0} (added : Extra S) (running : Option ℕ) (coroutine : ℕ)
   spawn_keeps sound first over given_ scripts = record {
     loop = sound;
     streams = streams_kept s t tapes.streams (λ id h. a.parts.plain id h) is.streams;
+    kept_once = λ future. subst (λ (x : Streams). times_kept future x ≤ 1) (sym tapes.streams) (is.kept_once future);
     generators = length-append t.generators _ ∙ let c = count_is in omega (arith, c, more);
     asking = λ other l f. asking other f (living other l);
     unbegun = λ other l f e. unbegun other f e (living other l);
@@ -212,7 +215,7 @@ module _ {S : Type 0} (added : Extra S) (running : Option ℕ) (coroutine : ℕ)
         (exchanges_along p (generator_of other s).coroutine (generator_of other s).arguments (generator_of other s).tape)) tapes.program ∙ is.blocks other)
         (ap (list_all (λ exchange. names_block exchange.request exchange.answer)) (exchanges_before t.program coroutine arguments))
         (λ other h. ap (list_all (λ exchange. names_block exchange.request exchange.answer)) (exchanges_before t.program 0 []));
-    futures = record { plain = scripts.plain; once = scripts.once };
+    futures = record { plain = scripts.plain; once = scripts.once; apart = scripts.apart };
     made = record {
       arguments = each (λ other g. list_all (names_made (next_task t.loop.parts)) g.arguments ≡ true)
           (λ other h. list_up (next_task s.loop.parts) (next_task t.loop.parts) (omega (arith, more)) (generator_of other s).arguments
@@ -245,11 +248,13 @@ module _ {S : Type 0} (added : Extra S) (running : Option ℕ) (coroutine : ℕ)
       standing : (other : ℕ) → is_running running other ≡ false
           → ((other < next_task s.loop.parts) × (lives s.loop.parts other ≡ true)) ⊎ (next_task s.loop.parts ≡ other) → StandsRightly u other
       standing other f (inl h) =
-          standing_kept added s u tapes.program other (old_same other h.0) _ _ running None None None a (λ id e. refl) (is.standing other h.1 f)
+          standing_kept added s u tapes.program other (old_same other h.0) _ _ running None None None a tapes.streams (λ id e. refl)
+          (is.standing other h.1 f)
       standing other f (inr same) = subst (StandsRightly u) same (record {
         sleeping = λ tag e. absurd (never e);
         leaving = λ id e. absurd (never' e);
         leaving_now = λ id e. absurd (never' e);
+        opened = subst (IsOpenedAt u.streams) (sym (ap (λ (g : Generator). g.standing) new_is)) tt;
       })
         where
           never : {tag : ℕ} → (generator_of (next_task s.loop.parts) u).standing ≡ Sleeping tag → ⊥

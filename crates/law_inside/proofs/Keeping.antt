@@ -1,5 +1,5 @@
 -- What a step of the loop keeps of the machine's state, what an answer does to it, and what a task stands at.
-use Rattle.std.proofs.Common.{◌≡◌, ℕ, ◌<◌, ◌⊎◌, inl, inr, Bool, true, false, not, ◌&&◌, List, [], ◌∷◌, ◌++◌, Option, Some, None, length}
+use Rattle.std.proofs.Common.{◌≡◌, ℕ, ◌<◌, ◌≤◌, ◌⊎◌, inl, inr, Bool, true, false, not, ◌&&◌, List, [], ◌∷◌, ◌++◌, Option, Some, None, length}
 use Rattle.std.proofs.Common.{slice_get, slice_index_or, refl, sym, ap, subst, ◌∙◌, arith}
 use mathlib.Core.List.{nil≢cons}
 use Rattle.std.specs.List.{list_all}
@@ -19,16 +19,17 @@ use Rattle.model_loop.specs.Sound.{IsSound}
 use Rattle.model_loop.specs.Tasks.{lives, next_task}
 use Rattle.model_loop.specs.Ways.{is_running}
 use Rattle.model_machine.specs.Extra.{Extra}
-use Rattle.model_machine.specs.Sound.{AreBlocksOpen, AreScriptsFutures, AreStreamsFutures, IsAsking, IsLeft, IsSoundBut, IsSoundOver, IsStateSound, IsUnbegun}
+use Rattle.model_machine.specs.Sound.{AreBlocksOpen, AreScriptsFutures, AreStreamsFutures, IsAsking, IsLeft, IsOpenedAt, IsSoundBut}
+use Rattle.model_machine.specs.Sound.{IsSoundOver, IsStateSound, IsUnbegun}
 use Rattle.model_machine.specs.Sound.{StandsRightly, blocks_of, exchanges_of, names_block, names_made, sends_made, stands_at}
-use Rattle.model_machine.specs.State.{Standing, Asked, Leaving, Generator, State, generator, generator_of, resumed, stands, with_streams}
-use Rattle.model_stream.specs.Kept.{StreamsKeep}
+use Rattle.model_machine.specs.State.{Standing, Asked, Leaving, Generator, State, generator, generator_of, resumed, stands}
+use Rattle.model_stream.specs.Kept.{StreamsKeep, times_kept}
 use Rattle.model_stream.specs.Streams.{Streams}
 use Rattle.law_trees.proofs.Composing.{streams_more}
 use Rattle.model_machine.specs.Step.{says_of}
 use Rattle.model_machine.specs.Told.{told_in}
 use Rattle.law_after.specs.After.{IsAfter, IsLoopAfter}
-use Rattle.law_inside.specs.InStep.{IsAsked, IsStepSound, SameTapes}
+use Rattle.law_inside.specs.InStep.{SameTapes}
 use Rattle.law_inside.proofs.Blocks.{AreOpenAt}
 use Rattle.law_inside.proofs.Counts.{and_first, and_second, and_both, not_true, not_false, lives_within, lives_before, unbegun_kept, sleep_kept, plain_of}
 use Rattle.law_inside.proofs.Counts.{of_plain}
@@ -54,6 +55,7 @@ module _ {S : Type 0} (added : Extra S) (running excused : Option ℕ) (s : Stat
     exits = is.exits;
     blocks = others;
     streams = is.streams;
+    kept_once = is.kept_once;
     futures = is.futures;
     made = is.made;
   }
@@ -83,6 +85,7 @@ module _ {S : Type 0} (added : Extra S) (s : State S) where
     exits = λ id e f. exits id e (cases_eq task (group_of s.loop id).parent);
     blocks = is.blocks;
     streams = is.streams;
+    kept_once = is.kept_once;
     futures = is.futures;
     made = is.made;
   }
@@ -131,15 +134,17 @@ module _ {S : Type 0} (added : Extra S) (s t : State S) (program : t.program ≡
   }
 
   pub standing_kept : (test : Value → Bool) (grown : Bool) (excused timeout group begun : Option ℕ)
-      → IsLoopAfter test grown excused timeout group begun s.loop t.loop
+      → IsLoopAfter test grown excused timeout group begun s.loop t.loop → t.streams ≡ s.streams
       → ((id : ℕ) → (generator_of task s).standing ≡ Leaving id → is_running group id ≡ false) → StandsRightly s task → StandsRightly t task
-  standing_kept test grown excused timeout group begun a free is = record {
+  standing_kept test grown excused timeout group begun a streams free is = record {
     sleeping = λ tag e. sleep_kept test grown excused s.loop.parts t.loop.parts a.parts task tag (is.sleeping tag (sym stands_same ∙ e));
     leaving = λ id e. (a.groups id).parent ∙ is.leaving id (sym stands_same ∙ e);
     leaving_now = λ id e.
         let now = is.leaving_now id (sym stands_same ∙ e) in
         and_both _ _ ((a.groups id).exiting (and_first _ _ now))
         (not_false _ ((a.groups id).ended (free id (sym stands_same ∙ e)) ∙ not_true _ (and_second _ _ now)));
+    opened = subst (λ (x : Streams). IsOpenedAt x (generator_of task t).standing) (sym streams)
+        (subst (IsOpenedAt s.streams) (sym stands_same) is.opened);
   }
     where
       stands_same : (generator_of task t).standing ≡ (generator_of task s).standing
@@ -152,51 +157,16 @@ streams_kept s t same plains kept =
     subst (λ streams. StreamsKeep (λ id. is_plain t.loop.parts id ≡ true) streams) (sym same)
     (streams_more (λ id. is_plain s.loop.parts id ≡ true) (λ id. is_plain t.loop.parts id ≡ true) plains s.streams kept)
 
--- other streams, of which this holds too
-pub streams_replaced : {S : Type 0} (added : Extra S) (running excused : Option ℕ) (s : State S) (streams : Streams)
-    → AreStreamsFutures (with_streams streams s) → IsSoundBut running excused added s → IsSoundBut running excused added (with_streams streams s)
-streams_replaced added running excused s streams kept is = record {
-  loop = is.loop;
-  generators = is.generators;
-  asking = λ task l f. let a = is.asking task l f in record { asked = a.asked; says = a.says; stands = a.stands };
-  unbegun = is.unbegun;
-  main_over = is.main_over;
-  main_told = is.main_told;
-  standing = λ task l f.
-      let a = is.standing task l f in record { sleeping = a.sleeping; leaving = a.leaving; leaving_now = a.leaving_now };
-  exits = is.exits;
-  blocks = record { timeouts = is.blocks.timeouts; groups = is.blocks.groups; entered = is.blocks.entered; own = is.blocks.own };
-  streams = kept;
-  futures = record { plain = is.futures.plain; once = is.futures.once };
-  made = record { arguments = is.made.arguments; tape = is.made.tape; outcomes = is.made.outcomes };
-}
-
-pub step_replaced : {S : Type 0} (added : Extra S) (task : ℕ) (s : State S) (streams : Streams) → AreStreamsFutures (with_streams streams s)
-    → IsStepSound added task s → IsStepSound added task (with_streams streams s)
-step_replaced added task s streams kept is = record {
-  others = streams_replaced added (Some task) (Some task) s streams kept is.others;
-  standing = is.standing;
-  begun = is.begun;
-  exits = is.exits;
-}
-
-pub asked_replaced : {S : Type 0} (added : Extra S) (task : ℕ) (stood : Standing) (asked : Request) (s : State S) (streams : Streams)
-    → AreStreamsFutures (with_streams streams s) → IsAsked added task stood asked s → IsAsked added task stood asked (with_streams streams s)
-asked_replaced added task stood asked s streams kept is = record {
-  others = streams_replaced added (Some task) (Some task) s streams kept is.others;
-  standing = is.standing;
-  says = is.says;
-  exits = is.exits;
-}
-
 -- ---- a step of the loop, which no coroutine hears
-pub futures_kept : {S : Type 0} (s t : State S) → t.futures ≡ s.futures
+pub futures_kept : {S : Type 0} (s t : State S) → t.futures ≡ s.futures → t.streams ≡ s.streams
     → ((id : ℕ) → is_plain s.loop.parts id ≡ true → is_plain t.loop.parts id ≡ true) → AreScriptsFutures s → AreScriptsFutures t
-futures_kept s t same plains is = record {
+futures_kept s t same streams plains is = record {
   plain = λ place id e.
       let f = is.plain place id (sym (ap (λ l. slice_get l place) same) ∙ e) in
       plain_of t.loop.parts id (plains id (of_plain s.loop.parts id f.0 f.1 f.2));
   once = λ place other id e f. is.once place other id (sym (ap (λ l. slice_get l place) same) ∙ e) (sym (ap (λ l. slice_get l other) same) ∙ f);
+  apart = λ place id e.
+      subst (λ (x : Streams). times_kept id x ≡ 0) (sym streams) (is.apart place id (sym (ap (λ l. slice_get l place) same) ∙ e));
 }
 
 -- the tasks that `s` excuses are excused in `t`, and what the loop of `t` is after that of `s` spares the others
@@ -224,6 +194,7 @@ module _ {S : Type 0} (added : Extra S) (s t : State S) (tapes : SameTapes s t) 
   loop_keeps a made sound fewer over stays leaves scripts is = record {
     loop = sound;
     streams = streams_kept s t tapes.streams (λ id h. a.plain id h) is.streams;
+    kept_once = λ future. subst (λ (x : Streams). times_kept future x ≤ 1) (sym tapes.streams) (is.kept_once future);
     generators = ap length tapes.generators ∙ is.generators ∙ sym made;
     asking = λ task l f. asking_kept added s t tapes.program task (same_at task) (is.asking task (lived task l) (fewer task f));
     unbegun = λ task l f e.
@@ -258,7 +229,8 @@ module _ {S : Type 0} (added : Extra S) (s t : State S) (tapes : SameTapes s t) 
     pub stays_stood : ((task id : ℕ) → is_running excused task ≡ false → (generator_of task s).standing ≡ Leaving id
         → StandsRightly s task → is_running group id ≡ false) → StaysStood
     stays_stood free task f l right =
-        standing_kept added s t tapes.program task (same_at task) test grown excused timeout group begun a (λ id e. free task id f e right) right
+        standing_kept added s t tapes.program task (same_at task) test grown excused timeout group begun a tapes.streams (λ id e. free task id f e right)
+        right
 
     -- groups whose exits begin or end are the excused task's
     pub leaves_none : ((id : ℕ) → is_running excused (group_of s.loop id).parent ≡ false
@@ -317,6 +289,7 @@ module _ {S : Type 0} (added : Extra S) (task : ℕ) (asked : Request) (fresh : 
   answer_keeps named good is = record {
     loop = is.loop;
     streams = is.streams;
+    kept_once = is.kept_once;
     generators = set_length task (record it { tape = it.tape ++ entry ∷ [] }) t ∙ is.generators;
     asking = λ other l f. asking_kept added t u refl other (free_same other f) (is.asking other l f);
     unbegun = λ other l f e. is.unbegun other l f (sym (ap (λ (g : Generator). g.tape) (free_same other f)) ∙ e);
@@ -325,7 +298,7 @@ module _ {S : Type 0} (added : Extra S) (task : ℕ) (asked : Request) (fresh : 
     standing = λ other l f. stands_right other f (is.standing other l f);
     exits = λ id e f. ap (λ (g : Generator). g.standing) (free_same (group_of t.loop id).parent f) ∙ is.exits id e f;
     blocks = λ other. entered other (cases_eq task other);
-    futures = record { plain = is.futures.plain; once = is.futures.once };
+    futures = record { plain = is.futures.plain; once = is.futures.once; apart = is.futures.apart };
     made = record {
       arguments = λ other. arguments other (cases_eq task other);
       tape = λ other. tape other (cases_eq task other);
@@ -338,6 +311,7 @@ module _ {S : Type 0} (added : Extra S) (task : ℕ) (asked : Request) (fresh : 
         sleeping = λ tag e. is.sleeping tag (sym (ap (λ (g : Generator). g.standing) (free_same other f)) ∙ e);
         leaving = λ id e. is.leaving id (sym (ap (λ (g : Generator). g.standing) (free_same other f)) ∙ e);
         leaving_now = λ id e. is.leaving_now id (sym (ap (λ (g : Generator). g.standing) (free_same other f)) ∙ e);
+        opened = subst (IsOpenedAt t.streams) (sym (ap (λ (g : Generator). g.standing) (free_same other f))) is.opened;
       }
 
       entered : (other : ℕ) → (task ≡ other) ⊎ (task ≡ other → ⊥)
@@ -411,6 +385,7 @@ module _ {S : Type 0} (added : Extra S) (task : ℕ) (standing : Standing) (t : 
   stands_keeps running is = record {
     loop = is.loop;
     streams = is.streams;
+    kept_once = is.kept_once;
     generators = set_length task (record (generator_of task t) { standing = standing }) t ∙ is.generators;
     asking = λ other l f. asking_kept added t stood refl other (free other f) (is.asking other l f);
     unbegun = λ other l f e. is.unbegun other l f (sym (ap (λ (g : Generator). g.tape) (free other f)) ∙ e);
@@ -420,7 +395,7 @@ module _ {S : Type 0} (added : Extra S) (task : ℕ) (standing : Standing) (t : 
     exits = λ id e f. ap (λ (g : Generator). g.standing) (free (group_of t.loop id).parent f) ∙ is.exits id e f;
     blocks = λ other. seen_same (λ c a tape. list_all (λ exchange. names_block exchange.request exchange.answer) (exchanges_along t.program c a tape)) other
         ∙ is.blocks other;
-    futures = record { plain = is.futures.plain; once = is.futures.once };
+    futures = record { plain = is.futures.plain; once = is.futures.once; apart = is.futures.apart };
     made = record {
       arguments = λ other. seen_same (λ c a tape. list_all (names_made (next_task t.loop.parts)) a) other ∙ is.made.arguments other;
       tape = λ other. seen_same (λ c a tape. list_all (λ (x : Resumed). sends_made (next_task t.loop.parts) x.input) tape) other ∙ is.made.tape other;
@@ -436,4 +411,5 @@ module _ {S : Type 0} (added : Extra S) (task : ℕ) (standing : Standing) (t : 
         sleeping = λ tag e. is.sleeping tag (sym (ap (λ (g : Generator). g.standing) (free other f)) ∙ e);
         leaving = λ id e. is.leaving id (sym (ap (λ (g : Generator). g.standing) (free other f)) ∙ e);
         leaving_now = λ id e. is.leaving_now id (sym (ap (λ (g : Generator). g.standing) (free other f)) ∙ e);
+        opened = subst (IsOpenedAt t.streams) (sym (ap (λ (g : Generator). g.standing) (free other f))) is.opened;
       }

@@ -21,7 +21,7 @@ module _ {S : Type 0} (added : Extra S) (s : State S) (sound : IsStateSound adde
       (loop_keeps added s t tapes None None None None a.parts (a.parts.same refl) loop (λ other f. f) over
       (stays_stood added s t tapes None None None None _ _ None None None a (λ other id f e r. refl))
       (leaves_none added s t tapes None None None None _ _ None None None a (λ id f. (refl, refl)))
-      (futures_kept s t futures (λ id h. a.parts.plain id h) sound.futures) (apart_of added None None s sound))
+      (futures_kept s t futures tapes.streams (λ id h. a.parts.plain id h) sound.futures) (apart_of added None None s sound))
       (open_kept _ _ None None s.loop t.loop (blocks_of s) (blocks_of t) a (tapes_blocks added s t tapes None None None None)
       (open_of added None None s sound.blocks))
 

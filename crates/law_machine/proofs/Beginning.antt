@@ -35,7 +35,7 @@ module _ {S : Type 0} (added : Extra S) (state : S) (program : Program) (answers
   unbegun (suc task) l = absurd (false≢true l)
 
   standing : (task : ℕ) → lives begun.loop.parts task ≡ true → StandsRightly begun task
-  standing zero l = record { sleeping = λ tag e. absurd (cc); leaving = λ id e. absurd (cc); leaving_now = λ id e. absurd (cc) }
+  standing zero l = record { sleeping = λ tag e. absurd (cc); leaving = λ id e. absurd (cc); leaving_now = λ id e. absurd (cc); opened = tt }
   standing (suc task) l = absurd (false≢true l)
 
   main_told : IsMainTold begun.loop.parts
@@ -83,13 +83,14 @@ module _ {S : Type 0} (added : Extra S) (state : S) (program : Program) (answers
     standing = λ task l f. standing task l;
     exits = λ id e f. absurd (false≢true e);
     streams = record { connections = λ id c e. absurd (none-some c e); children = λ id p e. absurd (none-some p e) };
+    kept_once = λ future. omega arith;
     blocks = record {
       timeouts = λ id h. absurd (omega (arith, h));
       groups = λ id h. absurd (omega (arith, h));
       entered = answers_named;
       own = blocks_own;
     };
-    futures = record { plain = λ place id e. absurd (none-some id e); once = λ place other id e f. absurd (none-some id e) };
+    futures = record { plain = λ place id e. absurd (none-some id e); once = λ place other id e f. absurd (none-some id e); apart = λ place id e. refl };
     made = tasks_made;
   }
 

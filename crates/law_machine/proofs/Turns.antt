@@ -4,21 +4,21 @@ use Rattle.std.proofs.Common.{ap, sym, ◌∙◌, arith}
 use Rattle.std.proofs.lemmas.Bool.{true≢false}
 use Rattle.model_wire.specs.declared.event.End.TheVariants as end
 use Rattle.model_wire.specs.declared.event.Event.TheVariants as event
-use Rattle.model_wire.specs.Call.{Call, Answer}
+use Rattle.model_wire.specs.Call.{Answer}
 use Rattle.model_wire.specs.Event.{Event}
 use Rattle.model_wire.specs.Fits.{fits}
 use Rattle.model_wire.specs.Journal.{Entry, Answered, Refused}
 use Rattle.model_machine.specs.Extra.{Extra}
-use Rattle.model_machine.specs.Run.{ends, run_after, run_on, turns_over}
+use Rattle.model_machine.specs.Run.{run_after, run_on}
 use Rattle.model_machine.specs.Sound.{IsClosed}
 use Rattle.model_machine.specs.State.{State, noted}
 use Rattle.model_machine.specs.Turn.{call_of, is_stalled, turn, turn_unless, turned_by}
 use Rattle.model_machine.specs.Went.{Went, Goes, Stops, answered_by, answers_in, fitted, state_of}
 use Rattle.law_changes.proofs.Folds.{fold}
-use Rattle.law_reach.specs.Asked.{IsAnswered, IsAnsweredBefore, WentAsks, asks_in}
+use Rattle.law_reach.specs.Asked.{WentAsks, asks_in}
 use Rattle.law_reach.specs.Changes.{StateChange, OfLoop, Says, MakesCoroutine, Stands, Resumes, NamesFuture, EndsMain, ChangesExtra, ChangesStreams}
 use Rattle.law_reach.specs.Changes.{Runs, Hears, Calls, MayInRun, MayInTurn, made}
-use Rattle.law_reach.proofs.Rows.{asks-ran, asks-said, in_turn, row_closed}
+use Rattle.law_reach.proofs.Rows.{asks-ran, asks-said, in_turn}
 use Rattle.law_going.proofs.Turning.{turn_asks, turn_row, turned_row}
 use Rattle.law_machine.specs.Growth.{GoesOn, turns_in}
 use Rattle.law_machine.proofs.Counts.{goes_on_same, goes_on_one, goes_on_then, turns-said, turns-ran, turns-got, turns-selected, turns-other}

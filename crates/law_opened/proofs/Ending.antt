@@ -16,7 +16,7 @@ use Rattle.model_loop.specs.Loop.{Loop}
 use Rattle.model_loop.specs.Owning.{is_plain, is_plain_at}
 use Rattle.model_loop.specs.Parts.{Parts, Plain}
 use Rattle.model_stream.specs.Doing.{Doing, Ends, Changes, Asks, MakeFuture, CallSoon, Settle}
-use Rattle.model_machine.specs.Does.{changed, does}
+use Rattle.model_machine.specs.Does.{does}
 use Rattle.model_machine.specs.State.{State, noted, unbooked_in}
 use Rattle.model_machine.specs.Told.{told_by, told_in}
 use Rattle.model_machine.specs.Went.{answered_so, ask_so, fitted_so}

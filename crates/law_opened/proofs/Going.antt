@@ -25,10 +25,10 @@ use Rattle.law_opened.proofs.Replying.{end_keeps}
 
 module _ {S : Type 0} (s : State S) (kept : AreStreamsFutures s) where
   tree_is : (tree : Doing Streams)
-      → Keeping (KeepsStreams (is_plain s.loop.parts) (next_future s.loop.parts)) (is_plain s.loop.parts) (next_future s.loop.parts) tree
+      → Keeping (KeepsStreams (is_plain s.loop.parts) (next_future s.loop.parts) s.streams) (is_plain s.loop.parts) (next_future s.loop.parts) tree
       → StreamGoes s (streams_go tree s)
   tree_is tree keeps =
-      tree_ends Stops (StreamGoes s) s stops (KeepsStreams (is_plain s.loop.parts) (next_future s.loop.parts)) goes_with
+      tree_ends Stops (StreamGoes s) s stops (KeepsStreams (is_plain s.loop.parts) (next_future s.loop.parts) s.streams) goes_with
       (λ streams t it k. goes_so t streams (end_keeps s t streams it k)) tree keeps
 
   acts_is : (returned : Bool) (it : Action) → StreamGoes s (streams_go (act (next_future s.loop.parts) returned it s.streams) s)

@@ -1,16 +1,16 @@
 -- What a tree of streams leaves of the machine's state where it ends: the streams are still those from which it began, and of
 -- the loop its parts alone changed.
-use Rattle.std.specs.Prelude.{◌≡◌, ℕ, ◌≤◌, ◌<◌, true}
+use Rattle.std.specs.Prelude.{◌≡◌, ℕ, ◌+◌, ◌≤◌, ◌<◌, true, length}
 use Rattle.model_loop.specs.Futures.{is_pending, next_future}
 use Rattle.model_loop.specs.Owning.{is_plain}
 use Rattle.model_loop.specs.Parts.{Parts, Plain}
-use Rattle.model_stream.specs.Kept.{StreamsKeep}
+use Rattle.model_stream.specs.Kept.{StreamsKeep, times_kept}
 use Rattle.model_stream.specs.Streams.{Streams}
 use Rattle.model_machine.specs.State.{State}
 use Rattle.model_machine.specs.Told.{told_in}
 use Rattle.law_changes.specs.Changes.{PartsChange, CallsSoon, MakesFuture, Settles, made_of_parts}
 use Rattle.law_changes.specs.Reaches.{Reaches}
-use Rattle.law_trees.specs.Trees.{is_of_streams, names_nobody}
+use Rattle.law_trees.specs.Trees.{is_of_streams, made_in, names_nobody}
 
 -- a change of the parts that a tree may make
 abbrev pub MayInTree : PartsChange → Parts → Type 0
@@ -34,7 +34,12 @@ pub record IsTreeEnd {S : Type 0} (s t : State S) : Type 0 where
   pub made : (future : ℕ) → next_future s.loop.parts ≤ future → future < next_future t.loop.parts
       → (is_plain t.loop.parts future ≡ true) × (is_pending t.loop.parts future ≡ true)
 
--- with the streams that it ends with, each future that these keep is a plain one
+-- With the streams that it ends with, each future that these keep is a plain one, and kept no more often than before, but for
+-- those that were made; and what was open is open still.
 pub record IsStreamsEnd {S : Type 0} (s t : State S) (streams : Streams) : Type 0 where
   pub ended : IsTreeEnd s t
   pub kept : StreamsKeep (λ future. is_plain t.loop.parts future ≡ true) streams
+  pub times : (future : ℕ)
+      → times_kept future streams ≤ times_kept future s.streams + made_in (next_future s.loop.parts) (next_future t.loop.parts) future
+  pub connections : length s.streams.connections ≤ length streams.connections
+  pub children : length s.streams.children ≤ length streams.children

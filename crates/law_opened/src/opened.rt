@@ -6,7 +6,7 @@ ghost use Rattle.model_value.specs.Request.{Request};
 ghost use Rattle.model_machine.specs.Extra.{Extra};
 ghost use Rattle.model_machine.specs.Replies.{reply};
 ghost use Rattle.model_machine.specs.Sound.{AreStreamsFutures};
-ghost use Rattle.model_machine.specs.State.{State};
+ghost use Rattle.model_machine.specs.State.{Asked, State};
 ghost use Rattle.model_machine.specs.Turn.{effect};
 ghost use Rattle.law_trees.specs.Trees.{is_of_streams};
 ghost use Rattle.law_cases.specs.Closed.{is_to_streams};
@@ -17,7 +17,7 @@ ghost use Rattle.law_opened.specs.StreamReplies.{StreamGoes, StreamReplies};
 pub fn streams_come_to_cases<S>()
     ensures requests { (added : Extra S) (task : ℕ) (s : State S) → AreStreamsFutures s
         → (asked : Request) → is_to_streams asked ≡ true
-        → StreamReplies task s asked (reply added task asked s) }
+        → StreamReplies task Asked s asked (reply added task asked s) }
     ensures callbacks { (limit : ℕ) (added : Extra S) (s : State S) → AreStreamsFutures s
         → (it : Action) → is_of_streams it ≡ true → StreamGoes s (effect limit added it s) }
 {}

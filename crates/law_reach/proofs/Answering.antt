@@ -6,7 +6,7 @@ use Rattle.model_value.specs.Input.{Input}
 use Rattle.model_value.specs.Request.{Request}
 use Rattle.model_value.specs.Value.{Outcome, Exc}
 use Rattle.model_loop.specs.Futures.{next_future}
-use Rattle.model_loop.specs.Groups.{GroupExit, Waits, Passes, Raises as RaisedBy, exit_begin, exit_woken}
+use Rattle.model_loop.specs.Groups.{GroupExit, Waits, Passes, Raises as RaisedBy, exit_begin}
 use Rattle.model_loop.specs.Ledger.{ByScript}
 use Rattle.model_loop.specs.Loop.{Loop}
 use Rattle.model_loop.specs.Parts.{Plain}
@@ -14,13 +14,13 @@ use Rattle.model_loop.specs.Timeouts.{exit_timeout}
 use Rattle.model_machine.specs.Extra as extra
 use Rattle.model_machine.specs.Extra.{Extra, ExtraAnswer, ExtraCall, ExtraSaid, called}
 use Rattle.model_machine.specs.Outcomes.{input_of}
-use Rattle.model_machine.specs.Replies.{RequestReply, Wake, alarmed, decides, ended, exits_as, exits_timeout, replied, reply, serves, serves_as}
+use Rattle.model_machine.specs.Replies.{RequestReply, Wake, alarmed, ended, exits_as, exits_timeout, replied, serves, serves_as}
 use Rattle.model_machine.specs.Replies.{serves_until}
 use Rattle.model_machine.specs.Replies.{shown_all, timed_out_if, waits, woken, woken_within}
-use Rattle.model_machine.specs.State.{Standing, Asked, Sleeping, Leaving, Serving, Connecting, Yielding, Reading, ReadingAll, State, unbooked_in, with_loop}
+use Rattle.model_machine.specs.State.{Sleeping, Leaving, Serving, State, unbooked_in, with_loop}
 use Rattle.law_changes.specs.Changes.{CallsSoon, CallsLater, MakesFuture, Settles, MakesTask, OfParts}
 use Rattle.law_changes.specs.Reaches.{stays, goes, LoopReaches}
-use Rattle.law_changes.proofs.LoopRows.{asks_row, create_row, enter_group_row, enter_row, exit_begin_row, exit_timeout_row, exit_woken_row}
+use Rattle.law_changes.proofs.LoopRows.{asks_row, create_row, enter_group_row, enter_row, exit_begin_row, exit_timeout_row}
 use Rattle.law_changes.proofs.LoopRows.{reschedule_row, suspend_row, takes_row}
 use Rattle.law_changes.proofs.Folds.{one, on}
 use Rattle.law_cases.specs.Cases.{Replies, raises, leaves_none, exits_none, tells, names_itself, hands_on, pauses_on, alarms, awaits, prints, makes, sets}

@@ -1,6 +1,6 @@
 -- What each request and each wait comes to, whatever is open.
-use Rattle.std.proofs.Common.{◌≡◌, inl, inr, ◌⊎◌, ℕ, zero, suc, ◌&&◌, ℤ, pos, negsuc, refl, sym, subst}
-use Rattle.std.proofs.Common.{ap, ◌∙◌, Bool, true, false, List, [], ◌++◌, Option, Some, None}
+use Rattle.std.proofs.Common.{◌≡◌, inl, inr, ◌⊎◌, ℕ, ◌&&◌, ℤ, pos, negsuc, refl, sym, subst}
+use Rattle.std.proofs.Common.{Bool, true, false, List, [], ◌++◌, Option, Some, None}
 use Rattle.std.proofs.Common.{nat_lt}
 use Rattle.std.proofs.lemmas.Bool.{false≢true}
 use Rattle.model_value.specs.declared.action.Action.TheVariants as action
@@ -12,7 +12,6 @@ use Rattle.model_value.specs.Value.{Value, Nothing, Bytes, Outcome, Exc}
 use Rattle.model_wire.specs.declared.event.Handed.{Handed}
 use Rattle.model_loop.specs.Futures.{next_future}
 use Rattle.model_loop.specs.Groups.{exit_woken}
-use Rattle.model_loop.specs.Tasks.{pause}
 use Rattle.model_stream.specs.declared.answers.ChildWait.{ChildWait}
 use Rattle.model_stream.specs.declared.answers.ChildWait.TheVariants as wait_as
 use Rattle.model_stream.specs.declared.answers.Drain.TheVariants as drain_as
@@ -24,7 +23,7 @@ use Rattle.model_stream.specs.declared.put.Limited.TheVariants as limited
 use Rattle.model_stream.specs.declared.read_op.ReadOp.TheVariants.{UpTo, Exactly, Until, Line}
 use Rattle.model_stream.specs.Doing.{Doing}
 use Rattle.model_stream.specs.Reading.{ReadOp}
-use Rattle.model_stream.specs.Receivers.{AllGot, StreamGot}
+use Rattle.model_stream.specs.Receivers.{StreamGot}
 use Rattle.model_stream.specs.Requests.{StreamReader, write, drain, limits, write_eof, close, closed_future}
 use Rattle.model_stream.specs.Requests.{drop_connect, read, read_all, give_up_read, wait, kill}
 use Rattle.model_stream.specs.Senders.{Drain}
@@ -40,14 +39,14 @@ use Rattle.model_machine.specs.Replies.{launches_as, limits_as, listens, listens
 use Rattle.model_machine.specs.Replies.{reads_all, reads_all_as, reads_as, reads_count, reply, streams_change, streams_do, to_port, to_port_if, waits}
 use Rattle.model_machine.specs.Replies.{waits_no_more, writes_as}
 use Rattle.model_machine.specs.Sound.{IsClosed}
-use Rattle.model_machine.specs.State.{Standing, Asked, Sleeping, Leaving, Serving, Connecting, Yielding, Reading, ReadingAll, State, stands, unbooked_in}
+use Rattle.model_machine.specs.State.{Standing, Asked, Sleeping, Leaving, Serving, Connecting, Yielding, Reading, ReadingAll, State, stands}
 use Rattle.model_machine.specs.State.{with_streams}
 use Rattle.law_changes.specs.Changes.{CallsSoon, OfParts}
 use Rattle.law_changes.specs.Reaches.{stays, goes}
 use Rattle.law_changes.proofs.LoopRows.{exit_woken_row}
 use Rattle.law_changes.proofs.Folds.{one}
 use Rattle.model_stream.specs.Kept.{StreamsKeep}
-use Rattle.law_trees.specs.Trees.{AllWaits, AnswersStreams, ConnectWaits, DrainWaits, ExitWaits, IsOwn, Keeping, KeepsStreams, ReadWaits, WaitsNever}
+use Rattle.law_trees.specs.Trees.{AllWaits, AnswersStreams, ConnectsStreams, DrainWaits, ExitWaits, IsOwn, Keeping, KeepsStreams, ReadWaits, WaitsNever}
 use Rattle.law_trees.proofs.Composing.{streams_all}
 use Rattle.law_trees.proofs.Asking as asking
 use Rattle.law_trees.proofs.Opening as opening
@@ -56,7 +55,7 @@ use Rattle.law_cases.specs.Closed.{is_to_streams}
 use Rattle.law_reach.specs.Reaches.{ComesTo}
 use Rattle.law_reach.proofs.Answering.{case_comes, exits_comes, replied_comes, waits_row, woken_comes}
 use Rattle.law_cases.proofs.Cases.{reply_is}
-use Rattle.law_cases.proofs.Closed.{drains_none, drops_none, gives_up_none, reads_all_none, reads_none}
+use Rattle.law_cases.proofs.Closed.{drains_none, drops_none, gives_up_none, reads_all_none, reads_none, refused}
 use Rattle.law_reach.proofs.Rows.{closed_or_open}
 use Rattle.law_reach.proofs.Trees.{comes_after, tree_comes}
 
@@ -104,16 +103,18 @@ module _ {S : Type 0} (task : ℕ) where
   with_comes : (streams : Streams) (t : State S) (it : RequestReply S) → IsOpen t → Comes (with_streams streams t) it → Comes t it
   with_comes streams t it opened comes = comes_after (Some task) (one (ChangesStreams streams) opened) refl comes
 
-  change_comes : (n : ℕ) (tree : Doing Streams) (next : State S → RequestReply S) (s : State S) → Keeping (KeepsStreams any n) any n tree → IsOpen s
+  change_comes : (n : ℕ) (tree : Doing Streams) (next : State S → RequestReply S) (s : State S)
+      → Keeping (KeepsStreams any n s.streams) any n tree → IsOpen s
       → ((t : State S) → Comes t (next t)) → Comes s (streams_change tree next s)
   change_comes n tree next s keeps opened each =
-      tree_comes (Some task) (KeepsStreams any n) any n tree (λ streams now. next (with_streams streams now)) s keeps opened
+      tree_comes (Some task) (KeepsStreams any n s.streams) any n tree (λ streams now. next (with_streams streams now)) s keeps opened
       (λ streams t o. with_comes streams t (next (with_streams streams t)) o (each (with_streams streams t)))
 
   do_comes : {R : Type 0} (Waits : (ℕ → Type 0) → R → Type 0) (n : ℕ) (tree : Doing (Streams × R)) (next : R → State S → RequestReply S) (s : State S)
-      → Keeping (AnswersStreams Waits any n) any n tree → IsOpen s → ((answer : R) (t : State S) → Comes t (next answer t)) → Comes s (streams_do tree next s)
+      → Keeping (AnswersStreams Waits any n s.streams) any n tree → IsOpen s
+      → ((answer : R) (t : State S) → Comes t (next answer t)) → Comes s (streams_do tree next s)
   do_comes Waits n tree next s keeps opened each =
-      tree_comes (Some task) (AnswersStreams Waits any n) any n tree (λ done now. next done.1 (with_streams done.0 now)) s keeps opened
+      tree_comes (Some task) (AnswersStreams Waits any n s.streams) any n tree (λ done now. next done.1 (with_streams done.0 now)) s keeps opened
       (λ done t o. with_comes done.0 t (next done.1 (with_streams done.0 t)) o (each done.1 (with_streams done.0 t)))
 
   -- ---- what follows
@@ -124,6 +125,13 @@ module _ {S : Type 0} (task : ℕ) where
   connected_comes : (begun : Option (ℕ × ℕ)) (s : State S) → Comes s (connects_as task begun s)
   connected_comes None s = raises_comes _ s
   connected_comes (Some begun) s = stood_comes (Connecting begun.0) begun.1 s
+
+  connects_comes : (port : ℕ) (s : State S) → IsOpen s → Comes s (connects task port s)
+  connects_comes port s opened =
+      let n = next_future s.loop.parts in
+      tree_comes (Some task) (ConnectsStreams any n s.streams) any n (connect port n s.streams) (λ done now. connects_as task done.1 (with_streams done.0 now))
+      s (opening.connects any n port s.streams (any_kept s.streams)) opened
+      (λ done t o. with_comes done.0 t (connects_as task done.1 (with_streams done.0 t)) o (connected_comes done.1 (with_streams done.0 t)))
 
   wrote_comes : (it : Wrote) (s : State S) → Comes s (writes_as it s)
   wrote_comes wrote.Done s = answers_comes _ s
@@ -216,8 +224,7 @@ module _ {S : Type 0} (added : Extra S) (task : ℕ) where
       (opening.listens any (next_future s.loop.parts) at handler s.streams (any_kept s.streams)) o (listened_comes task))))
   streams_comes (request.Connect port) s o is =
       given_comes task (as_int port) _ s (λ number. numbered_comes task (may_connect s.streams) _ s (port_comes task number (connects task) s (λ at.
-      do_comes task ConnectWaits (next_future s.loop.parts) (connect at (next_future s.loop.parts) s.streams) (connects_as task) s
-      (opening.connects any (next_future s.loop.parts) at s.streams (any_kept s.streams)) o (connected_comes task))))
+      connects_comes task at s o)))
   streams_comes (request.Launch words) s o is =
       given_comes task (as_words words) _ s (λ program. numbered_comes task (may_launch s.streams) (launches program) s
       (do_comes task {R = Option ℕ} WaitsNever (next_future s.loop.parts) (launch program (next_future s.loop.parts) s.streams) launches_as s
@@ -270,12 +277,12 @@ module _ {S : Type 0} (added : Extra S) (task : ℕ) where
   reply_comes asked s = at (is_to_streams asked) refl
     where
       by : IsClosed s ⊎ IsOpen s → is_to_streams asked ≡ true → ComesTo (Some task) s (reply added task asked s)
-      by (inl closed) is = case_comes added task s (reply_is added task s asked (λ _. closed))
+      by (inl closed) is = let none = refused s closed added task asked is in subst (ComesTo (Some task) s) (sym none.1) (raises_comes task none.0 s)
       by (inr opened) is = streams_comes asked s opened is
 
       at : (b : Bool) → is_to_streams asked ≡ b → ComesTo (Some task) s (reply added task asked s)
       at true is = by (closed_or_open s) is
-      at false is = case_comes added task s (reply_is added task s asked (λ other. absurd (false≢true (sym is ∙ other))))
+      at false is = case_comes added task s (reply_is added task s asked is)
 
   -- ---- what a task stands at
   drops_comes : (conn : ℕ) (fault : Exc) (s : State S) → ComesTo (Some task) s (streams_change (drop_connect conn s.streams) (Raises fault) s)

@@ -1,6 +1,6 @@
 -- Rows of changes: what may be done in a wider place, that no change opens anything where nothing is open, and how calls and
 -- answers add up.
-use Rattle.std.proofs.Common.{◌≡◌, ◌⊎◌, inl, inr, ℕ, zero, suc, ◌+◌, ◌≤◌, refl, ap, sym, ◌∙◌, arith, List, [], ◌∷◌, ◌++◌, Option, length, subst}
+use Rattle.std.proofs.Common.{◌≡◌, ◌⊎◌, inl, inr, ℕ, zero, suc, refl, ap, sym, ◌∙◌, arith, List, [], ◌∷◌, ◌++◌, Option, length}
 use mathlib.Core.List.{nil≢cons}
 use Rattle.model_wire.specs.declared.event.Event.TheVariants as event
 use Rattle.model_wire.specs.Event.{Event}
@@ -21,7 +21,7 @@ use Rattle.law_changes.proofs.Folds.{widen}
 use Rattle.law_reach.specs.Asked.{IsAnswered, IsAnsweredBefore, ReplyAsks, WentAsks, asks_in}
 use Rattle.law_reach.specs.Changes.{StateChange, OfLoop, Says, MakesCoroutine, Stands, Resumes, NamesFuture, EndsMain, ChangesExtra, ChangesStreams}
 use Rattle.law_reach.specs.Changes.{Runs, Hears, Calls, IsOpen, MayInAnswer, MayInCallback, MayInRun, MayInTurn, made}
-use Rattle.law_reach.specs.Reaches.{EndsIn, HaltsIn, InAnswer, InCallback, InRun, InTurn, IsUnmet, OnlyRunsAway, StopsIn}
+use Rattle.law_reach.specs.Reaches.{EndsIn, HaltsIn, InAnswer, InCallback, InRun, InTurn, StopsIn}
 
 -- ---- in a wider place more may be done
 module _ {S : Type 0} where
@@ -130,12 +130,6 @@ module _ {S : Type 0} {s t : State S} (row : InRun s t) where
   pub stops_before : (it : Went S) → StopsIn t it → StopsIn s it
   stops_before (Goes now) h = tt
   stops_before (Stops how last) h = ends_before how h
-
--- where nothing is open, by a task that runs away
-pub only_away : {S : Type 0} (s : State S) → IsClosed s → (it : Went S) → StopsIn s it → OnlyRunsAway it
-only_away s closed (Goes now) h = tt
-only_away s closed (Stops how last) (inl away) = away
-only_away s closed (Stops how last) (inr met) = absurd (met.0 closed)
 
 -- ---- what is asked
 pub asks-said : (es : List Event) (task : ℕ) (text : List ℕ) → asks_in (es ++ event.Said task text ∷ []) ≡ asks_in es

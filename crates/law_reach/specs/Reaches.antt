@@ -45,11 +45,6 @@ abbrev pub StopsIn : {S : Type 0} → State S → Went S → Type 0
 StopsIn s (Goes now) = Unit {0}
 StopsIn s (Stops how last) = EndsIn s how
 
--- by a task that runs away alone
-abbrev pub OnlyRunsAway : {S : Type 0} → Went S → Type 0
-OnlyRunsAway (Goes now) = Unit {0}
-OnlyRunsAway (Stops how last) = IsRunaway how
-
 -- ---- what a request, a callback and a turn come to
 abbrev pub left_by : {S : Type 0} → RequestReply S → State S
 left_by (Answers value now) = now

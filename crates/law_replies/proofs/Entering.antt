@@ -1,10 +1,10 @@
 -- Requests that make tasks, and those that enter blocks.
 use Rattle.std.proofs.Common.{◌≡◌, ℕ, ◌+◌, ◌<◌, ◌≤◌, ◌⊎◌, inl, inr, ℤ, Bool, true, false, not, ◌&&◌, List, ◌∷◌, Option, Some, None, length}
-use Rattle.std.proofs.Common.{length-append, option_map, cond, ◌==◌, refl, sym, ap, subst, ◌∙◌, arith}
+use Rattle.std.proofs.Common.{length-append, option_map, refl, sym, ap, subst, ◌∙◌, arith}
 use Rattle.std.specs.List.{list_all}
-use Rattle.std.proofs.lemmas.Bool.{cases_eq, cases_lt, eq-eqb, false≢true}
+use Rattle.std.proofs.lemmas.Bool.{cases_eq, cases_lt, false≢true}
 use Rattle.model_value.specs.Input.{Input}
-use Rattle.model_value.specs.declared.action.Action.TheVariants.{GroupDone, Step}
+use Rattle.model_value.specs.declared.action.Action.TheVariants.{GroupDone}
 use Rattle.model_value.specs.declared.input.Input.TheVariants.{Send}
 use Rattle.model_value.specs.declared.request.Request.TheVariants as request
 use Rattle.model_value.specs.Request.{Request}
@@ -17,7 +17,6 @@ use Rattle.model_loop.specs.Groups.{with_child}
 use Rattle.model_loop.specs.Futures.{next_future}
 use Rattle.model_loop.specs.Handles.{deadline}
 use Rattle.model_loop.specs.Loop.{Group as GroupFields, Loop, in_parts}
-use Rattle.model_loop.specs.Parts.{Parts}
 use Rattle.model_loop.specs.Tasks.{lives, next_task, spawn}
 use Rattle.model_loop.specs.Timeouts.{enter_timeout, make_timeout, next_timeout}
 use Rattle.model_loop.specs.Totals.{pending_where}
@@ -28,7 +27,6 @@ use Rattle.model_machine.specs.State.{Asked, Generator, State, generator_of, in_
 use Rattle.model_machine.specs.Step.{says_of}
 use Rattle.model_machine.specs.Told.{told_in}
 use Rattle.law_sound.proofs.Steps.{tags_of_sound}
-use Rattle.law_settling.proofs.Settling.{soon-where}
 use Rattle.law_timeouts.proofs.Firing.{make_timeout_tags}
 use Rattle.law_turns.specs.Replied.{RunsSound, RepliesSound}
 use Rattle.law_after.specs.After.{is_step, IsAfter, IsLoopAfter}
@@ -75,7 +73,7 @@ module _ {S : Type 0} (added : Extra S) (task : ℕ) (s : State S) (asked : Requ
     made_half : IsApart (Some task) (Some task) added with_it
     made_half =
         spawn_keeps added (Some task) coroutine arguments s (record s { loop = l }) (same_tapes s l) a more (half added task Asked asked s is) sound first
-        (over_in true l a.parts) given_ (futures_kept s (record s { loop = l }) refl (λ id h. a.parts.plain id h) is.others.futures)
+        (over_in true l a.parts) given_ (futures_kept s (record s { loop = l }) refl refl (λ id h. a.parts.plain id h) is.others.futures)
 
     its_same : generator_of task with_it ≡ generator_of task s
     its_same =
@@ -189,10 +187,11 @@ module _ {S : Type 0} (added : Extra S) (task : ℕ) (s : State S) (asked : Requ
         loop_keeps added s into (same_tapes s into.loop) (Some task) (Some task) (Some task) (Some task) scheduled.parts (scheduled.parts.same refl) h
         (λ other f. f) (over_in false into.loop scheduled.parts)
         (λ other f l right. standing_kept added (record s { loop = make_timeout task s.loop }) into refl other refl _ _ (Some task) None None None scheduled
-        (λ id e. refl) (record { sleeping = right.sleeping; leaving = right.leaving; leaving_now = right.leaving_now }))
+        refl (λ id e. refl)
+        (record { sleeping = right.sleeping; leaving = right.leaving; leaving_now = right.leaving_now; opened = right.opened }))
         (λ id e f.
         (left_before (record s { loop = make_timeout task s.loop }) into _ _ (Some task) None None None scheduled id refl refl e, (scheduled.groups id).parent))
-        (futures_kept s into refl (λ id k. scheduled.parts.plain id k) is.others.futures) (half added task Asked asked s is)
+        (futures_kept s into refl refl (λ id k. scheduled.parts.plain id k) is.others.futures) (half added task Asked asked s is)
 
     pub enters_timeout_in : IsStepSound added task sent
     enters_timeout_in = record {
@@ -279,9 +278,10 @@ module _ {S : Type 0} (added : Extra S) (task : ℕ) (s : State S) (asked : Requ
           leaving_now = λ id e.
               subst (λ (g : GroupFields). (g.exiting && not g.ended) ≡ true) (sym (entered_old task s.loop id (stood_old id (right.leaving_now id e))))
               (right.leaving_now id e);
+          opened = right.opened;
         })
         (λ id e f. (was_left id e, ap (λ (g : GroupFields). g.parent) (old_left id e)))
-        (record { plain = is.others.futures.plain; once = is.others.futures.once }) (half added task Asked asked s is)
+        (record { plain = is.others.futures.plain; once = is.others.futures.once; apart = is.others.futures.apart }) (half added task Asked asked s is)
 
     pub enters_group_in : IsStepSound added task handed
     enters_group_in = record {

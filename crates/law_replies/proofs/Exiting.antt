@@ -20,7 +20,7 @@ use Rattle.model_loop.specs.Timeouts.{exit_timeout, timeout_fault, timeout_of}
 use Rattle.model_loop.specs.Ways.{is_running}
 use Rattle.model_machine.specs.Extra.{Extra}
 use Rattle.model_machine.specs.Replies.{exits_as, exits_timeout, timed_out_if, waits}
-use Rattle.model_machine.specs.Sound.{AreBlocksOf, IsLeft, IsStateSound, StandsRightly, blocks_of, is_open, names_block, names_made, sends_made}
+use Rattle.model_machine.specs.Sound.{AreBlocksOf, IsLeft, IsOpenedAt, IsStateSound, StandsRightly, blocks_of, is_open, names_block, names_made, sends_made}
 use Rattle.model_machine.specs.State.{Standing, Asked, Sleeping, Leaving, State, generator_of, resumed, stands, with_loop}
 use Rattle.model_machine.specs.Step.{says_of}
 use Rattle.model_machine.specs.Told.{told_in}
@@ -82,7 +82,7 @@ module _ {S : Type 0} (added : Extra S) (task : ℕ) (stood : Standing) (asked :
         (loop_keeps added s t (same_tapes s l) (Some task) (Some task) (Some task) (Some task) a.parts (a.parts.same refl) sound (λ other f. f)
         over (stays_stood added s t (same_tapes s l) (Some task) (Some task) (Some task) (Some task) _ _ timeout group begun a free)
         (leaves_none added s t (same_tapes s l) (Some task) (Some task) (Some task) (Some task) _ _ timeout group begun a free')
-        (futures_kept s t refl (λ id h. a.parts.plain id h) is.others.futures) (half added task stood asked s is))) opened;
+        (futures_kept s t refl refl (λ id h. a.parts.plain id h) is.others.futures) (half added task stood asked s is))) opened;
     standing = resumed_standing added task asked fresh input t (within added task stood asked s is) t_says is.standing;
     begun = resumed_begun added task asked fresh input t (within added task stood asked s is) t_says;
     exits = exits;
@@ -220,7 +220,7 @@ module _ {S : Type 0} (added : Extra S) (task : ℕ) (stood : Standing) (s : Sta
         → RepliesSound task (exits_as (Waits on) task id (with_loop m s)) → IsStateSound added (stands (Leaving id) task (waits task on (with_loop m s)))
     waited fresh on tape b h =
         rest_stood added task stood (request.GroupExit (Group id) raised) s is (waits task on (with_loop m s)) (same_tapes s (book (suspend task on) m))
-        (futures_kept s (waits task on (with_loop m s)) refl (λ k x. c.parts.plain k x) is.others.futures) refl (c.parts.same refl)
+        (futures_kept s (waits task on (with_loop m s)) refl refl (λ k x. c.parts.plain k x) is.others.futures) refl (c.parts.same refl)
         (Leaving id) begun c h not_begun tape (eq-eqb id id refl) right (λ gid e mine'. left gid e mine' (cases_eq id gid))
       where
         c : IsLoopAfter (names_made (next_task s.loop.parts)) false (Some task) None None begun s.loop (book (suspend task on) m)
@@ -240,6 +240,7 @@ module _ {S : Type 0} (added : Extra S) (task : ℕ) (stood : Standing) (s : Sta
           leaving_now = λ gid e.
               subst (λ k. ((group_of m k).exiting && not (group_of m k).ended) ≡ true) (leaving_is id gid (sym stood_now ∙ e))
               (and_both (group_of m id).exiting (not (group_of m id).ended) marks (not_false (group_of m id).ended ((b.groups id).ended refl ∙ group_unended)));
+          opened = subst (IsOpenedAt s.streams) (sym stood_now) tt;
         }
 
         left : (gid : ℕ) → IsLeft (waits task on (with_loop m s)) gid → task ≡ (group_of m gid).parent → (id ≡ gid) ⊎ (id ≡ gid → ⊥)

@@ -135,24 +135,7 @@ module _ {S : Type 0} (added : Extra S) (task : ℕ) (s : State S) (step : IsSte
   fits_in (request.TimeoutExit value raised) says own = timeout_fit value raised says
   fits_in (request.GroupExit value raised) says own = group_fit value raised says
   fits_in (request.Extra code arguments) says own = absurd (false≢true (sym own))
-  fits_in (request.Listen port coroutine) says own = step.others.streams
-  fits_in (request.Connect port) says own = step.others.streams
-  fits_in (request.Write stream bytes) says own = step.others.streams
-  fits_in (request.WriteEof stream) says own = step.others.streams
-  fits_in (request.Close x) says own = step.others.streams
-  fits_in (request.WaitClosed stream) says own = step.others.streams
-  fits_in (request.Drain stream) says own = step.others.streams
-  fits_in (request.Limits stream high low) says own = step.others.streams
-  fits_in (request.Read stream count) says own = step.others.streams
-  fits_in (request.ReadExactly stream count) says own = step.others.streams
-  fits_in (request.ReadUntil stream separator) says own = step.others.streams
-  fits_in (request.ReadLine stream) says own = step.others.streams
-  fits_in (request.Launch words) says own = step.others.streams
-  fits_in (request.StandardError child) says own = step.others.streams
-  fits_in (request.WaitChild child) says own = step.others.streams
-  fits_in (request.ReturnCode child) says own = step.others.streams
-  fits_in (request.Kill child) says own = step.others.streams
-  fits_in _ says own = tt
+  fits_in _ says own = λ to. step.others.streams
 
   -- ---- what it comes to
   pub said_on : (task_ : ℕ) (text : List ℕ) → RunsSound task (noted (event.Said task_ text) s) → IsStepSound added task (noted (event.Said task_ text) s)
@@ -164,16 +147,19 @@ module _ {S : Type 0} (added : Extra S) (task : ℕ) (s : State S) (step : IsSte
       unbegun = step.others.unbegun;
       main_over = step.others.main_over;
       main_told = step.others.main_told;
-      standing = λ k l f. let a = step.others.standing k l f in record { sleeping = a.sleeping; leaving = a.leaving; leaving_now = a.leaving_now };
+      standing = λ k l f.
+          let a = step.others.standing k l f in
+          record { sleeping = a.sleeping; leaving = a.leaving; leaving_now = a.leaving_now; opened = a.opened };
       exits = step.others.exits;
       streams = step.others.streams;
+      kept_once = step.others.kept_once;
       blocks = record {
         timeouts = step.others.blocks.timeouts;
         groups = step.others.blocks.groups;
         entered = step.others.blocks.entered;
         own = step.others.blocks.own;
       };
-      futures = record { plain = step.others.futures.plain; once = step.others.futures.once };
+      futures = record { plain = step.others.futures.plain; once = step.others.futures.once; apart = step.others.futures.apart };
       made = record {
         arguments = step.others.made.arguments;
         tape = step.others.made.tape;
@@ -293,4 +279,4 @@ module _ {S : Type 0} (added : Extra S) (keeps : KeepsSound added) (task : ℕ) 
       at true is = streams_reply_in added task s step asked said is
       at false is =
           case_in asked (reply added task asked s) said refl (sound_of asked said refl)
-          (reply_is added task s asked (λ other. absurd (false≢true (sym is ∙ other))))
+          (reply_is added task s asked is)

@@ -20,7 +20,10 @@ use Rattle.model_loop.specs.Tasks.{cancelling, next_task, pause, uncancel}
 use Rattle.model_machine.specs.Extra.{Extra}
 use Rattle.model_machine.specs.Outcomes.{input_of}
 use Rattle.model_machine.specs.Replies.{Answers, Rests, alarmed, counted, ended, makes_future, pauses, replied, requests, sleeps_for, waits}
-use Rattle.model_machine.specs.Sound.{AreScriptsFutures, NamesItsSleep, StandsRightly, names_block, names_made, sends_made, stands_at}
+use Rattle.model_stream.specs.Kept.{times_kept}
+use Rattle.law_trees.proofs.Fits.{kept_nowhere}
+use Rattle.model_loop.specs.Owning.{is_plain}
+use Rattle.model_machine.specs.Sound.{AreScriptsFutures, IsOpenedAt, NamesItsSleep, StandsRightly, names_block, names_made, sends_made, stands_at}
 use Rattle.model_machine.specs.State.{Standing, Asked, Sleeping, Leaving, State, generator_of, in_loop, resumed, stands, unbooked_in}
 use Rattle.law_cancel.proofs.Lookups.{get-push_last, get-push_other, get_within}
 use Rattle.law_timeouts.proofs.Entries.{entries-given, entries-later, of_tag}
@@ -35,6 +38,7 @@ use Rattle.law_answered.proofs.Answering.{half, left_before, within, step_to, re
 use Rattle.law_inside.proofs.Counts.{none_sleep, no_sleep_of, sleep_kept}
 use Rattle.law_inside.proofs.Given.{ended_made, asked_leaves}
 use Rattle.law_inside.proofs.Keeping.{futures_kept, stood_standing}
+use Rattle.law_inside.proofs.Replacing.{unmade}
 
 sleeping_is : (a b : ℕ) → Sleeping a ≡ Sleeping b → a ≡ b
 sleeping_is a b e = ap (λ st. tag_in st) e
@@ -65,7 +69,7 @@ module _ {S : Type 0} (added : Extra S) (task : ℕ) (s : State S) (asked : Requ
 
   scripts : (l : Loop) → IsLoopAfter (names_made (next_task s.loop.parts)) false (Some task) None None None s.loop l
       → AreScriptsFutures (record s { loop = l })
-  scripts l a = futures_kept s (record s { loop = l }) refl (λ id h. a.parts.plain id h) is.others.futures
+  scripts l a = futures_kept s (record s { loop = l }) refl refl (λ id h. a.parts.plain id h) is.others.futures
 
   -- ---- a sleep
   abbrev slept : ℤ → State S
@@ -111,6 +115,7 @@ module _ {S : Type 0} (added : Extra S) (task : ℕ) (s : State S) (asked : Requ
         task s.loop.parts.next_tag (alarm_named delay));
     leaving = λ id e. absurd (sleeps_leaves s.loop.parts.next_tag id (sym stood ∙ e));
     leaving_now = λ id e. absurd (sleeps_leaves s.loop.parts.next_tag id (sym stood ∙ e));
+    opened = subst (IsOpenedAt s.streams) (sym stood) tt;
   }
     where
       stood : (generator_of task (stands (Sleeping s.loop.parts.next_tag) task (slept delay))).standing ≡ Sleeping s.loop.parts.next_tag
@@ -121,7 +126,11 @@ module _ {S : Type 0} (added : Extra S) (task : ℕ) (s : State S) (asked : Requ
   made_state = unbooked_in new_plain (record s { futures = s.futures ++ next_future s.loop.parts ∷ [] })
 
   made_scripts : AreScriptsFutures made_state
-  made_scripts = record { plain = λ place id e. plain place id e (cases_eq place (length s.futures)); once = once }
+  made_scripts = record {
+    plain = λ place id e. plain place id e (cases_eq place (length s.futures));
+    once = once;
+    apart = λ place id e. apart place id e (cases_eq place (length s.futures));
+  }
     where
       old : (place id : ℕ) → slice_get s.futures place ≡ Some id → id < next_future s.loop.parts
       old place id e = let f = is.others.futures.plain place id e in get_within s.loop.parts.futures id f.0 f.1
@@ -143,6 +152,15 @@ module _ {S : Type 0} (added : Extra S) (task : ℕ) (s : State S) (asked : Requ
           let f = is.others.futures.plain place id before in
           let w = old place id before in
           (f.0, get-push_other s.loop.parts.futures _ id (λ x. absurd (omega (arith, w, x))) ∙ f.1, f.2)
+
+      -- what isn't made so far is kept nowhere
+      apart : (place id : ℕ) → slice_get (s.futures ++ next_future s.loop.parts ∷ []) place ≡ Some id
+          → (place ≡ length s.futures) ⊎ (place ≡ length s.futures → ⊥) → times_kept id s.streams ≡ 0
+      apart place id e (inl same) =
+          subst (λ k. times_kept k s.streams ≡ 0) (last place id same e)
+          (kept_nowhere (λ k. is_plain s.loop.parts k ≡ true) (next_future s.loop.parts) (unmade s.loop.parts (next_future s.loop.parts) (le_refl _))
+          s.streams is.others.streams)
+      apart place id e (inr n) = is.others.futures.apart place id (sym (get-push_other s.futures (next_future s.loop.parts) place n) ∙ e)
 
       once : (place other id : ℕ) → slice_get (s.futures ++ next_future s.loop.parts ∷ []) place ≡ Some id
           → slice_get (s.futures ++ next_future s.loop.parts ∷ []) other ≡ Some id → place ≡ other

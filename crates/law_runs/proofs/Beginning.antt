@@ -21,7 +21,7 @@ use Rattle.model_loop.specs.Tasks.{begin_step, cancelled_error, cancelling_input
 use Rattle.model_loop.specs.Ways.{is_running, one_if, steps, wanted}
 use Rattle.model_machine.specs.Extra.{Extra}
 use Rattle.model_machine.specs.Replies.{Answers, decides, exits_as, replied}
-use Rattle.model_machine.specs.Sound.{IsStateSound, ends_sleep_of, blocks_of, names_block, names_made, sends_made, stands_at}
+use Rattle.model_machine.specs.Sound.{IsOpenedAt, IsStateSound, ends_sleep_of, blocks_of, names_block, names_made, sends_made, stands_at}
 use Rattle.model_machine.specs.State.{Standing, Asked, Sleeping, Leaving, Serving, Connecting, Yielding, Reading}
 use Rattle.model_machine.specs.State.{ReadingAll, State, generator_of, noted, resumed, stands, unbooked_in}
 use Rattle.model_machine.specs.State.{with_loop}
@@ -42,7 +42,7 @@ use Rattle.law_cases.specs.Closed.{stands_at_streams}
 use Rattle.law_opened.specs.StreamReplies.{StreamReplies}
 use Rattle.law_opened.proofs.Replying.{streams_decide, woken_at}
 use Rattle.law_answered.proofs.Streaming.{streams_in, streams_leave}
-use Rattle.law_answered.proofs.Standing.{not_pause_at, streams_to, woken_asked, woken_tape}
+use Rattle.law_answered.proofs.Standing.{not_pause_at, streams_to, woken_asked, woken_tape, woken_opened}
 use Rattle.law_turns.proofs.Streaming.{streams_sound}
 use Rattle.law_inside.specs.InStep.{IsStepSound, IsAsked, RepliesInStep}
 use Rattle.law_answered.proofs.Answering.{left_before, step_to}
@@ -309,7 +309,7 @@ module _ {S : Type 0} (added : Extra S) (s : State S) (task : ℕ) (input : Inpu
       (λ other id f e r. refl))
       (leaves_none added s t (record { program = refl; generators = refl; streams = refl }) None (Some task) None (Some task) _ _ None None None moved_after
       (λ id f. (refl, refl)))
-      (futures_kept s t refl (λ id h. moved_after.parts.plain id h) sound.futures) (apart_of added None None s sound)
+      (futures_kept s t refl refl (λ id h. moved_after.parts.plain id h) sound.futures) (apart_of added None None s sound)
 
   pub begun_asked : (asked : Request) → says_of step_limit added task s ≡ Asks asked → IsAsked added task (generator_of task s).standing asked begun
   begun_asked asked says = record {
@@ -383,15 +383,19 @@ module _ {S : Type 0} (added : Extra S) (s : State S) (task : ℕ) (input : Inpu
             to st e (streams_leave st at_streams) asked says may heard_ (subst (λ i. sends_made (next_task s.loop.parts) i ≡ true) same (heard_made st))
 
         at : ((value : Value) × (heard st ≡ Send value) × (decides added st task (heard st) begun ≡ Answers value begun))
-            ⊎ StreamReplies task (woken_at st begun) asked (decides added st task (heard st) begun)
+            ⊎ StreamReplies task st (woken_at st begun) asked (decides added st task (heard st) begun)
             → RepliesInStep added true task (decides added st task (heard st) begun)
         at (inl told) = subst (RepliesInStep added true task) (sym told.2) (here (Send told.0) told.1)
         at (inr it) =
             let is = woken_asked st (begun_asked asked says) in
+            let was =
+            woken_opened begun st (begun_asked asked says).others.streams (subst (IsOpenedAt s.streams) e (sound.standing task stepped_lives refl).opened) in
             streams_in added task (generator_of task s).standing asked (woken_at st begun) is (λ id x. streams_leave st at_streams id (sym e ∙ x))
             (woken_tape task begun st (λ x. not_pause_at st asked at_streams may (sym (pause_first added task begun x) ∙ (begun_asked asked says).says)))
-            (streams_to st asked at_streams may) true (decides added st task (heard st) begun)
-            (streams_sound task (woken_at st begun) asked (decides added st task (heard st) begun) it is.others.loop) it
+            (streams_to st asked at_streams may) true (subst (IsOpenedAt (woken_at st begun).streams) (sym e) was)
+            (decides added st task (heard st) begun)
+            (streams_sound task st (woken_at st begun) asked (decides added st task (heard st) begun) it is.others.loop)
+            (subst (λ k. StreamReplies task k (woken_at st begun) asked (decides added st task (heard st) begun)) (sym e) it)
 
     decided : (st : Standing) → (generator_of task s).standing ≡ st → (asked : Request) → says_of step_limit added task s ≡ Asks asked
         → stands_at st asked ≡ true → RepliesInStep added true task (decides added st task (heard st) begun)

@@ -197,13 +197,14 @@ module _ {S : Type 0} (added : Extra S) (keeps : KeepsSound added) (s : State S)
       (settle_after (names_made (next_task s.loop.parts)) false None future (Returned Nothing) (taken rest s.loop.parts) refl)) a in
       nobody added s sound _ (record { program = refl; generators = refl; streams = refl }) refl
       (over_as added s sound (in_parts (settle future (Returned Nothing)) (in_parts (taken rest) s.loop)) b) b
-      (loop_of (action.SleepDone task future) is live tt)
+      (loop_of (action.SleepDone task future) is live (λ of. absurd (false≢true of)))
   lively (action.GroupDone group task) is live =
       let a = taken_by (no_step (action.GroupDone group task) is (λ other. refl)) in
       let b = loop_on (names_made (next_task s.loop.parts)) refl false None None None None s.loop (in_parts (taken rest) s.loop) _
       (child_done_loop (names_made (next_task s.loop.parts)) refl false None None None None group task (in_parts (taken rest) s.loop)) a in
       nobody added s sound _ (record { program = refl; generators = refl; streams = refl }) refl
-      (over_as added s sound (child_done group task (in_parts (taken rest) s.loop)) b) b (loop_of (action.GroupDone group task) is live tt)
+      (over_as added s sound (child_done group task (in_parts (taken rest) s.loop)) b) b
+      (loop_of (action.GroupDone group task) is live (λ of. absurd (false≢true of)))
   lively (action.Fires timeout) is live =
       let a = taken_by (no_step (action.Fires timeout) is (λ other. refl)) in
       let b = loop_on (names_made (next_task s.loop.parts)) refl false None None None None s.loop (in_parts (taken rest) s.loop) _
@@ -211,25 +212,14 @@ module _ {S : Type 0} (added : Extra S) (keeps : KeepsSound added) (s : State S)
       (active_open (timeout_of s.loop timeout).state
       (was_active timeout handle rest s.loop first live is (tags_of_sound None (told_in s.events) s.loop sound.loop)))) a in
       nobody added s sound _ (record { program = refl; generators = refl; streams = refl }) refl
-      (over_as added s sound (fire timeout (in_parts (taken rest) s.loop)) b) b (loop_of (action.Fires timeout) is live tt)
+      (over_as added s sound (fire timeout (in_parts (taken rest) s.loop)) b) b (loop_of (action.Fires timeout) is live (λ of. absurd (false≢true of)))
   lively action.MainDone is live = main_in is live
   lively (action.ExtraItem code bytes) is live =
       keeps.item code bytes (noted (event.Ran (action.ExtraItem code bytes)) out)
       (idle_in (action.ExtraItem code bytes) is refl (λ id. refl) (λ g. refl) (λ other. refl))
   lively (action.Extra key) is live =
       keeps.act key (noted (event.Ran (action.Extra key)) out) (idle_in (action.Extra key) is refl (λ id. refl) (λ g. refl) (λ other. refl))
-  lively (action.Made conn) is live = streams_handle (action.Made conn) is refl (λ id. refl) (λ g. refl) (λ other. refl)
-  lively (action.StartRead conn) is live = streams_handle (action.StartRead conn) is refl (λ id. refl) (λ g. refl) (λ other. refl)
-  lively (action.Lost conn broken) is live = streams_handle (action.Lost conn broken) is refl (λ id. refl) (λ g. refl) (λ other. refl)
-  lively (action.HandlerDone conn task) is live = streams_handle (action.HandlerDone conn task) is refl (λ id. refl) (λ g. refl) (λ other. refl)
-  lively (action.ReadableServer server) is live = streams_handle (action.ReadableServer server) is refl (λ id. refl) (λ g. refl) (λ other. refl)
-  lively (action.Readable conn) is live = streams_handle (action.Readable conn) is refl (λ id. refl) (λ g. refl) (λ other. refl)
-  lively (action.Writable conn) is live = streams_handle (action.Writable conn) is refl (λ id. refl) (λ g. refl) (λ other. refl)
-  lively (action.Up conn) is live = streams_handle (action.Up conn) is refl (λ id. refl) (λ g. refl) (λ other. refl)
-  lively (action.Down conn) is live = streams_handle (action.Down conn) is refl (λ id. refl) (λ g. refl) (λ other. refl)
-  lively (action.WritableChild child) is live = streams_handle (action.WritableChild child) is refl (λ id. refl) (λ g. refl) (λ other. refl)
-  lively (action.ChildItem child told) is live = streams_handle (action.ChildItem child told) is refl (λ id. refl) (λ g. refl) (λ other. refl)
-  lively (action.LostChild child broken) is live = streams_handle (action.LostChild child broken) is refl (λ id. refl) (λ g. refl) (λ other. refl)
+  lively it is live = streams_handle it is refl (λ id. refl) (λ g. refl) (λ other. refl)
 
   pub callback_in : LeavesStateSound added (run_first step_limit added handle rest s)
   callback_in = at handle.dead refl

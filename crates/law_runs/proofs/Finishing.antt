@@ -109,7 +109,7 @@ module _ {S : Type 0} (added : Extra S) (task : ℕ) (s : State S) (step : IsSte
         (finish_step_sound (told_in s.events) task end s.loop free step.others.loop) (λ other f. f) over
         (stays_stood added s t (same_tapes s t.loop) (Some task) None (Some task) (Some task) _ _ None None None after (λ other id f e r. refl))
         (leaves_none added s t (same_tapes s t.loop) (Some task) None (Some task) (Some task) _ _ None None None after (λ id f. (refl, refl)))
-        (futures_kept s t refl (λ id h. after.parts.plain id h) step.others.futures) (apart_of added (Some task) (Some task) s step.others))
+        (futures_kept s t refl refl (λ id h. after.parts.plain id h) step.others.futures) (apart_of added (Some task) (Some task) s step.others))
         (open_kept _ _ (Some task) None s.loop t.loop (blocks_of s) (blocks_of t) after
         (tapes_blocks added s t (same_tapes s t.loop) (Some task) None (Some task) (Some task)) (open_of added (Some task) (Some task) s step.others.blocks)))
         (λ l. absurd (dead l)) step.begun (λ l. absurd (dead l))

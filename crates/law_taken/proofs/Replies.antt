@@ -287,5 +287,5 @@ module _ {S : Type 0} (added : Extra S) (task : ℕ) (s : State S) (step : IsSte
   reply_in asked said = at (is_to_streams asked) refl
     where
       at : (b : Bool) → is_to_streams asked ≡ b → Covers (reply added task asked s)
-      at true is = streams_covers s right c task asked (reply added task asked s) (streams_reply added task s step.others.streams asked is)
-      at false is = case_in asked (reply added task asked s) said (reply_is added task s asked (λ other. absurd (false≢true (sym is ∙ other))))
+      at true is = streams_covers s right c task Asked asked (reply added task asked s) (streams_reply added task s step.others.streams asked is)
+      at false is = case_in asked (reply added task asked s) said (reply_is added task s asked is)

@@ -1,5 +1,5 @@
 -- What streams do leaves what is owed covered: their trees raise and lower no count.
-use Rattle.std.proofs.Common.{◌≡◌, ℕ, ◌⊎◌, inl, inr, Option, Some, None, refl, sym, subst}
+use Rattle.std.proofs.Common.{◌≡◌, ℕ, ◌⊎◌, inl, inr, Some, None, refl, sym, subst}
 use Rattle.std.proofs.lemmas.Bool.{false≢true}
 use Rattle.std.proofs.Common.{true, false}
 use Rattle.model_value.specs.declared.action.Action.TheVariants as action
@@ -9,14 +9,14 @@ use Rattle.model_value.specs.Input.{Input}
 use Rattle.model_value.specs.Request.{Request}
 use Rattle.model_value.specs.Value.{Value}
 use Rattle.model_loop.specs.Futures.{register}
-use Rattle.model_loop.specs.Loop.{Loop, book, in_parts}
+use Rattle.model_loop.specs.Loop.{book, in_parts}
 use Rattle.model_loop.specs.Owning.{is_main_done}
 use Rattle.model_loop.specs.Parts.{Parts}
 use Rattle.model_loop.specs.Suspend.{suspend}
 use Rattle.model_loop.specs.Tasks.{future_of, next_task, pause, spawn}
 use Rattle.model_machine.specs.Extra.{Extra}
 use Rattle.model_machine.specs.Outcomes.{input_of}
-use Rattle.model_machine.specs.Replies.{RequestReply, Answers, decides, replied, waits}
+use Rattle.model_machine.specs.Replies.{RequestReply, Answers, decides, replied}
 use Rattle.model_machine.specs.Sound.{AreStreamsFutures, stands_at}
 use Rattle.model_machine.specs.State.{Standing, Asked, Sleeping, Leaving, Serving, Connecting, Yielding, Reading, ReadingAll, State}
 use Rattle.model_machine.specs.Went.{Went, state_of}
@@ -73,19 +73,20 @@ module _ {S : Type 0} (s : State S) (right : IsRight s.loop) (c : IsCovered s.lo
   replied_covers (Throw fault) = c
 
   -- ---- each case
-  pub streams_covers : (task : ℕ) (asked : Request) (it : RequestReply S) → StreamReplies task s asked it → IsCovered (reply_state it).loop
-  streams_covers task asked it (refuses fault) = c
-  streams_covers task asked it (tells value none) = c
-  streams_covers task asked it (hands_on on outcome e) = replied_covers (input_of outcome)
-  streams_covers task asked it (awaits on here may) = covers s.loop (book (suspend task on) s.loop) (easy_suspend task on s.loop) right c
-  streams_covers task asked it (halts how last end) = end_covers last end
-  streams_covers task asked it (answers t streams value end none) = end_covers t end.ended
-  streams_covers task asked it (raises t streams fault end) = end_covers t end.ended
-  streams_covers task asked it (waits_on t streams on end here may) =
+  pub streams_covers : (task : ℕ) (stood : Standing) (asked : Request) (it : RequestReply S) → StreamReplies task stood s asked it
+      → IsCovered (reply_state it).loop
+  streams_covers task stood asked it (refuses fault) = c
+  streams_covers task stood asked it (tells value none) = c
+  streams_covers task stood asked it (hands_on on outcome e) = replied_covers (input_of outcome)
+  streams_covers task stood asked it (awaits on here may) = covers s.loop (book (suspend task on) s.loop) (easy_suspend task on s.loop) right c
+  streams_covers task stood asked it (halts how last end) = end_covers last end
+  streams_covers task stood asked it (answers t streams value end none) = end_covers t end.ended
+  streams_covers task stood asked it (raises t streams fault end) = end_covers t end.ended
+  streams_covers task stood asked it (waits_on t streams on end here may) =
       covers t.loop (book (suspend task on) t.loop) (easy_suspend task on t.loop) (end_right t end.ended) (end_covers t end.ended)
-  streams_covers task asked it (stands_on t streams standing on end here at may) =
+  streams_covers task stood asked it (stands_on t streams standing on end here at may opened) =
       covers t.loop (book (suspend task on) t.loop) (easy_suspend task on t.loop) (end_right t end.ended) (end_covers t end.ended)
-  streams_covers task asked it (yields t streams whom end may) =
+  streams_covers task stood asked it (yields t streams whom end may opened) =
       covers t.loop (in_parts (pause task) t.loop) (easy_change task (OfParts (CallsSoon (action.Step task))) t.loop refl) (end_right t end.ended)
       (end_covers t end.ended)
 
@@ -127,8 +128,9 @@ pub decides_covers : {S : Type 0} (added : Extra S) (task : ℕ) (s : State S) �
 decides_covers added task s right c kept asked standing input is may = at (streams_decide added task s kept asked standing input is may)
   where
     at : ((value : Value) × (input ≡ Send value) × (decides added standing task input s ≡ Answers value s))
-        ⊎ StreamReplies task (woken_at standing s) asked (decides added standing task input s)
+        ⊎ StreamReplies task standing (woken_at standing s) asked (decides added standing task input s)
         → IsCovered (reply_state (decides added standing task input s)).loop
     at (inl told) = subst (λ it. IsCovered (reply_state it).loop) (sym told.2) c
     at (inr it) =
-        streams_covers (woken_at standing s) (woken_right standing s right) (woken_covers standing s c) task asked (decides added standing task input s) it
+        streams_covers (woken_at standing s) (woken_right standing s right) (woken_covers standing s c) task standing asked
+        (decides added standing task input s) it

@@ -1,6 +1,6 @@
 -- Callbacks, turns and runs leave what is owed covered, so the ledger is right.
 use Rattle.std.proofs.Common.{◌≡◌, ℕ, zero, suc, Bool, true, false, not, ◌&&◌, List, [], ◌∷◌, Option, Some, None, Ok, Err, filter, nat_le, nat_lt}
-use Rattle.std.proofs.Common.{refl, ap, sym, subst, ◌∙◌, le_refl, arith}
+use Rattle.std.proofs.Common.{refl, ap, subst, ◌∙◌, le_refl, arith}
 use Rattle.std.proofs.lemmas.Bool.{eq-eqb}
 use Rattle.model_value.specs.Action.{Action}
 use Rattle.model_value.specs.Input.{Input}

@@ -1,6 +1,6 @@
 -- Trees put together, and what is kept where more is so.
-use Rattle.std.proofs.Common.{◌≡◌, ◌⊎◌, inl, inr, ℕ, zero, suc, ◌+◌, ◌≤◌, ◌<◌, Bool, true, false, cond, List, [], ◌∷◌, ◌++◌, Option, Some, None, slice_get}
-use Rattle.std.proofs.Common.{slice_set, refl, ap, subst, arith}
+use Rattle.std.proofs.Common.{◌≡◌, ◌⊎◌, inl, inr, ℕ, zero, suc, ◌+◌, ◌≤◌, Bool, true, false, cond, List, [], ◌∷◌, ◌++◌, Option, Some, None, slice_get}
+use Rattle.std.proofs.Common.{slice_set, ap, subst, arith}
 use Rattle.std.specs.Option.{option_map_or}
 use Rattle.model_value.specs.Value.{Outcome}
 use Rattle.model_wire.specs.Call.{Call}
@@ -107,6 +107,14 @@ module _ (own : ℕ → Bool) where
   keeping_then Left next (Changes (CallSoon it) rest) then_ h = (h.0, keeping_then Left next rest then_ h.1)
   keeping_then Left next (Changes (Settle future outcome) rest) then_ h = (h.0, keeping_then Left next rest then_ h.1)
   keeping_then Left next (Asks asked rest) then_ h = (h.0, λ answer. keeping_then Left next (rest answer) then_ (h.1 answer))
+
+  pub keeping_more : {A : Type 0} (Left More : ℕ → A → Type 0) → ((next : ℕ) (result : A) → Left next result → More next result)
+      → (next : ℕ) (doing : Doing A) → Keeping Left own next doing → Keeping More own next doing
+  keeping_more Left More more next (Ends result) h = more next result h
+  keeping_more Left More more next (Changes MakeFuture rest) h = keeping_more Left More more (next + 1) rest h
+  keeping_more Left More more next (Changes (CallSoon it) rest) h = (h.0, keeping_more Left More more next rest h.1)
+  keeping_more Left More more next (Changes (Settle future outcome) rest) h = (h.0, keeping_more Left More more next rest h.1)
+  keeping_more Left More more next (Asks asked rest) h = (h.0, λ answer. keeping_more Left More more next (rest answer) (h.1 answer))
 
   pub keeping_if : {A : Type 0} (Left : ℕ → A → Type 0) (next : ℕ) (b : Bool) (x y : Doing A) → Keeping Left own next x → Keeping Left own next y
       → Keeping Left own next (cond b x y)

@@ -1,4 +1,5 @@
 pub mod Composing
+pub mod Fits
 pub mod Reading
 pub mod Sending
 pub mod Standing

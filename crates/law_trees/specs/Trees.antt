@@ -1,6 +1,7 @@
 -- What a tree of streams does to the loop: the handles that it appends are of streams, it asks no select, the futures that it
--- settles are its own, with no value of a script's, and those that are kept then were its own or made in it.
-use Rattle.std.specs.Prelude.{◌≡◌, ◌⊎◌, ℕ, ◌+◌, ◌≤◌, ◌<◌, Bool, true, false, Option, Some, None}
+-- settles are its own, with no value of a script's, and those that are kept then were its own or made in it, each as often as
+-- before, or once.
+use Rattle.std.specs.Prelude.{◌≡◌, ◌⊎◌, ℕ, ◌+◌, ◌≤◌, ◌<◌, Bool, true, false, ◌&&◌, Option, Some, None, length, nat_le, nat_lt, if◌then◌else◌}
 use Rattle.model_value.specs.declared.action.Action.TheVariants as action
 use Rattle.model_value.specs.declared.outcome.Outcome.TheVariants.{Value as Returned, Failed}
 use Rattle.model_value.specs.Action.{Action}
@@ -15,7 +16,7 @@ use Rattle.model_stream.specs.Doing.{Doing, Ends, Changes, Asks, MakeFuture, Cal
 use Rattle.model_stream.specs.Receivers.{StreamGot, AllGot}
 use Rattle.model_stream.specs.Senders.{Drain}
 use Rattle.model_stream.specs.Streams.{Streams}
-use Rattle.model_stream.specs.Kept.{StreamsKeep}
+use Rattle.model_stream.specs.Kept.{StreamsKeep, times_kept}
 
 -- a callback of a listener, a connection or a child
 abbrev pub is_of_streams : Action → Bool
@@ -66,12 +67,22 @@ Keeping Left own next (Changes (Settle future outcome) rest) =
 Keeping Left own next (Asks asked rest) = (is_select asked ≡ false) × ((answer : Answer) → Keeping Left own next (rest answer))
 
 -- ---- what a tree ends with: streams
-abbrev pub KeepsStreams : (own : ℕ → Bool) → (first next : ℕ) → Streams → Type 0
-KeepsStreams own first next s = StreamsKeep (IsKnown own first next) s
+-- once, if it was made in it
+abbrev pub made_in : (first next future : ℕ) → ℕ
+made_in first next future = if nat_le first future && nat_lt future next then 1 else 0
+
+-- Of the streams from which it began: a future is kept no more often than there, but for those that were made, and what is open
+-- there is open still.
+pub record KeepsStreams (own : ℕ → Bool) (first : ℕ) (before : Streams) (next : ℕ) (after : Streams) : Type 0 where
+  pub kept : StreamsKeep (IsKnown own first next) after
+  pub times : (future : ℕ) → times_kept future after ≤ times_kept future before + made_in first next future
+  pub connections : length before.connections ≤ length after.connections
+  pub children : length before.children ≤ length after.children
 
 -- and an answer: a future that it waits on was made in it
-abbrev pub AnswersStreams : {R : Type 0} → (Waits : (ℕ → Type 0) → R → Type 0) → (own : ℕ → Bool) → (first next : ℕ) → Streams × R → Type 0
-AnswersStreams Waits own first next done = KeepsStreams own first next done.0 × Waits (IsMade first next) done.1
+abbrev pub AnswersStreams : {R : Type 0} → (Waits : (ℕ → Type 0) → R → Type 0) → (own : ℕ → Bool) → (first : ℕ) → (before : Streams)
+    → (next : ℕ) → Streams × R → Type 0
+AnswersStreams Waits own first before next done = KeepsStreams own first before next done.0 × Waits (IsMade first next) done.1
 
 abbrev pub WaitsNever : {R : Type 0} → (ℕ → Type 0) → R → Type 0
 WaitsNever P answer = Unit {0}
@@ -94,7 +105,11 @@ abbrev pub ExitWaits : (ℕ → Type 0) → ChildWait → Type 0
 ExitWaits P (wait_as.Waits on) = P on
 ExitWaits P (wait_as.Code code) = Unit {0}
 
--- a connect: the connection's number, and the future that it waits on
-abbrev pub ConnectWaits : (ℕ → Type 0) → Option (ℕ × ℕ) → Type 0
-ConnectWaits P None = Unit {0}
-ConnectWaits P (Some begun) = P begun.1
+-- a connect: the connection's number, which is there then, and the future that it waits on
+abbrev pub ConnectWaits : (connections : ℕ) → (ℕ → Type 0) → Option (ℕ × ℕ) → Type 0
+ConnectWaits connections P None = Unit {0}
+ConnectWaits connections P (Some begun) = (begun.0 < connections) × P begun.1
+
+abbrev pub ConnectsStreams : (own : ℕ → Bool) → (first : ℕ) → (before : Streams) → (next : ℕ) → Streams × Option (ℕ × ℕ) → Type 0
+ConnectsStreams own first before next done =
+    KeepsStreams own first before next done.0 × ConnectWaits (length done.0.connections) (IsMade first next) done.1

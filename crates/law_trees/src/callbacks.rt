@@ -12,5 +12,5 @@ ghost use Rattle.law_trees.specs.Trees.{IsOwn, Keeping, KeepsStreams};
 pub fn callbacks_settle_what_was_kept()
     ensures { (own : ℕ → Bool) (next : ℕ) (returned : Bool) (it : Action) (s : Streams)
         → StreamsKeep (IsOwn own) s
-        → Keeping (KeepsStreams own next) own next (act next returned it s) }
+        → Keeping (KeepsStreams own next s) own next (act next returned it s) }
 {}

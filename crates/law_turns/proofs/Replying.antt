@@ -6,7 +6,6 @@ use Rattle.std.proofs.lemmas.Option.{none-some}
 use Rattle.model_value.specs.declared.input.Input.TheVariants.{Send, Throw}
 use Rattle.model_value.specs.declared.outcome.Outcome.TheVariants.{Value as Returned, Failed}
 use Rattle.model_value.specs.Input.{Input}
-use Rattle.model_value.specs.declared.request.Request.TheVariants as request
 use Rattle.model_value.specs.Request.{Request}
 use Rattle.model_value.specs.Value.{Value, Fut, Exc}
 use Rattle.model_wire.specs.declared.event.Event.TheVariants as event
@@ -23,7 +22,7 @@ use Rattle.model_loop.specs.Timeouts.{exit_timeout}
 use Rattle.model_machine.specs.Arguments.{as_future}
 use Rattle.model_machine.specs.Extra.{Extra}
 use Rattle.model_machine.specs.Outcomes.{input_of}
-use Rattle.model_machine.specs.Replies.{RequestReply, replied, shown_all, alarmed, enters_group, exits_as, exits_group, timed_out_if, reply}
+use Rattle.model_machine.specs.Replies.{RequestReply, replied, shown_all, alarmed, enters_group, exits_as, exits_group, timed_out_if}
 use Rattle.model_machine.specs.State.{State, with_loop}
 use Rattle.model_machine.specs.Told.{told_by, told_in}
 use Rattle.law_cancel.proofs.Lookups.{get-push_last}

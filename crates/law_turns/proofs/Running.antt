@@ -90,18 +90,7 @@ module _ {S : Type 0} (limit : ℕ) (added : Extra S) where
     lively (action.ExtraItem code bytes) live is fit =
         live_as limit added s handle rest first sound (action.ExtraItem code bytes) live is fit
     lively (action.Extra key) live is fit = live_as limit added s handle rest first sound (action.Extra key) live is fit
-    lively (action.Made conn) live is kept = streams_handle (action.Made conn) live is refl (λ id. refl) (λ g. refl) kept
-    lively (action.StartRead conn) live is kept = streams_handle (action.StartRead conn) live is refl (λ id. refl) (λ g. refl) kept
-    lively (action.Lost conn broken) live is kept = streams_handle (action.Lost conn broken) live is refl (λ id. refl) (λ g. refl) kept
-    lively (action.HandlerDone conn task) live is kept = streams_handle (action.HandlerDone conn task) live is refl (λ id. refl) (λ g. refl) kept
-    lively (action.ReadableServer server) live is kept = streams_handle (action.ReadableServer server) live is refl (λ id. refl) (λ g. refl) kept
-    lively (action.Readable conn) live is kept = streams_handle (action.Readable conn) live is refl (λ id. refl) (λ g. refl) kept
-    lively (action.Writable conn) live is kept = streams_handle (action.Writable conn) live is refl (λ id. refl) (λ g. refl) kept
-    lively (action.Up conn) live is kept = streams_handle (action.Up conn) live is refl (λ id. refl) (λ g. refl) kept
-    lively (action.Down conn) live is kept = streams_handle (action.Down conn) live is refl (λ id. refl) (λ g. refl) kept
-    lively (action.WritableChild child) live is kept = streams_handle (action.WritableChild child) live is refl (λ id. refl) (λ g. refl) kept
-    lively (action.ChildItem child told) live is kept = streams_handle (action.ChildItem child told) live is refl (λ id. refl) (λ g. refl) kept
-    lively (action.LostChild child broken) live is kept = streams_handle (action.LostChild child broken) live is refl (λ id. refl) (λ g. refl) kept
+    lively it live is fit = streams_handle it live is refl (λ id. refl) (λ g. refl) (fit refl)
 
     handle_sound : (dead : Bool) → handle.dead ≡ dead → FitsLive limit added dead handle.action s (noted (event.Ran handle.action) out)
         → LeavesSoundLoop (run_first limit added handle rest s)

@@ -160,11 +160,11 @@ module _ {S : Type 0} (added : Extra S) (s : State S) (task : ℕ) (input : Inpu
       at (streams_decide added task now kept (asked_at standing) standing with_ is (stands_there standing is))
     where
       at : ((value : Value) × (with_ ≡ Send value) × (decides added standing task with_ now ≡ Answers value now))
-          ⊎ StreamReplies task (woken_at standing now) (asked_at standing) (decides added standing task with_ now)
+          ⊎ StreamReplies task standing (woken_at standing now) (asked_at standing) (decides added standing task with_ now)
           → RepliesSound task (decides added standing task with_ now)
       at (inl told) = subst (RepliesSound task) (sym told.2) h
       at (inr it) =
-          streams_sound task (woken_at standing now) (asked_at standing) (decides added standing task with_ now) it (woken_sound standing now h)
+          streams_sound task standing (woken_at standing now) (asked_at standing) (decides added standing task with_ now) it (woken_sound standing now h)
 
   -- what was plain is so once the step began
   kept_begun : (standing : Standing) → given_up standing gone.loop.parts ≡ gone.loop.parts → AreStreamsFutures s → AreStreamsFutures (begun standing)

@@ -1,5 +1,5 @@
 -- What streams do in a request and in a callback keeps the loop sound.
-use Rattle.std.proofs.Common.{◌≡◌, ℕ, Bool, true, false, List, Option, Some, None, refl, sym, subst, ◌∙◌}
+use Rattle.std.proofs.Common.{◌≡◌, ℕ, Bool, true, false, List, Option, Some, None, refl, sym, subst}
 use Rattle.std.proofs.lemmas.Bool.{false≢true}
 use Rattle.model_value.specs.declared.action.Action.TheVariants as action
 use Rattle.model_value.specs.Action.{Action}
@@ -13,7 +13,7 @@ use Rattle.model_machine.specs.Extra.{Extra}
 use Rattle.model_machine.specs.Outcomes.{input_of}
 use Rattle.model_machine.specs.Replies.{RequestReply, reply}
 use Rattle.model_machine.specs.Sound.{AreStreamsFutures}
-use Rattle.model_machine.specs.State.{State}
+use Rattle.model_machine.specs.State.{Standing, Asked, State}
 use Rattle.model_machine.specs.Told.{told_in}
 use Rattle.model_machine.specs.Went.{Went}
 use Rattle.law_settling.specs.Frames.{is_followed}
@@ -102,9 +102,9 @@ end_sound running s t it sound =
     as_told running (told_in s.events) (told_in t.events) t.loop it.told
     (subst (IsSound running (told_in s.events)) (sym it.loop) (row_sound running (told_in s.events) s.loop it.row sound))
 
-module _ {S : Type 0} (task : ℕ) (s : State S) where
+module _ {S : Type 0} (task : ℕ) (stood : Standing) (s : State S) where
   -- ---- each case of a request
-  pub streams_sound : (asked : Request) (it : RequestReply S) → StreamReplies task s asked it → RunsSound task s → RepliesSound task it
+  pub streams_sound : (asked : Request) (it : RequestReply S) → StreamReplies task stood s asked it → RunsSound task s → RepliesSound task it
   streams_sound asked it (refuses fault) sound = sound
   streams_sound asked it (tells value none) sound = sound
   streams_sound asked it (hands_on on outcome e) sound = replied_sound task (input_of outcome) s sound
@@ -114,9 +114,9 @@ module _ {S : Type 0} (task : ℕ) (s : State S) where
   streams_sound asked it (raises t streams fault it_) sound = end_sound (Some task) s t it_.ended sound
   streams_sound asked it (waits_on t streams on it_ here may) sound =
       suspend_step_sound (told_in t.events) task on t.loop here (end_sound (Some task) s t it_.ended sound)
-  streams_sound asked it (stands_on t streams standing on it_ here at may) sound =
+  streams_sound asked it (stands_on t streams standing on it_ here at may opened) sound =
       suspend_step_sound (told_in t.events) task on t.loop here (end_sound (Some task) s t it_.ended sound)
-  streams_sound asked it (yields t streams whom it_ may) sound =
+  streams_sound asked it (yields t streams whom it_ may opened) sound =
       pause_step_sound (told_in t.events) task t.loop (end_sound (Some task) s t it_.ended sound)
 
 -- ---- each case of a callback
@@ -131,30 +131,17 @@ goes_sound s it (handles coroutine conn few) sound =
 -- ---- each request: one to streams, and any other
 module _ {S : Type 0} (task : ℕ) where
   fit_kept : (it : Request) (s : State S) → IsFit it s → is_to_streams it ≡ true → AreStreamsFutures s
-  fit_kept (request.Listen port coroutine) s fit is = fit
-  fit_kept (request.Connect port) s fit is = fit
-  fit_kept (request.Write stream bytes) s fit is = fit
-  fit_kept (request.WriteEof stream) s fit is = fit
-  fit_kept (request.Close x) s fit is = fit
-  fit_kept (request.WaitClosed stream) s fit is = fit
-  fit_kept (request.Drain stream) s fit is = fit
-  fit_kept (request.Limits stream high low) s fit is = fit
-  fit_kept (request.Read stream count) s fit is = fit
-  fit_kept (request.ReadExactly stream count) s fit is = fit
-  fit_kept (request.ReadUntil stream separator) s fit is = fit
-  fit_kept (request.ReadLine stream) s fit is = fit
-  fit_kept (request.Launch words) s fit is = fit
-  fit_kept (request.StandardError child) s fit is = fit
-  fit_kept (request.WaitChild child) s fit is = fit
-  fit_kept (request.ReturnCode child) s fit is = fit
-  fit_kept (request.Kill child) s fit is = fit
-  fit_kept _ s fit is = absurd (false≢true is)
+  fit_kept (request.Await x) s fit is = absurd (false≢true is)
+  fit_kept (request.TimeoutExit timeout raised) s fit is = absurd (false≢true is)
+  fit_kept (request.GroupExit group raised) s fit is = absurd (false≢true is)
+  fit_kept (request.Extra code arguments) s fit is = absurd (false≢true is)
+  fit_kept _ s fit is = fit is
 
   pub reply_sound : (added : Extra S) (it : Request) (s : State S) → RunsSound task s → HasPlainFutures s → IsFit it s
       → RepliesSound task (reply added task it s)
   reply_sound added it s sound plain fit = at (is_to_streams it) refl
     where
       at : (b : Bool) → is_to_streams it ≡ b → RepliesSound task (reply added task it s)
-      at true is = streams_sound task s it (reply added task it s) (streams_reply added task s (fit_kept it s fit is) it is) sound
+      at true is = streams_sound task Asked s it (reply added task it s) (streams_reply added task s (fit_kept it s fit is) it is) sound
       at false is =
-          case_sound task added it (reply added task it s) s sound plain fit (reply_is added task s it (λ other. absurd (false≢true (sym is ∙ other))))
+          case_sound task added it (reply added task it s) s sound plain fit (reply_is added task s it is)

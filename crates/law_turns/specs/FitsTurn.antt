@@ -1,6 +1,6 @@
 -- What the callbacks of a turn need: each step of a task is fit, what is added keeps the loop sound by itself, and what
 -- connections and children keep are plain futures.
-use Rattle.std.specs.Prelude.{ℕ, zero, suc, Bool, true, false, List, [], ◌∷◌, length, nat_lt}
+use Rattle.std.specs.Prelude.{◌≡◌, ℕ, zero, suc, Bool, true, false, List, [], ◌∷◌, length, nat_lt}
 use Rattle.model_value.specs.Action.{Action}
 use Rattle.model_value.specs.Value.{Nothing}
 use Rattle.model_value.specs.declared.action.Action.TheVariants as action
@@ -14,6 +14,7 @@ use Rattle.model_machine.specs.Sound.{AreStreamsFutures}
 use Rattle.model_machine.specs.State.{State, generator_of, noted, unbooked_in}
 use Rattle.model_machine.specs.Turn.{effect, run_first}
 use Rattle.model_machine.specs.Went.{Went, Goes, Stops}
+use Rattle.law_trees.specs.Trees.{is_of_streams}
 use Rattle.law_turns.specs.Fits.{FitsStep}
 use Rattle.law_turns.specs.Replied.{IsStanding}
 use Rattle.law_turns.specs.SoundState.{HasSoundLoop, LeavesSoundLoop}
@@ -40,19 +41,7 @@ module _ {S : Type 0} (limit : ℕ) (added : Extra S) where
   FitsAction (action.ExtraItem code bytes) s gone =
       LeavesSoundLoop (effect limit added (action.ExtraItem code bytes) gone)
   FitsAction (action.Extra key) s gone = LeavesSoundLoop (effect limit added (action.Extra key) gone)
-  FitsAction (action.Made conn) s gone = AreStreamsFutures s
-  FitsAction (action.StartRead conn) s gone = AreStreamsFutures s
-  FitsAction (action.Lost conn broken) s gone = AreStreamsFutures s
-  FitsAction (action.HandlerDone conn task) s gone = AreStreamsFutures s
-  FitsAction (action.ReadableServer server) s gone = AreStreamsFutures s
-  FitsAction (action.Readable conn) s gone = AreStreamsFutures s
-  FitsAction (action.Writable conn) s gone = AreStreamsFutures s
-  FitsAction (action.Up conn) s gone = AreStreamsFutures s
-  FitsAction (action.Down conn) s gone = AreStreamsFutures s
-  FitsAction (action.WritableChild child) s gone = AreStreamsFutures s
-  FitsAction (action.ChildItem child told) s gone = AreStreamsFutures s
-  FitsAction (action.LostChild child broken) s gone = AreStreamsFutures s
-  FitsAction _ s gone = Unit {0}
+  FitsAction it s gone = is_of_streams it ≡ true → AreStreamsFutures s
 
   -- a dead handle needs nothing
   abbrev pub FitsLive : (dead : Bool) → Action → (s gone : State S) → Type 0

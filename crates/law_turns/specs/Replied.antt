@@ -1,8 +1,6 @@
 -- What a request of a task leaves, and what it needs that its task's tape tells.
 use Rattle.std.specs.Prelude.{◌≡◌, ℕ, ◌<◌, true, false, Some, None, length, slice_get}
-use Rattle.model_value.specs.declared.request.Request.TheVariants.{Await, TimeoutExit, GroupExit, Extra, Listen, Connect}
-use Rattle.model_value.specs.declared.request.Request.TheVariants.{Write, WriteEof, Close, WaitClosed, Drain, Limits}
-use Rattle.model_value.specs.declared.request.Request.TheVariants.{Read, ReadExactly, ReadUntil, ReadLine, Launch, StandardError, WaitChild, ReturnCode, Kill}
+use Rattle.model_value.specs.declared.request.Request.TheVariants.{Await, TimeoutExit, GroupExit, Extra}
 use Rattle.model_value.specs.Request.{Request}
 use Rattle.model_loop.specs.Futures.{future_outcome, is_pending}
 use Rattle.model_loop.specs.Groups.{group_of}
@@ -15,6 +13,7 @@ use Rattle.model_machine.specs.Replies.{RequestReply, Answers, Raises, Rests, Ha
 use Rattle.model_machine.specs.Sound.{AreStreamsFutures}
 use Rattle.model_machine.specs.State.{Standing, Asked, Sleeping, Leaving, Serving, Connecting, Yielding, Reading, ReadingAll, State}
 use Rattle.model_machine.specs.Told.{told_in}
+use Rattle.law_cases.specs.Closed.{is_to_streams}
 use Rattle.law_ledger.specs.Telling.{is_open}
 use Rattle.law_turns.specs.SoundState.{HasSoundLoop}
 
@@ -45,24 +44,7 @@ IsFit (GroupExit group raised) s =
     (id : ℕ) → as_group group ≡ Some id
     → (id < length s.loop.groups) × ((group_of s.loop id).entered ≡ true) × ((group_of s.loop id).exiting ≡ false)
 IsFit (Extra code arguments) s = ⊥
-IsFit (Listen port coroutine) s = AreStreamsFutures s
-IsFit (Connect port) s = AreStreamsFutures s
-IsFit (Write stream bytes) s = AreStreamsFutures s
-IsFit (WriteEof stream) s = AreStreamsFutures s
-IsFit (Close x) s = AreStreamsFutures s
-IsFit (WaitClosed stream) s = AreStreamsFutures s
-IsFit (Drain stream) s = AreStreamsFutures s
-IsFit (Limits stream high low) s = AreStreamsFutures s
-IsFit (Read stream count) s = AreStreamsFutures s
-IsFit (ReadExactly stream count) s = AreStreamsFutures s
-IsFit (ReadUntil stream separator) s = AreStreamsFutures s
-IsFit (ReadLine stream) s = AreStreamsFutures s
-IsFit (Launch words) s = AreStreamsFutures s
-IsFit (StandardError child) s = AreStreamsFutures s
-IsFit (WaitChild child) s = AreStreamsFutures s
-IsFit (ReturnCode child) s = AreStreamsFutures s
-IsFit (Kill child) s = AreStreamsFutures s
-IsFit _ s = Unit {0}
+IsFit asked s = is_to_streams asked ≡ true → AreStreamsFutures s
 
 -- A task whose step begins stands at nothing that was added; a sleep's tag names ends of sleeps alone, a group whose exit it
 -- left waiting is exiting, and what connections and children keep are plain futures.

@@ -1,6 +1,5 @@
 -- What a callback or a request of connections and children does in the machine: its changes in order, and its asks.
 -- Source: `events.py`, `call_soon`; `futures.py`, `set_result` and `set_exception`, unless the future is done.
-use Rattle.std.specs.Prelude.{ℕ}
 use Rattle.model_wire.specs.Trace.{End}
 use Rattle.model_loop.specs.Futures.{new_plain, settle}
 use Rattle.model_loop.specs.Handles.{soon}

@@ -1,6 +1,6 @@
 -- A sound state of the machine, between any two callbacks of a run: its loop is sound, and each task stands where its tape
 -- says that it does.
-use Rattle.std.specs.Prelude.{◌≡◌, ℕ, ◌<◌, Bool, true, false, not, ◌&&◌, ◌==◌, List, [], ◌∷◌, Option, Some, None, length, nat_lt, slice_get}
+use Rattle.std.specs.Prelude.{◌≡◌, ℕ, ◌<◌, ◌≤◌, Bool, true, false, not, ◌&&◌, ◌==◌, List, [], ◌∷◌, Option, Some, None, length, nat_lt, slice_get}
 use Rattle.std.specs.List.{count_by, list_all, list_any}
 use Rattle.model_value.specs.declared.action.Action.TheVariants.{SleepDone, Step}
 use Rattle.model_value.specs.declared.input.Input.TheVariants.{Send, Throw}
@@ -14,6 +14,8 @@ use Rattle.model_value.specs.Value.{Value, Values, no_values, value_then, Items,
 use Rattle.model_says.specs.Blocks.{open_blocks}
 use Rattle.model_says.specs.Endings.{Asks, Exchange}
 use Rattle.model_says.specs.Says.{exchanges_along, step_limit}
+use Rattle.model_wire.specs.declared.event.Handed.{Handed}
+use Rattle.model_wire.specs.declared.event.Handed.TheVariants as to
 use Rattle.model_loop.specs.Futures.{future_outcome, next_future}
 use Rattle.model_loop.specs.Groups.{group_of}
 use Rattle.model_loop.specs.Loop.{Loop, TimeoutState, Active, Expiring}
@@ -24,8 +26,9 @@ use Rattle.model_loop.specs.Tasks.{future_of, lives, next_task}
 use Rattle.model_loop.specs.Timeouts.{timeout_of}
 use Rattle.model_loop.specs.Totals.{callbacks_of, pending_where}
 use Rattle.model_loop.specs.Ways.{is_running}
-use Rattle.model_stream.specs.Kept.{StreamsKeep}
-use Rattle.model_stream.specs.Streams.{no_streams}
+use Rattle.model_stream.specs.Kept.{StreamsKeep, times_kept}
+use Rattle.model_stream.specs.Requests.{StreamReader, OfConn, OfChild}
+use Rattle.model_stream.specs.Streams.{Streams, no_streams}
 use Rattle.model_machine.specs.Extra.{Extra}
 use Rattle.model_machine.specs.State.{Standing, Asked, Sleeping, Leaving, Serving, Connecting, Yielding, Reading, ReadingAll, State, generator_of}
 use Rattle.model_machine.specs.Step.{says_of}
@@ -91,10 +94,30 @@ pub record NamesItsSleep (p : Parts) (task tag : ℕ) : Type 0 where
 abbrev pub IsLeft : {S : Type 0} → State S → (group : ℕ) → Type 0
 IsLeft s id = ((group_of s.loop id).exiting && not (group_of s.loop id).ended) ≡ true
 
+-- what a standing names was opened
+abbrev pub IsOpenedWriter : Streams → Handed → Type 0
+IsOpenedWriter s (to.Conn id) = id < length s.connections
+IsOpenedWriter s (to.Child id) = id < length s.children
+
+abbrev pub IsOpenedReader : Streams → StreamReader → Type 0
+IsOpenedReader s (OfConn id) = id < length s.connections
+IsOpenedReader s (OfChild pipe id) = id < length s.children
+
+abbrev pub IsOpenedAt : Streams → Standing → Type 0
+IsOpenedAt s Asked = Unit {0}
+IsOpenedAt s (Sleeping tag) = Unit {0}
+IsOpenedAt s (Leaving group) = Unit {0}
+IsOpenedAt s (Serving key) = Unit {0}
+IsOpenedAt s (Connecting conn) = conn < length s.connections
+IsOpenedAt s (Yielding whom) = IsOpenedWriter s whom
+IsOpenedAt s (Reading from op on) = IsOpenedReader s from
+IsOpenedAt s (ReadingAll from taken on) = IsOpenedReader s from
+
 pub record StandsRightly {S : Type 0} (s : State S) (task : ℕ) : Type 0 where
   pub sleeping : (tag : ℕ) → (generator_of task s).standing ≡ Sleeping tag → NamesItsSleep s.loop.parts task tag
   pub leaving : (id : ℕ) → (generator_of task s).standing ≡ Leaving id → (group_of s.loop id).parent ≡ task
   pub leaving_now : (id : ℕ) → (generator_of task s).standing ≡ Leaving id → IsLeft s id
+  pub opened : IsOpenedAt s.streams (generator_of task s).standing
 
 -- ---- open blocks
 abbrev pub is_open : TimeoutState → Bool
@@ -165,11 +188,12 @@ pub record AreTasksMade {S : Type 0} (s : State S) : Type 0 where
       → names_made (next_task s.loop.parts) value ≡ true
 
 -- ---- futures of `future()`
--- each is a plain one, which it alone names
+-- each is a plain one, which it alone names, and which no connection or child keeps
 pub record AreScriptsFutures {S : Type 0} (s : State S) : Type 0 where
   pub plain : (place id : ℕ) → slice_get s.futures place ≡ Some id
       → (future : Future) × (slice_get s.loop.parts.futures id ≡ Some future) × (future.kind ≡ Plain)
   pub once : (place other id : ℕ) → slice_get s.futures place ≡ Some id → slice_get s.futures other ≡ Some id → place ≡ other
+  pub apart : (place id : ℕ) → slice_get s.futures place ≡ Some id → times_kept id s.streams ≡ 0
 
 -- ---- streams
 -- nothing is open, and nothing can be opened
@@ -179,6 +203,10 @@ IsClosed s = s.streams ≡ no_streams 0
 -- each future that a connection or a child keeps was made, and is a plain one
 abbrev pub AreStreamsFutures : {S : Type 0} → State S → Type 0
 AreStreamsFutures s = StreamsKeep (λ future. is_plain s.loop.parts future ≡ true) s.streams
+
+-- and it is kept once, by one of them
+abbrev pub AreKeptOnce : {S : Type 0} → State S → Type 0
+AreKeptOnce s = (future : ℕ) → times_kept future s.streams ≤ 1
 
 -- ---- all of it
 -- A state that is sound while this task runs, but for what the excused task asks and stands at. Of its blocks it says `Blocks`.
@@ -196,6 +224,7 @@ pub record IsSoundOver {S : Type 0} (Blocks : Type 0) (running excused : Option 
       → (generator_of (group_of s.loop id).parent s).standing ≡ Leaving id
   pub blocks : Blocks
   pub streams : AreStreamsFutures s
+  pub kept_once : AreKeptOnce s
   pub futures : AreScriptsFutures s
   pub made : AreTasksMade s
 

@@ -1,5 +1,4 @@
-use Rattle.law_trees.specs.Trees.{IsOwn}
-use Rattle.law_trees.proofs.Asking.{closes, drains, drops, ends, gives_up, kills, limits_keep, reads, reads_all, waits, writes}
+use Rattle.law_trees.proofs.Asking.{closes, drains, drops, ends, gives_up, gives_up_own, kills, limits_keep, reads, reads_all, waits, writes}
 use Rattle.law_trees.proofs.Opening.{closes_server, connects, launches, listens}
 use Rattle.law_trees.proofs.requests.requests_settle_what_was_kept.Goals as goal
 
@@ -40,7 +39,10 @@ pub returns-clause-reads_all : goal.returns-clause-reads_all
 returns-clause-reads_all g = λ own next from s kept. reads_all own next from s kept
 
 pub returns-clause-gives_up : goal.returns-clause-gives_up
-returns-clause-gives_up g = λ own on from s kept. gives_up (IsOwn own) on from s kept
+returns-clause-gives_up g = λ own on from s kept. gives_up_own own on from s kept
+
+pub returns-clause-gives_up_alone : goal.returns-clause-gives_up_alone
+returns-clause-gives_up_alone g = λ own next on from s kept. gives_up own next on from s kept
 
 pub returns-clause-waits : goal.returns-clause-waits
 returns-clause-waits g = λ own next id s kept. waits own next id s kept
