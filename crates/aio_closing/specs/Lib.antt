@@ -1,0 +1,4 @@
+pub mod Kills
+pub mod Passes
+pub mod Ends
+pub mod Stops
