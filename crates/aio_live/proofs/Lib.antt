@@ -4,3 +4,6 @@ pub mod Alone
 pub mod AllFree
 pub mod Admitted
 pub mod Launched
+mod Noting
+mod SelectAsks
+mod Telling

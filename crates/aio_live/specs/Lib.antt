@@ -4,3 +4,4 @@ pub mod Alone
 pub mod Made
 pub mod Starved
 pub mod Launching
+pub mod Selecting

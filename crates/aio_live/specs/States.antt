@@ -1,5 +1,5 @@
 -- What a hub keeps, as contracts see it, and what its simplest calls make of it.
-use Rattle.std.specs.Prelude.{◌≡◌, ℕ, ◌^◌, ◌≤◌, List, [], ◌∷◌, Option, length}
+use Rattle.std.specs.Prelude.{◌≡◌, ℕ, ◌^◌, ◌≤◌, List, Option, length}
 use Rattle.std.specs.List.{AllByRecursion as Each}
 use Rattle.model_wire.specs.Call.{Answer}
 use Rattle.model_wire.specs.declared.watch.Watch.{Watch}
@@ -11,7 +11,8 @@ use Rattle.aio_serving.specs.Heads.{HeadsSeen}
 use Rattle.aio_lanes.specs.declared.child_lanes.ChildLanes.{ChildLanes}
 use Rattle.aio_lanes.specs.Given.{seen_of}
 use Rattle.aio_roster.specs.Rosters.{Numbered, running_of}
-use Rattle.aio_roster.specs.Changes.{MayBeLent, AreApart}
+use Rattle.aio_roster.specs.Changes.{MayBeLent}
+use Rattle.aio_intake.specs.Homes.{Apart}
 use Rattle.aio_commands.specs.Served.{HaveLanes, ServesAll}
 use Rattle.aio_commands.specs.Commands.{FeedCall, EndCall}
 
@@ -23,11 +24,6 @@ pub record StateSeen (Run : Type 0) : Type 0 where
 
 abbrev pub heads_of : {Run : Type 0} → StateSeen Run → HeadsSeen
 heads_of state = seen_of state.lanes
-
--- no two of these fours share a seat
-abbrev pub Apart : List Seats → Type 0
-Apart [] = Unit {0}
-Apart (seats ∷ more) = Each (λ (other : Seats). AreApart other seats) more × Apart more
 
 -- Each child that runs has lanes, no lane was given more than it carries, and the seats in hand are nobody's.
 pub record IsState (children : List Child) (free : List Seats) (heads : HeadsSeen) : Type 0 where

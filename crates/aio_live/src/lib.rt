@@ -7,7 +7,10 @@ mod making;
 mod memory;
 mod opening;
 mod pumped;
+mod selecting;
 mod state;
 
+pub use aio_polling::Selected;
 pub use pumped::Pumped;
+pub use selecting::select;
 pub use state::State;

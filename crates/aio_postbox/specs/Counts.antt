@@ -1,5 +1,5 @@
 -- How many posts of each seat were taken.
-use Rattle.std.specs.Prelude.{◌≡◌, ℕ, ◌≤◌, ◌^◌, List, Some, length, slice_get}
+use Rattle.std.specs.Prelude.{◌≡◌, ℕ, ◌≤◌, ◌^◌, Bool, ◌&&◌, ◌==◌, List, Some, length, nat_lt, slice_get}
 use Rattle.model_pump.specs.Posts.{posts_of}
 use Rattle.aio_inbox.specs.declared.view.PosterView.{PosterView}
 use Rattle.aio_inbox.specs.declared.view.TakerView.{TakerView}
@@ -11,7 +11,7 @@ pub record Counts (counts : List ℕ) (taker : TakerView) : Type 0 where
   pub few : length taker.taken ≤ 2 ^ 61
   pub each : (seat count : ℕ) → slice_get counts seat ≡ Some count → count ≡ length (posts_of seat taker.taken)
 
--- the poster is on this seat, and all that it posted was taken
-pub record IsHome (taker : TakerView) (poster : PosterView) (seat : ℕ) : Type 0 where
-  pub on : poster.seat ≡ seat
-  pub all : length poster.posted ≡ length (posts_of seat taker.taken)
+-- it is a seat of the inbox, the poster is on it, and all that it posted was taken
+abbrev pub is_home : TakerView → PosterView → ℕ → Bool
+is_home taker poster seat =
+    nat_lt seat taker.seats && (poster.seat == seat && length poster.posted == length (posts_of seat taker.taken))

@@ -1,8 +1,8 @@
 //! The taking end of an inbox.
-ghost use Rattle.std.specs.Prelude.{◌≡◌, ◌≤◌, ◌^◌, true, length, IfOk, IfSome, IfNone};
+ghost use Rattle.std.specs.Prelude.{◌≡◌, ◌≤◌, ◌^◌, length, IfOk, IfSome, IfNone};
 ghost use Rattle.aio_inbox.specs.Naming.{table_of};
 ghost use Rattle.aio_inbox.specs.Views.{new_taker, with_taken, with_none, with_settled};
-ghost use Rattle.aio_postbox.specs.Counts.{IsHome};
+ghost use Rattle.aio_postbox.specs.Counts.{is_home};
 ghost use Rattle.aio_postbox.specs.Fours.{AllPosters};
 
 use aio_base::Memory;
@@ -83,15 +83,12 @@ impl<N: InboxName> Postbox<N> {
         }
     }
 
-    /// Whether this poster is on this seat, and all that it posted was taken.
+    /// Whether this is a seat of the inbox, this poster is on it, and all that it posted was taken.
     pub fn is_home(&self, poster: &Poster<N>, seat: u32) -> bool
-        ensures { result ≡ true → IsHome self.now poster.now seat }
+        ensures { result ≡ is_home self.now poster.now seat }
     {
-        if poster.seat() != seat {
-            return false;
-        }
         match self.counts.get(seat as usize) {
-            Some(count) => *count == poster.count(),
+            Some(count) => poster.seat() == seat && *count == poster.count(),
             None => false,
         }
     }

@@ -1,5 +1,5 @@
 -- How the posts of a select add up.
-use Rattle.std.proofs.Common.{◌≡◌, ℕ, ◌+◌, ◌<◌, Bool, true, false, cond, ◌&&◌, not, List, [], ◌∷◌}
+use Rattle.std.proofs.Common.{◌≡◌, ℕ, ◌+◌, ◌<◌, Bool, true, false, cond, ◌&&◌, not, List, [], ◌∷◌, Option, Some, None}
 use Rattle.std.proofs.Common.{◌++◌, map, refl, sym, ap, ◌∙◌, append_assoc, append-nil, arith}
 use Rattle.std.specs.Prelude.{nat_le}
 use Rattle.std.proofs.lemmas.Bool.{false≢true}
@@ -12,8 +12,8 @@ use Rattle.model_hub.specs.declared.child.Child.{Child}
 use Rattle.model_pump.specs.Posts.{Post}
 use Rattle.model_hub.specs.Posts.{note}
 use Rattle.model_hub.specs.Gathering.{Gathering, note_in, offer_all, after_post, gather, goes_on, are_taken, is_enough, is_full, is_halted, most_posts}
-use Rattle.aio_select.specs.Answered.{gathering, Goes, Gathered, OffersAll}
-use Rattle.aio_select.specs.Takes.{TakesPost, list_of}
+use Rattle.aio_select.specs.Answered.{gathering, Goes, Gathered, OffersAll, Notes, note_all}
+use Rattle.aio_select.specs.Takes.{TakesPost, Takes, list_of}
 use Rattle.aio_select.specs.declared.pumps.Noted.{Noted}
 
 module _ (watched : List Watch) where
@@ -130,3 +130,23 @@ module _ (watched : List Watch) (items kept items_now kept_now : List Item) (chi
       ∙ ap (λ h. offer_all watched (gathering items kept (map (note took.post) children) (taken ++ took.post ∷ []) (count + 1) h) (list_of noted.item))
       took.halt
       ∙ ap (λ l. offer_all watched (note_in (gathering items kept children taken count is.Going) took.post) l) took.tells
+
+-- ---- what the children noted
+pub notes_none : (children : List Child) (taken : List Post) → Notes children taken children taken
+notes_none children taken = record { posts = []; takes = sym (append-nil taken); notes = refl }
+
+noted_more : (posts : List Post) (came : Post) (children : List Child) → note_all (posts ++ came ∷ []) children ≡ map (note came) (note_all posts children)
+noted_more [] came children = refl
+noted_more (first ∷ posts) came children = noted_more posts came (map (note first) children)
+
+pub notes_after : (told : Option Noted) (children now next : List Child) (taken taken_now taken_next : List Post) (nones nones_next : ℕ)
+    → Takes told now taken_now nones next taken_next nones_next → Notes children taken now taken_now → Notes children taken next taken_next
+notes_after None children now next taken taken_now taken_next nones nones_next took notes =
+    record { posts = notes.posts; takes = took.1 ∙ notes.takes; notes = took.0 ∙ notes.notes }
+notes_after (Some noted) children now next taken taken_now taken_next nones nones_next took notes =
+    let one = took.0 in
+    record {
+      posts = notes.posts ++ one.post ∷ [];
+      takes = one.takes ∙ ap (λ (l : List Post). l ++ one.post ∷ []) notes.takes ∙ append_assoc taken notes.posts (one.post ∷ []);
+      notes = one.notes ∙ ap (map (note one.post)) notes.notes ∙ sym (noted_more notes.posts one.post children);
+    }

@@ -74,7 +74,7 @@ apart_more (y ∷ ys) x =
 length_more : (xs : List Item) (x : Item) → length (xs ++ x ∷ []) ≡ length xs + 1
 length_more xs x = grind (arith, common_steps)
 
-sum_more : (xs : List Item) (x : Item) → sum (map bytes_in (xs ++ x ∷ [])) ≡ sum (map bytes_in xs) + bytes_in x
+pub sum_more : (xs : List Item) (x : Item) → sum (map bytes_in (xs ++ x ∷ [])) ≡ sum (map bytes_in xs) + bytes_in x
 sum_more [] x = grind (arith, common_steps)
 sum_more (y ∷ ys) x =
     let rest = sum_more ys x in

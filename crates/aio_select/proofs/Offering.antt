@@ -5,8 +5,12 @@ use Rattle.std.proofs.lemmas.Grind.{flat_map-append}
 use Rattle.std.specs.List.{flat_map}
 use Rattle.model_wire.specs.Call.{Item}
 use Rattle.model_wire.specs.declared.watch.Watch.{Watch}
-use Rattle.model_hub.specs.Gathering.{Gathering, offer, offer_all, add, add_all}
-use Rattle.std.proofs.Common.{Bool, cond, take, ◌+◌}
+use Rattle.model_hub.specs.Gathering.{Gathering, goes_in, is_kept, kept_of, offer, offer_all, add, add_all}
+use Rattle.std.proofs.Common.{Bool, true, false, cond, not, ◌&&◌, take, ◌+◌}
+use Rattle.std.specs.List.{list_any}
+use Rattle.model_pump.specs.Posts.{Post}
+use Rattle.model_wire.specs.Fits.{turn_fits, clashes}
+use Rattle.model_hub.specs.declared.halt.Halt.{Halt}
 use Rattle.std.specs.Prelude.{nat_lt}
 use Rattle.model_value.specs.declared.action.ChildItem.TheVariants as news
 use Rattle.model_wire.specs.declared.item.Item.TheVariants as item
@@ -89,3 +93,37 @@ module _ (watched : List Watch) (items kept items_now kept_now items_next kept_n
       (sym (ap (λ l. flat_map told l) whole ∙ flat_map-append told (take at entries) (entry ∷ [])
       ∙ ap (λ l. flat_map told (take at entries) ++ l) (append-nil (told entry))))
       first second
+
+-- ---- an item that is offered
+module _ (watched : List Watch) (items kept : List Item) (came : Item) (items_now kept_now : List Item) where
+  goes_if : (b : Bool) (children : List Child) (taken : List Post) (count : ℕ) (halt : Halt)
+      → goes_in watched (gathering items kept children taken count halt) came ≡ b
+      → offer watched (gathering items kept children taken count halt) came
+      ≡ cond b (gathering (items ++ came ∷ []) kept children taken count halt) (gathering items (kept ++ kept_of came) children taken count halt)
+  goes_if b children taken count halt is =
+      ap (λ x. cond x (gathering (items ++ came ∷ []) kept children taken count halt) (gathering items (kept ++ kept_of came) children taken count halt)) is
+
+  pub offers_in : list_any (clashes came) kept ≡ false → turn_fits watched 0 (items ++ came ∷ []) ≡ true → items_now ≡ items ++ came ∷ []
+      → kept_now ≡ kept → Offers watched items kept came items_now kept_now
+  offers_in apart fits items_is kept_is children taken count halt =
+      ap (λ (l : List Item). gathering l kept_now children taken count halt) items_is
+      ∙ ap (λ (l : List Item). gathering (items ++ came ∷ []) l children taken count halt) kept_is
+      ∙ sym (goes_if true children taken count halt (ap (λ b. not b && turn_fits watched 0 (items ++ came ∷ [])) apart ∙ fits))
+
+  pub offers_kept : (not (list_any (clashes came) kept) && turn_fits watched 0 (items ++ came ∷ [])) ≡ false → is_kept came ≡ true
+      → items_now ≡ items → kept_now ≡ kept ++ came ∷ [] → Offers watched items kept came items_now kept_now
+  offers_kept stays keeps items_is kept_is children taken count halt =
+      ap (λ (l : List Item). gathering l kept_now children taken count halt) items_is
+      ∙ ap (λ (l : List Item). gathering items l children taken count halt)
+      (kept_is ∙ ap (λ b. kept ++ cond b (came ∷ []) []) (sym keeps))
+      ∙ sym (goes_if false children taken count halt stays)
+
+  pub stays_behind : list_any (clashes came) kept ≡ true → (not (list_any (clashes came) kept) && turn_fits watched 0 (items ++ came ∷ [])) ≡ false
+  stays_behind behind = ap (λ b. not b && turn_fits watched 0 (items ++ came ∷ [])) behind
+
+  pub stays_out : turn_fits watched 0 (items ++ came ∷ []) ≡ false → (not (list_any (clashes came) kept) && turn_fits watched 0 (items ++ came ∷ [])) ≡ false
+  stays_out out = ap (λ b. not (list_any (clashes came) kept) && b) out ∙ never (not (list_any (clashes came) kept))
+    where
+      never : (b : Bool) → (b && false) ≡ false
+      never true = refl
+      never false = refl

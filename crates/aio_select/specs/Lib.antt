@@ -1,3 +1,5 @@
 pub mod Takes
 pub mod Answered
 pub mod Room
+pub mod Keys
+pub mod First

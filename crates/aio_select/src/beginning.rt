@@ -7,11 +7,16 @@ ghost use Rattle.aio_select.specs.Answered.{OffersAll, AddsAll};
 
 use crate::answering::Answering;
 use crate::pumps::Pumps;
+use crate::watching::Watching;
 use aio_base::{ChildItem, Memory};
 use aio_wire::{Item, Watch};
 
 /// Offers items in order: what fits goes into the answer, the rest is kept.
-pub fn offer_all(watch: &[Watch], items: Vec<Item>, answering: &mut Answering) -> Result<(), Memory>
+pub fn offer_all(
+    watch: &Watching,
+    items: Vec<Item>,
+    answering: &mut Answering,
+) -> Result<(), Memory>
     requires { turn_fits watch.now 0 answering.old.items.items ≡ true }
     ensures offered { IfOk result (λ _. OffersAll watch.now answering.old.items.items
         answering.old.kept.items items.items answering.new.items.items answering.new.kept.items) }
@@ -26,7 +31,7 @@ pub fn offer_all(watch: &[Watch], items: Vec<Item>, answering: &mut Answering) -
 
 // What is so of the standard input of one that is watched.
 fn add_stdin<P: Pumps>(
-    watch: &[Watch],
+    watch: &Watching,
     pumps: &P,
     entry: &Watch,
     answering: &mut Answering,
@@ -53,7 +58,7 @@ fn add_stdin<P: Pumps>(
 
 /// Adds what is so of each standard input that is watched.
 pub fn add_stdins<P: Pumps>(
-    watch: &[Watch],
+    watch: &Watching,
     pumps: &P,
     answering: &mut Answering,
 ) -> Result<(), Memory>
@@ -63,7 +68,7 @@ pub fn add_stdins<P: Pumps>(
         answering.new.items.items answering.new.kept.items) }
     ensures fits { turn_fits watch.now 0 answering.new.items.items ≡ true }
 {
-    for entry in watch {
+    for entry in watch.entries() {
         add_stdin(watch, pumps, entry, answering)?;
     }
     Ok(())

@@ -3,13 +3,14 @@ ghost use Rattle.std.specs.Prelude.{◌≡◌, ℕ, true, IfOk};
 ghost use Rattle.model_wire.specs.Fits.{turn_fits};
 ghost use Rattle.model_hub.specs.declared.halt.Halt.TheVariants as is;
 ghost use Rattle.model_hub.specs.Gathering.{is_halted};
-ghost use Rattle.aio_select.specs.Answered.{gathering, Gathered, OffersAll};
+ghost use Rattle.aio_select.specs.Answered.{gathering, Gathered, OffersAll, Notes};
 ghost use Rattle.aio_select.specs.Takes.{list_of};
 
 use crate::answering::Answering;
 use crate::pumps::{Noted, Pumps};
+use crate::watching::Watching;
 use aio_base::Memory;
-use aio_wire::{Item, Watch};
+use aio_wire::Item;
 use model_hub::Halt;
 use std::sync::Wait;
 
@@ -26,7 +27,7 @@ fn is_halted(halt: Halt) -> bool
 }
 
 // Offers what a post tells, if anything.
-fn offer_told(watch: &[Watch], item: Option<Item>, answering: &mut Answering) -> Result<(), Memory>
+fn offer_told(watch: &Watching, item: Option<Item>, answering: &mut Answering) -> Result<(), Memory>
     requires { turn_fits watch.now 0 answering.old.items.items ≡ true }
     ensures offered { IfOk result (λ _. OffersAll watch.now answering.old.items.items
         answering.old.kept.items (list_of item) answering.new.items.items
@@ -43,7 +44,7 @@ fn offer_told(watch: &[Watch], item: Option<Item>, answering: &mut Answering) ->
 /// for no post.
 pub fn gather<R: Wait, P: Pumps>(
     rt: &R,
-    watch: &[Watch],
+    watch: &Watching,
     pumps: &mut P,
     answering: &mut Answering,
 ) -> Result<Halt, Memory>
@@ -53,6 +54,8 @@ pub fn gather<R: Wait, P: Pumps>(
         (P.taken pumps.old) 0 is.Going)
         (gathering answering.new.items.items answering.new.kept.items (P.children pumps.new)
         (P.taken pumps.new) count halt) (P.nones pumps.old) (P.nones pumps.new)) }
+    ensures noted { Notes (P.children pumps.old) (P.taken pumps.old) (P.children pumps.new)
+        (P.taken pumps.new) }
     ensures fits { turn_fits watch.now 0 answering.new.items.items ≡ true }
 {
     for count in 0..MOST_POSTS {

@@ -104,7 +104,7 @@ all_awaited watched items h =
     (and_first (list_all (is_awaited (polled_watch watched)) items) (stand_apart items) h))
     (and_second (list_all (is_awaited (polled_watch watched)) items) (stand_apart items) h)
 
-sockets_fit : (watched : List Watch) (now : ℕ) (sockets : List Item) → turn_fits (polled_watch watched) now sockets ≡ true → Fit watched sockets
+pub sockets_fit : (watched : List Watch) (now : ℕ) (sockets : List Item) → turn_fits (polled_watch watched) now sockets ≡ true → Fit watched sockets
 sockets_fit watched now sockets h =
     let rest = and_second (nat_le now most) (are_few sockets && are_awaited (polled_watch watched) sockets) h in
     and_both (are_few sockets) (are_awaited watched sockets) (and_first (are_few sockets) (are_awaited (polled_watch watched) sockets) rest)

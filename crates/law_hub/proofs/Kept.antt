@@ -32,10 +32,10 @@ use Rattle.law_hub.proofs.Fitting.{and_first, and_second, not_true}
 use Rattle.law_hub.specs.Seats.{is_of, items_of, letter, is_teller, told_all}
 
 -- ---- what a post changes of a child
-record Same (old new : Child) : Type 0 where
-  number : new.number ≡ old.number
-  seats : new.seats ≡ old.seats
-  stay : new.stay ≡ old.stay
+pub record Same (old new : Child) : Type 0 where
+  pub number : new.number ≡ old.number
+  pub seats : new.seats ≡ old.seats
+  pub stay : new.stay ≡ old.stay
 
 same_from : (from : Pump) (kind : PostKind) (child : Child) → Same child (note_from from kind child)
 same_from pump.Stdin (post.Piece stream.Out offset bytes) child = record { number = refl; seats = refl; stay = refl }
@@ -75,7 +75,7 @@ same_from pump.Exit (post.Exit code) child = record { number = refl; seats = ref
 same_from pump.Exit post.Fault child = record { number = refl; seats = refl; stay = refl }
 same_from pump.Exit post.Starved child = record { number = refl; seats = refl; stay = refl }
 
-same_by : (from : Option Pump) (kind : PostKind) (child : Child) → Same child (note_by from kind child)
+pub same_by : (from : Option Pump) (kind : PostKind) (child : Child) → Same child (note_by from kind child)
 same_by None kind child = record { number = refl; seats = refl; stay = refl }
 same_by (Some from) kind child = same_from from kind child
 

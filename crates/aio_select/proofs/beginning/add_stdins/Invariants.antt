@@ -9,5 +9,5 @@ abbrev pub invariant-loop-entry : goal.invariant-loop-entry
 invariant-loop-entry g l =
     (turn_fits l.watch 0 l.answering.items.items ≡ true)
     × AddsAll l.watch l.initial.answering.items.items l.initial.answering.kept.items
-    (flat_map (stdin_items (g.P.Pumps.children l.pumps)) (take l.entry-index l.watch)) l.answering.items.items
+    (flat_map (stdin_items (g.P.Pumps.children l.pumps)) (take l.entry-index l.entry-items)) l.answering.items.items
     l.answering.kept.items
