@@ -1,6 +1,7 @@
--- What is seen of the ends of pipes and of exits of the system: how often they failed, and nothing else.
+-- What is seen of the system's programs, their pipes and their exits: how often they failed, and nothing else.
 use Rattle.std.specs.Prelude.{ℕ, None}
 use Rattle.model_wire.specs.Told.{SinkSeen, SourceSeen}
+use Rattle.model_hub.specs.Told.{LauncherSeen}
 use Rattle.aio_pump.specs.Exits.{ExitSeen}
 
 abbrev pub untold : ℕ → SourceSeen
@@ -11,3 +12,6 @@ untaken faults = record { taken = None; faults = faults }
 
 abbrev pub unwaited : ℕ → ExitSeen
 unwaited faults = record { code = None; faults = faults }
+
+abbrev pub untold_launches : ℕ → LauncherSeen
+untold_launches faults = record { launches = None; kills = None; faults = faults }

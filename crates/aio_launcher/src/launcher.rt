@@ -1,5 +1,7 @@
 //! The launcher of the system's programs.
-ghost use Rattle.std.specs.Prelude.{◌≡◌, None};
+ghost use Rattle.std.specs.Prelude.{◌≤◌, IfOk, OnErr};
+ghost use Rattle.aio_hub.specs.Launches.{LaunchAnswers, StartsNone};
+ghost use Rattle.aio_launcher.specs.Counts.{untold_launches};
 
 use crate::process::Process;
 use crate::pumps::Reports;
@@ -80,14 +82,20 @@ where
 impl<R: Wait, N: InboxName> Launcher<Inbox<N>, Poster<N>> for RealLauncher<R, N> {
     type Run = Run<N>;
 
-    ghost seen = { λ launcher. record { launches = None; kills = None; faults = launcher.faults } };
+    ghost seen = { λ launcher. untold_launches launcher.faults };
 
     fn launch(
         &mut self,
         alloc: Global,
         words: &WordList,
         kit: PumpKit<Inbox<N>, Poster<N>>,
-    ) -> Result<Launched<Run<N>>, Memory> {
+    ) -> Result<Launched<Run<N>>, Memory>
+        ensures launched { IfOk result (LaunchAnswers words.now kit.child
+            (untold_launches self.old.faults) (untold_launches self.new.faults)) }
+        ensures none { OnErr result (StartsNone (untold_launches self.old.faults)
+            (untold_launches self.new.faults)) }
+        ensures later { self.old.faults ≤ self.new.faults }
+    {
         let child = kit.child;
         self.processes.reserve(1)?;
         let words = copied(alloc, words)?;
