@@ -120,22 +120,30 @@ module _ {Run : Type 0} (old new : StateSeen Run) (plainly : Plainly [] old new)
         → Asks asks (hub_seen poller launcher old) (hub_seen poller_now launcher new) (said_of said)
     net_asks (call.Select wait watched) is nets = absurd (false≢true is)
     net_asks (call.Listen port) is nets =
-        by_call (call.Listen port) nets (given (call.Listen port) plainly.served (λ c. refl)) refl refl refl (refl, plainly.rests.nones) (λ k. k) refl refl tt
+        by_call (call.Listen port) nets (given (call.Listen port) plainly.served (λ c. refl))
+        refl refl refl (refl, plainly.rests.nones) (λ k. k) refl refl tt
     net_asks (call.Accept server) is nets =
-        by_call (call.Accept server) nets (given (call.Accept server) plainly.served (λ c. refl)) refl refl refl (refl, plainly.rests.nones) (λ k. k) refl refl tt
+        by_call (call.Accept server) nets (given (call.Accept server) plainly.served (λ c. refl))
+        refl refl refl (refl, plainly.rests.nones) (λ k. k) refl refl tt
     net_asks (call.Connect port) is nets =
-        by_call (call.Connect port) nets (given (call.Connect port) plainly.served (λ c. refl)) refl refl refl (refl, plainly.rests.nones) (λ k. k) refl refl tt
+        by_call (call.Connect port) nets (given (call.Connect port) plainly.served (λ c. refl))
+        refl refl refl (refl, plainly.rests.nones) (λ k. k) refl refl tt
     net_asks (call.Recv conn) is nets =
-        by_call (call.Recv conn) nets (given (call.Recv conn) plainly.served (λ c. refl)) refl refl refl (refl, plainly.rests.nones) (λ k. k) refl refl tt
+        by_call (call.Recv conn) nets (given (call.Recv conn) plainly.served (λ c. refl))
+        refl refl refl (refl, plainly.rests.nones) (λ k. k) refl refl tt
     net_asks (call.Send conn bytes) is nets =
-        by_call (call.Send conn bytes) nets (given (call.Send conn bytes) plainly.served (λ c. refl)) refl refl refl (refl, plainly.rests.nones) (λ k. k) refl refl tt
+        by_call (call.Send conn bytes) nets (given (call.Send conn bytes) plainly.served (λ c. refl))
+        refl refl refl (refl, plainly.rests.nones) (λ k. k) refl refl tt
     net_asks (call.Feed child bytes) is nets = absurd (false≢true is)
     net_asks (call.Shut conn) is nets =
-        by_call (call.Shut conn) nets (given (call.Shut conn) plainly.served (λ c. refl)) refl refl refl (refl, plainly.rests.nones) (λ k. k) refl refl tt
+        by_call (call.Shut conn) nets (given (call.Shut conn) plainly.served (λ c. refl))
+        refl refl refl (refl, plainly.rests.nones) (λ k. k) refl refl tt
     net_asks (call.Close conn) is nets =
-        by_call (call.Close conn) nets (given (call.Close conn) plainly.served (λ c. refl)) refl refl refl (refl, plainly.rests.nones) (λ k. k) refl refl tt
+        by_call (call.Close conn) nets (given (call.Close conn) plainly.served (λ c. refl))
+        refl refl refl (refl, plainly.rests.nones) (λ k. k) refl refl tt
     net_asks (call.CloseServer server) is nets =
-        by_call (call.CloseServer server) nets (given (call.CloseServer server) plainly.served (λ c. refl)) refl refl refl (refl, plainly.rests.nones) (λ k. k) refl refl tt
+        by_call (call.CloseServer server) nets (given (call.CloseServer server) plainly.served (λ c. refl))
+        refl refl refl (refl, plainly.rests.nones) (λ k. k) refl refl tt
     net_asks (call.End child) is nets = absurd (false≢true is)
     net_asks (call.Kill child) is nets = absurd (false≢true is)
     net_asks (call.Launch words) is nets = absurd (false≢true is)

@@ -20,7 +20,7 @@ pub struct Hub<N: InboxName, R, P, L: Launcher<Inbox<N>, Poster<N>>> {
 }
 
 // Lets go what a hub would have stood on.
-fn forget<R: Drop, P: Drop, L: Drop>(_rt: R, _poller: P, _launcher: L) {}
+pub(crate) fn forget<R: Drop, P: Drop, L: Drop>(_rt: R, _poller: P, _launcher: L) {}
 
 impl<N: InboxName, R: Drop, P: Drop, L: Launcher<Inbox<N>, Poster<N>> + Drop> Hub<N, R, P, L> {
     /// A hub that launched no child, over the inbox that `N` names. It keeps the runtime, by which its

@@ -3,6 +3,7 @@
 
 mod asking;
 mod calls;
+mod closing;
 mod hub;
 
 pub use hub::Hub;

@@ -1,5 +1,5 @@
 //! The posters that no child has are given back for good.
-ghost use Rattle.std.specs.Prelude.{◌≡◌, ◌*◌, length};
+ghost use Rattle.std.specs.Prelude.{◌*◌, length};
 ghost use Rattle.aio_closing.specs.Ends.{SettlesMore};
 
 use aio_inbox::InboxName;

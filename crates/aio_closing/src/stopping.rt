@@ -3,7 +3,7 @@ ghost use Rattle.std.specs.Prelude.{◌≡◌, ◌<◌, true, not, length};
 ghost use Rattle.model_hub.specs.Children.{was_given};
 ghost use Rattle.model_hub.specs.declared.pump.Pump.TheVariants as pump;
 ghost use Rattle.aio_serving.specs.Heads.{has_lane};
-ghost use Rattle.aio_roster.specs.Rosters.{Numbered, running_of};
+ghost use Rattle.aio_roster.specs.Rosters.{running_of};
 ghost use Rattle.aio_commands.specs.Served.{HaveLanes};
 ghost use Rattle.aio_closing.specs.Kills.{running_in};
 ghost use Rattle.aio_closing.specs.Stops.{Stops, StopsLane, StopsChild, StopsKth, AreStopped};

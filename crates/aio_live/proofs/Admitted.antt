@@ -26,7 +26,8 @@ use Rattle.aio_roster.specs.Rosters.{Numbered}
 use Rattle.aio_roster.specs.Changes.{MayBeLent, AreApart}
 use Rattle.aio_roster.proofs.Running.{kth_of, stands, snoc_case, numbered_front, get_left, within}
 use Rattle.aio_live.specs.declared.opening.Heads.{Heads}
-use Rattle.aio_live.specs.States.{StateSeen, IsState, Apart}
+use Rattle.aio_intake.specs.Homes.{Apart}
+use Rattle.aio_live.specs.States.{StateSeen, IsState}
 use Rattle.aio_live.specs.Launching.{AreNew, lanes_with, LaunchesNext}
 use Rattle.aio_live.proofs.Asking.{running_at, runs_there}
 

@@ -15,7 +15,8 @@ use Rattle.model_hub.specs.Hub.{Hub, seats_for}
 use Rattle.aio_lanes.specs.declared.child_lanes.ChildLanes.{ChildLanes}
 use Rattle.aio_lanes.specs.Given.{seen_of}
 use Rattle.aio_roster.specs.Changes.{MayBeLent, AreApart}
-use Rattle.aio_live.specs.States.{Apart, IsState}
+use Rattle.aio_intake.specs.Homes.{Apart}
+use Rattle.aio_live.specs.States.{IsState}
 
 none_if : (o : Option Pump) → (is_some o ≡ true → ⊥) → o ≡ None
 none_if None h = refl

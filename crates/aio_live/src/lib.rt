@@ -2,6 +2,7 @@
 #![tactic(auto)]
 
 mod calls;
+mod closing;
 mod launching;
 mod making;
 mod memory;
