@@ -1,5 +1,5 @@
 -- Whether an answer has an item before posts are taken, where nothing came of the poller.
-use Rattle.std.proofs.Common.{◌≡◌, ℕ, zero, suc, ◌+◌, Bool, true, false, cond, ◌&&◌, ◌||◌, not, List, [], ◌∷◌, ◌++◌, take, drop}
+use Rattle.std.proofs.Common.{◌≡◌, ℕ, ◌+◌, Bool, true, false, cond, ◌&&◌, ◌||◌, not, List, [], ◌∷◌, ◌++◌, take, drop}
 use Rattle.std.proofs.Common.{length, get_or, ◌<◌, ◌≤◌, ◌==◌, refl, sym, ap, ◌∙◌, append-nil, append_assoc}
 use Rattle.std.proofs.lemmas.List.{at_drop_more, at_drop_all}
 use Rattle.std.proofs.lemmas.Grind.{flat_map-append}
@@ -16,10 +16,10 @@ use Rattle.model_wire.specs.Fits.{turn_fits, clashes}
 use Rattle.model_hub.specs.declared.halt.Halt.TheVariants.{Going}
 use Rattle.model_hub.specs.declared.child.Child.{Child}
 use Rattle.model_hub.specs.Hub.{waiting_of, is_broken}
-use Rattle.model_hub.specs.Gathering.{Gathering, goes_in, offer, offer_all, add, add_all, kept_of, is_kept, stdin_items, most_waiting}
+use Rattle.model_hub.specs.Gathering.{Gathering, goes_in, offer, offer_all, add, add_all, kept_of, stdin_items, most_waiting}
 use Rattle.aio_select.specs.Answered.{gathering, first_items, has_any}
-use Rattle.aio_select.specs.Keys.{Marks, has, has_key, is_marked_in}
-use Rattle.aio_select.proofs.Marking.{behind_it, next_of}
+use Rattle.aio_interest.specs.Keys.{Marks, has, has_key, is_marked_in}
+use Rattle.aio_interest.proofs.Marking.{behind_it, next_of}
 use Rattle.aio_select.specs.First.{fits_alone, has_kept_item, tells_stdin, has_stdin_item}
 
 -- an answer that has an item keeps it

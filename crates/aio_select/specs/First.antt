@@ -1,5 +1,5 @@
 -- Which items an answer has first, where nothing came of the poller.
-use Rattle.std.specs.Prelude.{Bool, true, false, not, ◌&&◌, ◌||◌, List, [], ◌∷◌, ◌++◌, nat_lt}
+use Rattle.std.specs.Prelude.{Bool, false, not, ◌&&◌, ◌||◌, List, [], ◌∷◌, ◌++◌, nat_lt}
 use Rattle.std.specs.List.{list_any}
 use Rattle.model_value.specs.declared.action.ChildItem.TheVariants as news
 use Rattle.model_wire.specs.Call.{Item}

@@ -1,5 +1,4 @@
 pub mod Takes
 pub mod Answered
 pub mod Room
-pub mod Keys
 pub mod First

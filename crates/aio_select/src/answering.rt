@@ -3,12 +3,11 @@ ghost use Rattle.std.specs.Prelude.{◌≡◌, ◌≤◌, ◌++◌, ◌∷◌, [
 ghost use Rattle.model_wire.specs.Fits.{turn_fits, bytes_in, most_bytes};
 ghost use Rattle.model_hub.specs.Gathering.{is_full, is_kept};
 ghost use Rattle.aio_select.specs.Answered.{Offers, AddsAll};
-ghost use Rattle.aio_select.specs.Keys.{Marks, is_marked_in};
+ghost use Rattle.aio_interest.specs.Keys.{Marks, is_marked_in};
 ghost use Rattle.aio_select.specs.Room.{is_apart, has_room, Grown};
 
-use crate::keys::{is_marked, mark};
-use crate::watching::Watching;
 use aio_base::{ChildItem, Memory};
+use aio_interest::{Watching, is_marked, mark};
 use aio_wire::{Item, bytes_in};
 use std::alloc::Global;
 use std::collections::HashSet;

@@ -7,8 +7,8 @@ ghost use Rattle.aio_select.specs.Answered.{OffersAll, AddsAll};
 
 use crate::answering::Answering;
 use crate::pumps::Pumps;
-use crate::watching::Watching;
 use aio_base::{ChildItem, Memory};
+use aio_interest::Watching;
 use aio_wire::{Item, Watch};
 
 /// Offers items in order: what fits goes into the answer, the rest is kept.

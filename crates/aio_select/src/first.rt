@@ -4,13 +4,12 @@ ghost use Rattle.std.specs.List.{list_any};
 ghost use Rattle.model_hub.specs.Gathering.{kept_of};
 ghost use Rattle.aio_select.specs.Answered.{first_items, has_any};
 ghost use Rattle.aio_select.specs.First.{fits_alone, has_kept_item, has_stdin_item, tells_stdin};
-ghost use Rattle.aio_select.specs.Keys.{has, has_key, is_marked_in};
+ghost use Rattle.aio_interest.specs.Keys.{has, has_key, is_marked_in};
 
 use crate::answering::is_kept;
-use crate::keys::{is_marked, mark};
 use crate::pumps::Pumps;
-use crate::watching::Watching;
 use aio_base::{ChildItem, Memory};
+use aio_interest::{Watching, is_marked, mark};
 use aio_wire::{Item, Watch, bytes_in};
 use std::alloc::Global;
 use std::collections::HashSet;

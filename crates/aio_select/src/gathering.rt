@@ -8,8 +8,8 @@ ghost use Rattle.aio_select.specs.Takes.{list_of};
 
 use crate::answering::Answering;
 use crate::pumps::{Noted, Pumps};
-use crate::watching::Watching;
 use aio_base::Memory;
+use aio_interest::Watching;
 use aio_wire::Item;
 use model_hub::Halt;
 use std::sync::Wait;

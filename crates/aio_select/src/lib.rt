@@ -6,13 +6,11 @@ mod answering;
 mod beginning;
 mod first;
 mod gathering;
-mod keys;
 mod pumps;
-mod watching;
 
+pub use aio_interest::Watching;
 pub use answering::Answering;
 pub use beginning::{add_stdins, offer_all};
 pub use first::has_item;
 pub use gathering::gather;
 pub use pumps::{Noted, Pumps};
-pub use watching::Watching;

@@ -2,7 +2,7 @@ use Rattle.std.proofs.Common.{not, ◌&&◌, sym, ap, ◌∙◌}
 use Rattle.std.specs.List.{list_any}
 use Rattle.model_wire.specs.Call.{Item}
 use Rattle.model_wire.specs.Fits.{clashes}
-use Rattle.aio_select.proofs.Marking.{before_it}
+use Rattle.aio_interest.proofs.Marking.{before_it}
 use Rattle.aio_select.proofs.answering.Answering.is_apart.Goals as goal
 
 pub returns-then-awaits : goal.returns-then-awaits

@@ -1,5 +1,6 @@
 use Rattle.std.proofs.Common.{take, ◌+◌}
-use Rattle.aio_select.proofs.Marking.{marks_more, counted_more, next_of, least_of}
+use Rattle.aio_interest.proofs.Marking.{marks_more, next_of}
+use Rattle.aio_select.proofs.Counting.{counted_more, least_of}
 use Rattle.model_wire.specs.Fits.{bytes_in}
 use Rattle.aio_select.proofs.answering.Answering.new.Goals as goal
 

@@ -1,6 +1,6 @@
 use Rattle.std.proofs.Common.{◌≡◌, map, sum, take}
 use Rattle.model_wire.specs.Fits.{bytes_in}
-use Rattle.aio_select.specs.Keys.{Marks}
+use Rattle.aio_interest.specs.Keys.{Marks}
 use Rattle.aio_select.proofs.answering.Answering.new.Given as goal
 
 abbrev pub invariant-loop-item : goal.invariant-loop-item

@@ -1,5 +1,5 @@
 use Rattle.std.proofs.Common.{sym, ◌∙◌}
-use Rattle.aio_select.proofs.Marking.{behind_it}
+use Rattle.aio_interest.proofs.Marking.{behind_it}
 use Rattle.aio_select.proofs.Offering.{offers_in, offers_kept, stays_behind, stays_out}
 use Rattle.aio_select.proofs.answering.Answering.offer.Goals as goal
 use Rattle.aio_select.proofs.answering.Answering.offer.Goals.{else-not-is_marked-via-then-not-is_marked+else-has_place_for, else-not-is_marked-via-else-not-is_marked}
