@@ -1,7 +1,7 @@
 -- One of the connections changes.
 use Rattle.std.proofs.Common.{◌≡◌, ℕ, zero, suc, ◌<◌, ◌≤◌, List, [], ◌∷◌, Option, Some, None, Result, Ok, Err, IfOk}
 use Rattle.std.proofs.Common.{OnOk, length, slice_get, slice_set, ◌∙◌, refl, sym, ap, subst}
-use Rattle.std.proofs.Common.{arith, slice_index_or}
+use Rattle.std.proofs.Common.{Vec, vec_len, arith, slice_index_or}
 use Rattle.std.specs.List.{AllByRecursion as Each}
 use Rattle.std.specs.Option.{option_map}
 use Rattle.std.proofs.lemmas.Option.{slice_get_past}
@@ -11,7 +11,6 @@ use Rattle.model_stream.specs.declared.answers.Wrote.TheVariants as wrote
 use Rattle.model_stream.specs.Connections.{Connection, write_to}
 use Rattle.model_stream.specs.Doing.{Doing, Ends, and_then}
 use Rattle.model_stream.specs.Requests.{asked_one, noted, write, write_unnoted, written_by}
-use Rattle.model_stream.specs.Senders.{Sender}
 use Rattle.model_stream.specs.Streams.{Streams, its_connections, on_one}
 use Rattle.aio_wire.specs.declared.stop.Stop.{Stop}
 use Rattle.aio_exchange.specs.Outside.{IsOutside, Outside}
@@ -38,6 +37,15 @@ at_place (y ∷ ys) (suc id) x m e = at_place ys id x (omega (arith, m)) e
 pub past_place : {X : Type 0} (xs : List X) (i : ℕ) → length xs ≤ i → slice_get xs i ≡ None
 past_place xs i m = slice_get_past xs i m
 
+-- what stands there already is put there
+pub set_same : {X : Type 0} (xs : List X) (id : ℕ) (x : X) → slice_get xs id ≡ Some x → slice_set xs id x ≡ xs
+set_same [] id x e = refl
+set_same (y ∷ ys) zero x e = ap (λ it. it ∷ ys) (let same : x ≡ y = cc in same)
+set_same (y ∷ ys) (suc id) x e = ap (λ those. y ∷ those) (set_same ys id x e)
+
+pub counted : {X A : Type 0} (those : Vec X A) (count : ℕ) → count ≡ vec_len those → count ≡ length those.items
+counted those count e = omega (arith, those.ok.0)
+
 -- ---- those that are no task's
 module _ (old new : View) (keeps : KeepsOwn old new) where
   kept_connection : (c : Connection) → OwnsConnection old c → OwnsConnection new c
@@ -47,7 +55,7 @@ module _ (old new : View) (keeps : KeepsOwn old new) where
     waiter = is_kept_if_any old new keeps c.receiver.waiter own.waiter;
   }
 
-  kept_connections : (cs : List Connection) → Each (OwnsConnection old) cs → Each (OwnsConnection new) cs
+  pub kept_connections : (cs : List Connection) → Each (OwnsConnection old) cs → Each (OwnsConnection new) cs
   kept_connections [] own = tt
   kept_connections (c ∷ cs) own = (kept_connection c own.0, kept_connections cs own.1)
 

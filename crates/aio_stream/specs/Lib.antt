@@ -2,3 +2,4 @@ pub mod Code
 pub mod Kept
 pub mod Owned
 pub mod Standing
+pub mod Watched

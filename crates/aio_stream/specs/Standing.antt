@@ -1,5 +1,5 @@
 -- The streams that code stands for, and what a call on them comes to.
-use Rattle.std.specs.Prelude.{◌≡◌, ℕ, ◌^◌, Result, OnOk}
+use Rattle.std.specs.Prelude.{◌≡◌, ◌^◌, Result, OnOk}
 use Rattle.model_stream.specs.Doing.{Doing}
 use Rattle.model_stream.specs.Streams.{Streams}
 use Rattle.aio_wire.specs.declared.stop.Stop.{Stop}

@@ -1,7 +1,9 @@
 //! All listeners and connections of a run.
+mod adding;
 mod callbacks;
 mod opening;
 mod requests;
+mod watching;
 
 use crate::opened::Opened;
 use crate::server::Server;

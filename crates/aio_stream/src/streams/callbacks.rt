@@ -1,9 +1,11 @@
 //! Callbacks of connections.
 ghost use Rattle.std.specs.Prelude.{◌≡◌, None, OnOk};
 ghost use Rattle.model_stream.specs.Connections as connection;
+ghost use Rattle.model_stream.specs.Doing.{Ends};
 ghost use Rattle.model_stream.specs.Streams.{its_connections, on_one};
 ghost use Rattle.aio_exchange.specs.Outside.{outside_of};
 ghost use Rattle.law_doing.specs.Follows.{reach};
+ghost use Rattle.aio_task.specs.View.{View};
 ghost use Rattle.aio_stream.specs.Owned.{OwnsStreams};
 ghost use Rattle.aio_stream.specs.Standing.{Comes, Told};
 
@@ -158,5 +160,18 @@ impl Streams {
             return Ok(());
         };
         connection.handler_done(alloc, id, returned, parts)
+    }
+
+    /// `startread` of a connection.
+    pub fn start_read(&mut self, id: u32)
+        ensures told { (v : View) → Told
+            (on_one its_connections id (λ c. Ends (connection.start_read c)))
+            self.old self.new v v }
+        ensures own { (v : View) → OwnsStreams v self.old → OwnsStreams v self.new }
+    {
+        let Some(connection) = self.connections.get_mut(id as usize) else {
+            return;
+        };
+        connection.start_read();
     }
 }

@@ -2,6 +2,8 @@
 ghost use Rattle.std.specs.Prelude.{◌≡◌, [], length, slice_get};
 ghost use Rattle.std.specs.Option.{option_map};
 ghost use Rattle.model_stream.specs.Connections.{Connection as PlainConnection};
+ghost use Rattle.model_stream.specs.Streams.{Streams as PlainStreams, handler_of};
+ghost use Rattle.aio_stream.specs.Standing.{StandsFor};
 
 use super::Streams;
 use aio_task::FutureId;
@@ -33,5 +35,13 @@ impl Streams {
     {
         let connection = self.connections.get(id as usize)?;
         Some(connection.closed())
+    }
+
+    /// The coroutine that handles a connection that was accepted, which `made` starts.
+    pub fn handler_of(&self, id: u32) -> Option<u32>
+        ensures { (s : PlainStreams) → StandsFor self.now s → result ≡ handler_of id s }
+    {
+        let connection = self.connections.get(id as usize)?;
+        connection.handler()
     }
 }

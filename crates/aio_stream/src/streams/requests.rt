@@ -3,19 +3,21 @@ ghost use Rattle.std.specs.Prelude.{◌≡◌, [], None, IfOk, OnOk, length};
 ghost use Rattle.model_stream.specs.declared.answers.StreamGot.TheVariants as got_as;
 ghost use Rattle.model_wire.specs.declared.event.Handed.TheVariants as to;
 ghost use Rattle.model_stream.specs.Requests as plain;
+ghost use Rattle.model_stream.specs.Streams.{Streams as PlainStreams};
 ghost use Rattle.aio_exchange.specs.Outside.{outside_of};
 ghost use Rattle.law_doing.specs.Follows.{reach};
+ghost use Rattle.aio_task.specs.View.{View};
 ghost use Rattle.aio_receiver.specs.Gotten.{all_got};
 ghost use Rattle.aio_stream.specs.Owned.{OwnsStreams};
-ghost use Rattle.aio_stream.specs.Standing.{Answers, Comes, Told, ToldWith};
+ghost use Rattle.aio_stream.specs.Standing.{Answers, Comes, StandsFor, Told, ToldWith};
 
 use super::Streams;
 use aio_base::{Blob, Memory};
 use aio_connection::{AllGot, Drain, StreamGot};
 use aio_reader::ReadOp;
-use aio_task::Parts;
+use aio_task::{FutureId, Parts};
 use aio_wire::{Port, Stop, Wire};
-use model_stream::Wrote;
+use model_stream::{Limited, Wrote};
 use std::alloc::Global;
 
 impl Streams {
@@ -174,6 +176,30 @@ impl Streams {
             return Ok(nothing_taken(alloc));
         };
         connection.read_all(alloc, parts)
+    }
+
+    /// New marks of a connection's writer, unless they are refused.
+    pub fn limits(&mut self, id: u32, high: Option<i64>, low: Option<i64>) -> Limited
+        ensures told { (v : View) → ToldWith (plain.limits high low (to.Conn id))
+            self.old self.new v v result }
+        ensures own { (v : View) → OwnsStreams v self.old → OwnsStreams v self.new }
+    {
+        let Some(connection) = self.connections.get_mut(id as usize) else {
+            return Limited::Set;
+        };
+        connection.limits(high, low)
+    }
+
+    /// The task of a read of a connection that waits on this future was resumed.
+    pub fn give_up(&mut self, id: u32, on: FutureId)
+        ensures after { (s : PlainStreams) → StandsFor self.old s
+            → StandsFor self.new (plain.give_up_read on (plain.OfConn id) s) }
+        ensures own { (v : View) → OwnsStreams v self.old → OwnsStreams v self.new }
+    {
+        let Some(connection) = self.connections.get_mut(id as usize) else {
+            return;
+        };
+        connection.give_up(on);
     }
 }
 

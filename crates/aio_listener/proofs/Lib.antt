@@ -1,0 +1,5 @@
+pub mod Accepts
+pub mod Acts
+pub mod Connects
+pub mod Listeners
+pub mod Listens

@@ -1,0 +1,58 @@
+-- What is watched, by what is kept.
+use Rattle.std.proofs.Common.{◌≡◌, ℕ, ◌+◌, ◌<◌, ◌^◌, Bool, List, [], ◌∷◌, ◌++◌, length, nat_lt, slice_get, take, get_or}
+use Rattle.std.proofs.Common.{◌≤◌, append-nil, ◌∙◌, refl, sym, ap}
+use Rattle.std.proofs.lemmas.List.{append_assoc, take_all, take_more}
+use Rattle.std.specs.List.{flat_map}
+use Rattle.model_wire.specs.declared.watch.Watch.{Watch}
+use Rattle.model_stream.specs.Streams.{Streams, Opened as PlainOpened, may_connect}
+use Rattle.model_stream.specs.Watching.{watch_list, watched, watched_connection, watched_server}
+use Rattle.aio_stream.specs.declared.opened.Opened.{Opened}
+use Rattle.aio_stream.specs.declared.opened.Opened.TheVariants as opened
+use Rattle.aio_stream.specs.Kept.{Kept, all_opened, opened_as}
+use Rattle.aio_stream.specs.Standing.{StandsFor}
+use Rattle.aio_stream.specs.Watched.{watched_of}
+
+-- whether one more connection can be numbered
+abbrev pub room_of : Kept → Bool
+room_of k = nat_lt (length k.connections) (2 ^ 32)
+
+module _ (k : Kept) (s : Streams) (h : StandsFor k s) where
+  room_same : room_of k ≡ may_connect s
+  room_same = sym (ap (λ n. nat_lt n s.most) (ap length h.connections) ∙ ap (λ most. nat_lt (length k.connections) most) h.most)
+
+  watched_same : (one : Opened) → watched_of (room_of k) k (opened_as one) ≡ watched s (opened_as one)
+  watched_same (opened.Server id) =
+      ap (λ room. watched_server room id (slice_get k.servers id)) room_same
+      ∙ ap (λ xs. watched_server (may_connect s) id (slice_get xs id)) (sym h.servers)
+  watched_same (opened.Conn id) = ap (λ xs. watched_connection id (slice_get xs id)) (sym h.connections)
+
+  watched_all : (those : List Opened) → flat_map (watched_of (room_of k) k) (all_opened those) ≡ flat_map (watched s) (all_opened those)
+  watched_all [] = refl
+  watched_all (one ∷ more) =
+      ap (λ xs. xs ++ flat_map (watched_of (room_of k) k) (all_opened more)) (watched_same one)
+      ∙ ap (λ xs. watched s (opened_as one) ++ xs) (watched_all more)
+
+  pub watches_all : (those : List Opened) → k.opened ≡ all_opened those → flat_map (watched_of (room_of k) k) (all_opened those) ≡ watch_list s
+  watches_all those is = watched_all those ∙ ap (flat_map (watched s)) (sym (h.opened ∙ is))
+
+-- ---- one more
+module _ (f : PlainOpened → List Watch) where
+  watched_push : (xs : List Opened) (y : Opened) → flat_map f (all_opened (xs ++ y ∷ [])) ≡ flat_map f (all_opened xs) ++ f (opened_as y)
+  watched_push [] y = append-nil (f (opened_as y))
+  watched_push (x ∷ xs) y =
+      ap (λ ys. f (opened_as x) ++ ys) (watched_push xs y)
+      ∙ sym (append_assoc (f (opened_as x)) (flat_map f (all_opened xs)) (f (opened_as y)))
+
+  pub watched_more : (xs : List Opened) (i : ℕ) (d : Opened) (first before after entry : List Watch) → i < length xs
+      → before ≡ first ++ flat_map f (all_opened (take i xs)) → entry ≡ f (opened_as (get_or xs i d)) → after ≡ before ++ entry
+      → after ≡ first ++ flat_map f (all_opened (take (i + 1) xs))
+  watched_more xs i d first before after entry h was is then =
+      then ∙ ap (λ ys. ys ++ entry) was ∙ append_assoc first (flat_map f (all_opened (take i xs))) entry
+      ∙ ap (λ ys. first ++ ys) (sym (
+      ap (λ ys. flat_map f (all_opened ys)) (take_more xs i d h) ∙ watched_push (take i xs) (get_or xs i d)
+      ∙ ap (λ ys. flat_map f (all_opened (take i xs)) ++ ys) (sym is)
+      ))
+
+  pub watched_whole : (xs : List Opened) (i : ℕ) (first after : List Watch) → length xs ≤ i
+      → after ≡ first ++ flat_map f (all_opened (take i xs)) → after ≡ first ++ flat_map f (all_opened xs)
+  watched_whole xs i first after h is = is ∙ ap (λ ys. first ++ flat_map f (all_opened ys)) (take_all i xs h)
