@@ -1,5 +1,6 @@
 pub mod Stands
 pub mod Asked
+pub mod Asking
 pub mod Named
 pub mod Outcomes
 pub mod Slots

@@ -1,5 +1,5 @@
 -- What a handle does, where it was taken from the queue and it was noted that it runs.
-use Rattle.std.proofs.Common.{◌≡◌, ℕ, ℤ, Bool, true, false, ◌&&◌, not, cond, List, [], ◌∷◌, ◌++◌, Some, None, length, slice_get, ◌∙◌, refl, sym, ap, subst}
+use Rattle.std.proofs.Common.{◌≡◌, ℕ, ℤ, Bool, true, false, ◌&&◌, not, cond, List, [], ◌∷◌, ◌++◌, Some, None, Result, length, slice_get, ◌∙◌, refl, sym, ap, subst}
 use Rattle.std.proofs.Common.{arith}
 use Rattle.std.proofs.Math.Logic.{∥∥₁_elim, ∥∥₁_map}
 use Rattle.std.proofs.lemmas.Bool.{eq-eqb, false≢true}
@@ -8,7 +8,7 @@ use Rattle.model_value.specs.Input.{Input}
 use Rattle.model_value.specs.declared.action.Action.TheVariants as action
 use Rattle.model_value.specs.declared.input.Input.TheVariants.{Send, Throw}
 use Rattle.model_value.specs.declared.outcome.Outcome.TheVariants.{Value as Returned}
-use Rattle.model_value.specs.Value.{Nothing}
+use Rattle.model_value.specs.Value.{Exc, Nothing, Value}
 use Rattle.model_says.specs.Says.{step_limit}
 use Rattle.model_wire.specs.declared.event.Event.TheVariants as event
 use Rattle.model_loop.specs.Circles.{circle_fault}
@@ -25,7 +25,7 @@ use Rattle.model_machine.specs.Step.{step}
 use Rattle.model_machine.specs.Turn.{effect, ran}
 use Rattle.law_trees.specs.Trees.{is_of_streams}
 use Rattle.law_cases.proofs.Closed.{effect_none}
-use Rattle.model_machine.specs.Went.{Goes}
+use Rattle.model_machine.specs.Went.{Went, Goes, Stops, state_of}
 use Rattle.law_inside.specs.InStep.{LeavesStateSound}
 use Rattle.law_runs.proofs.Callbacks.{callback_in}
 use Rattle.law_settling.proofs.CancelSound.{plain_within}
@@ -55,7 +55,20 @@ use Rattle.aio_body.specs.Stands.{Setting, Stands, Possible}
 use Rattle.aio_body.specs.Taken.{IsNext, IsTaken, IsAfterCallback}
 use Rattle.aio_step.specs.declared.steps.Stepped.{Stepped}
 use Rattle.aio_step.specs.declared.steps.Stepped.TheVariants as went
-use Rattle.aio_step.specs.Stepping.{Steps, IsCalled}
+use Rattle.aio_step.specs.Stepping.{HearsMade, IsCalled, Steps, stepping}
+use Rattle.std.specs.Prelude.{IfOk}
+use Rattle.std.proofs.lemmas.Result.{IfOk-weaker}
+use Rattle.law_going.proofs.Running.{effect_goes}
+use Rattle.law_reach.proofs.Rows.{in_callback}
+use Rattle.law_reach.specs.Changes.{runner_of}
+use Rattle.law_body.proofs.Unasked.{row_told}
+use Rattle.aio_base.specs.declared.memory.Memory.{Memory}
+use Rattle.aio_wire.specs.declared.stop.Stop.{Stop}
+use Rattle.aio_exchange.proofs.Among.{told_beside, told_none}
+use Rattle.aio_exchange.specs.Outside.{IsOutside, Outside, ported}
+use Rattle.aio_body.proofs.Asking.{come_none, comes_alone, comes_goes}
+use Rattle.aio_body.specs.Asking.{Comes, or_stop}
+use Rattle.aio_core.specs.Running.{StepsBy, acting, running_one}
 use Rattle.law_body.proofs.Lasting.{spares_none, stands_on}
 use Rattle.law_body.proofs.Left.{leaves_settle}
 use Rattle.law_body.proofs.May.{same_prop}
@@ -130,11 +143,6 @@ module _ {X : Type 0} {a : Added X} (it : Action) (c : Setting a) (body : Body X
       subst (Steps c new went.Goes) (sym is)
       (record { stands = after.stands; called = after.called; running = after.running; sound = subst (LeavesStateSound a.meaning) is sound_then })
 
--- what a step comes to, of a task that was called
-abbrev pub StepsAs : {X : Type 0} → (a : Added X) → ℕ → (input : State a.Kept → Input) → (old new : Body X) → Stepped → Type 0
-StepsAs a task input old new said =
-    (c : Setting a) (s : State a.Kept) → IsCalled task c old s → Steps c new said (step step_limit a.meaning task (input s) s)
-
 -- what a handle comes to
 abbrev pub Acts : {X : Type 0} → (a : Added X) → Action → (old new : Body X) → Stepped → Type 0
 Acts a it old new said = (c : Setting a) (s : State a.Kept) → IsTaken it c old s → Steps c new said (effect step_limit a.meaning it s)
@@ -151,29 +159,87 @@ module _ {X : Type 0} {a : Added X} where
   wakeup_called : (task : ℕ) (c : Setting a) (body : Body X) (s : State a.Kept) → IsTaken (action.Wakeup task) c body s → IsCalled task c body s
   wakeup_called task c body s h = called_so (action.Wakeup task) c body s h task (eq-eqb task task refl) refl
 
-  pub step_begins : (task : ℕ) (body : Body X) → Possible a (IsTaken (action.Step task)) body → Possible a (IsCalled task) body
-  step_begins task body m = ∥∥₁_map m (λ w. (w.0, (w.1.0, step_called task w.0 body w.1.0 w.1.1)))
-
-  pub circle_begins : (task : ℕ) (circle : Circle) (body : Body X) → Possible a (IsTaken (action.StepInCircle task circle)) body
-      → Possible a (IsCalled task) body
-  circle_begins task circle body m = ∥∥₁_map m (λ w. (w.0, (w.1.0, circle_called task circle w.0 body w.1.0 w.1.1)))
-
   pub wakeup_begins : (task : ℕ) (body : Body X) → Possible a (IsTaken (action.Wakeup task)) body → Possible a (IsCalled task) body
   wakeup_begins task body m = ∥∥₁_map m (λ w. (w.0, (w.1.0, wakeup_called task w.0 body w.1.0 w.1.1)))
 
-module _ {X : Type 0} {a : Added X} (old new : Body X) (said : Stepped) where
-  pub step_acts : (task : ℕ) → StepsAs a task (λ s. Send Nothing) old new said → Acts a (action.Step task) old new said
+-- which task a handle steps, and with what
+module _ {X : Type 0} {a : Added X} (body : Body X) where
+  pub steps_plain : (task : ℕ) (value : Value) → value ≡ Nothing → StepsBy a (action.Step task) body (Some (task, Send value))
   unfolding effect
-  step_acts task does c s h = does c s (step_called task c old s h)
+  steps_plain task value e =
+      subst (λ v. StepsBy a (action.Step task) body (Some (task, Send v))) (sym e) (refl, λ c s h. (step_called task c body s h, refl))
 
-  pub circle_acts : (task : ℕ) (circle : Circle) → StepsAs a task (λ s. Throw (circle_fault circle)) old new said
-      → Acts a (action.StepInCircle task circle) old new said
+  pub steps_circle : (task : ℕ) (circle : Circle) (fault : Exc) → fault ≡ circle_fault circle
+      → StepsBy a (action.StepInCircle task circle) body (Some (task, Throw fault))
   unfolding effect
-  circle_acts task circle does c s h = does c s (circle_called task circle c old s h)
+  steps_circle task circle fault e =
+      subst (λ f. StepsBy a (action.StepInCircle task circle) body (Some (task, Throw f))) (sym e)
+      (refl, λ c s h. (circle_called task circle c body s h, refl))
 
-  pub wakeup_acts : (task : ℕ) → StepsAs a task (λ s. woken_with s.loop.parts task) old new said → Acts a (action.Wakeup task) old new said
+  pub steps_woken : (task : ℕ) (input : Input) → HearsMade input body
+      → ((c : Setting a) (s : State a.Kept) → IsCalled task c body s → input ≡ woken_with s.loop.parts task)
+      → StepsBy a (action.Wakeup task) body (Some (task, input))
   unfolding effect
-  wakeup_acts task does c s h = does c s (wakeup_called task c old s h)
+  steps_woken task input made same =
+      (made, λ c s h. let called = wakeup_called task c body s h in (called, ap (λ i. step step_limit a.meaning task i s) (sym (same c s called))))
+
+  -- there is such a step
+  pub steps_may : (it : Action) (task : ℕ) (input : Input) → StepsBy a it body (Some (task, input)) → Possible a (IsTaken it) body
+      → Possible a (IsCalled task) body
+  steps_may it task input steps m = ∥∥₁_map m (λ w. (w.0, (w.1.0, (steps.1 w.0 w.1.0 w.1.1).0)))
+
+-- ---- as pieces of the machine
+told_steps : {X : Type 0} {a : Added X} (c : Setting a) (new : Body X) (said : Stepped) (w : Went a.Kept) → Steps c new said w
+    → (state_of w).events ≡ c.past ++ new.events.events
+told_steps c new went.Goes (Goes now) h = h.stands.events
+told_steps c new (went.Runaway task) (Stops how last) h = h.1
+told_steps c new went.Goes (Stops how last) h = absurd h
+told_steps c new (went.Runaway task) (Goes now) h = absurd h
+
+module _ {X W : Type 0} (a : Added X) (o : Outside W) (laws : IsOutside o) (it : Action) (body : Body X) where
+  -- it is noted that it runs
+  pub runs_acting : (mid new : Body X) (was is : W) (result : Result Stepped Stop) → mid ≡ record body { events = pushed body.events (event.Ran it) }
+      → Comes o (acting a it mid new) (ported was mid.events) (ported is new.events) result
+      → Comes o (running_one a it body new) (ported was body.events) (ported is new.events) result
+  runs_acting mid new was is result e =
+      subst (λ (m : Body X). Comes o (acting a it m new) (ported was m.events) (ported is new.events) result
+      → Comes o (running_one a it body new) (ported was body.events) (ported is new.events) result) (sym e) (λ acts.
+      comes_goes o laws (running_one a it body new) [] (ported was body.events) (ported was noted_so.events) (λ c s. IsTaken it c noted_so s)
+      (effect step_limit a.meaning it) (ported is new.events) result
+      (come_none o laws (λ c s. IsNext it c body s) (ported was body.events) (ported was noted_so.events)
+      (λ c s. (next : State a.Kept) × (IsTaken it c noted_so next
+      × (effect step_limit a.meaning it (noted (event.Ran it) s) ≡ effect step_limit a.meaning it next))) refl (λ c s h. (
+        told_beside body.events.events (event.Ran it) refl,
+        (noted (event.Ran it) s, (taken_so it c body s (pushed body.events (event.Ran it)) refl h, refl)),
+      )))
+      acts)
+    where
+      noted_so : Body X
+      noted_so = record body { events = pushed body.events (event.Ran it) }
+
+  -- it steps a task
+  pub acts_stepping : (task : ℕ) (input : Input) → StepsBy a it body (Some (task, input)) → (new : Body X) (was is : W) (result : Result Stepped Stop)
+      → Comes o (stepping a task input body new) (ported was body.events) (ported is new.events) result
+      → Comes o (acting a it body new) (ported was body.events) (ported is new.events) result
+  acts_stepping task input steps new was is result stepped =
+      comes_goes o laws (acting a it body new) [] (ported was body.events) (ported was body.events) (λ c s. IsCalled task c body s)
+      (step step_limit a.meaning task input) (ported is new.events) result
+      (come_none o laws (λ c s. IsTaken it c body s) (ported was body.events) (ported was body.events)
+      (λ c s. (next : State a.Kept) × (IsCalled task c body next × (effect step_limit a.meaning it s ≡ step step_limit a.meaning task input next))) refl
+      (λ c s h. (told_none body.events.events, (s, steps.1 c s h))))
+      stepped
+
+  -- or none, and asks nothing so far
+  pub acts_alone : (new : Body X) (wire : W) (result : Result Stepped Memory) → IfOk result (λ said. Acts a it body new said)
+      → Comes o (acting a it body new) (ported wire body.events) (ported wire new.events) (or_stop result)
+  acts_alone new wire result acts =
+      comes_alone o laws (acting a it body new) (ported wire body.events) (ported wire new.events) result refl
+      (IfOk-weaker result _ _ (λ said are c s h. let says = are c s h in (
+        row_told c.past body.events.events new.events.events s (state_of (effect step_limit a.meaning it s))
+            (in_callback (effect_goes step_limit a.meaning it s).reaches) h.stands.streams h.stands.events
+            (told_steps c new said (effect step_limit a.meaning it s) says),
+        says,
+      )) acts)
 
 -- ---- the end of a sleep
 module _ {X : Type 0} {a : Added X} (task future : ℕ) (c : Setting a) (body : Body X) (s : State a.Kept)
@@ -336,3 +402,7 @@ module _ {X : Type 0} {a : Added X} where
   streams_act it old is c s h =
       after_so it c old s h old s (effect_none s h.stands.streams step_limit a.meaning it is)
       (record { stands = h.stands; called = h.called ∙ steps_none it is; running = h.running })
+
+-- a step is no such callback
+pub no_step : (it : Action) (task : ℕ) → runner_of it ≡ None → runner_of it ≡ Some task → is_of_streams it ≡ true
+no_step it task idle runs = absurd (let e = sym idle ∙ runs in cc)

@@ -1,8 +1,7 @@
 -- A turn over the outside's answer: what a call that has none comes to, and a turn that has its answer.
-use Rattle.std.proofs.Common.{◌≡◌, ◌⊎◌, inl, inr, ℕ, Bool, true, false, List, [], ◌∷◌, ◌++◌, None, Result, Ok, Err, ◌∙◌, refl, sym, ap, subst, append_assoc}
+use Rattle.std.proofs.Common.{◌≡◌, ◌⊎◌, inl, inr, Bool, true, false, List, [], ◌∷◌, ◌++◌, None, Result, Ok, Err, ◌∙◌, refl, sym, ap, subst, append_assoc}
 use Rattle.std.proofs.Common.{if◌then◌else◌}
-use Rattle.std.proofs.Math.Logic.{∥∥₁_elim, ∥∥₁_map}
-use Rattle.model_value.specs.Value.{Outcome}
+use Rattle.std.proofs.Math.Logic.{∥∥₁_map}
 use Rattle.model_says.specs.Says.{step_limit}
 use Rattle.model_wire.specs.declared.event.End.TheVariants as end
 use Rattle.model_wire.specs.declared.event.Event.TheVariants as event
@@ -12,15 +11,19 @@ use Rattle.model_wire.specs.Fits.{fits}
 use Rattle.model_wire.specs.Journal.{Entry, Answered}
 use Rattle.model_wire.specs.Told.{Agrees, WireSeen}
 use Rattle.model_machine.specs.Extra.{Extra}
-use Rattle.model_machine.specs.Outcomes.{end_of}
-use Rattle.model_machine.specs.State.{State, noted, unbooked_in}
-use Rattle.model_machine.specs.Turn.{call_of, is_stalled, turn, turn_unless, turned_by, woken_by}
-use Rattle.model_machine.specs.Went.{Went, Goes, Stops, answered_by, answers_in, ask, fitted}
+use Rattle.model_machine.specs.State.{State, noted}
+use Rattle.model_machine.specs.Turn.{call_of, is_stalled, turn, turn_unless, turned_by}
+use Rattle.model_machine.specs.Went.{Went, Stops, answered_by, answers_in, ask, fitted}
 use Rattle.law_runs.proofs.Turning.{noted_in}
 use Rattle.aio_wire.specs.EventList.{EventList}
 use Rattle.aio_wire.specs.Events.{pushed}
 use Rattle.aio_wire.specs.Port.{AlwaysFails, Exchanges, StopsShort, UnlessStopped}
 use Rattle.aio_wire.specs.Replied.{MayHaveReplied, Replied}
+use Rattle.aio_exchange.proofs.Among.{noted_told, on_wire}
+use Rattle.aio_exchange.specs.Exchanged.{AsksOne, Exchange, All}
+use Rattle.aio_exchange.specs.Outside.{IsOutside, Outside, ported}
+use Rattle.aio_body.proofs.Asking.{comes_goes}
+use Rattle.aio_body.specs.Asking.{Comes, before}
 use Rattle.aio_wire.specs.Told.{refused_of}
 use Rattle.aio_wire.specs.declared.stop.Stop.{Stop}
 use Rattle.aio_wire.specs.declared.stop.Stop.TheVariants as stop
@@ -29,12 +32,12 @@ use Rattle.aio_wire.specs.declared.wire.Reply.{Reply}
 use Rattle.aio_wire.specs.declared.wire.Reply.TheVariants as reply
 use Rattle.aio_extra.specs.Added.{Added}
 use Rattle.aio_body.specs.declared.body.Body.{Body}
-use Rattle.aio_body.specs.Stands.{Setting, Stands, IsBetween, Possible}
-use Rattle.law_body.proofs.Noting.{counted, stands_noted, telling_changes}
+use Rattle.aio_body.specs.Stands.{Setting, IsBetween, Possible}
+use Rattle.law_body.proofs.Answering.{stands_again}
+use Rattle.law_body.proofs.Noting.{counted, stands_noted}
 use Rattle.aio_core.specs.declared.went.Went as code
 use Rattle.aio_core.specs.declared.went.Went.TheVariants as went
-use Rattle.aio_core.specs.Turning.{AliveIfWent, ComesTo, EndsFrom, EndsTelling, Is, IsAtRest, NoneLeft, OfFailing, StallsAs, Stood, Turned}
-use Rattle.aio_core.specs.Turning.{UnlessFailed, all_below, at_bar, changed_by, resting, stood_by}
+use Rattle.aio_core.specs.Turning.{ComesTo, EndsFrom, Is, NoneLeft, OfFailing, StallsAs, Stood, UnlessFailed, changed_by, resting, stood_by, turning, turning_by}
 use Rattle.aio_core.specs.Asked.{Asks}
 use Rattle.aio_core.proofs.Asked.{asks_replied, noted_by}
 
@@ -55,21 +58,6 @@ called_at call s = noted (event.Called call) s
 -- and the answer
 abbrev pub got_at : {S : Type 0} → Call → Answer → List Entry → State S → State S
 got_at call answer rest s = noted (event.Got answer) (record (called_at call s) { answers = rest })
-
-module _ {X : Type 0} {a : Added X} where
-  -- the outside's answers are other ones
-  stands_answers : (c : Setting a) (body : Body X) (s : State a.Kept) (answers : List Entry) → Stands None c body s
-      → Stands None (record c { answers = answers }) body (record s { answers = answers })
-  stands_answers c body s answers h =
-      telling_changes None c (record c { answers = answers }) body body s (record s { answers = answers }) h refl refl refl (record {
-        own = λ sleeper id sleeps. sleeps;
-        futures = h.futures;
-        few_futures = h.few_futures;
-        main_done = h.main_done;
-        events = h.events;
-        rest = refl;
-        count = h.count;
-      })
 
 -- ---- of a turn that isn't stalled, by its call
 module _ {X : Type 0} {a : Added X} (old : Body X) (call : Call)
@@ -234,7 +222,7 @@ module _ {X : Type 0} {a : Added X} (old : Body X) (call : Call)
     stands =
         stands_noted None (record c { answers = rest }) (record old { events = pushed old.events (event.Called call) })
         (record (called_at call s) { answers = rest }) (event.Got answer) events e
-        (stands_answers c (record old { events = pushed old.events (event.Called call) }) (called_at call s) rest
+        (stands_again rest c (record old { events = pushed old.events (event.Called call) }) (called_at call s) None
         (stands_noted None c old s (event.Called call) (pushed old.events (event.Called call)) refl h.stands));
     called = h.called;
     running = h.running;
@@ -246,130 +234,32 @@ module _ {X : Type 0} {a : Added X} (old : Body X) (call : Call)
   got_alive answer events e alive =
       ∥∥₁_map alive (λ w. (record w.0 { answers = [] }, (got_at call answer [] w.1.0, got_between answer events e w.0 w.1.0 [] w.1.1)))
 
-  -- a turn with this answer
-  module _ (answer : Answer) (events : EventList) (before after : WireSeen) (got : HasGot answer events before after) (new : Body X) (said : code.Went)
-      (does : (c : Setting a) (s : State a.Kept) → IsBetween c (record old { events = events }) s
-      → Turned (at_bar (all_below c (unbooked_in (woken_by answer) s))) new said (turned_by step_limit a.meaning answer s)) where
-    abbrev barred : List Event → List Entry → State a.Kept → ℕ
-    barred past rest s = (unbooked_in (woken_by answer) (got_at call answer rest s)).loop.parts.next_stamp
+  -- a turn that has this answer goes on by it
+  module _ {W : Type 0} (o : Outside W) (laws : IsOutside o) (was mid : W) (answer : Answer) (events : EventList)
+      (one : AsksOne o call (ported was old.events) (ported mid events) (Ok answer)) where
+    abbrev asked : List Exchange
+    asked = record { call = call; answer = answer } ∷ []
 
-    abbrev Does : code.Went → Type 0
-    Does it =
-        (c : Setting a) (s : State a.Kept) → IsBetween c (record old { events = events }) s
-        → Turned (at_bar (all_below c (unbooked_in (woken_by answer) s))) new it (turned_by step_limit a.meaning answer s)
-
-    pub none_stalled : (c : Setting a) (w : Went a.Kept) → Turned c new went.Stalled w → ⊥
-    none_stalled c (Goes now) t = t
-    none_stalled c (Stops how last) t = t
-
-    pub none_stopped : (why : Stop) (c : Setting a) (w : Went a.Kept) → Turned c new (went.Stopped why) w → ⊥
-    none_stopped why c (Goes now) t = t
-    none_stopped why c (Stops how last) t = t
-
-    never : (it : code.Went) → Does it → Possible a IsBetween (record old { events = events })
-        → ((c : Setting a) (w : Went a.Kept) → Turned c new it w → ⊥) → ⊥
-    never it both alive refutes =
-        ∥∥₁_elim alive (λ a b. absurd a)
-        (λ w. refutes (at_bar (all_below w.0 (unbooked_in (woken_by answer) w.1.0))) (turned_by step_limit a.meaning answer w.1.0) (both w.0 w.1.0 w.1.1))
-
-    -- what the machine's turn comes to
-    turned_at : (past : List Event) (rest : List Entry) (s : State a.Kept) → IsAtRest a past (Answered answer ∷ rest) old s
-        → Turned (resting a past rest (barred past rest s)) new said (turn step_limit a.meaning s)
-    turned_at past rest s h =
-        subst (Turned (resting a past rest (barred past rest s)) new said)
-        (sym (turned_as (resting a past (Answered answer ∷ rest) h.0) s h.1 (Answered answer ∷ rest) h.1.stands.rest
-        ∙ ap (λ b. fitted b call answer (turned_by step_limit a.meaning) (got_at call answer rest s)) got.is_fit))
-        (does (resting a past rest h.0) (got_at call answer rest s)
-        (got_between answer events got.is_noted (resting a past (Answered answer ∷ rest) h.0) s rest h.1))
-
-    pub comes_so : Possible a IsBetween (record old { events = events })
-        → ComesTo a.meaning before after (changed_by a old new) said
-    comes_so alive = at said (λ past rest s h. turned_at past rest s h) does
-      where
-        goes_at : (past : List Event) (rest : List Entry) (bar : ℕ) (w : Went a.Kept) → Turned (resting a past rest bar) new went.Went w
-            → (now : State a.Kept) × ((w ≡ Goes now) × IsAtRest a past rest new now)
-        goes_at past rest bar (Goes now) t = (now, (refl, (bar, t)))
-        goes_at past rest bar (Stops how last) t = absurd t
-
-        finishes_at : (outcome : Outcome) (past : List Event) (rest : List Entry) (bar : ℕ) (s : State a.Kept) (w : Went a.Kept)
-            → turn step_limit a.meaning s ≡ w → Turned (resting a past rest bar) new (went.Finished outcome) w
-            → EndsTelling a.meaning (Is (end_of outcome)) past new.events.events s
-        finishes_at outcome past rest bar s (Goes now) e t = absurd t
-        finishes_at outcome past rest bar s (Stops how last) e t = record { end = how; last = last; way = t.0; stops = e; told = t.1 }
-
-        runs_at : (task : ℕ) (past : List Event) (rest : List Entry) (bar : ℕ) (s : State a.Kept) (w : Went a.Kept)
-            → turn step_limit a.meaning s ≡ w → Turned (resting a past rest bar) new (went.Runaway task) w
-            → EndsTelling a.meaning (Is (end.Runaway task)) past new.events.events s
-        runs_at task past rest bar s (Goes now) e t = absurd t
-        runs_at task past rest bar s (Stops how last) e t = record { end = how; last = last; way = t.0; stops = e; told = t.1 }
-
-        Each : code.Went → Type 0
-        Each it =
-            (past : List Event) (rest : List Entry) (s : State a.Kept) → IsAtRest a past (Answered answer ∷ rest) old s
-            → Turned (resting a past rest (barred past rest s)) new it (turn step_limit a.meaning s)
-
-        at : (it : code.Went) → Each it → Does it
-            → ComesTo a.meaning before after (changed_by a old new) it
-        at went.Went each both = (
-          answer ∷ [],
-          (
-            got.was_left,
-            λ past rest s h.
-                goes_at past rest (barred past rest s) (turn step_limit a.meaning s) (each past rest s h),
-          ),
-        )
-        at (went.Finished outcome) each both = (
-          answer ∷ [],
-          (
-            got.was_left,
-            λ past rest s any h.
-                finishes_at outcome past rest (barred past rest s) s (turn step_limit a.meaning s) refl (each past rest s h),
-          ),
-        )
-        at (went.Runaway task) each both = (
-          answer ∷ [],
-          (
-            got.was_left,
-            λ past rest s any h.
-                runs_at task past rest (barred past rest s) s (turn step_limit a.meaning s) refl (each past rest s h),
-          ),
-        )
-        at went.Stalled each both = absurd (never went.Stalled both alive (λ c w t. none_stalled c w t))
-        at (went.Stopped why) each both = absurd (never (went.Stopped why) both alive (λ c w t. none_stopped why c w t))
-
-    -- the run goes on, or it is over, and memory alone stops it
-    pub stalls_after : Possible a IsBetween (record old { events = events }) → StallsAs false said
-    stalls_after alive = at said does
-      where
-        at : (it : code.Went) → Does it → StallsAs false it
-        at went.Went both = refl
-        at (went.Finished outcome) both = refl
-        at (went.Runaway task) both = refl
-        at went.Stalled both = absurd (never went.Stalled both alive (λ c w t. none_stalled c w t))
-        at (went.Stopped why) both = absurd (never (went.Stopped why) both alive (λ c w t. none_stopped why c w t))
-
-    pub alive_after : Possible a IsBetween (record old { events = events }) → AliveIfWent a said new
-    alive_after alive = at said does
-      where
-        goes_between : (c : Setting a) (w : Went a.Kept) → Turned c new went.Went w → (now : State a.Kept) × IsBetween c new now
-        goes_between c (Goes now) t = (now, t)
-        goes_between c (Stops how last) t = absurd t
-
-        at : (it : code.Went) → Does it → AliveIfWent a it new
-        at went.Went both =
-            ∥∥₁_map alive (λ w. let it = goes_between (at_bar (all_below w.0 (unbooked_in (woken_by answer) w.1.0)))
-            (turned_by step_limit a.meaning answer w.1.0)
-            (both w.0 w.1.0 w.1.1) in (at_bar (all_below w.0 (unbooked_in (woken_by answer) w.1.0)), (it.0, it.1)))
-        at (went.Finished outcome) both = tt
-        at (went.Runaway task) both = tt
-        at went.Stalled both = tt
-        at (went.Stopped why) both = tt
-
-    -- what a turn with this answer comes to
-    pub turned_so : Possible a IsBetween (record old { events = events })
-        → ComesTo a.meaning before after (changed_by a old new) said
-        × StallsAs false said × AliveIfWent a said new
-    turned_so alive = (comes_so alive, stalls_after alive, alive_after alive)
+    pub answered_so : (new : Body X) (is : W) (result : Result code.Went Stop)
+        → Comes o (turning_by a answer (record old { events = events }) new) (ported mid events) (ported is new.events) result
+        → Comes o (turning a old new) (ported was old.events) (ported is new.events) result
+    answered_so new is result turns =
+        comes_goes o laws (turning a old new) asked (ported was old.events) (ported mid events) (λ c s. IsBetween c (record old { events = events }) s)
+        (turned_by step_limit a.meaning answer) (ported is new.events) result
+        (record {
+          exchanged = on_wire o asked All (ported was old.events) (ported mid events) one;
+          told = λ c s h. (
+            noted_told asked old.events events one.notes,
+            (
+              got_at call answer c.answers s,
+              (
+                got_between answer events one.notes (before asked c) s c.answers h,
+                turned_as (before asked c) s h (Answered answer ∷ c.answers) h.stands.rest
+                    ∙ ap (λ b. fitted b call answer (turned_by step_limit a.meaning) (got_at call answer c.answers s)) one.fit.0,
+              ),
+            ),
+          );
+        }) turns
 
 module _ {X : Type 0} {a : Added X} where
   -- ---- a turn that is stalled

@@ -1,20 +1,33 @@
 -- What a turn does once it has its answer: the handles before the bar run, and the turn ends.
-use Rattle.std.proofs.Common.{◌≡◌, ℕ, Bool, true, false, not, ◌&&◌, ◌∙◌, sym, ap, subst}
+use Rattle.std.proofs.Common.{◌≡◌, ℕ, Bool, true, false, not, ◌&&◌, List, [], ◌++◌, Result, Ok, Err, append-nil, length, ◌∙◌, refl, sym, ap, subst}
+use Rattle.std.specs.Prelude.{IfOk}
 use Rattle.std.proofs.Math.Logic.{∥∥₁_map}
 use Rattle.model_says.specs.Says.{step_limit}
 use Rattle.model_wire.specs.Call.{Answer}
 use Rattle.model_machine.specs.State.{State, unbooked_in}
-use Rattle.model_machine.specs.Turn.{cancelled_if, run_below, turn_over, turned_by, woken_by}
-use Rattle.model_machine.specs.Went.{Went, Goes, Stops, went_on}
+use Rattle.model_machine.specs.Turn.{cancelled_if, run_pending, turn_over, turned_by, woken_by}
+use Rattle.model_machine.specs.Went.{Went, Goes, Stops, state_of, went_on}
+use Rattle.law_going.proofs.Turning.{over_row}
+use Rattle.law_reach.proofs.Rows.{in_callback}
+use Rattle.aio_base.specs.declared.memory.Memory.{Memory}
+use Rattle.aio_wire.specs.declared.stop.Stop.{Stop}
+use Rattle.aio_exchange.specs.Exchanged.{Exchange, Last, All, Met, Starved}
+use Rattle.aio_exchange.specs.Outside.{IsOutside, Outside, ported}
 use Rattle.aio_extra.specs.Added.{Added}
 use Rattle.aio_step.specs.declared.steps.Stepped.{Stepped}
 use Rattle.aio_step.specs.declared.steps.Stepped.TheVariants as stepped
 use Rattle.aio_step.specs.Stepping.{Steps}
+use Rattle.aio_body.proofs.Asking.{HasCome, come_beside, come_none, come_then, comes_ends, comes_starved, comes_stops}
 use Rattle.aio_body.specs.declared.body.Body.{Body}
+use Rattle.aio_body.specs.Asking.{Comes, ComesBy, Piece, before, or_stop}
 use Rattle.aio_body.specs.Stands.{Setting, IsBetween, Possible}
+use Rattle.law_body.proofs.Answering.{alive_come, between_again}
+use Rattle.law_body.proofs.Unasked.{row_told, told_so}
+use Rattle.law_body.specs.Answers.{with_answers}
 use Rattle.aio_core.specs.declared.went.Went as Said
 use Rattle.aio_core.specs.declared.went.Went.TheVariants as went
-use Rattle.aio_core.specs.Turning.{Turned, all_below, at_bar}
+use Rattle.aio_core.specs.Running.{running}
+use Rattle.aio_core.specs.Turning.{Turned, all_below, turning_by}
 use Rattle.aio_core.proofs.Running.{goes_on}
 
 module _ {X : Type 0} {a : Added X} where
@@ -26,39 +39,151 @@ module _ {X : Type 0} {a : Added X} where
 abbrev pub woken_to : {S : Type 0} → Answer → State S → State S
 woken_to answer s = unbooked_in (woken_by answer) s
 
-abbrev pub RunsBelow : {X : Type 0} → (a : Added X) → (mid ran : Body X) → Stepped → Type 0
-RunsBelow a mid ran said =
-    (c : Setting a) (s : State a.Kept) → IsBetween c mid s → Steps (at_bar c) ran said (run_below step_limit a.meaning c.bar c.left s)
+-- the state that is left at the end of a turn
+pub told_turned : {X : Type 0} {a : Added X} (new : Body X) (c : Setting a) (it : Said.Went) (w : Went a.Kept) → Turned c new it w
+    → (state_of w).events ≡ c.past ++ new.events.events
+told_turned new c went.Went (Goes now) t = t.stands.events
+told_turned new c went.Went (Stops how last) t = absurd t
+told_turned new c (went.Finished outcome) (Goes now) t = absurd t
+told_turned new c (went.Finished outcome) (Stops how last) t = t.1
+told_turned new c went.Stalled (Goes now) t = absurd t
+told_turned new c went.Stalled (Stops how last) t = absurd t
+told_turned new c (went.Runaway task) (Goes now) t = absurd t
+told_turned new c (went.Runaway task) (Stops how last) t = t.1
+told_turned new c (went.Stopped why) (Goes now) t = absurd t
+told_turned new c (went.Stopped why) (Stops how last) t = absurd t
 
-module _ {X : Type 0} {a : Added X} (answer : Answer) (old mid ran : Body X)
-    (woken : (c : Setting a) (s : State a.Kept) → IsBetween c old s → IsBetween (all_below c (woken_to answer s)) mid (woken_to answer s)) where
-  pub alive_ran : Possible a IsBetween mid → RunsBelow a mid ran stepped.Goes → Possible a IsBetween ran
-  alive_ran alive runs =
-      ∥∥₁_map alive (λ w. let it = goes_on (at_bar w.0) ran (run_below step_limit a.meaning w.0.bar w.0.left w.1.0) (runs w.0 w.1.0 w.1.1) in
-      (at_bar w.0, (it.0, it.1.1)))
+module _ {X W : Type 0} (a : Added X) (o : Outside W) (laws : IsOutside o) (answer : Answer) (old mid ran : Body X)
+    (woken : (c : Setting a) (s : State a.Kept) → IsBetween c old s → IsBetween (all_below c (woken_to answer s)) mid (woken_to answer s)) (was is : W) where
+  abbrev From : Setting a → State a.Kept → Type 0
+  From c s = IsBetween c old s
 
-  pub after_goes : (new : Body X) (said : Said.Went) → RunsBelow a mid ran stepped.Goes
-      → ((c : Setting a) (s : State a.Kept) → IsBetween c ran s → Turned c new said (turn_over mid.main_done s))
-      → (c : Setting a) (s : State a.Kept) → IsBetween c old s
-      → Turned (at_bar (all_below c (woken_to answer s))) new said (turned_by step_limit a.meaning answer s)
-  after_goes new said runs does c s h =
-      let there = woken c s h in
-      let d = all_below c (woken_to answer s) in
-      let it = goes_on (at_bar d) ran (run_below step_limit a.meaning d.bar d.left (woken_to answer s)) (runs d (woken_to answer s) there) in
-      subst (λ w. Turned (at_bar d) new said (went_on (turn_over s.main_done) w)) (sym it.1.0)
-      (subst (λ b. Turned (at_bar d) new said (turn_over b it.0)) there.stands.main_done (does (at_bar d) it.0 it.1.1))
+  -- all that is pending stands before the bar
+  abbrev Begun : Setting a → State a.Kept → Type 0
+  Begun c s = IsBetween (all_below c (woken_to answer s)) mid (woken_to answer s)
 
-  pub after_runs_away : (task : ℕ) → RunsBelow a mid ran (stepped.Runaway task)
-      → (c : Setting a) (s : State a.Kept) → IsBetween c old s
-      → Turned (at_bar (all_below c (woken_to answer s))) ran (went.Runaway task) (turned_by step_limit a.meaning answer s)
-  after_runs_away task runs c s h =
-      let there = woken c s h in
-      let d = all_below c (woken_to answer s) in
-      at (at_bar d) (run_below step_limit a.meaning d.bar d.left (woken_to answer s)) (runs d (woken_to answer s) there)
+  begins : HasCome o From [] (ported was old.events) (ported was mid.events) Begun
+  begins =
+      come_none o laws From (ported was old.events) (ported was mid.events) Begun refl (λ c s h. let there = woken c s h in (
+        told_so c.past old.events.events mid.events.events s.events s.events h.stands.events there.stands.events ([], sym (append-nil s.events)) refl,
+        there,
+      ))
+
+  -- the handles run, from wherever the turn has its answer
+  abbrev below : Piece a (State a.Kept) (Went a.Kept) Stepped
+  below =
+      record {
+        from = Begun;
+        does = λ s. run_pending step_limit a.meaning (woken_to answer s);
+        ends = Stops;
+        says = λ c said it. (bar : ℕ) × Steps (record c { left = 0; bar = bar }) ran said it;
+      }
+
+  pub runs_below : (result : Result Stepped Stop) → Comes o (running a mid ran) (ported was mid.events) (ported is ran.events) result
+      → Comes o below (ported was mid.events) (ported is ran.events) result
+  runs_below result h = record { had = h.had; last = h.last; exchanged = h.exchanged; comes = at h.last result h.comes }
     where
-      at : (d : Setting a) (w : Went a.Kept) → Steps d ran (stepped.Runaway task) w → Turned d ran (went.Runaway task) (went_on (turn_over s.main_done) w)
-      at d (Goes now) t = absurd t
-      at d (Stops how last) t = t
+      place : State a.Kept → State a.Kept × (ℕ × ℕ)
+      place s = (woken_to answer s, ((woken_to answer s).loop.parts.next_stamp, length (woken_to answer s).loop.parts.pending))
+
+      at : (last : Last) (result : Result Stepped Stop) → ComesBy (running a mid ran) h.had last mid.events ran.events result
+          → ComesBy below h.had last mid.events ran.events result
+      at All (Ok said) comes = λ c s from.
+          let it = comes (all_below c (woken_to answer s)) (place s) (from, (refl, refl)) in
+          (it.0, ((woken_to answer s).loop.parts.next_stamp, it.1))
+      at (Met call reply) (Err why) comes = (
+        comes.0,
+        λ c s from fits. comes.1 (all_below c (woken_to answer s)) (place s) (from, (refl, refl)) fits,
+      )
+      at Starved (Err why) comes = comes
+      at All (Err why) comes = absurd comes
+      at (Met call reply) (Ok said) comes = absurd comes
+      at Starved (Ok said) comes = absurd comes
+
+  -- ---- all ran
+  module _ (runs : Comes o (running a mid ran) (ported was mid.events) (ported is ran.events) (Ok stepped.Goes)) where
+    pub record HasRun (c : Setting a) (s : State a.Kept) : Type 0 where
+      pub now : State a.Kept
+      pub bar : ℕ
+      pub ran_so : run_pending step_limit a.meaning (woken_to answer s) ≡ Goes now
+      pub between : IsBetween (record c { left = 0; bar = bar }) ran now
+      pub main_done : mid.main_done ≡ s.main_done
+
+    gone : (had : List Exchange) × HasCome o From had (ported was old.events) (ported is ran.events) HasRun
+    gone =
+        come_then o laws From [] (ported was old.events) (ported was mid.events) below (ported is ran.events) Begun HasRun stepped.Goes begins
+        (runs_below (Ok stepped.Goes) runs) (λ more c s t. (
+          s,
+          (
+            t,
+            λ says.
+                let it = goes_on (record c { left = 0; bar = says.0 }) ran (run_pending step_limit a.meaning (woken_to answer s)) says.1 in
+                record { now = it.0; bar = says.0; ran_so = it.1.0; between = it.1.1; main_done = t.stands.main_done },
+          ),
+        ))
+
+    pub alive_ran : Possible a IsBetween old → Possible a IsBetween ran
+    alive_ran alive =
+        ∥∥₁_map
+        (alive_come o From (λ answers c s h. (with_answers answers s, between_again answers c old s h)) gone.0 (ported was old.events)
+        (ported is ran.events) HasRun gone.1 alive) (λ w. (record w.0 { left = 0; bar = w.1.1.bar }, (w.1.1.now, w.1.1.between)))
+
+    -- and the turn ends, which asks nothing
+    pub after_goes : (new : Body X) (result : Result Said.Went Memory)
+        → IfOk result (λ said. (c : Setting a) (s : State a.Kept) → IsBetween c ran s → Turned c new said (turn_over mid.main_done s))
+        → Comes o (turning_by a answer old new) (ported was old.events) (ported is new.events) (or_stop result)
+    after_goes new (Err memory) ends =
+        comes_starved o laws (turning_by a answer old new) gone.0 (ported was old.events) (ported is ran.events) (ported is new.events) refl gone.1.exchanged
+    after_goes new (Ok said) ends =
+        comes_ends o laws (turning_by a answer old new) gone.0 (ported was old.events) (ported is new.events) said
+        (come_beside o laws From gone.0 (ported was old.events) (ported is ran.events) (ported is new.events) HasRun
+        (λ c s. (bar : ℕ) × Turned (record c { left = 0; bar = bar }) new said (turned_by step_limit a.meaning answer s)) gone.1 refl (λ c s t.
+        let d : Setting a = record c { left = 0; bar = t.bar } in
+        let turned = ends d t.now t.between in (
+          row_told c.past ran.events.events new.events.events t.now (state_of (turn_over mid.main_done t.now))
+              (in_callback (over_row mid.main_done t.now)) t.between.stands.streams t.between.stands.events
+              (told_turned new d said (turn_over mid.main_done t.now) turned),
+          (
+            t.bar,
+            subst (λ w. Turned d new said (went_on (turn_over s.main_done) w)) (sym t.ran_so)
+                (subst (λ b. Turned d new said (turn_over b t.now)) t.main_done turned),
+          ),
+        )))
+
+  -- ---- a task ran away
+  pub after_runs_away : (task : ℕ) → Comes o (running a mid ran) (ported was mid.events) (ported is ran.events) (Ok (stepped.Runaway task))
+      → Comes o (turning_by a answer old ran) (ported was old.events) (ported is ran.events) (Ok (went.Runaway task))
+  after_runs_away task runs =
+      let all = come_then o laws From [] (ported was old.events) (ported was mid.events) below (ported is ran.events) Begun
+      (λ c s. (bar : ℕ) × Turned (record c { left = 0; bar = bar }) ran (went.Runaway task) (turned_by step_limit a.meaning answer s))
+      (stepped.Runaway task) begins (runs_below (Ok (stepped.Runaway task)) runs) (λ more c s t. (
+        s,
+        (
+          t,
+          λ says. (
+            says.0,
+            off (turn_over s.main_done) (record c { left = 0; bar = says.0 }) (run_pending step_limit a.meaning (woken_to answer s)) says.1,
+          ),
+        ),
+      )) in
+      comes_ends o laws (turning_by a answer old ran) all.0 (ported was old.events) (ported is ran.events) (went.Runaway task) all.1
+    where
+      off : (go_on : State a.Kept → Went a.Kept) (d : Setting a) (w : Went a.Kept) → Steps d ran (stepped.Runaway task) w
+          → Turned d ran (went.Runaway task) (went_on go_on w)
+      off go_on d (Goes now) t = absurd t
+      off go_on d (Stops how last) t = t
+
+  -- ---- or the outside had no answer
+  pub after_stops : (why : Stop) → Comes o (running a mid ran) (ported was mid.events) (ported is ran.events) (Err why)
+      → Comes o (turning_by a answer old ran) (ported was old.events) (ported is ran.events) (Err why)
+  after_stops why runs =
+      comes_stops o laws From [] (ported was old.events) (ported was mid.events) below (ported is ran.events)
+      (turned_by step_limit a.meaning answer, (Stops, λ c said it. (bar : ℕ) × Turned (record c { left = 0; bar = bar }) ran said it)) why
+      (record {
+        exchanged = begins.exchanged;
+        told = λ c s h.
+            let t = begins.told c s h in (t.0, (s, (t.1, λ how last e. ap (went_on (turn_over s.main_done)) e)));
+      }) (runs_below (Err why) runs)
 
 module _ {X : Type 0} {a : Added X} where
   -- whether each task is cancelled

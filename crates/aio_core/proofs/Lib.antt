@@ -6,6 +6,8 @@ pub mod Waking
 pub mod Stopping
 pub mod Asked
 pub mod Asking
+pub mod Coming
+pub mod Answered
 pub mod AskedByTurn
 pub mod Following
 pub mod Opening

@@ -1,5 +1,5 @@
 -- The handles before the bar, as the loop over them has them: each round takes one, and the rest is as before.
-use Rattle.std.proofs.Common.{if◌then◌else◌, ◌≡◌, ℕ, suc, ◌<◌, Bool, true, false, List, [], ◌∷◌, drop, Some, None, length, ◌∙◌, refl, sym, ap, subst, arith}
+use Rattle.std.proofs.Common.{if◌then◌else◌, ◌≡◌, ℕ, suc, ◌<◌, Bool, true, false, List, [], ◌∷◌, drop, Some, None, Result, Ok, Err, length, ◌∙◌, refl, sym, ap, subst, arith}
 use Rattle.std.proofs.Math.Logic.{∥∥₁_elim, ∥∥₁_map}
 use Rattle.std.specs.Coded.{le_prop}
 use Rattle.model_value.specs.Action.{Action}
@@ -11,42 +11,46 @@ use Rattle.model_machine.specs.Went.{Went, Goes, Stops, went_on}
 use Rattle.aio_ready.specs.Queue as queue
 use Rattle.aio_ready.specs.declared.handle.Handle.{Handle as QueueHandle}
 use Rattle.aio_task.specs.View.{View}
+use Rattle.aio_wire.specs.declared.stop.Stop.{Stop}
+use Rattle.aio_exchange.proofs.Among.{told_none}
+use Rattle.aio_exchange.specs.Exchanged.{Exchange}
+use Rattle.aio_exchange.specs.Outside.{IsOutside, Outside, ported}
 use Rattle.aio_extra.specs.Added.{Added}
-use Rattle.aio_step.specs.declared.steps.Stepped as stepped
+use Rattle.aio_step.specs.declared.steps.Stepped.{Stepped}
 use Rattle.aio_step.specs.declared.steps.Stepped.TheVariants as went
 use Rattle.aio_step.specs.Stepping.{Steps}
+use Rattle.aio_body.proofs.Asking.{HasCome, come_beside, come_none, come_then, comes_ends, comes_stops}
 use Rattle.aio_body.specs.declared.body.Body.{Body}
+use Rattle.aio_body.specs.Asking.{Comes, Piece, before}
 use Rattle.aio_body.specs.Stands.{Setting, IsBetween, Possible}
 use Rattle.aio_body.specs.Taken.{IsNext}
+use Rattle.law_body.proofs.Answering.{alive_come, between_again}
+use Rattle.law_body.proofs.Over.{comes_over, over}
+use Rattle.law_body.specs.Answers.{with_answers}
+use Rattle.aio_core.specs.Running.{running, running_one}
 use Rattle.aio_core.specs.Turning.{at_bar}
 use Rattle.aio_core.proofs.Below.{IsRunning, left_by, next_none, next_runs, skipped}
 
+abbrev pub below_of : {X : Type 0} → Body X → ℕ
+below_of body = length body.parts.queue.below
+
 module _ {X : Type 0} {a : Added X} where
   -- as many are left as stand before the bar
-  abbrev pub with_left : Body X → Setting a → Setting a
-  with_left body c = record c { left = length body.parts.queue.below }
+  abbrev pub with_left : ℕ → Setting a → Setting a
+  with_left count c = record c { left = count }
 
-  -- a state was come to, from which the rest runs as from the first
-  pub record Reached (c : Setting a) (body : Body X) (s : State a.Kept) : Type 0 where
+  -- A state was come to, from which the rest runs as from the first: that, its bar, and how many were left before it.
+  pub record Reached (body : Body X) (c : Setting a) (at : State a.Kept × (ℕ × ℕ)) : Type 0 where
     pub now : State a.Kept
-    pub between : IsBetween (with_left body c) body now
-    pub same : run_below step_limit a.meaning c.bar c.left s ≡ run_below step_limit a.meaning c.bar (length body.parts.queue.below) now
+    pub between : IsBetween (with_left (below_of body) c) body now
+    pub same : run_below step_limit a.meaning at.1.0 at.1.1 at.0 ≡ run_below step_limit a.meaning c.bar (below_of body) now
 
--- from wherever it began
-abbrev pub HasReached : {X : Type 0} → (a : Added X) → (first body : Body X) → Type 0
-HasReached a first body = (c : Setting a) (s : State a.Kept) → IsBetween c first s → Reached c body s
-
-module _ {X : Type 0} {a : Added X} where
-  pub reached_first : (body : Body X) → HasReached a body body
-  reached_first body c s h =
-      record {
-        now = s;
-        between = subst (λ n. IsBetween (record c { left = n }) body s) (sym h.stands.left) h;
-        same = ap (λ n. run_below step_limit a.meaning c.bar n s) (sym h.stands.left);
-      }
-
-  pub alive_on : (first body : Body X) → Possible a IsBetween first → HasReached a first body → Possible a IsBetween body
-  alive_on first body alive reached = ∥∥₁_map alive (λ w. let r = reached w.0 w.1.0 w.1.1 in (with_left body w.0, (r.now, r.between)))
+-- from wherever it began, after some asks
+abbrev pub HasReached : {X W : Type 0} → (a : Added X) → Outside W → (first : Body X) (was : W) (body : Body X) (is : W) → Type 0
+HasReached a o first was body is =
+    (had : List Exchange)
+    × HasCome {At = State a.Kept × (ℕ × ℕ)} {a = a} o (λ c at. IsBetween c first at.0 × ((c.bar ≡ at.1.0) × (c.left ≡ at.1.1))) had
+    (ported was first.events) (ported is body.events) (Reached body)
 
 -- ---- a handle was taken
 module _ {X : Type 0} {a : Added X} (body : Body X) (w : View) (action : Action) (is : w ≡ left_by body.parts)
@@ -56,12 +60,6 @@ module _ {X : Type 0} {a : Added X} (body : Body X) (w : View) (action : Action)
 
   pub may_run : Possible a IsBetween body → Possible a (IsNext action) (record body { parts = w })
   may_run alive = ∥∥₁_map alive (λ x. let r = running_of x.0 x.1.0 x.1.1 in (record x.0 { left = length w.queue.below }, (r.now, r.next)))
-
--- what running it comes to
-abbrev pub Ran : {X : Type 0} → (a : Added X) → Action → Body X → Body X → stepped.Stepped → Type 0
-Ran a action taken new said =
-    (c : Setting a) (s : State a.Kept) → IsNext action c taken s
-    → Steps c new said (effect step_limit a.meaning action (noted (event.Ran action) s))
 
 module _ {X : Type 0} {a : Added X} where
   pub goes_on : (c : Setting a) (new : Body X) (w : Went a.Kept) → Steps c new went.Goes w
@@ -90,67 +88,170 @@ live_first (handle ∷ handles) it e = at_dead handle.dead (λ x. live_first han
 taken_fewer : (q : queue.Queue) (it : Action) → queue.next_action q ≡ Some it → length (queue.taken q).below < length q.below
 taken_fewer q it e = live_first q.below it e
 
-module _ {X : Type 0} {a : Added X} (first body new : Body X) (w : View) (action : Action) (is : w ≡ left_by body.parts)
-    (next : queue.next_action body.parts.queue ≡ Some action) (reached : HasReached a first body) where
-  pub reached_next : Ran a action (record body { parts = w }) new went.Goes → HasReached a first new
-  reached_next ran c s h =
-      let here = reached c s h in
-      let running = running_of body w action is next (with_left body c) here.now here.between in
-      let gone = goes_on (record c { left = length w.queue.below }) new (effect step_limit a.meaning action (noted (event.Ran action) running.now))
-      (ran (record c { left = length w.queue.below }) running.now running.next) in
-      record {
-        now = gone.0;
-        between = subst (λ n. IsBetween (record c { left = n }) new gone.0) (sym gone.1.1.stands.left) gone.1.1;
-        same =
-            here.same ∙ running.goes ∙ ap (went_on (run_below step_limit a.meaning c.bar (length w.queue.below))) gone.1.0
-            ∙ ap (λ n. run_below step_limit a.meaning c.bar n gone.0) (sym gone.1.1.stands.left);
-      }
+module _ {X W : Type 0} (a : Added X) (o : Outside W) (laws : IsOutside o) (first : Body X) (was : W) where
+  abbrev From : Setting a → State a.Kept × (ℕ × ℕ) → Type 0
+  From c at = IsBetween c first at.0 × ((c.bar ≡ at.1.0) × (c.left ≡ at.1.1))
 
-  pub runs_away : (task : ℕ) → Ran a action (record body { parts = w }) new (went.Runaway task)
-      → (c : Setting a) (s : State a.Kept) → IsBetween c first s
-      → Steps (at_bar c) new (went.Runaway task) (run_below step_limit a.meaning c.bar c.left s)
-  runs_away task ran c s h =
-      let here = reached c s h in
-      let running = running_of body w action is next (with_left body c) here.now here.between in
-      subst (Steps (at_bar c) new (went.Runaway task)) (sym (here.same ∙ running.goes))
-      (runs_off (record c { left = length w.queue.below }) new task (run_below step_limit a.meaning c.bar (length w.queue.below))
-      (effect step_limit a.meaning action (noted (event.Ran action) running.now))
-      (ran (record c { left = length w.queue.below }) running.now running.next))
+  -- what the whole does
+  abbrev does : State a.Kept × (ℕ × ℕ) → Went a.Kept
+  does at = run_below step_limit a.meaning at.1.0 at.1.1 at.0
 
-  -- fewer are left, after each round
-  pub fewer : Possible a IsBetween first → Ran a action (record body { parts = w }) new went.Goes → length new.parts.queue.below < length body.parts.queue.below
-  fewer alive ran = ∥∥₁_elim alive le_prop (λ x. at x.0 x.1.0 x.1.1)
-    where
-      at : (c : Setting a) (s : State a.Kept) → IsBetween c first s → length new.parts.queue.below < length body.parts.queue.below
-      at c s h =
-          let here = reached c s h in
-          let running = running_of body w action is next (with_left body c) here.now here.between in
-          let gone = goes_on (record c { left = length w.queue.below }) new (effect step_limit a.meaning action (noted (event.Ran action) running.now))
-          (ran (record c { left = length w.queue.below }) running.now running.next) in
-          let many = gone.1.1.stands.left in
-          let took = taken_fewer body.parts.queue action next in
-          let same = ap (λ (x : View). length x.queue.below) is in
-          omega (arith, many, took, same)
+  pub reached_first : HasReached a o first was first was
+  reached_first = (
+    [],
+    come_none o laws From (ported was first.events) (ported was first.events) (Reached first) refl
+        (λ c at h. (
+          told_none first.events.events,
+          record {
+            now = at.0;
+            between = subst (λ n. IsBetween (with_left n c) first at.0) (sym h.0.stands.left) h.0;
+            same =
+                ap (λ b. run_below step_limit a.meaning b at.1.1 at.0) (sym h.1.0)
+                ∙ ap (λ n. run_below step_limit a.meaning c.bar n at.0) (sym h.1.1 ∙ sym h.0.stands.left);
+          },
+        )),
+  )
 
-module _ {X : Type 0} {a : Added X} where
-  -- ---- none is left
-  pub at_bar_so : (first body : Body X) (w : View) → w ≡ left_by body.parts → queue.next_action body.parts.queue ≡ None → HasReached a first body
-      → (c : Setting a) (s : State a.Kept) → IsBetween c first s
-      → Steps (at_bar c) (record body { parts = w }) went.Goes (run_below step_limit a.meaning c.bar c.left s)
-  at_bar_so first body w is next reached c s h =
-      let here = reached c s h in
-      let last = next_none (with_left body c) body here.now w here.between (skipped (with_left body c) body here.now w None here.between is next) is next in
-      let none = none_left body.parts.queue next in
-      let same = ap (λ (x : View). length x.queue.below) is ∙ none in
-      subst (Steps (at_bar c) (record body { parts = w }) went.Goes) (sym (here.same ∙ last.goes))
-      (subst (λ n. IsBetween (record c { left = n }) (record body { parts = w }) last.now) same last.between)
-    where
-      none_live : (handles : List QueueHandle) → queue.first_action (queue.from_live handles) ≡ None → length (drop 1 (queue.from_live handles)) ≡ 0
-      none_live handles e = at (queue.from_live handles) e
+  -- what is possible wherever it began is so after some asks
+  still_possible : (had : List Exchange) (body : Body X) (mid : W) (so : Setting a → State a.Kept × (ℕ × ℕ) → Type 0)
+      → HasCome o From had (ported was first.events) (ported mid body.events) so → Possible a IsBetween first
+      → ∥ ((c : Setting a) × ((at : State a.Kept × (ℕ × ℕ)) × so c at)) ∥₁
+  still_possible had body mid so come alive =
+      alive_come o From (λ answers c at h. ((with_answers answers at.0, at.1), (between_again answers c first at.0 h.0, h.1))) had
+      (ported was first.events) (ported mid body.events) so come
+      (∥∥₁_map alive (λ w. (w.0, ((w.1.0, (w.0.bar, w.0.left)), (w.1.1, (refl, refl))))))
+
+  module _ (body : Body X) (mid : W) (reached : HasReached a o first was body mid) where
+    pub alive_on : Possible a IsBetween first → Possible a IsBetween body
+    alive_on alive =
+        ∥∥₁_map (still_possible reached.0 body mid (Reached body) reached.1 alive) (λ w. (with_left (below_of body) w.0, (w.1.1.now, w.1.1.between)))
+
+    module _ (w : View) (is : w ≡ left_by body.parts) where
+      abbrev taken : Body X
+      taken = record body { parts = w }
+
+      -- ---- a handle was taken, and ran
+      module _ (action : Action) (next : queue.next_action body.parts.queue ≡ Some action) (new : Body X) (last : W) where
+        abbrev left : ℕ
+        left = length w.queue.below
+
+        abbrev one : Piece a (State a.Kept) (Went a.Kept) Stepped
+        one = over (with_left left) (running_one a action taken new)
+
+        held : (result : Result Stepped Stop) → Comes o (running_one a action taken new) (ported mid taken.events) (ported last new.events) result
+            → Comes o one (ported mid body.events) (ported last new.events) result
+        held result ran =
+            comes_over o (with_left left) (record { answers = λ es c. refl; rest = λ c. refl; past = λ c. refl }) (running_one a action taken new)
+            (ported mid body.events) (ported last new.events) result ran
+
+        here : (c : Setting a) (at : State a.Kept × (ℕ × ℕ)) → (t : Reached body c at) → IsRunning action (with_left (below_of body) c) body w t.now
+        here c at t = running_of body w action is next (with_left (below_of body) c) t.now t.between
+
+        -- what the whole does from there
+        on : (c : Setting a) (at : State a.Kept × (ℕ × ℕ)) (t : Reached body c at) → does at
+            ≡ went_on (run_below step_limit a.meaning c.bar left) (effect step_limit a.meaning action (noted (event.Ran action) (here c at t).now))
+        on c at t = t.same ∙ (here c at t).goes
+
+        pub reached_next : Comes o (running_one a action taken new) (ported mid taken.events) (ported last new.events) (Ok went.Goes)
+            → HasReached a o first was new last
+        reached_next ran =
+            come_then o laws From reached.0 (ported was first.events) (ported mid body.events) one (ported last new.events) (Reached body) (Reached new)
+            went.Goes reached.1 (held (Ok went.Goes) ran) (λ more c at t. (
+              (here (before more c) at t).now,
+              (
+                (here (before more c) at t).next,
+                λ says.
+                    let gone = goes_on (with_left left c) new
+                    (effect step_limit a.meaning action (noted (event.Ran action) (here (before more c) at t).now)) says in
+                    record {
+                      now = gone.0;
+                      between = subst (λ n. IsBetween (with_left n c) new gone.0) (sym gone.1.1.stands.left) gone.1.1;
+                      same =
+                          on (before more c) at t ∙ ap (went_on (run_below step_limit a.meaning c.bar left)) gone.1.0
+                          ∙ ap (λ n. run_below step_limit a.meaning c.bar n gone.0) (sym gone.1.1.stands.left);
+                    },
+              ),
+            ))
+
+        pub runs_away : (task : ℕ)
+            → Comes o (running_one a action taken new) (ported mid taken.events) (ported last new.events) (Ok (went.Runaway task))
+            → Comes o (running a first new) (ported was first.events) (ported last new.events) (Ok (went.Runaway task))
+        runs_away task ran =
+            let all = come_then o laws From reached.0 (ported was first.events) (ported mid body.events) one (ported last new.events) (Reached body)
+            (λ c at. Steps (at_bar c) new (went.Runaway task) (does at)) (went.Runaway task) reached.1 (held (Ok (went.Runaway task)) ran)
+            (λ more c at t. (
+              (here (before more c) at t).now,
+              (
+                (here (before more c) at t).next,
+                λ says.
+                    subst (Steps (at_bar c) new (went.Runaway task)) (sym (on (before more c) at t))
+                    (runs_off (with_left left c) new task (run_below step_limit a.meaning c.bar left)
+                    (effect step_limit a.meaning action (noted (event.Ran action) (here (before more c) at t).now)) says),
+              ),
+            )) in
+            comes_ends o laws (running a first new) all.0 (ported was first.events) (ported last new.events) (went.Runaway task) all.1
+
+        pub run_stops : (why : Stop) → Comes o (running_one a action taken new) (ported mid taken.events) (ported last new.events) (Err why)
+            → Comes o (running a first new) (ported was first.events) (ported last new.events) (Err why)
+        run_stops why ran =
+            comes_stops o laws From reached.0 (ported was first.events) (ported mid body.events) one (ported last new.events)
+            (does, (Stops, λ c said it. Steps (at_bar c) new said it)) why
+            (record {
+              exchanged = reached.1.exchanged;
+              told = λ c at h.
+                  let t = reached.1.told c at h in (
+                    t.0,
+                    (
+                      (here c at t.1).now,
+                      (
+                        (here c at t.1).next,
+                        λ how end e. on c at t.1 ∙ ap (went_on (run_below step_limit a.meaning c.bar left)) e,
+                      ),
+                    ),
+                  );
+            }) (held (Err why) ran)
+
+        -- fewer are left, after each round
+        pub fewer : Possible a IsBetween first
+            → Comes o (running_one a action taken new) (ported mid taken.events) (ported last new.events) (Ok went.Goes)
+            → below_of new < below_of body
+        fewer alive ran =
+            let all = come_then o laws From reached.0 (ported was first.events) (ported mid body.events) one (ported last new.events) (Reached body)
+            (λ c at. below_of new ≡ left) went.Goes reached.1 (held (Ok went.Goes) ran) (λ more c at t. (
+              (here (before more c) at t).now,
+              (
+                (here (before more c) at t).next,
+                λ says.
+                    (goes_on (with_left left c) new
+                    (effect step_limit a.meaning action (noted (event.Ran action) (here (before more c) at t).now)) says).1.1.stands.left,
+              ),
+            )) in
+            ∥∥₁_elim (still_possible all.0 new last (λ c at. below_of new ≡ left) all.1 alive) le_prop (λ x.
+            let many = x.1.1 in
+            let took = taken_fewer body.parts.queue action next in
+            let same = ap (λ (x : View). length x.queue.below) is in
+            omega (arith, many, took, same))
+
+      -- ---- none is left
+      pub at_bar_so : queue.next_action body.parts.queue ≡ None
+          → Comes o (running a first taken) (ported was first.events) (ported mid body.events) (Ok went.Goes)
+      at_bar_so none =
+          comes_ends o laws (running a first taken) reached.0 (ported was first.events) (ported mid body.events) went.Goes
+          (come_beside o laws From reached.0 (ported was first.events) (ported mid body.events) (ported mid body.events) (Reached body)
+          (λ c at. Steps (at_bar c) taken went.Goes (does at)) reached.1 refl (λ c at t. (told_none body.events.events, ends c at t)))
         where
-          at : (those : List QueueHandle) → queue.first_action those ≡ None → length (drop 1 those) ≡ 0
-          at [] e = refl
-          at (handle ∷ rest) e = absurd (cc)
+          none_live : (handles : List QueueHandle) → queue.first_action (queue.from_live handles) ≡ None
+              → length (drop 1 (queue.from_live handles)) ≡ 0
+          none_live handles e = by (queue.from_live handles) e
+            where
+              by : (those : List QueueHandle) → queue.first_action those ≡ None → length (drop 1 those) ≡ 0
+              by [] e = refl
+              by (handle ∷ rest) e = absurd (cc)
 
-      none_left : (q : queue.Queue) → queue.next_action q ≡ None → length (queue.taken q).below ≡ 0
-      none_left q e = none_live q.below e
+          ends : (c : Setting a) (at : State a.Kept × (ℕ × ℕ)) → Reached body c at → Steps (at_bar c) taken went.Goes (does at)
+          ends c at t =
+              let d = with_left (below_of body) c in
+              let last = next_none d body t.now w t.between (skipped d body t.now w None t.between is none) is none in
+              let same = ap (λ (x : View). length x.queue.below) is ∙ none_live body.parts.queue.below none in
+              subst (Steps (at_bar c) taken went.Goes) (sym (t.same ∙ last.goes))
+              (subst (λ n. IsBetween (with_left n c) taken last.now) same last.between)

@@ -13,7 +13,7 @@ use Rattle.model_machine.specs.Extra.{Extra}
 use Rattle.model_machine.specs.Outcomes.{end_of}
 use Rattle.model_machine.specs.Outside.{select}
 use Rattle.model_machine.specs.State.{State}
-use Rattle.model_machine.specs.Turn.{turn}
+use Rattle.model_machine.specs.Turn.{turn, turned_by}
 use Rattle.model_machine.specs.Went.{Went, Goes, Stops, answers_in}
 use Rattle.aio_wire.specs.Told.{refused_of}
 use Rattle.aio_wire.specs.declared.stop.Stop.{Stop}
@@ -22,6 +22,7 @@ use Rattle.aio_extra.specs.Added.{Added}
 use Rattle.aio_body.specs.declared.body.Body.{Body}
 use Rattle.aio_core.specs.declared.went.Went as code
 use Rattle.aio_core.specs.declared.went.Went.TheVariants as went
+use Rattle.aio_body.specs.Asking.{Piece}
 use Rattle.aio_body.specs.Stands.{Setting, IsBetween, Possible}
 use Rattle.aio_core.specs.Asked.{AsksOnce}
 
@@ -58,6 +59,25 @@ Turned c body went.Went (Goes now) = IsBetween c body now
 Turned c body (went.Finished outcome) (Stops it last) = (it ≡ end_of outcome) × (last.events ≡ c.past ++ body.events.events)
 Turned c body (went.Runaway task) (Stops it last) = (it ≡ end.Runaway task) × (last.events ≡ c.past ++ body.events.events)
 Turned c body _ _ = ⊥
+
+-- As pieces of the machine: what comes once the turn has its answer, and the whole.
+abbrev pub turning_by : {X : Type 0} → (a : Added X) → Answer → (old new : Body X) → Piece a (State a.Kept) (Went a.Kept) code.Went
+turning_by a answer old new =
+    record {
+      from = λ c s. IsBetween c old s;
+      does = turned_by step_limit a.meaning answer;
+      ends = Stops;
+      says = λ c said it. (bar : ℕ) × Turned (record c { left = 0; bar = bar }) new said it;
+    }
+
+abbrev pub turning : {X : Type 0} → (a : Added X) → (old new : Body X) → Piece a (State a.Kept) (Went a.Kept) code.Went
+turning a old new =
+    record {
+      from = λ c s. IsBetween c old s;
+      does = turn step_limit a.meaning;
+      ends = Stops;
+      says = λ c said it. (bar : ℕ) × Turned (record c { left = 0; bar = bar }) new said it;
+    }
 
 -- ---- a whole turn
 -- what a turn said, where it stopped or went on

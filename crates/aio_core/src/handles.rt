@@ -1,88 +1,174 @@
 //! The handles of a turn.
-ghost use Rattle.std.specs.Prelude.{◌≡◌, IfOk};
+ghost use Rattle.std.specs.Prelude.{◌≡◌, None, Ok, IfOk, OnOk};
 ghost use Rattle.model_says.specs.Says.{step_limit};
 ghost use Rattle.model_wire.specs.declared.event.Event.TheVariants as event;
 ghost use Rattle.model_loop.specs.Circles.{circle_fault as plain_circle_fault};
 ghost use Rattle.model_machine.specs.Outcomes.{woken_with as plain_woken_with};
-ghost use Rattle.model_machine.specs.State.{State, noted};
-ghost use Rattle.model_machine.specs.Turn.{effect as plain_effect, run_below as plain_run_below};
+ghost use Rattle.model_machine.specs.State.{State};
+ghost use Rattle.model_machine.specs.Turn.{effect as plain_effect};
+ghost use Rattle.law_reach.specs.Changes.{runner_of};
+ghost use Rattle.aio_wire.specs.Events.{pushed};
+ghost use Rattle.aio_exchange.specs.Outside.{outside_of, ported};
+ghost use Rattle.aio_body.specs.Asking.{Comes};
 ghost use Rattle.aio_body.specs.Stands.{Setting, IsBetween, Possible};
 ghost use Rattle.aio_body.specs.Taken.{IsNext, IsTaken};
+ghost use Rattle.aio_step.specs.declared.steps.Stepped.TheVariants.{Goes};
 ghost use Rattle.aio_step.specs.Stepping.{Steps, HearsMade, IsCalled};
-ghost use Rattle.aio_core.specs.Turning.{at_bar};
+ghost use Rattle.aio_core.specs.Running.{StepsBy, acting, running, running_one};
 
 use crate::copying::copy_of_action;
 use aio_base::{Action, Circle, Exc, Input, Kind, Memory, Outcome, Value, exception};
 use aio_body::{Body, input_of};
 use aio_extra::Extra;
-use aio_serve::{child_done, fire};
+use aio_serve::{child_done, fire, or_stop};
 use aio_step::{Stepped, step};
 use aio_task::Ticket;
-use aio_wire::Event;
+use aio_wire::{Event, Stop, Wire};
 use std::alloc::Global;
 
-/// The handles before the bar run, in order.
-pub fn run_below<X: Extra>(body: &mut Body<X>, alloc: Global) -> Result<Stepped, Memory>
+/// The handles before the bar run, in order. They may ask the outside.
+pub fn run_below<W: Wire, X: Extra>(
+    body: &mut Body<X>,
+    alloc: Global,
+    wire: &mut W,
+) -> Result<Stepped, Stop>
     requires { Possible X.added IsBetween body.old }
-    ensures { IfOk result
-        (λ went. (c : Setting X.added) (s : State X.added.Kept) → IsBetween c body.old s
-        → Steps (at_bar c) body.new went
-        (plain_run_below step_limit X.added.meaning c.bar c.left s)) }
+    ensures comes { Comes (outside_of W.seen W.fails W.keeps W.quiet)
+        (running X.added body.old body.new)
+        (ported wire.old body.old.events) (ported wire.new body.new.events) result }
+    ensures unasked { wire.new ≡ wire.old }
 {
     while let Some((action, ticket)) = body.parts.next_below() {
-        let ran = run(body, alloc, &action, ticket);
-        forget_action(action);
-        match ran? {
-            Stepped::Goes => {}
-            Stepped::Runaway(task) => return Ok(Stepped::Runaway(task)),
+        match run_next(body, alloc, wire, action, ticket) {
+            Ok(Stepped::Goes) => {}
+            Ok(Stepped::Runaway(task)) => return Ok(Stepped::Runaway(task)),
+            Err(stop) => return Err(stop),
         }
     }
     Ok(Stepped::Goes)
 }
 
-// What a handle ran is let go.
+// A handle runs, and what it ran is let go.
+fn run_next<W: Wire, X: Extra>(
+    body: &mut Body<X>,
+    alloc: Global,
+    wire: &mut W,
+    action: Action,
+    ticket: Ticket,
+) -> Result<Stepped, Stop>
+    requires { Possible X.added (IsNext action) body.old }
+    ensures comes { Comes (outside_of W.seen W.fails W.keeps W.quiet)
+        (running_one X.added action body.old body.new)
+        (ported wire.old body.old.events) (ported wire.new body.new.events) result }
+    ensures unasked { wire.new ≡ wire.old }
+{
+    let ran = run(body, alloc, wire, &action, ticket);
+    forget_action(action);
+    ran
+}
+
 fn forget_action(_action: Action) {}
 
 // A handle runs, and it is noted that it does.
-fn run<X: Extra>(
+fn run<W: Wire, X: Extra>(
     body: &mut Body<X>,
     alloc: Global,
+    wire: &mut W,
     action: &Action,
     ticket: Ticket,
-) -> Result<Stepped, Memory>
+) -> Result<Stepped, Stop>
     requires { Possible X.added (IsNext action.now) body.old }
-    ensures { IfOk result
-        (λ went. (c : Setting X.added) (s : State X.added.Kept) → IsNext action.now c body.old s
-        → Steps c body.new went
-        (plain_effect step_limit X.added.meaning action.now (noted (event.Ran action.now) s))) }
+    ensures comes { Comes (outside_of W.seen W.fails W.keeps W.quiet)
+        (running_one X.added action.now body.old body.new)
+        (ported wire.old body.old.events) (ported wire.new body.new.events) result }
+    ensures unasked { wire.new ≡ wire.old }
+{
+    match note(body, alloc, action) {
+        Ok(()) => act(body, alloc, wire, action, ticket),
+        Err(Memory) => Err(Stop::Memory),
+    }
+}
+
+fn note<X: Extra>(body: &mut Body<X>, alloc: Global, action: &Action) -> Result<(), Memory>
+    ensures { OnOk result (body.new ≡ record body.old {
+      events = pushed body.old.events (event.Ran action.now);
+    }) }
 {
     let copy = copy_of_action(alloc, action)?;
     body.events.push(Event::Ran(copy))?;
-    act(body, alloc, action, ticket)
+    Ok(())
 }
 
 // What a handle does.
-fn act<X: Extra>(
+fn act<W: Wire, X: Extra>(
     body: &mut Body<X>,
     alloc: Global,
+    wire: &mut W,
     action: &Action,
     ticket: Ticket,
-) -> Result<Stepped, Memory>
+) -> Result<Stepped, Stop>
     requires { Possible X.added (IsTaken action.now) body.old }
+    ensures comes { Comes (outside_of W.seen W.fails W.keeps W.quiet)
+        (acting X.added action.now body.old body.new)
+        (ported wire.old body.old.events) (ported wire.new body.new.events) result }
+    ensures unasked { wire.new ≡ wire.old }
+{
+    match stepped_by(body, alloc, action) {
+        Ok(Some((task, input))) => step(body, alloc, wire, task, ticket, input),
+        Ok(None) => or_stop(call(body, alloc, action)),
+        Err(Memory) => Err(Stop::Memory),
+    }
+}
+
+// Which task a handle steps, and with what.
+fn stepped_by<X: Extra>(
+    body: &Body<X>,
+    alloc: Global,
+    action: &Action,
+) -> Result<Option<(u32, Input)>, Memory>
+    requires { Possible X.added (IsTaken action.now) body.now }
+    ensures { IfOk result (λ it. StepsBy X.added action.now body.now it) }
+{
+    match action {
+        Action::Step(task) => Ok(Some((*task, Input::Send(Value::nothing())))),
+        Action::StepInCircle { task, circle } => {
+            let fault = circle_fault(alloc, *circle)?;
+            Ok(Some((*task, Input::Throw(fault))))
+        }
+        Action::Wakeup(task) => {
+            let input = woken_with(body, *task)?;
+            Ok(Some((*task, input)))
+        }
+        Action::MainDone => Ok(None),
+        Action::SleepDone { .. }
+        | Action::GroupDone { .. }
+        | Action::Fires(_)
+        | Action::Extra(_)
+        | Action::ExtraItem { .. }
+        | Action::Made(_)
+        | Action::StartRead(_)
+        | Action::Lost { .. }
+        | Action::HandlerDone { .. }
+        | Action::ReadableServer(_)
+        | Action::Readable(_)
+        | Action::Writable(_)
+        | Action::Up(_)
+        | Action::Down(_)
+        | Action::WritableChild(_)
+        | Action::ChildItem { .. }
+        | Action::LostChild { .. } => Ok(None),
+    }
+}
+
+// What a handle does that steps no task.
+fn call<X: Extra>(body: &mut Body<X>, alloc: Global, action: &Action) -> Result<Stepped, Memory>
+    requires taken { Possible X.added (IsTaken action.now) body.old }
+    requires idle { runner_of action.now ≡ None }
     ensures { IfOk result
         (λ went. (c : Setting X.added) (s : State X.added.Kept) → IsTaken action.now c body.old s
         → Steps c body.new went (plain_effect step_limit X.added.meaning action.now s)) }
 {
     match action {
-        Action::Step(task) => step(body, alloc, *task, ticket, Input::Send(Value::nothing())),
-        Action::StepInCircle { task, circle } => {
-            let fault = circle_fault(alloc, *circle)?;
-            step(body, alloc, *task, ticket, Input::Throw(fault))
-        }
-        Action::Wakeup(task) => {
-            let input = woken_with(body, *task)?;
-            step(body, alloc, *task, ticket, input)
-        }
         Action::SleepDone { future, .. } => {
             let _was_pending = body
                 .parts
@@ -110,8 +196,11 @@ fn act<X: Extra>(
                 .item(alloc, *code, bytes.items(), &mut body.parts)?;
             Ok(Stepped::Goes)
         }
-        // No listener, connection or child is open so far.
-        Action::Made(_)
+        // Steps are no calls, and no listener, connection or child is open so far.
+        Action::Step(_)
+        | Action::StepInCircle { .. }
+        | Action::Wakeup(_)
+        | Action::Made(_)
         | Action::StartRead(_)
         | Action::Lost { .. }
         | Action::HandlerDone { .. }
@@ -122,8 +211,15 @@ fn act<X: Extra>(
         | Action::Down(_)
         | Action::WritableChild(_)
         | Action::ChildItem { .. }
-        | Action::LostChild { .. } => Ok(Stepped::Goes),
+        | Action::LostChild { .. } => pass(),
     }
+}
+
+// A handle that does nothing.
+fn pass() -> Result<Stepped, Memory>
+    ensures { result ≡ Ok Goes }
+{
+    Ok(Stepped::Goes)
 }
 
 // What a task is woken with: how that ended for which it waits.

@@ -6,20 +6,22 @@ ghost use Rattle.model_loop.specs.Ending.{cancel_everything as plain_cancel_ever
 ghost use Rattle.model_machine.specs.Outcomes.{finished_as, no_task_lives};
 ghost use Rattle.model_machine.specs.Outside.{select as plain_select, time_of as plain_time_of};
 ghost use Rattle.model_machine.specs.State.{State, in_loop, unbooked_in};
-ghost use Rattle.model_machine.specs.Turn.{call_of, cancelled_if, finished_if, is_stalled as plain_is_stalled, turn_over, turned_by, woken_by};
-ghost use Rattle.model_says.specs.Says.{step_limit};
+ghost use Rattle.model_machine.specs.Turn.{call_of, cancelled_if, finished_if, is_stalled as plain_is_stalled, turn_over, woken_by};
 ghost use Rattle.aio_wire.specs.Port.{Exchanges, StopsShort, AlwaysFails, UnlessStopped};
 ghost use Rattle.aio_wire.specs.Replied.{Replied, MayHaveReplied, Stays};
 ghost use Rattle.aio_wire.specs.declared.wire.Reply.{Reply as AnyReply};
+ghost use Rattle.aio_exchange.specs.Outside.{outside_of, ported};
+ghost use Rattle.aio_body.specs.Asking.{Comes};
 ghost use Rattle.aio_body.specs.Stands.{Setting, IsBetween, Possible};
 ghost use Rattle.aio_core.specs.Turning.{AsksBy, IsAtRest, IsSelect, IsTime, Turned, AliveIfWent, ComesTo, OfFailing, StallsAs, UnlessFailed};
-ghost use Rattle.aio_core.specs.Turning.{all_below, at_bar, changed_by, said_by};
+ghost use Rattle.aio_core.specs.Turning.{all_below, changed_by, said_by, turning_by};
 
 use crate::handles::run_below;
 use crate::went::{Went, copy_of_outcome};
 use aio_base::Memory;
 use aio_body::Body;
 use aio_extra::Extra;
+use aio_serve::or_stop;
 use aio_step::Stepped;
 use aio_wire::{Answer, Call, Port, Stop, WatchList, Wire};
 use std::alloc::Global;
@@ -28,7 +30,7 @@ use std::alloc::Global;
 const LONGEST_WAIT: u64 = 86_400_000;
 
 /// A turn: the outside is asked for the time and what came, and then the handles that are pending
-/// run. Once main is done, `seen` is the task that was seen last to live.
+/// run, which may ask it too. Once main is done, `seen` is the task that was seen last to live.
 pub fn turn<W: Wire, X: Extra>(
     body: &mut Body<X>,
     alloc: Global,
@@ -55,8 +57,10 @@ pub fn turn<W: Wire, X: Extra>(
         return Ok(Went::Stalled);
     }
     let call = first_call(body, alloc);
-    let answer = ask(body, alloc, wire, call)?;
-    Ok(after(body, alloc, &answer, seen)?)
+    match ask(body, alloc, wire, call) {
+        Ok(answer) => after(body, alloc, wire, &answer, seen),
+        Err(stop) => Err(stop),
+    }
 }
 
 /// Nothing is pending, and nothing can come.
@@ -120,24 +124,26 @@ fn ask<W: Wire, X: Extra>(
 }
 
 // What a turn does once it has its answer.
-fn after<X: Extra>(
+fn after<W: Wire, X: Extra>(
     body: &mut Body<X>,
     alloc: Global,
+    wire: &mut W,
     answer: &Answer,
     seen: &mut u32,
-) -> Result<Went, Memory>
+) -> Result<Went, Stop>
     requires alive { Possible X.added IsBetween body.old }
     requires time { IsTime answer.now }
-    ensures { IfOk result
-        (λ went. (c : Setting X.added) (s : State X.added.Kept) → IsBetween c body.old s
-        → Turned (at_bar (all_below c (unbooked_in (woken_by answer.now) s))) body.new went
-        (turned_by step_limit X.added.meaning answer.now s)) }
+    ensures comes { Comes (outside_of W.seen W.fails W.keeps W.quiet)
+        (turning_by X.added answer.now body.old body.new)
+        (ported wire.old body.old.events) (ported wire.new body.new.events) result }
+    ensures unasked { wire.new ≡ wire.old }
 {
     wake(body, answer);
     let done_before = body.main_done;
-    match run_below(body, alloc)? {
-        Stepped::Goes => end_turn(body, done_before, seen),
-        Stepped::Runaway(task) => Ok(Went::Runaway(task)),
+    match run_below(body, alloc, wire) {
+        Ok(Stepped::Goes) => or_stop(end_turn(body, done_before, seen)),
+        Ok(Stepped::Runaway(task)) => Ok(Went::Runaway(task)),
+        Err(stop) => Err(stop),
     }
 }
 

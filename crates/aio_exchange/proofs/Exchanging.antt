@@ -38,7 +38,7 @@ pub entries-append : (xs ys : List Exchange) → entries_of (xs ++ ys) ≡ entri
 entries-append [] ys = refl
 entries-append (x ∷ xs) ys = ap (λ es. Answered x.answer ∷ es) (entries-append xs ys)
 
-noted-append : (xs ys : List Exchange) (events : EventList) → noted_by (xs ++ ys) events ≡ noted_by ys (noted_by xs events)
+pub noted-append : (xs ys : List Exchange) (events : EventList) → noted_by (xs ++ ys) events ≡ noted_by ys (noted_by xs events)
 noted-append [] ys events = refl
 noted-append (x ∷ xs) ys events = noted-append xs ys (events_after events x.call (reply.Got x.answer))
 
@@ -53,7 +53,7 @@ calls-append [] ys = refl
 calls-append (x ∷ xs) ys = ap (λ es. x.call ∷ es) (calls-append xs ys)
 
 -- what was noted only adds events
-noted-adds : (had : List Exchange) (list : EventList) → (more : List Event) × ((noted_by had list).events ≡ list.events ++ more)
+pub noted-adds : (had : List Exchange) (list : EventList) → (more : List Event) × ((noted_by had list).events ≡ list.events ++ more)
 noted-adds [] list = ([], sym (append-nil list.events))
 noted-adds (x ∷ had) list =
     let on = noted-adds had (events_after list x.call (reply.Got x.answer)) in (

@@ -1,10 +1,11 @@
 -- What is added serves a request, in code as in the machine.
-use Rattle.std.proofs.Common.{◌≡◌, ℕ, ℤ, suc, ◌+◌, ◌-◌, ◌<◌, true, List, Option, Some, None, length, slice_get, ◌∙◌, refl, sym, ap, subst, arith}
-use Rattle.std.specs.Prelude.{is_none}
+use Rattle.std.proofs.Common.{◌≡◌, ℕ, ℤ, suc, ◌+◌, ◌-◌, ◌<◌, true, List, [], Option, Some, None, Result, Ok, Err, length, slice_get, ◌∙◌, refl, sym, ap, subst, arith}
+use Rattle.std.specs.Prelude.{IfOk, is_none}
 use Rattle.std.proofs.Math.Logic.{∥∥₁_elim, ∥∥₁_map}
 use Rattle.std.proofs.Props.{props}
 use Rattle.std.proofs.lemmas.Bool.{eq-eqb}
 use Rattle.model_value.specs.Input.{Input}
+use Rattle.model_value.specs.Request.{Request}
 use Rattle.model_value.specs.Value.{Exc, Outcome, Value}
 use Rattle.model_value.specs.declared.request.Request.TheVariants as request
 use Rattle.model_loop.specs.Futures.{future_outcome, is_pending_at, outcome_at}
@@ -33,21 +34,37 @@ use Rattle.aio_extra.specs.Called as by_call
 use Rattle.aio_extra.specs.Called.{IsServed, MayServe, SaysAs}
 use Rattle.aio_extra.specs.declared.asked.Asked.{Asked}
 use Rattle.aio_extra.specs.declared.asked.Asked.TheVariants.{Answer, Raise, Wait}
-use Rattle.aio_body.specs.Asked.{HasRested, IsAskingFor, IsDeciding, IsGoing, IsInStep, Says}
+use Rattle.aio_body.specs.Asked.{HasRested, IsAskingFor, IsDeciding, IsGoing, IsInStep, Says, Serves}
 use Rattle.aio_body.specs.Slots.{standing_at}
 use Rattle.aio_body.specs.Stands.{IsOwnSleep, Setting, Possible}
 use Rattle.aio_body.specs.declared.body.Body.{Body}
 use Rattle.aio_body.specs.declared.reply.RequestReply.{RequestReply}
 use Rattle.aio_body.specs.declared.reply.RequestReply.TheVariants as reply
 use Rattle.aio_body.specs.declared.standing.Standing.TheVariants.{Serving}
+use Rattle.aio_exchange.proofs.Among.{told_none}
+use Rattle.aio_exchange.specs.Among.{AreTold}
+use Rattle.aio_exchange.specs.Exchanged.{All, Exchange}
+use Rattle.aio_base.specs.declared.memory.Memory.{Memory}
+use Rattle.aio_wire.specs.EventList.{EventList}
+use Rattle.std.proofs.lemmas.Result.{IfOk-weaker}
+use Rattle.aio_exchange.specs.Outside.{IsOutside, Outside, ported}
+use Rattle.aio_wire.specs.declared.stop.Stop.{Stop}
+use Rattle.aio_wire.specs.declared.stop.Stop.TheVariants as stop
+use Rattle.aio_body.proofs.Asking.{HasCome, come_none, come_then, comes_alone, comes_ends, comes_goes, comes_starved, comes_stops}
+use Rattle.aio_body.specs.Asking.{Comes, or_stop, serving}
+use Rattle.law_body.proofs.Answering.{alive_come}
+use Rattle.law_body.specs.Answers.{with_answers}
 use Rattle.law_body.proofs.Adding.{served_of, sound_called, stands_called, ties_called}
 use Rattle.law_body.proofs.Lasting.{Spares}
 use Rattle.law_body.proofs.Left.{leaves_suspend}
 use Rattle.law_body.proofs.May.{same_prop}
 use Rattle.law_body.proofs.Rooms.{waits_so}
 use Rattle.law_body.proofs.Slotting.{stands_standing}
-use Rattle.aio_serve.specs.Adding.{AnswersAgain, AnswersAs, IsAnswering, answered, HasAnswer}
+use Rattle.law_body.proofs.Unasked.{reply_told}
+use Rattle.aio_serve.specs.Adding.{AnswersAgain, AnswersAs, IsAnswering, answered, answering, answering_once, HasAnswer, waking}
+use Rattle.aio_serve.proofs.Again.{answering_again}
 use Rattle.aio_serve.proofs.Meaning.{added_means}
+use Rattle.aio_serve.specs.declared.added.Answered.{Answered}
 use Rattle.aio_serve.specs.declared.added.Answered.TheVariants.{Again, Replies}
 
 -- ---- in the machine
@@ -244,6 +261,14 @@ waits_may task on key body m none =
     waits_as task w.0 body w.1.0 (λ k. is_pending_at (slice_get body.parts.futures on) ≡ true) on key w.1.1.0 w.1.1.1
     (λ h. waits_pending task on key w.0 body w.1.0 h none))
 
+-- After some asks this answer has come, from wherever it began.
+abbrev pub AreAnswered : {X W : Type 0} → (a : Added X) → Outside W → (task : ℕ) (first : Asked) (old : Body X) (was : W) (asked : Asked) (body : Body X)
+    (is : W) → Type 0
+AreAnswered a o task first old was asked body is =
+    (had : List Exchange)
+    × HasCome {At = State a.Kept × ExtraAnswer} {a = a} o (λ c at. IsAnswering task first at.1 c old at.0) had (ported was old.events) (ported is body.events)
+    (λ c at. AnswersAgain task asked c body (answered a.meaning task at.1 at.0))
+
 -- ---- from a request, and from the wait of one
 -- it was asked, with this code
 abbrev pub Asks : {X : Type 0} → (a : Added X) → (task : ℕ) (body : Body X) (arguments : Value) (v : View) (x : X) (asked : Asked) (number : ℤ) → Type 0
@@ -268,14 +293,24 @@ module _ {X : Type 0} (a : Added X) (task : ℕ) (body : Body X) (code arguments
       ∥∥₁_map m (λ w.
       (w.0, (called (a.meaning.ask task number items w.1.0).call w.1.0, ((a.meaning.ask task number items w.1.0).answer, asked_so w.0 w.1.0 w.1.1.going))))
 
-  pub asks_end : (new : Body X) (said : RequestReply)
-      → ((c : Setting a) (s : State a.Kept) (it : ExtraAnswer) → IsAnswering task asked it c (record body { parts = v; extra = x }) s
-      → Says task c new said (answered a.meaning task it s))
-      → (c : Setting a) (s : State a.Kept) → IsAskingFor task (request.Extra code arguments) c body s
-      → Says task c new said (plain.reply a.meaning task (request.Extra code arguments) s)
-  asks_end new said does c s h =
-      subst (Says task c new said) (sym (added_means a.meaning task s code arguments number items is_code are_items))
-      (does c (called (a.meaning.ask task number items s).call s) (a.meaning.ask task number items s).answer (asked_so c s h.going))
+  pub asks_go : {W : Type 0} (o : Outside W) (laws : IsOutside o) (new : Body X) (was is : W) (result : Result RequestReply Stop)
+      → Comes o (answering a task asked (record body { parts = v; extra = x }) new) (ported was body.events) (ported is new.events) result
+      → Comes o (serving a task (request.Extra code arguments) body new) (ported was body.events) (ported is new.events) result
+  asks_go o laws new was is result answers =
+      comes_goes o laws (serving a task (request.Extra code arguments) body new) [] (ported was body.events) (ported was body.events)
+      (λ c at. IsAnswering task asked at.1 c (record body { parts = v; extra = x }) at.0) (λ at. answered a.meaning task at.1 at.0)
+      (ported is new.events) result
+      (come_none o laws (λ c s. IsAskingFor task (request.Extra code arguments) c body s) (ported was body.events) (ported was body.events)
+      (λ c s. (at : State a.Kept × ExtraAnswer) × (IsAnswering task asked at.1 c (record body { parts = v; extra = x }) at.0
+      × (plain.reply a.meaning task (request.Extra code arguments) s ≡ answered a.meaning task at.1 at.0))) refl
+      (λ c s h. (
+        told_none body.events.events,
+        (
+          (called (a.meaning.ask task number items s).call s, (a.meaning.ask task number items s).answer),
+          (asked_so c s h.going, added_means a.meaning task s code arguments number items is_code are_items),
+        ),
+      )))
+      answers
 
 module _ {X : Type 0} {a : Added X} (task key : ℕ) (body : Body X) (input : Input) (v : View) (x : X) (asked : Asked)
     (wakes : (t : Ties) (s : State a.Kept) → IsServed a body.parts.running t s body.extra body.parts
@@ -295,42 +330,106 @@ module _ {X : Type 0} {a : Added X} (task key : ℕ) (body : Body X) (input : In
       ∥∥₁_map m (λ w.
       (w.0, (called (a.meaning.wake key input w.1.0).call w.1.0, ((a.meaning.wake key input w.1.0).answer, woken_so w.0 w.1.0 w.1.1))))
 
-  pub wakes_end : (new : Body X) (said : RequestReply)
-      → ((c : Setting a) (s : State a.Kept) (it : ExtraAnswer) → IsAnswering task asked it c (record body { parts = v; extra = x }) s
-      → Says task c new said (answered a.meaning task it s))
-      → (c : Setting a) (s : State a.Kept) → IsDeciding task (standing.Serving key) c body s
-      → Says task c new said (plain.decides a.meaning (standing.Serving key) task input s)
-  wakes_end new said does c s h =
-      subst (Says task c new said) (sym (woken_on a.meaning a.falls task key input s))
-      (does c (called (a.meaning.wake key input s).call s) (a.meaning.wake key input s).answer (woken_so c s h))
+  pub wakes_go : {W : Type 0} (o : Outside W) (laws : IsOutside o) (new : Body X) (was is : W) (result : Result RequestReply Stop)
+      → Comes o (answering a task asked (record body { parts = v; extra = x }) new) (ported was body.events) (ported is new.events) result
+      → Comes o (waking a task key input body new) (ported was body.events) (ported is new.events) result
+  wakes_go o laws new was is result answers =
+      comes_goes o laws (waking a task key input body new) [] (ported was body.events) (ported was body.events)
+      (λ c at. IsAnswering task asked at.1 c (record body { parts = v; extra = x }) at.0) (λ at. answered a.meaning task at.1 at.0)
+      (ported is new.events) result
+      (come_none o laws (λ c s. IsDeciding task (standing.Serving key) c body s) (ported was body.events) (ported was body.events)
+      (λ c s. (at : State a.Kept × ExtraAnswer) × (IsAnswering task asked at.1 c (record body { parts = v; extra = x }) at.0
+      × (plain.decides a.meaning (standing.Serving key) task input s ≡ answered a.meaning task at.1 at.0))) refl
+      (λ c s h. (
+        told_none body.events.events,
+        (
+          (called (a.meaning.wake key input s).call s, (a.meaning.wake key input s).answer),
+          (woken_so c s h, woken_on a.meaning a.falls task key input s),
+        ),
+      )))
+      answers
 
 -- ---- one answer after another
-module _ {X : Type 0} (a : Added X) (task : ℕ) (first : Asked) (old : Body X) where
-  abbrev pub AreAnswered : Asked → Body X → Type 0
-  AreAnswered asked body =
-      (c : Setting a) (s : State a.Kept) (it : ExtraAnswer) → IsAnswering task first it c old s
-      → AnswersAgain task asked c body (answered a.meaning task it s)
+module _ {X W : Type 0} (a : Added X) (o : Outside W) (laws : IsOutside o) (task : ℕ) (first : Asked) (old : Body X) (was : W) where
+  abbrev From : Setting a → State a.Kept × ExtraAnswer → Type 0
+  From c at = IsAnswering task first at.1 c old at.0
 
-  pub on_first : AreAnswered first old
-  on_first = λ c s it h. record { now = s; it = it; answering = h; same = refl }
+  -- another answer has come, from which the machine's reply is the same
+  abbrev Again_ : Asked → Body X → Setting a → State a.Kept × ExtraAnswer → Type 0
+  Again_ asked body c at = AnswersAgain task asked c body (answered a.meaning task at.1 at.0)
 
-  pub on_answer : (asked : Asked) (body : Body X) → AreAnswered asked body → Possible a (HasAnswer task first) old → Possible a (HasAnswer task asked) body
-  on_answer asked body are m =
-      ∥∥₁_map m (λ w. let again = are w.0 w.1.0 w.1.1.0 w.1.1.1 in (w.0, (again.now, (again.it, again.answering))))
+  pub on_first : AreAnswered a o task first old was first old was
+  on_first = (
+    [],
+    come_none o laws From (ported was old.events) (ported was old.events) (Again_ first old) refl
+        (λ c at h. (told_none old.events.events, record { now = at.0; it = at.1; answering = h; same = refl })),
+  )
 
-  pub on_next : (asked next : Asked) (body new : Body X) → AreAnswered asked body
-      → ((c : Setting a) (s : State a.Kept) (it : ExtraAnswer) → IsAnswering task asked it c body s
-      → AnswersAs task c new (Again next) (answered a.meaning task it s))
-      → AreAnswered next new
-  on_next asked next body new are one = λ c s it h.
-      let again = are c s it h in
-      let came = one c again.now again.it again.answering in
-      record { now = came.now; it = came.it; answering = came.answering; same = came.same ∙ again.same }
+  module _ (asked : Asked) (body : Body X) (mid : W) (are : AreAnswered a o task first old was asked body mid) where
+    pub on_answer : Possible a (HasAnswer task first) old → Possible a (HasAnswer task asked) body
+    on_answer m =
+        ∥∥₁_map
+        (alive_come o From (λ answers c at h. ((with_answers answers at.0, at.1), answering_again a answers task first at.1 c old at.0 h)) are.0
+        (ported was old.events) (ported mid body.events) (Again_ asked body) are.1 (∥∥₁_map m (λ w. (w.0, ((w.1.0, w.1.1.0), w.1.1.1)))))
+        (λ w. (w.0, (w.1.1.now, (w.1.1.it, w.1.1.answering))))
 
-  pub on_end : (asked : Asked) (body new : Body X) (said : RequestReply) → AreAnswered asked body
-      → ((c : Setting a) (s : State a.Kept) (it : ExtraAnswer) → IsAnswering task asked it c body s
-      → AnswersAs task c new (Replies said) (answered a.meaning task it s))
-      → (c : Setting a) (s : State a.Kept) (it : ExtraAnswer) → IsAnswering task first it c old s → Says task c new said (answered a.meaning task it s)
-  on_end asked body new said are one = λ c s it h.
-      let again = are c s it h in
-      subst (Says task c new said) again.same (one c again.now again.it again.answering)
+    pub on_starved : (new : Body X) → Comes o (answering a task first old new) (ported was old.events) (ported mid new.events) (Err stop.Memory)
+    on_starved new =
+        comes_starved o laws (answering a task first old new) are.0 (ported was old.events) (ported mid body.events) (ported mid new.events) refl
+        are.1.exchanged
+
+    module _ (new : Body X) (is : W) where
+      pub on_next : (next : Asked)
+          → Comes o (answering_once a task asked body new) (ported mid body.events) (ported is new.events) (Ok (Again next))
+          → AreAnswered a o task first old was next new is
+      on_next next one =
+          come_then o laws From are.0 (ported was old.events) (ported mid body.events) (answering_once a task asked body new) (ported is new.events)
+          (Again_ asked body) (Again_ next new) (Again next) are.1 one (λ more c at t. (
+            (t.now, t.it),
+            (t.answering, λ came. record { now = came.now; it = came.it; answering = came.answering; same = came.same ∙ t.same }),
+          ))
+
+      pub on_end : (said : RequestReply)
+          → Comes o (answering_once a task asked body new) (ported mid body.events) (ported is new.events) (Ok (Replies said))
+          → Comes o (answering a task first old new) (ported was old.events) (ported is new.events) (Ok said)
+      on_end said one =
+          let all = come_then o laws From are.0 (ported was old.events) (ported mid body.events) (answering_once a task asked body new)
+          (ported is new.events) (Again_ asked body) (λ c at. Says task c new said (answered a.meaning task at.1 at.0)) (Replies said) are.1 one
+          (λ more c at t. ((t.now, t.it), (t.answering, λ says. subst (Says task c new said) t.same says))) in
+          comes_ends o laws (answering a task first old new) all.0 (ported was old.events) (ported is new.events) said all.1
+
+      pub on_stop : (why : Stop)
+          → Comes o (answering_once a task asked body new) (ported mid body.events) (ported is new.events) (Err why)
+          → Comes o (answering a task first old new) (ported was old.events) (ported is new.events) (Err why)
+      on_stop why one =
+          comes_stops o laws From are.0 (ported was old.events) (ported mid body.events) (answering_once a task asked body new) (ported is new.events)
+          ((λ at. answered a.meaning task at.1 at.0), (plain.Halts, λ c said it. Says task c new said it)) why
+          (record {
+            exchanged = are.1.exchanged;
+            told = λ c at h. let t = are.1.told c at h in (t.0, ((t.1.now, t.1.it), (t.1.answering, λ end last e. sym t.1.same ∙ e)));
+          }) one
+
+-- ---- an answer by itself asks nothing
+module _ {X W : Type 0} (a : Added X) (o : Outside W) (laws : IsOutside o) (task : ℕ) (asked : Asked) (old new : Body X) (wire : W)
+    (same : new.events ≡ old.events) where
+  abbrev Answers_ : Answered → Type 0
+  Answers_ told =
+      (c : Setting a) (s : State a.Kept) (it : ExtraAnswer) → IsAnswering task asked it c old s → AnswersAs task c new told (answered a.meaning task it s)
+
+  told_same : AreTold [] All old.events.events new.events.events
+  told_same = subst (λ (l : EventList). AreTold [] All old.events.events l.events) (sym same) (told_none old.events.events)
+
+  pub once_alone : (result : Result Answered Memory) → IfOk result Answers_
+      → Comes o (answering_once a task asked old new) (ported wire old.events) (ported wire new.events) (or_stop result)
+  once_alone result answers =
+      comes_alone o laws (answering_once a task asked old new) (ported wire old.events) (ported wire new.events) result refl
+      (IfOk-weaker result _ _ (λ told are c at h. (told_same, are c at.0 at.1 h)) answers)
+
+-- a request that asks nothing, and what lacks memory
+module _ {X W : Type 0} (a : Added X) (o : Outside W) (laws : IsOutside o) (task : ℕ) (asked : Request) (old : Body X) (wire : W) where
+  pub serves_alone : (new : Body X) (result : Result RequestReply Memory) → Serves a task asked old new result
+      → Comes o (serving a task asked old new) (ported wire old.events) (ported wire new.events) (or_stop result)
+  serves_alone new result serves =
+      comes_alone o laws (serving a task asked old new) (ported wire old.events) (ported wire new.events) result refl
+      (IfOk-weaker result _ _
+      (λ said are c s h. let says = are c s h in (reply_told task c new old s h.going.in_step said asked says, says)) serves)

@@ -12,4 +12,5 @@ pub mod GroupExits
 pub mod Grouping
 pub mod Creating
 pub mod Adding
+pub mod Again
 pub mod NoStreams

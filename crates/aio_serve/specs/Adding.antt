@@ -2,15 +2,18 @@
 use Rattle.std.specs.Prelude.{◌≡◌, ℕ}
 use Rattle.model_machine.specs.Extra.{Extra, ExtraAnswer}
 use Rattle.model_machine.specs.Replies as plain
-use Rattle.model_machine.specs.Replies.{serves_as, woken}
-use Rattle.model_machine.specs.State.{State}
+use Rattle.model_value.specs.Input.{Input}
+use Rattle.model_machine.specs.Replies.{decides, serves_as, woken}
+use Rattle.model_machine.specs.State.{State, Serving}
 use Rattle.law_extras.specs.Allowed.{IsAnswerAllowed}
 use Rattle.law_turns.specs.Replied.{RunsSound}
 use Rattle.aio_extra.specs.Added.{Added}
 use Rattle.aio_extra.specs.Called as called
 use Rattle.aio_extra.specs.declared.asked.Asked.{Asked}
 use Rattle.aio_body.specs.declared.body.Body.{Body}
-use Rattle.aio_body.specs.Asked.{IsInStep, Says}
+use Rattle.aio_body.specs.declared.reply.RequestReply.{RequestReply}
+use Rattle.aio_body.specs.Asked.{IsDeciding, IsInStep, Says}
+use Rattle.aio_body.specs.Asking.{Piece}
 use Rattle.aio_body.specs.Stands.{Setting}
 use Rattle.aio_serve.specs.declared.added.Answered.{Answered}
 use Rattle.aio_serve.specs.declared.added.Answered.TheVariants.{Replies, Again}
@@ -42,3 +45,37 @@ pub record AnswersAgain {X : Type 0} {a : Added X} (task : ℕ) (asked : Asked) 
 abbrev pub AnswersAs : {X : Type 0} {a : Added X} → ℕ → Setting a → Body X → Answered → plain.RequestReply a.Kept → Type 0
 AnswersAs task c body (Replies said) machine = Says task c body said machine
 AnswersAs task c body (Again asked) machine = AnswersAgain task asked c body machine
+
+-- ---- as pieces of the machine
+-- from whatever its answer was
+abbrev pub answering : {X : Type 0} → (a : Added X) → ℕ → Asked → (old new : Body X)
+    → Piece a (State a.Kept × ExtraAnswer) (plain.RequestReply a.Kept) RequestReply
+answering a task asked old new =
+    record {
+      from = λ c at. IsAnswering task asked at.1 c old at.0;
+      does = λ at. answered a.meaning task at.1 at.0;
+      ends = plain.Halts;
+      says = λ c said it. Says task c new said it;
+    }
+
+-- one answer of them
+abbrev pub answering_once : {X : Type 0} → (a : Added X) → ℕ → Asked → (old new : Body X)
+    → Piece a (State a.Kept × ExtraAnswer) (plain.RequestReply a.Kept) Answered
+answering_once a task asked old new =
+    record {
+      from = λ c at. IsAnswering task asked at.1 c old at.0;
+      does = λ at. answered a.meaning task at.1 at.0;
+      ends = plain.Halts;
+      says = λ c said it. AnswersAs task c new said it;
+    }
+
+-- the wait of a request is over
+abbrev pub waking : {X : Type 0} → (a : Added X) → (task key : ℕ) → Input → (old new : Body X)
+    → Piece a (State a.Kept) (plain.RequestReply a.Kept) RequestReply
+waking a task key input old new =
+    record {
+      from = λ c s. IsDeciding task (Serving key) c old s;
+      does = decides a.meaning (Serving key) task input;
+      ends = plain.Halts;
+      says = λ c said it. Says task c new said it;
+    }

@@ -1,18 +1,22 @@
 //! Requests that are added to the loop's own.
-ghost use Rattle.std.specs.Prelude.{IfOk};
+ghost use Rattle.std.specs.Prelude.{◌≡◌, IfOk};
 ghost use Rattle.model_value.specs.declared.request.Request.TheVariants as request;
 ghost use Rattle.model_machine.specs.Extra.{ExtraAnswer};
-ghost use Rattle.model_machine.specs.Replies.{decides};
 ghost use Rattle.model_machine.specs.State.{State, Serving};
+ghost use Rattle.aio_exchange.specs.Outside.{outside_of, ported};
 ghost use Rattle.aio_extra.specs.declared.asked.Asked.TheVariants.{Wait};
-ghost use Rattle.aio_body.specs.Asked.{IsDeciding, Says, Serves, IsAskingFor};
+ghost use Rattle.aio_body.specs.Asked.{IsDeciding, IsAskingFor};
+ghost use Rattle.aio_body.specs.Asking.{Comes, serving};
 ghost use Rattle.aio_body.specs.Stands.{Setting, Possible};
-ghost use Rattle.aio_serve.specs.Adding.{AnswersAs, IsAnswering, answered, HasAnswer};
+ghost use Rattle.aio_serve.specs.Adding.{AnswersAs, HasAnswer, IsAnswering, answered};
+ghost use Rattle.aio_serve.specs.Adding.{answering, answering_once, waking};
 
+use crate::table::or_stop;
 use aio_base::{Input, Memory, Value};
 use aio_body::{Body, RequestReply, Standing, as_int, bad_argument, input_of, is_list};
 use aio_extra::{Asked, Extra};
 use aio_task::FutureId;
+use aio_wire::{Stop, Wire};
 use std::alloc::Global;
 
 /// What comes of an answer of what is added: a reply to the task, or another answer, of a request
@@ -24,85 +28,106 @@ pub enum Answered {
 }
 
 /// `extra(code, list)`.
-pub fn extra<X: Extra>(
+pub fn extra<W: Wire, X: Extra>(
     body: &mut Body<X>,
     alloc: Global,
+    wire: &mut W,
     task: u32,
     code: &Value,
     arguments: &Value,
-) -> Result<RequestReply, Memory>
+) -> Result<RequestReply, Stop>
     requires { Possible X.added (IsAskingFor task (request.Extra code.now arguments.now)) body.old }
-    ensures { Serves X.added task (request.Extra code.now arguments.now) body.old body.new result }
+    ensures comes { Comes (outside_of W.seen W.fails W.keeps W.quiet)
+        (serving X.added task (request.Extra code.now arguments.now) body.old body.new)
+        (ported wire.old body.old.events) (ported wire.new body.new.events) result }
+    ensures unasked { wire.new ≡ wire.old }
 {
     let Some(code) = as_int(code) else {
-        return bad_argument(alloc);
+        return or_stop(bad_argument(alloc));
     };
     if !is_list(arguments) {
-        return bad_argument(alloc);
+        return or_stop(bad_argument(alloc));
     }
-    let asked = body
+    match body
         .extra
-        .ask(alloc, task, code, arguments, &mut body.parts)?;
-    answer(body, alloc, task, asked)
+        .ask(alloc, task, code, arguments, &mut body.parts)
+    {
+        Ok(asked) => answer(body, alloc, wire, task, asked),
+        Err(Memory) => Err(Stop::Memory),
+    }
 }
 
 /// The wait of such a request is over.
-pub fn wake<X: Extra>(
+pub fn wake<W: Wire, X: Extra>(
     body: &mut Body<X>,
     alloc: Global,
+    wire: &mut W,
     task: u32,
     key: u64,
     input: Input,
-) -> Result<RequestReply, Memory>
+) -> Result<RequestReply, Stop>
     requires { Possible X.added (IsDeciding task (Serving key)) body.old }
-    ensures { IfOk result (λ said. (c : Setting X.added) (s : State X.added.Kept)
-        → IsDeciding task (Serving key) c body.old s
-        → Says task c body.new said (decides X.added.meaning (Serving key) task input s)) }
+    ensures comes { Comes (outside_of W.seen W.fails W.keeps W.quiet)
+        (waking X.added task key input body.old body.new)
+        (ported wire.old body.old.events) (ported wire.new body.new.events) result }
+    ensures unasked { wire.new ≡ wire.old }
 {
-    let asked = body.extra.wake(alloc, key, input, &mut body.parts)?;
-    answer(body, alloc, task, asked)
+    match body.extra.wake(alloc, key, input, &mut body.parts) {
+        Ok(asked) => answer(body, alloc, wire, task, asked),
+        Err(Memory) => Err(Stop::Memory),
+    }
 }
 
 // What is done is not waited for: the request is woken at once, for as long as it waits on.
-fn answer<X: Extra>(
+fn answer<W: Wire, X: Extra>(
     body: &mut Body<X>,
     alloc: Global,
+    wire: &mut W,
     task: u32,
     asked: Asked,
-) -> Result<RequestReply, Memory>
+) -> Result<RequestReply, Stop>
     requires { Possible X.added (HasAnswer task asked) body.old }
-    ensures { IfOk result (λ said. (c : Setting X.added) (s : State X.added.Kept) (it : ExtraAnswer)
-        → IsAnswering task asked it c body.old s
-        → Says task c body.new said (answered X.added.meaning task it s)) }
+    ensures comes { Comes (outside_of W.seen W.fails W.keeps W.quiet)
+        (answering X.added task asked body.old body.new)
+        (ported wire.old body.old.events) (ported wire.new body.new.events) result }
+    ensures unasked { wire.new ≡ wire.old }
 {
     let mut asked = asked;
     for _woken in 0..u64::MAX {
-        match answer_one(body, alloc, task, asked)? {
-            Answered::Replies(said) => return Ok(said),
-            Answered::Again(next) => asked = next,
+        match answer_one(body, alloc, wire, task, asked) {
+            Ok(Answered::Replies(said)) => return Ok(said),
+            Ok(Answered::Again(next)) => asked = next,
+            Err(stop) => return Err(stop),
         }
     }
-    Err(Memory)
+    forget_asked(asked);
+    Err(Stop::Memory)
 }
 
-fn answer_one<X: Extra>(
+// An answer that is given to nobody is let go.
+fn forget_asked(_asked: Asked) {}
+
+fn answer_one<W: Wire, X: Extra>(
     body: &mut Body<X>,
     alloc: Global,
+    wire: &mut W,
     task: u32,
     asked: Asked,
-) -> Result<Answered, Memory>
+) -> Result<Answered, Stop>
     requires { Possible X.added (HasAnswer task asked) body.old }
-    ensures { IfOk result (λ told. (c : Setting X.added) (s : State X.added.Kept) (it : ExtraAnswer)
-        → IsAnswering task asked it c body.old s
-        → AnswersAs task c body.new told (answered X.added.meaning task it s)) }
+    ensures comes { Comes (outside_of W.seen W.fails W.keeps W.quiet)
+        (answering_once X.added task asked body.old body.new)
+        (ported wire.old body.old.events) (ported wire.new body.new.events) result }
+    ensures unasked { wire.new ≡ wire.old }
 {
     match asked {
         Asked::Answer(value) => Ok(Answered::Replies(RequestReply::Answers(value))),
         Asked::Raise(fault) => Ok(Answered::Replies(RequestReply::Raises(fault))),
-        Asked::Wait { on, key } => wait(body, alloc, task, on, key),
+        Asked::Wait { on, key } => or_stop(wait(body, alloc, task, on, key)),
     }
 }
 
+// The task waits for the future, or the request is woken at once.
 fn wait<X: Extra>(
     body: &mut Body<X>,
     alloc: Global,
@@ -111,9 +136,11 @@ fn wait<X: Extra>(
     key: u64,
 ) -> Result<Answered, Memory>
     requires { Possible X.added (HasAnswer task (Wait on key)) body.old }
-    ensures { IfOk result (λ told. (c : Setting X.added) (s : State X.added.Kept) (it : ExtraAnswer)
+    ensures answers { IfOk result
+        (λ told. (c : Setting X.added) (s : State X.added.Kept) (it : ExtraAnswer)
         → IsAnswering task (Wait on key) it c body.old s
         → AnswersAs task c body.new told (answered X.added.meaning task it s)) }
+    ensures events { body.new.events ≡ body.old.events }
 {
     let Some(outcome) = body.parts.outcome(on) else {
         let _suspension = body.parts.suspend(task, on);

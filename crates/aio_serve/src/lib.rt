@@ -13,5 +13,5 @@ mod waiting;
 
 pub use added::{Answered, wake};
 pub use groups::{child_done, leave_group};
-pub use table::reply;
+pub use table::{or_stop, reply};
 pub use timeouts::fire;

@@ -1,21 +1,59 @@
 //! The table of requests.
+ghost use Rattle.std.specs.Prelude.{◌≡◌, false};
+ghost use Rattle.law_inside.specs.InStep.{is_added};
+ghost use Rattle.aio_exchange.specs.Outside.{outside_of, ported};
 ghost use Rattle.aio_body.specs.Asked.{Serves, IsAskingFor};
+ghost use Rattle.aio_body.specs.Asking.{Comes, or_stop, serving};
 ghost use Rattle.aio_body.specs.Stands.{Possible};
 
 use crate::{added, futures, groups, streams, tasks, time, timeouts, waiting};
 use aio_base::{Memory, Request, Value};
 use aio_body::{Body, RequestReply, bad_argument};
 use aio_extra::Extra;
+use aio_wire::{Stop, Wire};
 use std::alloc::Global;
 
-/// Serves a request of the task whose step goes on.
-pub fn reply<X: Extra>(
+/// Serves a request of the task whose step goes on. It may ask the outside.
+pub fn reply<W: Wire, X: Extra>(
+    body: &mut Body<X>,
+    alloc: Global,
+    wire: &mut W,
+    task: u32,
+    request: Request,
+) -> Result<RequestReply, Stop>
+    requires { Possible X.added (IsAskingFor task request) body.old }
+    ensures comes { Comes (outside_of W.seen W.fails W.keeps W.quiet)
+        (serving X.added task request body.old body.new)
+        (ported wire.old body.old.events) (ported wire.new body.new.events) result }
+    ensures unasked { wire.new ≡ wire.old }
+{
+    match request {
+        Request::Extra { code, arguments } => added::extra(
+            body, alloc, wire, task, &code, &arguments,
+        ),
+        others => or_stop(serve(body, alloc, task, others)),
+    }
+}
+
+/// What comes of a call that asks nothing.
+pub fn or_stop<T>(said: Result<T, Memory>) -> Result<T, Stop>
+    ensures { result ≡ or_stop said }
+{
+    match said {
+        Ok(said) => Ok(said),
+        Err(Memory) => Err(Stop::Memory),
+    }
+}
+
+// A request of the loop's own, none of which asks the outside so far.
+fn serve<X: Extra>(
     body: &mut Body<X>,
     alloc: Global,
     task: u32,
     request: Request,
 ) -> Result<RequestReply, Memory>
-    requires { Possible X.added (IsAskingFor task request) body.old }
+    requires asked { Possible X.added (IsAskingFor task request) body.old }
+    requires own { is_added request ≡ false }
     ensures { Serves X.added task request body.old body.new result }
 {
     match request {
@@ -51,11 +89,12 @@ pub fn reply<X: Extra>(
             coroutine,
             arguments,
         } => groups::create(body, alloc, &group, coroutine, &arguments),
-        Request::Extra { code, arguments } => added::extra(body, alloc, task, &code, &arguments),
         Request::Listen { port, .. } => streams::open_port(alloc, &port),
         Request::Connect(port) => streams::open_port(alloc, &port),
         Request::Launch(words) => streams::launch(alloc, &words),
-        Request::Write { .. }
+        // One that is added is served above.
+        Request::Extra { .. }
+        | Request::Write { .. }
         | Request::WriteEof(_)
         | Request::Close(_)
         | Request::WaitClosed(_)

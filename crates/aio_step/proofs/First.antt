@@ -12,7 +12,8 @@ use Rattle.model_machine.specs.Sound.{IsStateSound}
 use Rattle.model_machine.specs.State as plain
 use Rattle.model_machine.specs.State.{State, generator_of, resumed}
 use Rattle.model_machine.specs.Step.{taken_as}
-use Rattle.model_machine.specs.Went.{Went, Goes}
+use Rattle.model_machine.specs.Went.{Went, Goes, Stops}
+use Rattle.model_wire.specs.Trace.{End}
 use Rattle.law_inside.proofs.Counts.{lives_within}
 use Rattle.law_inside.specs.InStep.{RepliesInStep}
 use Rattle.law_machine.proofs.Kept.{reply_state, decides-keeps}
@@ -151,35 +152,38 @@ module _ {X : Type 0} {a : Added X} (task : ℕ) (c : Setting a) (body : Body X)
 abbrev pub decided : {S : Type 0} (added : Extra S) → ℕ → Input → State S → machine.RequestReply S
 decided added task input s = decides added (generator_of task s).standing task (begun_by task input s).input (begun_in task input s)
 
--- what the code decides
-abbrev pub Decides : {X : Type 0} → (a : Added X) → (task : ℕ) → Started → (begun new : Body X) → RequestReply → Type 0
-Decides a task started begun new it =
-    (c : Setting a) (s : State a.Kept) (stood : plain.Standing) → IsDeciding task stood c begun s → DecidesAs started.standing stood
-    → Says task c new it (decides a.meaning stood task started.input s)
+-- a stop of it is one of the step
+pub stops_first : {S : Type 0} (task : ℕ) (go_on : State S → Went S) (how : End) (last : State S) (it : machine.RequestReply S) → it ≡ machine.Halts how last
+    → taken_as it true task go_on ≡ Stops how last
+stops_first task go_on how last it e = ap (λ x. taken_as x true task go_on) e
 
+-- `c` is what the step began with, and `d` what stays once its input was decided
 module _ {X : Type 0} {a : Added X} (task : ℕ) (input : Input) (c : Setting a) (old : Body X) (s : State a.Kept) (h : IsCalled task c old s)
-    (made : HearsMade input old) (started : Started) (begun : Body X) (b : HasBegun task input c s started begun) (body : Body X) where
-  says_decided : (it : RequestReply) → Decides a task started begun body it → Says task (holding started.coroutine c) body it (decided a.meaning task input s)
-  says_decided it d =
-      subst (λ x. Says task (holding started.coroutine c) body it (decides a.meaning (generator_of task s).standing task x (begun_in task input s))) b.heard
-      (d (holding started.coroutine c) (begun_in task input s) (generator_of task s).standing b.deciding b.decides)
+    (made : HearsMade input old) (started : Started) (begun : Body X) (b : HasBegun task input c s started begun) (d : Setting a) (body : Body X) where
+  abbrev pub Decides : RequestReply → Type 0
+  Decides it =
+      Says task (holding started.coroutine d) body it (decides a.meaning (generator_of task s).standing task started.input (begun_in task input s))
+
+  says_decided : (it : RequestReply) → Decides it → Says task (holding started.coroutine d) body it (decided a.meaning task input s)
+  says_decided it says =
+      subst (λ x. Says task (holding started.coroutine d) body it (decides a.meaning (generator_of task s).standing task x (begun_in task input s)))
+      b.heard says
 
   sound : RepliesInStep a.meaning true task (decided a.meaning task input s)
   sound = called_sound task c old s h input made
 
-  pub answers_first : (value : Value) → Decides a task started begun body (said.Answers value)
-      → Resumes task (Send value) c body started.coroutine (decided a.meaning task input s)
-  answers_first value d = answers_so task c body started.coroutine value (decided a.meaning task input s) (says_decided (said.Answers value) d) sound
+  pub answers_first : (value : Value) → Decides (said.Answers value) → Resumes task (Send value) d body started.coroutine (decided a.meaning task input s)
+  answers_first value says =
+      answers_so task d body started.coroutine value (decided a.meaning task input s) (says_decided (said.Answers value) says) sound
 
-  pub raises_first : (fault : Exc) → Decides a task started begun body (said.Raises fault)
-      → Resumes task (Throw fault) c body started.coroutine (decided a.meaning task input s)
-  raises_first fault d = raises_so task c body started.coroutine fault (decided a.meaning task input s) (says_decided (said.Raises fault) d) sound
+  pub raises_first : (fault : Exc) → Decides (said.Raises fault) → Resumes task (Throw fault) d body started.coroutine (decided a.meaning task input s)
+  raises_first fault says = raises_so task d body started.coroutine fault (decided a.meaning task input s) (says_decided (said.Raises fault) says) sound
 
-  pub rests_first : Decides a task started begun body said.Rests → WaitsOn task (holding started.coroutine c) body (decided a.meaning task input s)
-  rests_first d = rests_so task c body started.coroutine (decided a.meaning task input s) (says_decided said.Rests d) sound
+  pub rests_first : Decides said.Rests → WaitsOn task (holding started.coroutine d) body (decided a.meaning task input s)
+  rests_first says = rests_so task d body started.coroutine (decided a.meaning task input s) (says_decided said.Rests says) sound
 
   -- the task was made before
-  pub made_first : WaitsOn task (holding started.coroutine c) body (decided a.meaning task input s) → task < length body.slots.items
+  pub made_first : WaitsOn task (holding started.coroutine d) body (decided a.meaning task input s) → task < length body.slots.items
   made_first w =
       let living = b.deciding.asked.others.loop.parts.runs task (eq-eqb task task refl) in
       let there = within (begun_in task input s) living b.deciding.asked.others.generators in

@@ -8,4 +8,5 @@ pub mod Opening
 pub mod Begun
 pub mod First
 pub mod Ready
+pub mod Deciding
 pub mod Whole

@@ -24,8 +24,8 @@ use Rattle.aio_gen.specs.declared.generator.Gen.{Gen}
 use Rattle.aio_body.specs.Asked.{IsAskingFor}
 use Rattle.aio_gen.specs.Gens.{StandsFor}
 use Rattle.aio_body.specs.Stands.{Setting, holding}
+use Rattle.aio_step.specs.Serving.{EndsAt, RunsAway, serves_once}
 use Rattle.aio_step.specs.Stepping.{IsServing}
-use Rattle.aio_step.proofs.Serving.{EndsAt, RunsAway}
 use Rattle.law_kept.proofs.Calls.{kept_finish}
 use Rattle.law_body.proofs.Sound.{runs_living}
 use Rattle.law_body.proofs.Left.{finish_done, leaves_finish}
@@ -88,7 +88,7 @@ module _ {X : Type 0} {a : Added X} (task : ℕ) (fresh : Bool) (input : Input) 
       → IsStateSound a.meaning (unbooked_in (finish task end) (resumed fresh task input s))
       → parts v ≡ finish task end (parts body.parts) → Appended body.parts.queue v.queue
       → v ≡ record body.parts { queue = v.queue; futures = v.futures; tasks = v.tasks; running = None }
-      → EndsAt task c (record body { parts = v }) (resumed fresh task input s)
+      → EndsAt c (record body { parts = v }) (serves_once a.meaning task (resumed fresh task input s))
   ends_out end v goes sound became appended beside = record {
     now = unbooked_in (finish task end) (resumed fresh task input s);
     between = record {
@@ -117,8 +117,9 @@ module _ {X : Type 0} {a : Added X} (task : ℕ) (fresh : Bool) (input : Input) 
 
   -- it runs away
   pub runs_out : says_of step_limit a.meaning task (resumed fresh task input s) ≡ Runaway
-      → RunsAway task c body (resumed fresh task input s)
+      → RunsAway task c body (serves_once a.meaning task (resumed fresh task input s))
   runs_out says = record {
+    last = resumed fresh task input s;
     told = h.in_step.stands.events;
     goes = λ go_on. ap (λ saying. served step_limit a.meaning saying task go_on (resumed fresh task input s)) says;
   }

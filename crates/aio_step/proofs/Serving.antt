@@ -1,26 +1,25 @@
 -- A task is served until its step ends: what one answer after another leads to.
-use Rattle.std.proofs.Common.{◌≡◌, ℕ, suc, ◌+◌, ◌<◌, false, ◌++◌, length, ◌∙◌, sym, ap, subst, arith}
-use Rattle.model_value.specs.Input.{Input}
+use Rattle.std.proofs.Common.{◌≡◌, ℕ, suc, ◌+◌, ◌<◌, false, length, ◌∙◌, sym, ap, subst, arith}
 use Rattle.model_value.specs.Request.{Request}
 use Rattle.model_value.specs.declared.input.Input.TheVariants.{Send, Throw}
 use Rattle.model_says.specs.Endings.{Asks}
 use Rattle.model_says.specs.Says.{step_limit}
-use Rattle.model_wire.specs.declared.event.End.TheVariants as end
+use Rattle.model_wire.specs.Trace.{End}
+use Rattle.std.proofs.Math.Path.{fun_ext}
 use Rattle.model_machine.specs.Extra.{Extra}
 use Rattle.model_machine.specs.Replies as plain
 use Rattle.model_machine.specs.Replies.{reply}
-use Rattle.model_machine.specs.Sound.{IsStateSound}
-use Rattle.model_machine.specs.State.{State, generator_of, resumed}
+use Rattle.model_machine.specs.State.{State, generator_of}
 use Rattle.model_machine.specs.Step.{most_answers, says_of, serve, serve_all, served, taken_as}
-use Rattle.model_machine.specs.Went.{Went, Goes, Stops}
+use Rattle.model_machine.specs.Went.{Went}
 use Rattle.aio_extra.specs.Added.{Added}
 use Rattle.aio_body.specs.declared.body.Body.{Body}
 use Rattle.aio_gen.specs.declared.generator.Gen.{Gen}
 use Rattle.aio_body.specs.declared.reply.RequestReply.{RequestReply}
 use Rattle.aio_body.specs.declared.reply.RequestReply.TheVariants as said
-use Rattle.aio_body.specs.Asked.{HasRested, Says}
-use Rattle.aio_body.specs.Stands.{Setting, IsBetween, holding}
-use Rattle.aio_step.specs.Stepping.{IsServing}
+use Rattle.aio_body.specs.Asked.{Says}
+use Rattle.aio_body.specs.Stands.{Setting, holding}
+use Rattle.aio_step.specs.Serving.{GoesOnWith, LeadsOn, halted, serves_once, served_of}
 use Rattle.law_machine.proofs.Kept.{IsKeptInAnswer, reply_state, reply-keeps}
 use Rattle.law_inside.specs.InStep.{RepliesInStep}
 use Rattle.law_body.proofs.Sound.{ends_by_itself}
@@ -30,32 +29,9 @@ abbrev pub ServedAs : {S : Type 0} → Extra S → ℕ → State S → ((State S
 ServedAs {S} added task s machine =
     (go_on : State S → Went S) → served step_limit added (says_of step_limit added task s) task go_on s ≡ machine go_on
 
-pub record GoesOnWith {X : Type 0} {a : Added X} (task : ℕ) (next : Input) (c : Setting a) (body : Body X) (coroutine : Gen) (s : State a.Kept) : Type 0 where
-  pub now : State a.Kept
-  pub serving : IsServing task false next coroutine c body now
-  pub goes : ServedAs a.meaning task s (λ go_on. go_on (resumed false task next now))
-
-pub record RestsAt {X : Type 0} {a : Added X} (task : ℕ) (c : Setting a) (body : Body X) (coroutine : Gen) (s : State a.Kept) : Type 0 where
-  pub now : State a.Kept
-  pub rested : HasRested task (holding coroutine c) body now
-  pub made : task < length now.generators
-  pub sound : IsStateSound a.meaning now
-  pub goes : ServedAs a.meaning task s (λ go_on. Goes now)
-
-pub record EndsAt {X : Type 0} {a : Added X} (task : ℕ) (c : Setting a) (body : Body X) (s : State a.Kept) : Type 0 where
-  pub now : State a.Kept
-  pub between : IsBetween c body now
-  pub goes : ServedAs a.meaning task s (λ go_on. Goes now)
-
-pub record RunsAway {X : Type 0} {a : Added X} (task : ℕ) (c : Setting a) (body : Body X) (s : State a.Kept) : Type 0 where
-  pub told : s.events ≡ c.past ++ body.events.events
-  pub goes : ServedAs a.meaning task s (λ go_on. Stops (end.Runaway task) s)
-
 -- What a reply makes of the step: `s` is the state in which it was asked.
 abbrev pub GoesOnBy : {X : Type 0} {a : Added X} → ℕ → Setting a → Body X → Gen → RequestReply → State a.Kept → Type 0
-GoesOnBy task c body coroutine (said.Answers value) s = GoesOnWith task (Send value) c body coroutine s
-GoesOnBy task c body coroutine (said.Raises fault) s = GoesOnWith task (Throw fault) c body coroutine s
-GoesOnBy task c body coroutine said.Rests s = RestsAt task c body coroutine s
+GoesOnBy {a = a} task c body coroutine it s = LeadsOn task c body coroutine (served_of it) (serves_once a.meaning task s)
 
 -- after so many answers the step goes on here
 pub record LeadsTo {S : Type 0} (added : Extra S) (task : ℕ) (first now : State S) : Type 0 where
@@ -91,6 +67,13 @@ leads_end added task first now went l goes within =
     ∙ sym (l.same (suc (most_answers step_limit (generator_of task first).tape)))
     ∙ goes (serve step_limit added (most_answers step_limit (generator_of task first).tape) task)
 
+-- a reply that ends the run ends the step
+pub halts_so : {S : Type 0} (added : Extra S) (task : ℕ) (s : State S) (request : Request) → says_of step_limit added task s ≡ Asks request
+    → (how : End) (last : State S) → reply added task request s ≡ plain.Halts how last → serves_once added task s ≡ halted how last
+halts_so added task s request asks how last e =
+    fun_ext (λ go_on.
+    ap (λ saying. served step_limit added saying task go_on s) asks ∙ ap (λ it. taken_as it false task go_on) e)
+
 module _ {X : Type 0} {a : Added X} where
   pub answered : (task : ℕ) (c : Setting a) (body : Body X) (coroutine : Gen) (it : RequestReply) (s : State a.Kept) (request : Request)
       → task < length s.generators → says_of step_limit a.meaning task s ≡ Asks request
@@ -107,13 +90,13 @@ module _ {X : Type 0} {a : Added X} where
           → Says task (holding coroutine c) body it machine → RepliesInStep a.meaning false task machine
           → GoesOnBy task c body coroutine it s
       at (said.Answers value) (plain.Answers v now) kept goes h sound =
-          subst (λ x. GoesOnWith task (Send x) c body coroutine s) (sym h.0) (record {
+          subst (λ x. GoesOnWith task (Send x) c body coroutine (serves_once a.meaning task s)) (sym h.0) (record {
             now = now;
             serving = record { in_step = h.1; sound = sound };
             goes = goes;
           })
       at (said.Raises fault) (plain.Raises f now) kept goes h sound =
-          subst (λ x. GoesOnWith task (Throw x) c body coroutine s) (sym h.0) (record {
+          subst (λ x. GoesOnWith task (Throw x) c body coroutine (serves_once a.meaning task s)) (sym h.0) (record {
             now = now;
             serving = record { in_step = h.1; sound = sound };
             goes = goes;

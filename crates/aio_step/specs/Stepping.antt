@@ -9,7 +9,10 @@ use Rattle.model_loop.specs.Ways.{steps}
 use Rattle.model_machine.specs.Sound.{IsStateSound, sends_made}
 use Rattle.model_machine.specs.State as plain
 use Rattle.model_machine.specs.State.{State, generator_of, noted, resumed, stands, unbooked_in}
-use Rattle.model_machine.specs.Step.{given_up}
+use Rattle.model_says.specs.Says.{step_limit}
+use Rattle.model_machine.specs.Replies as reply
+use Rattle.model_machine.specs.Replies.{decides}
+use Rattle.model_machine.specs.Step.{given_up, serve_all, step}
 use Rattle.model_machine.specs.Went.{Went, Goes, Stops}
 use Rattle.aio_gen.specs.declared.generator.Gen.{Gen}
 use Rattle.aio_extra.specs.Added.{Added}
@@ -19,7 +22,9 @@ use Rattle.aio_body.specs.declared.standing.Standing.TheVariants as standing
 use Rattle.aio_step.specs.declared.steps.Started.{Started}
 use Rattle.aio_step.specs.declared.steps.Stepped as stepped
 use Rattle.aio_step.specs.declared.steps.Stepped.TheVariants as went
-use Rattle.aio_body.specs.Asked.{IsInStep, IsDeciding}
+use Rattle.aio_body.specs.declared.reply.RequestReply.{RequestReply}
+use Rattle.aio_body.specs.Asked.{IsInStep, IsDeciding, Says}
+use Rattle.aio_body.specs.Asking.{Piece}
 use Rattle.aio_body.specs.Stands.{Setting, Stands, IsBetween, holding}
 use Rattle.law_inside.specs.InStep.{IsStepSound}
 
@@ -80,3 +85,33 @@ pub record IsServing {X : Type 0} {a : Added X} (task : ℕ) (fresh : Bool) (inp
     (body : Body X) (s : State a.Kept) : Type 0 where
   pub in_step : IsInStep task (holding coroutine c) body s
   pub sound : IsStepSound a.meaning task (resumed fresh task input s)
+
+-- ---- as pieces of the machine
+abbrev pub stepping : {X : Type 0} → (a : Added X) → ℕ → Input → (old new : Body X) → Piece a (State a.Kept) (Went a.Kept) stepped.Stepped
+stepping a task input old new =
+    record {
+      from = λ c s. IsCalled task c old s;
+      does = step step_limit a.meaning task input;
+      ends = Stops;
+      says = λ c went it. Steps c new went it;
+    }
+
+-- from a state, and the request at which the task stood
+abbrev pub deciding : {X : Type 0} → (a : Added X) → ℕ → Standing → Input → (old new : Body X)
+    → Piece a (State a.Kept × plain.Standing) (reply.RequestReply a.Kept) RequestReply
+deciding a task code input old new =
+    record {
+      from = λ c at. IsDeciding task at.1 c old at.0 × DecidesAs code at.1;
+      does = λ at. decides a.meaning at.1 task input at.0;
+      ends = reply.Halts;
+      says = λ c said it. Says task c new said it;
+    }
+
+abbrev pub serving_on : {X : Type 0} → (a : Added X) → ℕ → Input → Gen → (old new : Body X) → Piece a (State a.Kept) (Went a.Kept) stepped.Stepped
+serving_on a task input coroutine old new =
+    record {
+      from = λ c s. IsServing task true input coroutine c old s;
+      does = λ s. serve_all step_limit a.meaning task (resumed true task input s);
+      ends = Stops;
+      says = λ c went it. Steps c new went it;
+    }

@@ -1,20 +1,20 @@
 //! A step of a task.
-ghost use Rattle.std.specs.Prelude.{true, IfOk};
-ghost use Rattle.model_says.specs.Says.{step_limit};
-ghost use Rattle.model_machine.specs.Replies.{decides};
-ghost use Rattle.model_machine.specs.State as plain;
-ghost use Rattle.model_machine.specs.State.{State, resumed};
-ghost use Rattle.model_machine.specs.Step.{step, serve_all};
-ghost use Rattle.aio_body.specs.Asked.{IsDeciding, Says};
+ghost use Rattle.std.specs.Prelude.{◌≡◌, true};
+ghost use Rattle.model_machine.specs.State.{State};
+ghost use Rattle.aio_exchange.specs.Outside.{outside_of, ported};
+ghost use Rattle.aio_body.specs.Asking.{Comes};
 ghost use Rattle.aio_body.specs.Stands.{Setting, Possible};
-ghost use Rattle.aio_step.specs.Stepping.{Steps, IsCalled, HearsMade, DecidesAs, HasBegun, IsServing, IsDecidingAs};
+ghost use Rattle.aio_step.specs.Serving.{served_of, serving_once};
+ghost use Rattle.aio_step.specs.Stepping.{HasBegun, HearsMade, IsCalled, IsDecidingAs, IsServing};
+ghost use Rattle.aio_step.specs.Stepping.{deciding, serving_on, stepping};
 
 use aio_base::{Input, Memory};
 use aio_body::{Body, RequestReply, Slot, Standing, reply_of};
 use aio_extra::Extra;
 use aio_gen::{Gen, GenOut};
-use aio_serve::{leave_group, reply, wake};
+use aio_serve::{leave_group, or_stop, reply, wake};
 use aio_task::Ticket;
+use aio_wire::{Stop, Wire};
 use std::alloc::Global;
 
 /// How a step ends: the task waits or is done, or it ran away.
@@ -22,6 +22,15 @@ use std::alloc::Global;
 pub enum Stepped {
     Goes,
     Runaway(u32),
+}
+
+/// What one answer of a coroutine leads to: it is answered in turn, the task waits, or the step
+/// ended.
+#[derive(Drop)]
+pub enum Served {
+    Answered(Input),
+    Rests,
+    Ended(Stepped),
 }
 
 /// A step that has begun: the task's coroutine, at what it stood, and what its input came to.
@@ -32,34 +41,47 @@ pub struct Started {
     pub input: Input,
 }
 
-/// A step of a task, by the handle whose memory the ticket is.
-pub fn step<X: Extra>(
+/// A step of a task, by the handle whose memory the ticket is. It may ask the outside.
+pub fn step<W: Wire, X: Extra>(
     body: &mut Body<X>,
     alloc: Global,
+    wire: &mut W,
     task: u32,
     ticket: Ticket,
     input: Input,
-) -> Result<Stepped, Memory>
+) -> Result<Stepped, Stop>
     requires called { Possible X.added (IsCalled task) body.old }
     requires made { HearsMade input body.old }
-    ensures { IfOk result
-        (λ went. (c : Setting X.added) (s : State X.added.Kept) → IsCalled task c body.old s
-        → Steps c body.new went (step step_limit X.added.meaning task input s)) }
+    ensures comes { Comes (outside_of W.seen W.fails W.keeps W.quiet)
+        (stepping X.added task input body.old body.new)
+        (ported wire.old body.old.events) (ported wire.new body.new.events) result }
+    ensures unasked { wire.new ≡ wire.old }
 {
     let Started {
         coroutine,
         standing,
         input,
     } = begin(body, task, ticket, input);
-    match decide(body, alloc, task, standing, input)? {
-        RequestReply::Answers(value) => serve(body, alloc, task, coroutine, Input::Send(value)),
-        RequestReply::Raises(fault) => serve(body, alloc, task, coroutine, Input::Throw(fault)),
-        RequestReply::Rests => {
+    match decide(body, alloc, wire, task, standing, input) {
+        Ok(RequestReply::Answers(value)) => {
+            serve(body, alloc, wire, task, coroutine, Input::Send(value))
+        }
+        Ok(RequestReply::Raises(fault)) => {
+            serve(body, alloc, wire, task, coroutine, Input::Throw(fault))
+        }
+        Ok(RequestReply::Rests) => {
             body.put_back(task, coroutine);
             Ok(Stepped::Goes)
         }
+        Err(stop) => {
+            forget_coroutine(coroutine);
+            Err(stop)
+        }
     }
 }
+
+// A coroutine whose step has ended is let go.
+fn forget_coroutine(_coroutine: Gen) {}
 
 // The step begins, and what the task runs is taken out.
 fn begin<X: Extra>(body: &mut Body<X>, task: u32, ticket: Ticket, input: Input) -> Started
@@ -84,18 +106,19 @@ fn begin<X: Extra>(body: &mut Body<X>, task: u32, ticket: Ticket, input: Input) 
 }
 
 // What the request at which a task stood makes of the input that its step begins with.
-fn decide<X: Extra>(
+fn decide<W: Wire, X: Extra>(
     body: &mut Body<X>,
     alloc: Global,
+    wire: &mut W,
     task: u32,
     standing: Standing,
     input: Input,
-) -> Result<RequestReply, Memory>
+) -> Result<RequestReply, Stop>
     requires { Possible X.added (IsDecidingAs task standing) body.old }
-    ensures { IfOk result
-        (λ said. (c : Setting X.added) (s : State X.added.Kept) (stood : plain.Standing)
-        → IsDeciding task stood c body.old s → DecidesAs standing stood
-        → Says task c body.new said (decides X.added.meaning stood task input s)) }
+    ensures comes { Comes (outside_of W.seen W.fails W.keeps W.quiet)
+        (deciding X.added task standing input body.old body.new)
+        (ported wire.old body.old.events) (ported wire.new body.new.events) result }
+    ensures unasked { wire.new ≡ wire.old }
 {
     match standing {
         Standing::Asked => Ok(reply_of(input)),
@@ -103,50 +126,96 @@ fn decide<X: Extra>(
             timer: _,
             future: _,
         } => Ok(reply_of(input)),
-        Standing::Leaving(group) => leave_group(body, alloc, task, group, input),
-        Standing::Serving(key) => wake(body, alloc, task, key, input),
+        Standing::Leaving(group) => or_stop(leave_group(body, alloc, task, group, input)),
+        Standing::Serving(key) => wake(body, alloc, wire, task, key, input),
     }
 }
 
 // The coroutine is resumed, and what it says is served, until the step ends.
-fn serve<X: Extra>(
+fn serve<W: Wire, X: Extra>(
     body: &mut Body<X>,
     alloc: Global,
+    wire: &mut W,
     task: u32,
     coroutine: Gen,
     input: Input,
-) -> Result<Stepped, Memory>
+) -> Result<Stepped, Stop>
     requires { Possible X.added (IsServing task true input coroutine) body.old }
-    ensures { IfOk result (λ went. (c : Setting X.added) (s : State X.added.Kept)
-        → IsServing task true input coroutine c body.old s
-        → Steps c body.new went
-        (serve_all step_limit X.added.meaning task (resumed true task input s))) }
+    ensures comes { Comes (outside_of W.seen W.fails W.keeps W.quiet)
+        (serving_on X.added task input coroutine body.old body.new)
+        (ported wire.old body.old.events) (ported wire.new body.new.events) result }
+    ensures unasked { wire.new ≡ wire.old }
 {
     let mut coroutine = coroutine;
     let mut input = input;
     let mut fresh = true;
     for _answered in 0..u64::MAX {
-        let out = coroutine.resume(alloc, &body.code, input, fresh)?;
-        fresh = false;
-        match out {
-            GenOut::Asks(request) => match reply(body, alloc, task, request)? {
-                RequestReply::Answers(value) => input = Input::Send(value),
-                RequestReply::Raises(fault) => input = Input::Throw(fault),
-                RequestReply::Rests => {
-                    body.put_back(task, coroutine);
-                    return Ok(Stepped::Goes);
-                }
-            },
-            GenOut::Returns(value) => {
-                body.parts.finish(task, Ok(value));
+        match serve_one(body, alloc, wire, task, &mut coroutine, input, fresh) {
+            Ok(Served::Answered(next)) => input = next,
+            Ok(Served::Rests) => {
+                body.put_back(task, coroutine);
                 return Ok(Stepped::Goes);
             }
-            GenOut::Raises(fault) => {
-                body.parts.finish(task, Err(fault));
-                return Ok(Stepped::Goes);
+            Ok(Served::Ended(ended)) => {
+                forget_coroutine(coroutine);
+                return Ok(ended);
             }
-            GenOut::Runaway => return Ok(Stepped::Runaway(task)),
+            Err(stop) => {
+                forget_coroutine(coroutine);
+                return Err(stop);
+            }
         }
+        fresh = false;
     }
-    Err(Memory)
+    forget_coroutine(coroutine);
+    forget_input(input);
+    Err(Stop::Memory)
+}
+
+// What a coroutine doesn't hear any more is let go.
+fn forget_input(_input: Input) {}
+
+// The coroutine is resumed once, and what it says is served.
+fn serve_one<W: Wire, X: Extra>(
+    body: &mut Body<X>,
+    alloc: Global,
+    wire: &mut W,
+    task: u32,
+    coroutine: &mut Gen,
+    input: Input,
+    fresh: bool,
+) -> Result<Served, Stop>
+    requires { Possible X.added (IsServing task fresh input coroutine.old) body.old }
+    ensures comes { Comes (outside_of W.seen W.fails W.keeps W.quiet)
+        (serving_once X.added task fresh input coroutine.old coroutine.new body.old body.new)
+        (ported wire.old body.old.events) (ported wire.new body.new.events) result }
+    ensures unasked { wire.new ≡ wire.old }
+{
+    match coroutine.resume(alloc, &body.code, input, fresh) {
+        Ok(GenOut::Asks(request)) => match reply(body, alloc, wire, task, request) {
+            Ok(said) => Ok(onward(said)),
+            Err(stop) => Err(stop),
+        },
+        Ok(GenOut::Returns(value)) => {
+            body.parts.finish(task, Ok(value));
+            Ok(Served::Ended(Stepped::Goes))
+        }
+        Ok(GenOut::Raises(fault)) => {
+            body.parts.finish(task, Err(fault));
+            Ok(Served::Ended(Stepped::Goes))
+        }
+        Ok(GenOut::Runaway) => Ok(Served::Ended(Stepped::Runaway(task))),
+        Err(Memory) => Err(Stop::Memory),
+    }
+}
+
+// What an answer is to the step.
+fn onward(said: RequestReply) -> Served
+    ensures { result ≡ served_of said }
+{
+    match said {
+        RequestReply::Answers(value) => Served::Answered(Input::Send(value)),
+        RequestReply::Raises(fault) => Served::Answered(Input::Throw(fault)),
+        RequestReply::Rests => Served::Rests,
+    }
 }

@@ -1,3 +1,4 @@
+pub mod Answering
 pub mod Blocks
 pub mod Leaving
 pub mod Lasting
@@ -14,3 +15,5 @@ pub mod Making
 pub mod Asleep
 pub mod TimeoutsOn
 pub mod Adding
+pub mod Over
+pub mod Unasked

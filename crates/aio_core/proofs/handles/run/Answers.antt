@@ -1,20 +1,32 @@
-use Rattle.std.proofs.Common.{◌∙◌, ap}
-use Rattle.std.proofs.lemmas.Result.{IfOk-weaker}
-use Rattle.model_wire.specs.declared.event.Event.TheVariants as event
-use Rattle.model_machine.specs.State.{noted}
-use Rattle.aio_wire.specs.Events.{pushed}
-use Rattle.aio_core.proofs.Acting.{may_act, taken_so}
+use Rattle.std.proofs.Common.{refl, sym, subst}
+use Rattle.aio_exchange.proofs.Among.{on_none}
+use Rattle.aio_exchange.specs.Outside.{IsOutside, outside_of, ported}
+use Rattle.aio_body.proofs.Asking.{comes_starved}
+use Rattle.aio_body.specs.Stands.{Possible}
+use Rattle.aio_body.specs.Taken.{IsTaken}
+use Rattle.aio_core.specs.Running.{running_one}
+use Rattle.aio_core.proofs.Acting.{may_act, runs_acting}
+use Rattle.aio_core.proofs.handles.run.Given.{Over}
 use Rattle.aio_core.proofs.handles.run.Goals as goal
+
+laws : (g : Over) → IsOutside (outside_of g.W.Wire.seen g.W.Wire.fails g.W.Wire.keeps g.W.Wire.quiet)
+laws g = record {
+  keeps_same = g.met.W.Wire.keeps_same;
+  keeps_on = g.met.W.Wire.keeps_on;
+  quiet_same = g.met.W.Wire.quiet_same;
+  quiet_on = g.met.W.Wire.quiet_on;
+}
 
 pub act-requires : goal.act-requires
 act-requires g c =
-    let body = c.args.body.now in
-    let told = c.in_ok-push.ensures.ok ∙ ap (λ k. pushed body.events (event.Ran k)) c.in_ok-copy.ensures in
-    may_act c.args.action.now body c.push.new.self told c.requires
+    subst (Possible g.X.Extra.added (IsTaken c.args.action.now)) (sym c.in-Ok.ensures) (may_act c.args.action.now c.args.body.now _ refl c.requires)
 
-pub returns : goal.returns
-returns g c =
-    let body = c.args.body.now in
-    let told = c.in_ok-push.ensures.ok ∙ ap (λ k. pushed body.events (event.Ran k)) c.in_ok-copy.ensures in
-    IfOk-weaker c.act.result _ _
-    (λ said does d s h. does d (noted (event.Ran c.args.action.now) s) (taken_so c.args.action.now d body s c.push.new.self told h)) c.act.ensures
+pub returns-in-Ok-clause-comes : goal.returns-in-Ok-clause-comes
+returns-in-Ok-clause-comes g c =
+    runs_acting g.X.Extra.added _ (laws g) c.args.action.now c.args.body.now c.note.new.body c.act.new.body c.args.wire.now c.act.new.wire
+    c.act.result c.in-Ok.ensures c.act.ensures.comes
+
+pub returns-in-Err-clause-comes : goal.returns-in-Err-clause-comes
+returns-in-Err-clause-comes g c =
+    comes_starved _ (laws g) (running_one g.X.Extra.added c.args.action.now c.args.body.now _) _
+    (ported c.args.wire.now c.args.body.now.events) (ported c.args.wire.now c.args.body.now.events) _ refl (on_none _ (laws g) c.args.wire.now)

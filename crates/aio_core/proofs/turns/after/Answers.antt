@@ -1,7 +1,18 @@
-use Rattle.std.proofs.lemmas.Result.{IfOk-weaker}
-use Rattle.aio_core.specs.Turning.{all_below}
-use Rattle.aio_core.proofs.Following.{after_goes, after_runs_away, alive_by, alive_ran, woken_to}
+use Rattle.std.proofs.Common.{sym, subst}
+use Rattle.aio_exchange.specs.Outside.{IsOutside, outside_of, ported}
+use Rattle.aio_body.specs.Asking.{Comes}
+use Rattle.aio_core.specs.Turning.{all_below, turning_by}
+use Rattle.aio_core.proofs.Following.{after_goes, after_runs_away, after_stops, alive_by, alive_ran, woken_to}
+use Rattle.aio_core.proofs.turns.after.Given.{Over}
 use Rattle.aio_core.proofs.turns.after.Goals as goal
+
+laws : (g : Over) → IsOutside (outside_of g.W.Wire.seen g.W.Wire.fails g.W.Wire.keeps g.W.Wire.quiet)
+laws g = record {
+  keeps_same = g.met.W.Wire.keeps_same;
+  keeps_on = g.met.W.Wire.keeps_on;
+  quiet_same = g.met.W.Wire.quiet_same;
+  quiet_on = g.met.W.Wire.quiet_on;
+}
 
 pub wake-requires-clause-alive : goal.wake-requires-clause-alive
 wake-requires-clause-alive g c = c.requires.alive
@@ -16,19 +27,22 @@ run_below-requires g c =
 
 pub end_turn-requires : goal.end_turn-requires
 end_turn-requires g c =
-    let answer = c.args.answer.now in
-    let ran = rw c.in-Goes.is at c.in_ok-run_below.ensures in
-    let alive = alive_by c.args.body.now c.wake.new.body (λ d s. all_below d (woken_to answer s)) (woken_to answer) c.requires.alive c.wake.ensures in
-    alive_ran answer c.args.body.now c.wake.new.body c.run_below.new.body c.wake.ensures alive ran
+    alive_ran g.X.Extra.added _ (laws g) c.args.answer.now c.args.body.now c.wake.new.body c.run_below.new.body c.wake.ensures c.args.wire.now
+    c.run_below.new.wire (rw c.in-Ok-Goes.field-0-is at c.in-Ok-Goes.ensures.comes) c.requires.alive
 
-pub returns-in-Goes : goal.returns-in-Goes
-returns-in-Goes g c =
-    let ran = rw c.in-Goes.is at c.in_ok-run_below.ensures in
-    IfOk-weaker c.end_turn.result _ _
-    (λ said does. after_goes c.args.answer.now c.args.body.now c.wake.new.body c.run_below.new.body c.wake.ensures c.end_turn.new.body said ran does)
-    c.end_turn.ensures
+pub returns-in-Ok-Goes-clause-comes : goal.returns-in-Ok-Goes-clause-comes
+returns-in-Ok-Goes-clause-comes g c =
+    subst (Comes _ (turning_by g.X.Extra.added c.args.answer.now c.args.body.now c.end_turn.new.body) (ported c.args.wire.now c.args.body.now.events)
+    (ported c.run_below.new.wire c.end_turn.new.body.events)) (sym c.or_stop.ensures)
+    (after_goes g.X.Extra.added _ (laws g) c.args.answer.now c.args.body.now c.wake.new.body c.run_below.new.body c.wake.ensures c.args.wire.now
+    c.run_below.new.wire (rw c.in-Ok-Goes.field-0-is at c.in-Ok-Goes.ensures.comes) c.end_turn.new.body c.end_turn.result c.end_turn.ensures)
 
-pub returns-in-Runaway : goal.returns-in-Runaway
-returns-in-Runaway g c =
-    let ran = rw c.in-Runaway.is at c.in_ok-run_below.ensures in
-    after_runs_away c.args.answer.now c.args.body.now c.wake.new.body c.run_below.new.body c.wake.ensures c.in-Runaway.task ran
+pub returns-in-Ok-Runaway-clause-comes : goal.returns-in-Ok-Runaway-clause-comes
+returns-in-Ok-Runaway-clause-comes g c =
+    after_runs_away g.X.Extra.added _ (laws g) c.args.answer.now c.args.body.now c.wake.new.body c.run_below.new.body c.wake.ensures c.args.wire.now
+    c.run_below.new.wire c.in-Ok-Runaway.task (rw c.in-Ok-Runaway.field-0-is at c.in-Ok-Runaway.ensures.comes)
+
+pub returns-in-Err-clause-comes : goal.returns-in-Err-clause-comes
+returns-in-Err-clause-comes g c =
+    after_stops g.X.Extra.added _ (laws g) c.args.answer.now c.args.body.now c.wake.new.body c.run_below.new.body c.wake.ensures c.args.wire.now
+    c.run_below.new.wire c.in-Err.stop c.in-Err.ensures.comes

@@ -1,23 +1,21 @@
-use Rattle.std.proofs.Common.{Ok, Err, true, false, List, ◌≡◌, ◌∙◌, refl, sym, subst, append-nil, arith}
-use Rattle.std.proofs.lemmas.Result.{err_from_is_err_and}
-use Rattle.model_wire.specs.Event.{Event}
-use Rattle.model_wire.specs.Fits.{fits}
-use Rattle.model_wire.specs.Journal.{Entry}
-use Rattle.model_says.specs.Says.{step_limit}
-use Rattle.model_machine.specs.State.{State, unbooked_in}
-use Rattle.model_machine.specs.Turn.{is_stalled, turned_by, woken_by}
-use Rattle.aio_body.specs.declared.body.Body.{Body}
-use Rattle.aio_body.specs.Stands.{IsBetween, Setting, Possible}
-use Rattle.aio_core.specs.Turning.{AliveIfWent, AsksBy, ComesTo, IsAtRest, StallsAs, Turned, all_below, at_bar, changed_by, resting, said_by, stood_by}
-use Rattle.aio_core.specs.declared.went.Went as code
+use Rattle.std.proofs.Common.{Err, ◌∙◌, refl, sym, subst, append-nil, arith}
+use Rattle.aio_exchange.specs.Outside.{IsOutside, outside_of}
+use Rattle.aio_core.specs.Turning.{StallsAs, resting, said_by, stood_by}
 use Rattle.aio_core.specs.declared.went.Went.TheVariants as went
-use Rattle.aio_core.proofs.Asking.{HasGot, failing_answered, failing_stopped, got_alive, got_so, stalls_so, stalls_stopped}
-use Rattle.aio_core.proofs.Asking.{still_after, still_stopped, stops_so, turned_so}
-use Rattle.aio_core.proofs.Asked.{had_once, none_once}
-use Rattle.aio_core.proofs.AskedByTurn.{stop_asks, turn_asks}
-use Rattle.aio_core.proofs.Waking.{fits_time}
+use Rattle.aio_core.proofs.Answered.{alive_then, asked_then, comes_then, still_then, time_then}
+use Rattle.aio_core.proofs.Asking.{failing_answered, failing_stopped, stalls_so, stalls_stopped, still_stopped, stops_so}
+use Rattle.aio_core.proofs.Asked.{none_once}
+use Rattle.aio_core.proofs.AskedByTurn.{stop_asks}
+use Rattle.aio_core.proofs.turns.turn.Given.{Over}
 use Rattle.aio_core.proofs.turns.turn.Goals as goal
-use Rattle.aio_core.proofs.turns.turn.Goals.{In_ok-answer}
+
+laws : (g : Over) → IsOutside (outside_of g.W.Wire.seen g.W.Wire.fails g.W.Wire.keeps g.W.Wire.quiet)
+laws g = record {
+  keeps_same = g.met.W.Wire.keeps_same;
+  keeps_on = g.met.W.Wire.keeps_on;
+  quiet_same = g.met.W.Wire.quiet_same;
+  quiet_on = g.met.W.Wire.quiet_on;
+}
 
 pub returns-then-is_stalled-clause-comes : goal.returns-then-is_stalled-clause-comes
 returns-then-is_stalled-clause-comes g c =
@@ -41,172 +39,93 @@ pub returns-then-is_stalled-clause-later : goal.returns-then-is_stalled-clause-l
 returns-then-is_stalled-clause-later g c = omega arith
 
 -- ---- the call has no answer that fits
-pub returns-in_err-answer-clause-comes : goal.returns-in_err-answer-clause-comes
-returns-in_err-answer-clause-comes g c =
-    let p = err_from_is_err_and c.from_residual.result c.from_residual.ensures.1 in
-    let why = c.in_err-answer.field-0.0 in
-    rw (p.1, p.2) (stops_so c.args.body.now c.first_call-call.result c.first_call-call.ensures.call
-    (λ d s h. sym c.if-is_stalled.false ∙ c.is_stalled.ensures d s h) c.ask.new.body.events (g.W.Wire.seen c.args.wire.now) (g.W.Wire.seen c.ask.new.wire)
-    (Err why) why refl c.in_err-answer.ensures.asks (stood_by g.X.Extra.added c.ask.new.body))
+pub returns-in-Err-clause-comes : goal.returns-in-Err-clause-comes
+returns-in-Err-clause-comes g c =
+    stops_so c.args.body.now c.first_call-call.result c.first_call-call.ensures.call (λ d s h. sym c.if-is_stalled.false ∙ c.is_stalled.ensures d s h)
+    c.ask.new.body.events (g.W.Wire.seen c.args.wire.now) (g.W.Wire.seen c.ask.new.wire) (Err c.in-Err.stop) c.in-Err.stop refl c.in-Err.ensures.asks
+    (stood_by g.X.Extra.added c.ask.new.body)
 
-pub returns-in_err-answer-clause-asked : goal.returns-in_err-answer-clause-asked
-returns-in_err-answer-clause-asked g c =
-    let p = err_from_is_err_and c.from_residual.result c.from_residual.ensures.1 in
-    let why = c.in_err-answer.field-0.0 in
-    rw (p.1, p.2) (λ past answers s h. stop_asks c.first_call-call.result c.args.body.now.events c.ask.new.body.events
-    (g.W.Wire.seen c.args.wire.now) (g.W.Wire.seen c.ask.new.wire) (Err why) why refl c.in_err-answer.ensures.asks)
+pub returns-in-Err-clause-asked : goal.returns-in-Err-clause-asked
+returns-in-Err-clause-asked g c =
+    λ past answers s h. stop_asks c.first_call-call.result c.args.body.now.events c.ask.new.body.events
+    (g.W.Wire.seen c.args.wire.now) (g.W.Wire.seen c.ask.new.wire) (Err c.in-Err.stop) c.in-Err.stop refl c.in-Err.ensures.asks
 
-pub returns-in_err-answer-clause-stalls : goal.returns-in_err-answer-clause-stalls
-returns-in_err-answer-clause-stalls g c =
-    let p = err_from_is_err_and c.from_residual.result c.from_residual.ensures.1 in
-    let why = c.in_err-answer.field-0.0 in
-    rw (p.1, p.2) (λ past answers s h. subst (λ b. StallsAs b (went.Stopped why))
-    (sym c.if-is_stalled.false ∙ c.is_stalled.ensures (resting g.X.Extra.added past answers h.0) s h.1) (stalls_stopped why))
+pub returns-in-Err-clause-stalls : goal.returns-in-Err-clause-stalls
+returns-in-Err-clause-stalls g c =
+    λ past answers s h. subst (λ b. StallsAs b (went.Stopped c.in-Err.stop))
+    (sym c.if-is_stalled.false ∙ c.is_stalled.ensures (resting g.X.Extra.added past answers h.0) s h.1) (stalls_stopped c.in-Err.stop)
 
-pub returns-in_err-answer-clause-alive : goal.returns-in_err-answer-clause-alive
-returns-in_err-answer-clause-alive g c =
-    let p = err_from_is_err_and c.from_residual.result c.from_residual.ensures.1 in
-    subst (λ r. AliveIfWent g.X.Extra.added (said_by r) c.ask.new.body) (sym p.1) tt
+pub returns-in-Err-clause-fails : goal.returns-in-Err-clause-fails
+returns-in-Err-clause-fails g c = λ fails. failing_stopped c.first_call-call.result c.in-Err.stop (c.in-Err.ensures.fails fails)
 
-pub returns-in_err-answer-clause-fails : goal.returns-in_err-answer-clause-fails
-returns-in_err-answer-clause-fails g c =
-    let p = err_from_is_err_and c.from_residual.result c.from_residual.ensures.1 in
-    let why = c.in_err-answer.field-0.0 in
-    rw (p.1, p.2) (λ fails. failing_stopped c.first_call-call.result why (c.in_err-answer.ensures.fails fails))
+pub returns-in-Err-clause-keeps : goal.returns-in-Err-clause-keeps
+returns-in-Err-clause-keeps g c = c.in-Err.ensures.keeps
 
-pub returns-in_err-answer-clause-keeps : goal.returns-in_err-answer-clause-keeps
-returns-in_err-answer-clause-keeps g c = c.in_err-answer.ensures.keeps
+pub returns-in-Err-clause-quiet : goal.returns-in-Err-clause-quiet
+returns-in-Err-clause-quiet g c = still_stopped (g.W.Wire.quiet c.args.wire.now c.ask.new.wire) c.in-Err.stop c.in-Err.ensures.quiet
 
-pub returns-in_err-answer-clause-quiet : goal.returns-in_err-answer-clause-quiet
-returns-in_err-answer-clause-quiet g c =
-    let p = err_from_is_err_and c.from_residual.result c.from_residual.ensures.1 in
-    let why = c.in_err-answer.field-0.0 in
-    rw (p.1, p.2) (still_stopped (g.W.Wire.quiet c.args.wire.now c.ask.new.wire) why c.in_err-answer.ensures.quiet)
-
-pub returns-in_err-answer-clause-later : goal.returns-in_err-answer-clause-later
-returns-in_err-answer-clause-later g c = c.in_err-answer.ensures.stays.1
+pub returns-in-Err-clause-later : goal.returns-in-Err-clause-later
+returns-in-Err-clause-later g c = c.in-Err.ensures.stays.1
 
 -- ---- the call has its answer
--- the turn isn't stalled
-goes : (g : _) (c : In_ok-answer g) (d : Setting g.X.Extra.added) (s : State _) → IsBetween d c.args.body.now s
-    → false ≡ is_stalled g.X.Extra.added.meaning s
-goes g c d s h = sym c.if-is_stalled.false ∙ c.is_stalled.ensures d s h
-
--- the answer was the first of those that were left, and is noted
-got : (g : _) (c : In_ok-answer g)
-    → HasGot c.args.body.now c.first_call-call.result c.first_call-call.ensures.call (goes g c) c.in_ok-answer.answer c.ask.new.body.events
-    (g.W.Wire.seen c.args.wire.now) (g.W.Wire.seen c.ask.new.wire)
-got g c =
-    got_so c.args.body.now c.first_call-call.result c.first_call-call.ensures.call (goes g c) (Ok c.in_ok-answer.answer) c.in_ok-answer.answer
-    c.ask.new.body.events (g.W.Wire.seen c.args.wire.now) (g.W.Wire.seen c.ask.new.wire) refl c.in_ok-answer.ensures.asks
-
-alive : (g : _) (c : In_ok-answer g) → Possible g.X.Extra.added IsBetween (record c.args.body.now { events = c.ask.new.body.events })
-alive g c =
-    got_alive c.args.body.now c.first_call-call.result c.first_call-call.ensures.call (goes g c) c.in_ok-answer.answer c.ask.new.body.events
-    (got g c).is_noted c.requires
-
--- what the turn comes to, if it does with the answer what the machine's turn does
-module _ (g : _) (c : In_ok-answer g) (new : Body _) (said : code.Went) (does : (d : Setting g.X.Extra.added) (s : State _)
-    → IsBetween d (record c.args.body.now { events = c.ask.new.body.events }) s
-    → Turned (at_bar (all_below d (unbooked_in (woken_by c.in_ok-answer.answer) s))) new said
-    (turned_by step_limit g.X.Extra.added.meaning c.in_ok-answer.answer s)) where
-  turned : ComesTo g.X.Extra.added.meaning (g.W.Wire.seen c.args.wire.now) (g.W.Wire.seen c.ask.new.wire)
-      (changed_by g.X.Extra.added c.args.body.now new) said
-      × StallsAs false said × AliveIfWent g.X.Extra.added said new
-  turned =
-      turned_so c.args.body.now c.first_call-call.result c.first_call-call.ensures.call (goes g c) c.in_ok-answer.answer c.ask.new.body.events
-      (g.W.Wire.seen c.args.wire.now) (g.W.Wire.seen c.ask.new.wire) (got g c) new said does (alive g c)
-
-  asked : (past : List Event) (answers : List Entry) (s : State _) → IsAtRest g.X.Extra.added past answers c.args.body.now s
-      → AsksBy c.args.body.now.events.events new.events.events (g.W.Wire.seen c.args.wire.now) (g.W.Wire.seen c.ask.new.wire) said
-  asked past answers s h =
-      turn_asks c.args.body.now c.first_call-call.result c.first_call-call.ensures.call (goes g c) c.in_ok-answer.answer c.ask.new.body.events
-      (g.W.Wire.seen c.args.wire.now) (g.W.Wire.seen c.ask.new.wire) (got g c) new said does past answers s h
-
 pub after-requires-clause-alive : goal.after-requires-clause-alive
 after-requires-clause-alive g c =
-    subst (Possible g.X.Extra.added IsBetween) (sym c.in_ok-answer.ensures.beside) (alive g (goal.at.after-requires-clause-alive g c).In_ok-answer)
+    alive_then g.X.Extra.added _ (laws g) c.args.body.now c.first_call-call.result c.first_call-call.ensures.call
+    (λ d s h. sym c.if-is_stalled.false ∙ c.is_stalled.ensures d s h) c.in-Ok.answer c.ask.new.body c.in-Ok.ensures.beside c.args.wire.now c.ask.new.wire
+    c.in-Ok.ensures.asks c.in-Ok.ensures.stays c.in-Ok.ensures.fails c.in-Ok.ensures.keeps c.in-Ok.ensures.quiet c.requires
 
 pub after-requires-clause-time : goal.after-requires-clause-time
 after-requires-clause-time g c =
-    let shape = c.first_call-call.ensures.shape in
-    let fit = (got g (goal.at.after-requires-clause-time g c).In_ok-answer).is_fit in
-    fits_time shape.0 c.in_ok-answer.answer (subst (λ k. fits k c.in_ok-answer.answer ≡ true) shape.1 fit)
+    time_then g.X.Extra.added _ (laws g) c.args.body.now c.first_call-call.result c.first_call-call.ensures.call
+    (λ d s h. sym c.if-is_stalled.false ∙ c.is_stalled.ensures d s h) c.in-Ok.answer c.ask.new.body c.in-Ok.ensures.beside c.args.wire.now c.ask.new.wire
+    c.in-Ok.ensures.asks c.in-Ok.ensures.stays c.in-Ok.ensures.fails c.in-Ok.ensures.keeps c.in-Ok.ensures.quiet c.first_call-call.ensures.shape
 
--- ---- memory was refused then
+pub returns-in-Ok-clause-comes : goal.returns-in-Ok-clause-comes
+returns-in-Ok-clause-comes g c =
+    (comes_then g.X.Extra.added _ (laws g) c.args.body.now c.first_call-call.result c.first_call-call.ensures.call
+    (λ d s h. sym c.if-is_stalled.false ∙ c.is_stalled.ensures d s h) c.in-Ok.answer c.ask.new.body c.in-Ok.ensures.beside c.args.wire.now c.ask.new.wire
+    c.in-Ok.ensures.asks c.in-Ok.ensures.stays c.in-Ok.ensures.fails c.in-Ok.ensures.keeps c.in-Ok.ensures.quiet
+    c.after.new.body c.after.new.wire c.after.result c.after.ensures.comes c.requires).0
 
-pub returns-in_err-after-clause-comes : goal.returns-in_err-after-clause-comes
-returns-in_err-after-clause-comes g c =
-    let p = err_from_is_err_and c.from_residual-in_err-after.result c.from_residual-in_err-after.ensures.1 in
-    rw (p.1, p.2) tt
-
-pub returns-in_err-after-clause-stalls : goal.returns-in_err-after-clause-stalls
-returns-in_err-after-clause-stalls g c =
-    let p = err_from_is_err_and c.from_residual-in_err-after.result c.from_residual-in_err-after.ensures.1 in
-    rw (p.1, p.2) (λ past answers s h. tt)
-
-pub returns-in_err-after-clause-asked : goal.returns-in_err-after-clause-asked
-returns-in_err-after-clause-asked g c =
-    let p = err_from_is_err_and c.from_residual-in_err-after.result c.from_residual-in_err-after.ensures.1 in
-    rw (p.1, p.2) (λ past answers s h. had_once c.first_call-call.result c.in_ok-answer.answer (g.W.Wire.seen c.args.wire.now)
-    (g.W.Wire.seen c.ask.new.wire) (got g (goal.at.returns-in_err-after-clause-asked g c).In_ok-answer).is_asked)
-
-pub returns-in_err-after-clause-alive : goal.returns-in_err-after-clause-alive
-returns-in_err-after-clause-alive g c =
-    let p = err_from_is_err_and c.from_residual-in_err-after.result c.from_residual-in_err-after.ensures.1 in
-    subst (λ r. AliveIfWent g.X.Extra.added (said_by r) c.after.new.body) (sym p.1) tt
-
-pub returns-in_err-after-clause-fails : goal.returns-in_err-after-clause-fails
-returns-in_err-after-clause-fails g c =
-    let p = err_from_is_err_and c.from_residual-in_err-after.result c.from_residual-in_err-after.ensures.1 in
-    rw (p.1, p.2) (λ fails. tt)
-
-pub returns-in_err-after-clause-quiet : goal.returns-in_err-after-clause-quiet
-returns-in_err-after-clause-quiet g c =
-    let p = err_from_is_err_and c.from_residual-in_err-after.result c.from_residual-in_err-after.ensures.1 in
-    rw (p.1, p.2) c.in_ok-answer.ensures.quiet
-
-pub returns-in_err-after-clause-keeps : goal.returns-in_err-after-clause-keeps
-returns-in_err-after-clause-keeps g c = c.in_ok-answer.ensures.keeps
-
-pub returns-in_err-after-clause-later : goal.returns-in_err-after-clause-later
-returns-in_err-after-clause-later g c = c.in_ok-answer.ensures.stays.1
-
--- ---- the turn is made
-
-pub returns-clause-comes : goal.returns-clause-comes
-returns-clause-comes g c =
-    (turned g (goal.at.returns-clause-comes g c).In_ok-answer c.after.new.body c.in_ok-after.field-0
-    (λ d s h. c.in_ok-after.ensures d s (subst (λ b. IsBetween d b s) (sym c.in_ok-answer.ensures.beside) h))).0
-
-pub returns-clause-asked : goal.returns-clause-asked
-returns-clause-asked g c =
-    asked g (goal.at.returns-clause-asked g c).In_ok-answer c.after.new.body c.in_ok-after.field-0
-    (λ d s h. c.in_ok-after.ensures d s (subst (λ b. IsBetween d b s) (sym c.in_ok-answer.ensures.beside) h))
-
-pub returns-clause-stalls : goal.returns-clause-stalls
-returns-clause-stalls g c =
-    λ past answers s h. subst (λ b. StallsAs b c.in_ok-after.field-0)
+pub returns-in-Ok-clause-stalls : goal.returns-in-Ok-clause-stalls
+returns-in-Ok-clause-stalls g c =
+    λ past answers s h. subst (λ b. StallsAs b (said_by c.after.result))
     (sym c.if-is_stalled.false ∙ c.is_stalled.ensures (resting g.X.Extra.added past answers h.0) s h.1)
-    (turned g (goal.at.returns-clause-stalls g c).In_ok-answer c.after.new.body c.in_ok-after.field-0
-    (λ d s h. c.in_ok-after.ensures d s (subst (λ b. IsBetween d b s) (sym c.in_ok-answer.ensures.beside) h))).1
+    (comes_then g.X.Extra.added _ (laws g) c.args.body.now c.first_call-call.result c.first_call-call.ensures.call
+    (λ d s h. sym c.if-is_stalled.false ∙ c.is_stalled.ensures d s h) c.in-Ok.answer c.ask.new.body c.in-Ok.ensures.beside c.args.wire.now c.ask.new.wire
+    c.in-Ok.ensures.asks c.in-Ok.ensures.stays c.in-Ok.ensures.fails c.in-Ok.ensures.keeps c.in-Ok.ensures.quiet
+    c.after.new.body c.after.new.wire c.after.result c.after.ensures.comes c.requires).1.0
 
-pub returns-clause-alive : goal.returns-clause-alive
-returns-clause-alive g c =
-    (turned g (goal.at.returns-clause-alive g c).In_ok-answer c.after.new.body c.in_ok-after.field-0
-    (λ d s h. c.in_ok-after.ensures d s (subst (λ b. IsBetween d b s) (sym c.in_ok-answer.ensures.beside) h))).2
+pub returns-in-Ok-clause-alive : goal.returns-in-Ok-clause-alive
+returns-in-Ok-clause-alive g c =
+    (comes_then g.X.Extra.added _ (laws g) c.args.body.now c.first_call-call.result c.first_call-call.ensures.call
+    (λ d s h. sym c.if-is_stalled.false ∙ c.is_stalled.ensures d s h) c.in-Ok.answer c.ask.new.body c.in-Ok.ensures.beside c.args.wire.now c.ask.new.wire
+    c.in-Ok.ensures.asks c.in-Ok.ensures.stays c.in-Ok.ensures.fails c.in-Ok.ensures.keeps c.in-Ok.ensures.quiet
+    c.after.new.body c.after.new.wire c.after.result c.after.ensures.comes c.requires).1.1
 
-pub returns-clause-fails : goal.returns-clause-fails
-returns-clause-fails g c = λ fails. absurd (failing_answered c.first_call-call.result c.in_ok-answer.answer (c.in_ok-answer.ensures.fails fails))
+pub returns-in-Ok-clause-asked : goal.returns-in-Ok-clause-asked
+returns-in-Ok-clause-asked g c =
+    asked_then g.X.Extra.added _ (laws g) c.args.body.now c.first_call-call.result c.first_call-call.ensures.call
+    (λ d s h. sym c.if-is_stalled.false ∙ c.is_stalled.ensures d s h) c.in-Ok.answer c.ask.new.body c.in-Ok.ensures.beside c.args.wire.now c.ask.new.wire
+    c.in-Ok.ensures.asks c.in-Ok.ensures.stays c.in-Ok.ensures.fails c.in-Ok.ensures.keeps c.in-Ok.ensures.quiet
+    c.after.new.body c.after.new.wire c.after.result c.after.ensures.comes c.after.ensures.unasked
 
-pub returns-clause-keeps : goal.returns-clause-keeps
-returns-clause-keeps g c =
-    c.in_ok-answer.ensures.keeps
+pub returns-in-Ok-clause-fails : goal.returns-in-Ok-clause-fails
+returns-in-Ok-clause-fails g c = λ fails. absurd (failing_answered c.first_call-call.result c.in-Ok.answer (c.in-Ok.ensures.fails fails))
 
-pub returns-clause-quiet : goal.returns-clause-quiet
-returns-clause-quiet g c =
-    still_after (g.W.Wire.quiet c.args.wire.now c.ask.new.wire) c.in_ok-after.field-0 c.in_ok-answer.ensures.quiet
+pub returns-in-Ok-clause-keeps : goal.returns-in-Ok-clause-keeps
+returns-in-Ok-clause-keeps g c =
+    g.met.W.Wire.keeps_on c.args.wire.now c.ask.new.wire c.after.new.wire c.in-Ok.ensures.keeps c.after.ensures.comes.exchanged.keeps
 
-pub returns-clause-later : goal.returns-clause-later
-returns-clause-later g c =
-    c.in_ok-answer.ensures.stays.1
+pub returns-in-Ok-clause-quiet : goal.returns-in-Ok-clause-quiet
+returns-in-Ok-clause-quiet g c =
+    still_then g.X.Extra.added _ (laws g) c.args.body.now c.first_call-call.result c.first_call-call.ensures.call
+    (λ d s h. sym c.if-is_stalled.false ∙ c.is_stalled.ensures d s h) c.in-Ok.answer c.ask.new.body c.in-Ok.ensures.beside c.args.wire.now c.ask.new.wire
+    c.in-Ok.ensures.asks c.in-Ok.ensures.stays c.in-Ok.ensures.fails c.in-Ok.ensures.keeps c.in-Ok.ensures.quiet
+    c.after.new.body c.after.new.wire c.after.result c.after.ensures.comes
+
+pub returns-in-Ok-clause-later : goal.returns-in-Ok-clause-later
+returns-in-Ok-clause-later g c =
+    let first = c.in-Ok.ensures.stays.1 in
+    let then_ = c.after.ensures.comes.exchanged.stays.1 in
+    omega (arith, first, then_)

@@ -3,7 +3,13 @@ use Rattle.std.proofs.lemmas.Int.{to_z-of_z}
 use Rattle.std.proofs.lemmas.Result.{IfOk-weaker}
 use Rattle.model_says.specs.Requests.{bad_argument}
 use Rattle.model_machine.specs.Arguments.{as_list}
-use Rattle.aio_serve.proofs.Adding.{Asks, asks_answer, asks_end, asks_served}
+use Rattle.model_value.specs.declared.request.Request.TheVariants as request
+use Rattle.aio_exchange.proofs.Among.{on_none}
+use Rattle.aio_exchange.specs.Outside.{IsOutside, outside_of, ported}
+use Rattle.aio_body.proofs.Asking.{comes_starved}
+use Rattle.aio_body.specs.Asking.{Comes, serving}
+use Rattle.aio_serve.proofs.Adding.{Asks, asks_answer, asks_go, asks_served, serves_alone}
+use Rattle.aio_serve.proofs.added.extra.Given.{Over}
 use Rattle.aio_serve.proofs.Meaning.{arguments_refused, code_refused}
 use Rattle.aio_serve.proofs.Saying.{raises_so}
 use Rattle.aio_serve.proofs.added.extra.Goals as goal
@@ -16,22 +22,38 @@ some_of : {A : Type 0} (o : Option A) → is_some o ≡ true → (x : A) × (o �
 some_of None e = absurd (cc)
 some_of (Some x) e = (x, refl)
 
-pub returns-in_default : goal.returns-in_default
-returns-in_default g c =
+laws : (g : Over) → IsOutside (outside_of g.W.Wire.seen g.W.Wire.fails g.W.Wire.keeps g.W.Wire.quiet)
+laws g = record {
+  keeps_same = g.met.W.Wire.keeps_same;
+  keeps_on = g.met.W.Wire.keeps_on;
+  quiet_same = g.met.W.Wire.quiet_same;
+  quiet_on = g.met.W.Wire.quiet_on;
+}
+
+pub returns-in_default-clause-comes : goal.returns-in_default-clause-comes
+returns-in_default-clause-comes g c =
     let task = c.args.task in
-    IfOk-weaker c.bad_argument.result _ _ (λ said e at s h.
+    let asked = request.Extra c.args.code.now c.args.arguments.now in
+    subst (Comes _ (serving g.X.Extra.added task asked c.args.body.now c.args.body.now) (ported c.args.wire.now c.args.body.now.events)
+    (ported c.args.wire.now c.args.body.now.events)) (sym c.or_stop.ensures)
+    (serves_alone g.X.Extra.added _ (laws g) task asked c.args.body.now c.args.wire.now c.args.body.now c.bad_argument.result
+    (IfOk-weaker c.bad_argument.result _ _ (λ said e at s h.
     raises_so task at c.args.body.now s said _ bad_argument e
     (code_refused g.X.Extra.added.meaning task s c.args.code.now c.args.arguments.now (sym c.as_int.ensures ∙ c.in_default.is)) h.going.in_step)
-    c.bad_argument.ensures
+    c.bad_argument.ensures))
 
-pub returns-then-not-is_list : goal.returns-then-not-is_list
-returns-then-not-is_list g c =
+pub returns-then-not-is_list-clause-comes : goal.returns-then-not-is_list-clause-comes
+returns-then-not-is_list-clause-comes g c =
     let task = c.args.task in
-    IfOk-weaker c.bad_argument-then-not-is_list.result _ _ (λ said e at s h.
+    let asked = request.Extra c.args.code.now c.args.arguments.now in
+    subst (Comes _ (serving g.X.Extra.added task asked c.args.body.now c.args.body.now) (ported c.args.wire.now c.args.body.now.events)
+    (ported c.args.wire.now c.args.body.now.events)) (sym c.or_stop-then-not-is_list.ensures)
+    (serves_alone g.X.Extra.added _ (laws g) task asked c.args.body.now c.args.wire.now c.args.body.now c.bad_argument-then-not-is_list.result
+    (IfOk-weaker c.bad_argument-then-not-is_list.result _ _ (λ said e at s h.
     raises_so task at c.args.body.now s said _ bad_argument e
     (arguments_refused g.X.Extra.added.meaning task s c.args.code.now c.args.arguments.now c.in-Some.code (sym c.as_int.ensures ∙ c.in-Some.is)
     (none_of (as_list c.args.arguments.now) (sym c.is_list.ensures ∙ c.if-not-is_list.true))) h.going.in_step)
-    c.bad_argument-then-not-is_list.ensures
+    c.bad_argument-then-not-is_list.ensures))
 
 pub ask-requires-clause-serves : goal.ask-requires-clause-serves
 ask-requires-clause-serves g c = asks_served c.args.task c.args.body.now c.args.code.now c.args.arguments.now c.requires
@@ -41,16 +63,21 @@ answer-requires g c =
     let fits : SFits w64 c.in-Some.code = search rules in
     let items = some_of (as_list c.args.arguments.now) (sym c.is_list.ensures ∙ c.if-not-is_list.false) in
     asks_answer g.X.Extra.added c.args.task c.args.body.now c.args.code.now c.args.arguments.now c.in-Some.code items.0
-    (sym c.as_int.ensures ∙ c.in-Some.is) items.1 c.ask.new.parts c.ask.new.self c.in_ok-asked.asked
-    (subst (Asks g.X.Extra.added c.args.task c.args.body.now c.args.arguments.now c.ask.new.parts c.ask.new.self c.in_ok-asked.asked)
-    (to_z-of_z w64 c.in-Some.code fits) c.in_ok-asked.ensures) c.requires
+    (sym c.as_int.ensures ∙ c.in-Some.is) items.1 c.ask.new.parts c.ask.new.self c.in-Ok.asked
+    (subst (Asks g.X.Extra.added c.args.task c.args.body.now c.args.arguments.now c.ask.new.parts c.ask.new.self c.in-Ok.asked)
+    (to_z-of_z w64 c.in-Some.code fits) c.in-Ok.ensures) c.requires
 
-pub returns : goal.returns
-returns g c =
+pub returns-in-Ok-clause-comes : goal.returns-in-Ok-clause-comes
+returns-in-Ok-clause-comes g c =
     let fits : SFits w64 c.in-Some.code = search rules in
     let items = some_of (as_list c.args.arguments.now) (sym c.is_list.ensures ∙ c.if-not-is_list.false) in
-    IfOk-weaker c.answer.result _ _ (λ said does.
-    asks_end g.X.Extra.added c.args.task c.args.body.now c.args.code.now c.args.arguments.now c.in-Some.code items.0
-    (sym c.as_int.ensures ∙ c.in-Some.is) items.1 c.ask.new.parts c.ask.new.self c.in_ok-asked.asked
-    (subst (Asks g.X.Extra.added c.args.task c.args.body.now c.args.arguments.now c.ask.new.parts c.ask.new.self c.in_ok-asked.asked)
-    (to_z-of_z w64 c.in-Some.code fits) c.in_ok-asked.ensures) c.answer.new.body said does) c.answer.ensures
+    asks_go g.X.Extra.added c.args.task c.args.body.now c.args.code.now c.args.arguments.now c.in-Some.code items.0
+    (sym c.as_int.ensures ∙ c.in-Some.is) items.1 c.ask.new.parts c.ask.new.self c.in-Ok.asked
+    (subst (Asks g.X.Extra.added c.args.task c.args.body.now c.args.arguments.now c.ask.new.parts c.ask.new.self c.in-Ok.asked)
+    (to_z-of_z w64 c.in-Some.code fits) c.in-Ok.ensures) _ (laws g) c.answer.new.body c.args.wire.now c.answer.new.wire c.answer.result
+    c.answer.ensures.comes
+
+pub returns-in-Err-clause-comes : goal.returns-in-Err-clause-comes
+returns-in-Err-clause-comes g c =
+    comes_starved _ (laws g) (serving g.X.Extra.added c.args.task (request.Extra c.args.code.now c.args.arguments.now) c.args.body.now _) _
+    (ported c.args.wire.now c.args.body.now.events) (ported c.args.wire.now c.args.body.now.events) _ refl (on_none _ (laws g) c.args.wire.now)

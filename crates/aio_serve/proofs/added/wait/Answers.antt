@@ -21,8 +21,8 @@ suspend-suspension-requires-clause-pending g c =
 pub stand-requires : goal.stand-requires
 stand-requires g c = answers_there c.args.task (Wait c.args.on c.args.key) c.args.body.now c.requires
 
-pub returns-in_default : goal.returns-in_default
-returns-in_default g c at s it h =
+pub returns-in_default-clause-answers : goal.returns-in_default-clause-answers
+returns-in_default-clause-answers g c at s it h =
     let body = c.args.body.now in
     waits_as c.args.task at body s (λ k. Says c.args.task at c.stand.new.self Rests (answered g.X.Extra.added.meaning c.args.task k s)) c.args.on
     c.args.key it h
@@ -36,8 +36,8 @@ wake-requires-clause-runs g c = ap is_some (answers_run c.args.task (Wait c.args
 pub wake-requires-clause-serves : goal.wake-requires-clause-serves
 wake-requires-clause-serves g c = answers_served c.args.task (Wait c.args.on c.args.key) c.args.body.now c.requires
 
-pub returns : goal.returns
-returns g c at s it h =
+pub returns-clause-answers : goal.returns-clause-answers
+returns-clause-answers g c at s it h =
     let body = c.args.body.now in
     waits_as c.args.task at body s
     (λ k. AnswersAgain c.args.task c.in_ok-asked.asked at (record body { parts = c.wake.new.parts; extra = c.wake.new.self })

@@ -1,8 +1,20 @@
-use Rattle.std.proofs.Common.{ap}
+use Rattle.std.proofs.Common.{ap, refl}
 use Rattle.std.specs.Prelude.{is_some}
-use Rattle.std.proofs.lemmas.Result.{IfOk-weaker}
-use Rattle.aio_serve.proofs.Adding.{decides_run, decides_served, wakes_answer, wakes_end}
+use Rattle.aio_exchange.proofs.Among.{on_none}
+use Rattle.aio_exchange.specs.Outside.{IsOutside, outside_of, ported}
+use Rattle.aio_body.proofs.Asking.{comes_starved}
+use Rattle.aio_serve.specs.Adding.{waking}
+use Rattle.aio_serve.proofs.Adding.{decides_run, decides_served, wakes_answer, wakes_go}
+use Rattle.aio_serve.proofs.added.wake.Given.{Over}
 use Rattle.aio_serve.proofs.added.wake.Goals as goal
+
+laws : (g : Over) → IsOutside (outside_of g.W.Wire.seen g.W.Wire.fails g.W.Wire.keeps g.W.Wire.quiet)
+laws g = record {
+  keeps_same = g.met.W.Wire.keeps_same;
+  keeps_on = g.met.W.Wire.keeps_on;
+  quiet_same = g.met.W.Wire.quiet_same;
+  quiet_on = g.met.W.Wire.quiet_on;
+}
 
 pub wake-requires-clause-runs : goal.wake-requires-clause-runs
 wake-requires-clause-runs g c = ap is_some (decides_run c.args.task c.args.key c.args.body.now c.requires)
@@ -12,11 +24,14 @@ wake-requires-clause-serves g c = decides_served c.args.task c.args.key c.args.b
 
 pub answer-requires : goal.answer-requires
 answer-requires g c =
-    wakes_answer c.args.task c.args.key c.args.body.now c.args.input c.wake.new.parts c.wake.new.self c.in_ok-asked.asked c.in_ok-asked.ensures
-    c.requires
+    wakes_answer c.args.task c.args.key c.args.body.now c.args.input c.wake.new.parts c.wake.new.self c.in-Ok.asked c.in-Ok.ensures c.requires
 
-pub returns : goal.returns
-returns g c =
-    IfOk-weaker c.answer.result _ _ (λ said does.
-    wakes_end c.args.task c.args.key c.args.body.now c.args.input c.wake.new.parts c.wake.new.self c.in_ok-asked.asked c.in_ok-asked.ensures
-    c.answer.new.body said does) c.answer.ensures
+pub returns-in-Ok-clause-comes : goal.returns-in-Ok-clause-comes
+returns-in-Ok-clause-comes g c =
+    wakes_go c.args.task c.args.key c.args.body.now c.args.input c.wake.new.parts c.wake.new.self c.in-Ok.asked c.in-Ok.ensures
+    _ (laws g) c.answer.new.body c.args.wire.now c.answer.new.wire c.answer.result c.answer.ensures.comes
+
+pub returns-in-Err-clause-comes : goal.returns-in-Err-clause-comes
+returns-in-Err-clause-comes g c =
+    comes_starved _ (laws g) (waking g.X.Extra.added c.args.task c.args.key c.args.input c.args.body.now _) _
+    (ported c.args.wire.now c.args.body.now.events) (ported c.args.wire.now c.args.body.now.events) _ refl (on_none _ (laws g) c.args.wire.now)

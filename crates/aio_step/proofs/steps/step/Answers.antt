@@ -1,10 +1,19 @@
-use Rattle.std.proofs.Common.{subst}
-use Rattle.std.proofs.lemmas.Result.{IfOk-weaker}
 use Rattle.model_value.specs.declared.input.Input.TheVariants.{Send, Throw}
-use Rattle.aio_step.proofs.First.{Decides, answers_first, raises_first}
+use Rattle.aio_exchange.specs.Outside.{IsOutside, outside_of}
+use Rattle.aio_body.specs.declared.reply.RequestReply.TheVariants.{Answers, Raises}
+use Rattle.aio_step.proofs.First.{answers_first, raises_first}
 use Rattle.aio_step.proofs.Ready.{decide_of}
-use Rattle.aio_step.proofs.Whole.{serve_of, serves_on, waits_on, waits_there}
+use Rattle.aio_step.proofs.Whole.{decides_stop, serve_of, serves_on, waits_on, waits_there}
+use Rattle.aio_step.proofs.steps.step.Given.{Over}
 use Rattle.aio_step.proofs.steps.step.Goals as goal
+
+laws : (g : Over) → IsOutside (outside_of g.W.Wire.seen g.W.Wire.fails g.W.Wire.keeps g.W.Wire.quiet)
+laws g = record {
+  keeps_same = g.met.W.Wire.keeps_same;
+  keeps_on = g.met.W.Wire.keeps_on;
+  quiet_same = g.met.W.Wire.quiet_same;
+  quiet_on = g.met.W.Wire.quiet_on;
+}
 
 pub begin-coroutine-requires : goal.begin-coroutine-requires
 begin-coroutine-requires g c = c.requires.called
@@ -15,56 +24,46 @@ decide-requires g c =
 
 pub serve-requires : goal.serve-requires
 serve-requires g c =
-    serve_of c.args.task c.args.input c.args.body.now c.requires.made c.begin-coroutine.result c.begin-coroutine.new.body c.begin-coroutine.ensures
-    c.decide.new.body
-    (Send c.in-Answers.value) (λ setting s h.
-    answers_first c.args.task c.args.input setting c.args.body.now s h c.requires.made c.begin-coroutine.result c.begin-coroutine.new.body
-    (c.begin-coroutine.ensures setting s h) c.decide.new.body c.in-Answers.value
-    (subst (Decides g.X.Extra.added c.args.task c.begin-coroutine.result c.begin-coroutine.new.body c.decide.new.body) c.in-Answers.is c.in_ok-value.ensures))
-    c.requires.called
+    serve_of g.X.Extra.added _ (laws g) c.args.task c.args.input c.args.body.now c.requires.made c.begin-coroutine.result c.begin-coroutine.new.body
+    c.begin-coroutine.ensures c.args.wire.now c.decide.new.body c.decide.new.wire (Answers c.in-Ok-Answers.value) (Send c.in-Ok-Answers.value)
+    (λ d e s h b says. answers_first c.args.task c.args.input d c.args.body.now s h c.requires.made c.begin-coroutine.result c.begin-coroutine.new.body b e
+    c.decide.new.body c.in-Ok-Answers.value says) (rw c.in-Ok-Answers.field-0-is at c.in-Ok-Answers.ensures.comes) c.requires.called
 
-pub serve-requires-in-Raises : goal.serve-requires-in-Raises
-serve-requires-in-Raises g c =
-    serve_of c.args.task c.args.input c.args.body.now c.requires.made c.begin-coroutine.result c.begin-coroutine.new.body c.begin-coroutine.ensures
-    c.decide.new.body
-    (Throw c.in-Raises.fault) (λ setting s h.
-    raises_first c.args.task c.args.input setting c.args.body.now s h c.requires.made c.begin-coroutine.result c.begin-coroutine.new.body
-    (c.begin-coroutine.ensures setting s h) c.decide.new.body c.in-Raises.fault
-    (subst (Decides g.X.Extra.added c.args.task c.begin-coroutine.result c.begin-coroutine.new.body c.decide.new.body) c.in-Raises.is c.in_ok-value.ensures))
-    c.requires.called
+pub serve-requires-in-Ok-Raises : goal.serve-requires-in-Ok-Raises
+serve-requires-in-Ok-Raises g c =
+    serve_of g.X.Extra.added _ (laws g) c.args.task c.args.input c.args.body.now c.requires.made c.begin-coroutine.result c.begin-coroutine.new.body
+    c.begin-coroutine.ensures c.args.wire.now c.decide.new.body c.decide.new.wire (Raises c.in-Ok-Raises.fault) (Throw c.in-Ok-Raises.fault)
+    (λ d e s h b says. raises_first c.args.task c.args.input d c.args.body.now s h c.requires.made c.begin-coroutine.result c.begin-coroutine.new.body b e
+    c.decide.new.body c.in-Ok-Raises.fault says) (rw c.in-Ok-Raises.field-0-is at c.in-Ok-Raises.ensures.comes) c.requires.called
 
 pub put_back-requires : goal.put_back-requires
 put_back-requires g c =
-    waits_there c.args.task c.args.input c.args.body.now c.requires.made c.begin-coroutine.result c.begin-coroutine.new.body c.begin-coroutine.ensures
-    c.decide.new.body
-    (subst (Decides g.X.Extra.added c.args.task c.begin-coroutine.result c.begin-coroutine.new.body c.decide.new.body) c.in-Rests.is
-    c.in_ok-value.ensures) c.requires.called
+    waits_there g.X.Extra.added _ (laws g) c.args.task c.args.input c.args.body.now c.requires.made c.begin-coroutine.result c.begin-coroutine.new.body
+    c.begin-coroutine.ensures c.args.wire.now c.decide.new.body c.decide.new.wire (rw c.in-Ok-Rests.field-0-is at c.in-Ok-Rests.ensures.comes) c.requires.called
 
-pub returns-in-Answers : goal.returns-in-Answers
-returns-in-Answers g c =
-    IfOk-weaker c.serve.result _ _ (λ it served.
-    serves_on c.args.task c.args.input c.args.body.now c.requires.made c.begin-coroutine.result c.begin-coroutine.new.body c.begin-coroutine.ensures
-    c.decide.new.body
-    (Send c.in-Answers.value) (λ setting s h.
-    answers_first c.args.task c.args.input setting c.args.body.now s h c.requires.made c.begin-coroutine.result c.begin-coroutine.new.body
-    (c.begin-coroutine.ensures setting s h) c.decide.new.body c.in-Answers.value
-    (subst (Decides g.X.Extra.added c.args.task c.begin-coroutine.result c.begin-coroutine.new.body c.decide.new.body) c.in-Answers.is c.in_ok-value.ensures))
-    c.serve.new.body it served) c.serve.ensures
+pub returns-in-Ok-Answers-clause-comes : goal.returns-in-Ok-Answers-clause-comes
+returns-in-Ok-Answers-clause-comes g c =
+    serves_on g.X.Extra.added _ (laws g) c.args.task c.args.input c.args.body.now c.requires.made c.begin-coroutine.result c.begin-coroutine.new.body
+    c.begin-coroutine.ensures c.args.wire.now c.decide.new.body c.decide.new.wire (Answers c.in-Ok-Answers.value) (Send c.in-Ok-Answers.value)
+    (λ d e s h b says. answers_first c.args.task c.args.input d c.args.body.now s h c.requires.made c.begin-coroutine.result c.begin-coroutine.new.body b e
+    c.decide.new.body c.in-Ok-Answers.value says) (rw c.in-Ok-Answers.field-0-is at c.in-Ok-Answers.ensures.comes)
+    c.serve.new.body c.serve.new.wire c.serve.result c.serve.ensures.comes
 
-pub returns-in-Raises : goal.returns-in-Raises
-returns-in-Raises g c =
-    IfOk-weaker c.serve-in-Raises.result _ _ (λ it served.
-    serves_on c.args.task c.args.input c.args.body.now c.requires.made c.begin-coroutine.result c.begin-coroutine.new.body c.begin-coroutine.ensures
-    c.decide.new.body
-    (Throw c.in-Raises.fault) (λ setting s h.
-    raises_first c.args.task c.args.input setting c.args.body.now s h c.requires.made c.begin-coroutine.result c.begin-coroutine.new.body
-    (c.begin-coroutine.ensures setting s h) c.decide.new.body c.in-Raises.fault
-    (subst (Decides g.X.Extra.added c.args.task c.begin-coroutine.result c.begin-coroutine.new.body c.decide.new.body) c.in-Raises.is c.in_ok-value.ensures))
-    c.serve-in-Raises.new.body it served) c.serve-in-Raises.ensures
+pub returns-in-Ok-Raises-clause-comes : goal.returns-in-Ok-Raises-clause-comes
+returns-in-Ok-Raises-clause-comes g c =
+    serves_on g.X.Extra.added _ (laws g) c.args.task c.args.input c.args.body.now c.requires.made c.begin-coroutine.result c.begin-coroutine.new.body
+    c.begin-coroutine.ensures c.args.wire.now c.decide.new.body c.decide.new.wire (Raises c.in-Ok-Raises.fault) (Throw c.in-Ok-Raises.fault)
+    (λ d e s h b says. raises_first c.args.task c.args.input d c.args.body.now s h c.requires.made c.begin-coroutine.result c.begin-coroutine.new.body b e
+    c.decide.new.body c.in-Ok-Raises.fault says) (rw c.in-Ok-Raises.field-0-is at c.in-Ok-Raises.ensures.comes)
+    c.serve-in-Ok-Raises.new.body c.serve-in-Ok-Raises.new.wire c.serve-in-Ok-Raises.result c.serve-in-Ok-Raises.ensures.comes
 
-pub returns-in-Rests : goal.returns-in-Rests
-returns-in-Rests g c =
-    waits_on c.args.task c.args.input c.args.body.now c.requires.made c.begin-coroutine.result c.begin-coroutine.new.body c.begin-coroutine.ensures
-    c.decide.new.body
-    (subst (Decides g.X.Extra.added c.args.task c.begin-coroutine.result c.begin-coroutine.new.body c.decide.new.body) c.in-Rests.is c.in_ok-value.ensures)
+pub returns-in-Ok-Rests-clause-comes : goal.returns-in-Ok-Rests-clause-comes
+returns-in-Ok-Rests-clause-comes g c =
+    waits_on g.X.Extra.added _ (laws g) c.args.task c.args.input c.args.body.now c.requires.made c.begin-coroutine.result c.begin-coroutine.new.body
+    c.begin-coroutine.ensures c.args.wire.now c.decide.new.body c.decide.new.wire (rw c.in-Ok-Rests.field-0-is at c.in-Ok-Rests.ensures.comes)
     c.put_back.new.self c.put_back.ensures.beside c.put_back.ensures.slots
+
+pub returns-in-Err-clause-comes : goal.returns-in-Err-clause-comes
+returns-in-Err-clause-comes g c =
+    decides_stop g.X.Extra.added _ (laws g) c.args.task c.args.input c.args.body.now c.requires.made c.begin-coroutine.result c.begin-coroutine.new.body
+    c.begin-coroutine.ensures c.args.wire.now c.decide.new.body c.decide.new.wire c.in-Err.stop c.in-Err.ensures.comes

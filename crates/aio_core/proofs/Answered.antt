@@ -1,0 +1,69 @@
+-- A turn whose select has its answer.
+use Rattle.std.proofs.Common.{◌≡◌, ◌⊎◌, false, true, List, Result, Ok, refl, sym, subst}
+use Rattle.model_wire.specs.Call.{Answer, Call}
+use Rattle.model_wire.specs.Fits.{fits}
+use Rattle.model_wire.specs.Journal.{Entry}
+use Rattle.model_wire.specs.Event.{Event}
+use Rattle.model_machine.specs.State.{State}
+use Rattle.model_machine.specs.Turn.{call_of, is_stalled}
+use Rattle.aio_wire.specs.Port.{AlwaysFails, Exchanges, StopsShort, UnlessStopped}
+use Rattle.aio_wire.specs.Replied.{MayHaveReplied, Replied, Stays}
+use Rattle.aio_wire.specs.declared.stop.Stop.{Stop}
+use Rattle.aio_wire.specs.declared.wire.Reply.{Reply}
+use Rattle.aio_exchange.proofs.OneAsk.{asks_one}
+use Rattle.aio_exchange.specs.Exchanged.{AsksOne}
+use Rattle.aio_exchange.specs.Outside.{IsOutside, Outside, ported}
+use Rattle.aio_extra.specs.Added.{Added}
+use Rattle.aio_body.specs.declared.body.Body.{Body}
+use Rattle.aio_body.specs.Asking.{Comes}
+use Rattle.aio_body.specs.Stands.{IsBetween, Possible, Setting}
+use Rattle.aio_core.specs.declared.went.Went as code
+use Rattle.aio_core.specs.Turning.{AliveIfWent, AsksBy, ComesTo, IsAtRest, IsSelect, IsTime, StallsAs, UnlessFailed, changed_by, said_by, turning, turning_by}
+use Rattle.aio_core.proofs.Asking.{HasGot, answered_so, got_alive, got_so}
+use Rattle.aio_core.proofs.AskedByTurn.{turn_asks}
+use Rattle.aio_core.proofs.Coming.{comes_to, still_so}
+use Rattle.aio_core.proofs.Waking.{fits_time}
+
+module _ {X W : Type 0} (a : Added X) (o : Outside W) (laws : IsOutside o) (old : Body X) (call : Call)
+    (is : (c : Setting a) (s : State a.Kept) → IsBetween c old s → call ≡ call_of a.meaning s)
+    (goes : (c : Setting a) (s : State a.Kept) → IsBetween c old s → false ≡ is_stalled a.meaning s)
+    (answer : Answer) (mid : Body X) (beside : mid ≡ record old { events = mid.events }) (was at : W)
+    (asks : ((said : Reply) × Exchanges call old.events mid.events (Ok answer) said × Replied call (o.seen was) (o.seen at) said)
+    ⊎ (StopsShort old.events mid.events (Ok answer) × MayHaveReplied call (o.seen was) (o.seen at)))
+    (stays : Stays (o.seen was) (o.seen at)) (fails : o.fails was → AlwaysFails call (Ok answer)) (keeps : o.keeps was at)
+    (quiet : UnlessStopped (o.quiet was at) (Ok answer)) where
+  got : HasGot old call is goes answer mid.events (o.seen was) (o.seen at)
+  got = got_so old call is goes (Ok answer) answer mid.events (o.seen was) (o.seen at) refl asks
+
+  one : AsksOne o call (ported was old.events) (ported at mid.events) (Ok answer)
+  one = asks_one o call (ported was old.events) (ported at mid.events) stays keeps (Ok answer) asks fails quiet
+
+  -- what the rest of the turn may rely on
+  pub alive_then : Possible a IsBetween old → Possible a IsBetween mid
+  alive_then alive = subst (Possible a IsBetween) (sym beside) (got_alive old call is goes answer mid.events got.is_noted alive)
+
+  pub time_then : IsSelect call → IsTime answer
+  time_then shape = fits_time shape.0 answer (subst (λ k. fits k answer ≡ true) shape.1 got.is_fit)
+
+  -- what it comes to then
+  module _ (new : Body X) (last : W) (result : Result code.Went Stop)
+      (turns : Comes o (turning_by a answer mid new) (ported at mid.events) (ported last new.events) result) where
+    beside_so : Comes o (turning_by a answer (record old { events = mid.events }) new) (ported at mid.events) (ported last new.events) result
+    beside_so = subst (λ (m : Body X). Comes o (turning_by a answer m new) (ported at mid.events) (ported last new.events) result) beside turns
+
+    pub whole : Comes o (turning a old new) (ported was old.events) (ported last new.events) result
+    whole = answered_so old call is goes o laws was at answer mid.events one new last result beside_so
+
+    pub comes_then : Possible a IsBetween old → ComesTo a.meaning (o.seen was) (o.seen last) (changed_by a old new) (said_by result)
+        × (StallsAs false (said_by result) × AliveIfWent a (said_by result) new)
+    comes_then alive = comes_to a o old new was last result whole alive
+
+    -- so far it asked no more
+    pub asked_then : last ≡ at → (past : List Event) (answers : List Entry) (s : State a.Kept) → IsAtRest a past answers old s
+        → AsksBy old.events.events new.events.events (o.seen was) (o.seen last) (said_by result)
+    asked_then same past answers s h =
+        subst (λ w. AsksBy old.events.events new.events.events (o.seen was) (o.seen w) (said_by result)) (sym same)
+        (turn_asks o old call is goes answer mid.events (o.seen was) (o.seen at) got new at last past answers s h result beside_so)
+
+    pub still_then : UnlessFailed (o.quiet was last) (said_by result)
+    still_then = still_so a o old new was last (o.quiet was last) result whole whole.exchanged.still

@@ -1,0 +1,83 @@
+use Rattle.std.proofs.Common.{refl}
+use Rattle.aio_exchange.proofs.Among.{on_none}
+use Rattle.aio_exchange.specs.Outside.{IsOutside, outside_of, ported}
+use Rattle.aio_body.proofs.Asking.{comes_starved}
+use Rattle.aio_step.specs.Serving.{serving_once}
+use Rattle.aio_step.specs.declared.steps.Served.TheVariants.{Ended}
+use Rattle.aio_step.specs.declared.steps.Stepped.TheVariants.{Goes, Runaway}
+use Rattle.aio_step.proofs.Resumed.{ask_of, asks_so, asks_stop, ends_so, raises_so, returns_so, runs_so, serve_idle, serve_runs}
+use Rattle.aio_step.proofs.steps.serve_one.Given.{Over}
+use Rattle.aio_step.proofs.steps.serve_one.Goals as goal
+
+laws : (g : Over) → IsOutside (outside_of g.W.Wire.seen g.W.Wire.fails g.W.Wire.keeps g.W.Wire.quiet)
+laws g = record {
+  keeps_same = g.met.W.Wire.keeps_same;
+  keeps_on = g.met.W.Wire.keeps_on;
+  quiet_same = g.met.W.Wire.quiet_same;
+  quiet_on = g.met.W.Wire.quiet_on;
+}
+
+-- ---- it asks
+pub reply-requires : goal.reply-requires
+reply-requires g c =
+    ask_of c.args.task c.args.fresh c.args.input c.args.body.now c.args.coroutine.now c.resume.new.self c.in-Ok-Asks.field-0
+    c.in-Ok-Asks.ensures.said c.in-Ok-Asks.ensures.stands c.requires c.in-Ok-Asks.request c.in-Ok-Asks.field-0-is
+
+pub returns-in-Ok-clause-comes : goal.returns-in-Ok-clause-comes
+returns-in-Ok-clause-comes g c =
+    rw c.onward.ensures (asks_so c.args.task c.args.fresh c.args.input c.args.body.now c.args.coroutine.now c.resume.new.self c.in-Ok-Asks.field-0
+    c.in-Ok-Asks.ensures.said c.in-Ok-Asks.ensures.stands _ (laws g) c.args.wire.now
+    c.in-Ok-Asks.request c.in-Ok-Asks.field-0-is c.reply.new.body c.reply.new.wire c.in-Ok.said c.in-Ok.ensures.comes)
+
+pub returns-in-Err-reply-clause-comes : goal.returns-in-Err-reply-clause-comes
+returns-in-Err-reply-clause-comes g c =
+    asks_stop c.args.task c.args.fresh c.args.input c.args.body.now c.args.coroutine.now c.resume.new.self c.in-Ok-Asks.field-0
+    c.in-Ok-Asks.ensures.said c.in-Ok-Asks.ensures.stands _ (laws g) c.args.wire.now
+    c.in-Ok-Asks.request c.in-Ok-Asks.field-0-is c.reply.new.body c.reply.new.wire c.in-Err-reply.stop c.in-Err-reply.ensures.comes
+
+-- ---- it ends
+pub finish-requires-clause-idle : goal.finish-requires-clause-idle
+finish-requires-clause-idle g c = serve_idle c.args.task c.args.fresh c.args.input c.args.body.now c.args.coroutine.now c.requires
+
+pub finish-requires-clause-running : goal.finish-requires-clause-running
+finish-requires-clause-running g c = serve_runs c.args.task c.args.fresh c.args.input c.args.body.now c.args.coroutine.now c.requires
+
+pub finish-requires-in-Ok-Raises-clause-idle : goal.finish-requires-in-Ok-Raises-clause-idle
+finish-requires-in-Ok-Raises-clause-idle g c = serve_idle c.args.task c.args.fresh c.args.input c.args.body.now c.args.coroutine.now c.requires
+
+pub finish-requires-in-Ok-Raises-clause-running : goal.finish-requires-in-Ok-Raises-clause-running
+finish-requires-in-Ok-Raises-clause-running g c = serve_runs c.args.task c.args.fresh c.args.input c.args.body.now c.args.coroutine.now c.requires
+
+pub returns-in-Ok-Returns-clause-comes : goal.returns-in-Ok-Returns-clause-comes
+returns-in-Ok-Returns-clause-comes g c =
+    ends_so c.args.task c.args.fresh c.args.input c.args.body.now c.args.coroutine.now c.resume.new.self c.in-Ok-Returns.field-0
+    c.in-Ok-Returns.ensures.said c.in-Ok-Returns.ensures.stands _ (laws g) c.args.wire.now
+    (record c.args.body.now { parts = c.finish.new.self }) (Ended Goes) refl (λ d s h.
+    returns_so c.args.task c.args.fresh c.args.input c.args.body.now c.args.coroutine.now c.resume.new.self c.in-Ok-Returns.field-0
+    c.in-Ok-Returns.ensures.said c.in-Ok-Returns.ensures.stands d s h c.in-Ok-Returns.value c.in-Ok-Returns.field-0-is c.finish.new.self c.finish.ensures.after
+    c.finish.ensures.queue c.finish.ensures.beside)
+
+pub returns-in-Ok-Raises-clause-comes : goal.returns-in-Ok-Raises-clause-comes
+returns-in-Ok-Raises-clause-comes g c =
+    ends_so c.args.task c.args.fresh c.args.input c.args.body.now c.args.coroutine.now c.resume.new.self c.in-Ok-Raises.field-0
+    c.in-Ok-Raises.ensures.said c.in-Ok-Raises.ensures.stands _ (laws g) c.args.wire.now
+    (record c.args.body.now { parts = c.finish-in-Ok-Raises.new.self }) (Ended Goes) refl (λ d s h.
+    raises_so c.args.task c.args.fresh c.args.input c.args.body.now c.args.coroutine.now c.resume.new.self c.in-Ok-Raises.field-0
+    c.in-Ok-Raises.ensures.said c.in-Ok-Raises.ensures.stands d s h c.in-Ok-Raises.fault c.in-Ok-Raises.field-0-is c.finish-in-Ok-Raises.new.self
+    c.finish-in-Ok-Raises.ensures.after c.finish-in-Ok-Raises.ensures.queue c.finish-in-Ok-Raises.ensures.beside)
+
+pub returns-in-Ok-Runaway-clause-comes : goal.returns-in-Ok-Runaway-clause-comes
+returns-in-Ok-Runaway-clause-comes g c =
+    ends_so c.args.task c.args.fresh c.args.input c.args.body.now c.args.coroutine.now c.resume.new.self c.in-Ok-Runaway.field-0
+    c.in-Ok-Runaway.ensures.said c.in-Ok-Runaway.ensures.stands _ (laws g) c.args.wire.now
+    c.args.body.now (Ended (Runaway c.args.task)) refl (λ d s h. (
+      refl,
+      runs_so c.args.task c.args.fresh c.args.input c.args.body.now c.args.coroutine.now c.resume.new.self c.in-Ok-Runaway.field-0
+          c.in-Ok-Runaway.ensures.said c.in-Ok-Runaway.ensures.stands d s h c.in-Ok-Runaway.field-0-is,
+    ))
+
+pub returns-in-Err-clause-comes : goal.returns-in-Err-clause-comes
+returns-in-Err-clause-comes g c =
+    comes_starved _ (laws g)
+    (serving_once g.X.Extra.added c.args.task c.args.fresh c.args.input c.args.coroutine.now c.resume.new.self c.args.body.now c.args.body.now) _
+    (ported c.args.wire.now c.args.body.now.events) (ported c.args.wire.now c.args.body.now.events) _ refl (on_none _ (laws g) c.args.wire.now)
