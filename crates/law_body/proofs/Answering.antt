@@ -33,11 +33,12 @@ module _ {S : Type 0} (added : Extra S) (answers : List Entry) (s : State S) whe
     main_over = h.main_over;
     main_told = h.main_told;
     standing = λ task l e. let it = h.standing task l e in
-        record { sleeping = it.sleeping; leaving = it.leaving; leaving_now = it.leaving_now };
+        record { sleeping = it.sleeping; leaving = it.leaving; leaving_now = it.leaving_now; opened = it.opened };
     exits = h.exits;
     blocks = record { timeouts = h.blocks.timeouts; groups = h.blocks.groups; entered = h.blocks.entered; own = h.blocks.own };
     streams = h.streams;
-    futures = record { plain = h.futures.plain; once = h.futures.once };
+    kept_once = h.kept_once;
+    futures = record { plain = h.futures.plain; once = h.futures.once; apart = h.futures.apart };
     made = record { arguments = h.made.arguments; tape = h.made.tape; outcomes = h.made.outcomes };
   }
 
