@@ -5,7 +5,7 @@ use Rattle.std.proofs.Math.Path.{fun_ext}
 use Rattle.model_wire.specs.declared.event.Event.TheVariants as event
 use Rattle.model_wire.specs.declared.event.Handed.{Handed}
 use Rattle.model_wire.specs.Call.{Answer, Call}
-use Rattle.model_wire.specs.Event.{Event, calls_in, handed_after, handed_by, handed_in}
+use Rattle.model_wire.specs.Event.{Event, calls_in, handed_after as handed_last, handed_by, handed_in}
 use Rattle.model_wire.specs.Told.{WireSeen}
 use Rattle.model_machine.specs.Went.{answers_in}
 use Rattle.law_reach.specs.Asked.{asks_in}
@@ -42,8 +42,8 @@ unfolding last_in
 bytes-append [] ys last to = refl
 bytes-append (event.Called call ∷ xs) ys last to = bytes-append xs ys (Some call) to
 bytes-append (event.Got answer ∷ xs) ys last to =
-    ap (λ bs. handed_after last answer to ++ bs) (bytes-append xs ys last to)
-    ∙ sym (append_assoc (handed_after last answer to) (handed_in xs last to) (handed_in ys (last_in xs last) to))
+    ap (λ bs. handed_last last answer to ++ bs) (bytes-append xs ys last to)
+    ∙ sym (append_assoc (handed_last last answer to) (handed_in xs last to) (handed_in ys (last_in xs last) to))
 bytes-append (event.Ran action ∷ xs) ys last to = bytes-append xs ys last to
 bytes-append (event.Said task text ∷ xs) ys last to = bytes-append xs ys last to
 

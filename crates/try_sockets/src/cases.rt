@@ -1,4 +1,7 @@
 //! The cases, one after another over one poller.
+ghost use Rattle.std.specs.Prelude.{◌≡◌, true};
+ghost use Rattle.model_hub.specs.Told.{is_socket};
+
 use aio_base::{Blob, Memory};
 use aio_hub::{Polled, Poller};
 use aio_poller::RealPoller;
@@ -97,7 +100,9 @@ impl<R: Net + Clock> Cases<R> {
         Ok("refused")
     }
 
-    fn ask(&mut self, call: Call) -> io::Result<&'static str> {
+    fn ask(&mut self, call: Call) -> io::Result<&'static str>
+        requires { is_socket call ≡ true }
+    {
         let reply = self.poller.net(self.alloc, &call).map_err(no_memory)?;
         Ok(match reply {
             Reply::Got(answer) => name(&answer),
