@@ -30,6 +30,9 @@ const WAIT: u64 = 1_000;
 
 const POLLS: u32 = 100;
 
+/// How many posts are taken between two polls at most.
+const POSTS: u32 = 1_024;
+
 /// What came of a child.
 #[derive(Clone, Copy)]
 pub struct Outcome {
@@ -175,7 +178,10 @@ where
 
     /// Gives Writes as long as few wait, and then Close.
     fn feed(&mut self, heads: &mut Heads) -> io::Result<()> {
-        while self.unfed > 0 && self.waiting < WAITING && !self.outcome.is_broken {
+        for _ in 0..WAITING {
+            if self.unfed == 0 || self.waiting >= WAITING || self.outcome.is_broken {
+                break;
+            }
             let count = self.unfed.min(PIECE);
             let bytes = vec![in self.alloc; 7u8; count as usize]?;
             self.give(&mut heads.stdin, Command::Write(Blob::of(bytes)))?;
@@ -198,8 +204,11 @@ where
     }
 
     fn take_all(&mut self, heads: &mut Heads) -> io::Result<()> {
-        while let Some(post) = self.inbox.take(&self.rt, &mut self.taker) {
-            self.note(post.kind, heads)?;
+        for _ in 0..POSTS {
+            match self.inbox.take(&self.rt, &mut self.taker) {
+                Some(post) => self.note(post.kind, heads)?,
+                None => break,
+            }
         }
         Ok(())
     }
