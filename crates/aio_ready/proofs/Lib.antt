@@ -1,2 +1,6 @@
 pub mod Turning
 pub mod Reaching
+pub mod Forks
+pub mod Changes
+pub mod Names
+pub mod Seeing

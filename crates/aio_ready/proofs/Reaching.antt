@@ -5,10 +5,12 @@ use Rattle.std.proofs.lemmas.List.Folds.{list_all-append}
 use mathlib.Core.List.{reverse_aux}
 use Rattle.aio_ready.specs.declared.handle.HandleName.{HandleName}
 use Rattle.aio_ready.specs.declared.handle.HandleName.TheVariants.{Nameless, Given, Timer}
-use Rattle.aio_ready.specs.declared.handle.Handle.{Handle}
 use Rattle.aio_ready.specs.declared.least.Least.{Least}
-use Rattle.aio_ready.specs.Names.{is_same, marked}
-use Rattle.aio_ready.specs.Reach.{reaches, all_reach, IsBelow}
+use Rattle.aio_ready.specs.declared.stack.Entry.{Entry}
+use Rattle.aio_ready.specs.declared.stack.Entry.TheVariants.{Loose, Registered}
+use Rattle.aio_ready.specs.Names.{is_same}
+use Rattle.aio_ready.specs.Entries.{loosely_marked}
+use Rattle.aio_ready.specs.Reach.{reaches, is_reached, all_reach, IsBelow}
 
 -- ---- a number that falls below names none of them
 apart : (least number own : ℕ) → nat_le least number ≡ false → nat_le least own ≡ true → (number == own) ≡ false
@@ -27,22 +29,28 @@ same_dead : (dead : Bool) → (dead || false) ≡ dead
 same_dead true = refl
 same_dead false = refl
 
-one_passed : (least : Least) (name : HandleName) (handle : Handle) → reaches least name ≡ false → reaches least handle.name ≡ true
-    → marked name handle ≡ handle
-one_passed least name handle h k = rw (other least name handle.name h k, same_dead handle.dead) refl
+one_passed : (least : Least) (name : HandleName) (entry : Entry) → reaches least name ≡ false → is_reached least entry ≡ true
+    → loosely_marked name entry ≡ entry
+one_passed least name (Loose handle) h k = rw (other least name handle.name h k, same_dead handle.dead) refl
+one_passed least name (Registered own action) h k = refl
 
-pub passed_by : (least : Least) (name : HandleName) (handles : List Handle) → reaches least name ≡ false
-    → all_reach least handles ≡ true → map (marked name) handles ≡ handles
+pub passed_by : (least : Least) (name : HandleName) (entries : List Entry) → reaches least name ≡ false
+    → all_reach least entries ≡ true → map (loosely_marked name) entries ≡ entries
 passed_by least name [] h k = refl
-passed_by least name (handle ∷ handles) h k =
-    let parts = and_parts (reaches least handle.name) (all_reach least handles) k in
-    rw (one_passed least name handle h parts.0, passed_by least name handles h parts.1) refl
+passed_by least name (entry ∷ entries) h k =
+    let parts = and_parts (is_reached least entry) (all_reach least entries) k in
+    rw (one_passed least name entry h parts.0, passed_by least name entries h parts.1) refl
 
 -- ---- marks leave names
-pub marks_leave : (least : Least) (name : HandleName) (handles : List Handle)
-    → all_reach least (map (marked name) handles) ≡ all_reach least handles
+mark_leaves : (least : Least) (name : HandleName) (entry : Entry)
+    → is_reached least (loosely_marked name entry) ≡ is_reached least entry
+mark_leaves least name (Loose handle) = refl
+mark_leaves least name (Registered own action) = refl
+
+pub marks_leave : (least : Least) (name : HandleName) (entries : List Entry)
+    → all_reach least (map (loosely_marked name) entries) ≡ all_reach least entries
 marks_leave least name [] = refl
-marks_leave least name (handle ∷ handles) = rw (marks_leave least name handles) refl
+marks_leave least name (entry ∷ entries) = rw (mark_leaves least name entry, marks_leave least name entries) refl
 
 -- ---- what falls below no number falls below no lesser one
 lesser : (least other number : ℕ) → least ≤ other → nat_le other number ≡ true → nat_le least number ≡ true
@@ -53,31 +61,35 @@ one_lowered least other Nameless h k = refl
 one_lowered least other (Given number) h k = lesser least.given other.given number h.0 k
 one_lowered least other (Timer number) h k = lesser least.timer other.timer number h.1 k
 
-pub lowered : (least other : Least) (handles : List Handle) → IsBelow least other → all_reach other handles ≡ true
-    → all_reach least handles ≡ true
+entry_lowered : (least other : Least) (entry : Entry) → IsBelow least other → is_reached other entry ≡ true
+    → is_reached least entry ≡ true
+entry_lowered least other (Loose handle) h k = one_lowered least other handle.name h k
+entry_lowered least other (Registered name action) h k = refl
+
+pub lowered : (least other : Least) (entries : List Entry) → IsBelow least other → all_reach other entries ≡ true
+    → all_reach least entries ≡ true
 lowered least other [] h k = refl
-lowered least other (handle ∷ handles) h k =
-    let parts = and_parts (reaches other handle.name) (all_reach other handles) k in
-    rw (one_lowered least other handle.name h parts.0, lowered least other handles h parts.1) refl
+lowered least other (entry ∷ entries) h k =
+    let parts = and_parts (is_reached other entry) (all_reach other entries) k in
+    rw (entry_lowered least other entry h parts.0, lowered least other entries h parts.1) refl
 
 -- ---- turning, and one after another
-turned_onto : (least : Least) (handles onto : List Handle) → all_reach least handles ≡ true → all_reach least onto ≡ true
-    → all_reach least (reverse_aux handles onto) ≡ true
+turned_onto : (least : Least) (entries onto : List Entry) → all_reach least entries ≡ true → all_reach least onto ≡ true
+    → all_reach least (reverse_aux entries onto) ≡ true
 turned_onto least [] onto h k = k
-turned_onto least (handle ∷ handles) onto h k =
-    let parts = and_parts (reaches least handle.name) (all_reach least handles) h in
-    turned_onto least handles (handle ∷ onto) parts.1 (rw (parts.0, k) refl)
+turned_onto least (entry ∷ entries) onto h k =
+    let parts = and_parts (is_reached least entry) (all_reach least entries) h in
+    turned_onto least entries (entry ∷ onto) parts.1 (rw (parts.0, k) refl)
 
-turned : (least : Least) (handles : List Handle) → all_reach least handles ≡ true → all_reach least (reverse handles) ≡ true
-turned least handles h = turned_onto least handles [] h refl
+turned : (least : Least) (entries : List Entry) → all_reach least entries ≡ true → all_reach least (reverse entries) ≡ true
+turned least entries h = turned_onto least entries [] h refl
 
-in_a_row : (least : Least) (handles others : List Handle) → all_reach least handles ≡ true → all_reach least others ≡ true
-    → all_reach least (handles ++ others) ≡ true
-in_a_row least handles others h k =
-    rw (list_all-append (λ (handle : Handle). reaches least handle.name) handles others, h, k) refl
+in_a_row : (least : Least) (entries others : List Entry) → all_reach least entries ≡ true → all_reach least others ≡ true
+    → all_reach least (entries ++ others) ≡ true
+in_a_row least entries others h k = rw (list_all-append (is_reached least) entries others, h, k) refl
 
 -- ---- what comes to stand before the bar
-pub at_the_bar : (least : Least) (below late : List Handle) → all_reach least below ≡ true → all_reach least late ≡ true
+pub at_the_bar : (least : Least) (below late : List Entry) → all_reach least below ≡ true → all_reach least late ≡ true
     → all_reach least (reverse (reverse below ++ []) ++ (reverse late ++ [])) ≡ true
 at_the_bar least below late b l =
     in_a_row least (reverse (reverse below ++ [])) (reverse late ++ [])

@@ -1,9 +1,9 @@
 //! What a future calls once it is done.
 ghost use Rattle.std.specs.Prelude.{◌≡◌, [], ◌∷◌, ◌++◌};
-ghost use Rattle.aio_ready.specs.Queue.{actions_of};
+ghost use Rattle.aio_ready.specs.Entries.{entry_actions};
 
 use crate::handle::{Handle, HandleName};
-use crate::stack::Stack;
+use crate::stack::{Entry, Stack};
 use crate::ticket::Ticket;
 use aio_base::Action;
 use std::marker::Model;
@@ -18,11 +18,11 @@ pub struct Callbacks {
 impl Model for Callbacks {
     ghost use Rattle.std.specs.Prelude.{List, reverse};
     ghost use Rattle.model_value.specs.Action.{Action};
-    ghost use Rattle.aio_ready.specs.Queue.{actions_of};
+    ghost use Rattle.aio_ready.specs.Entries.{entry_actions};
 
     ghost Value = { List Action };
 
-    ghost view = { λ a. actions_of (reverse a.late) };
+    ghost view = { λ a. entry_actions (reverse a.late) };
 }
 
 impl Callbacks {
@@ -38,12 +38,13 @@ impl Callbacks {
         ensures { self.new ≡ self.old ++ action ∷ [] }
     {
         let (name, dead) = (HandleName::Nameless, false);
-        self.late.push(ticket, Handle { name, action, dead });
+        let handle = Handle { name, action, dead };
+        self.late.push(ticket, Entry::Loose(handle));
     }
 
     /// All handles go onto a stack, the first on top.
     pub(crate) fn turn_out(&mut self) -> Stack
-        ensures turned { actions_of result ≡ self.old }
+        ensures turned { entry_actions result ≡ self.old }
         ensures after { self.new ≡ [] }
     {
         let mut turned = Stack::new();

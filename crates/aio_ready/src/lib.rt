@@ -3,8 +3,10 @@
 
 mod callbacks;
 mod handle;
+mod index;
 mod least;
 mod ready;
+mod register;
 mod stack;
 mod ticket;
 

@@ -1,14 +1,15 @@
 //! The pending queue.
-ghost use Rattle.std.specs.Prelude.{◌≡◌, ◌++◌, [], true, map};
+ghost use Rattle.std.specs.Prelude.{◌≡◌, ◌++◌, [], ◌∷◌, true, map, MatchOption};
 ghost use Rattle.std.specs.Option.{option_map};
-ghost use Rattle.aio_ready.specs.Names.{marked};
+ghost use Rattle.aio_ready.specs.Entries.{loosely_marked};
 ghost use Rattle.aio_ready.specs.Reach.{all_reach, IsBelow};
 ghost use Rattle.aio_ready.specs.Queue.{no_handles, soon, soon_all, next_name, appended, cancelled, barred, next_action, given_after, taken, is_empty};
 
 use crate::callbacks::Callbacks;
 use crate::handle::{Handle, HandleId, HandleName};
 use crate::least::Least;
-use crate::stack::Stack;
+use crate::register::Register;
+use crate::stack::{Entry, Stack};
 use crate::ticket::Ticket;
 use aio_base::{Action, Memory};
 use std::alloc::Global;
@@ -26,29 +27,39 @@ pub struct Ready {
     // the last is on top
     late: Stack,
     given: u64,
-    // what their numbers do not fall below
+    // which of them wait under their names
+    register: Register,
+    // what the numbers of the others do not fall below
     least_below: Least,
     least_late: Least,
 }
 
 impl Model for Ready {
-    ghost use Rattle.std.specs.Prelude.{◌≡◌, reverse, true, ◌≤◌};
+    ghost use Rattle.std.specs.Prelude.{◌≡◌, ◌++◌, map, reverse, true, ◌≤◌};
     ghost use Rattle.aio_ready.specs.Queue.{Queue, most_given};
+    ghost use Rattle.aio_ready.specs.Registered.{state};
+    ghost use Rattle.aio_ready.specs.Entries.{seen, AreRegistered};
     ghost use Rattle.aio_ready.specs.Reach.{all_reach};
 
     ghost Value = { Queue };
 
-    ghost view = { λ a. record { below = a.below; after = reverse a.late; given = a.given } };
+    ghost view = { λ a. record {
+      below = map (seen (state a.register)) a.below;
+      after = map (seen (state a.register)) (reverse a.late);
+      given = a.given;
+    } };
 
     ghost invariant = { λ a. (a.given ≤ most_given)
         × ((all_reach a.least_below a.below ≡ true)
-        × (all_reach a.least_late a.late ≡ true)) };
+        × ((all_reach a.least_late a.late ≡ true)
+        × AreRegistered (state a.register) (a.below ++ reverse a.late))) };
 }
 
-// Those with this name are dead. They are looked through only where its number does not fall below.
+// Those with this name that say so by themselves are dead. They are looked through only where its
+// number does not fall below.
 fn mark(handles: &mut Stack, least: Least, name: HandleName)
     requires { all_reach least handles.old ≡ true }
-    ensures { handles.new ≡ map (marked name) handles.old }
+    ensures { handles.new ≡ map (loosely_marked name) handles.old }
 {
     if least.reaches(name) {
         handles.mark(name);
@@ -77,6 +88,7 @@ impl Ready {
             below: Stack::new(),
             late: Stack::new(),
             given: 0,
+            register: Register::new(),
             least_below: Least::of_none(),
             least_late: Least::of_none(),
         }
@@ -108,7 +120,7 @@ impl Ready {
     {
         let mut first = waiting.turn_out();
         while let Some((handle, ticket)) = first.pop() {
-            let _id = self.soon(ticket, handle.action);
+            let _id = self.soon(ticket, handle.into_action());
         }
     }
 
@@ -164,12 +176,29 @@ impl Ready {
         ensures action { option_map (λ next. next.0) result ≡ next_action self.old }
         ensures after { self.new ≡ taken self.old }
     {
-        while let Some((handle, ticket)) = self.below.pop() {
+        while let Some((handle, ticket)) = self.pop_below() {
             if !handle.dead {
                 return Some((handle.action, ticket));
             }
         }
         None
+    }
+
+    // The first before the bar, with its memory.
+    fn pop_below(&mut self) -> Option<(Handle, Ticket)>
+        ensures { MatchOption result ((self.old.below ≡ []) × (self.new ≡ self.old))
+            (λ first. self.old ≡ record self.new { below = first.0 ∷ self.new.below }) }
+    {
+        match self.below.pop() {
+            None => None,
+            Some((entry, ticket)) => match entry {
+                Entry::Loose(handle) => Some((handle, ticket)),
+                Entry::Registered(name, action) => {
+                    let (dead, ticket) = self.register.leave(name, ticket);
+                    Some((Handle { name, action, dead }, ticket))
+                }
+            },
+        }
     }
 
     fn next_name(&self) -> HandleName
@@ -193,14 +222,21 @@ impl Ready {
     fn append(&mut self, ticket: Ticket, name: HandleName, action: Action)
         ensures { self.new ≡ appended name action self.old }
     {
-        let dead = false;
-        self.least_late = self.least_late.with(name);
-        self.late.push(ticket, Handle { name, action, dead });
+        match self.register.enter(name, ticket) {
+            Ok(ticket) => self.late.push(ticket, Entry::Registered(name, action)),
+            Err(ticket) => {
+                let dead = false;
+                self.least_late = self.least_late.with(name);
+                let handle = Handle { name, action, dead };
+                self.late.push(ticket, Entry::Loose(handle));
+            }
+        }
     }
 
     fn mark(&mut self, name: HandleName)
         ensures { self.new ≡ cancelled name self.old }
     {
+        self.register.strike(name);
         mark(&mut self.below, self.least_below, name);
         mark(&mut self.late, self.least_late, name);
     }

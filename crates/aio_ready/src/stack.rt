@@ -1,11 +1,21 @@
 //! A stack of handles, each in the memory of its ticket.
 ghost use Rattle.std.specs.Prelude.{◌≡◌, [], ◌∷◌, ◌++◌, map, reverse, Some, None, MatchOption};
-ghost use Rattle.aio_ready.specs.Names.{marked};
-ghost use Rattle.aio_ready.specs.Queue.{is_empty};
+ghost use Rattle.aio_ready.specs.Entries.{action_of, loosely_marked, no_entries};
 
 use crate::handle::{Handle, HandleName};
+use crate::index::Leaf;
 use crate::ticket::Ticket;
+use aio_base::Action;
 use std::marker::Model;
+
+/// A handle that waits.
+#[derive(Drop)]
+pub enum Entry {
+    /// It says by itself whether it is dead.
+    Loose(Handle),
+    /// The register says under its name whether it is dead.
+    Registered(HandleName, Action),
+}
 
 /// Contracts see the handles, the top first.
 #[cycle(stack)]
@@ -16,18 +26,18 @@ pub struct Stack {
 #[cycle(stack)]
 pub enum Link {
     End,
-    More(Handle, Box<Stack>),
+    More(Entry, Option<Leaf>, Box<Stack>),
 }
 
 impl Model for Stack {
     ghost use Rattle.std.specs.Prelude.{List, length};
-    ghost use Rattle.aio_ready.specs.declared.handle.Handle as plain;
+    ghost use Rattle.aio_ready.specs.declared.stack.Entry as plain;
 
-    ghost Value = { List plain.Handle };
+    ghost Value = { List plain.Entry };
 
-    ghost use Rattle.aio_ready.specs.Stacks.{handles_of};
+    ghost use Rattle.aio_ready.specs.Stacks.{entries_of};
 
-    ghost view = { λ a. handles_of a.top };
+    ghost view = { λ a. entries_of a.top };
 
     ghost size = { length };
 
@@ -42,14 +52,36 @@ impl Drop for Stack {
         loop {
             match top {
                 Link::End => return,
-                Link::More(_, below) => top = Box::into_inner(below).into_top(),
+                Link::More(_, _, below) => top = Box::into_inner(below).into_top(),
             }
         }
     }
 }
 
+impl Entry {
+    /// What it runs.
+    pub fn into_action(self) -> Action
+        ensures { result ≡ action_of self }
+    {
+        match self {
+            Entry::Loose(handle) => handle.action,
+            Entry::Registered(_, action) => action,
+        }
+    }
+
+    // The handle, dead where it has this name and says so by itself.
+    fn marked(self, name: HandleName) -> Entry
+        ensures { result ≡ loosely_marked name self }
+    {
+        match self {
+            Entry::Loose(handle) => Entry::Loose(handle.marked(name)),
+            Entry::Registered(own, action) => Entry::Registered(own, action),
+        }
+    }
+}
+
 impl Stack {
-    ghost use Rattle.aio_ready.specs.Stacks.{handles_of};
+    ghost use Rattle.aio_ready.specs.Stacks.{entries_of};
 
     /// An empty stack; takes no memory.
     pub fn new() -> Stack
@@ -60,38 +92,39 @@ impl Stack {
 
     /// Whether it holds nothing.
     pub fn is_empty(&self) -> bool
-        ensures { result ≡ is_empty self.now }
+        ensures { result ≡ no_entries self.now }
     {
         matches!(&self.top, Link::End)
     }
 
     /// Puts a handle on top, in the memory of its ticket.
-    pub fn push(&mut self, ticket: Ticket, handle: Handle)
-        ensures { self.new ≡ handle ∷ self.old }
+    pub fn push(&mut self, ticket: Ticket, entry: Entry)
+        ensures { self.new ≡ entry ∷ self.old }
     {
-        let mut below = ticket.room;
+        let Ticket { room, leaf } = ticket;
+        let mut below = room;
         *below = std::mem::replace(self, Stack::new());
         *self = Stack {
-            top: Link::More(handle, below),
+            top: Link::More(entry, leaf, below),
         };
     }
 
     /// Takes the top handle with its ticket; None exactly where it is empty.
-    pub fn pop(&mut self) -> Option<(Handle, Ticket)>
+    pub fn pop(&mut self) -> Option<(Entry, Ticket)>
         ensures { MatchOption result ((self.old ≡ []) × (self.new ≡ []))
             (λ taken. self.old ≡ taken.0 ∷ self.new) }
     {
         match std::mem::replace(&mut self.top, Link::End) {
             Link::End => None,
-            Link::More(handle, mut below) => {
+            Link::More(entry, leaf, mut below) => {
                 *self = std::mem::replace(&mut *below, Stack::new());
-                Some((handle, Ticket { room: below }))
+                Some((entry, Ticket { room: below, leaf }))
             }
         }
     }
 
     fn into_top(self) -> Link
-        ensures { handles_of result ≡ self }
+        ensures { entries_of result ≡ self }
     {
         let Stack { top } = self;
         top
@@ -107,9 +140,9 @@ impl Stack {
         }
     }
 
-    /// Those with this name are dead.
+    /// Those with this name that say so by themselves are dead.
     pub fn mark(&mut self, name: HandleName)
-        ensures { self.new ≡ map (marked name) self.old }
+        ensures { self.new ≡ map (loosely_marked name) self.old }
     {
         let mut turned = Stack::new();
         while let Some((handle, ticket)) = self.pop() {

@@ -1,19 +1,28 @@
 -- Those after the bar are marked in the order of the stack, and marks leave names.
 use Rattle.std.proofs.Common.{refl}
-use Rattle.aio_ready.specs.Names.{marked}
-use Rattle.aio_ready.proofs.Turning.{reverse-map}
+use Rattle.aio_ready.specs.Registered.{state}
 use Rattle.aio_ready.proofs.Reaching.{marks_leave}
+use Rattle.aio_ready.proofs.Seeing.{queue_marked, seen_marked}
 use Rattle.aio_ready.proofs.ready.Ready.mark.Goals as goal
 
 pub invariant_of-self : goal.invariant_of-self
 invariant_of-self c =
-    let reach = c.self.invariant.1 in (
+    let inside = c.self.inside in
+    let rest = c.self.invariant.1 in
+    rw (c.mark.ensures, c.mark-2.ensures) (
       c.self.invariant.0,
       (
-        rw (c.mark.ensures, marks_leave c.self.inside.least_below c.args.name c.self.inside.below) reach.0,
-        rw (c.mark-2.ensures, marks_leave c.self.inside.least_late c.args.name c.self.inside.late) reach.1,
+        rw (marks_leave inside.least_below c.args.name inside.below) rest.0,
+        (
+          rw (marks_leave inside.least_late c.args.name inside.late) rest.1.0,
+          queue_marked (state inside.register) (state c.strike.new.self) c.args.name inside.below inside.late c.strike.ensures rest.1.1,
+        ),
       ),
     )
 
 pub returns : goal.returns
-returns c = rw (c.mark.ensures, c.mark-2.ensures, ← c.self.view_is, reverse-map (marked c.args.name) c.self.inside.late) refl
+returns c =
+    let inside = c.self.inside in
+    let now = seen_marked (state inside.register) (state c.strike.new.self) c.args.name inside.below inside.late c.strike.ensures
+    c.self.invariant.1.1.1 in
+    rw (c.mark.ensures, c.mark-2.ensures, now.0, now.1, ← c.self.view_is) refl
