@@ -10,6 +10,8 @@ from typing import Callable, NamedTuple
 
 HERE = os.path.dirname(os.path.abspath(__file__))
 THOUSANDS = (1_000, 10_000, 100_000)
+# as many as one step makes
+SOME_THOUSANDS = (2_000, 6_000, 20_000)
 
 
 class Shape(NamedTuple):
@@ -77,6 +79,14 @@ SHAPES = [
         lambda n: [0] + twice(100 * n) + [100 * n, 100 * n],
         lambda n: 100 * n,
     ),
+    # The second time comes in the turn in which the tasks of the first go on.
+    Shape(
+        "wakes",
+        "tasks that wake in two neighbouring milliseconds",
+        "tasks",
+        SOME_THOUSANDS,
+        lambda n: [0, 0, 1, 2, 2, 2, 2],
+    ),
     Shape("chain", "a chain of awaits, each of a new task", "awaits", (100, 1_000, 10_000), lambda n: still(2 * n + 2)),
     Shape(
         "chain_upwards",
@@ -97,6 +107,8 @@ SHAPES = [
         (100, 1_000, 10_000),
         lambda n: [0] + twice(1) + [1, 1, 1],
     ),
+    Shape("group_sleeps", "a group of children that sleep 5", "children", SOME_THOUSANDS, lambda n: [0, 0, 5, 5, 5, 5, 5]),
+    Shape("timeouts_passed", "tasks, each with a timeout of 0", "tasks", SOME_THOUSANDS, lambda n: still(4)),
     Shape("timeouts", "sleeps within timeouts", "timeouts", THOUSANDS, lambda n: twice(n) + [n]),
     Shape("timeouts_over", "timeouts that come", "timeouts", THOUSANDS, lambda n: twice(n) + [n]),
     Shape("yields", "a main that yields", "turns", (10_000, 100_000, 1_000_000), lambda n: still(n + 2)),
