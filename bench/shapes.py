@@ -131,6 +131,15 @@ SHAPES = [
     ),
     Shape("yields_deep", "a yield, 60 calls deep", "turns", THOUSANDS, lambda n: still(n + 2)),
     Shape("raises", "exceptions raised and caught", "exceptions", THOUSANDS, lambda n: still(n // 1_000 + 2)),
+    Shape("wraps", "lists that hold a list of 524,288 items", "lists", SOME_THOUSANDS, lambda n: still(2)),
+    Shape(
+        "appends",
+        "a list that grows by one item again and again, each a new one",
+        "items copied",
+        SOME_THOUSANDS,
+        lambda n: still(2),
+        lambda n: n * (n + 1) // 2,
+    ),
     Shape(
         "variables",
         "variables of one coroutine, each assigned 90 times",
