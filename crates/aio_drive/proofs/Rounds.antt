@@ -1,5 +1,5 @@
 -- A round of the driver's loop: a turn was made of a run under way, and its lines are written.
-use Rattle.std.proofs.Common.{◌≡◌, ℕ, zero, suc, ◌+◌, ◌-◌, ◌^◌, ◌<◌, ◌≤◌, List, [], ◌++◌, Option, Some, None, map, refl, ap, sym, ◌∙◌, subst, arith}
+use Rattle.std.proofs.Common.{◌≡◌, ℕ, zero, suc, ◌+◌, ◌-◌, ◌^◌, ◌<◌, ◌≤◌, List, [], ◌++◌, Option, Some, None, Ok, Err, map, refl, ap, sym, ◌∙◌, subst, arith}
 use Rattle.model_tree.specs.Syntax.{Program}
 use Rattle.model_wire.specs.declared.event.End.TheVariants as ends
 use Rattle.model_wire.specs.Call.{Answer, Call}
@@ -15,23 +15,52 @@ use Rattle.aio_wire.specs.declared.stop.Stop.TheVariants as stop
 use Rattle.aio_extra.specs.Nothing.{nothing_added}
 use Rattle.aio_extra.specs.declared.nothing.NoExtra.{NoExtra}
 use Rattle.aio_core.specs.Asked.{Asks}
-use Rattle.aio_core.specs.Turned.{GoesOn, StandsFor, TurnedBy, TurnsTo, untaken}
+use Rattle.aio_core.specs.Turned.{Begins, GoesOn, StandsFor, TurnedBy, TurnsTo, ended as kernel_ended, untaken}
 use Rattle.aio_core.specs.Turning.{AsksBy, OfFailing, Takes, UnlessFailed}
 use Rattle.aio_core.specs.declared.kernel.Kernel.{Kernel}
 use Rattle.aio_core.specs.declared.went.Went as code
 use Rattle.aio_core.specs.declared.went.Went.TheVariants as went
 use Rattle.aio_drive.specs.Drive.{IsUnbegun, LastOf, MayDrive, Undisturbed, over_all, over_front}
-use Rattle.aio_drive.specs.Ending.{EndedSo, StopsLast, StopsTurn, WroteLast, WroteTurn}
+use Rattle.aio_drive.specs.Ending.{EndedSo, StopsLast, StopsTurn, WritesTurn, WroteLast, WroteTurn}
 use Rattle.aio_drive.specs.Outcome.{EndsEarly}
 use Rattle.aio_drive.specs.Writing.{StopsWriting}
 use Rattle.aio_drive.specs.declared.driver.Manner.{Manner}
 use Rattle.aio_drive.specs.declared.halt.Halt.{Halt}
 use Rattle.aio_drive.specs.declared.halt.Halt.TheVariants.{Memory}
 use Rattle.aio_drive.proofs.Driving.{EndsHere, FailsHere, GoesOnHere, IsDriven, asked_all, ended, ends_last, fails, goes_further, goes_on_here, rose_earlier}
-use Rattle.aio_drive.proofs.Driving.{turned_on}
+use Rattle.aio_drive.proofs.Driving.{running_first, turned_on}
 use Rattle.aio_drive.proofs.Exits.{alive, ended-quiet, refused, said_as}
 use Rattle.aio_drive.proofs.Fronts.{append-nil, took-nil}
 use Rattle.aio_drive.proofs.Written.{ends_early, ends_whole, fails_early, fails_whole, goes_early, until_so}
+
+-- A run of a program is under way, in which so many turns were made: what was seen of the wire first and is now, what the sink had first
+-- and has now, that each call of the wire fails, first and now, and what stays of the wire while none does.
+pub record IsUnderWay {g : _} (program : Program) (how : Manner) (made : ℕ) (kernel : Kernel NoExtra g) (first_seen now_seen : WireSeen)
+    (first now : SinkSeen) (fails_first fails_now quiet : Type 0) : Type 0 where
+  pub left : ℕ
+  pub past : List Entry
+  pub taken : List Event
+  pub running : IsDriven program how made left kernel past taken first_seen now_seen first now
+  pub fails : fails_first → (made ≡ 0) × fails_now
+  pub still : quiet
+
+-- one that begins
+pub under_way_first : {g : _} (program : Program) (how : Manner) (kernel : Kernel NoExtra g) (seen : WireSeen) (sink : SinkSeen) (fails quiet : Type 0)
+    → Begins nothing_added tt program kernel → quiet → IsUnderWay program how 0 kernel seen seen sink sink fails fails quiet
+under_way_first program how kernel seen sink fails quiet begins still = record {
+  left = how.turns;
+  past = [];
+  taken = [];
+  running = running_first program how kernel seen sink begins;
+  fails = λ all. (refl, all);
+  still = still;
+}
+
+-- its kernel goes on
+pub still_goes : {g : _} {program : Program} {how : Manner} {made : ℕ} {kernel : Kernel NoExtra g} {first_seen now_seen : WireSeen}
+    {first now : SinkSeen} {fails_first fails_now quiet : Type 0}
+    → IsUnderWay program how made kernel first_seen now_seen first now fails_first fails_now quiet → kernel_ended kernel ≡ None
+still_goes under = (under.running.at []).stands.goes
 
 -- a turn is left
 pub with_turn : {g : _} {program : Program} {how : Manner} {made : ℕ} {kernel : Kernel NoExtra g} {past : List Entry} {taken : List Event}
@@ -233,10 +262,49 @@ module _ {g : _} {program : Program} {how : Manner} {made left : ℕ} {kernel ne
               (wrote ∙ ap (λ (es : List Event). took sink (lines_of_events how.trace es)) out) (asked_at went.Went is (λ e. cc e)),
         )
 
+-- ---- a round, by what it wrote
+module _ {g : _} {program : Program} {how : Manner} {made : ℕ} {kernel new : Kernel NoExtra g} {now last : WireSeen} {first sink late : SinkSeen}
+    {fails_first fails_now quiet_then quiet_now quiet : Type 0} {fault : End} (seen : WireSeen)
+    (under : IsUnderWay program how made kernel seen now first sink fails_first fails_now quiet_then) (some : made < how.turns)
+    (later : seen.faults ≤ now.faults) (quietly : quiet_now → quiet) where
+  -- the run ended
+  pub round_ok : how.turns ≤ 2 ^ 64 - 1 → (told : Option ℕ) (status : ℕ) → told ≡ Some status
+      → WritesTurn how.trace fault (record { before = now; after = last; fails = fails_now; quiet = quiet_now }) sink late kernel new (Ok told)
+      → WritesWhole (MayDrive program how fault (over_all seen last (Undisturbed fails_first quiet))) first late status
+  round_ok fits told status is it =
+      let (fewer, running) = with_turn under.left under.running some in
+      turn_ok seen running under.fails later it.turned quietly fault late (untaken it.mid) refl fits told status is it.ok
+
+  -- not all was written
+  pub round_err : how.turns ≤ 2 ^ 64 - 1 → (halt : Halt) → WritesTurn how.trace fault (record { before = now; after = last; fails = fails_now; quiet = quiet_now }) sink late kernel new (Err halt)
+      → EndsEarly (MayDrive program how fault (over_front halt seen last (Undisturbed fails_first quiet))) (IsUnbegun quiet seen last) first late halt
+  round_err fits halt it =
+      let (fewer, running) = with_turn under.left under.running some in
+      turn_err seen running under.fails later it.turned quietly fault late (untaken it.mid) refl fits it.went refl halt it.err
+
+  -- the run goes on
+  pub round_on : (fails_then : Type 0) (told : Option ℕ) → told ≡ None → WritesTurn how.trace fault (record { before = now; after = last; fails = fails_now; quiet = quiet_now }) sink late kernel new (Ok told)
+      → IsUnderWay program how (made + 1) new seen last first late fails_first fails_then quiet
+  round_on fails_then told is it =
+      let (fewer, running) = with_turn under.left under.running some in
+      let goes = turn_goes seen running under.fails later it.turned quietly fault late (untaken it.mid) refl told is it.ok in
+      let (had, (takes, (so, still))) = goes_at seen running under.fails later it.turned quietly goes in
+      let next = goes_on seen running under.fails later it.turned quietly fault late (untaken it.mid) refl told is it.ok new it.stands it.left in
+      record { left = next.0; past = next.1; taken = next.2; running = next.3; fails = λ fails. absurd (still.0 fails); still = still.1 }
+
 -- where no turn is left
-module _ {g : _} {program : Program} {how : Manner} {made left : ℕ} {kernel : Kernel NoExtra g} {past : List Entry} {taken : List Event} {first sink : SinkSeen}
-    {fails_first quiet : Type 0} (seen now : WireSeen) (running : IsDriven program how made left kernel past taken seen now first sink)
-    (most : how.turns ≤ made) (still : Undisturbed fails_first quiet) (fault : End) (final : SinkSeen) where
+module _ {g : _} {program : Program} {how : Manner} {made : ℕ} {kernel : Kernel NoExtra g} {first sink : SinkSeen} {fails_first fails_now quiet : Type 0}
+    (seen now : WireSeen) (under : IsUnderWay program how made kernel seen now first sink fails_first fails_now quiet) (some : 1 ≤ how.turns)
+    (most : how.turns ≤ made) (fault : End) (final : SinkSeen) where
+  abbrev running : IsDriven program how made under.left kernel under.past under.taken seen now first sink
+  running = under.running
+
+  abbrev taken : List Event
+  taken = under.taken
+
+  still : Undisturbed fails_first quiet
+  still = (λ fails. absurd (let (none, here) = under.fails fails in omega arith), under.still)
+
   abbrev LastDrives : ProgramOutput → Type 0
   LastDrives = MayDrive program how fault (over_all seen now (Undisturbed fails_first quiet))
 

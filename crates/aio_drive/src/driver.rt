@@ -1,7 +1,11 @@
 //! The one loop that holds kernel, wire and sink.
-ghost use Rattle.std.specs.Prelude.{◌≤◌, IfOk, IfErr};
+ghost use Rattle.std.specs.Prelude.{◌≡◌, ◌≤◌, None, IfOk, IfErr};
+ghost use Rattle.model_tree.specs.Syntax.{Program};
 ghost use Rattle.model_machine.specs.Theorem.{WritesWhole};
+ghost use Rattle.aio_extra.specs.Nothing.{nothing_added};
+ghost use Rattle.aio_core.specs.Turned.{Begins, ended};
 ghost use Rattle.aio_drive.specs.Drive.{IsUnbegun, LastOf, MayDrive, Undisturbed, over_all, over_front};
+ghost use Rattle.aio_drive.specs.Ending.{WritesTurn};
 ghost use Rattle.aio_drive.specs.Outcome.{EndsEarly};
 
 use crate::halt::Halt;
@@ -42,18 +46,75 @@ pub fn drive<W: Wire, K: Sink>(
         (K.seen out.old) (K.seen out.new) halt) }
     ensures keeps { W.keeps wire.old wire.new }
 {
-    let mut kernel = Kernel::new(alloc, program, NoExtra)?;
+    match Kernel::new(alloc, program, NoExtra) {
+        Ok(mut kernel) => {
+            let driven = drive_kernel(alloc, &mut kernel, manner, fault, wire, out);
+            // Let go by a call, once: at a scope's end each of its fields would be laid out there.
+            drop(kernel);
+            driven
+        }
+        Err(_) => Err(Halt::Memory),
+    }
+}
+
+/// Makes the turns of a kernel whose run begins, and writes their lines and the last line.
+fn drive_kernel<W: Wire, K: Sink>(
+    alloc: Global,
+    kernel: &mut Kernel<NoExtra>,
+    manner: Manner,
+    fault: &End,
+    wire: &mut W,
+    out: &mut K,
+) -> Result<u8, Halt>
+    requires some { 1 ≤ manner.turns }
+    ensures ok { (program : Program) → Begins nothing_added tt program kernel.old
+        → IfOk result (WritesWhole
+        (MayDrive program manner fault.now (over_all (W.seen wire.old) (W.seen wire.new)
+        (Undisturbed (W.fails wire.old) (W.quiet wire.old wire.new))))
+        (K.seen out.old) (K.seen out.new)) }
+    ensures err { (program : Program) → Begins nothing_added tt program kernel.old
+        → IfErr result (λ halt. EndsEarly
+        (MayDrive program manner fault.now (over_front halt (W.seen wire.old) (W.seen wire.new)
+        (Undisturbed (W.fails wire.old) (W.quiet wire.old wire.new))))
+        (IsUnbegun (W.quiet wire.old wire.new) (W.seen wire.old) (W.seen wire.new))
+        (K.seen out.old) (K.seen out.new) halt) }
+    ensures keeps { W.keeps wire.old wire.new }
+{
     for _made in 0..manner.turns {
-        let went = kernel.turn(alloc, wire);
-        let events = kernel.events();
-        let status = write_turn(alloc, went, &events, manner.trace, fault, out)?;
-        match status {
-            Some(status) => return Ok(status),
-            None => {}
+        match write_next(alloc, kernel, manner.trace, fault, wire, out) {
+            Ok(Some(status)) => return Ok(status),
+            Ok(None) => {}
+            Err(halt) => return Err(halt),
         }
     }
-    let end = last_of(&kernel, manner.turns);
+    let end = last_of(kernel, manner.turns);
     write_end(alloc, &Events::new(alloc), manner.trace, &end, out)
+}
+
+/// Makes a turn, and writes its lines, and where the run ended with it the last line too. It answers
+/// the status of a run that ended.
+fn write_next<W: Wire, K: Sink>(
+    alloc: Global,
+    kernel: &mut Kernel<NoExtra>,
+    trace: bool,
+    fault: &End,
+    wire: &mut W,
+    out: &mut K,
+) -> Result<Option<u8>, Halt>
+    ensures turned { ended kernel.old ≡ None → WritesTurn trace fault.now
+        (record {
+          before = W.seen wire.old;
+          after = W.seen wire.new;
+          fails = W.fails wire.old;
+          quiet = W.quiet wire.old wire.new;
+        })
+        (K.seen out.old) (K.seen out.new) kernel.old kernel.new result }
+    ensures keeps { W.keeps wire.old wire.new }
+    ensures later { (W.seen wire.old).faults ≤ (W.seen wire.new).faults }
+{
+    let went = kernel.turn(alloc, wire);
+    let events = kernel.events();
+    write_turn(alloc, went, &events, trace, fault, out)
 }
 
 /// How a run ends that may make no further turn, of which so many were allowed.

@@ -11,7 +11,7 @@ use crate::halt::Halt;
 use crate::writing::write_all;
 use aio_core::Went;
 use aio_trace::{End, last_line, lines};
-use aio_wire::{Events, Sink, Stop};
+use aio_wire::{Events, JournalFault, Sink, Stop};
 use std::alloc::Global;
 
 /// Writes the lines of events.
@@ -74,9 +74,9 @@ pub fn write_turn<K: Sink>(
             Ok(()) => Ok(None),
             Err(halt) => Err(halt),
         },
-        Went::Finished(outcome) => write_last(alloc, events, trace, &end_of(outcome), out),
-        Went::Stalled => write_last(alloc, events, trace, &End::Stalled, out),
-        Went::Runaway(task) => write_last(alloc, events, trace, &End::Runaway(task), out),
+        Went::Finished(outcome) => write_last(alloc, events, trace, end_of(outcome), out),
+        Went::Stalled => write_last(alloc, events, trace, End::Stalled, out),
+        Went::Runaway(task) => write_last(alloc, events, trace, End::Runaway(task), out),
         Went::Stopped(stop) => write_stop(alloc, stop, events, trace, fault, out),
     }
 }
@@ -97,24 +97,36 @@ fn write_stop<K: Sink>(
         (Went.Stopped stop)) }
 {
     match stop {
-        Stop::Over(call) => write_last(alloc, events, trace, &End::Over(call), out),
-        Stop::Bad(fault) => {
-            let end = End::JournalRefused {
-                line: fault.line,
-                cause: fault.cause,
-            };
-            write_last(alloc, events, trace, &end, out)
+        Stop::Over(call) => write_last(alloc, events, trace, End::Over(call), out),
+        Stop::Bad(JournalFault { line, cause }) => {
+            let end = End::JournalRefused { line, cause };
+            write_last(alloc, events, trace, end, out)
         }
         Stop::Mismatch(count, call) => {
-            write_last(alloc, events, trace, &End::Mismatch { count, call }, out)
+            write_last(alloc, events, trace, End::Mismatch { count, call }, out)
         }
-        Stop::Failed(_) => write_last(alloc, events, trace, fault, out),
+        Stop::Failed(_) => write_ending(alloc, events, trace, fault, out),
         Stop::Memory => Err(Halt::Memory),
     }
 }
 
-// The lines of the last turn, and the last line.
+// The lines of the last turn, and the last line, which is let go here alone.
 fn write_last<K: Sink>(
+    alloc: Global,
+    events: &Events,
+    trace: bool,
+    end: End,
+    out: &mut K,
+) -> Result<Option<u8>, Halt>
+    ensures ok { IfOk result (λ status. WroteLast end
+        (lines_of_events trace events.now.events) (K.seen out.old) (K.seen out.new) status) }
+    ensures err { IfErr result (λ halt. StopsLast end
+        (lines_of_events trace events.now.events) (K.seen out.old) (K.seen out.new) halt) }
+{
+    write_ending(alloc, events, trace, &end, out)
+}
+
+fn write_ending<K: Sink>(
     alloc: Global,
     events: &Events,
     trace: bool,

@@ -1,0 +1,15 @@
+use Rattle.std.proofs.Common.{◌≡◌, ℕ, ◌≤◌, List}
+use Rattle.model_tree.specs.Syntax.{Program}
+use Rattle.aio_extra.specs.Nothing.{nothing_added}
+use Rattle.aio_core.specs.Turned.{Begins}
+use Rattle.aio_drive.proofs.Rounds.{IsUnderWay}
+use Rattle.aio_drive.proofs.driver.drive_kernel.Given as goal
+
+abbrev pub invariant-loop-made : goal.invariant-loop-made
+invariant-loop-made g l = record {
+  running : (program : Program) → Begins nothing_added tt program l.fn.kernel
+      → IsUnderWay program l.fn.manner l._made l.kernel (g.W.Wire.seen l.fn.wire) (g.W.Wire.seen l.wire)
+      (g.K.Sink.seen l.fn.out) (g.K.Sink.seen l.out) (g.W.Wire.fails l.fn.wire) (g.W.Wire.fails l.wire) (g.W.Wire.quiet l.fn.wire l.wire);
+  later : (g.W.Wire.seen l.fn.wire).faults ≤ (g.W.Wire.seen l.wire).faults;
+  keeps : g.W.Wire.keeps l.fn.wire l.wire;
+}
