@@ -38,7 +38,7 @@ pub record At {g : _} (program : Program) (how : Manner) (made left : ℕ) (kern
     (rest : List Entry) : Type 0 where
   pub s : State (Unit {0})
   pub stands : StandsFor nothing_added taken rest kernel s
-  pub on : run program (past ++ rest) how.turns ≡ run_on step_limit no_extra how.turns left s
+  pub on : (allowed more : ℕ) → run_on step_limit no_extra allowed (made + more) (start tt program (past ++ rest)) ≡ run_on step_limit no_extra allowed more s
   pub begun : made ≡ 0 → s ≡ start tt program rest
 
 -- A run of a program, driven in this manner, in which some turns were made and others are left: the answers so far, the
@@ -63,7 +63,13 @@ pub running_first : {g : _} (program : Program) (how : Manner) (kernel : Kernel 
     → IsDriven program how 0 how.turns kernel [] [] seen seen sink sink
 running_first program how kernel seen sink begins =
     record {
-      at = λ rest. record { s = start tt program rest; stands = begins rest; on = refl; begun = λ none. refl };
+      at = λ rest. record {
+        s = start tt program rest;
+        stands = begins rest;
+        on = λ allowed more.
+            let none : 0 + more ≡ more = omega arith in ap (λ n. run_on step_limit no_extra allowed n (start tt program rest)) none;
+        begun = λ none. refl;
+      };
       none = none-taken kernel (start tt program []) refl (begins []).events;
       turns = omega arith;
       told = λ rest agrees. agrees;
@@ -81,22 +87,27 @@ agreed (Some entries) = (entries, λ held e. cc)
 pub rose_earlier : (first before now : ℕ) → first ≤ before → Rose before now → Rose first now
 rose_earlier first before now earlier rose = omega arith
 
--- The run ends here: over entries that agree with what was told, it has these events and this end.
-pub record EndsHere (program : Program) (how : Manner) (first_told : Option (List Entry)) (events : List Event) (end : End) : Type 0 where
+-- The run ends here: over entries that agree with what was told, it has these events and this end. `taken` are those of the turns before.
+pub record EndsHere (program : Program) (how : Manner) (made : ℕ) (taken : List Event) (first_told : Option (List Entry)) (events : List Event)
+    (end : End) : Type 0 where
   pub entries : List Entry
+  pub before : (run program entries made).events ≡ taken
   pub agrees : Agrees first_told entries
   pub is : run program entries how.turns ≡ record { events = events; end = end }
 
 -- It was over at a call that failed.
-pub record FailsHere (program : Program) (how : Manner) (first_told : Option (List Entry)) (events : List Event) : Type 0 where
+pub record FailsHere (program : Program) (how : Manner) (made : ℕ) (taken : List Event) (first_told : Option (List Entry)) (events : List Event) : Type 0 where
   pub had : List Entry
+  pub before : (run program had made).events ≡ taken
   pub told : (rest : List Entry) × Agrees first_told (had ++ rest)
   pub call : Call
   pub is : run program had how.turns ≡ record { events = events; end = ends.Over call }
 
 -- the events go on from these, over entries that agree with what was told
-pub record GoesOnHere (program : Program) (how : Manner) (first_told : Option (List Entry)) (events : List Event) : Type 0 where
+pub record GoesOnHere (program : Program) (how : Manner) (made : ℕ) (taken : List Event) (first_told : Option (List Entry)) (events : List Event)
+    : Type 0 where
   pub entries : List Entry
+  pub before : (run program entries made).events ≡ taken
   pub agrees : Agrees first_told entries
   pub more : List Event
   pub is : (run program entries how.turns).events ≡ events ++ more
@@ -109,32 +120,48 @@ module _ {g : _} {program : Program} {how : Manner} {made left : ℕ} {kernel : 
   told_all rest =
       (running.at rest).stands.events ∙ ap (λ (es : List Event). taken ++ es) running.none ∙ append-nil taken
 
+  -- the run from the start is the run from here
+  pub ran : (rest : List Entry) → run program (past ++ rest) how.turns ≡ run_on step_limit no_extra how.turns left (running.at rest).s
+  ran rest =
+      ap (λ n. run_on step_limit no_extra how.turns n (start tt program (past ++ rest))) (sym running.turns)
+      ∙ (running.at rest).on how.turns left
+
+  -- the turns so far are all that it makes where no more are allowed
+  pub ran_so_far : (rest : List Entry) → (run program (past ++ rest) made).events ≡ taken
+  ran_so_far rest =
+      let here = running.at rest in
+      let all : made ≡ made + 0 = omega arith in
+      ap (λ n. (run_on step_limit no_extra made n (start tt program (past ++ rest))).events) all
+      ∙ ap (λ (it : Run). it.events) (here.on made 0 ∙ run_on-last made here.s) ∙ told_all rest
+
   -- what was written is a front of the run
-  pub goes_on_here : GoesOnHere program how first_seen.left taken
+  pub goes_on_here : GoesOnHere program how made taken first_seen.left taken
   goes_on_here =
       let (rest, agrees) = agreed now_seen.left in
       let here = running.at rest in
       let grew = run-grows step_limit no_extra how.turns left here.s in
       record {
         entries = past ++ rest;
+        before = ran_so_far rest;
         agrees = running.told rest agrees;
         more = grew.0;
-        is = ap (λ (it : Run). it.events) here.on ∙ grew.1 ∙ ap (λ (es : List Event). es ++ grew.0) (told_all rest);
+        is = ap (λ (it : Run). it.events) (ran rest) ∙ grew.1 ∙ ap (λ (es : List Event). es ++ grew.0) (told_all rest);
       }
 
   -- where no turn is left
   pub ends_last : left ≡ 0 → (end : End)
       → ((past : List Event) (answers : List Entry) (s : State (Unit {0})) → StandsFor nothing_added past answers kernel s
       → end ≡ turns_over (is_stalled no_extra s) how.turns)
-      → EndsHere program how first_seen.left taken end
+      → EndsHere program how made taken first_seen.left taken end
   ends_last none end is =
       let (rest, agrees) = agreed now_seen.left in
       let here = running.at rest in
       record {
         entries = past ++ rest;
+        before = ran_so_far rest;
         agrees = running.told rest agrees;
         is =
-            here.on ∙ ap (λ n. run_on step_limit no_extra how.turns n here.s) none ∙ run_on-last how.turns here.s
+            ran rest ∙ ap (λ n. run_on step_limit no_extra how.turns n here.s) none ∙ run_on-last how.turns here.s
             ∙ ap (λ (e : End). record { events = here.s.events; end = e }) (sym (is taken rest here.s here.stands))
             ∙ ap (λ (es : List Event). record { events = es; end = end }) (told_all rest);
       }
@@ -149,7 +176,7 @@ module _ {g : _} {program : Program} {how : Manner} {made left : ℕ} {kernel : 
 
   on_turn : (entries : List Entry) (went : Went (Unit {0})) → turn step_limit no_extra (running.at entries).s ≡ went
       → run program (past ++ entries) how.turns ≡ run_after (run_on step_limit no_extra how.turns left) went
-  on_turn entries went e = (running.at entries).on ∙ run_on-turn how.turns left (running.at entries).s went e
+  on_turn entries went e = ran running entries ∙ run_on-turn how.turns left (running.at entries).s went e
 
   ends_with : (entries : List Entry) (ways : End → State (Unit {0}) → Type 0) → (it : Ends nothing_added ways taken new (running.at entries).s)
       → run program (past ++ entries) how.turns ≡ record { events = so_far; end = it.end }
@@ -158,10 +185,11 @@ module _ {g : _} {program : Program} {how : Manner} {made left : ℕ} {kernel : 
 
   -- over entries that agree with what is told
   ends_over : (entries : List Entry) (ways : End → State (Unit {0}) → Type 0) → Agrees now_seen.left entries
-      → (it : Ends nothing_added ways taken new (running.at entries).s) → (end : End) → end ≡ it.end → EndsHere program how first_seen.left so_far end
+      → (it : Ends nothing_added ways taken new (running.at entries).s) → (end : End) → end ≡ it.end → EndsHere program how made taken first_seen.left so_far end
   ends_over entries ways agrees it end is =
       record {
         entries = past ++ entries;
+        before = ran_so_far running entries;
         agrees = running.told entries agrees;
         is = ends_with entries ways it ∙ ap (λ (e : End). record { events = so_far; end = e }) (sym is);
       }
@@ -173,7 +201,7 @@ module _ {g : _} {program : Program} {how : Manner} {made left : ℕ} {kernel : 
       let here = running.at (map Answered had ++ rest) in turns taken rest here.s tt here.stands
 
   ends_so : (had : List Answer) (wanted : End) → Takes now_seen.left new_seen.left had → EndsAs nothing_added had AnyLeft (Is wanted) kernel new
-      → (end : End) → end ≡ wanted → EndsHere program how first_seen.left so_far end
+      → (end : End) → end ≡ wanted → EndsHere program how made taken first_seen.left so_far end
   ends_so had wanted takes turns end is =
       let (rest, agrees) = agreed new_seen.left in
       let it = ends_after had (Is wanted) takes turns rest agrees in
@@ -191,7 +219,7 @@ module _ {g : _} {program : Program} {how : Manner} {made left : ℕ} {kernel : 
 
   ends_misfit : how.turns ≤ 2 ^ 64 - 1 → (had : List Answer) (count : ℕ) (call : Call) → Takes now_seen.left new_seen.left had
       → EndsAs nothing_added had AnyLeft (IsMismatch count call) kernel new
-      → (end : End) → end ≡ ends.Mismatch count call → EndsHere program how first_seen.left so_far end
+      → (end : End) → end ≡ ends.Mismatch count call → EndsHere program how made taken first_seen.left so_far end
   ends_misfit fits had count call takes turns end is =
       let (rest, agrees) = agreed new_seen.left in
       let it = ends_after had (IsMismatch count call) takes turns rest agrees in
@@ -200,7 +228,7 @@ module _ {g : _} {program : Program} {how : Manner} {made left : ℕ} {kernel : 
       (is ∙ ap (λ n. ends.Mismatch n call) count_is ∙ sym it.way.0)
 
   pub ended : how.turns ≤ 2 ^ 64 - 1 → (said : code.Went) → TurnsTo nothing_added now_seen new_seen kernel new said
-      → (end : End) → EndedSo end said → EndsHere program how first_seen.left so_far end
+      → (end : End) → EndedSo end said → EndsHere program how made taken first_seen.left so_far end
   ended fits went.Went comes end is = absurd is
   ended fits (went.Finished outcome) (had, (takes, turns)) end is = ends_so had (end_of outcome) takes turns end is
   ended fits went.Stalled (same, turns) end is =
@@ -225,13 +253,14 @@ module _ {g : _} {program : Program} {how : Manner} {made left : ℕ} {kernel : 
   had_so_far had rest = simp (append_assoc, append-nil)
 
   pub fails_so : (call : Call) → TurnsTo nothing_added now_seen new_seen kernel new (went.Stopped (stop.Failed call))
-      → FailsHere program how first_seen.left so_far
+      → FailsHere program how made taken first_seen.left so_far
   fails_so call (had, (takes, turns, rose)) =
       let entries = map Answered had ++ [] in
       let it = turns taken [] (running.at entries).s refl (running.at entries).stands in
       let (rest, agrees) = agreed new_seen.left in
       record {
         had = past ++ entries;
+        before = ran_so_far running entries;
         told = (
           rest,
           subst (λ (es : List Entry). Agrees first_seen.left es) (had_so_far had rest) (running.told (map Answered had ++ rest) (takes rest agrees)),
@@ -241,7 +270,7 @@ module _ {g : _} {program : Program} {how : Manner} {made left : ℕ} {kernel : 
       }
 
   pub fails : (said : code.Went) → TurnsTo nothing_added now_seen new_seen kernel new said → (call : Call)
-      → said ≡ went.Stopped (stop.Failed call) → FailsHere program how first_seen.left so_far × Rose now_seen.faults new_seen.faults
+      → said ≡ went.Stopped (stop.Failed call) → FailsHere program how made taken first_seen.left so_far × Rose now_seen.faults new_seen.faults
   fails said comes call is =
       let so = subst (λ (w : code.Went). TurnsTo nothing_added now_seen new_seen kernel new w) is comes in
       (fails_so call so, so.1.2)
@@ -253,13 +282,14 @@ module _ {g : _} {program : Program} {how : Manner} {made left : ℕ} {kernel : 
     goes_over rest = let here = running.at (map Answered had ++ rest) in goes taken rest here.s here.stands
 
     -- the run goes on after it
-    pub goes_further : GoesOnHere program how first_seen.left so_far
+    pub goes_further : GoesOnHere program how made taken first_seen.left so_far
     goes_further =
         let (rest, agrees) = agreed new_seen.left in
         let (now, (went, stands)) = goes_over rest in
         let grew = run-grows step_limit no_extra how.turns left now in
         record {
           entries = past ++ (map Answered had ++ rest);
+          before = ran_so_far running (map Answered had ++ rest);
           agrees = running.told (map Answered had ++ rest) (takes rest agrees);
           more = grew.0;
           is =
@@ -283,8 +313,12 @@ module _ {g : _} {program : Program} {how : Manner} {made left : ℕ} {kernel : 
               record {
                 s = now;
                 stands = takes_out taken rest now stands;
-                on =
-                    ap (λ (es : List Entry). run program es how.turns) (sym (regrouped rest)) ∙ on_turn (map Answered had ++ rest) (Goes now) went;
+                on = λ allowed more.
+                    let one : (made + 1) + more ≡ made + suc more = omega arith in
+                    ap (λ n. run_on step_limit no_extra allowed n (start tt program ((past ++ map Answered had) ++ rest))) one
+                    ∙ ap (λ (es : List Entry). run_on step_limit no_extra allowed (made + suc more) (start tt program es)) (sym (regrouped rest))
+                    ∙ (running.at (map Answered had ++ rest)).on allowed (suc more)
+                    ∙ run_on-turn allowed more (running.at (map Answered had ++ rest)).s (Goes now) went;
                 begun = λ none. absurd (omega arith);
               };
           none = none;

@@ -21,13 +21,16 @@ use Rattle.aio_core.specs.Turning.{AsksBy, OfFailing, UnlessFailed}
 use Rattle.aio_core.specs.declared.kernel.Kernel.{Kernel}
 use Rattle.aio_core.specs.declared.went.Went as code
 use Rattle.aio_core.specs.declared.went.Went.TheVariants as went
-use Rattle.aio_drive.specs.Drive.{IsUnbegun, MayDrive, Undisturbed, over_front}
+use Rattle.model_commands.specs.Recorded.{Records, recorded}
+use Rattle.aio_drive.specs.Drive.{Driven, IsUntold, MayDrive, TellsUntil, Undisturbed, driven_over, wire_by}
 use Rattle.aio_drive.specs.Ending.{EndedSo}
 use Rattle.aio_drive.specs.Outcome.{EndsEarly}
+use Rattle.aio_drive.specs.Recording.{Recording}
 use Rattle.aio_drive.specs.declared.driver.Manner.{Manner}
 use Rattle.aio_drive.specs.declared.halt.Halt.TheVariants.{Memory}
 use Rattle.aio_drive.proofs.Driving.{GoesOnHere, IsDriven, asked_all, asked_more, asked_once, fails_so, goes_on_here}
 use Rattle.aio_drive.proofs.Fronts.{append-nil, took-nil}
+use Rattle.aio_drive.proofs.Telling.{records_none}
 use Rattle.aio_drive.proofs.Written.{fails_silent, goes_early, nothing_at_all}
 
 -- a run that begins asks
@@ -82,38 +85,42 @@ module _ {g : _} {program : Program} {how : Manner} {made left : ℕ} {kernel : 
   alive (went.Stopped (stop.Failed call)) comes end is failing none = is
   alive (went.Stopped stop.Memory) comes end is failing none = is
 
--- memory was refused in the turn, or after it
+-- Memory was refused in the turn, or after it: nothing more was recorded or written.
 module _ {g : _} {program : Program} {how : Manner} {made left : ℕ} {kernel : Kernel NoExtra g} {past : List Entry} {taken : List Event}
-    {now : WireSeen} {first sink : SinkSeen} (new : Kernel NoExtra g) (seen last : WireSeen) (fault : End) (fails quiet : Type 0)
+    {now : WireSeen} {first sink : SinkSeen} (new : Kernel NoExtra g) (seen last : WireSeen) (fault : End) (fails quiet : Type 0) (shelf : Recording) (same : Type 0)
     (running : IsDriven program how made (suc left) kernel past taken seen now first sink) (rose : Rose now.faults last.faults → Rose seen.faults last.faults)
-    (first_turn : fails → made ≡ 0) (said : code.Went) (asks : AsksBy (untaken kernel) (untaken new) now last said) where
+    (first_turn : fails → made ≡ 0) (said : code.Went) (asks : AsksBy (untaken kernel) (untaken new) now last said)
+    (noted : Records shelf.name (recorded taken) shelf.old shelf.new) (unmade : made ≡ 0 → same) where
+  abbrev it : Driven
+  it = driven_over seen last fails quiet shelf same
+
   abbrev EndsUnsaid : SinkSeen → SinkSeen → Type 0
-  EndsUnsaid old late =
-      EndsEarly (MayDrive program how fault (over_front Memory seen last (Undisturbed fails quiet))) (IsUnbegun quiet seen last) old late Memory
+  EndsUnsaid old late = EndsEarly (MayDrive program how fault (wire_by it (TellsUntil Memory it))) (IsUntold it) old late Memory
+
+  abbrev once : AsksOnce now last
+  once = asked_once new last running said asks
 
   -- what was asked so far, and one call at most
   once_all : taken ≡ [] → AsksOnce seen last
   once_all none =
-      let once = asked_once new last running said asks in
       (once.0, once.1, subst (λ es. Asks (es ++ once.0) seen last) none (asked_more new last running said asks))
 
-  here : GoesOnHere program how seen.left (taken ++ [])
-  here = subst (λ (es : List Event). GoesOnHere program how seen.left es) (sym (append-nil taken)) (goes_on_here running)
+  here : GoesOnHere program how made taken seen.left (taken ++ [])
+  here = subst (λ (es : List Event). GoesOnHere program how made taken seen.left es) (sym (append-nil taken)) (goes_on_here running)
 
   by_turns : quiet → (n : ℕ) → made ≡ n → EndsUnsaid first sink
   by_turns holds zero none =
-      nothing_at_all (MayDrive program how fault (over_front Memory seen last (Undisturbed fails quiet))) (IsUnbegun quiet seen last) first sink
-      (lines_of_events how.trace taken) running.sink (ap (lines_of_events how.trace) (running.begun none)) (holds, once_all (running.begun none))
+      nothing_at_all (MayDrive program how fault (wire_by it (TellsUntil Memory it))) (IsUntold it) first sink
+      (lines_of_events how.trace taken) running.sink (ap (lines_of_events how.trace) (running.begun none))
+      ((holds, once_all (running.begun none)), unmade none)
   by_turns holds (suc n) some =
-      let once = asked_once new last running said asks in
-      goes_early program how fault seen last (Undisturbed fails quiet) quiet first sink sink taken [] running.sink here
+      goes_early program how fault it made first sink sink shelf.new taken [] running.sink noted here
       (λ is. absurd (cc (first_turn is)), holds) Memory (
         taken,
         here.more,
         here.is ∙ ap (λ es. es ++ here.more) (append-nil taken),
-        once.0,
-        once.1,
-        asked_more new last running said asks,
+        (once.0, once.1, asked_more new last running said asks),
+        (recorded taken, ([], append-nil (recorded taken)), noted),
       ) ([], ([], refl), sym (took-nil sink))
 
   pub refused : TurnsTo nothing_added now last kernel new said → UnlessFailed quiet said → EndsUnsaid first sink
@@ -122,7 +129,8 @@ module _ {g : _} {program : Program} {how : Manner} {made left : ℕ} {kernel : 
       at : ((call : Call) × (said ≡ went.Stopped (stop.Failed call))) ⊎ quiet → EndsUnsaid first sink
       at (inl (call, failed)) =
           let so = subst (λ (w : code.Went). TurnsTo nothing_added now last kernel new w) failed comes in
-          fails_silent program how fault seen last (Undisturbed fails quiet) quiet first sink sink taken (untaken new) running.sink
+          fails_silent program how fault it made first sink sink shelf.new taken (untaken new) running.sink noted
           (fails_so new last running call so) (rose so.1.2)
           (asked_all new last running said asks (λ none. absurd (let e = sym failed ∙ none in cc e)))
+          (records_none shelf.name shelf.new) refl
       at (inr holds) = by_turns holds made refl

@@ -1,21 +1,28 @@
 -- What driving a run leaves.
-use Rattle.std.specs.Prelude.{◌≡◌, ℕ, ◌≤◌, List, ◌++◌, ◌⊎◌, length}
+use Rattle.std.specs.Prelude.{◌≡◌, ℕ, ◌≤◌, List, ◌++◌, ◌⊎◌, Result, IfOk, IfErr, length}
 use Rattle.model_tree.specs.Syntax.{Program}
 use Rattle.model_wire.specs.Event.{Event}
 use Rattle.model_wire.specs.Journal.{Entry}
-use Rattle.model_wire.specs.Told.{Agrees, Rose, WireSeen}
-use Rattle.model_wire.specs.Trace.{End}
+use Rattle.model_wire.specs.Told.{Agrees, Rose, SinkSeen, WireSeen, took}
+use Rattle.model_wire.specs.Trace.{End, end_text, line, lines_of_events}
 use Rattle.model_machine.specs.Extra.{no_extra}
 use Rattle.model_machine.specs.Program.{IsOver, output_of}
 use Rattle.model_machine.specs.Run.{run, turns_over}
 use Rattle.model_machine.specs.State.{State}
-use Rattle.model_machine.specs.Theorem.{ProgramOutput}
+use Rattle.model_machine.specs.Theorem.{IsFrontOf, ProgramOutput}
+use Rattle.model_machine.specs.Transcript.{status_of}
 use Rattle.model_machine.specs.Turn.{is_stalled}
+use Rattle.model_commands.specs.Recorded.{FailsRecording, Records, recorded}
 use Rattle.aio_extra.specs.Nothing.{nothing_added}
 use Rattle.aio_extra.specs.declared.nothing.NoExtra.{NoExtra}
 use Rattle.aio_core.specs.Asked.{Asks, AsksOnce, calls_in}
 use Rattle.aio_core.specs.Turned.{StandsFor}
 use Rattle.aio_core.specs.declared.kernel.Kernel.{Kernel}
+use Rattle.aio_drive.specs.Outcome.{EndsEarly}
+use Rattle.aio_drive.specs.Recording.{Recording}
+use Rattle.aio_drive.specs.Writing.{StopsWriting}
+use Rattle.aio_drive.specs.declared.cut.Cut.{Cut}
+use Rattle.aio_drive.specs.declared.cut.Cut.TheVariants.{Halted, Unrecorded}
 use Rattle.aio_drive.specs.declared.driver.Manner.{Manner}
 use Rattle.aio_drive.specs.declared.halt.Halt.{Halt}
 use Rattle.aio_drive.specs.declared.halt.Halt.TheVariants.{Memory, Sink}
@@ -24,8 +31,8 @@ use Rattle.aio_drive.specs.declared.halt.Halt.TheVariants.{Memory, Sink}
 abbrev pub Undisturbed : (fails quiet : Type 0) → Type 0
 Undisturbed fails quiet = (fails → ⊥) × quiet
 
--- What is known of a wire over a drive: what is seen of it before and after, what stays of it while it doesn't fail, and that it was
--- asked what a run's events say.
+-- What is known of a wire over a drive: what is seen of it before and after, what stays of it while it doesn't fail, and what is known
+-- by a run's events: that it was asked what they say.
 pub record DrivenWire : Type 1 where
   pub before : WireSeen
   pub after : WireSeen
@@ -44,6 +51,7 @@ MayDrive program how fault wire output =
     × (output ≡ output_of how.trace (record (run program had how.turns) { end = fault }))
     × wire.asked (run program had how.turns).events)
 
+-- ---- a run of which nothing is recorded
 -- The wire was asked all that the run's events say.
 abbrev pub over_all : (before after : WireSeen) → (undisturbed : Type 0) → DrivenWire
 over_all before after undisturbed =
@@ -65,8 +73,85 @@ over_front halt before after undisturbed =
 abbrev pub IsUnbegun : (quiet : Type 0) → (before after : WireSeen) → Type 0
 IsUnbegun quiet before after = quiet × AsksOnce before after
 
+-- ---- a run that may be recorded
+-- What is known of the outside over such a drive: of the wire; of the shelf with the file in which answers are recorded; and that this
+-- shelf is as it was.
+pub record Driven : Type 1 where
+  pub before : WireSeen
+  pub after : WireSeen
+  pub undisturbed : Type 0
+  pub quiet : Type 0
+  pub shelf : Recording
+  pub same : Type 0
+
+abbrev pub driven_over : (before after : WireSeen) → (fails quiet : Type 0) → Recording → (same : Type 0) → Driven
+driven_over before after fails quiet shelf same = record {
+  before = before;
+  after = after;
+  undisturbed = Undisturbed fails quiet;
+  quiet = quiet;
+  shelf = shelf;
+  same = same;
+}
+
+-- It was told all that these events say: the wire was asked their calls, and their answers were recorded, where a file is named.
+abbrev pub TellsAll : Driven → List Event → Type 0
+TellsAll it events = Asks events it.before it.after × Records it.shelf.name (recorded events) it.shelf.old it.shelf.new
+
+-- How much of a run that was cut short it was told: all that the first of its events say; or, where memory was refused, one call
+-- besides at most, and a front of their answers.
+abbrev pub TellsUntil : Halt → Driven → List Event → Type 0
+TellsUntil Memory it events =
+    (front : List Event) × (rest : List Event) × (events ≡ front ++ rest)
+    × ((more : List Event) × (length (calls_in more) ≤ 1) × Asks (front ++ more) it.before it.after)
+    × ((bytes : List ℕ) × IsFrontOf bytes (recorded front) × Records it.shelf.name bytes it.shelf.old it.shelf.new)
+TellsUntil Sink it events = (front : List Event) × (rest : List Event) × (events ≡ front ++ rest) × TellsAll it front
+
+abbrev pub wire_by : Driven → (List Event → Type 0) → DrivenWire
+wire_by it known = record { before = it.before; after = it.after; undisturbed = it.undisturbed; asked = known }
+
+-- What may be written of a run that is told whole.
+abbrev pub MayTell : Program → Manner → (fault : End) → Driven → ProgramOutput → Type 0
+MayTell program how fault it output = MayDrive program how fault (wire_by it (TellsAll it)) output
+
+-- nothing is known of the run yet, and nothing was recorded
+abbrev pub IsUntold : Driven → Type 0
+IsUntold it = IsUnbegun it.quiet it.before it.after × it.same
+
+-- A turn's answers could not be recorded: of its entries the file has a front, and it failed. The lines of the turns before it were
+-- written, and none of its own.
+pub record StopsRecording (program : Program) (how : Manner) (it : Driven) (old new : SinkSeen) : Type 0 where
+  pub had : List Entry
+  pub told : (rest : List Entry) × Agrees it.before.left (had ++ rest)
+  -- so many turns were made before it
+  pub made : ℕ
+  pub fewer : made ≤ how.turns
+  -- the events of it, and of those after it
+  pub turn : List Event
+  pub more : List Event
+  pub events : (run program had how.turns).events ≡ ((run program had made).events ++ turn) ++ more
+  pub asked : Asks ((run program had made).events ++ turn) it.before it.after
+  pub front : List ℕ
+  pub some : IsFrontOf front (recorded turn)
+  pub failed : FailsRecording it.shelf.name (recorded (run program had made).events ++ front) it.shelf.old it.shelf.new
+  pub wrote : new ≡ took old (lines_of_events how.trace (run program had made).events)
+
+-- what is left where such a run was cut short
+abbrev pub CutsShort : Program → Manner → (fault : End) → Driven → (old new : SinkSeen) → Cut → Type 0
+CutsShort program how fault it old new (Halted halt) =
+    EndsEarly (MayDrive program how fault (wire_by it (TellsUntil halt it))) (IsUntold it) old new halt
+CutsShort program how fault it old new Unrecorded = StopsRecording program how it old new
+
+-- ---- the last turn
 -- how a run ends that may make no further turn
 abbrev pub LastOf : {g : _} → Kernel NoExtra g → (turns : ℕ) → End → Type 0
 LastOf kernel turns end =
     (past : List Event) (answers : List Entry) (s : State (Unit {0})) → StandsFor nothing_added past answers kernel s
     → end ≡ turns_over (is_stalled no_extra s) turns
+
+-- the last line of such a run was written, with its status, or writing it stopped
+pub record WritesLimit {g : _} (kernel : Kernel NoExtra g) (how : Manner) (old new : SinkSeen) (result : Result ℕ Halt) : Type 0 where
+  pub end : End
+  pub last : LastOf kernel how.turns end
+  pub ok : IfOk result (λ status. (status ≡ status_of end) × (new ≡ took old (line (end_text end))))
+  pub err : IfErr result (StopsWriting (line (end_text end)) old new)

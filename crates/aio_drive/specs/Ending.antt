@@ -1,18 +1,11 @@
 -- How a run ends with a turn, and what is written then.
-use Rattle.std.specs.Prelude.{◌≡◌, ℕ, Bool, List, [], ◌++◌, Option, Some, None, Result, IfOk, IfErr}
+use Rattle.std.specs.Prelude.{◌≡◌, ℕ, List, ◌++◌, Option, Some, None}
 use Rattle.model_wire.specs.declared.event.End.TheVariants as end
-use Rattle.model_wire.specs.Event.{Event}
-use Rattle.model_wire.specs.Journal.{Entry}
 use Rattle.model_wire.specs.Told.{SinkSeen, took}
-use Rattle.model_wire.specs.Trace.{End, end_text, line, lines_of_events}
+use Rattle.model_wire.specs.Trace.{End, end_text, line}
 use Rattle.model_machine.specs.Outcomes.{end_of}
-use Rattle.model_machine.specs.State.{State}
 use Rattle.model_machine.specs.Transcript.{status_of}
 use Rattle.aio_wire.specs.declared.stop.Stop.TheVariants as stop
-use Rattle.aio_extra.specs.Nothing.{nothing_added}
-use Rattle.aio_extra.specs.declared.nothing.NoExtra.{NoExtra}
-use Rattle.aio_core.specs.Turned.{StandsFor, TurnedBy, WireTurn, untaken}
-use Rattle.aio_core.specs.declared.kernel.Kernel.{Kernel}
 use Rattle.aio_core.specs.declared.went.Went.{Went}
 use Rattle.aio_core.specs.declared.went.Went.TheVariants as went
 use Rattle.aio_drive.specs.Writing.{StopsWriting}
@@ -62,17 +55,3 @@ StopsTurn fault lines old new halt (went.Stopped (stop.Bad cause)) = StopsLast (
 StopsTurn fault lines old new halt (went.Stopped (stop.Mismatch count call)) = StopsLast (end.Mismatch count call) lines old new halt
 StopsTurn fault lines old new halt (went.Stopped (stop.Failed call)) = StopsLast fault lines old new halt
 StopsTurn fault lines old new halt (went.Stopped stop.Memory) = (halt ≡ Memory) × (new ≡ old)
-
--- A turn was made, its events were taken out, and its lines were written, or writing them stopped. `mid` is the kernel after the turn,
--- whose events weren't taken out yet; `went` is what the turn answered, and `said` what it came to.
-pub record WritesTurn {g : _} (trace : Bool) (fault : End) (wire : WireTurn) (sink late : SinkSeen) (old new : Kernel NoExtra g)
-    (result : Result (Option ℕ) Halt) : Type 0 where
-  pub mid : Kernel NoExtra g
-  pub went : Went
-  pub said : Went
-  pub turned : TurnedBy nothing_added wire old mid went said
-  pub stands : (past : List Event) (answers : List Entry) (s : State (Unit {0})) → StandsFor nothing_added past answers mid s
-      → StandsFor nothing_added (past ++ untaken mid) answers new s
-  pub left : untaken new ≡ []
-  pub ok : IfOk result (λ status. WroteTurn fault (lines_of_events trace (untaken mid)) sink late status went)
-  pub err : IfErr result (λ halt. StopsTurn fault (lines_of_events trace (untaken mid)) sink late halt went)

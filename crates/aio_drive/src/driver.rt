@@ -1,20 +1,23 @@
 //! The one loop that holds kernel, wire and sink.
 ghost use Rattle.std.specs.Prelude.{◌≡◌, ◌≤◌, None, IfOk, IfErr};
+ghost use Rattle.std.specs.Option.{option_copied};
 ghost use Rattle.model_tree.specs.Syntax.{Program};
 ghost use Rattle.model_machine.specs.Theorem.{WritesWhole};
 ghost use Rattle.aio_extra.specs.Nothing.{nothing_added};
 ghost use Rattle.aio_core.specs.Turned.{Begins, ended};
-ghost use Rattle.aio_drive.specs.Drive.{IsUnbegun, LastOf, MayDrive, Undisturbed, over_all, over_front};
-ghost use Rattle.aio_drive.specs.Ending.{WritesTurn};
+ghost use Rattle.aio_drive.specs.Drive.{CutsShort, IsUnbegun, LastOf, MayDrive, MayTell, Undisturbed, WritesLimit, driven_over, over_all, over_front};
+ghost use Rattle.aio_drive.specs.Recording.{TellsTurn};
 ghost use Rattle.aio_drive.specs.Outcome.{EndsEarly};
 
+use crate::cut::Cut;
 use crate::halt::Halt;
-use crate::lines::{write_end, write_turn};
+use crate::lines::{tell_turn, write_end};
+use crate::recording::NoShelf;
 use aio_core::Kernel;
 use aio_extra::NoExtra;
 use aio_program::Program;
 use aio_trace::End;
-use aio_wire::{Events, Sink, Wire};
+use aio_wire::{Events, Shelf, Sink, Wire};
 use std::alloc::Global;
 
 /// How a run is driven: with the trace or without it, and of at most so many turns.
@@ -46,75 +49,168 @@ pub fn drive<W: Wire, K: Sink>(
         (K.seen out.old) (K.seen out.new) halt) }
     ensures keeps { W.keeps wire.old wire.new }
 {
+    match drive_recorded(alloc, program, manner, fault, wire, None, &mut NoShelf, out) {
+        Ok(status) => Ok(status),
+        Err(Cut::Halted(halt)) => Err(halt),
+        Err(Cut::Unrecorded) => Err(Halt::Sink),
+    }
+}
+
+/// The same, where the answers of each turn are recorded in a file, if one is named, before the
+/// turn's lines are written. Where they can't be, the run is cut short there.
+pub fn drive_recorded<W: Wire, F: Shelf, K: Sink>(
+    alloc: Global,
+    program: &Program,
+    manner: Manner,
+    fault: &End,
+    wire: &mut W,
+    journal: Option<&str>,
+    shelf: &mut F,
+    out: &mut K,
+) -> Result<u8, Cut>
+    requires some { 1 ≤ manner.turns }
+    ensures ok { IfOk result (WritesWhole
+        (MayTell program.now manner fault.now
+        (driven_over (W.seen wire.old) (W.seen wire.new) (W.fails wire.old)
+        (W.quiet wire.old wire.new)
+        (record {
+          name = option_copied journal.entry;
+          old = F.seen shelf.old;
+          new = F.seen shelf.new;
+        })
+        (shelf.new ≡ shelf.old)))
+        (K.seen out.old) (K.seen out.new)) }
+    ensures err { IfErr result (CutsShort program.now manner fault.now
+        (driven_over (W.seen wire.old) (W.seen wire.new) (W.fails wire.old)
+        (W.quiet wire.old wire.new)
+        (record {
+          name = option_copied journal.entry;
+          old = F.seen shelf.old;
+          new = F.seen shelf.new;
+        })
+        (shelf.new ≡ shelf.old))
+        (K.seen out.old) (K.seen out.new)) }
+    ensures keeps { W.keeps wire.old wire.new }
+{
     match Kernel::new(alloc, program, NoExtra) {
         Ok(mut kernel) => {
-            let driven = drive_kernel(alloc, &mut kernel, manner, fault, wire, out);
+            let driven = drive_kernel(alloc, &mut kernel, manner, fault, wire, journal, shelf, out);
             // Let go by a call, once: at a scope's end each of its fields would be laid out there.
             drop(kernel);
             driven
         }
-        Err(_) => Err(Halt::Memory),
+        Err(_) => Err(Cut::Halted(Halt::Memory)),
     }
 }
 
-/// Makes the turns of a kernel whose run begins, and writes their lines and the last line.
-fn drive_kernel<W: Wire, K: Sink>(
+/// Makes the turns of a kernel whose run begins, records their answers, and writes their lines and
+/// the last line.
+fn drive_kernel<W: Wire, F: Shelf, K: Sink>(
     alloc: Global,
     kernel: &mut Kernel<NoExtra>,
     manner: Manner,
     fault: &End,
     wire: &mut W,
+    journal: Option<&str>,
+    shelf: &mut F,
     out: &mut K,
-) -> Result<u8, Halt>
+) -> Result<u8, Cut>
     requires some { 1 ≤ manner.turns }
     ensures ok { (program : Program) → Begins nothing_added tt program kernel.old
         → IfOk result (WritesWhole
-        (MayDrive program manner fault.now (over_all (W.seen wire.old) (W.seen wire.new)
-        (Undisturbed (W.fails wire.old) (W.quiet wire.old wire.new))))
+        (MayTell program manner fault.now
+        (driven_over (W.seen wire.old) (W.seen wire.new) (W.fails wire.old)
+        (W.quiet wire.old wire.new)
+        (record {
+          name = option_copied journal.entry;
+          old = F.seen shelf.old;
+          new = F.seen shelf.new;
+        })
+        (shelf.new ≡ shelf.old)))
         (K.seen out.old) (K.seen out.new)) }
     ensures err { (program : Program) → Begins nothing_added tt program kernel.old
-        → IfErr result (λ halt. EndsEarly
-        (MayDrive program manner fault.now (over_front halt (W.seen wire.old) (W.seen wire.new)
-        (Undisturbed (W.fails wire.old) (W.quiet wire.old wire.new))))
-        (IsUnbegun (W.quiet wire.old wire.new) (W.seen wire.old) (W.seen wire.new))
-        (K.seen out.old) (K.seen out.new) halt) }
+        → IfErr result (CutsShort program manner fault.now
+        (driven_over (W.seen wire.old) (W.seen wire.new) (W.fails wire.old)
+        (W.quiet wire.old wire.new)
+        (record {
+          name = option_copied journal.entry;
+          old = F.seen shelf.old;
+          new = F.seen shelf.new;
+        })
+        (shelf.new ≡ shelf.old))
+        (K.seen out.old) (K.seen out.new)) }
     ensures keeps { W.keeps wire.old wire.new }
 {
     for _made in 0..manner.turns {
-        match write_next(alloc, kernel, manner.trace, fault, wire, out) {
+        match tell_next(
+            alloc,
+            kernel,
+            manner.trace,
+            fault,
+            wire,
+            journal,
+            shelf,
+            out,
+        ) {
             Ok(Some(status)) => return Ok(status),
             Ok(None) => {}
-            Err(halt) => return Err(halt),
+            Err(cut) => return Err(cut),
         }
     }
-    let end = last_of(kernel, manner.turns);
-    write_end(alloc, &Events::new(alloc), manner.trace, &end, out)
+    match write_limit(alloc, kernel, manner, out) {
+        Ok(status) => Ok(status),
+        Err(halt) => Err(Cut::Halted(halt)),
+    }
 }
 
-/// Makes a turn, and writes its lines, and where the run ended with it the last line too. It answers
-/// the status of a run that ended.
-fn write_next<W: Wire, K: Sink>(
+/// Makes a turn, records its answers, and writes its lines, and where the run ended with it the last
+/// line too. It answers the status of a run that ended.
+fn tell_next<W: Wire, F: Shelf, K: Sink>(
     alloc: Global,
     kernel: &mut Kernel<NoExtra>,
     trace: bool,
     fault: &End,
     wire: &mut W,
+    journal: Option<&str>,
+    shelf: &mut F,
     out: &mut K,
-) -> Result<Option<u8>, Halt>
-    ensures turned { ended kernel.old ≡ None → WritesTurn trace fault.now
+) -> Result<Option<u8>, Cut>
+    ensures turned { ended kernel.old ≡ None → TellsTurn trace fault.now
         (record {
           before = W.seen wire.old;
           after = W.seen wire.new;
           fails = W.fails wire.old;
           quiet = W.quiet wire.old wire.new;
         })
-        (K.seen out.old) (K.seen out.new) kernel.old kernel.new result }
+        (record {
+          name = option_copied journal.entry;
+          old = F.seen shelf.old;
+          new = F.seen shelf.new;
+        })
+        (shelf.new ≡ shelf.old) (K.seen out.old) (K.seen out.new) kernel.old kernel.new result }
     ensures keeps { W.keeps wire.old wire.new }
     ensures later { (W.seen wire.old).faults ≤ (W.seen wire.new).faults }
 {
     let went = kernel.turn(alloc, wire);
     let events = kernel.events();
-    write_turn(alloc, went, &events, trace, fault, out)
+    tell_turn(alloc, went, &events, trace, fault, journal, shelf, out)
+}
+
+/// Writes the last line of a run that may make no further turn, and answers its status.
+fn write_limit<K: Sink>(
+    alloc: Global,
+    kernel: &Kernel<NoExtra>,
+    manner: Manner,
+    out: &mut K,
+) -> Result<u8, Halt>
+    ensures { WritesLimit kernel.now manner (K.seen out.old) (K.seen out.new) result }
+{
+    let end = last_of(kernel, manner.turns);
+    let events = Events::new(alloc);
+    let told = write_end(alloc, &events, manner.trace, &end, out);
+    drop(events);
+    drop(end);
+    told
 }
 
 /// How a run ends that may make no further turn, of which so many were allowed.

@@ -1,17 +1,22 @@
 //! The lines of a turn, and those of a run's end.
-ghost use Rattle.std.specs.Prelude.{◌≡◌, ◌++◌, IfOk, IfErr, OnOk};
+ghost use Rattle.std.specs.Prelude.{◌≡◌, ◌++◌, true, IfOk, IfErr, OnOk};
+ghost use Rattle.std.specs.Option.{option_copied};
 ghost use Rattle.model_wire.specs.Told.{took};
 ghost use Rattle.model_wire.specs.Trace.{end_text, line, lines_of_events};
 ghost use Rattle.model_machine.specs.Transcript.{status_of};
+ghost use Rattle.model_commands.specs.Recorded.{Records, recorded};
 ghost use Rattle.aio_drive.specs.Ending.{StopsLast, StopsTurn, WroteLast, WroteTurn};
+ghost use Rattle.aio_drive.specs.Recording.{CutsTurn, is_refused, telling};
 ghost use Rattle.aio_drive.specs.Writing.{StopsWriting};
 
+use crate::cut::Cut;
 use crate::ending::{end_of, status_of};
 use crate::halt::Halt;
+use crate::recording::record_events;
 use crate::writing::write_all;
 use aio_core::Went;
 use aio_trace::{End, last_line, lines};
-use aio_wire::{Events, JournalFault, Sink, Stop};
+use aio_wire::{Events, JournalFault, Shelf, Sink, Stop};
 use std::alloc::Global;
 
 /// Writes the lines of events.
@@ -52,6 +57,66 @@ pub fn write_end<K: Sink>(
     last_line(alloc, end, &mut text)?;
     write_all(alloc, out, text.as_slice())?;
     Ok(status_of(end))
+}
+
+/// Records the answers of a turn, and then writes its lines. Where memory was refused in the turn,
+/// nothing is recorded.
+pub fn tell_turn<F: Shelf, K: Sink>(
+    alloc: Global,
+    went: Went,
+    events: &Events,
+    trace: bool,
+    fault: &End,
+    journal: Option<&str>,
+    shelf: &mut F,
+    out: &mut K,
+) -> Result<Option<u8>, Cut>
+    ensures noted { OnOk result (Records (option_copied journal.entry)
+        (recorded events.now.events) (F.seen shelf.old) (F.seen shelf.new)) }
+    ensures ok { IfOk result (λ status. WroteTurn fault.now
+        (lines_of_events trace events.now.events) (K.seen out.old) (K.seen out.new) status went) }
+    ensures err { IfErr result (λ cut. CutsTurn
+        (record {
+          name = option_copied journal.entry;
+          old = F.seen shelf.old;
+          new = F.seen shelf.new;
+        })
+        (telling trace fault.now events.now.events) (K.seen out.old) (K.seen out.new) cut went) }
+    ensures refused { is_refused went ≡ true → shelf.new ≡ shelf.old }
+{
+    if is_refused(&went) {
+        drop(went);
+        return Err(Cut::Halted(Halt::Memory));
+    }
+    match record_events(alloc, events, journal, shelf) {
+        Ok(()) => match write_turn(alloc, went, events, trace, fault, out) {
+            Ok(status) => Ok(status),
+            Err(halt) => Err(Cut::Halted(halt)),
+        },
+        Err(cut) => {
+            drop(went);
+            Err(cut)
+        }
+    }
+}
+
+/// Whether memory was refused in a turn.
+fn is_refused(went: &Went) -> bool
+    ensures { result ≡ is_refused went.now }
+{
+    match went {
+        Went::Stopped(stop) => match stop {
+            Stop::Memory => true,
+            Stop::Over(_) => false,
+            Stop::Bad(_) => false,
+            Stop::Mismatch(..) => false,
+            Stop::Failed(_) => false,
+        },
+        Went::Went => false,
+        Went::Finished(_) => false,
+        Went::Stalled => false,
+        Went::Runaway(_) => false,
+    }
 }
 
 /// Writes the lines of a turn's events, and where the run ended with that turn its last line too, which
@@ -105,7 +170,10 @@ fn write_stop<K: Sink>(
         Stop::Mismatch(count, call) => {
             write_last(alloc, events, trace, End::Mismatch { count, call }, out)
         }
-        Stop::Failed(_) => write_ending(alloc, events, trace, fault, out),
+        Stop::Failed(call) => {
+            drop(call);
+            write_ending(alloc, events, trace, fault, out)
+        }
         Stop::Memory => Err(Halt::Memory),
     }
 }
@@ -123,7 +191,9 @@ fn write_last<K: Sink>(
     ensures err { IfErr result (λ halt. StopsLast end
         (lines_of_events trace events.now.events) (K.seen out.old) (K.seen out.new) halt) }
 {
-    write_ending(alloc, events, trace, &end, out)
+    let told = write_ending(alloc, events, trace, &end, out);
+    drop(end);
+    told
 }
 
 fn write_ending<K: Sink>(

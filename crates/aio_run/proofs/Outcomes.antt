@@ -19,7 +19,7 @@ use Rattle.model_wire.specs.Trace.{line}
 use Rattle.model_machine.specs.Program.{Manner, script_refused, FileSays, JournalSays, JournalBegins, MayRun, MayRunIf, MayRunScript, MayReplay}
 use Rattle.model_machine.specs.Program.{MayCheck, checked, not_run}
 use Rattle.model_machine.specs.Served.{is_served}
-use Rattle.model_machine.specs.Theorem.{ProgramOutput, MayBegin, WritesWhole}
+use Rattle.model_machine.specs.Theorem.{ProgramOutput, WritesWhole}
 use Rattle.aio_memwire.specs.declared.buffers.Buffers.{Buffers}
 use Rattle.aio_memwire.specs.JournalWire.{left_of, seen_of}
 use Rattle.aio_memwire.specs.Reading.{IsFront}
@@ -30,6 +30,7 @@ use Rattle.aio_drive.specs.declared.driver.Manner as code
 use Rattle.aio_drive.specs.declared.halt.Halt.{Halt}
 use Rattle.aio_drive.specs.declared.halt.Halt.TheVariants.{Memory, Sink}
 use Rattle.aio_drive.proofs.Fronts.{took-nil}
+use Rattle.aio_drive.proofs.Unrecorded.{early_wider, whole_wider}
 use Rattle.aio_run.specs.Manner.{manner_of}
 use Rattle.aio_run.specs.Script.{SpellsScript, IsMissing, Tells, refusal_text}
 use Rattle.aio_run.specs.declared.script.NoScript.{NoScript}
@@ -108,20 +109,6 @@ rose_here {F} seen first held now after name late journal same left named kept r
     let behind : (seen now).faults late ≡ (seen after).faults journal =
     ap (λ (s : F). (seen s).faults late) left ∙ ap (λ (n : List ℕ). (seen after).faults n) (kept ∙ named) in
     subst (λ (n : ℕ). Rose ((seen first).faults journal) n) behind (subst (λ (n : ℕ). Rose n ((seen now).faults late)) before rose)
-
--- what may be written by more than one rule
-module _ (may might : ProgramOutput → Type 0) (none nothing : Type 0) (wider : (output : ProgramOutput) → may output → might output)
-    (as_well : none → nothing) where
-  widened : (front : List ℕ) → MayBegin may none front → MayBegin might nothing front
-  widened front (inl empty) = inl (empty.0, as_well empty.1)
-  widened front (inr part) = inr (part.0, wider part.0 part.1, part.2)
-
-  pub whole_wider : (old new : SinkSeen) (status : ℕ) → WritesWhole may old new status → WritesWhole might old new status
-  whole_wider old new status whole = (whole.0, wider whole.0 whole.1, whole.2, whole.3)
-
-  pub early_wider : (halt : Halt) (old new : SinkSeen) → EndsEarly may none old new halt → EndsEarly might nothing old new halt
-  early_wider Memory old new early = (early.0, widened early.0 early.1, early.2)
-  early_wider Sink old new early = (early.0, widened early.0 early.1, early.2)
 
 -- A program's run that was driven over the journal's wire of a shelf: `held` is the shelf as the wire was made, and `now` as it
 -- was left.

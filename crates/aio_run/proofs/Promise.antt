@@ -1,61 +1,63 @@
 -- From what the program did for its words to the theorem.
-use Rattle.std.proofs.Common.{◌≡◌, ℕ, List, [], Option, Some, None, Ok, Err, true, false, refl, sym, subst, inl, inr, append-nil, Bool, arith}
+use Rattle.std.proofs.Common.{◌≡◌, ℕ, List, [], ◌++◌, Option, Some, None, Ok, Err, true, false, refl, sym, subst, inl, inr, append-nil, Bool, arith}
 use Rattle.model_tree.specs.Syntax.{Program}
 use Rattle.model_text.specs.Scripts.{script_of}
 use Rattle.model_text.specs.SecondPass.{Judged}
 use Rattle.model_wire.specs.Event.{Event}
-use Rattle.model_wire.specs.Told.{ShelfSeen, SinkSeen, WireSeen}
+use Rattle.model_wire.specs.Told.{SinkSeen}
 use Rattle.model_machine.specs.Served.{is_served}
 use Rattle.model_machine.specs.Theorem.{ProgramOutput, SinkStops, StopsShort, WritesWhole}
 use Rattle.model_words.specs.Words.{Command, Check, Replay, Run, Work, command_of}
-use Rattle.model_commands.specs.Asked.{Asks, AsksFirstAndOne}
-use Rattle.model_commands.specs.Outputs.{AskedWire, IsUnbegun, KeepsFiles, KeepsWire, MayRun, MayRunIf, MayRunOver, MayRunScript, MayWrite}
-use Rattle.model_commands.specs.Outputs.{Outside, Pace}
-use Rattle.model_commands.specs.Promise.{Behaves, Moment, starved, stopped, whole}
+use Rattle.model_commands.specs.Asked.{Asks}
+use Rattle.model_commands.specs.Outputs.{IsUnbegun, KeepsFiles, KeepsWire, MayRun, MayRunIf, MayRunOver, MayRunScript, MayWrite, Outside, Pace}
+use Rattle.model_commands.specs.Promise.{Behaves, Moment, between, starved, stopped, whole}
+use Rattle.model_commands.specs.Recorded.{recorded}
+use Rattle.model_commands.specs.Telling.{Between, TellsAll, TellsFirstAndOne}
 
--- ---- a wire that was asked this much was asked that much
-module _ (before after : WireSeen) (fails : Type 0) (mine more : List Event → Type 0) (wider : (events : List Event) → mine events → more events) where
-  abbrev asked_as : (List Event → Type 0) → AskedWire
-  asked_as asked = record { before = before; after = after; fails = fails; asked = asked }
+-- ---- an outside that was told this much was told that much
+module _ (seen : Between) (fails : Type 0) (mine more : Option (List ℕ) → List Event → Type 0)
+    (wider : (file : Option (List ℕ)) (events : List Event) → mine file events → more file events) where
+  abbrev told_as : (Option (List ℕ) → List Event → Type 0) → Outside
+  told_as told = record { seen = seen; fails = fails; told = told }
 
-  run_wider : (program : Program) (pace : Pace) (output : ProgramOutput) → MayRun (asked_as mine) program pace output
-      → MayRun (asked_as more) program pace output
-  run_wider program pace output (inl (alive, entries, agrees, is, asks)) = inl (alive, entries, agrees, is, wider _ asks)
-  run_wider program pace output (inr (rose, had, told, over, is, asks)) = inr (rose, had, told, over, is, wider _ asks)
+  run_wider : (program : Program) (pace : Pace) (output : ProgramOutput) → MayRun (told_as mine) program pace output
+      → MayRun (told_as more) program pace output
+  run_wider program pace output (inl (alive, entries, agrees, is, tells)) = inl (alive, entries, agrees, is, wider _ _ tells)
+  run_wider program pace output (inr (inl (rose, had, told, over, is, tells))) = inr (inl (rose, had, told, over, is, wider _ _ tells))
+  run_wider program pace output (inr (inr stops)) = inr (inr stops)
 
   served_wider : (served : Bool) (program : Program) (pace : Pace) (output : ProgramOutput)
-      → MayRunIf (asked_as mine) served program pace output → MayRunIf (asked_as more) served program pace output
+      → MayRunIf (told_as mine) served program pace output → MayRunIf (told_as more) served program pace output
   served_wider false program pace output may = may
   served_wider true program pace output may = run_wider program pace output may
 
-  script_wider : (judged : Judged Program) (pace : Pace) (output : ProgramOutput) → MayRunScript (asked_as mine) judged pace output
-      → MayRunScript (asked_as more) judged pace output
+  script_wider : (judged : Judged Program) (pace : Pace) (output : ProgramOutput) → MayRunScript (told_as mine) judged pace output
+      → MayRunScript (told_as more) judged pace output
   script_wider (Err fault) pace output may = may
   script_wider (Ok program) pace output may = served_wider (is_served program) program pace output may
 
-  abbrev outside_as : (old new : ShelfSeen) → (List Event → Type 0) → Outside
-  outside_as old new asked = record { old = old; new = new; wire = asked_as asked }
+  over_wider : (script : List ℕ) (pace : Pace) (output : ProgramOutput) → MayRunOver (told_as mine) script pace output
+      → MayRunOver (told_as more) script pace output
+  over_wider script pace output (inl failed) = inl failed
+  over_wider script pace output (inr (text, says, may)) = inr (text, says, script_wider (script_of text) pace output may)
 
-  over_wider : (old new : ShelfSeen) (script : List ℕ) (pace : Pace) (output : ProgramOutput)
-      → MayRunOver (outside_as old new mine) script pace output → MayRunOver (outside_as old new more) script pace output
-  over_wider old new script pace output (inl failed) = inl failed
-  over_wider old new script pace output (inr (none, text, says, may)) =
-      inr (none, text, says, script_wider (script_of text) pace output may)
+  pub write_wider : (command : Option Command) (output : ProgramOutput) → MayWrite (told_as mine) command output → MayWrite (told_as more) command output
+  write_wider None output may = may
+  write_wider (Some (Check script)) output may = may
+  write_wider (Some (Replay script journal trace turns)) output may = may
+  write_wider (Some (Run script file trace turns)) output may =
+      over_wider script (record { trace = trace; turns = turns; file = file }) output may
+  write_wider (Some (Work seed)) output may = may
 
-  pub write_wider : (old new : ShelfSeen) (command : Option Command) (output : ProgramOutput)
-      → MayWrite (outside_as old new mine) command output → MayWrite (outside_as old new more) command output
-  write_wider old new None output may = may
-  write_wider old new (Some (Check script)) output may = may
-  write_wider old new (Some (Replay script journal trace turns)) output may = may
-  write_wider old new (Some (Run script None trace turns)) output may =
-      over_wider old new script (record { trace = trace; turns = turns }) output may
-  write_wider old new (Some (Run script (Some name) trace turns)) output may = may
-  write_wider old new (Some (Work seed)) output may = may
-
--- what was asked whole was asked first, with no call besides
-first_of_all : (before after : WireSeen) (events : List Event) → Asks events before after → AsksFirstAndOne before after events
-first_of_all before after events asks =
-    (events, [], sym (append-nil events), [], omega arith, subst (λ (es : List Event). Asks es before after) (sym (append-nil events)) asks)
+-- what was told whole was told first, with no call besides
+first_of_all : (seen : Between) (file : Option (List ℕ)) (events : List Event) → TellsAll seen file events → TellsFirstAndOne seen file events
+first_of_all seen file events (asks, records) = (
+  events,
+  [],
+  sym (append-nil events),
+  ([], omega arith, subst (λ (es : List Event). Asks es seen.before seen.after) (sym (append-nil events)) asks),
+  (recorded events, ([], append-nil (recorded events)), records),
+)
 
 whole_stops : (may might : ProgramOutput → Type 0) (none : Type 0) (wider : (output : ProgramOutput) → may output → might output)
     (old new : SinkSeen) (status : ℕ) → WritesWhole may old new status → StopsShort might none old new
@@ -72,8 +74,8 @@ module _ {F W : Type 0} (given : List (List ℕ)) (old new : Moment F W) (files 
     fault = λ is. inl (subst (λ (s : ℕ). WritesWhole (MayWrite (whole old new) (command_of given)) old.sink new.sink s) is done);
     memory = λ is. whole_stops (MayWrite (whole old new) (command_of given)) (MayWrite (starved old new) (command_of given))
         (IsUnbegun (starved old new) (command_of given))
-        (write_wider old.told new.told old.fails (λ events. Asks events old.told new.told) (AsksFirstAndOne old.told new.told)
-        (first_of_all old.told new.told) old.files new.files (command_of given)) old.sink new.sink status done;
+        (write_wider (between old new) old.fails (TellsAll (between old new)) (TellsFirstAndOne (between old new)) (first_of_all (between old new))
+        (command_of given)) old.sink new.sink status done;
     files = files;
     wire = wire;
     words = words;

@@ -1,32 +1,44 @@
 -- From a driven run over the wire to what the program may write.
+use Rattle.std.specs.Prelude.{codes}
 use Rattle.std.proofs.Common.{◌≡◌, ℕ, ◌≤◌, List, [], ◌∷◌, ◌++◌, Option, Some, None, length, refl, ap, sym, ◌∙◌, subst, inl, inr, append-nil, arith}
 use Rattle.std.proofs.Math.Path.{fun_ext}
 use Rattle.std.specs.Option.{option_map}
 use Rattle.model_tree.specs.Syntax.{Program}
 use Rattle.model_text.specs.FirstPass.{fault_at}
+use Rattle.model_text.specs.Scripts.{script_of}
 use Rattle.model_text.specs.SecondPass.{Judged}
 use Rattle.model_wire.specs.declared.event.End.TheVariants as end
 use Rattle.model_wire.specs.declared.event.Event.TheVariants as event
 use Rattle.model_wire.specs.declared.event.Handed.{Handed}
 use Rattle.model_wire.specs.Call.{Answer, Call}
 use Rattle.model_wire.specs.Event.{Event}
-use Rattle.model_wire.specs.Told.{ShelfSeen, WireSeen}
+use Rattle.model_wire.specs.Told.{ShelfSeen, SinkSeen, WireSeen, took}
+use Rattle.model_wire.specs.Trace.{lines_of_events}
+use Rattle.model_machine.specs.Run.{run}
 use Rattle.model_machine.specs.Served.{is_served}
-use Rattle.model_machine.specs.Theorem.{ProgramOutput}
+use Rattle.model_machine.specs.Theorem.{MayBegin, ProgramOutput, WritesWhole}
 use Rattle.model_commands.specs.Asked as plain
-use Rattle.model_commands.specs.Outputs.{AskedWire, Pace, MayRun, MayRunIf, MayRunOver, MayRunScript}
+use Rattle.model_commands.specs.Asked.{Asks, AsksOnce}
+use Rattle.model_commands.specs.Outputs.{KeepsOthers, MayRun, MayRunIf, MayRunOver, MayRunScript, Outside, Pace, faulted}
+use Rattle.model_commands.specs.Outputs as outputs
+use Rattle.model_commands.specs.Recorded.{FailsRecording, Records}
+use Rattle.model_commands.specs.Telling.{Between, TellsAll}
 use Rattle.aio_exchange.specs.Exchanged as told
 use Rattle.aio_drive.specs.Asked as code
-use Rattle.aio_drive.specs.Drive.{MayDrive, Undisturbed}
+use Rattle.aio_drive.specs.Drive.{Driven, IsUntold, MayDrive, MayTell, StopsRecording, Undisturbed, wire_by}
 use Rattle.aio_drive.specs.Drive as drive
+use Rattle.aio_drive.specs.Outcome.{EndsEarly}
+use Rattle.aio_drive.specs.Writing.{StopsWriting}
 use Rattle.aio_drive.specs.declared.driver.Manner.{Manner}
 use Rattle.aio_drive.specs.declared.halt.Halt.{Halt}
 use Rattle.aio_drive.specs.declared.halt.Halt.TheVariants.{Memory, Sink}
-use Rattle.aio_run.specs.Running.{AsksUntil, outside, pace_of}
+use Rattle.aio_drive.proofs.Fronts.{took_on}
+use Rattle.aio_drive.proofs.Written.{early_by}
+use Rattle.aio_run.specs.Running.{TellsUntil, between, pace_of, told_all, told_until}
 use Rattle.aio_run.specs.Script.{SpellsScript, IsMissing, Tells}
 use Rattle.aio_run.specs.declared.script.NoScript.{NoScript}
 use Rattle.aio_run.specs.declared.script.NoScript.TheVariants.{Refused, Failed, Memory as NoMemory}
-use Rattle.aio_run.proofs.Outcomes.{none_failed, refused_as}
+use Rattle.aio_run.proofs.Outcomes.{refused_as}
 
 -- ---- what a wire was asked, by both definitions
 calls-same : (events : List Event) → code.calls_in events ≡ plain.calls_in events
@@ -77,14 +89,8 @@ one-call events one = subst (λ (calls : List Call). length calls ≤ 1) (calls-
 pub once-same : (before after : WireSeen) → code.AsksOnce before after → plain.AsksOnce before after
 once-same before after once = (once.0, one-call once.0 once.1, asks-same once.0 before after once.2)
 
-pub until-same : (halt : Halt) (before after : WireSeen) (events : List Event) → drive.AsksUntil halt before after events
-    → AsksUntil halt before after events
-until-same Memory before after events (front, rest, is, more, one, asks) =
-    (front, rest, is, more, one-call more one, asks-same (front ++ more) before after asks)
-until-same Sink before after events (front, rest, is, asks) = (front, rest, is, asks-same front before after asks)
-
 -- nothing was asked
-none-asked : (seen : WireSeen) → plain.Asks [] seen seen
+none-asked : (seen : WireSeen) → Asks [] seen seen
 none-asked seen = record { asked = calls seen.asked; handed = bytes seen.handed }
   where
     calls : (told : Option (List Call)) → told ≡ option_map (λ held. held ++ []) told
@@ -95,33 +101,144 @@ none-asked seen = record { asked = calls seen.asked; handed = bytes seen.handed 
     bytes None = refl
     bytes (Some held) = ap Some (fun_ext (λ to. sym (append-nil (held to))))
 
-pub once-none : (seen : WireSeen) → plain.AsksOnce seen seen
+pub once-none : (seen : WireSeen) → AsksOnce seen seen
 once-none seen = ([], omega arith, none-asked seen)
 
+-- ---- files
+-- where this was recorded no other file changed
+pub others_kept : (file : Option (List ℕ)) (bytes : List ℕ) (old new : ShelfSeen) → Records file bytes old new → KeepsOthers file old new
+others_kept None bytes old new same = ap (λ (s : ShelfSeen). s.file) same
+others_kept (Some name) bytes old new grew = grew.others
+
+pub others_failed : (file : Option (List ℕ)) (bytes : List ℕ) (old new : ShelfSeen) → FailsRecording file bytes old new → KeepsOthers file old new
+others_failed None bytes old new failed = absurd failed
+others_failed (Some name) bytes old new failed = failed.others
+
+pub others_same : (file : Option (List ℕ)) (old new : ShelfSeen) → new.file ≡ old.file → KeepsOthers file old new
+others_same None old new same = same
+others_same (Some name) old new same = λ other differs. ap (λ (held : List ℕ → Option (Option (List ℕ))). held other) same
+
+-- before which nothing changed
+pub others_from : (file : Option (List ℕ)) (old mid new : ShelfSeen) → mid ≡ old → KeepsOthers file mid new → KeepsOthers file old new
+others_from file old mid new same kept = subst (λ (s : ShelfSeen). KeepsOthers file s new) same kept
+
 -- ---- a program's run that was driven over a wire
-pub runs_over : (program : Program) (how : Manner) (before after : WireSeen) (fails quiet : Type 0) (asked mine : List Event → Type 0)
-    → ((events : List Event) → asked events → mine events) → (output : ProgramOutput)
-    → MayDrive program how end.WireFault
-    (record { before = before; after = after; undisturbed = Undisturbed fails quiet; asked = asked }) output
-    → MayRun (record { before = before; after = after; fails = fails; asked = mine }) program (pace_of how) output
-runs_over program how before after fails quiet asked mine same output (inl ((alive, still), entries, agrees, is, asks)) =
-    inl (alive, entries, agrees, is, same _ asks)
-runs_over program how before after fails quiet asked mine same output (inr (rose, had, told, over, is, asks)) =
-    inr (rose, had, told, over, is, same _ asks)
+abbrev pub between_of : Driven → Between
+between_of it = between it.shelf.old it.shelf.new it.before it.after
+
+module _ (program : Program) (how : Manner) (it : Driven) (fails : Type 0) (undisturbed : it.undisturbed ≡ Undisturbed fails it.quiet) where
+  pub runs_over : (known : List Event → Type 0) (told : Option (List ℕ) → List Event → Type 0)
+      → ((events : List Event) → known events → told it.shelf.name events) → (output : ProgramOutput)
+      → MayDrive program how end.WireFault (wire_by it known) output
+      → MayRun (record { seen = between_of it; fails = fails; told = told }) program (pace_of it.shelf.name how) output
+  runs_over known told same output (inl (calm, entries, agrees, is, holds)) =
+      inl ((subst (λ (t : Type 0). t) undisturbed calm).0, entries, agrees, is, same _ holds)
+  runs_over known told same output (inr (rose, had, told_so, over, is, holds)) = inr (inl (rose, had, told_so, over, is, same _ holds))
+
+  -- what no file but the one that is named lost
+  pub others_told : (output : ProgramOutput) → MayTell program how end.WireFault it output → KeepsOthers it.shelf.name it.shelf.old it.shelf.new
+  others_told output (inl (calm, entries, agrees, is, told)) = others_kept it.shelf.name _ it.shelf.old it.shelf.new told.1
+  others_told output (inr (rose, had, told_so, over, is, told)) = others_kept it.shelf.name _ it.shelf.old it.shelf.new told.1
+
+  others_until : (halt : Halt) (events : List Event) → drive.TellsUntil halt it events → KeepsOthers it.shelf.name it.shelf.old it.shelf.new
+  others_until Memory events (front, rest, is, asks, (bytes, some, records)) = others_kept it.shelf.name bytes it.shelf.old it.shelf.new records
+  others_until Sink events (front, rest, is, told) = others_kept it.shelf.name _ it.shelf.old it.shelf.new told.1
+
+  module _ (kept : it.same → it.shelf.new.file ≡ it.shelf.old.file) (halt : Halt) where
+    others_begun : (front : List ℕ) → MayBegin (MayDrive program how end.WireFault (wire_by it (drive.TellsUntil halt it))) (IsUntold it) front
+        → KeepsOthers it.shelf.name it.shelf.old it.shelf.new
+    others_begun front (inl (empty, untold)) = others_same it.shelf.name it.shelf.old it.shelf.new (kept untold.1)
+    others_begun front (inr (output, inl (calm, entries, agrees, is, told), part)) = others_until halt _ told
+    others_begun front (inr (output, inr (rose, had, told_so, over, is, told), part)) = others_until halt _ told
+
+  pub others_early : (kept : it.same → it.shelf.new.file ≡ it.shelf.old.file) (halt : Halt) (old new : SinkSeen)
+      → EndsEarly (MayDrive program how end.WireFault (wire_by it (drive.TellsUntil halt it))) (IsUntold it) old new halt
+      → KeepsOthers it.shelf.name it.shelf.old it.shelf.new
+  others_early kept Memory old new early = others_begun kept Memory early.0 early.1
+  others_early kept Sink old new early = others_begun kept Sink early.0 early.1
+
+-- what was known of a run that was cut short
+pub until_so : (halt : Halt) (it : Driven) (events : List Event) → drive.TellsUntil halt it events
+    → TellsUntil halt (between_of it) it.shelf.name events
+until_so Memory it events (front, rest, is, (more, one, asks), records) =
+    (front, rest, is, (more, one-call more one, asks-same (front ++ more) it.before it.after asks), records)
+until_so Sink it events (front, rest, is, told) = (front, rest, is, (asks-same front it.before it.after told.0, told.1))
+
+pub all_so : (it : Driven) (events : List Event) → drive.TellsAll it events → TellsAll (between_of it) it.shelf.name events
+all_so it events told = (asks-same events it.before it.after told.0, told.1)
+
+-- ---- a run whose answers could not be recorded
+module _ (program : Program) (how : Manner) (it : Driven) (first mid : SinkSeen) (stops : StopsRecording program how it first mid) where
+  cut_short : ProgramOutput
+  cut_short = faulted how.trace end.ShelfFault (run program stops.had stops.made)
+
+  cut_text : cut_short.text ≡ lines_of_events how.trace (run program stops.had stops.made).events ++ codes "! fault shelf\n"
+  unfolding cut_short
+  cut_text = refl
+
+  stops_so : outputs.StopsRecording (between_of it) program (pace_of it.shelf.name how) cut_short
+  unfolding cut_short
+  stops_so = record {
+    had = stops.had;
+    told = stops.told;
+    made = stops.made;
+    fewer = stops.fewer;
+    turn = stops.turn;
+    more = stops.more;
+    events = stops.events;
+    asked = asks-same ((run program stops.had stops.made).events ++ stops.turn) it.before it.after stops.asked;
+    front = stops.front;
+    some = stops.some;
+    failed = stops.failed;
+    is = refl;
+  }
+
+  pub cut_whole : (fails : Type 0) (told : Option (List ℕ) → List Event → Type 0) (last : SinkSeen) (status : ℕ)
+      → status ≡ 9 → last ≡ took mid (codes "! fault shelf\n")
+      → WritesWhole (MayRun (record { seen = between_of it; fails = fails; told = told }) program (pace_of it.shelf.name how)) first last status
+  unfolding cut_short
+  cut_whole fails told last status is wrote = (
+    cut_short,
+    inr (inr stops_so),
+    took_on first mid last (lines_of_events how.trace (run program stops.had stops.made).events) (codes "! fault shelf\n") stops.wrote wrote
+        ∙ ap (took first) (sym cut_text),
+    is,
+  )
+
+  pub cut_early : (fails : Type 0) (told : Option (List ℕ) → List Event → Type 0) (none : Type 0) (last : SinkSeen) (halt : Halt)
+      → StopsWriting (codes "! fault shelf\n") mid last halt
+      → EndsEarly (MayRun (record { seen = between_of it; fails = fails; told = told }) program (pace_of it.shelf.name how)) none first last halt
+  cut_early fails told none last halt stopped =
+      early_by (MayRun (record { seen = between_of it; fails = fails; told = told }) program (pace_of it.shelf.name how)) none first mid
+      (lines_of_events how.trace (run program stops.had stops.made).events) stops.wrote cut_short (inr (inr stops_so))
+      (codes "! fault shelf\n") [] (cut_text ∙ ap (λ (t : List ℕ). lines_of_events how.trace (run program stops.had stops.made).events ++ t)
+      (sym (append-nil (codes "! fault shelf\n")))) last halt stopped
 
 -- ---- scripts
 -- a script's run, by the rules for its text; reading it changed nothing of the shelf
-pub run_by_script : (script : Program) (old new : ShelfSeen) (name : List ℕ) (wire : AskedWire) (pace : Pace) → SpellsScript (old.file name) script
-    → new ≡ old → (output : ProgramOutput) → MayRunIf wire (is_served script) script pace output
-    → MayRunOver (outside old new wire) name pace output
-run_by_script script old new name wire pace spells same output may =
-    inr (none_failed old new same, spells.0, spells.1, subst (λ (p : Judged Program). MayRunScript wire p pace output) (sym spells.2) may)
+pub run_by_script : (script : Program) (old mid new : ShelfSeen) (before after : WireSeen) (name : List ℕ) (fails : Type 0)
+    (told : Between → Option (List ℕ) → List Event → Type 0) (pace : Pace) → SpellsScript (old.file name) script → mid ≡ old
+    → (output : ProgramOutput)
+    → MayRunIf (record { seen = between mid new before after; fails = fails; told = told (between mid new before after) }) (is_served script) script pace output
+    → MayRunOver (record { seen = between old new before after; fails = fails; told = told (between old new before after) }) name pace output
+run_by_script script old mid new before after name fails told pace spells same output may =
+    let it : ShelfSeen → Outside = λ s. record { seen = between s new before after; fails = fails; told = told (between s new before after) } in
+    let here = subst (λ (s : ShelfSeen). MayRunIf (it s) (is_served script) script pace output) same may in
+    inr (spells.0, spells.1, subst (λ (p : Judged Program). MayRunScript (it old) p pace output) (sym spells.2) here)
 
-pub run_without : (none : NoScript) (old new : ShelfSeen) (name : List ℕ) (wire : AskedWire) (pace : Pace) → wire.after ≡ wire.before
-    → IsMissing name old new none → (output : ProgramOutput) → Tells none output → MayRunOver (outside old new wire) name pace output
-run_without (Refused number cause) old new name wire pace unasked missing output tells =
+pub run_without : (none : NoScript) (old new : ShelfSeen) (seen : WireSeen) (name : List ℕ) (fails : Type 0)
+    (told : Option (List ℕ) → List Event → Type 0) (pace : Pace) → IsMissing name old new none → new.file ≡ old.file
+    → (output : ProgramOutput) → Tells none output → MayRunOver (record { seen = between old new seen seen; fails = fails; told = told }) name pace output
+run_without (Refused number cause) old new seen name fails told pace missing kept output tells =
     let (text, why, says, spells, is) = missing.0 in
-    let refused : MayRunScript wire (fault_at number why) pace output = (unasked, refused_as number cause why output is tells) in
-    inr (none_failed old new missing.1, text, says, subst (λ (p : Judged Program). MayRunScript wire p pace output) (sym spells) refused)
-run_without Failed old new name wire pace unasked missing output tells = inl (missing, unasked, tells)
-run_without NoMemory old new name wire pace unasked missing output tells = absurd tells
+    let it : Outside = record { seen = between old new seen seen; fails = fails; told = told } in
+    let refused : MayRunScript it (fault_at number why) pace output = ((refl, missing.1), refused_as number cause why output is tells) in
+    inr (text, says, subst (λ (p : Judged Program). MayRunScript it p pace output) (sym spells) refused)
+run_without Failed old new seen name fails told pace missing kept output tells = inl (missing, kept, refl, tells)
+run_without NoMemory old new seen name fails told pace missing kept output tells = absurd tells
+
+-- where memory was refused while a script was read nothing changed
+pub unread : (none : NoScript) (old new : ShelfSeen) (name : List ℕ) → IsMissing name old new none → none ≡ NoMemory → new ≡ old
+unread (Refused number cause) old new name missing is = absurd (cc is)
+unread Failed old new name missing is = absurd (cc is)
+unread NoMemory old new name missing is = missing

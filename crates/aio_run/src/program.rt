@@ -5,11 +5,11 @@ ghost use Rattle.model_machine.specs.Theorem.{WritesWhole};
 ghost use Rattle.model_commands.specs.Outputs.{IsUnbegun, KeepsFiles, KeepsWire, MayWrite};
 ghost use Rattle.model_commands.specs.Promise.{Behaves};
 ghost use Rattle.aio_drive.specs.Outcome.{EndsEarly};
-ghost use Rattle.aio_run.specs.Running.{asked_all, asked_until, outside};
+ghost use Rattle.aio_run.specs.Running.{between, told_all, told_until};
 
 use crate::checking::check;
 use crate::replaying::replay;
-use crate::running::run_unless_recorded;
+use crate::running::run;
 use aio_drive::{Halt, Manner, say};
 use aio_wire::{Shelf, Sink, Wire};
 use aio_words::{Command, command_of};
@@ -20,13 +20,14 @@ use std::alloc::Global;
 /// `check SCRIPT` writes the canonical text of a script of the shelf to the sink.
 /// `replay SCRIPT JOURNAL` runs a script of the shelf over the answers of a journal of the shelf,
 /// and writes the transcript; `run SCRIPT` runs it over the wire. In both, `--trace` adds a line
-/// for each call, answer and handle, and `--turns N` allows so many turns. So far `run` with
-/// `--record NAME` is refused as words are, and `work N` as a script that doesn't run. The
-/// statuses: 0, the script was checked, or main returned; 1, main raised or was cancelled; 2, the
-/// words are refused; 3, the script is, or it doesn't run so far; 4, a line of the journal that is
-/// needed is refused; 5, an answer doesn't fit its call; 6, no answer is left; 7, nothing is
-/// pending and nothing can come; 8, a step has too many statements; 9, the shelf, the wire or the
-/// sink failed; 10, as many turns were made as are allowed; 11, memory was refused.
+/// for each call, answer and handle, and `--turns N` allows so many turns. With `--record NAME` a
+/// run appends each answer to that file, those of a turn before the turn's lines are written. So
+/// far `work N` is answered as a script that doesn't run. The statuses: 0, the script was checked,
+/// or main returned; 1, main raised or was cancelled; 2, the words are refused; 3, the script is,
+/// or it doesn't run so far; 4, a line of the journal that is needed is refused; 5, an answer
+/// doesn't fit its call; 6, no answer is left; 7, nothing is pending and nothing can come; 8, a
+/// step has too many statements; 9, the shelf, the wire or the sink failed; 10, as many turns were
+/// made as are allowed; 11, memory was refused.
 pub fn aio_main<F: Shelf, W: Wire, K: Sink>(
     alloc: Global,
     words: &Vec<String>,
@@ -69,17 +70,17 @@ fn serve<F: Shelf, W: Wire, K: Sink>(
     out: &mut K,
 ) -> Result<u8, Halt>
     ensures ok { IfOk result (WritesWhole
-        (MayWrite (outside (F.seen shelf.old) (F.seen shelf.new)
-        (asked_all (W.seen wire.old) (W.seen wire.new) (W.fails wire.old)))
-        (plain_command_of (map string_bytes words.now)))
+        (MayWrite (told_all
+        (between (F.seen shelf.old) (F.seen shelf.new) (W.seen wire.old) (W.seen wire.new))
+        (W.fails wire.old)) (plain_command_of (map string_bytes words.now)))
         (K.seen out.old) (K.seen out.new)) }
     ensures err { IfErr result (λ halt. EndsEarly
-        (MayWrite (outside (F.seen shelf.old) (F.seen shelf.new)
-        (asked_until halt (W.seen wire.old) (W.seen wire.new) (W.fails wire.old)))
-        (plain_command_of (map string_bytes words.now)))
-        (IsUnbegun (outside (F.seen shelf.old) (F.seen shelf.new)
-        (asked_until halt (W.seen wire.old) (W.seen wire.new) (W.fails wire.old)))
-        (plain_command_of (map string_bytes words.now)))
+        (MayWrite (told_until halt
+        (between (F.seen shelf.old) (F.seen shelf.new) (W.seen wire.old) (W.seen wire.new))
+        (W.fails wire.old)) (plain_command_of (map string_bytes words.now)))
+        (IsUnbegun (told_until halt
+        (between (F.seen shelf.old) (F.seen shelf.new) (W.seen wire.old) (W.seen wire.new))
+        (W.fails wire.old)) (plain_command_of (map string_bytes words.now)))
         (K.seen out.old) (K.seen out.new) halt) }
     ensures files { KeepsFiles (plain_command_of (map string_bytes words.now))
         (F.seen shelf.old) (F.seen shelf.new) }
@@ -103,15 +104,10 @@ fn serve<F: Shelf, W: Wire, K: Sink>(
                 trace,
                 turns,
             },
-        ) => run_unless_recorded(
-            alloc,
-            script,
-            recorded,
-            Manner { trace, turns },
-            shelf,
-            wire,
-            out,
-        ),
+        ) => {
+            let manner = Manner { trace, turns };
+            run(alloc, script, recorded, manner, shelf, wire, out)
+        }
         Some(Command::Work { .. }) => say(alloc, "! script 1 9\n", 3, out),
         None => say(alloc, "! words\n", 2, out),
     }

@@ -36,13 +36,3 @@ pub record Asks (events : List Event) (before after : WireSeen) : Type 0 where
 -- one call at most, with its answer or without
 abbrev pub AsksOnce : (before after : WireSeen) → Type 0
 AsksOnce before after = (events : List Event) × (length (calls_in events) ≤ 1) × Asks events before after
-
--- what the first of these events say
-abbrev pub AsksFirst : (before after : WireSeen) → List Event → Type 0
-AsksFirst before after events = (front : List Event) × (rest : List Event) × (events ≡ front ++ rest) × Asks front before after
-
--- the same, and one call besides at most
-abbrev pub AsksFirstAndOne : (before after : WireSeen) → List Event → Type 0
-AsksFirstAndOne before after events =
-    (front : List Event) × (rest : List Event) × (events ≡ front ++ rest)
-    × (more : List Event) × (length (calls_in more) ≤ 1) × Asks (front ++ more) before after

@@ -1,3 +1,5 @@
 pub mod Asked
 pub mod Outputs
 pub mod Promise
+pub mod Recorded
+pub mod Telling

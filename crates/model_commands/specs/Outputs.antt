@@ -1,113 +1,122 @@
 -- What each command may write, by what is seen of the outside before and after.
-use Rattle.std.specs.Prelude.{◌≡◌, ℕ, Bool, true, false, List, ◌++◌, Option, Some, None, Ok, Err, ◌⊎◌}
+use Rattle.std.specs.Prelude.{◌≡◌, ◌≢◌, ℕ, ◌≤◌, Bool, true, false, List, ◌++◌, Option, Some, None, Ok, Err, ◌⊎◌}
 use Rattle.model_tree.specs.Syntax.{Program}
 use Rattle.model_text.specs.Scripts.{script_of}
 use Rattle.model_text.specs.SecondPass.{Judged}
 use Rattle.model_wire.specs.declared.event.End.TheVariants as end
 use Rattle.model_wire.specs.Event.{Event}
 use Rattle.model_wire.specs.Journal.{Entry}
-use Rattle.model_wire.specs.Told.{Agrees, FileFailed, NoneFailed, Rose, ShelfSeen, WireSeen}
+use Rattle.model_wire.specs.Told.{Agrees, FileFailed, NoneFailed, Rose, ShelfSeen}
+use Rattle.model_wire.specs.Trace.{End}
 use Rattle.model_machine.specs.Program.{FileSays, IsOver, MayCheck, MayReplay, not_run, output_of, script_failed, script_refused, words_refused}
 use Rattle.model_machine.specs.Run.{Run, run}
 use Rattle.model_machine.specs.Served.{is_served}
-use Rattle.model_machine.specs.Theorem.{ProgramOutput}
+use Rattle.model_machine.specs.Theorem.{IsFrontOf, ProgramOutput}
 use Rattle.model_words.specs.Words.{Command, Check, Replay, Run as RunIt, Work}
-use Rattle.model_commands.specs.Asked.{AsksOnce}
+use Rattle.model_commands.specs.Asked.{Asks, AsksOnce}
+use Rattle.model_commands.specs.Recorded.{FailsRecording, recorded}
+use Rattle.model_commands.specs.Telling.{Between}
 
--- What is known of a wire over a call of the program: what is seen of it before and after, that each call of it fails, and that it was
--- asked what a run's events say.
-pub record AskedWire : Type 1 where
-  pub before : WireSeen
-  pub after : WireSeen
-  pub fails : Type 0
-  pub asked : List Event → Type 0
-
--- the same of the outside: what is seen of the shelf before and after, and what is known of the wire
+-- What is known of the outside over a call of the program: what is seen of it before and after, that each call of the wire fails, and
+-- how much of a run it was told, by the file in which the run is recorded and by its events.
 pub record Outside : Type 1 where
-  pub old : ShelfSeen
-  pub new : ShelfSeen
-  pub wire : AskedWire
+  pub seen : Between
+  pub fails : Type 0
+  pub told : (file : Option (List ℕ)) → List Event → Type 0
 
--- how a run goes: with the trace or without it, and how many turns are allowed
+-- how a run goes: with the trace or without it, how many turns are allowed, and in which file it is recorded, if in one
 pub record Pace : Type 0 where
   pub trace : Bool
   pub turns : ℕ
+  pub file : Option (List ℕ)
 
--- what is written of a run that a fault of the wire cut short: the lines of what happened, and the fault's
-abbrev pub faulted : (trace : Bool) → Run → ProgramOutput
-faulted trace it = output_of trace (record it { end = end.WireFault })
+-- what is written of a run that a fault cut short: the lines of what happened, and the fault's
+abbrev pub faulted : (trace : Bool) → (fault : End) → Run → ProgramOutput
+faulted trace fault it = output_of trace (record it { end = fault })
 
--- What a program's run over the wire may write. Where the wire didn't fail, its whole run over entries that agree with what the wire
--- told; one that fails at each call doesn't let it end. Where it failed, the run over the answers had so far was over at the call that
--- failed: its lines, and then the fault's.
-abbrev pub MayRun : AskedWire → Program → Pace → ProgramOutput → Type 0
-MayRun wire program pace output =
-    ((wire.fails → ⊥) × (entries : List Entry) × Agrees wire.before.left entries
-    × (output ≡ output_of pace.trace (run program entries pace.turns)) × wire.asked (run program entries pace.turns).events)
-    ⊎ (Rose wire.before.faults wire.after.faults × (had : List Entry) × ((rest : List Entry) × Agrees wire.before.left (had ++ rest))
-    × IsOver (run program had pace.turns) × (output ≡ faulted pace.trace (run program had pace.turns))
-    × wire.asked (run program had pace.turns).events)
+-- The answers of a turn could not be recorded: of its entries the file has a front, and it failed. The lines of the turns before are
+-- written, and the fault's. Entries that agree with what the wire told begin with these answers.
+pub record StopsRecording (it : Between) (program : Program) (pace : Pace) (output : ProgramOutput) : Type 0 where
+  pub had : List Entry
+  pub told : (rest : List Entry) × Agrees it.before.left (had ++ rest)
+  -- so many turns were made before it
+  pub made : ℕ
+  pub fewer : made ≤ pace.turns
+  -- the events of it, and of those after it
+  pub turn : List Event
+  pub more : List Event
+  pub events : (run program had pace.turns).events ≡ ((run program had made).events ++ turn) ++ more
+  pub asked : Asks ((run program had made).events ++ turn) it.before it.after
+  pub front : List ℕ
+  pub some : IsFrontOf front (recorded turn)
+  pub failed : FailsRecording pace.file (recorded (run program had made).events ++ front) it.old it.new
+  pub is : output ≡ faulted pace.trace end.ShelfFault (run program had made)
+
+-- What a program's run over the wire may write. Where nothing failed, its whole run over entries that agree with what the wire
+-- told; one that fails at each call doesn't let it end. Where the wire failed, the run over the answers had so far was over at the
+-- call that failed: its lines, and then the fault's. Or the file failed in which it is recorded.
+abbrev pub MayRun : Outside → Program → Pace → ProgramOutput → Type 0
+MayRun it program pace output =
+    ((it.fails → ⊥) × (entries : List Entry) × Agrees it.seen.before.left entries
+    × (output ≡ output_of pace.trace (run program entries pace.turns)) × it.told pace.file (run program entries pace.turns).events)
+    ⊎ ((Rose it.seen.before.faults it.seen.after.faults × (had : List Entry) × ((rest : List Entry) × Agrees it.seen.before.left (had ++ rest))
+    × IsOver (run program had pace.turns) × (output ≡ faulted pace.trace end.WireFault (run program had pace.turns))
+    × it.told pace.file (run program had pace.turns).events)
+    ⊎ StopsRecording it.seen program pace output)
+
+-- nothing was asked of the wire, and nothing is seen to have changed of the shelf
+abbrev pub IsUntouched : Between → Type 0
+IsUntouched it = (it.after ≡ it.before) × (it.new ≡ it.old)
 
 -- by whether all that the program asks is served: others don't run so far, and ask nothing
-abbrev pub MayRunIf : AskedWire → (served : Bool) → Program → Pace → ProgramOutput → Type 0
-MayRunIf wire false program pace output = (wire.after ≡ wire.before) × (output ≡ not_run)
-MayRunIf wire true program pace output = MayRun wire program pace output
+abbrev pub MayRunIf : Outside → (served : Bool) → Program → Pace → ProgramOutput → Type 0
+MayRunIf it false program pace output = IsUntouched it.seen × (output ≡ not_run)
+MayRunIf it true program pace output = MayRun it program pace output
 
 -- by what the text of the script spells
-abbrev pub MayRunScript : AskedWire → Judged Program → Pace → ProgramOutput → Type 0
-MayRunScript wire (Err fault) pace output = (wire.after ≡ wire.before) × (output ≡ script_refused fault)
-MayRunScript wire (Ok program) pace output = MayRunIf wire (is_served program) program pace output
+abbrev pub MayRunScript : Outside → Judged Program → Pace → ProgramOutput → Type 0
+MayRunScript it (Err fault) pace output = IsUntouched it.seen × (output ≡ script_refused fault)
+MayRunScript it (Ok program) pace output = MayRunIf it (is_served program) program pace output
 
 abbrev pub MayRunOver : Outside → (script : List ℕ) → Pace → ProgramOutput → Type 0
 MayRunOver it script pace output =
-    (FileFailed script it.old it.new × (it.wire.after ≡ it.wire.before) × (output ≡ script_failed))
-    ⊎ (NoneFailed it.old it.new × (text : List ℕ) × FileSays (it.old.file script) text
-    × MayRunScript it.wire (script_of text) pace output)
-
--- words that ask for nothing, or for what isn't there so far
-abbrev pub MayRefuse : Outside → ProgramOutput → Type 0
-MayRefuse it output = NoneFailed it.old it.new × (output ≡ words_refused)
-
--- a run, by the file in which it is recorded: recording isn't there so far
-abbrev pub MayRunUnless : Outside → (script : List ℕ) → (recorded : Option (List ℕ)) → Pace → ProgramOutput → Type 0
-MayRunUnless it script None pace output = MayRunOver it script pace output
-MayRunUnless it script (Some name) pace output = MayRefuse it output
+    (FileFailed script it.seen.old it.seen.new × (it.seen.new.file ≡ it.seen.old.file) × (it.seen.after ≡ it.seen.before) × (output ≡ script_failed))
+    ⊎ ((text : List ℕ) × FileSays (it.seen.old.file script) text × MayRunScript it (script_of text) pace output)
 
 -- What may be written for words. The work of every seed asks for a connection, so its script doesn't run so far.
 abbrev pub MayWrite : Outside → Option Command → ProgramOutput → Type 0
-MayWrite it None output = MayRefuse it output
-MayWrite it (Some (Check script)) output = MayCheck it.old it.new script output
+MayWrite it None output = NoneFailed it.seen.old it.seen.new × (output ≡ words_refused)
+MayWrite it (Some (Check script)) output = MayCheck it.seen.old it.seen.new script output
 MayWrite it (Some (Replay script journal trace turns)) output =
-    MayReplay it.old it.new script (record { journal = journal; trace = trace; turns = turns }) output
-MayWrite it (Some (RunIt script recorded trace turns)) output =
-    MayRunUnless it script recorded (record { trace = trace; turns = turns }) output
-MayWrite it (Some (Work seed)) output = NoneFailed it.old it.new × (output ≡ not_run)
+    MayReplay it.seen.old it.seen.new script (record { journal = journal; trace = trace; turns = turns }) output
+MayWrite it (Some (RunIt script file trace turns)) output = MayRunOver it script (record { trace = trace; turns = turns; file = file }) output
+MayWrite it (Some (Work seed)) output = NoneFailed it.seen.old it.seen.new × (output ≡ not_run)
 
--- What is known where nothing was written: no file failed, and where the wire may be asked it was asked one call at most.
+-- What is known where nothing was written: no file failed; and in a run nothing was recorded, and the wire was asked one call at most.
 abbrev pub IsUnbegun : Outside → Option Command → Type 0
-IsUnbegun it None = NoneFailed it.old it.new
-IsUnbegun it (Some (Check script)) = NoneFailed it.old it.new
-IsUnbegun it (Some (Replay script journal trace turns)) = NoneFailed it.old it.new
-IsUnbegun it (Some (RunIt script recorded trace turns)) = NoneFailed it.old it.new × AsksOnce it.wire.before it.wire.after
-IsUnbegun it (Some (Work seed)) = NoneFailed it.old it.new
+IsUnbegun it None = NoneFailed it.seen.old it.seen.new
+IsUnbegun it (Some (Check script)) = NoneFailed it.seen.old it.seen.new
+IsUnbegun it (Some (Replay script journal trace turns)) = NoneFailed it.seen.old it.seen.new
+IsUnbegun it (Some (RunIt script file trace turns)) = (it.seen.new ≡ it.seen.old) × AsksOnce it.seen.before it.seen.after
+IsUnbegun it (Some (Work seed)) = NoneFailed it.seen.old it.seen.new
 
--- Which commands change which files: none does so far.
+-- a run changes no file but the one in which it is recorded
+abbrev pub KeepsOthers : (file : Option (List ℕ)) → (old new : ShelfSeen) → Type 0
+KeepsOthers None old new = new.file ≡ old.file
+KeepsOthers (Some name) old new = (other : List ℕ) → other ≢ name → new.file other ≡ old.file other
+
+-- which commands change which files
 abbrev pub KeepsFiles : Option Command → (old new : ShelfSeen) → Type 0
 KeepsFiles None old new = new.file ≡ old.file
 KeepsFiles (Some (Check script)) old new = new.file ≡ old.file
 KeepsFiles (Some (Replay script journal trace turns)) old new = new.file ≡ old.file
-KeepsFiles (Some (RunIt script recorded trace turns)) old new = new.file ≡ old.file
+KeepsFiles (Some (RunIt script file trace turns)) old new = KeepsOthers file old new
 KeepsFiles (Some (Work seed)) old new = new.file ≡ old.file
 
--- a run that isn't recorded asks the wire
-abbrev pub KeepsUnrun : {W : Type 0} → (recorded : Option (List ℕ)) → (old new : W) → Type 0
-KeepsUnrun None old new = Unit {0}
-KeepsUnrun (Some name) old new = new ≡ old
-
--- which commands leave the wire as it is
+-- which commands leave the wire as it is: all but a run
 abbrev pub KeepsWire : {W : Type 0} → Option Command → (old new : W) → Type 0
 KeepsWire None old new = new ≡ old
 KeepsWire (Some (Check script)) old new = new ≡ old
 KeepsWire (Some (Replay script journal trace turns)) old new = new ≡ old
-KeepsWire (Some (RunIt script recorded trace turns)) old new = KeepsUnrun recorded old new
+KeepsWire (Some (RunIt script file trace turns)) old new = Unit {0}
 KeepsWire (Some (Work seed)) old new = new ≡ old

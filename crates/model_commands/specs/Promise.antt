@@ -1,11 +1,11 @@
 -- What the program promises: the theorem, and its words.
-use Rattle.std.specs.Prelude.{◌≡◌, ◌≢◌, ℕ, List, None, ◌⊎◌}
+use Rattle.std.specs.Prelude.{◌≡◌, ◌≢◌, ℕ, List, Option, None, ◌⊎◌}
 use Rattle.model_wire.specs.Event.{Event}
 use Rattle.model_wire.specs.Told.{ShelfSeen, SinkSeen, WireSeen}
 use Rattle.model_machine.specs.Theorem.{SinkStops, StopsShort, WritesWhole}
 use Rattle.model_words.specs.Words.{command_of}
-use Rattle.model_commands.specs.Asked.{Asks, AsksFirst, AsksFirstAndOne}
 use Rattle.model_commands.specs.Outputs.{IsUnbegun, KeepsFiles, KeepsWire, MayWrite, Outside}
+use Rattle.model_commands.specs.Telling.{Between, TellsAll, TellsFirst, TellsFirstAndOne}
 
 -- The outside at a moment: the shelf and the wire; what is seen of the shelf, of the wire and of the sink; and that each call of the wire
 -- fails.
@@ -17,24 +17,23 @@ pub record Moment (F W : Type 0) : Type 1 where
   pub fails : Type 0
   pub sink : SinkSeen
 
--- what is known of it between two moments, where this is how the wire was asked
-abbrev pub between : {F W : Type 0} → (old new : Moment F W) → (asked : (before after : WireSeen) → List Event → Type 0) → Outside
-between old new asked = record {
-  old = old.files;
-  new = new.files;
-  wire = record { before = old.told; after = new.told; fails = old.fails; asked = asked old.told new.told };
-}
+-- what is seen of it between two moments
+abbrev pub between : {F W : Type 0} → (old new : Moment F W) → Between
+between old new = record { old = old.files; new = new.files; before = old.told; after = new.told }
 
--- The wire was asked all that the run's events say; or, where the run was cut short, what the first of them say, and after want of
--- memory perhaps one call besides.
+-- what is known of it, where it was told this much of a run
+abbrev pub outside : {F W : Type 0} → (old new : Moment F W) → (told : Between → (file : Option (List ℕ)) → List Event → Type 0) → Outside
+outside old new told = record { seen = between old new; fails = old.fails; told = told (between old new) }
+
+-- It was told all of the run; or, where the run was cut short, the first of it.
 abbrev pub whole : {F W : Type 0} → (old new : Moment F W) → Outside
-whole old new = between old new (λ before after events. Asks events before after)
+whole old new = outside old new TellsAll
 
 abbrev pub stopped : {F W : Type 0} → (old new : Moment F W) → Outside
-stopped old new = between old new AsksFirst
+stopped old new = outside old new TellsFirst
 
 abbrev pub starved : {F W : Type 0} → (old new : Moment F W) → Outside
-starved old new = between old new AsksFirstAndOne
+starved old new = outside old new TellsFirstAndOne
 
 -- The theorem: what the program does for the words behind its name, for every shelf, wire and sink, by its exit status.
 pub record Behaves {F W : Type 0} (given : List (List ℕ)) (old new : Moment F W) (status : ℕ) : Type 0 where
@@ -50,7 +49,7 @@ pub record Behaves {F W : Type 0} (given : List (List ℕ)) (old new : Moment F 
       → StopsShort (MayWrite (starved old new) (command_of given)) (IsUnbegun (starved old new) (command_of given)) old.sink new.sink
   -- Files change as the command says.
   pub files : KeepsFiles (command_of given) old.files new.files
-  -- The wire is asked by those commands alone that say so.
+  -- The wire is asked by a run alone.
   pub wire : KeepsWire (command_of given) old.wire new.wire
   -- Words that are refused ask nothing of the shelf.
   pub words : command_of given ≡ None → new.shelf ≡ old.shelf

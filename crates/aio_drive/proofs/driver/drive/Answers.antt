@@ -1,29 +1,24 @@
-use Rattle.std.proofs.Common.{[], refl, sym}
-use Rattle.aio_core.proofs.Asked.{none_once}
-use Rattle.aio_drive.specs.Drive.{IsUnbegun, MayDrive, Undisturbed, over_front}
-use Rattle.aio_drive.specs.declared.halt.Halt.TheVariants.{Memory}
-use Rattle.aio_drive.proofs.Written.{nothing_at_all}
-use Rattle.aio_drive.proofs.Fronts.{took-nil}
+use Rattle.std.proofs.Common.{◌≡◌}
+use Rattle.aio_drive.proofs.Unrecorded.{early_unrecorded, never_unrecorded, whole_unrecorded}
 use Rattle.aio_drive.proofs.driver.drive.Goals as goal
 
-pub new-requires : goal.new-requires
-new-requires g c = record { fresh = ∣ (tt, λ t p. tt) ∣₁ }
-
 pub returns-in-Ok-clause-ok : goal.returns-in-Ok-clause-ok
-returns-in-Ok-clause-ok g c = c.drive_kernel-driven.ensures.ok c.args.program.now (c.in-Ok.ensures tt (λ t p. tt))
+returns-in-Ok-clause-ok g c =
+    whole_unrecorded c.args.program.now c.args.manner c.args.fault.now (g.W.Wire.seen c.args.wire.now) (g.W.Wire.seen c.drive_recorded.new.wire)
+    (g.W.Wire.fails c.args.wire.now) (g.W.Wire.quiet c.args.wire.now c.drive_recorded.new.wire) (c.drive_recorded.new.shelf ≡ record {})
+    (g.K.Sink.seen c.args.out.now) (g.K.Sink.seen c.drive_recorded.new.out) c.in-Ok.status c.in-Ok.ensures.ok
 
-pub returns-in-Ok-clause-err : goal.returns-in-Ok-clause-err
-returns-in-Ok-clause-err g c = c.drive_kernel-driven.ensures.err c.args.program.now (c.in-Ok.ensures tt (λ t p. tt))
+pub returns-in-Err-Halted-clause-err : goal.returns-in-Err-Halted-clause-err
+returns-in-Err-Halted-clause-err g c =
+    early_unrecorded c.args.program.now c.args.manner c.args.fault.now (g.W.Wire.seen c.args.wire.now) (g.W.Wire.seen c.drive_recorded.new.wire)
+    (g.W.Wire.fails c.args.wire.now) (g.W.Wire.quiet c.args.wire.now c.drive_recorded.new.wire) (c.drive_recorded.new.shelf ≡ record {})
+    c.in-Err-Halted.field-0 c.in-Err-Halted.halt c.in-Err-Halted.field-0-is
+    (g.K.Sink.seen c.args.out.now) (g.K.Sink.seen c.drive_recorded.new.out) c.in-Err-Halted.ensures.err
 
-pub returns-in-Err-clause-err : goal.returns-in-Err-clause-err
-returns-in-Err-clause-err g c =
-    let seen = g.W.Wire.seen c.args.wire.now in
-    let quiet = g.W.Wire.quiet c.args.wire.now c.args.wire.now in
-    nothing_at_all
-    (MayDrive c.args.program.now c.args.manner c.args.fault.now (over_front Memory seen seen (Undisturbed (g.W.Wire.fails c.args.wire.now) quiet)))
-    (IsUnbegun quiet seen seen)
-    (g.K.Sink.seen c.args.out.now) (g.K.Sink.seen c.args.out.now) [] (sym (took-nil (g.K.Sink.seen c.args.out.now))) refl
-    (g.met.W.Wire.quiet_same c.args.wire.now, none_once seen)
-
-pub returns-in-Err-clause-keeps : goal.returns-in-Err-clause-keeps
-returns-in-Err-clause-keeps g c = g.met.W.Wire.keeps_same c.args.wire.now
+pub returns-in-Err-Unrecorded-clause-err : goal.returns-in-Err-Unrecorded-clause-err
+returns-in-Err-Unrecorded-clause-err g c =
+    absurd (never_unrecorded c.args.program.now c.args.manner c.args.fault.now (g.W.Wire.seen c.args.wire.now)
+    (g.W.Wire.seen c.drive_recorded.new.wire)
+    (g.W.Wire.fails c.args.wire.now) (g.W.Wire.quiet c.args.wire.now c.drive_recorded.new.wire) (c.drive_recorded.new.shelf ≡ record {})
+    c.in-Err-Unrecorded.field-0 c.in-Err-Unrecorded.field-0-is
+    (g.K.Sink.seen c.args.out.now) (g.K.Sink.seen c.drive_recorded.new.out) c.in-Err-Unrecorded.ensures.err)

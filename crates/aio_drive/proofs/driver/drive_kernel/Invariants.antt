@@ -1,4 +1,5 @@
 use Rattle.std.proofs.Common.{◌≡◌, ℕ, ◌≤◌, List}
+use Rattle.std.specs.Option.{option_copied}
 use Rattle.model_tree.specs.Syntax.{Program}
 use Rattle.aio_extra.specs.Nothing.{nothing_added}
 use Rattle.aio_core.specs.Turned.{Begins}
@@ -9,7 +10,13 @@ abbrev pub invariant-loop-made : goal.invariant-loop-made
 invariant-loop-made g l = record {
   running : (program : Program) → Begins nothing_added tt program l.fn.kernel
       → IsUnderWay program l.fn.manner l._made l.kernel (g.W.Wire.seen l.fn.wire) (g.W.Wire.seen l.wire)
-      (g.K.Sink.seen l.fn.out) (g.K.Sink.seen l.out) (g.W.Wire.fails l.fn.wire) (g.W.Wire.fails l.wire) (g.W.Wire.quiet l.fn.wire l.wire);
+      (g.K.Sink.seen l.fn.out) (g.K.Sink.seen l.out)
+      (record {
+        name = option_copied l.fn.journal;
+        old = g.F.Shelf.seen l.fn.shelf;
+        new = g.F.Shelf.seen l.shelf;
+      })
+      (g.W.Wire.fails l.fn.wire) (g.W.Wire.fails l.wire) (g.W.Wire.quiet l.fn.wire l.wire) (l.shelf ≡ l.fn.shelf);
   later : (g.W.Wire.seen l.fn.wire).faults ≤ (g.W.Wire.seen l.wire).faults;
   keeps : g.W.Wire.keeps l.fn.wire l.wire;
 }

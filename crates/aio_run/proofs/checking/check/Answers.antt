@@ -6,7 +6,8 @@ use Rattle.model_machine.specs.Theorem.{ProgramOutput}
 use Rattle.model_machine.specs.Program.{MayCheck}
 use Rattle.aio_run.specs.Script.{Tells}
 use Rattle.aio_run.specs.declared.script.NoScript.TheVariants.{Memory}
-use Rattle.aio_run.proofs.Outcomes.{check_by_script, check_without, early_wider, line_early, none_failed_without, whole_wider}
+use Rattle.aio_drive.proofs.Unrecorded.{early_wider, whole_wider}
+use Rattle.aio_run.proofs.Outcomes.{check_by_script, check_without, line_early, none_failed_without}
 use Rattle.aio_run.proofs.checking.check.Goals as goal
 
 pub returns-in_ok-text-in-Ok-clause-ok : goal.returns-in_ok-text-in-Ok-clause-ok

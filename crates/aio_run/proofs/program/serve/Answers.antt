@@ -6,7 +6,7 @@ use Rattle.model_machine.specs.Program.{not_run, words_refused}
 use Rattle.model_machine.specs.Theorem.{WritesWhole}
 use Rattle.model_commands.specs.Outputs.{IsUnbegun, KeepsFiles, KeepsWire, MayWrite}
 use Rattle.aio_drive.specs.Outcome.{EndsEarly}
-use Rattle.aio_run.specs.Running.{asked_all, asked_until, outside}
+use Rattle.aio_run.specs.Running.{between, told_all, told_until}
 use Rattle.aio_run.proofs.Outcomes.{line_early, not_run_text}
 use Rattle.aio_run.proofs.program.serve.Goals as goal
 
@@ -15,7 +15,7 @@ pub returns-in-None-clause-ok : goal.returns-in-None-clause-ok
 returns-in-None-clause-ok g c =
     let shelf = g.F.Shelf.seen c.args.shelf.now in
     let wire = g.W.Wire.seen c.args.wire.now in
-    let it = outside shelf shelf (asked_all wire wire (g.W.Wire.fails c.args.wire.now)) in
+    let it = told_all (between shelf shelf wire wire) (g.W.Wire.fails c.args.wire.now) in
     let may = subst (λ (o : Option Command). MayWrite it o words_refused) c.in-None.ensures.command (refl, refl) in
     IfOk-weaker c.say-in-None.result _ _ (λ status d. (words_refused, may, d.1, d.0)) c.say-in-None.ensures.ok
 
@@ -26,10 +26,10 @@ returns-in-None-clause-err g c =
     let fails = g.W.Wire.fails c.args.wire.now in
     let asked = command_of (map string_bytes c.args.words.now) in
     IfErr-weaker c.say-in-None.result _ _ (λ halt d.
-    line_early halt (MayWrite (outside shelf shelf (asked_until halt wire wire fails)) asked)
-    (IsUnbegun (outside shelf shelf (asked_until halt wire wire fails)) asked) words_refused _
+    line_early halt (MayWrite (told_until halt (between shelf shelf wire wire) fails) asked)
+    (IsUnbegun (told_until halt (between shelf shelf wire wire) fails) asked) words_refused _
     (g.K.Sink.seen c.args.out.now) (g.K.Sink.seen c.say-in-None.new.out)
-    (subst (λ (o : Option Command). MayWrite (outside shelf shelf (asked_until halt wire wire fails)) o words_refused)
+    (subst (λ (o : Option Command). MayWrite (told_until halt (between shelf shelf wire wire) fails) o words_refused)
     c.in-None.ensures.command (refl, refl)) refl d) c.say-in-None.ensures.err
 
 pub returns-in-None-clause-files : goal.returns-in-None-clause-files
@@ -46,7 +46,7 @@ pub returns-in-Some-Work-clause-ok : goal.returns-in-Some-Work-clause-ok
 returns-in-Some-Work-clause-ok g c =
     let shelf = g.F.Shelf.seen c.args.shelf.now in
     let wire = g.W.Wire.seen c.args.wire.now in
-    let it = outside shelf shelf (asked_all wire wire (g.W.Wire.fails c.args.wire.now)) in
+    let it = told_all (between shelf shelf wire wire) (g.W.Wire.fails c.args.wire.now) in
     let found = rw c.in-Some-Work.field-0-is at c.in-Some-Work.ensures.command in
     let may = subst (λ (o : Option Command). MayWrite it o not_run) found (refl, refl) in
     IfOk-weaker c.say.result _ _
@@ -60,10 +60,10 @@ returns-in-Some-Work-clause-err g c =
     let asked = command_of (map string_bytes c.args.words.now) in
     let found = rw c.in-Some-Work.field-0-is at c.in-Some-Work.ensures.command in
     IfErr-weaker c.say.result _ _ (λ halt d.
-    line_early halt (MayWrite (outside shelf shelf (asked_until halt wire wire fails)) asked)
-    (IsUnbegun (outside shelf shelf (asked_until halt wire wire fails)) asked) not_run _
+    line_early halt (MayWrite (told_until halt (between shelf shelf wire wire) fails) asked)
+    (IsUnbegun (told_until halt (between shelf shelf wire wire) fails) asked) not_run _
     (g.K.Sink.seen c.args.out.now) (g.K.Sink.seen c.say.new.out)
-    (subst (λ (o : Option Command). MayWrite (outside shelf shelf (asked_until halt wire wire fails)) o not_run) found (refl, refl))
+    (subst (λ (o : Option Command). MayWrite (told_until halt (between shelf shelf wire wire) fails) o not_run) found (refl, refl))
     (sym not_run_text) d) c.say.ensures.err
 
 pub returns-in-Some-Work-clause-files : goal.returns-in-Some-Work-clause-files
@@ -81,7 +81,7 @@ returns-in-Some-Work-clause-wire g c =
 pub returns-in-Some-Check-clause-ok : goal.returns-in-Some-Check-clause-ok
 returns-in-Some-Check-clause-ok g c =
     let wire = g.W.Wire.seen c.args.wire.now in
-    let it = outside (g.F.Shelf.seen c.args.shelf.now) (g.F.Shelf.seen c.check.new.shelf) (asked_all wire wire (g.W.Wire.fails c.args.wire.now)) in
+    let it = told_all (between (g.F.Shelf.seen c.args.shelf.now) (g.F.Shelf.seen c.check.new.shelf) wire wire) (g.W.Wire.fails c.args.wire.now) in
     let found = rw c.in-Some-Check.field-0-is at c.in-Some-Check.ensures.command in
     subst (λ (o : Option Command). IfOk c.check.result (WritesWhole (MayWrite it o) (g.K.Sink.seen c.args.out.now)
     (g.K.Sink.seen c.check.new.out))) found c.check.ensures.ok
@@ -93,8 +93,8 @@ returns-in-Some-Check-clause-err g c =
     let wire = g.W.Wire.seen c.args.wire.now in
     let fails = g.W.Wire.fails c.args.wire.now in
     let found = rw c.in-Some-Check.field-0-is at c.in-Some-Check.ensures.command in
-    subst (λ (o : Option Command). IfErr c.check.result (λ halt. EndsEarly (MayWrite (outside old new (asked_until halt wire wire fails)) o)
-    (IsUnbegun (outside old new (asked_until halt wire wire fails)) o) (g.K.Sink.seen c.args.out.now)
+    subst (λ (o : Option Command). IfErr c.check.result (λ halt. EndsEarly (MayWrite (told_until halt (between old new wire wire) fails) o)
+    (IsUnbegun (told_until halt (between old new wire wire) fails) o) (g.K.Sink.seen c.args.out.now)
     (g.K.Sink.seen c.check.new.out) halt)) found c.check.ensures.err
 
 pub returns-in-Some-Check-clause-files : goal.returns-in-Some-Check-clause-files
@@ -111,7 +111,7 @@ returns-in-Some-Check-clause-wire g c =
 pub returns-in-Some-Replay-clause-ok : goal.returns-in-Some-Replay-clause-ok
 returns-in-Some-Replay-clause-ok g c =
     let wire = g.W.Wire.seen c.args.wire.now in
-    let it = outside (g.F.Shelf.seen c.args.shelf.now) (g.F.Shelf.seen c.replay.new.shelf) (asked_all wire wire (g.W.Wire.fails c.args.wire.now)) in
+    let it = told_all (between (g.F.Shelf.seen c.args.shelf.now) (g.F.Shelf.seen c.replay.new.shelf) wire wire) (g.W.Wire.fails c.args.wire.now) in
     let found = rw c.in-Some-Replay.field-0-is at c.in-Some-Replay.ensures.command in
     subst (λ (o : Option Command). IfOk c.replay.result (WritesWhole (MayWrite it o) (g.K.Sink.seen c.args.out.now)
     (g.K.Sink.seen c.replay.new.out))) found c.replay.ensures.ok
@@ -123,8 +123,8 @@ returns-in-Some-Replay-clause-err g c =
     let wire = g.W.Wire.seen c.args.wire.now in
     let fails = g.W.Wire.fails c.args.wire.now in
     let found = rw c.in-Some-Replay.field-0-is at c.in-Some-Replay.ensures.command in
-    subst (λ (o : Option Command). IfErr c.replay.result (λ halt. EndsEarly (MayWrite (outside old new (asked_until halt wire wire fails)) o)
-    (IsUnbegun (outside old new (asked_until halt wire wire fails)) o) (g.K.Sink.seen c.args.out.now)
+    subst (λ (o : Option Command). IfErr c.replay.result (λ halt. EndsEarly (MayWrite (told_until halt (between old new wire wire) fails) o)
+    (IsUnbegun (told_until halt (between old new wire wire) fails) o) (g.K.Sink.seen c.args.out.now)
     (g.K.Sink.seen c.replay.new.out) halt)) found c.replay.ensures.err
 
 pub returns-in-Some-Replay-clause-files : goal.returns-in-Some-Replay-clause-files
@@ -141,33 +141,32 @@ returns-in-Some-Replay-clause-wire g c =
 pub returns-in-Some-Run-clause-ok : goal.returns-in-Some-Run-clause-ok
 returns-in-Some-Run-clause-ok g c =
     let before = g.W.Wire.seen c.args.wire.now in
-    let after = g.W.Wire.seen c.run_unless_recorded.new.wire in
-    let it = outside (g.F.Shelf.seen c.args.shelf.now) (g.F.Shelf.seen c.run_unless_recorded.new.shelf)
-    (asked_all before after (g.W.Wire.fails c.args.wire.now)) in
+    let after = g.W.Wire.seen c.run.new.wire in
+    let it = told_all (between (g.F.Shelf.seen c.args.shelf.now) (g.F.Shelf.seen c.run.new.shelf) before after) (g.W.Wire.fails c.args.wire.now) in
     let found = rw c.in-Some-Run.field-0-is at c.in-Some-Run.ensures.command in
-    subst (λ (o : Option Command). IfOk c.run_unless_recorded.result (WritesWhole (MayWrite it o) (g.K.Sink.seen c.args.out.now)
-    (g.K.Sink.seen c.run_unless_recorded.new.out))) found c.run_unless_recorded.ensures.ok
+    subst (λ (o : Option Command). IfOk c.run.result (WritesWhole (MayWrite it o) (g.K.Sink.seen c.args.out.now)
+    (g.K.Sink.seen c.run.new.out))) found c.run.ensures.ok
 
 pub returns-in-Some-Run-clause-err : goal.returns-in-Some-Run-clause-err
 returns-in-Some-Run-clause-err g c =
     let old = g.F.Shelf.seen c.args.shelf.now in
-    let new = g.F.Shelf.seen c.run_unless_recorded.new.shelf in
+    let new = g.F.Shelf.seen c.run.new.shelf in
     let before = g.W.Wire.seen c.args.wire.now in
-    let after = g.W.Wire.seen c.run_unless_recorded.new.wire in
+    let after = g.W.Wire.seen c.run.new.wire in
     let fails = g.W.Wire.fails c.args.wire.now in
     let found = rw c.in-Some-Run.field-0-is at c.in-Some-Run.ensures.command in
-    subst (λ (o : Option Command). IfErr c.run_unless_recorded.result (λ halt.
-    EndsEarly (MayWrite (outside old new (asked_until halt before after fails)) o)
-    (IsUnbegun (outside old new (asked_until halt before after fails)) o) (g.K.Sink.seen c.args.out.now)
-    (g.K.Sink.seen c.run_unless_recorded.new.out) halt)) found c.run_unless_recorded.ensures.err
+    subst (λ (o : Option Command). IfErr c.run.result (λ halt.
+    EndsEarly (MayWrite (told_until halt (between old new before after) fails) o)
+    (IsUnbegun (told_until halt (between old new before after) fails) o) (g.K.Sink.seen c.args.out.now)
+    (g.K.Sink.seen c.run.new.out) halt)) found c.run.ensures.err
 
 pub returns-in-Some-Run-clause-files : goal.returns-in-Some-Run-clause-files
 returns-in-Some-Run-clause-files g c =
     let found = rw c.in-Some-Run.field-0-is at c.in-Some-Run.ensures.command in
-    subst (λ (o : Option Command). KeepsFiles o (g.F.Shelf.seen c.args.shelf.now) (g.F.Shelf.seen c.run_unless_recorded.new.shelf))
-    found c.run_unless_recorded.ensures.files
+    subst (λ (o : Option Command). KeepsFiles o (g.F.Shelf.seen c.args.shelf.now) (g.F.Shelf.seen c.run.new.shelf))
+    found c.run.ensures.files
 
 pub returns-in-Some-Run-clause-wire : goal.returns-in-Some-Run-clause-wire
 returns-in-Some-Run-clause-wire g c =
     let found = rw c.in-Some-Run.field-0-is at c.in-Some-Run.ensures.command in
-    subst (λ (o : Option Command). KeepsWire o c.args.wire.now c.run_unless_recorded.new.wire) found c.run_unless_recorded.ensures.wire
+    subst (λ (o : Option Command). KeepsWire o c.args.wire.now c.run.new.wire) found tt

@@ -6,7 +6,8 @@ use Rattle.model_machine.specs.Served.{is_served}
 use Rattle.aio_run.specs.Manner.{manner_of}
 use Rattle.aio_run.specs.Script.{Tells}
 use Rattle.aio_run.specs.declared.script.NoScript.TheVariants.{Memory}
-use Rattle.aio_run.proofs.Outcomes.{whole_wider, early_wider, none_failed_without, replay_by_script, replay_without}
+use Rattle.aio_drive.proofs.Unrecorded.{early_wider, whole_wider}
+use Rattle.aio_run.proofs.Outcomes.{none_failed_without, replay_by_script, replay_without}
 use Rattle.aio_run.proofs.replaying.replay.Goals as goal
 
 pub returns-in-Ok-clause-ok : goal.returns-in-Ok-clause-ok

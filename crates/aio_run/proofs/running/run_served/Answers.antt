@@ -1,39 +1,112 @@
+use Rattle.std.proofs.Common.{◌≡◌, ap, refl, subst}
+use Rattle.std.specs.Option.{option_copied}
 use Rattle.std.proofs.lemmas.Result.{IfOk-weaker, IfErr-weaker}
 use Rattle.model_wire.specs.declared.event.End.TheVariants as end
-use Rattle.model_commands.specs.Asked.{Asks, AsksOnce}
+use Rattle.model_wire.specs.Told.{ShelfSeen}
+use Rattle.model_commands.specs.Asked.{AsksOnce}
 use Rattle.model_commands.specs.Outputs.{MayRun}
-use Rattle.aio_drive.specs.Asked as code
-use Rattle.aio_drive.specs.Drive.{IsUnbegun, MayDrive, Undisturbed, over_all, over_front}
+use Rattle.model_commands.specs.Telling.{TellsAll}
 use Rattle.aio_drive.specs.Drive as drive
-use Rattle.aio_run.specs.Running.{AsksUntil, asked_all, asked_until, pace_of}
-use Rattle.aio_run.proofs.Outcomes.{whole_wider, early_wider}
-use Rattle.aio_run.proofs.WireRuns.{asks-same, once-same, runs_over, until-same}
+use Rattle.aio_drive.specs.Drive.{Driven, IsUntold, MayDrive, MayTell, driven_over, wire_by}
+use Rattle.aio_drive.proofs.Unrecorded.{early_wider, whole_wider}
+use Rattle.aio_run.specs.Running.{TellsUntil, between, pace_of, told_all, told_until}
+use Rattle.aio_run.proofs.WireRuns.{all_so, cut_early, cut_whole, once-same, others_early, others_failed, others_told, runs_over, until_so}
 use Rattle.aio_run.proofs.running.run_served.Goals as goal
 
-pub returns-clause-ok : goal.returns-clause-ok
-returns-clause-ok g c =
+pub returns-in-Ok-clause-ok : goal.returns-in-Ok-clause-ok
+returns-in-Ok-clause-ok g c =
+    let old = g.F.Shelf.seen c.args.shelf.now in
+    let new = g.F.Shelf.seen c.drive_recorded.new.shelf in
     let before = g.W.Wire.seen c.args.wire.now in
-    let after = g.W.Wire.seen c.drive.new.wire in
+    let after = g.W.Wire.seen c.drive_recorded.new.wire in
     let fails = g.W.Wire.fails c.args.wire.now in
-    let quiet = g.W.Wire.quiet c.args.wire.now c.drive.new.wire in
+    let quiet = g.W.Wire.quiet c.args.wire.now c.drive_recorded.new.wire in
+    let file = option_copied c.args.journal in
+    let it : Driven = driven_over before after fails quiet
+    (record { name = file; old = old; new = new }) (c.drive_recorded.new.shelf ≡ c.args.shelf.now) in
     let program = c.args.program.now in
-    IfOk-weaker c.drive.result _ _ (λ status d.
-    whole_wider (MayDrive program c.args.manner end.WireFault (over_all before after (Undisturbed fails quiet)))
-    (MayRun (asked_all before after fails) program (pace_of c.args.manner)) (Unit {0}) (Unit {0})
-    (runs_over program c.args.manner before after fails quiet (λ events. code.Asks events before after) (λ events. Asks events before after)
-    (λ events asks. asks-same events before after asks))
-    (λ none. none) (g.K.Sink.seen c.args.out.now) (g.K.Sink.seen c.drive.new.out) status d) c.drive.ensures.ok
+    let seen = between old new before after in
+    whole_wider (MayTell program c.args.manner end.WireFault it) (MayRun (told_all seen fails) program (pace_of file c.args.manner)) (Unit {0}) (Unit {0})
+    (runs_over program c.args.manner it fails refl (drive.TellsAll it) (TellsAll seen) (all_so it)) (λ none. none)
+    (g.K.Sink.seen c.args.out.now) (g.K.Sink.seen c.drive_recorded.new.out) c.in-Ok.status c.in-Ok.ensures.ok
 
-pub returns-clause-err : goal.returns-clause-err
-returns-clause-err g c =
-    let before = g.W.Wire.seen c.args.wire.now in
-    let after = g.W.Wire.seen c.drive.new.wire in
+pub returns-in-Ok-clause-files : goal.returns-in-Ok-clause-files
+returns-in-Ok-clause-files g c =
+    let old = g.F.Shelf.seen c.args.shelf.now in
+    let new = g.F.Shelf.seen c.drive_recorded.new.shelf in
     let fails = g.W.Wire.fails c.args.wire.now in
-    let quiet = g.W.Wire.quiet c.args.wire.now c.drive.new.wire in
+    let quiet = g.W.Wire.quiet c.args.wire.now c.drive_recorded.new.wire in
+    let it : Driven = driven_over (g.W.Wire.seen c.args.wire.now) (g.W.Wire.seen c.drive_recorded.new.wire) fails quiet
+    (record { name = option_copied c.args.journal; old = old; new = new }) (c.drive_recorded.new.shelf ≡ c.args.shelf.now) in
+    let done = c.in-Ok.ensures.ok in
+    others_told c.args.program.now c.args.manner it fails refl done.0 done.1
+
+pub returns-in-Err-Halted-clause-err : goal.returns-in-Err-Halted-clause-err
+returns-in-Err-Halted-clause-err g c =
+    let old = g.F.Shelf.seen c.args.shelf.now in
+    let new = g.F.Shelf.seen c.drive_recorded.new.shelf in
+    let before = g.W.Wire.seen c.args.wire.now in
+    let after = g.W.Wire.seen c.drive_recorded.new.wire in
+    let fails = g.W.Wire.fails c.args.wire.now in
+    let quiet = g.W.Wire.quiet c.args.wire.now c.drive_recorded.new.wire in
+    let file = option_copied c.args.journal in
+    let it : Driven = driven_over before after fails quiet
+    (record { name = file; old = old; new = new }) (c.drive_recorded.new.shelf ≡ c.args.shelf.now) in
     let program = c.args.program.now in
-    IfErr-weaker c.drive.result _ _ (λ halt d.
-    early_wider (MayDrive program c.args.manner end.WireFault (over_front halt before after (Undisturbed fails quiet)))
-    (MayRun (asked_until halt before after fails) program (pace_of c.args.manner)) (IsUnbegun quiet before after) (AsksOnce before after)
-    (runs_over program c.args.manner before after fails quiet (drive.AsksUntil halt before after) (AsksUntil halt before after)
-    (until-same halt before after))
-    (λ none. once-same before after none.1) halt (g.K.Sink.seen c.args.out.now) (g.K.Sink.seen c.drive.new.out) d) c.drive.ensures.err
+    let seen = between old new before after in
+    let halt = c.in-Err-Halted.halt in
+    let stops = rw c.in-Err-Halted.field-0-is at c.in-Err-Halted.ensures.err in
+    early_wider (MayDrive program c.args.manner end.WireFault (wire_by it (drive.TellsUntil halt it)))
+    (MayRun (told_until halt seen fails) program (pace_of file c.args.manner)) (IsUntold it) ((new ≡ old) × AsksOnce before after)
+    (runs_over program c.args.manner it fails refl (drive.TellsUntil halt it) (TellsUntil halt seen) (until_so halt it))
+    (λ untold. (ap g.F.Shelf.seen untold.1, once-same before after untold.0.1))
+    halt (g.K.Sink.seen c.args.out.now) (g.K.Sink.seen c.drive_recorded.new.out) stops
+
+pub returns-in-Err-Halted-clause-files : goal.returns-in-Err-Halted-clause-files
+returns-in-Err-Halted-clause-files g c =
+    let old = g.F.Shelf.seen c.args.shelf.now in
+    let new = g.F.Shelf.seen c.drive_recorded.new.shelf in
+    let fails = g.W.Wire.fails c.args.wire.now in
+    let quiet = g.W.Wire.quiet c.args.wire.now c.drive_recorded.new.wire in
+    let it : Driven = driven_over (g.W.Wire.seen c.args.wire.now) (g.W.Wire.seen c.drive_recorded.new.wire) fails quiet
+    (record { name = option_copied c.args.journal; old = old; new = new }) (c.drive_recorded.new.shelf ≡ c.args.shelf.now) in
+    let stops = rw c.in-Err-Halted.field-0-is at c.in-Err-Halted.ensures.err in
+    others_early c.args.program.now c.args.manner it fails refl
+    (λ same. ap (λ (s : ShelfSeen). s.file) (ap g.F.Shelf.seen same)) c.in-Err-Halted.halt
+    (g.K.Sink.seen c.args.out.now) (g.K.Sink.seen c.drive_recorded.new.out) stops
+
+pub returns-in-Err-Unrecorded-clause-ok : goal.returns-in-Err-Unrecorded-clause-ok
+returns-in-Err-Unrecorded-clause-ok g c =
+    let old = g.F.Shelf.seen c.args.shelf.now in
+    let new = g.F.Shelf.seen c.drive_recorded.new.shelf in
+    let before = g.W.Wire.seen c.args.wire.now in
+    let after = g.W.Wire.seen c.drive_recorded.new.wire in
+    let fails = g.W.Wire.fails c.args.wire.now in
+    let quiet = g.W.Wire.quiet c.args.wire.now c.drive_recorded.new.wire in
+    let it : Driven = driven_over before after fails quiet
+    (record { name = option_copied c.args.journal; old = old; new = new }) (c.drive_recorded.new.shelf ≡ c.args.shelf.now) in
+    let stops = rw c.in-Err-Unrecorded.field-0-is at c.in-Err-Unrecorded.ensures.err in
+    IfOk-weaker c.say.result _ _ (λ status d.
+    cut_whole c.args.program.now c.args.manner it (g.K.Sink.seen c.args.out.now) (g.K.Sink.seen c.drive_recorded.new.out) stops
+    fails (TellsAll (between old new before after)) (g.K.Sink.seen c.say.new.out) status d.0 d.1) c.say.ensures.ok
+
+pub returns-in-Err-Unrecorded-clause-err : goal.returns-in-Err-Unrecorded-clause-err
+returns-in-Err-Unrecorded-clause-err g c =
+    let old = g.F.Shelf.seen c.args.shelf.now in
+    let new = g.F.Shelf.seen c.drive_recorded.new.shelf in
+    let before = g.W.Wire.seen c.args.wire.now in
+    let after = g.W.Wire.seen c.drive_recorded.new.wire in
+    let fails = g.W.Wire.fails c.args.wire.now in
+    let quiet = g.W.Wire.quiet c.args.wire.now c.drive_recorded.new.wire in
+    let it : Driven = driven_over before after fails quiet
+    (record { name = option_copied c.args.journal; old = old; new = new }) (c.drive_recorded.new.shelf ≡ c.args.shelf.now) in
+    let stops = rw c.in-Err-Unrecorded.field-0-is at c.in-Err-Unrecorded.ensures.err in
+    IfErr-weaker c.say.result _ _ (λ halt d.
+    cut_early c.args.program.now c.args.manner it (g.K.Sink.seen c.args.out.now) (g.K.Sink.seen c.drive_recorded.new.out) stops
+    fails (TellsUntil halt (between old new before after)) ((new ≡ old) × AsksOnce before after) (g.K.Sink.seen c.say.new.out) halt d)
+    c.say.ensures.err
+
+pub returns-in-Err-Unrecorded-clause-files : goal.returns-in-Err-Unrecorded-clause-files
+returns-in-Err-Unrecorded-clause-files g c =
+    let stops = rw c.in-Err-Unrecorded.field-0-is at c.in-Err-Unrecorded.ensures.err in
+    others_failed (option_copied c.args.journal) _ (g.F.Shelf.seen c.args.shelf.now) (g.F.Shelf.seen c.drive_recorded.new.shelf) stops.failed

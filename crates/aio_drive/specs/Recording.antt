@@ -1,0 +1,96 @@
+-- What a turn leaves that is recorded and written, where that stopped.
+use Rattle.std.specs.Prelude.{◌≡◌, ℕ, Bool, true, false, List, [], ◌++◌, Option, Result, IfOk, IfErr, OnOk}
+use Rattle.model_wire.specs.declared.event.End.TheVariants as end
+use Rattle.model_wire.specs.Event.{Event}
+use Rattle.model_wire.specs.Journal.{Entry}
+use Rattle.model_wire.specs.Told.{ShelfSeen, SinkSeen}
+use Rattle.model_wire.specs.Trace.{End, end_text, line, lines_of_events}
+use Rattle.model_machine.specs.Outcomes.{end_of}
+use Rattle.model_machine.specs.State.{State}
+use Rattle.model_machine.specs.Theorem.{IsFrontOf}
+use Rattle.model_commands.specs.Recorded.{FailsRecording, Records, recorded}
+use Rattle.aio_wire.specs.declared.stop.Stop.TheVariants as stop
+use Rattle.aio_extra.specs.Nothing.{nothing_added}
+use Rattle.aio_extra.specs.declared.nothing.NoExtra.{NoExtra}
+use Rattle.aio_core.specs.Turned.{StandsFor, TurnedBy, WireTurn, untaken}
+use Rattle.aio_core.specs.declared.kernel.Kernel.{Kernel}
+use Rattle.aio_core.specs.declared.went.Went.{Went}
+use Rattle.aio_core.specs.declared.went.Went.TheVariants as went
+use Rattle.aio_drive.specs.Ending.{WroteTurn}
+use Rattle.aio_drive.specs.Writing.{StopsWriting}
+use Rattle.aio_drive.specs.declared.cut.Cut.{Cut}
+use Rattle.aio_drive.specs.declared.cut.Cut.TheVariants.{Halted, Unrecorded}
+use Rattle.aio_drive.specs.declared.halt.Halt.TheVariants.{Memory, Sink}
+
+-- Recording stops for want of memory, or where the file failed; it has a front of the entries.
+abbrev pub StopsRecords : (name : Option (List ℕ)) → (entries : List ℕ) → (old new : ShelfSeen) → Cut → Type 0
+StopsRecords name entries old new (Halted Memory) = (front : List ℕ) × IsFrontOf front entries × Records name front old new
+StopsRecords name entries old new (Halted Sink) = ⊥
+StopsRecords name entries old new Unrecorded = (front : List ℕ) × IsFrontOf front entries × FailsRecording name front old new
+
+-- The file in which answers are recorded, and what is seen of its shelf before and after.
+pub record Recording : Type 0 where
+  pub name : Option (List ℕ)
+  pub old : ShelfSeen
+  pub new : ShelfSeen
+
+-- A turn's entries are recorded, and then its lines written. It stops before the lines where the entries stop, and else in them.
+abbrev pub StopsTelling : Recording → (entries text : List ℕ) → (old new : SinkSeen) → Cut → Type 0
+StopsTelling it entries text old new (Halted Memory) =
+    (front : List ℕ) × IsFrontOf front entries × Records it.name front it.old it.new × StopsWriting text old new Memory
+StopsTelling it entries text old new (Halted Sink) = Records it.name entries it.old it.new × StopsWriting text old new Sink
+StopsTelling it entries text old new Unrecorded =
+    (front : List ℕ) × IsFrontOf front entries × FailsRecording it.name front it.old it.new × (new ≡ old)
+
+-- What a turn tells: the entries of its answers, the lines of its events, and the last line of a run whose wire failed in it.
+pub record Telling : Type 0 where
+  pub entries : List ℕ
+  pub lines : List ℕ
+  pub fault : End
+
+abbrev pub telling : (trace : Bool) → (fault : End) → List Event → Telling
+telling trace fault events = record { entries = recorded events; lines = lines_of_events trace events; fault = fault }
+
+abbrev pub StopsEnding : Recording → Telling → End → (old new : SinkSeen) → Cut → Type 0
+StopsEnding it told end old new cut = StopsTelling it told.entries (told.lines ++ line (end_text end)) old new cut
+
+-- memory was refused in the turn
+abbrev pub is_refused : Went → Bool
+is_refused went.Went = false
+is_refused (went.Finished outcome) = false
+is_refused went.Stalled = false
+is_refused (went.Runaway task) = false
+is_refused (went.Stopped (stop.Over call)) = false
+is_refused (went.Stopped (stop.Bad cause)) = false
+is_refused (went.Stopped (stop.Mismatch count call)) = false
+is_refused (went.Stopped (stop.Failed call)) = false
+is_refused (went.Stopped stop.Memory) = true
+
+-- Telling a turn stopped short, or memory was refused in the turn and nothing is told of it.
+abbrev pub CutsTurn : Recording → Telling → (old new : SinkSeen) → Cut → Went → Type 0
+CutsTurn it told old new cut went.Went = StopsTelling it told.entries told.lines old new cut
+CutsTurn it told old new cut (went.Finished outcome) = StopsEnding it told (end_of outcome) old new cut
+CutsTurn it told old new cut went.Stalled = StopsEnding it told end.Stalled old new cut
+CutsTurn it told old new cut (went.Runaway task) = StopsEnding it told (end.Runaway task) old new cut
+CutsTurn it told old new cut (went.Stopped (stop.Over call)) = StopsEnding it told (end.Over call) old new cut
+CutsTurn it told old new cut (went.Stopped (stop.Bad cause)) = StopsEnding it told (end.JournalRefused cause.line cause.cause) old new cut
+CutsTurn it told old new cut (went.Stopped (stop.Mismatch count call)) = StopsEnding it told (end.Mismatch count call) old new cut
+CutsTurn it told old new cut (went.Stopped (stop.Failed call)) = StopsEnding it told told.fault old new cut
+CutsTurn it told old new cut (went.Stopped stop.Memory) = (cut ≡ Halted Memory) × (new ≡ old)
+
+-- A turn was made, its events were taken out, its answers were recorded and its lines written, or that stopped. `mid` is the kernel after
+-- the turn, whose events weren't taken out yet; `went` is what the turn answered, and `said` what it came to. Where memory was refused in
+-- it the shelf is the `same`.
+pub record TellsTurn {g : _} (trace : Bool) (fault : End) (wire : WireTurn) (shelf : Recording) (same : Type 0) (sink late : SinkSeen)
+    (old new : Kernel NoExtra g) (result : Result (Option ℕ) Cut) : Type 0 where
+  pub mid : Kernel NoExtra g
+  pub went : Went
+  pub said : Went
+  pub turned : TurnedBy nothing_added wire old mid went said
+  pub stands : (past : List Event) (answers : List Entry) (s : State (Unit {0})) → StandsFor nothing_added past answers mid s
+      → StandsFor nothing_added (past ++ untaken mid) answers new s
+  pub left : untaken new ≡ []
+  pub noted : OnOk result (Records shelf.name (recorded (untaken mid)) shelf.old shelf.new)
+  pub ok : IfOk result (λ status. WroteTurn fault (lines_of_events trace (untaken mid)) sink late status went)
+  pub err : IfErr result (λ cut. CutsTurn shelf (telling trace fault (untaken mid)) sink late cut went)
+  pub refused : is_refused went ≡ true → same

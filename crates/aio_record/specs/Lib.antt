@@ -1,0 +1,2 @@
+pub use Rattle.model_commands.specs.Recorded
+pub mod Recording

@@ -1,0 +1,4 @@
+//! Laws of what is recorded of a run.
+#![tactic(auto)]
+
+pub mod laws;
