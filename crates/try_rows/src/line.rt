@@ -11,9 +11,13 @@ pub enum RowLine<'a> {
     File(&'a str),
     /// `written`: what must be written follows.
     Written,
+    /// `wire`: the answers of the wire follow, an entry a line.
+    Wire,
+    /// `leaves NAME`: what this file must hold in the end follows.
+    Leaves(&'a str),
     /// `status NUMBER`: how the program must end.
     Status(&'a str),
-    /// `fails CALL`: a call of the outside that fails, as `shelf 2` or `sink 1`.
+    /// `fails CALL`: a call of the outside that fails, as `shelf 2`, `wire 3` or `sink 1`.
     Fails(&'a str),
     /// `|TEXT`: a line of the text that began last.
     Text(&'a [u8]),
@@ -44,8 +48,10 @@ fn head_of(words: &str) -> RowLine<'_> {
         Some(("file", name)) => RowLine::File(name),
         Some(("status", number)) => RowLine::Status(number),
         Some(("fails", call)) => RowLine::Fails(call),
+        Some(("leaves", name)) => RowLine::Leaves(name),
         Some(("times", words)) => RowLine::Times(words),
         _ if words == "written" => RowLine::Written,
+        _ if words == "wire" => RowLine::Wire,
         _ => RowLine::Comment,
     }
 }

@@ -1,7 +1,7 @@
 //! A row: words, files, and what must come of them.
 use crate::line::RowLine;
 use aio_base::Memory;
-use aio_memwire::{DeadWire, FailAt};
+use aio_memwire::{DeadWire, FailAt, JournalWire};
 use aio_run::aio_main;
 use aio_text::number;
 use aio_wire::{MemShelf, MemSink, Shelf};
@@ -13,20 +13,35 @@ enum Into {
     Nowhere,
     File,
     Written,
+    Wire,
+    Left,
 }
 
-/// The words of one call of the program, its files, which calls of the outside fail, what it must write and how it must
-/// end.
+/// The file of the outside's shelf that has the answers of the wire.
+const ANSWERS: &str = "answers";
+
+/// The words of one call of the program, its files, what the wire answers, which calls of the outside fail, what it must
+/// write, how it must end, and what a file must hold then.
 #[derive(Drop)]
 pub struct Row {
     pub name: String,
     words: Vec<String>,
     shelf: FailAt<MemShelf>,
+    outside: MemShelf,
+    failing: Vec<u64>,
     out: FailAt<MemSink>,
     file: String,
     into: Into,
     written: Vec<u8>,
     status: Vec<u8>,
+    left: Option<Left>,
+}
+
+/// What a file must hold in the end.
+#[derive(Drop)]
+struct Left {
+    name: String,
+    text: Vec<u8>,
 }
 
 /// What came of a row.
@@ -37,6 +52,8 @@ pub enum Verdict {
     OtherStatus(u8),
     /// What it wrote differs first at this byte, from 0.
     OtherText(usize),
+    /// The file that it must leave holds something else, or is missing.
+    OtherFile,
 }
 
 impl Row {
@@ -46,11 +63,14 @@ impl Row {
             name: String::from_str(alloc, name)?,
             words: Vec::new(alloc),
             shelf: FailAt::new(MemShelf::new(alloc), Vec::new(alloc)),
+            outside: MemShelf::new(alloc),
+            failing: Vec::new(alloc),
             out: FailAt::new(MemSink::new(alloc), Vec::new(alloc)),
             file: String::new(alloc),
             into: Into::Nowhere,
             written: Vec::new(alloc),
             status: Vec::new(alloc),
+            left: None,
         })
     }
 
@@ -74,6 +94,11 @@ impl Row {
                 self.into = Into::Written;
                 Ok(())
             }
+            RowLine::Wire => {
+                self.into = Into::Wire;
+                self.add_text(alloc, b"")
+            }
+            RowLine::Leaves(name) => self.add_left(alloc, name),
             RowLine::Fails(call) => self.add_failing(call),
             RowLine::Text(text) => {
                 self.add_text(alloc, text)?;
@@ -85,7 +110,18 @@ impl Row {
         }
     }
 
-    /// Notes a call that fails: of the shelf or of the sink, counted from 1 over all calls that the program makes on it.
+    /// Notes a file that must be left.
+    fn add_left(&mut self, alloc: Global, name: &str) -> Result<(), Memory> {
+        self.into = Into::Left;
+        self.left = Some(Left {
+            name: String::from_str(alloc, name)?,
+            text: Vec::new(alloc),
+        });
+        Ok(())
+    }
+
+    /// Notes a call that fails: of the shelf, the wire or the sink, counted from 1 over all calls that the program makes on
+    /// it.
     fn add_failing(&mut self, call: &str) -> Result<(), Memory> {
         let Some((of, words)) = call.split_once(' ') else {
             return Ok(());
@@ -95,6 +131,7 @@ impl Row {
         };
         match of {
             "shelf" => self.shelf.calls.push(number)?,
+            "wire" => self.failing.push(number)?,
             "sink" => self.out.calls.push(number)?,
             _ => {}
         }
@@ -126,24 +163,59 @@ impl Row {
                 self.shelf.inner.append(alloc, self.file.as_str(), text)?;
                 Ok(())
             }
+            Into::Wire => {
+                self.outside.append(alloc, ANSWERS, text)?;
+                Ok(())
+            }
+            Into::Left => match &mut self.left {
+                Some(left) => {
+                    left.text.extend_from_slice(text)?;
+                    Ok(())
+                }
+                None => Ok(()),
+            },
         }
     }
 
     /// Runs the program over the row's words and files.
     pub fn run(&mut self, alloc: Global) -> Verdict {
-        let status = aio_main(
-            alloc,
-            &self.words,
-            &mut self.shelf,
-            &mut DeadWire::new(),
-            &mut self.out,
-        );
+        let status = self.call(alloc);
         if number(&self.status) != Some(u64::from(status)) {
             return Verdict::OtherStatus(status);
         }
         match first_difference(self.out.inner.taken(), &self.written) {
             Some(at) => Verdict::OtherText(at),
-            None => Verdict::Right,
+            None if self.leaves() => Verdict::Right,
+            None => Verdict::OtherFile,
+        }
+    }
+
+    /// The program's status. Without answers the wire is dead.
+    fn call(&mut self, alloc: Global) -> u8 {
+        let Row {
+            words,
+            shelf,
+            outside,
+            failing,
+            out,
+            ..
+        } = self;
+        if outside.file(ANSWERS).is_none() {
+            return aio_main(alloc, words, shelf, &mut DeadWire::new(), out);
+        }
+        let calls = std::mem::replace(failing, Vec::new(alloc));
+        let mut wire = FailAt::new(JournalWire::new(alloc, outside, ANSWERS), calls);
+        aio_main(alloc, words, shelf, &mut wire, out)
+    }
+
+    /// Whether the file holds what it must.
+    fn leaves(&self) -> bool {
+        match &self.left {
+            Some(left) => match self.shelf.inner.file(left.name.as_str()) {
+                Some(bytes) => first_difference(bytes, &left.text).is_none(),
+                None => false,
+            },
+            None => true,
         }
     }
 }

@@ -33,6 +33,7 @@ impl Tally {
                 "{}: wrote something else from byte {at} on",
                 row.name
             )?,
+            Verdict::OtherFile => println!(rt; "{}: left another file", row.name)?,
         }
         self.differ = self.differ.saturating_add(1);
         Ok(())
