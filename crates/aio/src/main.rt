@@ -1,10 +1,9 @@
-//! The program: it hands the words, the files, a wire and the standard output to the run, and ends with its status.
+//! The program: it hands the words, the files, the outside and the standard output to the run, and ends with its status.
 #![tactic(auto)]
 
+mod live;
+
 use aio_base::Memory;
-use aio_edge::{Files, Output};
-use aio_memwire::DeadWire;
-use aio_run::aio_main;
 use std::env;
 use std::io::ErrorKind;
 use std::process::ExitCode;
@@ -18,10 +17,7 @@ fn main(rt: HostRuntime) -> ExitCode {
     let Ok(words) = words_of(&rt) else {
         return ExitCode::from(OUT_OF_MEMORY);
     };
-    let mut files = Files::new(&rt);
-    let mut wire = DeadWire::new();
-    let mut output = Output::new(&rt);
-    ExitCode::from(aio_main(alloc, &words, &mut files, &mut wire, &mut output))
+    ExitCode::from(live::run(rt, alloc, &words))
 }
 
 /// The words behind the program's name. Where one of them is no text, none is given, as if the program had been called

@@ -1,1 +1,2 @@
 pub mod OnSockets
+pub mod Replying

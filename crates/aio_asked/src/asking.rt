@@ -1,10 +1,10 @@
-//! Each call but a select.
-ghost use Rattle.std.specs.Prelude.{◌≡◌, true, false, IfOk, OnErr};
+//! Each call.
+ghost use Rattle.std.specs.Prelude.{◌≡◌, ◌≤◌, true, IfOk, OnErr};
 ghost use Rattle.model_wire.specs.declared.call.Call.TheVariants as call;
 ghost use Rattle.model_hub.specs.Others.{Got};
-ghost use Rattle.model_hub.specs.Asked.{Asks};
+ghost use Rattle.model_hub.specs.Asked.{Asks, faults_in};
 ghost use Rattle.aio_live.specs.Seen.{hub_seen};
-ghost use Rattle.aio_asked.specs.Asked.{AsksOn, is_select, said_of, IsNoEnd, replied};
+ghost use Rattle.aio_asked.specs.Asked.{AsksOn, said_of, IsNoEnd, replied};
 
 use crate::hub::Hub;
 use aio_base::{Blob, Memory};
@@ -26,10 +26,14 @@ fn replied(answer: Result<Answer, Memory>) -> Result<Reply, Memory>
 
 impl<N: InboxName, R: Wait, P: Poller, L: Launcher<Inbox<N>, Poster<N>>> Hub<N, R, P, L> {
     // A feed of a copy of these bytes.
+    #[tactic(auto, using(crate::proofs::Replying::same_faults))]
     fn feed(&mut self, alloc: Global, number: u32, bytes: &Blob) -> Result<Answer, Memory>
         ensures asks { let old = hub_seen (P.seen self.old.poller) (L.seen self.old.launcher) self.old.state in
             let new = hub_seen (P.seen self.new.poller) (L.seen self.new.launcher) self.new.state in
             IfOk result (λ answer. AsksOn (call.Feed number bytes.now) old new (Got answer)) }
+        ensures posts { faults_in self.old.state.hub.taken ≤ faults_in self.new.state.hub.taken }
+        ensures polled { (P.seen self.old.poller).faults ≤ (P.seen self.new.poller).faults }
+        ensures launched { (L.seen self.old.launcher).faults ≤ (L.seen self.new.launcher).faults }
         ensures err { OnErr result (self.new.state.hub.starved ≡ true) }
     {
         let Ok(own) = Vec::from_slice(alloc, bytes.items()) else {
@@ -39,20 +43,23 @@ impl<N: InboxName, R: Wait, P: Poller, L: Launcher<Inbox<N>, Poster<N>>> Hub<N, 
         Ok(self.state.feed(&self.rt, number, Blob::of(own)))
     }
 
-    /// Asks any call but a select. Once memory was refused, it is refused for ever.
+    /// Asks any call. Once memory was refused, it is refused for ever.
+    #[tactic(auto, using(crate::proofs::Replying::same_faults))]
     pub fn ask_any(&mut self, alloc: Global, call: &Call) -> Result<Reply, Memory>
-        requires { is_select call.now ≡ false }
         ensures asks { let old = hub_seen (P.seen self.old.poller) (L.seen self.old.launcher) self.old.state in
             let new = hub_seen (P.seen self.new.poller) (L.seen self.new.launcher) self.new.state in
             IfOk result (λ reply. Asks call.now old new (said_of reply)) }
         ensures goes_on { IfOk result IsNoEnd }
+        ensures posts { faults_in self.old.state.hub.taken ≤ faults_in self.new.state.hub.taken }
+        ensures polled { (P.seen self.old.poller).faults ≤ (P.seen self.new.poller).faults }
+        ensures launched { (L.seen self.old.launcher).faults ≤ (L.seen self.new.launcher).faults }
         ensures err { OnErr result (self.new.state.hub.starved ≡ true) }
     {
         if self.state.is_starved() {
             return Err(Memory);
         }
         match call {
-            Call::Select { .. } => unreachable!(),
+            Call::Select { wait, watch } => self.select(alloc, *wait, watch),
             Call::Listen(_)
             | Call::Accept(_)
             | Call::Connect(_)

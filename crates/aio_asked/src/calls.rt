@@ -1,8 +1,9 @@
 //! The calls of the poller and the launcher.
-ghost use Rattle.std.specs.Prelude.{◌≡◌, true, IfOk, OnErr};
+ghost use Rattle.std.specs.Prelude.{◌≡◌, ◌≤◌, true, IfOk, OnErr};
 ghost use Rattle.model_wire.specs.declared.answer.Answer.TheVariants as answer;
 ghost use Rattle.model_wire.specs.declared.call.Call.TheVariants as call;
 ghost use Rattle.model_hub.specs.Others.{Got};
+ghost use Rattle.model_hub.specs.Asked.{faults_in};
 ghost use Rattle.model_hub.specs.Told.{is_socket};
 ghost use Rattle.aio_live.specs.Seen.{hub_seen};
 ghost use Rattle.aio_asked.specs.Asked.{AsksOn, said_of, IsNoEnd};
@@ -22,6 +23,9 @@ impl<N: InboxName, R: Wait, P: Poller, L: Launcher<Inbox<N>, Poster<N>>> Hub<N, 
         ensures asks { let old = hub_seen (P.seen self.old.poller) (L.seen self.old.launcher) self.old.state in
             let new = hub_seen (P.seen self.new.poller) (L.seen self.new.launcher) self.new.state in
             AsksOn (call.Kill number) old new (Got answer.Done) }
+        ensures posts { faults_in self.old.state.hub.taken ≤ faults_in self.new.state.hub.taken }
+        ensures polled { (P.seen self.old.poller).faults ≤ (P.seen self.new.poller).faults }
+        ensures launched { (L.seen self.old.launcher).faults ≤ (L.seen self.new.launcher).faults }
     {
         self.state.serve(&self.rt, &[]);
         self.launcher.kill(number);
@@ -35,6 +39,9 @@ impl<N: InboxName, R: Wait, P: Poller, L: Launcher<Inbox<N>, Poster<N>>> Hub<N, 
             let new = hub_seen (P.seen self.new.poller) (L.seen self.new.launcher) self.new.state in
             IfOk result (λ reply. AsksOn call.now old new (said_of reply)) }
         ensures goes_on { IfOk result IsNoEnd }
+        ensures posts { faults_in self.old.state.hub.taken ≤ faults_in self.new.state.hub.taken }
+        ensures polled { (P.seen self.old.poller).faults ≤ (P.seen self.new.poller).faults }
+        ensures launched { (L.seen self.old.launcher).faults ≤ (L.seen self.new.launcher).faults }
         ensures err { OnErr result (self.new.state.hub.starved ≡ true) }
     {
         self.state.serve(&self.rt, &[]);
@@ -53,6 +60,9 @@ impl<N: InboxName, R: Wait, P: Poller, L: Launcher<Inbox<N>, Poster<N>>> Hub<N, 
         ensures asks { let old = hub_seen (P.seen self.old.poller) (L.seen self.old.launcher) self.old.state in
             let new = hub_seen (P.seen self.new.poller) (L.seen self.new.launcher) self.new.state in
             IfOk result (λ answer. AsksOn (call.Launch words.now) old new (Got answer)) }
+        ensures posts { faults_in self.old.state.hub.taken ≤ faults_in self.new.state.hub.taken }
+        ensures polled { (P.seen self.old.poller).faults ≤ (P.seen self.new.poller).faults }
+        ensures launched { (L.seen self.old.launcher).faults ≤ (L.seen self.new.launcher).faults }
         ensures err { OnErr result (self.new.state.hub.starved ≡ true) }
     {
         self.state

@@ -5,5 +5,8 @@ mod asking;
 mod calls;
 mod closing;
 mod hub;
+mod selecting;
+mod wire;
 
+pub use closing::Finished;
 pub use hub::Hub;

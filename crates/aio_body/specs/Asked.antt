@@ -5,7 +5,7 @@ use Rattle.model_says.specs.Endings.{Asks}
 use Rattle.model_says.specs.Says.{step_limit}
 use Rattle.model_machine.specs.Replies as plain
 use Rattle.model_machine.specs.Replies.{reply}
-use Rattle.model_machine.specs.Sound.{IsLeft}
+use Rattle.model_machine.specs.Sound.{IsLeft, IsOpenedAt}
 use Rattle.model_machine.specs.State as standing
 use Rattle.model_machine.specs.State.{State}
 use Rattle.model_machine.specs.Step.{says_of}
@@ -46,6 +46,8 @@ pub record IsDeciding {X : Type 0} {a : Added X} (task : ℕ) (stood : standing.
   pub asked : IsAsked a.meaning task stood request s
   -- the group at whose exit the task stood goes on being left
   pub leaving : (id : ℕ) → stood ≡ standing.Leaving id → IsLeft s id
+  -- what it stood at was opened
+  pub opened : IsOpenedAt s.streams stood
 
 -- a step of some task goes on
 abbrev pub SomeGoes : {X : Type 0} {a : Added X} → Setting a → Body X → State a.Kept → Type 0

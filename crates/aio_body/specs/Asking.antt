@@ -9,7 +9,7 @@ use Rattle.model_wire.specs.Trace.{End}
 use Rattle.model_machine.specs.Replies as plain
 use Rattle.model_machine.specs.Replies.{reply}
 use Rattle.model_machine.specs.State.{State}
-use Rattle.model_machine.specs.Went.{answers_in}
+use Rattle.model_machine.specs.Went.{Went, answers_in, state_of}
 use Rattle.aio_wire.specs.EventList.{EventList}
 use Rattle.aio_wire.specs.Told.{refused_of}
 use Rattle.aio_wire.specs.declared.stop.Stop.{Stop}
@@ -56,17 +56,33 @@ pub record StopsWith {S M : Type 0} (ends : End → State S → M) (why : Stop) 
   pub stops : machine ≡ ends end last
   pub told : last.events ≡ past ++ untaken
 
+-- ---- memory was refused there
+-- events go on with more
+abbrev pub GoesOn : List Event → List Event → Type 0
+GoesOn was is = (more : List Event) × (is ≡ was ++ more)
+
+-- the events of the state that is left begin with these
+abbrev pub ReplyBegins : {S : Type 0} → List Event → plain.RequestReply S → Type 0
+ReplyBegins events (plain.Answers value now) = GoesOn events now.events
+ReplyBegins events (plain.Raises fault now) = GoesOn events now.events
+ReplyBegins events (plain.Rests now) = GoesOn events now.events
+ReplyBegins events (plain.Halts end last) = GoesOn events last.events
+
+abbrev pub WentBegins : {S : Type 0} → List Event → Went S → Type 0
+WentBegins events it = GoesOn events (state_of it).events
+
 -- ---- a call
--- A piece of the machine that a call does: where it may begin, what the machine does from there, how it ends a run in it, and
--- what the call says of it. `At` is mostly a state.
+-- A piece of the machine that a call does: where it may begin, what the machine does from there, how it ends a run in it, what
+-- the call says of it, and with which events that begins which it leaves. `At` is mostly a state.
 pub record Piece {X : Type 0} (a : Added X) (At M R : Type 0) : Type 1 where
   pub from : Setting a → At → Type 0
   pub does : At → M
   pub ends : End → State a.Kept → M
   pub says : Setting a → R → M → Type 0
+  pub begins : List Event → M → Type 0
 
 -- The machine does the same, from wherever it began; or it ends the run where the outside has no answer that fits. Where memory was
--- refused nothing is said of it.
+-- refused, what was asked by then is among the first that it does.
 abbrev pub ComesBy : {X At M R : Type 0} {a : Added X} → Piece a At M R → List Exchange → Last → (old new : EventList) → Result R Stop → Type 0
 ComesBy {At = At} {a = a} it had All old new (Ok said) =
     (c : Setting a) (at : At) → it.from (before had c) at → AreTold had All old.events new.events × it.says c said (it.does at)
@@ -74,7 +90,10 @@ ComesBy {At = At} {a = a} it had (Met call reply) old new (Err why) =
     StopsAs (Met call reply) new.answers why
     × ((c : Setting a) (at : At) → it.from (before had c) at → RestFits (Met call reply) c.answers
     → AreTold had (Met call reply) old.events new.events × StopsWith it.ends why c.past new.events (it.does at))
-ComesBy it had Starved old new (Err why) = why ≡ stop.Memory
+ComesBy {At = At} {a = a} it had Starved old new (Err why) =
+    (why ≡ stop.Memory)
+    × ((mid : List Event) × ((c : Setting a) (at : At) → it.from (before had c) at
+    → AreTold had All old.events mid × it.begins (c.past ++ mid) (it.does at)))
 ComesBy it had _ old new _ = ⊥
 
 -- What a call comes to that may ask: `had` are the calls that had an answer that fits, and `last` is how they ended.
@@ -92,4 +111,10 @@ or_stop (Err memory) = Err stop.Memory
 -- ---- a request that was asked is served as the table of requests says
 abbrev pub serving : {X : Type 0} → (a : Added X) → ℕ → Request → (old new : Body X) → Piece a (State a.Kept) (plain.RequestReply a.Kept) RequestReply
 serving a task request old new =
-    record { from = λ c s. IsAskingFor task request c old s; does = reply a.meaning task request; ends = plain.Halts; says = λ c said it. Says task c new said it }
+    record {
+      from = λ c s. IsAskingFor task request c old s;
+      does = reply a.meaning task request;
+      ends = plain.Halts;
+      says = λ c said it. Says task c new said it;
+      begins = ReplyBegins;
+    }

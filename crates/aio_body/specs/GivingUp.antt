@@ -9,7 +9,7 @@ use Rattle.aio_timer.specs.Schedule as schedule
 use Rattle.aio_timer.specs.declared.live.TimerId.{TimerId}
 use Rattle.aio_task.specs.View.{View}
 use Rattle.aio_body.specs.declared.standing.Standing.{Standing}
-use Rattle.aio_body.specs.declared.standing.Standing.TheVariants.{Asked, Sleeping, Leaving, Serving}
+use Rattle.aio_body.specs.declared.standing.Standing.TheVariants.{Asked, Sleeping, Leaving, Serving, Connecting, Yielding, Reading, ReadingAll}
 
 abbrev pub timer_cancelled : TimerId → View → View
 timer_cancelled id v = record v {
@@ -30,6 +30,10 @@ given_up_in (Sleeping timer future) v =
     let_go_if (is_some (outcome_at (slice_get v.futures future))) future (timer_cancelled timer v)
 given_up_in (Leaving group) v = v
 given_up_in (Serving key) v = v
+given_up_in (Connecting conn) v = v
+given_up_in (Yielding whom) v = v
+given_up_in (Reading from op on) v = v
+given_up_in (ReadingAll from taken on) v = v
 
 -- the future of a sleep is no task's
 abbrev pub IsNoTasks : Standing → View → Type 0
@@ -37,3 +41,7 @@ IsNoTasks Asked v = Unit {0}
 IsNoTasks (Sleeping timer future) v = owner_at (slice_get v.futures future) ≡ None
 IsNoTasks (Leaving group) v = Unit {0}
 IsNoTasks (Serving key) v = Unit {0}
+IsNoTasks (Connecting conn) v = Unit {0}
+IsNoTasks (Yielding whom) v = Unit {0}
+IsNoTasks (Reading from op on) v = Unit {0}
+IsNoTasks (ReadingAll from taken on) v = Unit {0}

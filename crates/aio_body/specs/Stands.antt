@@ -23,19 +23,21 @@ use Rattle.aio_task.specs.Keeps.{Ties, Keeps, Knows, ByTimer}
 use Rattle.aio_extra.specs.Added.{Added, named_in}
 use Rattle.aio_timeout.specs.declared.timeout.Timeout.{Timeout}
 use Rattle.aio_timeout.specs.Kept.{AreTimeouts}
+use Rattle.aio_transports.specs.Readers.{reader_as}
+use Rattle.aio_transports.specs.Standing.{StandsFor as AreTransports}
 use Rattle.aio_group.specs.Held.{Held}
 use Rattle.aio_group.specs.Stands.{KeepsAt}
 use Rattle.aio_body.specs.declared.body.Body.{Body}
 use Rattle.aio_body.specs.declared.standing.Slot.{Slot}
 use Rattle.aio_body.specs.declared.standing.Standing.{Standing}
-use Rattle.aio_body.specs.declared.standing.Standing.TheVariants.{Asked, Sleeping, Leaving, Serving}
+use Rattle.aio_body.specs.declared.standing.Standing.TheVariants.{Asked, Sleeping, Leaving, Serving, Connecting, Yielding, Reading, ReadingAll}
 
 -- The profile that a program runs by: its own. The parts have a byte for it.
 abbrev pub profile_of : Program → ℕ
 profile_of program = min program.profile (2 ^ 8 - 1)
 
--- The future of a sleep, which nobody else waits for: no script names it, and it is no own one of what is added. `sleeper` is
--- the task that sleeps, if it does still.
+-- The future of a sleep, which nobody else waits for: no script names it, it is no own one of what is added, and no connection
+-- and no child keeps it. `sleeper` is the task that sleeps, if it does still.
 pub record IsOwnSleep (p : Parts) (named : ℕ → Type 0) (sleeper : Option ℕ) (id : ℕ) : Type 0 where
   pub plain : is_plain p id ≡ true
   pub unnamed : named id → ⊥
@@ -48,6 +50,12 @@ StandsAt ties p named task (Sleeping timer future) (plain.Sleeping tag) =
     Knows ties p tag (ByTimer timer) × IsOwnSleep p named (Some task) future
 StandsAt ties p named task (Leaving group) (plain.Leaving id) = group ≡ id
 StandsAt ties p named task (Serving key) (plain.Serving kept) = key ≡ kept
+StandsAt ties p named task (Connecting conn) (plain.Connecting id) = conn ≡ id
+StandsAt ties p named task (Yielding whom) (plain.Yielding drained) = whom ≡ drained
+StandsAt ties p named task (Reading from op on) (plain.Reading source asked future) =
+    (reader_as from ≡ source) × (op ≡ asked) × (on ≡ future)
+StandsAt ties p named task (ReadingAll from taken on) (plain.ReadingAll source had future) =
+    (reader_as from ≡ source) × (taken ≡ had) × (on ≡ future)
 StandsAt ties p named task _ _ = ⊥
 
 -- a coroutine waits, and it stands for the task's generator
@@ -110,8 +118,9 @@ pub record Stands {X : Type 0} {a : Added X} (out : Option ℕ) (c : Setting a) 
   pub futures : body.futures.items ≡ s.futures
   pub few_futures : length s.futures < 2 ^ 32
   pub main_done : body.main_done ≡ s.main_done
+  pub transports : AreTransports body.transports s.streams
   -- no listener, connection or child is open so far
-  pub streams : s.streams ≡ no_streams 0
+  pub closed : s.streams ≡ no_streams 0
   -- numbers that a script can have
   pub time : s.loop.parts.time ≤ most
   pub counts : (task : ℕ) → cancelling s.loop.parts task ≤ most

@@ -4,6 +4,7 @@ use aio_flat::Code;
 use aio_group::Groups;
 use aio_task::{FutureId, Parts};
 use aio_timeout::Timeouts;
+use aio_transports::Transports;
 use aio_wire::Events;
 
 /// What the kernel keeps of a run that goes on. Coroutines are numbered as the tasks are. `X` is
@@ -15,6 +16,8 @@ pub struct Body<X> {
     pub slots: Vec<Slot>,
     pub timeouts: Timeouts,
     pub groups: Groups,
+    /// The listeners, the connections and the children.
+    pub transports: Transports,
     /// The futures that `future()` made, in order of making.
     pub futures: Vec<FutureId>,
     /// Whether main's callback ran.

@@ -66,21 +66,33 @@ impl<X> Body<X> {
     }
 
     /// The timer of a sleep is given up as its task is resumed, and its future is let go.
-    pub fn give_up(&mut self, standing: Standing)
+    pub fn give_up(&mut self, standing: &Standing)
         requires idle { self.old.parts.called ≡ None }
-        requires no_task { IsNoTasks standing self.old.parts }
-        ensures { self.new ≡ record self.old { parts = given_up_in standing self.old.parts } }
+        requires no_task { IsNoTasks standing.now self.old.parts }
+        ensures { self.new ≡ record self.old { parts = given_up_in standing.now self.old.parts } }
     {
         match standing {
             Standing::Asked => {}
             Standing::Sleeping { timer, future } => {
-                self.parts.cancel_timer(timer);
-                if self.parts.outcome(future).is_some() {
-                    self.parts.release(future);
+                self.parts.cancel_timer(*timer);
+                if self.parts.outcome(*future).is_some() {
+                    self.parts.release(*future);
                 }
             }
             Standing::Leaving(_) => {}
             Standing::Serving(_) => {}
+            Standing::Connecting(_) => {}
+            Standing::Yielding(_) => {}
+            Standing::Reading {
+                from: _,
+                op: _,
+                on: _,
+            } => {}
+            Standing::ReadingAll {
+                from: _,
+                taken: _,
+                on: _,
+            } => {}
         }
     }
 }

@@ -13,7 +13,7 @@ use std::marker::Model;
 pub struct Children {
     children: Vec<Child>,
     // how many can be numbered
-    most: u64,
+    most: u32,
 }
 
 impl Model for Children {

@@ -1,6 +1,6 @@
 -- What a handle does, where it was taken from the queue and it was noted that it runs.
-use Rattle.std.proofs.Common.{◌≡◌, ℕ, ℤ, Bool, true, false, ◌&&◌, not, cond, List, [], ◌∷◌, ◌++◌, Some, None, Result, length, slice_get, ◌∙◌, refl, sym, ap, subst}
-use Rattle.std.proofs.Common.{arith}
+use Rattle.std.proofs.Common.{◌≡◌, ℕ, ℤ, Bool, true, false, ◌&&◌, not, cond, List, [], ◌∷◌, ◌++◌, Some, None, Result, Ok, Err, length, slice_get, ◌∙◌}
+use Rattle.std.proofs.Common.{refl, sym, ap, subst, arith}
 use Rattle.std.proofs.Math.Logic.{∥∥₁_elim, ∥∥₁_map}
 use Rattle.std.proofs.lemmas.Bool.{eq-eqb, false≢true}
 use Rattle.model_value.specs.Action.{Action, Circle}
@@ -46,7 +46,7 @@ use Rattle.law_sound.proofs.Steps.{idle_sound}
 use Rattle.law_turns.specs.SoundState.{HasSoundLoop}
 use Rattle.law_turns.proofs.Turning.{as_told, tells_none}
 use Rattle.law_extras.specs.Allowed.{AreAllowed}
-use Rattle.model_machine.specs.Extra.{ExtraCall, called as called_after}
+use Rattle.model_machine.specs.Extra.{Extra, ExtraCall, called as called_after}
 use Rattle.aio_task.specs.Keeps.{Ties}
 use Rattle.aio_extra.specs.Called.{CallsAs, IsServed, MayServe}
 use Rattle.law_body.proofs.Adding.{served_of, stands_called}
@@ -57,17 +57,23 @@ use Rattle.aio_step.specs.declared.steps.Stepped.{Stepped}
 use Rattle.aio_step.specs.declared.steps.Stepped.TheVariants as went
 use Rattle.aio_step.specs.Stepping.{HearsMade, IsCalled, Steps, stepping}
 use Rattle.std.specs.Prelude.{IfOk}
-use Rattle.std.proofs.lemmas.Result.{IfOk-weaker}
 use Rattle.law_going.proofs.Running.{effect_goes}
-use Rattle.law_reach.proofs.Rows.{in_callback}
+use Rattle.law_machine.proofs.Counts.{goes_on_then}
+use Rattle.law_reach.proofs.Rows.{in_callback, in_turn}
+use Rattle.law_reach.specs.Asked.{WentAsks}
 use Rattle.law_reach.specs.Changes.{runner_of}
-use Rattle.law_body.proofs.Unasked.{row_told}
+use Rattle.law_reach.specs.Reaches.{InRun}
+use Rattle.law_body.proofs.Growing.{row_begins, row_on}
+use Rattle.law_body.proofs.Unasked.{even_told}
 use Rattle.aio_base.specs.declared.memory.Memory.{Memory}
 use Rattle.aio_wire.specs.declared.stop.Stop.{Stop}
+use Rattle.aio_wire.specs.declared.stop.Stop.TheVariants as stop
 use Rattle.aio_exchange.proofs.Among.{told_beside, told_none}
+use Rattle.aio_exchange.specs.Among.{AreTold}
+use Rattle.aio_exchange.specs.Exchanged.{All}
 use Rattle.aio_exchange.specs.Outside.{IsOutside, Outside, ported}
-use Rattle.aio_body.proofs.Asking.{come_none, comes_alone, comes_goes}
-use Rattle.aio_body.specs.Asking.{Comes, or_stop}
+use Rattle.aio_body.proofs.Asking.{come_none, comes_alone, comes_goes, comes_without}
+use Rattle.aio_body.specs.Asking.{Comes, WentBegins, or_stop}
 use Rattle.aio_core.specs.Running.{StepsBy, acting, running_one}
 use Rattle.law_body.proofs.Lasting.{spares_none, stands_on}
 use Rattle.law_body.proofs.Left.{leaves_settle}
@@ -189,12 +195,16 @@ module _ {X : Type 0} {a : Added X} (body : Body X) where
   steps_may it task input steps m = ∥∥₁_map m (λ w. (w.0, (w.1.0, (steps.1 w.0 w.1.0 w.1.1).0)))
 
 -- ---- as pieces of the machine
-told_steps : {X : Type 0} {a : Added X} (c : Setting a) (new : Body X) (said : Stepped) (w : Went a.Kept) → Steps c new said w
-    → (state_of w).events ≡ c.past ++ new.events.events
-told_steps c new went.Goes (Goes now) h = h.stands.events
-told_steps c new (went.Runaway task) (Stops how last) h = h.1
-told_steps c new went.Goes (Stops how last) h = absurd h
-told_steps c new (went.Runaway task) (Goes now) h = absurd h
+-- what a handle tells, where it goes on and leaves the answers as they were
+told_going : {X : Type 0} {a : Added X} (c : Setting a) (old new : Body X) (s : State a.Kept) → s.events ≡ c.past ++ old.events.events → s.answers ≡ c.answers
+    → (w : Went a.Kept) → InRun s (state_of w) → WentAsks s w → Steps c new went.Goes w → AreTold [] All old.events.events new.events.events
+told_going c old new s told left (Goes now) row answered h =
+    even_told c.past old.events.events new.events.events s now row answered (h.stands.rest ∙ sym left) told h.stands.events
+told_going c old new s told left (Stops how last) row answered h = absurd h
+
+-- a handle only adds events
+effect_row : {S : Type 0} (added : Extra S) (it : Action) (s : State S) → InRun s (state_of (effect step_limit added it s))
+effect_row added it s = in_turn (in_callback (effect_goes step_limit added it s).reaches)
 
 module _ {X W : Type 0} (a : Added X) (o : Outside W) (laws : IsOutside o) (it : Action) (body : Body X) where
   -- it is noted that it runs
@@ -229,17 +239,36 @@ module _ {X W : Type 0} (a : Added X) (o : Outside W) (laws : IsOutside o) (it :
       (λ c s h. (told_none body.events.events, (s, steps.1 c s h))))
       stepped
 
-  -- or none, and asks nothing so far
+  acting_begins : (c : Setting a) (s : State a.Kept) → IsTaken it c body s → WentBegins (c.past ++ body.events.events) (effect step_limit a.meaning it s)
+  acting_begins c s h =
+      row_begins (c.past ++ body.events.events) s (state_of (effect step_limit a.meaning it s)) (effect_row a.meaning it s) h.stands.events
+
+  -- or none, and asks nothing
   pub acts_alone : (new : Body X) (wire : W) (result : Result Stepped Memory) → IfOk result (λ said. Acts a it body new said)
+      → IfOk result (λ said. said ≡ went.Goes)
       → Comes o (acting a it body new) (ported wire body.events) (ported wire new.events) (or_stop result)
-  acts_alone new wire result acts =
-      comes_alone o laws (acting a it body new) (ported wire body.events) (ported wire new.events) result refl
-      (IfOk-weaker result _ _ (λ said are c s h. let says = are c s h in (
-        row_told c.past body.events.events new.events.events s (state_of (effect step_limit a.meaning it s))
-            (in_callback (effect_goes step_limit a.meaning it s).reaches) h.stands.streams h.stands.events
-            (told_steps c new said (effect step_limit a.meaning it s) says),
-        says,
-      )) acts)
+  acts_alone new wire (Err memory) acts goes =
+      comes_without o laws (acting a it body new) (ported wire body.events) (ported wire new.events) acting_begins refl
+  acts_alone new wire (Ok said) acts goes =
+      comes_alone o laws (acting a it body new) (ported wire body.events) (ported wire new.events) acting_begins (Ok said) refl (λ c s h. (
+        told_going c body new s h.stands.events h.stands.rest (effect step_limit a.meaning it s) (effect_row a.meaning it s)
+            (effect_goes step_limit a.meaning it s).asks
+            (subst (λ w. Steps c new w (effect step_limit a.meaning it s)) goes (acts c s h)),
+        acts c s h,
+      ))
+
+  -- or memory was refused before it did anything
+  pub acts_without : (new : Body X) (wire : W) → Comes o (acting a it body new) (ported wire body.events) (ported wire new.events) (Err stop.Memory)
+  acts_without new wire = comes_without o laws (acting a it body new) (ported wire body.events) (ported wire new.events) acting_begins refl
+
+  -- or it was noted that it runs
+  pub runs_without : (new : Body X) (wire : W) → Comes o (running_one a it body new) (ported wire body.events) (ported wire new.events) (Err stop.Memory)
+  runs_without new wire =
+      comes_without o laws (running_one a it body new) (ported wire body.events) (ported wire new.events) (λ c s h.
+      goes_on_then (c.past ++ body.events.events) (s.events ++ event.Ran it ∷ []) _
+      (event.Ran it ∷ [], ap (λ es. es ++ event.Ran it ∷ []) h.stands.events)
+      (row_on (noted (event.Ran it) s) (state_of (effect step_limit a.meaning it (noted (event.Ran it) s)))
+      (effect_row a.meaning it (noted (event.Ran it) s))).0) refl
 
 -- ---- the end of a sleep
 module _ {X : Type 0} {a : Added X} (task future : ℕ) (c : Setting a) (body : Body X) (s : State a.Kept)
@@ -400,7 +429,7 @@ steps_none _ is = refl
 module _ {X : Type 0} {a : Added X} where
   pub streams_act : (it : Action) (old : Body X) → is_of_streams it ≡ true → Acts a it old old went.Goes
   streams_act it old is c s h =
-      after_so it c old s h old s (effect_none s h.stands.streams step_limit a.meaning it is)
+      after_so it c old s h old s (effect_none s h.stands.closed step_limit a.meaning it is)
       (record { stands = h.stands; called = h.called ∙ steps_none it is; running = h.running })
 
 -- a step is no such callback

@@ -18,9 +18,10 @@ use Rattle.aio_body.specs.declared.body.Body.{Body}
 use Rattle.aio_body.specs.Asking.{Comes}
 use Rattle.aio_body.specs.Stands.{IsBetween, Possible, Setting}
 use Rattle.aio_core.specs.declared.went.Went as code
-use Rattle.aio_core.specs.Turning.{AliveIfWent, AsksBy, ComesTo, IsAtRest, IsSelect, IsTime, StallsAs, UnlessFailed, changed_by, said_by, turning, turning_by}
+use Rattle.aio_core.specs.Turning.{AliveIfWent, AsksBy, ComesTo, IsAtRest, IsSelect, IsTime, StallsAs, StarvesAs, UnlessFailed, changed_by, said_by, stood_by}
+use Rattle.aio_core.specs.Turning.{turning, turning_by}
 use Rattle.aio_core.proofs.Asking.{HasGot, answered_so, got_alive, got_so}
-use Rattle.aio_core.proofs.AskedByTurn.{turn_asks}
+use Rattle.aio_core.proofs.AskedByTurn.{asked_in, starved_in, wire_over}
 use Rattle.aio_core.proofs.Coming.{comes_to, still_so}
 use Rattle.aio_core.proofs.Waking.{fits_time}
 
@@ -58,12 +59,14 @@ module _ {X W : Type 0} (a : Added X) (o : Outside W) (laws : IsOutside o) (old 
         × (StallsAs false (said_by result) × AliveIfWent a (said_by result) new)
     comes_then alive = comes_to a o old new was last result whole alive
 
-    -- so far it asked no more
-    pub asked_then : last ≡ at → (past : List Event) (answers : List Entry) (s : State a.Kept) → IsAtRest a past answers old s
+    -- what it asked
+    pub asked_then : (past : List Event) (answers : List Entry) (s : State a.Kept) → IsAtRest a past answers old s
         → AsksBy old.events.events new.events.events (o.seen was) (o.seen last) (said_by result)
-    asked_then same past answers s h =
-        subst (λ w. AsksBy old.events.events new.events.events (o.seen was) (o.seen w) (said_by result)) (sym same)
-        (turn_asks o old call is goes answer mid.events (o.seen was) (o.seen at) got new at last past answers s h result beside_so)
+    asked_then = asked_in a o old new was last result whole
+
+    pub starved_then : (past : List Event) (answers : List Entry) (s : State a.Kept) → IsAtRest a past answers old s
+        → StarvesAs a.meaning (wire_over a o old new was last) (stood_by a old) old.events.events (said_by result)
+    starved_then = starved_in a o old new was last result whole
 
     pub still_then : UnlessFailed (o.quiet was last) (said_by result)
     still_then = still_so a o old new was last (o.quiet was last) result whole whole.exchanged.still

@@ -1,5 +1,5 @@
 -- What a wire was asked, by events: of none, of some after others, and of one ask.
-use Rattle.std.proofs.Common.{◌≡◌, ◌⊎◌, inl, inr, ℕ, ◌+◌, ◌≤◌, List, [], ◌∷◌, ◌++◌, Option, Some, None, length, ◌∙◌, refl, sym, ap, append_assoc}
+use Rattle.std.proofs.Common.{◌≡◌, ◌⊎◌, inl, inr, ℕ, ◌≤◌, List, [], ◌∷◌, ◌++◌, Option, Some, None, length, ◌∙◌, refl, sym, ap, append_assoc}
 use Rattle.std.proofs.Common.{append-nil, arith}
 use Rattle.std.proofs.Math.Path.{fun_ext}
 use Rattle.model_wire.specs.declared.event.Event.TheVariants as event
@@ -7,9 +7,6 @@ use Rattle.model_wire.specs.declared.event.Handed.{Handed}
 use Rattle.model_wire.specs.Call.{Answer, Call}
 use Rattle.model_wire.specs.Event.{Event, calls_in, handed_after as handed_last, handed_by, handed_in}
 use Rattle.model_wire.specs.Told.{WireSeen}
-use Rattle.model_machine.specs.Went.{answers_in}
-use Rattle.law_reach.specs.Asked.{asks_in}
-use Rattle.law_body.proofs.Noting.{answers-append}
 use Rattle.aio_wire.specs.EventList.{EventList}
 use Rattle.aio_wire.specs.Port.{events_after}
 use Rattle.aio_wire.specs.Replied.{MayHaveReplied, Replied, asked_after, handed_after}
@@ -29,14 +26,14 @@ calls-append (event.Ran action ∷ xs) ys = calls-append xs ys
 calls-append (event.Said task text ∷ xs) ys = calls-append xs ys
 
 -- the last call
-last_in : List Event → Option Call → Option Call
+pub last_in : List Event → Option Call → Option Call
 last_in [] last = last
 last_in (event.Called call ∷ events) last = last_in events (Some call)
 last_in (event.Got answer ∷ events) last = last_in events last
 last_in (event.Ran action ∷ events) last = last_in events last
 last_in (event.Said task text ∷ events) last = last_in events last
 
-bytes-append : (xs ys : List Event) (last : Option Call) (to : Handed)
+pub bytes-append : (xs ys : List Event) (last : Option Call) (to : Handed)
     → handed_in (xs ++ ys) last to ≡ handed_in xs last to ++ handed_in ys (last_in xs last) to
 unfolding last_in
 bytes-append [] ys last to = refl
@@ -122,7 +119,7 @@ asks_replied call reply.Failed before after is = asks_called call before after i
 abbrev pub none_once : (seen : WireSeen) → AsksOnce seen seen
 none_once seen = ([], (omega arith), asks_none seen)
 
-abbrev pub replied_once : (call : Call) (said : Reply) (before after : WireSeen) → Replied call before after said → AsksOnce before after
+replied_once : (call : Call) (said : Reply) (before after : WireSeen) → Replied call before after said → AsksOnce before after
 replied_once call said before after is = (noted_by call said, one said, asks_replied call said before after is)
   where
     one : (it : Reply) → length (calls_in (noted_by call it)) ≤ 1
@@ -142,46 +139,3 @@ maybe_once call before after (inl none) = at none.0
       omega arith,
       record { asked = same ∙ asked_none before.asked; handed = λ last. none.1 ∙ handed_none before.handed },
     )
-
--- ---- events among which no turn begins
-pub turns-append : (xs ys : List Event) → asks_in (xs ++ ys) ≡ asks_in xs + asks_in ys
-turns-append [] ys = omega arith
-turns-append (event.Called call ∷ xs) ys = let ih = turns-append xs ys in omega (arith, ih)
-turns-append (event.Got answer ∷ xs) ys = turns-append xs ys
-turns-append (event.Ran action ∷ xs) ys = turns-append xs ys
-turns-append (event.Said task text ∷ xs) ys = turns-append xs ys
-
-pub none_asked : (more : List Event) (seen : WireSeen) → asks_in more ≡ 0 → answers_in more ≡ 0 → Asks more seen seen
-none_asked [] seen turns answers = asks_none seen
-none_asked (event.Called call ∷ more) seen turns answers = absurd (omega (arith, turns))
-none_asked (event.Got answer ∷ more) seen turns answers = absurd (omega (arith, answers))
-none_asked (event.Ran action ∷ more) seen turns answers =
-    let it = none_asked more seen turns answers in record { asked = it.asked; handed = it.handed }
-none_asked (event.Said task text ∷ more) seen turns answers =
-    let it = none_asked more seen turns answers in record { asked = it.asked; handed = it.handed }
-
-pub no_calls : (more : List Event) → asks_in more ≡ 0 → length (calls_in more) ≡ 0
-no_calls [] turns = refl
-no_calls (event.Called call ∷ more) turns = absurd (omega (arith, turns))
-no_calls (event.Got answer ∷ more) turns = no_calls more turns
-no_calls (event.Ran action ∷ more) turns = no_calls more turns
-no_calls (event.Said task text ∷ more) turns = no_calls more turns
-
--- a call that had its answer, and events after which no turn began and no answer came
-abbrev pub answered_once : (call : Call) (answer : Answer) (before after : WireSeen) (more : List Event) → Asks (noted_by call (reply.Got answer)) before after
-    → (events : List Event) → asks_in (events ++ more) ≡ asks_in events → answers_in (events ++ more) ≡ answers_in events → AsksOnce before after
-answered_once call answer before after more asked events turns answers = (
-  noted_by call (reply.Got answer) ++ more,
-  (let none = no_calls more no_turns in omega (arith, none)),
-  asks_then (noted_by call (reply.Got answer)) more before after after asked (none_asked more after no_turns no_answers),
-)
-  where
-    no_turns : asks_in more ≡ 0
-    no_turns = let t = turns-append events more in omega (arith, turns, t)
-
-    no_answers : answers_in more ≡ 0
-    no_answers = let a = answers-append events more in omega (arith, answers, a)
-
--- what a call with its answer asked
-abbrev pub had_once : (call : Call) (answer : Answer) (before after : WireSeen) → Asks (noted_by call (reply.Got answer)) before after → AsksOnce before after
-had_once call answer before after is = (noted_by call (reply.Got answer), omega arith, is)

@@ -38,8 +38,6 @@ use Rattle.law_body.proofs.Noting.{counted, stands_noted}
 use Rattle.aio_core.specs.declared.went.Went as code
 use Rattle.aio_core.specs.declared.went.Went.TheVariants as went
 use Rattle.aio_core.specs.Turning.{ComesTo, EndsFrom, Is, NoneLeft, OfFailing, StallsAs, Stood, UnlessFailed, changed_by, resting, stood_by, turning, turning_by}
-use Rattle.aio_core.specs.Asked.{Asks}
-use Rattle.aio_core.proofs.Asked.{asks_replied, noted_by}
 
 -- ---- the machine
 turn_asks : {S : Type 0} (added : Extra S) (s : State S) → is_stalled added s ≡ false
@@ -184,7 +182,6 @@ module _ {X : Type 0} {a : Added X} (old : Body X) (call : Call)
     pub is_fit : fits call answer ≡ true
     pub was_left : (rest : List Entry) → Agrees after.left rest → Agrees before.left (Answered answer ∷ rest)
     pub is_noted : events ≡ pushed (pushed old.events (event.Called call)) (event.Got answer)
-    pub is_asked : Asks (noted_by call (reply.Got answer)) before after
 
   pub got_so : (result : Result Answer Stop) (answer : Answer) (events : EventList) (before after : WireSeen) → result ≡ Ok answer
       → ((said : Reply) × Exchanges call old.events events result said × Replied call before after said)
@@ -202,7 +199,6 @@ module _ {X : Type 0} {a : Added X} (old : Body X) (call : Call)
             is_fit = f;
             was_left = replied.left;
             is_noted = es;
-            is_asked = asks_replied call (reply.Got it) before after replied;
           })
         where
           ok_same : (a b : Answer) → ◌≡◌ {A = Result Answer Stop} (Ok a) (Ok b) → a ≡ b

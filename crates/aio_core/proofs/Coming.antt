@@ -35,7 +35,7 @@ use Rattle.aio_core.specs.Turning.{UnlessFailed, changed_by, resting, said_by, s
 use Rattle.aio_core.proofs.Asking.{stalls_stopped, still_after}
 
 -- ---- the answers that were had
-entries_map : (had : List Exchange) → entries_of had ≡ map Answered (answers_of had)
+pub entries_map : (had : List Exchange) → entries_of had ≡ map Answered (answers_of had)
 entries_map [] = refl
 entries_map (it ∷ had) = ap (λ es. Answered it.answer ∷ es) (entries_map had)
 
@@ -241,7 +241,7 @@ module _ {X W : Type 0} (a : Added X) (o : Outside W) (old new : Body X) (was is
         (stalls_stopped why, tt),
       )
       at Starved (Err why) exchanged comes =
-          subst (λ w. To (went.Stopped w) × (StallsAs false (went.Stopped w) × AliveIfWent a (went.Stopped w) new)) (sym comes) (tt, (tt, tt))
+          subst (λ w. To (went.Stopped w) × (StallsAs false (went.Stopped w) × AliveIfWent a (went.Stopped w) new)) (sym comes.0) (tt, (tt, tt))
       at All (Err why) exchanged comes = absurd comes
       at (Met call said) (Ok it) exchanged comes = absurd comes
       at Starved (Ok said) exchanged comes = absurd comes

@@ -1,16 +1,18 @@
 -- What a turn does once it has its answer: the handles before the bar run, and the turn ends.
-use Rattle.std.proofs.Common.{◌≡◌, ℕ, Bool, true, false, not, ◌&&◌, List, [], ◌++◌, Result, Ok, Err, append-nil, length, ◌∙◌, refl, sym, ap, subst}
+use Rattle.std.proofs.Common.{◌≡◌, ℕ, Bool, true, false, not, ◌&&◌, List, [], ◌++◌, Option, Some, None, Result, Ok, Err, append-nil, length, ◌∙◌, refl}
+use Rattle.std.proofs.Common.{sym, ap, subst}
 use Rattle.std.specs.Prelude.{IfOk}
 use Rattle.std.proofs.Math.Logic.{∥∥₁_map}
+use Rattle.model_value.specs.Value.{Outcome}
 use Rattle.model_says.specs.Says.{step_limit}
 use Rattle.model_wire.specs.Call.{Answer}
 use Rattle.model_machine.specs.State.{State, unbooked_in}
-use Rattle.model_machine.specs.Turn.{cancelled_if, run_pending, turn_over, turned_by, woken_by}
+use Rattle.model_machine.specs.Outcomes.{finished_as}
+use Rattle.model_machine.specs.Turn.{cancelled_if, finished_if, run_pending, turn_over, turned_by, woken_by}
 use Rattle.model_machine.specs.Went.{Went, Goes, Stops, state_of, went_on}
-use Rattle.law_going.proofs.Turning.{over_row}
-use Rattle.law_reach.proofs.Rows.{in_callback}
 use Rattle.aio_base.specs.declared.memory.Memory.{Memory}
 use Rattle.aio_wire.specs.declared.stop.Stop.{Stop}
+use Rattle.aio_exchange.specs.Among.{asks_among}
 use Rattle.aio_exchange.specs.Exchanged.{Exchange, Last, All, Met, Starved}
 use Rattle.aio_exchange.specs.Outside.{IsOutside, Outside, ported}
 use Rattle.aio_extra.specs.Added.{Added}
@@ -19,10 +21,11 @@ use Rattle.aio_step.specs.declared.steps.Stepped.TheVariants as stepped
 use Rattle.aio_step.specs.Stepping.{Steps}
 use Rattle.aio_body.proofs.Asking.{HasCome, come_beside, come_none, come_then, comes_ends, comes_starved, comes_stops}
 use Rattle.aio_body.specs.declared.body.Body.{Body}
-use Rattle.aio_body.specs.Asking.{Comes, ComesBy, Piece, before, or_stop}
+use Rattle.aio_body.specs.Asking.{Comes, ComesBy, Piece, WentBegins, before, or_stop}
 use Rattle.aio_body.specs.Stands.{Setting, IsBetween, Possible}
 use Rattle.law_body.proofs.Answering.{alive_come, between_again}
-use Rattle.law_body.proofs.Unasked.{row_told, told_so}
+use Rattle.law_body.proofs.Growing.{OnlyAdds, went_begins}
+use Rattle.law_body.proofs.Unasked.{told_so}
 use Rattle.law_body.specs.Answers.{with_answers}
 use Rattle.aio_core.specs.declared.went.Went as Said
 use Rattle.aio_core.specs.declared.went.Went.TheVariants as went
@@ -53,6 +56,24 @@ told_turned new c (went.Runaway task) (Stops how last) t = t.1
 told_turned new c (went.Stopped why) (Goes now) t = absurd t
 told_turned new c (went.Stopped why) (Stops how last) t = absurd t
 
+-- the end of a turn tells nothing
+over_events : {S : Type 0} (done_before : Bool) (s : State S) → (state_of (turn_over done_before s)).events ≡ s.events
+over_events done_before s = at (s.main_done && not done_before)
+  where
+    cancelled : (b : Bool) → (cancelled_if b s).events ≡ s.events
+    cancelled true = refl
+    cancelled false = refl
+
+    finished : (it : Option Outcome) (b : Bool) → (state_of (finished_if it (cancelled_if b s))).events ≡ s.events
+    finished None b = cancelled b
+    finished (Some outcome) b = cancelled b
+
+    at : (b : Bool) → (state_of (finished_if (finished_as (cancelled_if b s)) (cancelled_if b s))).events ≡ s.events
+    at b = finished (finished_as (cancelled_if b s)) b
+
+over_adds : {S : Type 0} (done_before : Bool) → OnlyAdds {S = S} (turn_over done_before)
+over_adds done_before s = ([], over_events done_before s ∙ sym (append-nil s.events))
+
 module _ {X W : Type 0} (a : Added X) (o : Outside W) (laws : IsOutside o) (answer : Answer) (old mid ran : Body X)
     (woken : (c : Setting a) (s : State a.Kept) → IsBetween c old s → IsBetween (all_below c (woken_to answer s)) mid (woken_to answer s)) (was is : W) where
   abbrev From : Setting a → State a.Kept → Type 0
@@ -77,6 +98,7 @@ module _ {X W : Type 0} (a : Added X) (o : Outside W) (laws : IsOutside o) (answ
         does = λ s. run_pending step_limit a.meaning (woken_to answer s);
         ends = Stops;
         says = λ c said it. (bar : ℕ) × Steps (record c { left = 0; bar = bar }) ran said it;
+        begins = WentBegins;
       }
 
   pub runs_below : (result : Result Stepped Stop) → Comes o (running a mid ran) (ported was mid.events) (ported is ran.events) result
@@ -95,7 +117,10 @@ module _ {X W : Type 0} (a : Added X) (o : Outside W) (laws : IsOutside o) (answ
         comes.0,
         λ c s from fits. comes.1 (all_below c (woken_to answer s)) (place s) (from, (refl, refl)) fits,
       )
-      at Starved (Err why) comes = comes
+      at Starved (Err why) comes = (
+        comes.0,
+        (comes.1.0, λ c s from. comes.1.1 (all_below c (woken_to answer s)) (place s) (from, (refl, refl))),
+      )
       at All (Err why) comes = absurd comes
       at (Met call reply) (Ok said) comes = absurd comes
       at Starved (Ok said) comes = absurd comes
@@ -133,16 +158,25 @@ module _ {X W : Type 0} (a : Added X) (o : Outside W) (laws : IsOutside o) (answ
         → IfOk result (λ said. (c : Setting a) (s : State a.Kept) → IsBetween c ran s → Turned c new said (turn_over mid.main_done s))
         → Comes o (turning_by a answer old new) (ported was old.events) (ported is new.events) (or_stop result)
     after_goes new (Err memory) ends =
-        comes_starved o laws (turning_by a answer old new) gone.0 (ported was old.events) (ported is ran.events) (ported is new.events) refl gone.1.exchanged
+        comes_starved o laws (turning_by a answer old new) gone.0 (ported was old.events) (ported is ran.events) (ported is new.events) refl
+        (record {
+          exchanged = gone.1.exchanged;
+          told = λ c s h.
+              let t = gone.1.told c s h in (
+                t.0,
+                subst (λ w. WentBegins (c.past ++ ran.events.events) (went_on (turn_over s.main_done) w)) (sym t.1.ran_so)
+                    (subst (λ es. WentBegins es (turn_over s.main_done t.1.now)) t.1.between.stands.events (over_adds s.main_done t.1.now)),
+              );
+        })
     after_goes new (Ok said) ends =
         comes_ends o laws (turning_by a answer old new) gone.0 (ported was old.events) (ported is new.events) said
         (come_beside o laws From gone.0 (ported was old.events) (ported is ran.events) (ported is new.events) HasRun
         (λ c s. (bar : ℕ) × Turned (record c { left = 0; bar = bar }) new said (turned_by step_limit a.meaning answer s)) gone.1 refl (λ c s t.
         let d : Setting a = record c { left = 0; bar = t.bar } in
         let turned = ends d t.now t.between in (
-          row_told c.past ran.events.events new.events.events t.now (state_of (turn_over mid.main_done t.now))
-              (in_callback (over_row mid.main_done t.now)) t.between.stands.streams t.between.stands.events
-              (told_turned new d said (turn_over mid.main_done t.now) turned),
+          told_so c.past ran.events.events new.events.events t.now.events (state_of (turn_over mid.main_done t.now)).events t.between.stands.events
+              (told_turned new d said (turn_over mid.main_done t.now) turned) (over_adds mid.main_done t.now)
+              (ap asks_among (over_events mid.main_done t.now)),
           (
             t.bar,
             subst (λ w. Turned d new said (went_on (turn_over s.main_done) w)) (sym t.ran_so)
@@ -178,11 +212,24 @@ module _ {X W : Type 0} (a : Added X) (o : Outside W) (laws : IsOutside o) (answ
       → Comes o (turning_by a answer old ran) (ported was old.events) (ported is ran.events) (Err why)
   after_stops why runs =
       comes_stops o laws From [] (ported was old.events) (ported was mid.events) below (ported is ran.events)
-      (turned_by step_limit a.meaning answer, (Stops, λ c said it. (bar : ℕ) × Turned (record c { left = 0; bar = bar }) ran said it)) why
+      (turned_by step_limit a.meaning answer, (Stops, (λ c said it. (bar : ℕ) × Turned (record c { left = 0; bar = bar }) ran said it, WentBegins))) why
       (record {
         exchanged = begins.exchanged;
         told = λ c s h.
-            let t = begins.told c s h in (t.0, (s, (t.1, λ how last e. ap (went_on (turn_over s.main_done)) e)));
+            let t = begins.told c s h in (
+              t.0,
+              (
+                s,
+                (
+                  t.1,
+                  (
+                    λ how last e. ap (went_on (turn_over s.main_done)) e,
+                    λ events goes.
+                        went_begins events (run_pending step_limit a.meaning (woken_to answer s)) (turn_over s.main_done) (over_adds s.main_done) goes,
+                  ),
+                ),
+              ),
+            );
       }) (runs_below (Err why) runs)
 
 module _ {X : Type 0} {a : Added X} where

@@ -17,8 +17,9 @@ use Rattle.aio_core.specs.declared.kernel.Kernel.{Kernel}
 use Rattle.aio_core.specs.declared.went.Went as code
 use Rattle.aio_core.specs.declared.went.Went.TheVariants as went
 use Rattle.aio_core.specs.Again.{Again, IsKept}
-use Rattle.aio_core.specs.Turned.{KeepsEnd, StandsFor, TurnedBy, TurnsTo, WireTurn, ended, untaken}
-use Rattle.aio_core.specs.Turning.{AliveIfWent, AliveUnless, AsksBy, ComesTo, IsAtRest, OfFailing, StallsAs, UnlessFailed, changed_by, resting}
+use Rattle.aio_core.specs.Turned.{KeepsEnd, StandsFor, TurnedBy, TurnsTo, ended, stood_for, untaken}
+use Rattle.aio_core.specs.Turning.{AliveIfWent, AliveUnless, AsksBy, ComesTo, IsAtRest, OfFailing, StallsAs, StarvesAs, UnlessFailed, WireTurn}
+use Rattle.aio_core.specs.Turning.{changed_by, resting, stood_by}
 
 module _ {X : Type 0} {a : Added X} where
   pub stands_up : {g : _} (past : List Event) (left : List Entry) (kernel : Kernel X g) (s : State a.Kept) → ended kernel ≡ None
@@ -45,6 +46,29 @@ module _ {X : Type 0} (a : Added X) {g : _} (old new : Kernel X g) (before after
   comes_up (went.Stopped (stop.Failed call)) goes c = (c.0, (c.1.0, λ past rest s l h. c.1.1 past rest s l h.rests, c.1.2))
   comes_up (went.Stopped stop.Memory) goes c = tt
 
+-- what the machine's turn begins with, where memory was refused
+module _ {X : Type 0} (a : Added X) where
+  starves_up : {g : _} (wire : WireTurn) (old : Kernel X g) (said : code.Went) → StarvesAs a.meaning wire (stood_by a old.body) (untaken old) said
+      → StarvesAs a.meaning wire (stood_for a old) (untaken old) said
+  starves_up wire old went.Went it = tt
+  starves_up wire old (went.Finished outcome) it = tt
+  starves_up wire old went.Stalled it = tt
+  starves_up wire old (went.Runaway task) it = tt
+  starves_up wire old (went.Stopped (stop.Over call)) it = tt
+  starves_up wire old (went.Stopped (stop.Bad fault)) it = tt
+  starves_up wire old (went.Stopped (stop.Mismatch count call)) it = tt
+  starves_up wire old (went.Stopped (stop.Failed call)) it = tt
+  starves_up wire old (went.Stopped stop.Memory) it = record {
+    had = it.had;
+    left = it.left;
+    first = it.first;
+    begins = λ past rest s h. it.begins past rest s h.rests;
+    more = it.more;
+    one = it.one;
+    asks = it.asks;
+    failing = it.failing;
+  }
+
 module _ {X : Type 0} {a : Added X} where
   -- a run that hasn't ended
   pub turned_up : {g : _} (wire : WireTurn) (old new : Kernel X g) (result said : code.Went) → (said ≡ went.Went → ended new ≡ None)
@@ -52,11 +76,14 @@ module _ {X : Type 0} {a : Added X} where
       → ((past : List Event) (answers : List Entry) (s : State a.Kept) → IsAtRest a past answers old.body s → StallsAs (is_stalled a.meaning s) said)
       → ((past : List Event) (answers : List Entry) (s : State a.Kept) → IsAtRest a past answers old.body s
       → AsksBy (untaken old) (untaken new) wire.before wire.after said)
+      → ((past : List Event) (answers : List Entry) (s : State a.Kept) → IsAtRest a past answers old.body s
+      → StarvesAs a.meaning wire (stood_by a old.body) (untaken old) said)
       → UnlessFailed wire.quiet said → (wire.fails → OfFailing said) → Again said result → TurnedBy a wire old new result said
-  turned_up wire old new result said goes comes stalls asks still failing either = record {
+  turned_up wire old new result said goes comes stalls asks starved still failing either = record {
     turns = comes_up a old new wire.before wire.after said goes comes;
     stalls = λ past answers s h. stalls past answers s h.rests;
     asks = λ past answers s h. asks past answers s h.rests;
+    starved = λ past answers s h. starves_up a wire old said (starved past answers s h.rests);
     still = still;
     failing = failing;
     either = either;

@@ -9,6 +9,7 @@ use Rattle.model_value.specs.declared.action.Action.TheVariants.{MainDone, Step}
 use Rattle.model_tree.specs.Syntax.{Program}
 use Rattle.model_text.specs.SecondPass.{main_text}
 use Rattle.model_says.specs.Requests.{place_of}
+use Rattle.model_stream.specs.Streams.{no_streams}
 use Rattle.model_wire.specs.Journal.{Entry}
 use Rattle.model_loop.specs.Parts.{OfTask, Future, Parts, Task}
 use Rattle.model_loop.specs.Start.{first_parts, no_parts}
@@ -32,6 +33,7 @@ use Rattle.aio_body.specs.Slots.{HoldsMore}
 use Rattle.aio_body.specs.Stands.{profile_of, Stands, HasSlot, StandsAt, WaitsAs}
 use Rattle.aio_flat.specs.Code.{IsCodeOf}
 use Rattle.aio_timeout.specs.Kept.{AreTimeouts}
+use Rattle.aio_transports.specs.Standing.{StandsFor as AreTransports}
 use Rattle.aio_group.specs.Held.{Held}
 use Rattle.aio_group.specs.Stands.{KeepsAt}
 use Rattle.aio_wire.specs.EventList.{EventList}
@@ -153,7 +155,8 @@ module _ {X : Type 0} (a : Added X) (program : Program) (none held : Body X) (x 
     futures = ap (λ (b : Body X). b.futures.items) holds.beside ∙ e.futures;
     few_futures = omega arith;
     main_done = ap (λ (b : Body X). b.main_done) holds.beside ∙ e.main_done;
-    streams = refl;
+    transports = subst (λ t. AreTransports t (no_streams 0)) (sym (ap (λ (b : Body X). b.transports) holds.beside)) e.transports;
+    closed = refl;
     time = omega arith;
     counts = counts;
     events = sym (ap (λ (b : Body X). b.events.events) holds.beside ∙ ap (λ (l : EventList). l.events) e.events);

@@ -1,13 +1,18 @@
 -- The handles before the bar, as the loop over them has them: each round takes one, and the rest is as before.
-use Rattle.std.proofs.Common.{if◌then◌else◌, ◌≡◌, ℕ, suc, ◌<◌, Bool, true, false, List, [], ◌∷◌, drop, Some, None, Result, Ok, Err, length, ◌∙◌, refl, sym, ap, subst, arith}
+use Rattle.std.proofs.Common.{if◌then◌else◌, ◌≡◌, ℕ, zero, suc, ◌<◌, Bool, true, false, List, [], ◌∷◌, drop, Some, None, Result, Ok, Err, length, ◌∙◌}
+use Rattle.std.proofs.Common.{refl, sym, ap, append-nil, nat_lt, subst, arith}
 use Rattle.std.proofs.Math.Logic.{∥∥₁_elim, ∥∥₁_map}
 use Rattle.std.specs.Coded.{le_prop}
 use Rattle.model_value.specs.Action.{Action}
 use Rattle.model_says.specs.Says.{step_limit}
 use Rattle.model_wire.specs.declared.event.Event.TheVariants as event
+use Rattle.model_loop.specs.Parts.{Handle}
+use Rattle.model_machine.specs.Extra.{Extra}
 use Rattle.model_machine.specs.State.{State, noted}
-use Rattle.model_machine.specs.Turn.{effect, run_below}
-use Rattle.model_machine.specs.Went.{Went, Goes, Stops, went_on}
+use Rattle.model_machine.specs.Turn.{effect, next_below, run_below, run_first, run_if}
+use Rattle.model_machine.specs.Went.{Went, Goes, Stops, state_of, went_on}
+use Rattle.law_going.proofs.Turning.{first_turns}
+use Rattle.law_reach.proofs.Rows.{in_turn}
 use Rattle.aio_ready.specs.Queue as queue
 use Rattle.aio_ready.specs.declared.handle.Handle.{Handle as QueueHandle}
 use Rattle.aio_task.specs.View.{View}
@@ -21,10 +26,11 @@ use Rattle.aio_step.specs.declared.steps.Stepped.TheVariants as went
 use Rattle.aio_step.specs.Stepping.{Steps}
 use Rattle.aio_body.proofs.Asking.{HasCome, come_beside, come_none, come_then, comes_ends, comes_stops}
 use Rattle.aio_body.specs.declared.body.Body.{Body}
-use Rattle.aio_body.specs.Asking.{Comes, Piece, before}
+use Rattle.aio_body.specs.Asking.{Comes, Piece, WentBegins, before}
 use Rattle.aio_body.specs.Stands.{Setting, IsBetween, Possible}
 use Rattle.aio_body.specs.Taken.{IsNext}
 use Rattle.law_body.proofs.Answering.{alive_come, between_again}
+use Rattle.law_body.proofs.Growing.{OnlyAdds, row_begins, went_begins}
 use Rattle.law_body.proofs.Over.{comes_over, over}
 use Rattle.law_body.specs.Answers.{with_answers}
 use Rattle.aio_core.specs.Running.{running, running_one}
@@ -71,6 +77,24 @@ module _ {X : Type 0} {a : Added X} where
       → Steps c new (went.Runaway task) w → Steps (at_bar c) new (went.Runaway task) (went_on go_on w)
   runs_off c new task go_on (Goes now) h = absurd h
   runs_off c new task go_on (Stops end last) h = h
+
+-- handles only add events
+below_adds : {S : Type 0} (added : Extra S) (bar count : ℕ) → OnlyAdds (run_below step_limit added bar count)
+unfolding run_below
+below_adds added bar zero s = ([], sym (append-nil s.events))
+below_adds added bar (suc count) s = next s.loop.parts.pending (below_adds added bar count)
+  where
+    at : (b : Bool) (handle : Handle) (rest : List Handle) → OnlyAdds (run_below step_limit added bar count)
+        → WentBegins s.events (run_if step_limit added b handle rest (run_below step_limit added bar count) s)
+    at true handle rest adds =
+        went_begins s.events (run_first step_limit added handle rest s) (run_below step_limit added bar count) adds
+        (row_begins s.events s (state_of (run_first step_limit added handle rest s)) (in_turn (first_turns step_limit added handle rest s).reaches) refl)
+    at false handle rest adds = ([], sym (append-nil s.events))
+
+    next : (handles : List Handle) → OnlyAdds (run_below step_limit added bar count)
+        → WentBegins s.events (next_below step_limit added bar handles (run_below step_limit added bar count) s)
+    next [] adds = ([], sym (append-nil s.events))
+    next (handle ∷ rest) adds = at (nat_lt handle.stamp bar) handle rest adds
 
 -- a handle that is taken stands before the bar no more
 live_first : (handles : List QueueHandle) (it : Action) → queue.first_action (queue.from_live handles) ≡ Some it
@@ -195,7 +219,7 @@ module _ {X W : Type 0} (a : Added X) (o : Outside W) (laws : IsOutside o) (firs
             → Comes o (running a first new) (ported was first.events) (ported last new.events) (Err why)
         run_stops why ran =
             comes_stops o laws From reached.0 (ported was first.events) (ported mid body.events) one (ported last new.events)
-            (does, (Stops, λ c said it. Steps (at_bar c) new said it)) why
+            (does, (Stops, (λ c said it. Steps (at_bar c) new said it, WentBegins))) why
             (record {
               exchanged = reached.1.exchanged;
               told = λ c at h.
@@ -205,7 +229,13 @@ module _ {X W : Type 0} (a : Added X) (o : Outside W) (laws : IsOutside o) (firs
                       (here c at t.1).now,
                       (
                         (here c at t.1).next,
-                        λ how end e. on c at t.1 ∙ ap (went_on (run_below step_limit a.meaning c.bar left)) e,
+                        (
+                          λ how end e. on c at t.1 ∙ ap (went_on (run_below step_limit a.meaning c.bar left)) e,
+                          λ events goes.
+                              subst (WentBegins events) (sym (on c at t.1))
+                              (went_begins events (effect step_limit a.meaning action (noted (event.Ran action) (here c at t.1).now))
+                              (run_below step_limit a.meaning c.bar left) (below_adds a.meaning c.bar left) goes),
+                        ),
                       ),
                     ),
                   );

@@ -285,7 +285,7 @@ module _ {X : Type 0} {a : Added X} where
   -- nothing is open, and what is added watches nothing
   watches_none : (c : Setting a) (body : Body X) (s : State a.Kept) → IsBetween c body s → [] ≡ watched_by a.meaning s
   watches_none c body s h =
-      ap (λ b. watched (no_streams 0) b) (sym (a.quiet s.extra)) ∙ ap (λ streams. watched streams (a.meaning.watches s.extra)) (sym h.stands.streams)
+      ap (λ b. watched (no_streams 0) b) (sym (a.quiet s.extra)) ∙ ap (λ streams. watched streams (a.meaning.watches s.extra)) (sym h.stands.closed)
 
   pub stalls_so : (c : Setting a) (body : Body X) (s : State a.Kept) → IsBetween c body s
       → stalls_by (queue.is_empty (waiting body.parts.queue)) (schedule.first_when body.parts.schedule.live) [] ≡ is_stalled a.meaning s

@@ -13,7 +13,7 @@ use Rattle.aio_extra.specs.Added.{Added}
 use Rattle.aio_step.specs.declared.steps.Stepped.{Stepped}
 use Rattle.aio_step.specs.Stepping.{HearsMade, IsCalled, Steps}
 use Rattle.aio_body.specs.declared.body.Body.{Body}
-use Rattle.aio_body.specs.Asking.{Piece}
+use Rattle.aio_body.specs.Asking.{Piece, WentBegins}
 use Rattle.aio_body.specs.Stands.{Setting, IsBetween}
 use Rattle.aio_body.specs.Taken.{IsNext, IsTaken}
 use Rattle.aio_core.specs.Turning.{at_bar}
@@ -26,6 +26,7 @@ running a old new =
       does = λ at. run_below step_limit a.meaning at.1.0 at.1.1 at.0;
       ends = Stops;
       says = λ c went it. Steps (at_bar c) new went it;
+      begins = WentBegins;
     }
 
 -- a handle runs
@@ -36,6 +37,7 @@ running_one a action old new =
       does = λ s. effect step_limit a.meaning action (noted (event.Ran action) s);
       ends = Stops;
       says = λ c went it. Steps c new went it;
+      begins = WentBegins;
     }
 
 -- and it was noted that it does
@@ -46,6 +48,7 @@ acting a action old new =
       does = effect step_limit a.meaning action;
       ends = Stops;
       says = λ c went it. Steps c new went it;
+      begins = WentBegins;
     }
 
 -- which task it steps, if it does, and with what

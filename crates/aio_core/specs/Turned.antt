@@ -13,7 +13,8 @@ use Rattle.aio_wire.specs.declared.stop.Stop.TheVariants as stop
 use Rattle.aio_core.specs.declared.kernel.Kernel.{Kernel}
 use Rattle.aio_core.specs.declared.went.Went as code
 use Rattle.aio_core.specs.declared.went.Went.TheVariants as went
-use Rattle.aio_core.specs.Turning.{AsksBy, Change, ComesTo, EndsFrom, EndsTelling, GoesOnFrom, IsAtRest, OfFailing, StallsAs, Stood, UnlessFailed}
+use Rattle.aio_core.specs.Turning.{AsksBy, Change, ComesTo, EndsFrom, EndsTelling, GoesOnFrom, IsAtRest, OfFailing, StallsAs, StarvesAs, Stood, UnlessFailed}
+use Rattle.aio_core.specs.Turning.{WireTurn}
 
 -- the events that weren't taken out yet
 abbrev pub untaken : {X : Type 0} {g : _} → Kernel X g → List Event
@@ -59,14 +60,6 @@ change_of a old new = record { old = stood_for a old; new = stood_for a new; unt
 abbrev pub TurnsTo : {X : Type 0} {g : _} → Added X → (before after : WireSeen) → (old new : Kernel X g) → code.Went → Type 0
 TurnsTo a before after old new said = ComesTo a.meaning before after (change_of a old new) said
 
--- What clauses say of a wire over a turn: what is seen of it before and after, that each call of it fails, and what stays of it as
--- long as none does.
-pub record WireTurn : Type 1 where
-  pub before : WireSeen
-  pub after : WireSeen
-  pub fails : Type 0
-  pub quiet : Type 0
-
 -- A turn of a run that hasn't ended. `said` is what it came to; memory may have been refused after it.
 pub record TurnedBy {X : Type 0} {g : _} (a : Added X) (wire : WireTurn) (old new : Kernel X g) (result said : code.Went) : Type 0 where
   pub turns : TurnsTo a wire.before wire.after old new said
@@ -74,6 +67,8 @@ pub record TurnedBy {X : Type 0} {g : _} (a : Added X) (wire : WireTurn) (old ne
       → StallsAs (is_stalled a.meaning s) said
   pub asks : (past : List Event) (answers : List Entry) (s : State a.Kept) → StandsFor a past answers old s
       → AsksBy (untaken old) (untaken new) wire.before wire.after said
+  pub starved : (past : List Event) (answers : List Entry) (s : State a.Kept) → StandsFor a past answers old s
+      → StarvesAs a.meaning wire (stood_for a old) (untaken old) said
   pub still : UnlessFailed wire.quiet said
   pub failing : wire.fails → OfFailing said
   pub either : (result ≡ said) ⊎ (result ≡ went.Stopped stop.Memory)

@@ -5,7 +5,7 @@ use Rattle.model_says.specs.Says.{step_limit}
 use Rattle.model_wire.specs.declared.answer.Answer.TheVariants as answer
 use Rattle.model_wire.specs.declared.event.End.TheVariants as end
 use Rattle.model_wire.specs.Call.{Answer, Call}
-use Rattle.model_wire.specs.Event.{Event}
+use Rattle.model_wire.specs.Event.{Event, calls_in}
 use Rattle.model_wire.specs.Journal.{Entry, Answered}
 use Rattle.model_wire.specs.Told.{Agrees, Rose, WireSeen}
 use Rattle.model_wire.specs.Trace.{End}
@@ -14,7 +14,7 @@ use Rattle.model_machine.specs.Outcomes.{end_of}
 use Rattle.model_machine.specs.Outside.{select}
 use Rattle.model_machine.specs.State.{State}
 use Rattle.model_machine.specs.Turn.{turn, turned_by}
-use Rattle.model_machine.specs.Went.{Went, Goes, Stops, answers_in}
+use Rattle.model_machine.specs.Went.{Went, Goes, Stops, answers_in, state_of}
 use Rattle.aio_wire.specs.Told.{refused_of}
 use Rattle.aio_wire.specs.declared.stop.Stop.{Stop}
 use Rattle.aio_wire.specs.declared.stop.Stop.TheVariants as stop
@@ -22,9 +22,9 @@ use Rattle.aio_extra.specs.Added.{Added}
 use Rattle.aio_body.specs.declared.body.Body.{Body}
 use Rattle.aio_core.specs.declared.went.Went as code
 use Rattle.aio_core.specs.declared.went.Went.TheVariants as went
-use Rattle.aio_body.specs.Asking.{Piece}
+use Rattle.aio_body.specs.Asking.{GoesOn, Piece, WentBegins}
 use Rattle.aio_body.specs.Stands.{Setting, IsBetween, Possible}
-use Rattle.aio_core.specs.Asked.{AsksOnce}
+use Rattle.aio_core.specs.Asked.{Asks}
 
 -- none stands before the bar any more
 abbrev pub at_bar : {X : Type 0} {a : Added X} → Setting a → Setting a
@@ -68,6 +68,7 @@ turning_by a answer old new =
       does = turned_by step_limit a.meaning answer;
       ends = Stops;
       says = λ c said it. (bar : ℕ) × Turned (record c { left = 0; bar = bar }) new said it;
+      begins = WentBegins;
     }
 
 abbrev pub turning : {X : Type 0} → (a : Added X) → (old new : Body X) → Piece a (State a.Kept) (Went a.Kept) code.Went
@@ -77,6 +78,7 @@ turning a old new =
       does = turn step_limit a.meaning;
       ends = Stops;
       says = λ c said it. (bar : ℕ) × Turned (record c { left = 0; bar = bar }) new said it;
+      begins = WentBegins;
     }
 
 -- ---- a whole turn
@@ -164,11 +166,36 @@ ComesTo added before after it (went.Stopped (stop.Failed call)) =
     × Rose before.faults after.faults)
 ComesTo added before after it (went.Stopped stop.Memory) = Unit {0}
 
--- What a turn asked: what was noted in it, and no more than one call so far. `was` are the events that weren't taken out before it,
--- and `is` those after it. Where memory was refused the call may not have been noted, or not been asked.
+-- What a turn asked: what was noted in it, in order, and nothing besides. `was` are the events that weren't taken out before it, and
+-- `is` those after it. Where memory was refused, `StarvesAs` says it.
 abbrev pub AsksBy : (was is : List Event) → (before after : WireSeen) → code.Went → Type 0
-AsksBy was is before after (went.Stopped stop.Memory) = AsksOnce before after
-AsksBy was is before after _ = (it : AsksOnce before after) × (is ≡ was ++ it.0)
+AsksBy was is before after (went.Stopped stop.Memory) = Unit {0}
+AsksBy was is before after _ = (told : List Event) × ((is ≡ was ++ told) × Asks told before after)
+
+-- What clauses say of a wire over a turn: what is seen of it before and after, that each call of it fails, and what stays of it as
+-- long as none does.
+pub record WireTurn : Type 1 where
+  pub before : WireSeen
+  pub after : WireSeen
+  pub fails : Type 0
+  pub quiet : Type 0
+
+-- Memory was refused in a turn. With these events the machine's turn begins, over the answers that were had by then: the wire was asked
+-- what they tell, and one call besides at most. Where each call fails they are none. `untaken` are those that weren't taken out before.
+pub record IsStarved {S : Type 0} (added : Extra S) (wire : WireTurn) (old : Stood S) (untaken : List Event) : Type 0 where
+  pub had : List Answer
+  pub left : (rest : List Entry) × Agrees wire.before.left (map Answered had ++ rest)
+  pub first : List Event
+  pub begins : (past : List Event) (rest : List Entry) (s : State S) → old past (map Answered had ++ rest) s
+      → GoesOn (past ++ (untaken ++ first)) (state_of (turn step_limit added s)).events
+  pub more : List Event
+  pub one : length (calls_in more) ≤ 1
+  pub asks : Asks (first ++ more) wire.before wire.after
+  pub failing : wire.fails → first ≡ []
+
+abbrev pub StarvesAs : {S : Type 0} → Extra S → WireTurn → (old : Stood S) → (untaken : List Event) → code.Went → Type 0
+StarvesAs added wire old untaken (went.Stopped stop.Memory) = IsStarved added wire old untaken
+StarvesAs added wire old untaken _ = Unit {0}
 
 -- where the run goes on there is a state that is stood for
 abbrev pub AliveIfWent : {X : Type 0} → Added X → code.Went → Body X → Type 0

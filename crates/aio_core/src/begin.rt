@@ -17,6 +17,7 @@ use aio_group::Groups;
 use aio_program::{Coroutine, Program};
 use aio_task::Parts;
 use aio_timeout::Timeouts;
+use aio_transports::Transports;
 use aio_wire::Events;
 use std::alloc::Global;
 
@@ -62,6 +63,7 @@ fn empty<X: Drop>(alloc: Global, program: &Program, extra: X) -> Result<Body<X>,
         slots: Vec::new(alloc),
         timeouts,
         groups,
+        transports: Transports::new(alloc, 0),
         futures: Vec::new(alloc),
         main_done: false,
         events: Events::new(alloc),

@@ -33,10 +33,9 @@ pub fn run_below<W: Wire, X: Extra>(
     wire: &mut W,
 ) -> Result<Stepped, Stop>
     requires { Possible X.added IsBetween body.old }
-    ensures comes { Comes (outside_of W.seen W.fails W.keeps W.quiet)
+    ensures { Comes (outside_of W.seen W.fails W.keeps W.quiet)
         (running X.added body.old body.new)
         (ported wire.old body.old.events) (ported wire.new body.new.events) result }
-    ensures unasked { wire.new ≡ wire.old }
 {
     while let Some((action, ticket)) = body.parts.next_below() {
         match run_next(body, alloc, wire, action, ticket) {
@@ -57,10 +56,9 @@ fn run_next<W: Wire, X: Extra>(
     ticket: Ticket,
 ) -> Result<Stepped, Stop>
     requires { Possible X.added (IsNext action) body.old }
-    ensures comes { Comes (outside_of W.seen W.fails W.keeps W.quiet)
+    ensures { Comes (outside_of W.seen W.fails W.keeps W.quiet)
         (running_one X.added action body.old body.new)
         (ported wire.old body.old.events) (ported wire.new body.new.events) result }
-    ensures unasked { wire.new ≡ wire.old }
 {
     let ran = run(body, alloc, wire, &action, ticket);
     forget_action(action);
@@ -78,10 +76,9 @@ fn run<W: Wire, X: Extra>(
     ticket: Ticket,
 ) -> Result<Stepped, Stop>
     requires { Possible X.added (IsNext action.now) body.old }
-    ensures comes { Comes (outside_of W.seen W.fails W.keeps W.quiet)
+    ensures { Comes (outside_of W.seen W.fails W.keeps W.quiet)
         (running_one X.added action.now body.old body.new)
         (ported wire.old body.old.events) (ported wire.new body.new.events) result }
-    ensures unasked { wire.new ≡ wire.old }
 {
     match note(body, alloc, action) {
         Ok(()) => act(body, alloc, wire, action, ticket),
@@ -108,10 +105,9 @@ fn act<W: Wire, X: Extra>(
     ticket: Ticket,
 ) -> Result<Stepped, Stop>
     requires { Possible X.added (IsTaken action.now) body.old }
-    ensures comes { Comes (outside_of W.seen W.fails W.keeps W.quiet)
+    ensures { Comes (outside_of W.seen W.fails W.keeps W.quiet)
         (acting X.added action.now body.old body.new)
         (ported wire.old body.old.events) (ported wire.new body.new.events) result }
-    ensures unasked { wire.new ≡ wire.old }
 {
     match stepped_by(body, alloc, action) {
         Ok(Some((task, input))) => step(body, alloc, wire, task, ticket, input),
@@ -164,9 +160,10 @@ fn stepped_by<X: Extra>(
 fn call<X: Extra>(body: &mut Body<X>, alloc: Global, action: &Action) -> Result<Stepped, Memory>
     requires taken { Possible X.added (IsTaken action.now) body.old }
     requires idle { runner_of action.now ≡ None }
-    ensures { IfOk result
+    ensures acts { IfOk result
         (λ went. (c : Setting X.added) (s : State X.added.Kept) → IsTaken action.now c body.old s
         → Steps c body.new went (plain_effect step_limit X.added.meaning action.now s)) }
+    ensures goes { IfOk result (λ went. went ≡ Goes) }
 {
     match action {
         Action::SleepDone { future, .. } => {

@@ -13,8 +13,8 @@ ghost use Rattle.aio_wire.specs.declared.wire.Reply.{Reply as AnyReply};
 ghost use Rattle.aio_exchange.specs.Outside.{outside_of, ported};
 ghost use Rattle.aio_body.specs.Asking.{Comes};
 ghost use Rattle.aio_body.specs.Stands.{Setting, IsBetween, Possible};
-ghost use Rattle.aio_core.specs.Turning.{AsksBy, IsAtRest, IsSelect, IsTime, Turned, AliveIfWent, ComesTo, OfFailing, StallsAs, UnlessFailed};
-ghost use Rattle.aio_core.specs.Turning.{all_below, changed_by, said_by, turning_by};
+ghost use Rattle.aio_core.specs.Turning.{AsksBy, IsAtRest, IsSelect, IsTime, Turned, AliveIfWent, ComesTo, OfFailing, StallsAs, StarvesAs, UnlessFailed};
+ghost use Rattle.aio_core.specs.Turning.{all_below, changed_by, said_by, stood_by, turning_by};
 
 use crate::handles::run_below;
 use crate::went::{Went, copy_of_outcome};
@@ -47,6 +47,16 @@ pub fn turn<W: Wire, X: Extra>(
         → IsAtRest X.added past answers body.old s
         → AsksBy body.old.events.events body.new.events.events (W.seen wire.old) (W.seen wire.new)
         (said_by result) }
+    ensures starved { (past : List Event) (answers : List Entry) (s : State X.added.Kept)
+        → IsAtRest X.added past answers body.old s
+        → StarvesAs X.added.meaning
+        (record {
+          before = W.seen wire.old;
+          after = W.seen wire.new;
+          fails = W.fails wire.old;
+          quiet = W.quiet wire.old wire.new;
+        })
+        (stood_by X.added body.old) body.old.events.events (said_by result) }
     ensures alive { AliveIfWent X.added (said_by result) body.new }
     ensures fails { W.fails wire.old → OfFailing (said_by result) }
     ensures keeps { W.keeps wire.old wire.new }
@@ -133,10 +143,9 @@ fn after<W: Wire, X: Extra>(
 ) -> Result<Went, Stop>
     requires alive { Possible X.added IsBetween body.old }
     requires time { IsTime answer.now }
-    ensures comes { Comes (outside_of W.seen W.fails W.keeps W.quiet)
+    ensures { Comes (outside_of W.seen W.fails W.keeps W.quiet)
         (turning_by X.added answer.now body.old body.new)
         (ported wire.old body.old.events) (ported wire.new body.new.events) result }
-    ensures unasked { wire.new ≡ wire.old }
 {
     wake(body, answer);
     let done_before = body.main_done;

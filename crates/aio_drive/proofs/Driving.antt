@@ -1,5 +1,6 @@
 -- A run under way: what was written, what is left, and each way out.
-use Rattle.std.proofs.Common.{◌≡◌, ℕ, suc, ◌+◌, ◌-◌, ◌^◌, ◌≤◌, List, [], ◌∷◌, ◌++◌, Option, Some, None, map, min}
+use Rattle.std.proofs.Common.{◌≡◌, ◌==◌, ◌⊎◌, inl, inr, ℕ, suc, ◌+◌, ◌-◌, ◌^◌, ◌<◌, ◌≤◌, false, List, [], ◌∷◌, ◌++◌, Option, Some, None, map, min}
+use Rattle.std.proofs.lemmas.Bool.{cases_lt, eq-eqb, true≢false}
 use Rattle.std.proofs.Common.{refl, ap, sym, ◌∙◌, subst, append_assoc, arith}
 use Rattle.model_tree.specs.Syntax.{Program}
 use Rattle.model_says.specs.Says.{step_limit}
@@ -14,15 +15,16 @@ use Rattle.model_machine.specs.Outcomes.{end_of}
 use Rattle.model_machine.specs.Run.{Run, run, run_after, run_on, turns_over}
 use Rattle.model_machine.specs.State.{State, start}
 use Rattle.model_machine.specs.Turn.{is_stalled, turn}
-use Rattle.model_machine.specs.Went.{Went, Goes, Stops, answers_in}
+use Rattle.model_machine.specs.Went.{Went, Goes, Stops, answers_in, state_of}
 use Rattle.law_machine.proofs.Turns.{run-grows}
 use Rattle.aio_wire.specs.Told.{refused_of}
 use Rattle.aio_wire.specs.declared.stop.Stop.TheVariants as stop
 use Rattle.aio_extra.specs.Nothing.{nothing_added}
 use Rattle.aio_extra.specs.declared.nothing.NoExtra.{NoExtra}
-use Rattle.aio_core.specs.Turned.{Begins, Ends, EndsAs, GoesOn, StandsFor, TurnsTo, untaken}
-use Rattle.aio_core.specs.Asked.{Asks, AsksOnce}
-use Rattle.aio_core.specs.Turning.{AnyLeft, AsksBy, Is, IsMismatch, Takes}
+use Rattle.law_machine.specs.Growth as growth
+use Rattle.aio_core.specs.Turned.{Begins, Ends, EndsAs, GoesOn, StandsFor, TurnsTo, stood_for, untaken}
+use Rattle.aio_core.specs.Asked.{Asks}
+use Rattle.aio_core.specs.Turning.{AnyLeft, AsksBy, Is, IsMismatch, IsStarved, Takes, WireTurn}
 use Rattle.aio_core.proofs.Asked.{asks_none, asks_then}
 use Rattle.aio_core.specs.declared.kernel.Kernel.{Kernel}
 use Rattle.aio_core.specs.declared.went.Went as code
@@ -30,7 +32,7 @@ use Rattle.aio_core.specs.declared.went.Went.TheVariants as went
 use Rattle.aio_drive.specs.Ending.{EndedSo}
 use Rattle.aio_drive.specs.declared.driver.Manner.{Manner}
 use Rattle.aio_drive.proofs.Fronts.{append-nil, took-nil, took_on}
-use Rattle.aio_drive.proofs.Turns.{got-one, lines-append, run_on-last, run_on-turn}
+use Rattle.aio_drive.proofs.Turns.{lines-append, run_on-last, run_on-turn}
 
 -- The state of a run after some turns, over entries that are left: the kernel stands for it, and the run from the start is
 -- the run from it.
@@ -51,7 +53,6 @@ pub record IsDriven {g : _} (program : Program) (how : Manner) (made left : ℕ)
   pub told : (rest : List Entry) → Agrees now_seen.left rest → Agrees first_seen.left (past ++ rest)
   pub asked : Asks taken first_seen now_seen
   pub sink : now ≡ took first (lines_of_events how.trace taken)
-  pub got : answers_in taken ≤ made
   pub begun : made ≡ 0 → taken ≡ []
 
 none-taken : {g : _} (kernel : Kernel NoExtra g) (s : State (Unit {0})) → s.events ≡ [] → s.events ≡ [] ++ untaken kernel → untaken kernel ≡ []
@@ -75,7 +76,6 @@ running_first program how kernel seen sink begins =
       told = λ rest agrees. agrees;
       asked = asks_none seen;
       sink = sym (took-nil sink);
-      got = omega arith;
       begun = λ none. refl;
     }
 
@@ -166,6 +166,12 @@ module _ {g : _} {program : Program} {how : Manner} {made left : ℕ} {kernel : 
             ∙ ap (λ (es : List Event). record { events = es; end = end }) (told_all rest);
       }
 
+-- it is no want of memory, and the wire didn't fail
+abbrev pub IsTold : code.Went → Type 0
+IsTold (went.Stopped (stop.Failed call)) = ⊥
+IsTold (went.Stopped stop.Memory) = ⊥
+IsTold _ = Unit {0}
+
 -- a turn, by what was said of it
 module _ {g : _} {program : Program} {how : Manner} {made left : ℕ} {kernel : Kernel NoExtra g} {past : List Entry} {taken : List Event}
     {first_seen now_seen : WireSeen} {first sink : SinkSeen} (new : Kernel NoExtra g) (new_seen : WireSeen)
@@ -207,47 +213,47 @@ module _ {g : _} {program : Program} {how : Manner} {made left : ℕ} {kernel : 
       let it = ends_after had (Is wanted) takes turns rest agrees in
       ends_over (map Answered had ++ rest) (Is wanted) (takes rest agrees) it end (is ∙ sym it.way)
 
-  -- no count of answers is too great for its type
-  counted : how.turns ≤ 2 ^ 64 - 1 → (entries : List Entry) (end : End) (last : State (Unit {0}))
-      → turn step_limit no_extra (running.at entries).s ≡ Stops end last → min (answers_in last.events) (2 ^ 64 - 1) ≡ answers_in last.events
-  counted fits entries end last e =
-      let one = got-one (running.at entries).s (Stops end last) (running.at entries).stands.rests.1.stands.streams e in
-      let same = ap answers_in (told_all running entries) in
-      let got = running.got in
-      let turns = running.turns in
-      omega arith
+  -- a number that is held is the answer's
+  is_held : (count many : ℕ) → count ≡ min many (2 ^ 64 - 1) → (count == 2 ^ 64 - 1) ≡ false → count ≡ many
+  is_held count many is other = at (cases_lt many (2 ^ 64 - 1))
+    where
+      never : count ≡ 2 ^ 64 - 1 → ⊥
+      never same = true≢false (sym (eq-eqb count (2 ^ 64 - 1) same) ∙ other)
 
-  ends_misfit : how.turns ≤ 2 ^ 64 - 1 → (had : List Answer) (count : ℕ) (call : Call) → Takes now_seen.left new_seen.left had
+      at : (many < 2 ^ 64 - 1) ⊎ (2 ^ 64 - 1 ≤ many) → count ≡ many
+      at (inl less) = omega (arith, is, less)
+      at (inr more) = let most : count ≡ 2 ^ 64 - 1 = omega (arith, is, more) in absurd (never most)
+
+  ends_misfit : (had : List Answer) (count : ℕ) (call : Call) → (count == 2 ^ 64 - 1) ≡ false → Takes now_seen.left new_seen.left had
       → EndsAs nothing_added had AnyLeft (IsMismatch count call) kernel new
       → (end : End) → end ≡ ends.Mismatch count call → EndsHere program how made taken first_seen.left so_far end
-  ends_misfit fits had count call takes turns end is =
+  ends_misfit had count call held takes turns end is =
       let (rest, agrees) = agreed new_seen.left in
       let it = ends_after had (IsMismatch count call) takes turns rest agrees in
-      let count_is : count ≡ answers_in it.last.events = it.way.1 ∙ counted fits (map Answered had ++ rest) it.end it.last it.stops in
       ends_over (map Answered had ++ rest) (IsMismatch count call) (takes rest agrees) it end
-      (is ∙ ap (λ n. ends.Mismatch n call) count_is ∙ sym it.way.0)
+      (is ∙ ap (λ n. ends.Mismatch n call) (is_held count (answers_in it.last.events) it.way.1 held) ∙ sym it.way.0)
 
-  pub ended : how.turns ≤ 2 ^ 64 - 1 → (said : code.Went) → TurnsTo nothing_added now_seen new_seen kernel new said
+  pub ended : (said : code.Went) → TurnsTo nothing_added now_seen new_seen kernel new said
       → (end : End) → EndedSo end said → EndsHere program how made taken first_seen.left so_far end
-  ended fits went.Went comes end is = absurd is
-  ended fits (went.Finished outcome) (had, (takes, turns)) end is = ends_so had (end_of outcome) takes turns end is
-  ended fits went.Stalled (same, turns) end is =
+  ended went.Went comes end is = absurd is
+  ended (went.Finished outcome) (had, (takes, turns)) end is = ends_so had (end_of outcome) takes turns end is
+  ended went.Stalled (same, turns) end is =
       let (rest, agrees) = agreed now_seen.left in
       let it = turns taken rest (running.at rest).s tt (running.at rest).stands in
       ends_over rest (Is ends.Stalled) agrees it end (is ∙ sym it.way)
-  ended fits (went.Runaway task) (had, (takes, turns)) end is = ends_so had (ends.Runaway task) takes turns end is
-  ended fits (went.Stopped (stop.Mismatch count call)) (had, (takes, turns)) end is = ends_misfit fits had count call takes turns end is
-  ended fits (went.Stopped (stop.Over call)) (had, (agrees, turns)) end is =
+  ended (went.Runaway task) (had, (takes, turns)) end is = ends_so had (ends.Runaway task) takes turns end is
+  ended (went.Stopped (stop.Mismatch count call)) (had, (takes, turns)) end (is, held) = ends_misfit had count call held takes turns end is
+  ended (went.Stopped (stop.Over call)) (had, (agrees, turns)) end is =
       let entries = map Answered had ++ [] in
       let it = turns taken [] (running.at entries).s refl (running.at entries).stands in
       ends_over entries (Is (ends.Over call))
       (subst (λ (es : List Entry). Agrees now_seen.left es) (sym (append-nil (map Answered had))) agrees) it end (is ∙ sym it.way)
-  ended fits (went.Stopped (stop.Bad fault)) (had, ((rest, agrees), turns)) end is =
+  ended (went.Stopped (stop.Bad fault)) (had, ((rest, agrees), turns)) end is =
       let entries = map Answered had ++ refused_of fault ∷ rest in
       let it = turns taken (refused_of fault ∷ rest) (running.at entries).s (rest, refl) (running.at entries).stands in
       ends_over entries (Is (ends.JournalRefused fault.line fault.cause)) agrees it end (is ∙ sym it.way)
-  ended fits (went.Stopped (stop.Failed call)) comes end is = absurd is
-  ended fits (went.Stopped stop.Memory) comes end is = absurd is
+  ended (went.Stopped (stop.Failed call)) comes end is = absurd is
+  ended (went.Stopped stop.Memory) comes end is = absurd is
 
   had_so_far : (had : List Answer) (rest : List Entry) → past ++ (map Answered had ++ rest) ≡ (past ++ (map Answered had ++ [])) ++ rest
   had_so_far had rest = simp (append_assoc, append-nil)
@@ -329,53 +335,78 @@ module _ {g : _} {program : Program} {how : Manner} {made left : ℕ} {kernel : 
           sink =
               took_on first sink sink_after (lines_of_events how.trace taken) (lines_of_events how.trace (untaken new)) running.sink wrote
               ∙ ap (took first) (sym (lines-append how.trace taken (untaken new)));
-          got =
-              let (now, (went, stands)) = goes_over [] in
-              let one = got-one (running.at (map Answered had ++ [])).s (Goes now) (running.at (map Answered had ++ [])).stands.rests.1.stands.streams went in
-              let before = ap answers_in (told_all running (map Answered had ++ [])) in
-              let after = ap answers_in stands.events in
-              let got = running.got in
-              omega arith;
           begun = λ none. absurd (omega arith);
         }
 
+  -- ---- the first of the run, whatever came of the turn
+  here_of : (end : End) → EndsHere program how made taken first_seen.left so_far end → GoesOnHere program how made taken first_seen.left so_far
+  here_of end here = record {
+    entries = here.entries;
+    before = here.before;
+    agrees = here.agrees;
+    more = [];
+    is = ap (λ (it : Run). it.events) here.is ∙ sym (append-nil so_far);
+  }
+
+  -- all that was told is the first of it
+  pub told_here : (said : code.Went) → IsTold said → TurnsTo nothing_added now_seen new_seen kernel new said
+      → GoesOnHere program how made taken first_seen.left so_far
+  told_here went.Went told (had, (takes, goes)) = goes_further had takes goes
+  told_here (went.Finished outcome) told comes = here_of (end_of outcome) (ended (went.Finished outcome) comes (end_of outcome) refl)
+  told_here went.Stalled told comes = here_of ends.Stalled (ended went.Stalled comes ends.Stalled refl)
+  told_here (went.Runaway task) told comes = here_of (ends.Runaway task) (ended (went.Runaway task) comes (ends.Runaway task) refl)
+  told_here (went.Stopped (stop.Over call)) told comes =
+      here_of (ends.Over call) (ended (went.Stopped (stop.Over call)) comes (ends.Over call) refl)
+  told_here (went.Stopped (stop.Bad fault)) told comes =
+      here_of (ends.JournalRefused fault.line fault.cause) (ended (went.Stopped (stop.Bad fault)) comes (ends.JournalRefused fault.line fault.cause) refl)
+  told_here (went.Stopped (stop.Mismatch count call)) told (had, (takes, turns)) =
+      let (rest, agrees) = agreed new_seen.left in
+      let it = ends_after had (IsMismatch count call) takes turns rest agrees in
+      here_of it.end (ends_over (map Answered had ++ rest) (IsMismatch count call) (takes rest agrees) it it.end refl)
+  told_here (went.Stopped (stop.Failed call)) told comes = absurd told
+  told_here (went.Stopped stop.Memory) told comes = absurd told
+
+  -- where memory was refused in it, what was asked by then is
+  after_grows : (went : Went (Unit {0})) → growth.GoesOn (state_of went).events (run_after (run_on step_limit no_extra how.turns left) went).events
+  after_grows (Goes now) = run-grows step_limit no_extra how.turns left now
+  after_grows (Stops end last) = ([], sym (append-nil last.events))
+
+  pub starved_here : (wire : WireTurn) → wire.before ≡ now_seen
+      → (it : IsStarved no_extra wire (stood_for nothing_added kernel) (untaken kernel)) → GoesOnHere program how made taken first_seen.left (taken ++ it.first)
+  starved_here wire same it =
+      let entries = map Answered it.had ++ it.left.0 in
+      let here = running.at entries in
+      let begun = it.begins taken it.left.0 here.s here.stands in
+      let grown = after_grows (turn step_limit no_extra here.s) in
+      record {
+        entries = past ++ entries;
+        before = ran_so_far running entries;
+        agrees = running.told entries (subst (λ (w : WireSeen). Agrees w.left entries) same it.left.1);
+        more = begun.0 ++ grown.0;
+        is =
+            ap (λ (r : Run). r.events) (on_turn entries (turn step_limit no_extra here.s) refl) ∙ grown.1
+            ∙ ap (λ (es : List Event). es ++ grown.0) begun.1 ∙ append_assoc (taken ++ (untaken kernel ++ it.first)) begun.0 grown.0
+            ∙ ap (λ (es : List Event). (taken ++ (es ++ it.first)) ++ (begun.0 ++ grown.0)) running.none;
+      }
+
   -- ---- what the wire was asked
-  module _ (said : code.Went) (asks : AsksBy (untaken kernel) (untaken new) now_seen new_seen said) where
-    once_so : (it : code.Went) → AsksBy (untaken kernel) (untaken new) now_seen new_seen it → AsksOnce now_seen new_seen
-    once_so went.Went asked = asked.0
-    once_so (went.Finished outcome) asked = asked.0
-    once_so went.Stalled asked = asked.0
-    once_so (went.Runaway task) asked = asked.0
-    once_so (went.Stopped (stop.Over call)) asked = asked.0
-    once_so (went.Stopped (stop.Bad fault)) asked = asked.0
-    once_so (went.Stopped (stop.Mismatch count call)) asked = asked.0
-    once_so (went.Stopped (stop.Failed call)) asked = asked.0
-    once_so (went.Stopped stop.Memory) asked = asked
+  pub asked_all : (said : code.Went) → AsksBy (untaken kernel) (untaken new) now_seen new_seen said → (said ≡ went.Stopped stop.Memory → ⊥)
+      → Asks so_far first_seen new_seen
+  asked_all said asks goes =
+      asks_then taken (untaken new) first_seen now_seen new_seen running.asked (at said goes asks)
+    where
+      told : (told : List Event) × ((untaken new ≡ untaken kernel ++ told) × Asks told now_seen new_seen) → Asks (untaken new) now_seen new_seen
+      told (events, (is, asked)) =
+          subst (λ es. Asks es now_seen new_seen) (sym (is ∙ ap (λ es. es ++ events) running.none)) asked
 
-    -- in it
-    pub asked_once : AsksOnce now_seen new_seen
-    asked_once = once_so said asks
-
-    -- from the first on
-    pub asked_more : Asks (taken ++ asked_once.0) first_seen new_seen
-    asked_more = asks_then taken asked_once.0 first_seen now_seen new_seen running.asked asked_once.2
-
-    pub asked_all : (said ≡ went.Stopped stop.Memory → ⊥) → Asks so_far first_seen new_seen
-    asked_all goes =
-        asks_then taken (untaken new) first_seen now_seen new_seen running.asked (at said goes asks)
-      where
-        told : (it : AsksOnce now_seen new_seen) × (untaken new ≡ untaken kernel ++ it.0) → Asks (untaken new) now_seen new_seen
-        told (it, is) =
-            subst (λ es. Asks es now_seen new_seen) (sym (is ∙ ap (λ es. es ++ it.0) running.none)) it.2
-
-        at : (it : code.Went) → (it ≡ went.Stopped stop.Memory → ⊥) → AsksBy (untaken kernel) (untaken new) now_seen new_seen it
-            → Asks (untaken new) now_seen new_seen
-        at went.Went goes asked = told asked
-        at (went.Finished outcome) goes asked = told asked
-        at went.Stalled goes asked = told asked
-        at (went.Runaway task) goes asked = told asked
-        at (went.Stopped (stop.Over call)) goes asked = told asked
-        at (went.Stopped (stop.Bad fault)) goes asked = told asked
-        at (went.Stopped (stop.Mismatch count call)) goes asked = told asked
-        at (went.Stopped (stop.Failed call)) goes asked = told asked
-        at (went.Stopped stop.Memory) goes asked = absurd (goes refl)
+      at : (it : code.Went) → (it ≡ went.Stopped stop.Memory → ⊥) → AsksBy (untaken kernel) (untaken new) now_seen new_seen it
+          → Asks (untaken new) now_seen new_seen
+      at went.Went goes asked = told asked
+      at (went.Finished outcome) goes asked = told asked
+      at went.Stalled goes asked = told asked
+      at (went.Runaway task) goes asked = told asked
+      at (went.Stopped (stop.Over call)) goes asked = told asked
+      at (went.Stopped (stop.Bad fault)) goes asked = told asked
+      at (went.Stopped (stop.Mismatch count call)) goes asked = told asked
+      at (went.Stopped (stop.Failed call)) goes asked = told asked
+      at (went.Stopped stop.Memory) goes asked = absurd (goes refl)

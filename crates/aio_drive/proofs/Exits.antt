@@ -1,10 +1,10 @@
 -- What is known of a turn by what was said of it.
-use Rattle.std.proofs.Common.{◌≡◌, ℕ, zero, suc, List, [], ◌++◌, ◌⊎◌, inl, inr, refl, ap, sym, ◌∙◌, subst}
+use Rattle.std.proofs.Common.{◌≡◌, ℕ, ◌≤◌, zero, suc, List, [], ◌∷◌, ◌++◌, ◌⊎◌, inl, inr, length, refl, ap, sym, ◌∙◌, subst, append_assoc, arith}
 use Rattle.model_tree.specs.Syntax.{Program}
 use Rattle.model_says.specs.Says.{step_limit}
 use Rattle.model_wire.specs.declared.event.End.TheVariants as ends
 use Rattle.model_wire.specs.Call.{Call}
-use Rattle.model_wire.specs.Event.{Event}
+use Rattle.model_wire.specs.Event.{Event, calls_in}
 use Rattle.model_wire.specs.Journal.{Entry}
 use Rattle.model_wire.specs.Told.{Rose, SinkSeen, WireSeen}
 use Rattle.model_wire.specs.Trace.{End, lines_of_events}
@@ -15,9 +15,11 @@ use Rattle.model_machine.specs.Went.{Stops}
 use Rattle.aio_wire.specs.declared.stop.Stop.TheVariants as stop
 use Rattle.aio_extra.specs.Nothing.{nothing_added}
 use Rattle.aio_extra.specs.declared.nothing.NoExtra.{NoExtra}
-use Rattle.aio_core.specs.Asked.{Asks, AsksOnce}
-use Rattle.aio_core.specs.Turned.{TurnsTo, untaken}
-use Rattle.aio_core.specs.Turning.{AsksBy, OfFailing, UnlessFailed}
+use Rattle.aio_core.specs.Asked.{Asks}
+use Rattle.aio_core.specs.Turned.{TurnsTo, stood_for, untaken}
+use Rattle.aio_core.specs.Turning.{AsksBy, IsStarved, OfFailing, StarvesAs, UnlessFailed, WireTurn}
+use Rattle.aio_core.proofs.Asked.{asks_then}
+use Rattle.aio_record.proofs.Growing.{recorded-append}
 use Rattle.aio_core.specs.declared.kernel.Kernel.{Kernel}
 use Rattle.aio_core.specs.declared.went.Went as code
 use Rattle.aio_core.specs.declared.went.Went.TheVariants as went
@@ -28,7 +30,7 @@ use Rattle.aio_drive.specs.Outcome.{EndsEarly}
 use Rattle.aio_drive.specs.Recording.{Recording}
 use Rattle.aio_drive.specs.declared.driver.Manner.{Manner}
 use Rattle.aio_drive.specs.declared.halt.Halt.TheVariants.{Memory}
-use Rattle.aio_drive.proofs.Driving.{GoesOnHere, IsDriven, asked_all, asked_more, asked_once, fails_so, goes_on_here}
+use Rattle.aio_drive.proofs.Driving.{GoesOnHere, IsDriven, IsTold, asked_all, fails_so, starved_here, told_here}
 use Rattle.aio_drive.proofs.Fronts.{append-nil, took-nil}
 use Rattle.aio_drive.proofs.Telling.{records_none}
 use Rattle.aio_drive.proofs.Written.{fails_silent, goes_early, nothing_at_all}
@@ -67,70 +69,131 @@ ended-quiet said end fact is quiet = at (failed_or said fact quiet)
 module _ {g : _} {program : Program} {how : Manner} {made left : ℕ} {kernel : Kernel NoExtra g} {past : List Entry} {taken : List Event}
     {first_seen now_seen : WireSeen} {first sink : SinkSeen} (new : Kernel NoExtra g) (new_seen : WireSeen)
     (running : IsDriven program how made (suc left) kernel past taken first_seen now_seen first sink) where
-  -- no run ends in its first turn over a wire that fails at each call
-  pub alive : (said : code.Went) → TurnsTo nothing_added now_seen new_seen kernel new said → (end : End) → EndedSo end said
-      → OfFailing said → made ≡ 0 → ⊥
-  alive went.Went comes end is failing none = failing
-  alive (went.Finished outcome) comes end is failing none = failing
-  alive went.Stalled (same, turns) end is failing none =
+  -- nothing of a run is told in its first turn over a wire that fails at each call
+  pub alive : (said : code.Went) → TurnsTo nothing_added now_seen new_seen kernel new said → IsTold said → OfFailing said → made ≡ 0 → ⊥
+  alive went.Went comes told failing none = failing
+  alive (went.Finished outcome) comes told failing none = failing
+  alive went.Stalled (same, turns) told failing none =
       let here = running.at [] in
       let it = turns taken [] here.s tt here.stands in
       start-asks program it.last
       (subst (λ (s : State (Unit {0})). turn step_limit no_extra s ≡ Stops ends.Stalled it.last) (here.begun none)
       (it.stops ∙ ap (λ (e : End). Stops e it.last) it.way))
-  alive (went.Runaway task) comes end is failing none = failing
-  alive (went.Stopped (stop.Over call)) comes end is failing none = failing
-  alive (went.Stopped (stop.Bad fault)) comes end is failing none = failing
-  alive (went.Stopped (stop.Mismatch count call)) comes end is failing none = failing
-  alive (went.Stopped (stop.Failed call)) comes end is failing none = is
-  alive (went.Stopped stop.Memory) comes end is failing none = is
+  alive (went.Runaway task) comes told failing none = failing
+  alive (went.Stopped (stop.Over call)) comes told failing none = failing
+  alive (went.Stopped (stop.Bad fault)) comes told failing none = failing
+  alive (went.Stopped (stop.Mismatch count call)) comes told failing none = failing
+  alive (went.Stopped (stop.Failed call)) comes told failing none = told
+  alive (went.Stopped stop.Memory) comes told failing none = told
+
+-- a turn with which the run ended tells of it
+pub ended-told : (said : code.Went) (end : End) → EndedSo end said → IsTold said
+ended-told went.Went end so = tt
+ended-told (went.Finished outcome) end so = tt
+ended-told went.Stalled end so = tt
+ended-told (went.Runaway task) end so = tt
+ended-told (went.Stopped (stop.Over call)) end so = tt
+ended-told (went.Stopped (stop.Bad fault)) end so = tt
+ended-told (went.Stopped (stop.Mismatch count call)) end so = tt
+ended-told (went.Stopped (stop.Failed call)) end so = so
+ended-told (went.Stopped stop.Memory) end so = so
 
 -- Memory was refused in the turn, or after it: nothing more was recorded or written.
 module _ {g : _} {program : Program} {how : Manner} {made left : ℕ} {kernel : Kernel NoExtra g} {past : List Entry} {taken : List Event}
-    {now : WireSeen} {first sink : SinkSeen} (new : Kernel NoExtra g) (seen last : WireSeen) (fault : End) (fails quiet : Type 0) (shelf : Recording) (same : Type 0)
-    (running : IsDriven program how made (suc left) kernel past taken seen now first sink) (rose : Rose now.faults last.faults → Rose seen.faults last.faults)
-    (first_turn : fails → made ≡ 0) (said : code.Went) (asks : AsksBy (untaken kernel) (untaken new) now last said)
+    {now : WireSeen} {first sink : SinkSeen} (new : Kernel NoExtra g) (seen last : WireSeen) (fault : End) (fails fails_now quiet : Type 0)
+    (shelf : Recording) (same : Type 0) (running : IsDriven program how made (suc left) kernel past taken seen now first sink)
+    (rose : Rose now.faults last.faults → Rose seen.faults last.faults) (fails_then : fails → (made ≡ 0) × fails_now)
     (noted : Records shelf.name (recorded taken) shelf.old shelf.new) (unmade : made ≡ 0 → same) where
   abbrev it : Driven
   it = driven_over seen last fails quiet shelf same
 
+  abbrev over : Type 0 → WireTurn
+  over quiet_now = record { before = now; after = last; fails = fails_now; quiet = quiet_now }
+
   abbrev EndsUnsaid : SinkSeen → SinkSeen → Type 0
   EndsUnsaid old late = EndsEarly (MayDrive program how fault (wire_by it (TellsUntil Memory it))) (IsUntold it) old late Memory
 
-  abbrev once : AsksOnce now last
-  once = asked_once new last running said asks
-
-  -- what was asked so far, and one call at most
-  once_all : taken ≡ [] → AsksOnce seen last
-  once_all none =
-      (once.0, once.1, subst (λ es. Asks (es ++ once.0) seen last) none (asked_more new last running said asks))
-
-  here : GoesOnHere program how made taken seen.left (taken ++ [])
-  here = subst (λ (es : List Event). GoesOnHere program how made taken seen.left es) (sym (append-nil taken)) (goes_on_here running)
-
-  by_turns : quiet → (n : ℕ) → made ≡ n → EndsUnsaid first sink
-  by_turns holds zero none =
-      nothing_at_all (MayDrive program how fault (wire_by it (TellsUntil Memory it))) (IsUntold it) first sink
-      (lines_of_events how.trace taken) running.sink (ap (lines_of_events how.trace) (running.begun none))
-      ((holds, once_all (running.begun none)), unmade none)
-  by_turns holds (suc n) some =
-      goes_early program how fault it made first sink sink shelf.new taken [] running.sink noted here
-      (λ is. absurd (cc (first_turn is)), holds) Memory (
-        taken,
+  -- these events were told besides, and one call more was asked at most
+  cut_there : (more besides : List Event) → GoesOnHere program how made taken seen.left (taken ++ more) → (fails → ⊥) → quiet
+      → length (calls_in besides) ≤ 1 → Asks ((taken ++ more) ++ besides) seen last → EndsUnsaid first sink
+  cut_there more besides here alive_ holds one asked =
+      goes_early program how fault it made first sink sink shelf.new taken more running.sink noted here (alive_, holds) Memory (
+        taken ++ more,
         here.more,
-        here.is ∙ ap (λ es. es ++ here.more) (append-nil taken),
-        (once.0, once.1, asked_more new last running said asks),
-        (recorded taken, ([], append-nil (recorded taken)), noted),
-      ) ([], ([], refl), sym (took-nil sink))
+        here.is,
+        (besides, one, asked),
+        (recorded taken, (recorded more, sym (recorded-append taken more)), noted),
+      ) ([], (lines_of_events how.trace more, refl), sym (took-nil sink))
 
-  pub refused : TurnsTo nothing_added now last kernel new said → UnlessFailed quiet said → EndsUnsaid first sink
-  refused comes still = at (failed_or said quiet still)
+  -- a turn that was made
+  told_there : (said : code.Went) → IsTold said → TurnsTo nothing_added now last kernel new said → (fails_now → OfFailing said) → quiet
+      → Asks (taken ++ untaken new) seen last → EndsUnsaid first sink
+  told_there said told comes failing holds asked =
+      cut_there (untaken new) [] (told_here new last running said told comes)
+      (λ all. let (none, now_fails) = fails_then all in alive new last running said comes told (failing now_fails) none) holds (omega arith)
+      (subst (λ es. Asks es seen last) (sym (append-nil (taken ++ untaken new))) asked)
+
+  -- one in which memory was refused
+  module _ (quiet_now : Type 0)
+      (starved : IsStarved no_extra (over quiet_now) (stood_for nothing_added kernel) (untaken kernel))
+      (holds : quiet) where
+    all_asked : Asks ((taken ++ starved.first) ++ starved.more) seen last
+    all_asked =
+        subst (λ es. Asks es seen last) (sym (append_assoc taken starved.first starved.more))
+        (asks_then taken (starved.first ++ starved.more) seen now last running.asked starved.asks)
+
+    hungry : (fails → ⊥) → EndsUnsaid first sink
+    hungry alive_ =
+        cut_there starved.first starved.more (starved_here new last running (over quiet_now) refl starved) alive_ holds starved.one all_asked
+
+    -- nothing was asked but one call at most
+    unbegun : made ≡ 0 → starved.first ≡ [] → EndsUnsaid first sink
+    unbegun none empty =
+        nothing_at_all (MayDrive program how fault (wire_by it (TellsUntil Memory it))) (IsUntold it) first sink
+        (lines_of_events how.trace taken) running.sink (ap (lines_of_events how.trace) (running.begun none)) (
+          (
+            holds,
+            (
+              starved.more,
+              starved.one,
+              subst (λ es. Asks (es ++ starved.more) seen last) (ap (λ es. es ++ starved.first) (running.begun none) ∙ empty) all_asked,
+            ),
+          ),
+          unmade none,
+        )
+
+    starves : EndsUnsaid first sink
+    starves = by_turns made refl
+      where
+        some : (es : List Event) → starved.first ≡ es → made ≡ 0 → EndsUnsaid first sink
+        some [] empty none = unbegun none empty
+        some (e ∷ es) is none = hungry (λ all. absurd (let empty = sym is ∙ starved.failing (fails_then all).1 in cc empty))
+
+        by_turns : (n : ℕ) → made ≡ n → EndsUnsaid first sink
+        by_turns zero none = some starved.first refl none
+        by_turns (suc n) is = hungry (λ all. absurd (let none = sym is ∙ (fails_then all).0 in cc none))
+
+  pub refused : (quiet_now : Type 0) (said : code.Went) → TurnsTo nothing_added now last kernel new said → UnlessFailed quiet said
+      → AsksBy (untaken kernel) (untaken new) now last said
+      → StarvesAs no_extra (over quiet_now) (stood_for nothing_added kernel) (untaken kernel) said
+      → (fails_now → OfFailing said) → EndsUnsaid first sink
+  refused quiet_now said comes still asks starved failing = at said comes still (λ other. asked_all new last running said asks other) starved failing
     where
-      at : ((call : Call) × (said ≡ went.Stopped (stop.Failed call))) ⊎ quiet → EndsUnsaid first sink
-      at (inl (call, failed)) =
-          let so = subst (λ (w : code.Went). TurnsTo nothing_added now last kernel new w) failed comes in
+      at : (said : code.Went) → TurnsTo nothing_added now last kernel new said → UnlessFailed quiet said
+          → ((said ≡ went.Stopped stop.Memory → ⊥) → Asks (taken ++ untaken new) seen last)
+          → StarvesAs no_extra (over quiet_now) (stood_for nothing_added kernel) (untaken kernel) said
+          → (fails_now → OfFailing said) → EndsUnsaid first sink
+      at went.Went comes still asked starved failing = told_there went.Went tt comes failing still (asked (λ e. cc e))
+      at (went.Finished outcome) comes still asked starved failing = told_there (went.Finished outcome) tt comes failing still (asked (λ e. cc e))
+      at went.Stalled comes still asked starved failing = told_there went.Stalled tt comes failing still (asked (λ e. cc e))
+      at (went.Runaway task) comes still asked starved failing = told_there (went.Runaway task) tt comes failing still (asked (λ e. cc e))
+      at (went.Stopped (stop.Over call)) comes still asked starved failing =
+          told_there (went.Stopped (stop.Over call)) tt comes failing still (asked (λ e. cc e))
+      at (went.Stopped (stop.Bad bad)) comes still asked starved failing =
+          told_there (went.Stopped (stop.Bad bad)) tt comes failing still (asked (λ e. cc e))
+      at (went.Stopped (stop.Mismatch count call)) comes still asked starved failing =
+          told_there (went.Stopped (stop.Mismatch count call)) tt comes failing still (asked (λ e. cc e))
+      at (went.Stopped (stop.Failed call)) comes still asked starved failing =
           fails_silent program how fault it made first sink sink shelf.new taken (untaken new) running.sink noted
-          (fails_so new last running call so) (rose so.1.2)
-          (asked_all new last running said asks (λ none. absurd (let e = sym failed ∙ none in cc e)))
-          (records_none shelf.name shelf.new) refl
-      at (inr holds) = by_turns holds made refl
+          (fails_so new last running call comes) (rose comes.1.2) (asked (λ e. cc e)) (records_none shelf.name shelf.new) refl
+      at (went.Stopped stop.Memory) comes still asked starved failing = starves quiet_now starved still

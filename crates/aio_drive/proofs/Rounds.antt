@@ -1,5 +1,6 @@
 -- A round of the driver's loop: a turn was made of a run under way, and its lines are written.
-use Rattle.std.proofs.Common.{◌≡◌, ℕ, zero, suc, ◌+◌, ◌-◌, ◌^◌, ◌<◌, ◌≤◌, List, [], ◌++◌, Option, Some, None, Ok, Err, map, refl, ap, sym, ◌∙◌, subst, arith}
+use Rattle.std.proofs.Common.{◌≡◌, ◌==◌, ℕ, zero, suc, ◌+◌, ◌-◌, ◌^◌, ◌<◌, ◌≤◌, Bool, true, false, List, [], ◌++◌, Option, Some, None, Ok, Err, map, refl}
+use Rattle.std.proofs.Common.{ap, sym, ◌∙◌, subst, arith}
 use Rattle.model_tree.specs.Syntax.{Program}
 use Rattle.model_wire.specs.declared.event.End.TheVariants as ends
 use Rattle.model_wire.specs.Call.{Answer, Call}
@@ -23,7 +24,7 @@ use Rattle.aio_core.specs.declared.went.Went as code
 use Rattle.aio_core.specs.declared.went.Went.TheVariants as went
 use Rattle.aio_drive.specs.Drive.{CutsShort, Driven, LastOf, MayTell, Undisturbed, driven_over}
 use Rattle.aio_drive.specs.Ending.{EndedSo, WroteLast, WroteTurn}
-use Rattle.aio_drive.specs.Recording.{CutsTurn, Recording, StopsTelling, TellsTurn, is_refused, telling}
+use Rattle.aio_drive.specs.Recording.{CutsMisfit, CutsTurn, Recording, StopsTelling, TellsTurn, is_refused, telling}
 use Rattle.aio_drive.specs.Writing.{StopsWriting}
 use Rattle.aio_drive.specs.declared.cut.Cut.{Cut}
 use Rattle.aio_drive.specs.declared.cut.Cut.TheVariants.{Halted}
@@ -32,7 +33,7 @@ use Rattle.aio_drive.specs.declared.halt.Halt.{Halt}
 use Rattle.aio_drive.specs.declared.halt.Halt.TheVariants.{Memory}
 use Rattle.aio_drive.proofs.Driving.{EndsHere, FailsHere, GoesOnHere, IsDriven, asked_all, ended, ends_last, fails, goes_further, goes_on_here, rose_earlier}
 use Rattle.aio_drive.proofs.Driving.{running_first, turned_on}
-use Rattle.aio_drive.proofs.Exits.{alive, ended-quiet, refused, said_as}
+use Rattle.aio_drive.proofs.Exits.{alive, ended-quiet, ended-told, refused, said_as}
 use Rattle.aio_drive.proofs.Fronts.{append-nil, took-nil}
 use Rattle.aio_drive.proofs.Telling.{records_events, records_none, stops_after}
 use Rattle.aio_drive.proofs.Written.{ends_early, ends_whole, fails_early, fails_whole, goes_cut}
@@ -106,14 +107,14 @@ module _ {g : _} {program : Program} {how : Manner} {made left : ℕ} {kernel ne
   asked_at : (w : code.Went) → result ≡ w → (w ≡ went.Stopped stop.Memory → ⊥) → Asks (taken ++ untaken new) seen last
   asked_at w is other = asked_all new last running said asks_now (λ none. other (sym (said_so w is other) ∙ none))
 
-  ends_at : how.turns ≤ 2 ^ 64 - 1 → (end : End) → EndedSo end said
+  ends_at : (end : End) → EndedSo end said
       → EndsHere program how made taken seen.left (taken ++ untaken new) end × Undisturbed fails_first quiet
-  ends_at fits end what = (
-    ended new last running fits said turned.turns end what,
+  ends_at end what = (
+    ended new last running said turned.turns end what,
     (
       λ fails.
           let (none, here) = fails_then fails in
-          alive new last running said turned.turns end what (turned.failing here) none,
+          alive new last running said turned.turns (ended-told said end what) (turned.failing here) none,
       quietly (ended-quiet said end quiet_now what turned.still),
     ),
   )
@@ -150,9 +151,9 @@ module _ {g : _} {program : Program} {how : Manner} {made left : ℕ} {kernel ne
     -- nothing more was recorded or written
     pub refused_at : mid ≡ shelf.new → (made ≡ 0 → same) → CutsShort program how fault it first sink (Halted Memory)
     refused_at unnoted unmade =
-        refused new seen last fault fails_first quiet shelf same running (rose_earlier seen.faults now.faults last.faults later)
-        (λ fails. (fails_then fails).0) said asks_now
-        (subst (λ (s : ShelfSeen). Records shelf.name (recorded taken) shelf.old s) unnoted noted) unmade turned.turns (still_as said turned.still)
+        refused new seen last fault fails_first fails_now quiet shelf same running (rose_earlier seen.faults now.faults last.faults later) fails_then
+        (subst (λ (s : ShelfSeen). Records shelf.name (recorded taken) shelf.old s) unnoted noted) unmade quiet_now said turned.turns
+        (still_as said turned.still) asks_now (let here = running.at [] in turned.starved taken [] here.s here.stands) turned.failing
       where
         still_as : (w : code.Went) → UnlessFailed quiet_now w → UnlessFailed quiet w
         still_as went.Went still = quietly still
@@ -186,77 +187,85 @@ module _ {g : _} {program : Program} {how : Manner} {made left : ℕ} {kernel ne
       records : Records shelf.name (recorded events) mid shelf.new → Records shelf.name (recorded (untaken new)) mid shelf.new
       records done = subst (λ (es : List Event). Records shelf.name (recorded es) mid shelf.new) out done
 
-      ends_ok : how.turns ≤ 2 ^ 64 - 1 → (end : End) (w : code.Went) → result ≡ w → (w ≡ went.Stopped stop.Memory → ⊥) → EndedSo end w
+      ends_ok : (end : End) (w : code.Went) → result ≡ w → (w ≡ went.Stopped stop.Memory → ⊥) → EndedSo end w
           → Records shelf.name (recorded events) mid shelf.new → (status : ℕ) → WroteLast end lines sink final (Some status)
           → WritesWhole (MayTell program how fault it) first final status
-      ends_ok fits end w is other so done status (said_status, wrote) =
-          let (here, still) = ends_at fits end (subst (λ (w : code.Went). EndedSo end w) (sym (said_so w is other)) so) in
+      ends_ok end w is other so done status (said_status, wrote) =
+          let (here, still) = ends_at end (subst (λ (w : code.Went). EndedSo end w) (sym (said_so w is other)) so) in
           ends_whole program how fault it made first sink final mid taken (untaken new) running.sink noted here still
           (asked_at w is other) (records done) status (some_is said_status)
           (wrote ∙ ap (λ (es : List Event). took sink (lines_of_events how.trace es ++ line (end_text end))) out)
 
-      ends_err : how.turns ≤ 2 ^ 64 - 1 → (end : End) (w : code.Went) → result ≡ w → (w ≡ went.Stopped stop.Memory → ⊥) → EndedSo end w
+      ends_err : (end : End) (w : code.Went) → result ≡ w → (w ≡ went.Stopped stop.Memory → ⊥) → EndedSo end w
           → (cut : Cut) → StopsTelling here_on (recorded events) (lines ++ line (end_text end)) sink final cut
           → CutsShort program how fault it first final cut
-      ends_err fits end w is other so cut stops =
-          let (here, still) = ends_at fits end (subst (λ (w : code.Went). EndedSo end w) (sym (said_so w is other)) so) in
+      ends_err end w is other so cut stops =
+          let (here, still) = ends_at end (subst (λ (w : code.Went). EndedSo end w) (sym (said_so w is other)) so) in
           ends_early program how fault it made first sink final mid taken (untaken new) running.sink noted here still
           (asked_at w is other) fewer cut (tells (λ t. t ++ line (end_text end)) cut stops)
 
-      ended_so : how.turns ≤ 2 ^ 64 - 1 → (w : code.Went) → result ≡ w → Records shelf.name (recorded events) mid shelf.new → (status : ℕ)
+      ended_so : (w : code.Went) → result ≡ w → is_refused w ≡ false → Records shelf.name (recorded events) mid shelf.new → (status : ℕ)
           → WroteTurn fault lines sink final (Some status) w → WritesWhole (MayTell program how fault it) first final status
-      ended_so fits went.Went is done status (none, wrote) = absurd (cc none)
-      ended_so fits (went.Finished outcome) is done status written =
-          ends_ok fits (end_of outcome) (went.Finished outcome) is (λ e. cc e) refl done status written
-      ended_so fits went.Stalled is done status written = ends_ok fits ends.Stalled went.Stalled is (λ e. cc e) refl done status written
-      ended_so fits (went.Runaway task) is done status written =
-          ends_ok fits (ends.Runaway task) (went.Runaway task) is (λ e. cc e) refl done status written
-      ended_so fits (went.Stopped (stop.Over call)) is done status written =
-          ends_ok fits (ends.Over call) (went.Stopped (stop.Over call)) is (λ e. cc e) refl done status written
-      ended_so fits (went.Stopped (stop.Bad bad)) is done status written =
-          ends_ok fits (ends.JournalRefused bad.line bad.cause) (went.Stopped (stop.Bad bad)) is (λ e. cc e) refl done status written
-      ended_so fits (went.Stopped (stop.Mismatch count call)) is done status written =
-          ends_ok fits (ends.Mismatch count call) (went.Stopped (stop.Mismatch count call)) is (λ e. cc e) refl done status written
-      ended_so fits (went.Stopped (stop.Failed call)) is done status (said_status, wrote) =
+      ended_so went.Went is held done status (none, wrote) = absurd (cc none)
+      ended_so (went.Finished outcome) is held done status written =
+          ends_ok (end_of outcome) (went.Finished outcome) is (λ e. cc e) refl done status written
+      ended_so went.Stalled is held done status written = ends_ok ends.Stalled went.Stalled is (λ e. cc e) refl done status written
+      ended_so (went.Runaway task) is held done status written =
+          ends_ok (ends.Runaway task) (went.Runaway task) is (λ e. cc e) refl done status written
+      ended_so (went.Stopped (stop.Over call)) is held done status written =
+          ends_ok (ends.Over call) (went.Stopped (stop.Over call)) is (λ e. cc e) refl done status written
+      ended_so (went.Stopped (stop.Bad bad)) is held done status written =
+          ends_ok (ends.JournalRefused bad.line bad.cause) (went.Stopped (stop.Bad bad)) is (λ e. cc e) refl done status written
+      ended_so (went.Stopped (stop.Mismatch count call)) is held done status written =
+          ends_ok (ends.Mismatch count call) (went.Stopped (stop.Mismatch count call)) is (λ e. cc e) (refl, held) done status written
+      ended_so (went.Stopped (stop.Failed call)) is held done status (said_status, wrote) =
           let (here, rose) = fails_at call (said_so (went.Stopped (stop.Failed call)) is (λ e. cc e)) in
           fails_whole program how fault it made first sink final mid taken (untaken new) running.sink noted here rose
           (asked_at (went.Stopped (stop.Failed call)) is (λ e. cc e)) (records done) status (some_is said_status)
           (wrote ∙ ap (λ (es : List Event). took sink (lines_of_events how.trace es ++ line (end_text fault))) out)
-      ended_so fits (went.Stopped stop.Memory) is done status none = absurd none
+      ended_so (went.Stopped stop.Memory) is held done status none = absurd none
 
       -- a run that ended with this turn
-      pub turn_ok : how.turns ≤ 2 ^ 64 - 1 → Records shelf.name (recorded events) mid shelf.new → (told : Option ℕ) (status : ℕ) → told ≡ Some status
+      pub turn_ok : is_refused result ≡ false → Records shelf.name (recorded events) mid shelf.new → (told : Option ℕ) (status : ℕ) → told ≡ Some status
           → WroteTurn fault lines sink final told result → WritesWhole (MayTell program how fault it) first final status
-      turn_ok fits done told status is written =
-          ended_so fits result refl done status (subst (λ (s : Option ℕ). WroteTurn fault lines sink final s result) is written)
+      turn_ok held done told status is written =
+          ended_so result refl held done status (subst (λ (s : Option ℕ). WroteTurn fault lines sink final s result) is written)
+
+      -- nothing was told of it
+      refused_so : mid ≡ shelf.new → (made ≡ 0 → same) → (cut : Cut) → cut ≡ Halted Memory → final ≡ sink → CutsShort program how fault it first final cut
+      refused_so unnoted unmade cut memory unwritten =
+          subst (λ (c : Cut). CutsShort program how fault it first final c) (sym memory)
+          (subst (λ (s : SinkSeen). CutsShort program how fault it first s (Halted Memory)) (sym unwritten) (refused_at unnoted unmade))
 
       -- one of which not all was told
-      pub turn_err : how.turns ≤ 2 ^ 64 - 1 → (w : code.Went) → result ≡ w → (w ≡ went.Stopped stop.Memory → mid ≡ shelf.new) → (made ≡ 0 → w ≡ went.Stopped stop.Memory → same)
+      pub turn_err : (w : code.Went) → result ≡ w → (is_refused w ≡ true → mid ≡ shelf.new) → (made ≡ 0 → is_refused w ≡ true → same)
           → (cut : Cut) → CutsTurn here_on (telling how.trace fault events) sink final cut w → CutsShort program how fault it first final cut
-      turn_err fits went.Went is unnoted unmade cut stops =
+      turn_err went.Went is unnoted unmade cut stops =
           let (had, (takes, (goes, still))) = goes_at is in
           let here = goes_further new last running had takes goes in
           goes_cut program how fault it made first sink final mid taken (untaken new) running.sink noted here still
           (asked_at went.Went is (λ e. cc e)) fewer cut (tells (λ t. t) cut stops)
-      turn_err fits (went.Finished outcome) is unnoted unmade cut stops =
-          ends_err fits (end_of outcome) (went.Finished outcome) is (λ e. cc e) refl cut stops
-      turn_err fits went.Stalled is unnoted unmade cut stops = ends_err fits ends.Stalled went.Stalled is (λ e. cc e) refl cut stops
-      turn_err fits (went.Runaway task) is unnoted unmade cut stops =
-          ends_err fits (ends.Runaway task) (went.Runaway task) is (λ e. cc e) refl cut stops
-      turn_err fits (went.Stopped (stop.Over call)) is unnoted unmade cut stops =
-          ends_err fits (ends.Over call) (went.Stopped (stop.Over call)) is (λ e. cc e) refl cut stops
-      turn_err fits (went.Stopped (stop.Bad bad)) is unnoted unmade cut stops =
-          ends_err fits (ends.JournalRefused bad.line bad.cause) (went.Stopped (stop.Bad bad)) is (λ e. cc e) refl cut stops
-      turn_err fits (went.Stopped (stop.Mismatch count call)) is unnoted unmade cut stops =
-          ends_err fits (ends.Mismatch count call) (went.Stopped (stop.Mismatch count call)) is (λ e. cc e) refl cut stops
-      turn_err fits (went.Stopped (stop.Failed call)) is unnoted unmade cut stops =
+      turn_err (went.Finished outcome) is unnoted unmade cut stops =
+          ends_err (end_of outcome) (went.Finished outcome) is (λ e. cc e) refl cut stops
+      turn_err went.Stalled is unnoted unmade cut stops = ends_err ends.Stalled went.Stalled is (λ e. cc e) refl cut stops
+      turn_err (went.Runaway task) is unnoted unmade cut stops =
+          ends_err (ends.Runaway task) (went.Runaway task) is (λ e. cc e) refl cut stops
+      turn_err (went.Stopped (stop.Over call)) is unnoted unmade cut stops =
+          ends_err (ends.Over call) (went.Stopped (stop.Over call)) is (λ e. cc e) refl cut stops
+      turn_err (went.Stopped (stop.Bad bad)) is unnoted unmade cut stops =
+          ends_err (ends.JournalRefused bad.line bad.cause) (went.Stopped (stop.Bad bad)) is (λ e. cc e) refl cut stops
+      turn_err (went.Stopped (stop.Mismatch count call)) is unnoted unmade cut stops = by (count == 2 ^ 64 - 1) refl stops
+        where
+          by : (b : Bool) → (count == 2 ^ 64 - 1) ≡ b → CutsMisfit b here_on (telling how.trace fault events) (ends.Mismatch count call) sink final cut
+              → CutsShort program how fault it first final cut
+          by false held stops = ends_err (ends.Mismatch count call) (went.Stopped (stop.Mismatch count call)) is (λ e. cc e) (refl, held) cut stops
+          by true past_it (memory, unwritten) = refused_so (unnoted past_it) (λ none. unmade none past_it) cut memory unwritten
+      turn_err (went.Stopped (stop.Failed call)) is unnoted unmade cut stops =
           let (here, rose) = fails_at call (said_so (went.Stopped (stop.Failed call)) is (λ e. cc e)) in
           fails_early program how fault it made first sink final mid taken (untaken new) running.sink noted here rose
           (asked_at (went.Stopped (stop.Failed call)) is (λ e. cc e)) fewer cut (tells (λ t. t ++ line (end_text fault)) cut stops)
-      turn_err fits (went.Stopped stop.Memory) is unnoted unmade cut (memory, unwritten) =
-          subst (λ (c : Cut). CutsShort program how fault it first final c) (sym memory)
-          (subst (λ (s : SinkSeen). CutsShort program how fault it first s (Halted Memory)) (sym unwritten)
-          (refused_at (unnoted refl) (λ none. unmade none refl)))
+      turn_err (went.Stopped stop.Memory) is unnoted unmade cut (memory, unwritten) =
+          refused_so (unnoted refl) (λ none. unmade none refl) cut memory unwritten
 
   -- ---- no run ended, where no status was answered
   module _ (fault : End) (final : SinkSeen) (events : List Event) (out : events ≡ untaken new) where
@@ -311,27 +320,27 @@ module _ {g : _} {program : Program} {how : Manner} {made : ℕ} {kernel new : K
     quiet_then same_then)
     (some : made < how.turns) (later : seen.faults ≤ now.faults) (quietly : quiet_now → quiet) (same : Type 0) where
   -- the run ended
-  pub round_ok : how.turns ≤ 2 ^ 64 - 1 → (told : Option ℕ) (status : ℕ) → told ≡ Some status
+  pub round_ok : (told : Option ℕ) (status : ℕ) → told ≡ Some status
       → TellsTurn how.trace fault (record { before = now; after = last; fails = fails_now; quiet = quiet_now })
       (record { name = name; old = files; new = new_files }) same_now sink late kernel new (Ok told)
       → WritesWhole (MayTell program how fault
       (driven_over seen last fails_first quiet (record { name = name; old = old_files; new = new_files }) same)) first late status
-  round_ok fits told status is it =
+  round_ok told status is it =
       let (fewer, running) = with_turn under.left under.running some in
       turn_ok seen running under.fails later it.turned quietly (record { name = name; old = old_files; new = new_files }) same files under.noted
-      fault late (untaken it.mid) refl fits it.noted told status is it.ok
+      fault late (untaken it.mid) refl it.told it.noted told status is it.ok
 
   -- not all was told
-  pub round_err : how.turns ≤ 2 ^ 64 - 1 → (same_now → files ≡ new_files) → (same_now → same_then → same) → (cut : Cut)
+  pub round_err : (same_now → files ≡ new_files) → (same_now → same_then → same) → (cut : Cut)
       → TellsTurn how.trace fault (record { before = now; after = last; fails = fails_now; quiet = quiet_now })
       (record { name = name; old = files; new = new_files }) same_now sink late kernel new (Err cut)
       → CutsShort program how fault
       (driven_over seen last fails_first quiet (record { name = name; old = old_files; new = new_files }) same) first late cut
-  round_err fits seen_same same_on cut it =
+  round_err seen_same same_on cut it =
       let (fewer, running) = with_turn under.left under.running some in
       turn_err seen running under.fails later it.turned quietly (record { name = name; old = old_files; new = new_files }) same files under.noted
-      fault late (untaken it.mid) refl fits it.went refl (λ none. seen_same (it.refused (ap is_refused none)))
-      (λ first none. same_on (it.refused (ap is_refused none)) (under.unmade first)) cut it.err
+      fault late (untaken it.mid) refl it.went refl (λ none. seen_same (it.refused none))
+      (λ first none. same_on (it.refused none) (under.unmade first)) cut it.err
 
   -- the run goes on
   pub round_on : (fails_then : Type 0) (told : Option ℕ) → told ≡ None

@@ -1,6 +1,7 @@
 -- How what is recorded of a run grows, and what is left where telling a turn stops.
 use Rattle.std.proofs.Common.{◌≡◌, ℕ, true, false, List, [], ◌++◌, Option, Some, None, refl, ap, sym, ◌∙◌, subst, append-nil}
 use Rattle.model_wire.specs.Event.{Event}
+use Rattle.model_wire.specs.declared.event.End.TheVariants as end
 use Rattle.model_wire.specs.Told.{ShelfSeen, SinkSeen}
 use Rattle.model_commands.specs.Recorded.{FailsRecording, Records, recorded}
 use Rattle.aio_record.proofs.Growing.{failed_after, grew_none, grew_on, recorded-append}
@@ -8,7 +9,7 @@ use Rattle.aio_wire.specs.declared.stop.Stop.TheVariants as stop
 use Rattle.aio_core.specs.declared.went.Went.{Went}
 use Rattle.aio_core.specs.declared.went.Went.TheVariants as went
 use Rattle.aio_drive.specs.Ending.{StopsTurn}
-use Rattle.aio_drive.specs.Recording.{CutsTurn, Recording, StopsRecords, StopsTelling, Telling, is_refused}
+use Rattle.aio_drive.specs.Recording.{CutsMisfit, CutsTurn, Recording, StopsRecords, StopsTelling, Telling, is_refused}
 use Rattle.aio_drive.specs.Writing.{StopsWriting}
 use Rattle.aio_drive.specs.declared.cut.Cut.{Cut}
 use Rattle.aio_drive.specs.declared.cut.Cut.TheVariants.{Halted, Unrecorded}
@@ -53,7 +54,8 @@ cuts_before it told sink cut went.Stalled other stops = stops_before it told.ent
 cuts_before it told sink cut (went.Runaway task) other stops = stops_before it told.entries _ sink cut stops
 cuts_before it told sink cut (went.Stopped (stop.Over call)) other stops = stops_before it told.entries _ sink cut stops
 cuts_before it told sink cut (went.Stopped (stop.Bad cause)) other stops = stops_before it told.entries _ sink cut stops
-cuts_before it told sink cut (went.Stopped (stop.Mismatch count call)) other stops = stops_before it told.entries _ sink cut stops
+cuts_before it told sink cut (went.Stopped (stop.Mismatch count call)) other stops =
+    subst (λ b. CutsMisfit b it told (end.Mismatch count call) sink sink cut) (sym other) (stops_before it told.entries _ sink cut stops)
 cuts_before it told sink cut (went.Stopped (stop.Failed call)) other stops = stops_before it told.entries _ sink cut stops
 cuts_before it told sink cut (went.Stopped stop.Memory) other stops = absurd (cc other)
 
@@ -71,7 +73,9 @@ cuts_after it told old new halt went.Stalled other records stops = stops_after i
 cuts_after it told old new halt (went.Runaway task) other records stops = stops_after it told.entries _ old new halt records stops
 cuts_after it told old new halt (went.Stopped (stop.Over call)) other records stops = stops_after it told.entries _ old new halt records stops
 cuts_after it told old new halt (went.Stopped (stop.Bad cause)) other records stops = stops_after it told.entries _ old new halt records stops
-cuts_after it told old new halt (went.Stopped (stop.Mismatch count call)) other records stops = stops_after it told.entries _ old new halt records stops
+cuts_after it told old new halt (went.Stopped (stop.Mismatch count call)) other records stops =
+    subst (λ b. CutsMisfit b it told (end.Mismatch count call) old new (Halted halt)) (sym other)
+    (stops_after it told.entries _ old new halt records stops)
 cuts_after it told old new halt (went.Stopped (stop.Failed call)) other records stops = stops_after it told.entries _ old new halt records stops
 cuts_after it told old new halt (went.Stopped stop.Memory) other records stops = absurd (cc other)
 
@@ -83,7 +87,8 @@ cuts_refused it told sink went.Stalled is = absurd (cc is)
 cuts_refused it told sink (went.Runaway task) is = absurd (cc is)
 cuts_refused it told sink (went.Stopped (stop.Over call)) is = absurd (cc is)
 cuts_refused it told sink (went.Stopped (stop.Bad cause)) is = absurd (cc is)
-cuts_refused it told sink (went.Stopped (stop.Mismatch count call)) is = absurd (cc is)
+cuts_refused it told sink (went.Stopped (stop.Mismatch count call)) is =
+    subst (λ b. CutsMisfit b it told (end.Mismatch count call) sink sink (Halted Memory)) (sym is) (refl, refl)
 cuts_refused it told sink (went.Stopped (stop.Failed call)) is = absurd (cc is)
 cuts_refused it told sink (went.Stopped stop.Memory) is = (refl, refl)
 

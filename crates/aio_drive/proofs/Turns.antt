@@ -1,16 +1,14 @@
 -- What a turn comes to, and what a run is that makes it.
-use Rattle.std.proofs.Common.{◌≡◌, ℕ, suc, ◌+◌, ◌≤◌, Bool, true, List, [], ◌∷◌, ◌++◌, refl, ap, sym, ◌∙◌, subst, append_assoc}
+use Rattle.std.proofs.Common.{◌≡◌, ℕ, suc, Bool, true, List, [], ◌∷◌, ◌++◌, refl, ap, sym, ◌∙◌, append_assoc}
 use Rattle.model_says.specs.Says.{step_limit}
 use Rattle.model_wire.specs.declared.event.End.TheVariants as end
 use Rattle.model_wire.specs.Event.{Event}
 use Rattle.model_wire.specs.Trace.{line_of, lines_of_events}
 use Rattle.model_machine.specs.Extra.{no_extra}
 use Rattle.model_machine.specs.Run.{ends, run_after, run_on, turns_over}
-use Rattle.model_machine.specs.Sound.{IsClosed}
 use Rattle.model_machine.specs.State.{State}
 use Rattle.model_machine.specs.Turn.{is_stalled, turn, turn_unless}
-use Rattle.model_machine.specs.Went.{Went, Stops, answers_in, state_of}
-use Rattle.law_machine.proofs.Turns.{turn-had_one}
+use Rattle.model_machine.specs.Went.{Went, Stops}
 
 -- a turn of a state that is stalled ends the run
 pub turn-stalled : (s : State (Unit {0})) → is_stalled no_extra s ≡ true → turn step_limit no_extra s ≡ Stops end.Stalled s
@@ -28,12 +26,6 @@ pub run_on-last : (allowed : ℕ) (s : State (Unit {0}))
     → run_on step_limit no_extra allowed 0 s ≡ ends (turns_over (is_stalled no_extra s) allowed) s
 unfolding run_on
 run_on-last allowed s = refl
-
--- a turn has at most one answer
-pub got-one : (s : State (Unit {0})) (went : Went (Unit {0})) → IsClosed s → turn step_limit no_extra s ≡ went
-    → answers_in (state_of went).events ≤ answers_in s.events + 1
-got-one s went closed e =
-    subst (λ (w : Went (Unit {0})). answers_in (state_of w).events ≤ answers_in s.events + 1) e (turn-had_one step_limit no_extra s closed)
 
 -- the lines of events, and of more
 pub lines-append : (trace : Bool) (es more : List Event)

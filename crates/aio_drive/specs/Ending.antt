@@ -1,5 +1,5 @@
 -- How a run ends with a turn, and what is written then.
-use Rattle.std.specs.Prelude.{◌≡◌, ℕ, List, ◌++◌, Option, Some, None}
+use Rattle.std.specs.Prelude.{◌≡◌, ◌==◌, ℕ, ◌-◌, ◌^◌, false, List, ◌++◌, Option, Some, None}
 use Rattle.model_wire.specs.declared.event.End.TheVariants as end
 use Rattle.model_wire.specs.Told.{SinkSeen, took}
 use Rattle.model_wire.specs.Trace.{End, end_text, line}
@@ -12,7 +12,7 @@ use Rattle.aio_drive.specs.Writing.{StopsWriting}
 use Rattle.aio_drive.specs.declared.halt.Halt.{Halt}
 use Rattle.aio_drive.specs.declared.halt.Halt.TheVariants.{Memory}
 
--- The run ended so with this turn, and neither failed its wire nor was memory refused.
+-- The run ended so with this turn, and neither failed its wire nor was memory refused. The number of an answer that doesn't fit is held.
 abbrev pub EndedSo : End → Went → Type 0
 EndedSo it went.Went = ⊥
 EndedSo it (went.Finished outcome) = it ≡ end_of outcome
@@ -20,7 +20,7 @@ EndedSo it went.Stalled = it ≡ end.Stalled
 EndedSo it (went.Runaway task) = it ≡ end.Runaway task
 EndedSo it (went.Stopped (stop.Over call)) = it ≡ end.Over call
 EndedSo it (went.Stopped (stop.Bad fault)) = it ≡ end.JournalRefused fault.line fault.cause
-EndedSo it (went.Stopped (stop.Mismatch count call)) = it ≡ end.Mismatch count call
+EndedSo it (went.Stopped (stop.Mismatch count call)) = (it ≡ end.Mismatch count call) × ((count == 2 ^ 64 - 1) ≡ false)
 EndedSo it (went.Stopped (stop.Failed call)) = ⊥
 EndedSo it (went.Stopped stop.Memory) = ⊥
 

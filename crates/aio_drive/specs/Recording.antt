@@ -1,5 +1,5 @@
 -- What a turn leaves that is recorded and written, where that stopped.
-use Rattle.std.specs.Prelude.{◌≡◌, ℕ, Bool, true, false, List, [], ◌++◌, Option, Result, IfOk, IfErr, OnOk}
+use Rattle.std.specs.Prelude.{◌≡◌, ◌==◌, ℕ, ◌-◌, ◌^◌, Bool, true, false, List, [], ◌++◌, Option, Result, IfOk, IfErr, OnOk}
 use Rattle.model_wire.specs.declared.event.End.TheVariants as end
 use Rattle.model_wire.specs.Event.{Event}
 use Rattle.model_wire.specs.Journal.{Entry}
@@ -12,7 +12,8 @@ use Rattle.model_commands.specs.Recorded.{FailsRecording, Records, recorded}
 use Rattle.aio_wire.specs.declared.stop.Stop.TheVariants as stop
 use Rattle.aio_extra.specs.Nothing.{nothing_added}
 use Rattle.aio_extra.specs.declared.nothing.NoExtra.{NoExtra}
-use Rattle.aio_core.specs.Turned.{StandsFor, TurnedBy, WireTurn, untaken}
+use Rattle.aio_core.specs.Turned.{StandsFor, TurnedBy, untaken}
+use Rattle.aio_core.specs.Turning.{WireTurn}
 use Rattle.aio_core.specs.declared.kernel.Kernel.{Kernel}
 use Rattle.aio_core.specs.declared.went.Went.{Went}
 use Rattle.aio_core.specs.declared.went.Went.TheVariants as went
@@ -54,7 +55,7 @@ telling trace fault events = record { entries = recorded events; lines = lines_o
 abbrev pub StopsEnding : Recording → Telling → End → (old new : SinkSeen) → Cut → Type 0
 StopsEnding it told end old new cut = StopsTelling it told.entries (told.lines ++ line (end_text end)) old new cut
 
--- memory was refused in the turn
+-- Memory was refused in the turn; or it ended at an answer that doesn't fit, whose number isn't held.
 abbrev pub is_refused : Went → Bool
 is_refused went.Went = false
 is_refused (went.Finished outcome) = false
@@ -62,9 +63,14 @@ is_refused went.Stalled = false
 is_refused (went.Runaway task) = false
 is_refused (went.Stopped (stop.Over call)) = false
 is_refused (went.Stopped (stop.Bad cause)) = false
-is_refused (went.Stopped (stop.Mismatch count call)) = false
+is_refused (went.Stopped (stop.Mismatch count call)) = count == 2 ^ 64 - 1
 is_refused (went.Stopped (stop.Failed call)) = false
 is_refused (went.Stopped stop.Memory) = true
+
+-- of an answer that doesn't fit, by whether its number isn't held
+abbrev pub CutsMisfit : Bool → Recording → Telling → End → (old new : SinkSeen) → Cut → Type 0
+CutsMisfit false it told end old new cut = StopsEnding it told end old new cut
+CutsMisfit true it told end old new cut = (cut ≡ Halted Memory) × (new ≡ old)
 
 -- Telling a turn stopped short, or memory was refused in the turn and nothing is told of it.
 abbrev pub CutsTurn : Recording → Telling → (old new : SinkSeen) → Cut → Went → Type 0
@@ -74,7 +80,8 @@ CutsTurn it told old new cut went.Stalled = StopsEnding it told end.Stalled old 
 CutsTurn it told old new cut (went.Runaway task) = StopsEnding it told (end.Runaway task) old new cut
 CutsTurn it told old new cut (went.Stopped (stop.Over call)) = StopsEnding it told (end.Over call) old new cut
 CutsTurn it told old new cut (went.Stopped (stop.Bad cause)) = StopsEnding it told (end.JournalRefused cause.line cause.cause) old new cut
-CutsTurn it told old new cut (went.Stopped (stop.Mismatch count call)) = StopsEnding it told (end.Mismatch count call) old new cut
+CutsTurn it told old new cut (went.Stopped (stop.Mismatch count call)) =
+    CutsMisfit (count == 2 ^ 64 - 1) it told (end.Mismatch count call) old new cut
 CutsTurn it told old new cut (went.Stopped (stop.Failed call)) = StopsEnding it told told.fault old new cut
 CutsTurn it told old new cut (went.Stopped stop.Memory) = (cut ≡ Halted Memory) × (new ≡ old)
 
@@ -90,6 +97,7 @@ pub record TellsTurn {g : _} (trace : Bool) (fault : End) (wire : WireTurn) (she
   pub stands : (past : List Event) (answers : List Entry) (s : State (Unit {0})) → StandsFor nothing_added past answers mid s
       → StandsFor nothing_added (past ++ untaken mid) answers new s
   pub left : untaken new ≡ []
+  pub told : OnOk result (is_refused went ≡ false)
   pub noted : OnOk result (Records shelf.name (recorded (untaken mid)) shelf.old shelf.new)
   pub ok : IfOk result (λ status. WroteTurn fault (lines_of_events trace (untaken mid)) sink late status went)
   pub err : IfErr result (λ cut. CutsTurn shelf (telling trace fault (untaken mid)) sink late cut went)

@@ -1,5 +1,5 @@
 //! The lines of a turn, and those of a run's end.
-ghost use Rattle.std.specs.Prelude.{◌≡◌, ◌++◌, true, IfOk, IfErr, OnOk};
+ghost use Rattle.std.specs.Prelude.{◌≡◌, ◌++◌, true, false, IfOk, IfErr, OnOk};
 ghost use Rattle.std.specs.Option.{option_copied};
 ghost use Rattle.model_wire.specs.Told.{took};
 ghost use Rattle.model_wire.specs.Trace.{end_text, line, lines_of_events};
@@ -60,7 +60,7 @@ pub fn write_end<K: Sink>(
 }
 
 /// Records the answers of a turn, and then writes its lines. Where memory was refused in the turn,
-/// nothing is recorded.
+/// nothing is recorded; nor where the number of a misfit isn't held.
 pub fn tell_turn<F: Shelf, K: Sink>(
     alloc: Global,
     went: Went,
@@ -82,6 +82,7 @@ pub fn tell_turn<F: Shelf, K: Sink>(
           new = F.seen shelf.new;
         })
         (telling trace fault.now events.now.events) (K.seen out.old) (K.seen out.new) cut went) }
+    ensures told { OnOk result (is_refused went ≡ false) }
     ensures refused { is_refused went ≡ true → shelf.new ≡ shelf.old }
 {
     if is_refused(&went) {
@@ -100,7 +101,8 @@ pub fn tell_turn<F: Shelf, K: Sink>(
     }
 }
 
-/// Whether memory was refused in a turn.
+/// Whether memory was refused in a turn. A run that had more answers than a number holds would have
+/// none left to tell of a misfit.
 fn is_refused(went: &Went) -> bool
     ensures { result ≡ is_refused went.now }
 {
@@ -109,7 +111,7 @@ fn is_refused(went: &Went) -> bool
             Stop::Memory => true,
             Stop::Over(_) => false,
             Stop::Bad(_) => false,
-            Stop::Mismatch(..) => false,
+            Stop::Mismatch(count, _) => *count == u64::MAX,
             Stop::Failed(_) => false,
         },
         Went::Went => false,

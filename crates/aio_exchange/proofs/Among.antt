@@ -25,6 +25,7 @@ module _ {W : Type 0} (o : Outside W) where
     leaves = x.leaves;
     asks = x.asks;
     hands = x.hands;
+    besides = x.besides;
     ends = x.ends;
     fitting = x.fitting;
     failed = x.failed;

@@ -7,7 +7,7 @@ use Rattle.std.proofs.lemmas.List.{append-nil}
 use Rattle.model_wire.specs.declared.event.Handed.{Handed}
 use Rattle.model_wire.specs.declared.event.Event.TheVariants as event
 use Rattle.model_wire.specs.Call.{Call}
-use Rattle.model_wire.specs.Event.{Event, handed_by}
+use Rattle.model_wire.specs.Event.{Event, calls_in, handed_by, handed_in}
 use Rattle.model_wire.specs.Fits.{fits}
 use Rattle.model_wire.specs.Journal.{Entry, Answered}
 use Rattle.model_wire.specs.Told.{Agrees, Rose}
@@ -15,7 +15,7 @@ use Rattle.aio_wire.specs.EventList.{EventList}
 use Rattle.aio_wire.specs.Port.{events_after}
 use Rattle.aio_wire.specs.Told.{refused_of}
 use Rattle.aio_wire.specs.declared.wire.Reply.TheVariants as reply
-use Rattle.aio_exchange.specs.Exchanged.{Exchange, Exchanged, FailsIfRose, IsFailing, Last, All, Met, Starved, Leaves, Notes, Takes}
+use Rattle.aio_exchange.specs.Exchanged.{Besides, Exchange, Exchanged, FailsIfRose, IsFailing, Last, All, Met, Starved, Leaves, Notes, Takes}
 use Rattle.aio_exchange.specs.Exchanged.{TellsBytes, TellsCalls, Unasked, UnlessFailed, asked_by, bytes_last, bytes_to, calls_of}
 use Rattle.aio_exchange.specs.Exchanged.{entries_of, handed_to, noted_by}
 use Rattle.aio_exchange.specs.Outside.{IsOutside, Outside, Ported}
@@ -71,6 +71,11 @@ pub handed-on : (f g : Handed → List ℕ) (told : Option (Handed → List ℕ)
 handed-on f g None = refl
 handed-on f g (Some held) = ap Some (fun_ext (λ to. append_assoc (held to) (f to) (g to)))
 
+-- what is told agrees with something
+pub agreed : (told : Option (List Entry)) → (rest : List Entry) × Agrees told rest
+agreed None = ([], λ held e. absurd (cc e))
+agreed (Some entries) = (entries, λ held e. cc)
+
 module _ {W : Type 0} (o : Outside W) (laws : IsOutside o) where
   -- ---- no ask
   pub exchanged_none : (at : Ported W) → Exchanged o [] All at at
@@ -82,6 +87,7 @@ module _ {W : Type 0} (o : Outside W) (laws : IsOutside o) where
     leaves = λ rest h. h;
     asks = asked_none (o.seen at.wire).asked;
     hands = handed_none (o.seen at.wire).handed;
+    besides = tt;
     ends = tt;
     fitting = λ e. tt;
     failed = tt;
@@ -100,9 +106,10 @@ module _ {W : Type 0} (o : Outside W) (laws : IsOutside o) where
     notes =
         let before = noted-adds had old.events in
         (before.0, ap (λ (l : EventList). l.events) first.notes ∙ before.1);
-    leaves = tt;
-    asks = ([], first.asks);
-    hands = ((λ to. []), first.hands);
+    leaves = let left = agreed (o.seen new.wire).left in (left.0, first.leaves left.0 left.1);
+    asks = tt;
+    hands = tt;
+    besides = record { more = []; one = omega arith; asks = first.asks; hands = λ called. first.hands };
     ends = tt;
     fitting = λ e. tt;
     failed = tt;
@@ -156,7 +163,7 @@ module _ {W : Type 0} (o : Outside W) (laws : IsOutside o) where
         (subst (Agrees (o.seen old.wire).left) (sym (entries-append xs ys)) (before_both (entries_of ys) l.0), takes_on l.1)
     leaves_on (Met call (reply.Bad fault)) l = ((l.0.0, join (refused_of fault ∷ l.0.0) l.0.1), takes_on l.1)
     leaves_on (Met call reply.Failed) l = takes_on l
-    leaves_on Starved l = tt
+    leaves_on Starved l = (l.0, join l.0 l.1)
 
     -- the calls of both
     both_calls : (more : List Call)
@@ -171,7 +178,7 @@ module _ {W : Type 0} (o : Outside W) (laws : IsOutside o) where
         → TellsCalls (xs ++ ys) last (o.seen old.wire).asked (o.seen new.wire).asked
     asks_on All a = a ∙ both_calls []
     asks_on (Met call said) a = a ∙ both_calls (call ∷ [])
-    asks_on Starved a = (a.0, a.1 ∙ both_calls a.0)
+    asks_on Starved a = tt
 
     both_bytes : (more : Handed → List ℕ)
         → handed_to (λ to. bytes_to ys to ++ more to) (o.seen mid.wire).handed
@@ -188,7 +195,17 @@ module _ {W : Type 0} (o : Outside W) (laws : IsOutside o) where
         → TellsBytes (xs ++ ys) last (o.seen old.wire).handed (o.seen new.wire).handed
     hands_on All h = h ∙ both_bytes (λ to. [])
     hands_on (Met call said) h = h ∙ both_bytes (bytes_last (Met call said))
-    hands_on Starved h = (h.0, h.1 ∙ both_bytes h.0)
+    hands_on Starved h = tt
+
+    besides_on : (last : Last) → Besides ys last (o.seen mid.wire) (o.seen new.wire) → Besides (xs ++ ys) last (o.seen old.wire) (o.seen new.wire)
+    besides_on All b = tt
+    besides_on (Met call said) b = tt
+    besides_on Starved b = record {
+      more = b.more;
+      one = b.one;
+      asks = b.asks ∙ both_calls (calls_in b.more);
+      hands = λ called. b.hands called ∙ both_bytes (handed_in b.more called);
+    }
 
     unasked_on : (last : Last) → Unasked ys last mid new → Unasked (xs ++ ys) last old new
     unasked_on last u = at xs ys last refl u
@@ -237,6 +254,7 @@ module _ {W : Type 0} (o : Outside W) (laws : IsOutside o) where
       leaves = leaves_on last second.leaves;
       asks = asks_on last second.asks;
       hands = hands_on last second.hands;
+      besides = besides_on last second.besides;
       ends = second.ends;
       fitting = λ e. second.fitting (first.stays.0 ∙ e);
       failed = failed_on last second.failed;

@@ -1,8 +1,9 @@
 -- One ask, by what a port's clauses say of it.
 use Rattle.std.proofs.Common.{◌≡◌, ◌⊎◌, inl, inr, ℕ, Bool, true, false, List, [], ◌∷◌, ◌++◌, Option, Some, None, Result, Ok, Err}
-use Rattle.std.proofs.Common.{◌∙◌, refl, sym, ap, subst, if◌then◌else◌}
+use Rattle.std.proofs.Common.{◌∙◌, refl, sym, ap, subst, arith, if◌then◌else◌}
 use Rattle.std.proofs.Math.Path.{fun_ext}
 use Rattle.std.proofs.lemmas.List.{append-nil}
+use Rattle.model_wire.specs.declared.event.Event.TheVariants as event
 use Rattle.model_wire.specs.declared.event.Handed.{Handed}
 use Rattle.model_wire.specs.Call.{Call, Answer}
 use Rattle.model_wire.specs.Event.{Event, handed_by}
@@ -13,10 +14,10 @@ use Rattle.aio_wire.specs.declared.stop.Stop.{Stop}
 use Rattle.aio_wire.specs.declared.stop.Stop.TheVariants as stop
 use Rattle.aio_wire.specs.declared.wire.Reply.{Reply}
 use Rattle.aio_wire.specs.declared.wire.Reply.TheVariants as reply
-use Rattle.aio_exchange.specs.Exchanged.{AsksOne, EndsSo, Exchanged, FailsIfRose, IsFailing, IsFitting, IsNoAnswer, All, Met, Starved, Leaves}
-use Rattle.aio_exchange.specs.Exchanged.{TellsBytes, TellsCalls, UnlessFailed, asked_by, bytes_last, handed_to}
+use Rattle.aio_exchange.specs.Exchanged.{AsksOne, EndsSo, Exchanged, FailsIfRose, IsFailing, IsFitting, IsNoAnswer, IsOneMore, All, Met, Starved, Leaves}
+use Rattle.aio_exchange.specs.Exchanged.{UnlessFailed, asked_by, bytes_last, handed_to}
 use Rattle.aio_exchange.specs.Outside.{Outside, Ported}
-use Rattle.aio_exchange.proofs.Exchanging.{asked_none, handed_none}
+use Rattle.aio_exchange.proofs.Exchanging.{agreed, asked_none, handed_none}
 
 module _ {W : Type 0} (o : Outside W) (call : Call) (old new : Ported W)
     (stays : Stays (o.seen old.wire) (o.seen new.wire)) (keeps : o.keeps old.wire new.wire) where
@@ -56,6 +57,7 @@ module _ {W : Type 0} (o : Outside W) (call : Call) (old new : Ported W)
         replied.handed ∙ handed_one (reply.Got answer) (o.seen old.wire).handed
         ∙ ap (λ (f : Handed → List ℕ). handed_to f (o.seen old.wire).handed)
         (fun_ext (λ to. sym (append-nil (handed_by to call answer)) ∙ sym (append-nil (handed_by to call answer ++ []))));
+    besides = tt;
     ends = tt;
     fitting = λ e. tt;
     failed = tt;
@@ -86,6 +88,7 @@ module _ {W : Type 0} (o : Outside W) (call : Call) (old new : Ported W)
     leaves = leaves;
     asks = replied.asked ∙ asked_one (o.seen old.wire).asked;
     hands = replied.handed ∙ handed_one said (o.seen old.wire).handed;
+    besides = tt;
     ends = ends;
     fitting = fitting;
     failed = failed;
@@ -162,9 +165,10 @@ module _ {W : Type 0} (o : Outside W) (call : Call) (old new : Ported W)
         fit = tt;
         is_last = tt;
         notes = adds;
-        leaves = tt;
-        asks = asked_so may;
-        hands = handed_so may;
+        leaves = agreed (o.seen old.wire).left;
+        asks = tt;
+        hands = tt;
+        besides = one_more may;
         ends = tt;
         fitting = λ t. tt;
         failed = tt;
@@ -176,18 +180,41 @@ module _ {W : Type 0} (o : Outside W) (call : Call) (old new : Ported W)
     ),
   )
     where
-      asked_so : MayHaveReplied call (o.seen old.wire) (o.seen new.wire) → TellsCalls [] Starved (o.seen old.wire).asked (o.seen new.wire).asked
-      asked_so (inr replied) = (call ∷ [], replied.1.asked ∙ asked_one (o.seen old.wire).asked)
-      asked_so (inl un) = by un.0
-        where
-          by : ((o.seen new.wire).asked ≡ asked_after (o.seen old.wire).asked call) ⊎ ((o.seen new.wire).asked ≡ (o.seen old.wire).asked)
-              → TellsCalls [] Starved (o.seen old.wire).asked (o.seen new.wire).asked
-          by (inl e) = (call ∷ [], e ∙ asked_one (o.seen old.wire).asked)
-          by (inr e) = ([], e ∙ asked_none (o.seen old.wire).asked)
+      -- the events of a call, with its answer or without
+      answered : (answer : Answer) → Replied call (o.seen old.wire) (o.seen new.wire) (reply.Got answer) → IsOneMore [] (o.seen old.wire) (o.seen new.wire)
+      answered answer replied = record {
+        more = event.Called call ∷ event.Got answer ∷ [];
+        one = omega arith;
+        asks = replied.asked ∙ asked_one (o.seen old.wire).asked;
+        hands = λ called.
+            replied.handed ∙ handed_one (reply.Got answer) (o.seen old.wire).handed
+            ∙ ap (λ (f : Handed → List ℕ). handed_to f (o.seen old.wire).handed) (fun_ext (λ to. sym (append-nil (handed_by to call answer))));
+      }
 
-      handed_so : MayHaveReplied call (o.seen old.wire) (o.seen new.wire) → TellsBytes [] Starved (o.seen old.wire).handed (o.seen new.wire).handed
-      handed_so (inr replied) = (bytes_last (Met call replied.0), replied.1.handed ∙ handed_one replied.0 (o.seen old.wire).handed)
-      handed_so (inl un) = ((λ to. []), un.1 ∙ handed_none (o.seen old.wire).handed)
+      called_so : (o.seen new.wire).asked ≡ asked_after (o.seen old.wire).asked call
+          → (o.seen new.wire).handed ≡ handed_to (λ to. []) (o.seen old.wire).handed → IsOneMore [] (o.seen old.wire) (o.seen new.wire)
+      called_so asked handed = record {
+        more = event.Called call ∷ [];
+        one = omega arith;
+        asks = asked ∙ asked_one (o.seen old.wire).asked;
+        hands = λ called. handed;
+      }
+
+      by_reply : (said : Reply) → Replied call (o.seen old.wire) (o.seen new.wire) said → IsOneMore [] (o.seen old.wire) (o.seen new.wire)
+      by_reply (reply.Got answer) replied = answered answer replied
+      by_reply reply.Over replied = called_so replied.asked (replied.handed ∙ handed_one reply.Over (o.seen old.wire).handed)
+      by_reply (reply.Bad fault) replied = called_so replied.asked (replied.handed ∙ handed_one (reply.Bad fault) (o.seen old.wire).handed)
+      by_reply reply.Failed replied = called_so replied.asked (replied.handed ∙ handed_one reply.Failed (o.seen old.wire).handed)
+
+      one_more : MayHaveReplied call (o.seen old.wire) (o.seen new.wire) → IsOneMore [] (o.seen old.wire) (o.seen new.wire)
+      one_more (inr replied) = by_reply replied.0 replied.1
+      one_more (inl (inl asked, handed)) = called_so asked (handed ∙ handed_none (o.seen old.wire).handed)
+      one_more (inl (inr same, handed)) = record {
+        more = [];
+        one = omega arith;
+        asks = same ∙ asked_none (o.seen old.wire).asked;
+        hands = λ called. handed ∙ handed_none (o.seen old.wire).handed;
+      }
 
   -- by what came of it
   pub asks_one : (result : Result Answer Stop)

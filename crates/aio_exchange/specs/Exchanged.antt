@@ -1,9 +1,9 @@
 -- What several asks through one port did: which calls had an answer that fits, in order, and how the last one ended.
-use Rattle.std.specs.Prelude.{◌≡◌, ℕ, true, false, List, [], ◌∷◌, ◌++◌, Option, Some, None, Result, Ok, Err, map}
+use Rattle.std.specs.Prelude.{◌≡◌, ℕ, ◌≤◌, true, false, List, [], ◌∷◌, ◌++◌, Option, Some, None, Result, Ok, Err, length, map}
 use Rattle.std.specs.List.{AllByRecursion as Each}
 use Rattle.model_wire.specs.declared.event.Handed.{Handed}
 use Rattle.model_wire.specs.Call.{Call, Answer}
-use Rattle.model_wire.specs.Event.{Event, handed_by}
+use Rattle.model_wire.specs.Event.{Event, calls_in, handed_by, handed_in}
 use Rattle.model_wire.specs.Fits.{fits}
 use Rattle.model_wire.specs.Journal.{Entry, Answered}
 use Rattle.model_wire.specs.Told.{Agrees, Rose, WireSeen}
@@ -106,20 +106,32 @@ LeavesAfter had call (reply.Bad fault) old new =
     ((rest : List Entry) × Agrees old (entries_of had ++ refused_of fault ∷ rest)) × Takes had old new
 LeavesAfter had call reply.Failed old new = Takes had old new
 
--- nothing is said of what is left where memory was refused
+-- where memory was refused the answers stood first, and nothing is said of what is left
 abbrev pub Leaves : List Exchange → Last → Option (List Entry) → Option (List Entry) → Type 0
 Leaves had All old new = Takes had old new
 Leaves had (Met call said) old new = LeavesAfter had call said old new
-Leaves had Starved old new = Unit {0}
+Leaves had Starved old new = (rest : List Entry) × Agrees old (entries_of had ++ rest)
 
--- where memory was refused, one call more may have been asked, and its bytes handed
 abbrev pub TellsCalls : List Exchange → Last → Option (List Call) → Option (List Call) → Type 0
-TellsCalls had Starved old new = (more : List Call) × (new ≡ asked_by (calls_of had ++ more) old)
+TellsCalls had Starved old new = Unit {0}
 TellsCalls had last old new = new ≡ asked_by (calls_of had ++ called_last last) old
 
 abbrev pub TellsBytes : List Exchange → Last → Option (Handed → List ℕ) → Option (Handed → List ℕ) → Type 0
-TellsBytes had Starved old new = (more : Handed → List ℕ) × (new ≡ handed_to (λ to. bytes_to had to ++ more to) old)
+TellsBytes had Starved old new = Unit {0}
 TellsBytes had last old new = new ≡ handed_to (λ to. bytes_to had to ++ bytes_last last to) old
+
+-- One call more at most was asked after them, with its answer or without: these events tell of it.
+pub record IsOneMore (had : List Exchange) (old new : WireSeen) : Type 0 where
+  pub more : List Event
+  pub one : length (calls_in more) ≤ 1
+  pub asks : new.asked ≡ asked_by (calls_of had ++ calls_in more) old.asked
+  pub hands : (called : Option Call) → new.handed ≡ handed_to (λ to. bytes_to had to ++ handed_in more called to) old.handed
+
+-- so it is where memory was refused
+abbrev pub Besides : List Exchange → Last → WireSeen → WireSeen → Type 0
+Besides had All old new = Unit {0}
+Besides had (Met call said) old new = Unit {0}
+Besides had Starved old new = IsOneMore had old new
 
 -- a wire fails only where its count of faults rose
 abbrev pub FailsIfRose : Last → ℕ → ℕ → Type 0
@@ -160,6 +172,7 @@ pub record Exchanged {W : Type 0} (o : Outside W) (had : List Exchange) (last : 
   pub leaves : Leaves had last (o.seen old.wire).left (o.seen new.wire).left
   pub asks : TellsCalls had last (o.seen old.wire).asked (o.seen new.wire).asked
   pub hands : TellsBytes had last (o.seen old.wire).handed (o.seen new.wire).handed
+  pub besides : Besides had last (o.seen old.wire) (o.seen new.wire)
   pub ends : EndsSo last (o.seen new.wire)
   pub fitting : (o.seen old.wire).fitting ≡ true → IsFitting last
   pub failed : FailsIfRose last (o.seen old.wire).faults (o.seen new.wire).faults

@@ -3,6 +3,7 @@ use Rattle.std.specs.Prelude.{◌≡◌, ℕ, ◌<◌, ◌≤◌, ◌⊎◌, tru
 use Rattle.model_loop.specs.Futures.{next_future}
 use Rattle.model_loop.specs.Owning.{is_plain, owner_of}
 use Rattle.model_loop.specs.Parts.{Parts}
+use Rattle.model_stream.specs.Kept.{times_kept}
 use Rattle.model_machine.specs.Extra.{Extra, WakesFall}
 use Rattle.model_machine.specs.State.{State}
 use Rattle.law_extras.specs.Allowed.{MakesAllowedSteps}
@@ -40,13 +41,17 @@ pub record Added (X : Type 0) : Type 1 where
   -- it watches nothing of the outside
   pub quiet : (kept : Kept) → meaning.watches kept ≡ false
 
--- a script names this future, or it is the own one of what is added
+-- a script names this future, or it is somebody's own
 abbrev pub IsNamed : (named : List ℕ) → (owned : ℕ → Type 0) → ℕ → Type 0
 IsNamed named owned id = ((place : ℕ) × (slice_get named place ≡ Some id)) ⊎ owned id
 
+-- it is the own one of what is added, or a connection or a child keeps it
+abbrev pub owned_in : {X : Type 0} → (a : Added X) → State a.Kept → ℕ → Type 0
+owned_in a s id = a.owns s.extra id ⊎ (0 < times_kept id s.streams)
+
 -- which futures of a state are named so
 abbrev pub named_in : {X : Type 0} → (a : Added X) → State a.Kept → ℕ → Type 0
-named_in a s id = IsNamed s.futures (a.owns s.extra) id
+named_in a s id = IsNamed s.futures (owned_in a s) id
 
 -- An object keeps nothing so far: it stands for this whatever was made.
 abbrev pub KeepsNothing : {X : Type 0} → (a : Added X) → X → a.Kept → Type 0

@@ -9,7 +9,7 @@ use Rattle.model_machine.specs.State.{State}
 use Rattle.model_machine.specs.Told.{told_in}
 use Rattle.aio_task.specs.Keeps.{Ties, Keeps, Extends}
 use Rattle.aio_task.specs.View.{View}
-use Rattle.aio_extra.specs.Added.{Added, named_in}
+use Rattle.aio_extra.specs.Added.{Added, IsNamed}
 use Rattle.aio_extra.specs.declared.asked.Asked.{Asked}
 use Rattle.aio_extra.specs.declared.asked.Asked.TheVariants.{Answer, Raise, Wait}
 
@@ -45,7 +45,7 @@ abbrev pub AnswersAs : {X : Type 0} → (a : Added X) → Ties → State a.Kept 
 AnswersAs a t s (Answer value) (extra.Answers said) = value ≡ said
 AnswersAs a t s (Raise fault) (extra.Raises said) = fault ≡ said
 AnswersAs a t s (Wait on key) (extra.Waits future kept) =
-    (on ≡ future) × (key ≡ kept) × (t.gone on ≡ false) × (is_plain s.loop.parts on ≡ true → named_in a s on)
+    (on ≡ future) × (key ≡ kept) × (t.gone on ≡ false) × (is_plain s.loop.parts on ≡ true → IsNamed s.futures (a.owns s.extra) on)
 AnswersAs a t s _ _ = ⊥
 
 pub record SaysAs {X : Type 0} (a : Added X) (t : Ties) (s : State a.Kept) (v w : View) (x : X) (asked : Asked)

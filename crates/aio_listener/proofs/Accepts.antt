@@ -1,6 +1,6 @@
 -- A listener accepts connections.
-use Rattle.std.proofs.Common.{◌≡◌, ℕ, zero, suc, ◌+◌, ◌^◌, Bool, true, false, if◌then◌else◌, List, [], ◌∷◌, ◌++◌, Option, Some, None, Result, Ok, Err}
-use Rattle.std.proofs.Common.{length, nat_lt, slice_get, ◌∙◌, refl, sym, ap, subst}
+use Rattle.std.proofs.Common.{◌≡◌, ℕ, zero, suc, ◌+◌, ◌<◌, Bool, true, false, if◌then◌else◌, List, [], ◌∷◌, ◌++◌, Option, Some, None, Result, Ok, Err}
+use Rattle.std.proofs.Common.{OnOk, length, nat_lt, slice_get, ◌∙◌, refl, sym, ap, subst, arith}
 use Rattle.std.specs.List.{AllByRecursion as Each}
 use Rattle.std.proofs.lemmas.List.{length_push}
 use Rattle.model_loop.specs.Parts.{Future, Plain}
@@ -25,9 +25,9 @@ use Rattle.aio_change.specs.Seen.{seen_changed}
 use Rattle.aio_change.proofs.AfterAsking.{asks_met, asks_on}
 use Rattle.aio_change.proofs.Owning.{own_changed, own_made}
 use Rattle.aio_connection.specs.Owned.{OwnsConnection}
-use Rattle.aio_stream.specs.Kept.{Kept, listening, with_connection}
+use Rattle.aio_stream.specs.Kept.{Kept, listening, may_connect as may_connect_kept, with_connection}
 use Rattle.aio_stream.specs.Owned.{OwnsStreams}
-use Rattle.aio_stream.specs.Standing.{Comes, StandsFor, Told}
+use Rattle.aio_stream.specs.Standing.{Comes, StandsAfter, StandsFor, Told}
 use Rattle.aio_stream.proofs.Placing.{kept_connections}
 use Rattle.aio_listener.proofs.Listeners.{listens, unless_listens}
 
@@ -37,6 +37,12 @@ made_future = record { kind = Plain; outcome = None; callbacks = [] }
 -- a future more
 pub one_more_made : (old new : View) → new ≡ seen_changed MakeFuture old → length new.futures ≡ length old.futures + 1
 one_more_made old new made = ap length (ap (λ (v : View). v.futures) made) ∙ length_push old.futures made_future
+
+-- children that stayed, and stayed again
+stands_on : {R : Type 0} (new : Kept) (before between after : Streams) (result : Result R Stop) → between.children ≡ before.children
+    → OnOk result (StandsAfter new between after) → OnOk result (StandsAfter new before after)
+stands_on new before between after (Ok done) same it = (it.0, it.1 ∙ same)
+stands_on new before between after (Err why) same it = tt
 
 -- ---- one more connection
 pub stands_with_connection : (k : Kept) (c : Connection) (s : Streams) → StandsFor k s → StandsFor (with_connection c k) (add_connection c s)
@@ -73,8 +79,11 @@ module _ (handler : ℕ) (k after : Kept) (closed id : ℕ) (old first second ne
               (tells_changed seen_changed (CallSoon (StartRead n)) end second new new (add_connection c s)
               (then_soon ∙ ap (λ (i : ℕ). seen_changed (CallSoon (StartRead i)) second) same)
               (tells_ends seen_changed (add_connection c s) new))),
-          subst (λ (it : Kept). StandsFor it (add_connection c s))
-              (sym (is ∙ ap (λ (f : ℕ). with_connection (accepted f handler) k) number)) (stands_with_connection k c s h),
+          (
+            subst (λ (it : Kept). StandsFor it (add_connection c s))
+                (sym (is ∙ ap (λ (f : ℕ). with_connection (accepted f handler) k) number)) (stands_with_connection k c s h),
+            refl,
+          ),
         ),
       )
 
@@ -105,10 +114,10 @@ module _ (handler : ℕ) (k after : Kept) (closed id : ℕ) (old first second ne
 
 -- ---- it accepts until another answer comes
 module _ {W : Type 0} (o : Outside W) (laws : IsOutside o) (server handler : ℕ) (k : Kept) where
-  pub none_left : (next : ℕ) (at : Reach View W) → Comes {R = Unit {0}} o (accept_most zero server handler next) k k at at (Ok tt)
-  none_left next at s h = (s, (follows_ends o laws seen_changed s at, h))
+  none_left : (next : ℕ) (at : Reach View W) → Comes {R = Unit {0}} o (accept_most zero server handler next) k k at at (Ok tt)
+  none_left next at s h = (s, (follows_ends o laws seen_changed s at, (h, refl)))
 
-  room_same : (s : Streams) → StandsFor k s → (b : Bool) → nat_lt (length k.connections) (2 ^ 32) ≡ b → may_connect s ≡ b
+  room_same : (s : Streams) → StandsFor k s → (b : Bool) → may_connect_kept k ≡ b → may_connect s ≡ b
   room_same s h b e =
       ap (λ n. nat_lt n s.most) (ap length h.connections) ∙ ap (λ most. nat_lt (length k.connections) most) h.most ∙ e
 
@@ -117,7 +126,7 @@ module _ {W : Type 0} (o : Outside W) (laws : IsOutside o) (server handler : ℕ
       if is_conn came then and_then (accept handler next s) (accept_most more server handler (next + 1)) else Ends s
 
   -- none can be numbered any more
-  pub no_room : (more next : ℕ) (at : Reach View W) → nat_lt (length k.connections) (2 ^ 32) ≡ false
+  no_room : (more next : ℕ) (at : Reach View W) → may_connect_kept k ≡ false
       → Comes {R = Unit {0}} o (accept_most more server handler next) k k at at (Ok tt)
   no_room zero next at e s h = none_left next at s h
   no_room (suc more) next at e s h = (
@@ -125,11 +134,17 @@ module _ {W : Type 0} (o : Outside W) (laws : IsOutside o) (server handler : ℕ
     (
       follows_unless o laws seen_changed (may_connect s) (Asks (call.Accept server) (round more next s)) (Ends s) at at (Ok s)
           (room_same s h false e) (follows_ends o laws seen_changed s at),
-      h,
+      (h, refl),
     ),
   )
 
-  module _ (more next : ℕ) (room : nat_lt (length k.connections) (2 ^ 32) ≡ true) (old mid : Reach View W) (parts : mid.parts ≡ old.parts) where
+  -- it accepts no more
+  pub accepts_over : (more next : ℕ) (at : Reach View W) → (0 < more → may_connect_kept k ≡ false)
+      → Comes {R = Unit {0}} o (accept_most more server handler next) k k at at (Ok tt)
+  accepts_over zero next at stops = none_left next at
+  accepts_over (suc more) next at stops = no_room (suc more) next at (stops (omega arith))
+
+  module _ (more next : ℕ) (room : may_connect_kept k ≡ true) (old mid : Reach View W) (parts : mid.parts ≡ old.parts) where
     in_round : (s : Streams) → StandsFor k s → (new : Reach View W) (result : Result Streams Stop)
         → Follows o seen_changed (Asks (call.Accept server) (round more next s)) old new result
         → Follows o seen_changed (accept_most (suc more) server handler next s) old new result
@@ -164,7 +179,7 @@ module _ {W : Type 0} (o : Outside W) (laws : IsOutside o) (server handler : ℕ
           answered s h mid (Ok s) (follows_unless o laws seen_changed (is_conn came)
               (and_then (accept handler next s) (accept_most more server handler (next + 1))) (Ends s) mid mid (Ok s) e
               (follows_ends o laws seen_changed s mid)),
-          h,
+          (h, refl),
         ),
       )
 
@@ -180,7 +195,7 @@ module _ {W : Type 0} (o : Outside W) (laws : IsOutside o) (server handler : ℕ
           → Comes o (accept_most (suc more) server handler next) k after old new result
       round_on between after third new result e told port goes s h =
           let first = told s h in
-          let then_so = goes first.0 first.1.1 in
+          let then_so = goes first.0 first.1.1.0 in
           let rest : Streams → Doing Streams = accept_most more server handler (next + 1) in (
             then_so.0,
             (
@@ -189,7 +204,7 @@ module _ {W : Type 0} (o : Outside W) (laws : IsOutside o) (server handler : ℕ
                   (after_of then_so.0 result) e
                   (follows_then o laws seen_changed (accept handler next s) rest first.0 mid third new (after_of then_so.0 result)
                   (tells_follow seen_changed o laws (accept handler next s) mid third first.0 first.1.0 port) then_so.1.0)),
-              then_so.1.1,
+              stands_on after s first.0 then_so.0 result first.1.1.1 then_so.1.1,
             ),
           )
 
@@ -209,7 +224,7 @@ module _ {W : Type 0} (o : Outside W) (laws : IsOutside o) (id next : ℕ) (k : 
     s,
     (
       subst (λ it. Follows o seen_changed (accepts_by s it) at at (Ok s)) (listener_there None none s h) (follows_ends o laws seen_changed s at),
-      h,
+      (h, refl),
     ),
   )
 
@@ -225,7 +240,7 @@ module _ {W : Type 0} (o : Outside W) (laws : IsOutside o) (id next : ℕ) (k : 
       (
         by_listener s h at at (Ok s) (follows_unless o laws seen_changed server.is_open (accept_most most_accepts id server.handler next s)
             (Ends s) at at (Ok s) e (follows_ends o laws seen_changed s at)),
-        h,
+        (h, refl),
       ),
     )
 

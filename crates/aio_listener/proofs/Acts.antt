@@ -1,5 +1,5 @@
 -- Calls that ask nothing, as ones that may ask.
-use Rattle.std.proofs.Common.{◌≡◌, ◌⊎◌, inl, inr, Ok, Err}
+use Rattle.std.proofs.Common.{◌≡◌, ◌⊎◌, inl, inr, Ok, Err, refl}
 use Rattle.model_stream.specs.Doing.{Doing, Ends}
 use Rattle.model_stream.specs.Streams.{Streams}
 use Rattle.aio_wire.specs.declared.stop.Stop.TheVariants as stop
@@ -26,7 +26,7 @@ module _ {W : Type 0} (o : Outside W) (laws : IsOutside o) (tree : Streams → D
 -- nothing is done
 pub nothing_comes : {W : Type 0} (o : Outside W) (laws : IsOutside o) (k : Kept) (at : Reach View W)
     → Comes {R = Unit {0}} o (λ (s : Streams). Ends s) k k at at (Ok tt)
-nothing_comes o laws k at s h = (s, (follows_ends o laws seen_changed s at, h))
+nothing_comes o laws k at s h = (s, (follows_ends o laws seen_changed s at, (h, refl)))
 
 -- of one that is this or another
 pub or_else : {A B P : Type 0} → A ⊎ B → (A → P) → (B → P) → P

@@ -46,9 +46,12 @@ module _ (k after : Kept) (closed on id : ℕ) (old first new : View) (closed_is
           tells_changed seen_changed MakeFuture (Changes MakeFuture (Ends ended)) old first new said made
               (tells_changed seen_changed MakeFuture (Ends ended) first new new said then_made
               (tells_end seen_changed ended said new (ap (λ (p : ℕ × ℕ). (add_connection c s, Some p)) (result_is ∙ same)))),
-          subst (λ (it : Kept). StandsFor it (add_connection c s))
-              (sym (is ∙ ap (λ (f : ℕ). with_connection (connecting f on) k) closed_is ∙ ap (λ (f : ℕ). with_connection (connecting next f) k) on_next))
-              (stands_with_connection k c s h),
+          (
+            subst (λ (it : Kept). StandsFor it (add_connection c s))
+                (sym (is ∙ ap (λ (f : ℕ). with_connection (connecting f on) k) closed_is ∙ ap (λ (f : ℕ). with_connection (connecting next f) k) on_next))
+                (stands_with_connection k c s h),
+            refl,
+          ),
         ),
       )
 
@@ -96,7 +99,7 @@ module _ {W : Type 0} (o : Outside W) (laws : IsOutside o) (number next : ℕ) (
         comes_on s mid (Ok (s, None)) (follows_unless o laws seen_changed {A = Streams × Option (ℕ × ℕ)} (is_conn came)
             (begun next s answer.Conn) (Ends (s, None)) mid mid (Ok (s, None)) e
             (follows_ends o laws seen_changed {A = Streams × Option (ℕ × ℕ)} (s, None) mid)),
-        h,
+        (h, refl),
       ),
     )
 

@@ -54,7 +54,7 @@ module _ {W : Type 0} (o : Outside W) (laws : IsOutside o) (number handler : ℕ
         comes_on s (Ok (s, None)) (follows_unless o laws seen_changed {A = Streams × Option ℕ} (is_done came)
             (Ends (add_server opened_here s, Some (length s.servers))) (Ends (s, None)) new new (Ok (s, None)) e
             (follows_ends o laws seen_changed {A = Streams × Option ℕ} (s, None) new)),
-        h,
+        (h, refl),
       ),
     )
 
@@ -73,7 +73,7 @@ module _ {W : Type 0} (o : Outside W) (laws : IsOutside o) (number handler : ℕ
             (follows_end o laws seen_changed {A = Streams × Option ℕ} (add_server opened_here s, Some (length s.servers))
             (add_server opened_here s, Some id) new
             (ap (λ (n : ℕ). (add_server opened_here s, Some n)) (number_is ∙ ap length (sym h.servers))))),
-        subst (λ (it : Kept). StandsFor it (add_server opened_here s)) (sym is) (stands_with_server k opened_here s h),
+        (subst (λ (it : Kept). StandsFor it (add_server opened_here s)) (sym is) (stands_with_server k opened_here s h), refl),
       ),
     )
 
@@ -96,7 +96,7 @@ module _ {W : Type 0} (o : Outside W) (laws : IsOutside o) (id : ℕ) (k : Kept)
 
   closes_none : (at : Reach View W) → slice_get k.servers id ≡ None → Comes {R = Unit {0}} o (close_server id) k k at at (Ok tt)
   closes_none at none s h =
-      (s, (subst (λ it. Follows o seen_changed (closes_by s it) at at (Ok s)) (server_there None none s h) (follows_ends o laws seen_changed s at), h))
+      (s, (subst (λ it. Follows o seen_changed (closes_by s it) at at (Ok s)) (server_there None none s h) (follows_ends o laws seen_changed s at), (h, refl)))
 
   module _ (server : Server) (is : slice_get k.servers id ≡ Some server) where
     by_server : (s : Streams) → StandsFor k s → (old new : Reach View W) (result : Result Streams Stop)
@@ -109,7 +109,7 @@ module _ {W : Type 0} (o : Outside W) (laws : IsOutside o) (id : ℕ) (k : Kept)
       (
         by_server s h at at (Ok s)
             (follows_unless o laws seen_changed server.is_open (closes server s) (Ends s) at at (Ok s) e (follows_ends o laws seen_changed s at)),
-        h,
+        (h, refl),
       ),
     )
 
@@ -139,12 +139,15 @@ module _ {W : Type 0} (o : Outside W) (laws : IsOutside o) (id : ℕ) (k : Kept)
           closes_so s h (Ok (with_closed_one server s))
               (asks_on o laws (call.CloseServer id) (call.CloseServer id) (λ came. Ends (with_closed_one server s)) refl came old new new
               (Ok (with_closed_one server s)) one parts (follows_ends o laws seen_changed (with_closed_one server s) new)),
-          subst (λ (it : Kept). StandsFor it (with_closed_one server s)) (sym same) (record {
-            servers = ap (λ xs. slice_set xs id (closed_server server)) h.servers;
-            connections = h.connections;
-            opened = h.opened;
-            most = h.most;
-          }),
+          (
+            subst (λ (it : Kept). StandsFor it (with_closed_one server s)) (sym same) (record {
+              servers = ap (λ xs. slice_set xs id (closed_server server)) h.servers;
+              connections = h.connections;
+              opened = h.opened;
+              most = h.most;
+            }),
+            refl,
+          ),
         ),
       )
 

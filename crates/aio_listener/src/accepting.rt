@@ -1,8 +1,9 @@
 //! A listener accepts.
-ghost use Rattle.std.specs.Prelude.{◌≡◌, ◌+◌, ◌^◌, ◌<◌, None, OnOk, length};
+ghost use Rattle.std.specs.Prelude.{◌≡◌, ◌+◌, ◌^◌, ◌<◌, true, false, None, OnOk, length};
 ghost use Rattle.model_stream.specs.Streams as plain;
 ghost use Rattle.aio_exchange.specs.Outside.{outside_of};
 ghost use Rattle.law_doing.specs.Follows.{reach};
+ghost use Rattle.aio_stream.specs.Kept.{may_connect};
 ghost use Rattle.aio_stream.specs.Owned.{OwnsStreams};
 ghost use Rattle.aio_stream.specs.Standing.{Comes, Told};
 
@@ -70,10 +71,7 @@ fn accept_most<W: Wire>(
     ensures own { OnOk result (OwnsStreams parts.new streams.new) }
     ensures idle { parts.new.called ≡ None }
 {
-    if more == 0 {
-        return Ok(());
-    }
-    if !streams.may_connect() {
+    if !accepts(streams, more) {
         return Ok(());
     }
     let came = ask(port, alloc, Call::Accept(server))?;
@@ -84,6 +82,16 @@ fn accept_most<W: Wire>(
     }
     accept(streams, alloc, handler, parts)?;
     accept_most(streams, alloc, more - 1, server, handler, port, parts)
+}
+
+// Whether it accepts once more: so many times at most, and as long as connections can be
+// numbered.
+fn accepts(streams: &Streams, more: u32) -> bool
+    ensures goes { result ≡ true → (0 < more) × (may_connect streams.now ≡ true) }
+    ensures stops { result ≡ false → 0 < more → may_connect streams.now ≡ false }
+    ensures room { result ≡ true → length streams.now.connections < 2 ^ 32 }
+{
+    more > 0 && streams.may_connect()
 }
 
 // An accepted connection is made, and begins to read, soon.

@@ -7,3 +7,4 @@ pub mod Launched
 mod Noting
 mod SelectAsks
 mod Telling
+pub mod Later

@@ -18,6 +18,10 @@ use Rattle.aio_polling.specs.Selects.{hub_of, hub_after, is_starved, said_of, Se
 use Rattle.aio_live.specs.States.{StateSeen, Rests}
 use Rattle.aio_live.specs.Seen.{hub_seen}
 
+-- posts were taken, and none was given back
+abbrev pub TakesMore : List Post → List Post → Type 0
+TakesMore before now = (posts : List Post) × (now ≡ before ++ posts)
+
 -- the poller was asked and posts were taken: the seats in hand and the lanes stay
 pub record SelectsItems {Run : Type 0} (wait : Option ℕ) (watched : List Watch) (poller poller_now : PollerSeen) (said : Selected)
     (old new : StateSeen Run) : Type 0 where

@@ -24,6 +24,7 @@ impl<N: InboxName, Run> State<N, Run> {
     /// An added request: none is served.
     pub fn extra<R: Wait>(&mut self, rt: &R) -> Answer
         ensures answer { result ≡ answer.Refused }
+        ensures posts { self.new.hub.taken ≡ self.old.hub.taken }
         ensures asks { (code : ℤ) (bytes : List ℕ)
             → AsksAlone (call.Extra code bytes) (Got answer.Refused) self.old self.new }
     {
@@ -48,6 +49,7 @@ impl<N: InboxName, Run> State<N, Run> {
     /// A feed: all of the bytes in one Write, or none.
     pub fn feed<R: Wait>(&mut self, rt: &R, number: u32, bytes: Blob) -> Answer
         ensures feeds { Feeding number bytes result self.old self.new }
+        ensures posts { self.new.hub.taken ≡ self.old.hub.taken }
         ensures asks { AsksAlone (call.Feed number bytes) (Got result) self.old self.new }
     {
         self.feed_one(rt, number, bytes)
@@ -56,6 +58,7 @@ impl<N: InboxName, Run> State<N, Run> {
     /// The closing of a standard input.
     pub fn end<R: Wait>(&mut self, rt: &R, number: u32) -> Answer
         ensures ends { Ending number self.old self.new }
+        ensures posts { self.new.hub.taken ≡ self.old.hub.taken }
         ensures answer { result ≡ answer.Done }
         ensures asks { AsksAlone (call.End number) (Got answer.Done) self.old self.new }
     {

@@ -1,5 +1,5 @@
 //! A launch.
-ghost use Rattle.std.specs.Prelude.{◌≡◌, ◌<◌, ◌-◌, ◌^◌, ◌++◌, ◌∷◌, [], true, length, Some, slice_set, IfOk, OnErr};
+ghost use Rattle.std.specs.Prelude.{◌≡◌, ◌≤◌, ◌<◌, ◌-◌, ◌^◌, ◌++◌, ◌∷◌, [], true, length, Some, slice_set, IfOk, OnErr};
 ghost use Rattle.model_wire.specs.declared.call.Call.TheVariants as call;
 ghost use Rattle.model_hub.specs.declared.child.Seats.{Seats};
 ghost use Rattle.model_hub.specs.Children.{new_child};
@@ -143,6 +143,8 @@ impl<N: InboxName, Run: Drop> State<N, Run> {
         ensures launches { IfOk result (λ answer. LaunchesNext self.old self.new (Got answer)) }
         ensures told { IfOk result (λ answer. LaunchTold words.now self.old.hub answer
             (L.seen launcher.old) (L.seen launcher.new)) }
+        ensures posts { self.new.hub.taken ≡ self.old.hub.taken }
+        ensures later { (L.seen launcher.old).faults ≤ (L.seen launcher.new).faults }
         ensures err { OnErr result (self.new.hub.starved ≡ true) }
     {
         let Ok((inbox, ends)) = open(alloc, &mut self.pumped, &mut self.lanes, number) else {
@@ -181,6 +183,8 @@ impl<N: InboxName, Run: Drop> State<N, Run> {
         ensures launches { IfOk result (λ answer. LaunchesNext self.old self.new (Got answer)) }
         ensures told { IfOk result (λ answer. LaunchTold words.now self.old.hub answer
             (L.seen launcher.old) (L.seen launcher.new)) }
+        ensures posts { self.new.hub.taken ≡ self.old.hub.taken }
+        ensures later { (L.seen launcher.old).faults ≤ (L.seen launcher.new).faults }
         ensures err { OnErr result (self.new.hub.starved ≡ true) }
     {
         let number = self.pumped.roster.count();
@@ -205,6 +209,8 @@ impl<N: InboxName, Run: Drop> State<N, Run> {
     ) -> Result<Answer, Memory>
         ensures asks { IfOk result (λ answer. AsksLauncher (call.Launch words.now) (Got answer)
             (L.seen launcher.old) (L.seen launcher.new) self.old self.new) }
+        ensures posts { self.new.hub.taken ≡ self.old.hub.taken }
+        ensures later { (L.seen launcher.old).faults ≤ (L.seen launcher.new).faults }
         ensures err { OnErr result (self.new.hub.starved ≡ true) }
     {
         self.serve(rt, &[]);

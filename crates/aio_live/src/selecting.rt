@@ -2,7 +2,7 @@
 ghost use Rattle.std.specs.Prelude.{◌≡◌, ◌≤◌, false, true, IfOk, OnErr};
 ghost use Rattle.aio_hub.specs.Launches.{StartsNone};
 ghost use Rattle.aio_polling.specs.Selects.{is_starved};
-ghost use Rattle.aio_live.specs.Selecting.{SelectsItems, TakesAfter, TakesOver, SelectAsks, AnswerFits, NothingIsLost};
+ghost use Rattle.aio_live.specs.Selecting.{SelectsItems, TakesMore, TakesAfter, TakesOver, SelectAsks, AnswerFits, NothingIsLost};
 
 use crate::state::State;
 use aio_base::Memory;
@@ -37,6 +37,7 @@ fn select_items<N: InboxName, Run, R: Wait, P: Poller>(
     ensures selects { IfOk result (λ said. SelectsItems wait watch.now (P.seen poller.old) (P.seen
         poller.new) said state.old state.new) }
     ensures starved { OnErr result (state.new.hub.starved ≡ true) }
+    ensures posts { TakesMore state.old.hub.taken state.new.hub.taken }
     ensures later { (P.seen poller.old).faults ≤ (P.seen poller.new).faults }
 {
     let kept = std::mem::replace(&mut state.kept, Vec::new(alloc));
@@ -61,6 +62,7 @@ fn take_in_over<N: InboxName, R, L: Launcher<Inbox<N>, Poster<N>>>(
 ) -> Result<(), Memory>
     ensures takes { IfOk result (λ _. TakesOver state.old state.new) }
     ensures starved { OnErr result (state.new.hub.starved ≡ true) }
+    ensures posts { state.new.hub.taken ≡ state.old.hub.taken }
     ensures none { StartsNone (L.seen launcher.old) (L.seen launcher.new) }
     ensures later { (L.seen launcher.old).faults ≤ (L.seen launcher.new).faults }
 {
@@ -89,6 +91,7 @@ fn take_in_after<N: InboxName, R, L: Launcher<Inbox<N>, Poster<N>>>(
 ) -> Result<(), Memory>
     ensures takes { IfOk result (λ _. TakesAfter said.now state.old state.new) }
     ensures starved { OnErr result (state.new.hub.starved ≡ true) }
+    ensures posts { state.new.hub.taken ≡ state.old.hub.taken }
     ensures none { StartsNone (L.seen launcher.old) (L.seen launcher.new) }
     ensures later { (L.seen launcher.old).faults ≤ (L.seen launcher.new).faults }
 {
@@ -117,7 +120,10 @@ pub fn select<N: InboxName, R: Wait, P: Poller, L: Launcher<Inbox<N>, Poster<N>>
         state.new) }
     ensures fits { IfOk result (AnswerFits watch.now) }
     ensures lost { IfOk result (NothingIsLost state.old state.new) }
+    ensures starving { IfOk result (λ said. is_starved said ≡ true
+        → state.new.hub.starved ≡ true) }
     ensures starved { OnErr result (state.new.hub.starved ≡ true) }
+    ensures posts { TakesMore state.old.hub.taken state.new.hub.taken }
     ensures polled { (P.seen poller.old).faults ≤ (P.seen poller.new).faults }
     ensures launched { (L.seen launcher.old).faults ≤ (L.seen launcher.new).faults }
 {

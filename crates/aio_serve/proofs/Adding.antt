@@ -1,11 +1,13 @@
 -- What is added serves a request, in code as in the machine.
-use Rattle.std.proofs.Common.{◌≡◌, ℕ, ℤ, suc, ◌+◌, ◌-◌, ◌<◌, true, List, [], Option, Some, None, Result, Ok, Err, length, slice_get, ◌∙◌, refl, sym, ap, subst, arith}
+use Rattle.std.proofs.Common.{◌≡◌, ℕ, ℤ, suc, ◌+◌, ◌-◌, ◌<◌, true, List, [], ◌++◌, Option, Some, None, Result, Ok, Err, length, slice_get, ◌∙◌, refl, sym, ap, subst}
+use Rattle.std.proofs.Common.{append-nil, arith}
 use Rattle.std.specs.Prelude.{IfOk, is_none}
 use Rattle.std.proofs.Math.Logic.{∥∥₁_elim, ∥∥₁_map}
 use Rattle.std.proofs.Props.{props}
 use Rattle.std.proofs.lemmas.Bool.{eq-eqb}
 use Rattle.model_value.specs.Input.{Input}
 use Rattle.model_value.specs.Request.{Request}
+use Rattle.model_wire.specs.Event.{Event}
 use Rattle.model_value.specs.Value.{Exc, Outcome, Value}
 use Rattle.model_value.specs.declared.request.Request.TheVariants as request
 use Rattle.model_loop.specs.Futures.{future_outcome, is_pending_at, outcome_at}
@@ -50,8 +52,8 @@ use Rattle.std.proofs.lemmas.Result.{IfOk-weaker}
 use Rattle.aio_exchange.specs.Outside.{IsOutside, Outside, ported}
 use Rattle.aio_wire.specs.declared.stop.Stop.{Stop}
 use Rattle.aio_wire.specs.declared.stop.Stop.TheVariants as stop
-use Rattle.aio_body.proofs.Asking.{HasCome, come_none, come_then, comes_alone, comes_ends, comes_goes, comes_starved, comes_stops}
-use Rattle.aio_body.specs.Asking.{Comes, or_stop, serving}
+use Rattle.aio_body.proofs.Asking.{HasCome, come_none, come_then, comes_alone, comes_ends, comes_goes, comes_starved, comes_stops, comes_without}
+use Rattle.aio_body.specs.Asking.{Comes, ReplyBegins, or_stop, serving}
 use Rattle.law_body.proofs.Answering.{alive_come}
 use Rattle.law_body.specs.Answers.{with_answers}
 use Rattle.law_body.proofs.Adding.{served_of, sound_called, stands_called, ties_called}
@@ -60,6 +62,8 @@ use Rattle.law_body.proofs.Left.{leaves_suspend}
 use Rattle.law_body.proofs.May.{same_prop}
 use Rattle.law_body.proofs.Rooms.{waits_so}
 use Rattle.law_body.proofs.Slotting.{stands_standing}
+use Rattle.law_body.proofs.Telling.{named_also}
+use Rattle.law_body.proofs.Growing.{decides_begins, reply_begins}
 use Rattle.law_body.proofs.Unasked.{reply_told}
 use Rattle.aio_serve.specs.Adding.{AnswersAgain, AnswersAs, IsAnswering, answered, answering, answering_once, HasAnswer, waking}
 use Rattle.aio_serve.proofs.Again.{answering_again}
@@ -95,6 +99,17 @@ module _ {S : Type 0} (added : Extra S) (falls : WakesFall added) (task : ℕ) w
       at (extra.Answers value) e = refl
       at (extra.Raises fault) e = refl
       at (extra.Waits on next) e = until on next (falls key input s on next e) (ended now on)
+
+-- an answer only adds events
+pub answered_begins : {S : Type 0} (added : Extra S) (task : ℕ) (it : ExtraAnswer) (s : State S) (events : List Event) → s.events ≡ events
+    → ReplyBegins events (answered added task it s)
+answered_begins added task (extra.Answers value) s events same = ([], same ∙ sym (append-nil events))
+answered_begins added task (extra.Raises fault) s events same = ([], same ∙ sym (append-nil events))
+answered_begins added task (extra.Waits on key) s events same = by (ended s on)
+  where
+    by : (o : Option Outcome) → ReplyBegins events (serves_until o (woken added task) task on key s)
+    by (Some outcome) = decides_begins added task events s same (standing.Serving key) (input_of outcome)
+    by None = ([], same ∙ sym (append-nil events))
 
 -- ---- what it may rely on
 module _ {X : Type 0} {a : Added X} where
@@ -211,7 +226,7 @@ module _ {X : Type 0} {a : Added X} (task on key : ℕ) (c : Setting a) (body : 
   spares : Spares (Some (task, on)) s.loop.parts (named_in a s)
   spares other id new sleeper own =
       let there = subst (IsOwnSleep s.loop.parts (named_in a s) sleeper) new.1 own in
-      absurd (there.unnamed (h.answers.3 there.plain))
+      absurd (there.unnamed (named_also a s on (h.answers.3 there.plain)))
 
   -- the task waits
   pub rests_so : (new : Body X) (v : View) → outcome_at (slice_get body.parts.futures on) ≡ None
@@ -376,7 +391,15 @@ module _ {X W : Type 0} (a : Added X) (o : Outside W) (laws : IsOutside o) (task
     pub on_starved : (new : Body X) → Comes o (answering a task first old new) (ported was old.events) (ported mid new.events) (Err stop.Memory)
     on_starved new =
         comes_starved o laws (answering a task first old new) are.0 (ported was old.events) (ported mid body.events) (ported mid new.events) refl
-        are.1.exchanged
+        (record {
+          exchanged = are.1.exchanged;
+          told = λ c at h.
+              let t = are.1.told c at h in (
+                t.0,
+                subst (ReplyBegins (c.past ++ body.events.events)) t.1.same
+                    (answered_begins a.meaning task t.1.it t.1.now (c.past ++ body.events.events) t.1.answering.in_step.stands.events),
+              );
+        })
 
     module _ (new : Body X) (is : W) where
       pub on_next : (next : Asked)
@@ -403,10 +426,17 @@ module _ {X W : Type 0} (a : Added X) (o : Outside W) (laws : IsOutside o) (task
           → Comes o (answering a task first old new) (ported was old.events) (ported is new.events) (Err why)
       on_stop why one =
           comes_stops o laws From are.0 (ported was old.events) (ported mid body.events) (answering_once a task asked body new) (ported is new.events)
-          ((λ at. answered a.meaning task at.1 at.0), (plain.Halts, λ c said it. Says task c new said it)) why
+          ((λ at. answered a.meaning task at.1 at.0), (plain.Halts, (λ c said it. Says task c new said it, ReplyBegins))) why
           (record {
             exchanged = are.1.exchanged;
-            told = λ c at h. let t = are.1.told c at h in (t.0, ((t.1.now, t.1.it), (t.1.answering, λ end last e. sym t.1.same ∙ e)));
+            told = λ c at h.
+                let t = are.1.told c at h in (
+                  t.0,
+                  (
+                    (t.1.now, t.1.it),
+                    (t.1.answering, (λ end last e. sym t.1.same ∙ e, λ events begins. subst (ReplyBegins events) t.1.same begins)),
+                  ),
+                );
           }) one
 
 -- ---- an answer by itself asks nothing
@@ -422,14 +452,31 @@ module _ {X W : Type 0} (a : Added X) (o : Outside W) (laws : IsOutside o) (task
   pub once_alone : (result : Result Answered Memory) → IfOk result Answers_
       → Comes o (answering_once a task asked old new) (ported wire old.events) (ported wire new.events) (or_stop result)
   once_alone result answers =
-      comes_alone o laws (answering_once a task asked old new) (ported wire old.events) (ported wire new.events) result refl
+      comes_alone o laws (answering_once a task asked old new) (ported wire old.events) (ported wire new.events)
+      (λ c at h. answered_begins a.meaning task at.1 at.0 (c.past ++ old.events.events) h.in_step.stands.events) result refl
       (IfOk-weaker result _ _ (λ told are c at h. (told_same, are c at.0 at.1 h)) answers)
 
 -- a request that asks nothing, and what lacks memory
 module _ {X W : Type 0} (a : Added X) (o : Outside W) (laws : IsOutside o) (task : ℕ) (asked : Request) (old : Body X) (wire : W) where
+  serving_begins : (c : Setting a) (s : State a.Kept) → IsAskingFor task asked c old s
+      → ReplyBegins (c.past ++ old.events.events) (plain.reply a.meaning task asked s)
+  serving_begins c s h = reply_begins a.meaning task (c.past ++ old.events.events) s h.going.in_step.stands.events asked
+
+  pub serves_without : (new : Body X)
+      → Comes o (serving a task asked old new) (ported wire old.events) (ported wire new.events) (Err stop.Memory)
+  serves_without new =
+      comes_without o laws (serving a task asked old new) (ported wire old.events) (ported wire new.events) serving_begins refl
+
   pub serves_alone : (new : Body X) (result : Result RequestReply Memory) → Serves a task asked old new result
       → Comes o (serving a task asked old new) (ported wire old.events) (ported wire new.events) (or_stop result)
   serves_alone new result serves =
-      comes_alone o laws (serving a task asked old new) (ported wire old.events) (ported wire new.events) result refl
+      comes_alone o laws (serving a task asked old new) (ported wire old.events) (ported wire new.events) serving_begins result refl
       (IfOk-weaker result _ _
       (λ said are c s h. let says = are c s h in (reply_told task c new old s h.going.in_step said asked says, says)) serves)
+
+module _ {X W : Type 0} (a : Added X) (o : Outside W) (laws : IsOutside o) (task key : ℕ) (input : Input) (old : Body X) (wire : W) where
+  pub wakes_without : (new : Body X)
+      → Comes o (waking a task key input old new) (ported wire old.events) (ported wire new.events) (Err stop.Memory)
+  wakes_without new =
+      comes_without o laws (waking a task key input old new) (ported wire old.events) (ported wire new.events)
+      (λ c s h. decides_begins a.meaning task (c.past ++ old.events.events) s h.in_step.stands.events (standing.Serving key) input) refl

@@ -13,7 +13,7 @@ use Rattle.aio_extra.specs.declared.asked.Asked.{Asked}
 use Rattle.aio_body.specs.declared.body.Body.{Body}
 use Rattle.aio_body.specs.declared.reply.RequestReply.{RequestReply}
 use Rattle.aio_body.specs.Asked.{IsDeciding, IsInStep, Says}
-use Rattle.aio_body.specs.Asking.{Piece}
+use Rattle.aio_body.specs.Asking.{Piece, ReplyBegins}
 use Rattle.aio_body.specs.Stands.{Setting}
 use Rattle.aio_serve.specs.declared.added.Answered.{Answered}
 use Rattle.aio_serve.specs.declared.added.Answered.TheVariants.{Replies, Again}
@@ -56,6 +56,7 @@ answering a task asked old new =
       does = λ at. answered a.meaning task at.1 at.0;
       ends = plain.Halts;
       says = λ c said it. Says task c new said it;
+      begins = ReplyBegins;
     }
 
 -- one answer of them
@@ -67,6 +68,7 @@ answering_once a task asked old new =
       does = λ at. answered a.meaning task at.1 at.0;
       ends = plain.Halts;
       says = λ c said it. AnswersAs task c new said it;
+      begins = ReplyBegins;
     }
 
 -- the wait of a request is over
@@ -78,4 +80,5 @@ waking a task key input old new =
       does = decides a.meaning (Serving key) task input;
       ends = plain.Halts;
       says = λ c said it. Says task c new said it;
+      begins = ReplyBegins;
     }

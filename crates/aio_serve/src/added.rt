@@ -37,10 +37,9 @@ pub fn extra<W: Wire, X: Extra>(
     arguments: &Value,
 ) -> Result<RequestReply, Stop>
     requires { Possible X.added (IsAskingFor task (request.Extra code.now arguments.now)) body.old }
-    ensures comes { Comes (outside_of W.seen W.fails W.keeps W.quiet)
+    ensures { Comes (outside_of W.seen W.fails W.keeps W.quiet)
         (serving X.added task (request.Extra code.now arguments.now) body.old body.new)
         (ported wire.old body.old.events) (ported wire.new body.new.events) result }
-    ensures unasked { wire.new ≡ wire.old }
 {
     let Some(code) = as_int(code) else {
         return or_stop(bad_argument(alloc));
@@ -67,10 +66,9 @@ pub fn wake<W: Wire, X: Extra>(
     input: Input,
 ) -> Result<RequestReply, Stop>
     requires { Possible X.added (IsDeciding task (Serving key)) body.old }
-    ensures comes { Comes (outside_of W.seen W.fails W.keeps W.quiet)
+    ensures { Comes (outside_of W.seen W.fails W.keeps W.quiet)
         (waking X.added task key input body.old body.new)
         (ported wire.old body.old.events) (ported wire.new body.new.events) result }
-    ensures unasked { wire.new ≡ wire.old }
 {
     match body.extra.wake(alloc, key, input, &mut body.parts) {
         Ok(asked) => answer(body, alloc, wire, task, asked),
@@ -87,10 +85,9 @@ fn answer<W: Wire, X: Extra>(
     asked: Asked,
 ) -> Result<RequestReply, Stop>
     requires { Possible X.added (HasAnswer task asked) body.old }
-    ensures comes { Comes (outside_of W.seen W.fails W.keeps W.quiet)
+    ensures { Comes (outside_of W.seen W.fails W.keeps W.quiet)
         (answering X.added task asked body.old body.new)
         (ported wire.old body.old.events) (ported wire.new body.new.events) result }
-    ensures unasked { wire.new ≡ wire.old }
 {
     let mut asked = asked;
     for _woken in 0..u64::MAX {
@@ -115,10 +112,9 @@ fn answer_one<W: Wire, X: Extra>(
     asked: Asked,
 ) -> Result<Answered, Stop>
     requires { Possible X.added (HasAnswer task asked) body.old }
-    ensures comes { Comes (outside_of W.seen W.fails W.keeps W.quiet)
+    ensures { Comes (outside_of W.seen W.fails W.keeps W.quiet)
         (answering_once X.added task asked body.old body.new)
         (ported wire.old body.old.events) (ported wire.new body.new.events) result }
-    ensures unasked { wire.new ≡ wire.old }
 {
     match asked {
         Asked::Answer(value) => Ok(Answered::Replies(RequestReply::Answers(value))),

@@ -22,10 +22,9 @@ pub fn reply<W: Wire, X: Extra>(
     request: Request,
 ) -> Result<RequestReply, Stop>
     requires { Possible X.added (IsAskingFor task request) body.old }
-    ensures comes { Comes (outside_of W.seen W.fails W.keeps W.quiet)
+    ensures { Comes (outside_of W.seen W.fails W.keeps W.quiet)
         (serving X.added task request body.old body.new)
         (ported wire.old body.old.events) (ported wire.new body.new.events) result }
-    ensures unasked { wire.new ≡ wire.old }
 {
     match request {
         Request::Extra { code, arguments } => added::extra(
@@ -45,7 +44,7 @@ pub fn or_stop<T>(said: Result<T, Memory>) -> Result<T, Stop>
     }
 }
 
-// A request of the loop's own, none of which asks the outside so far.
+// A request of the loop's own, which asks nothing of the outside.
 fn serve<X: Extra>(
     body: &mut Body<X>,
     alloc: Global,

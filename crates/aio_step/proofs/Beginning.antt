@@ -84,7 +84,7 @@ module _ {X : Type 0} {a : Added X} where
         known = λ tag k. refl;
         tags = omega arith;
         gone = λ other mine.
-            ap (λ b. h.ties.gone other || b) (ne_eqb other id (λ same. own.unnamed (inr (subst (a.owns s.extra) same mine))))
+            ap (λ b. h.ties.gone other || b) (ne_eqb other id (λ same. own.unnamed (inr (inl (subst (a.owns s.extra) same mine)))))
             ∙ or_none (h.ties.gone other);
         futures = omega arith;
         plain = λ other e. e;

@@ -18,7 +18,7 @@ use Rattle.aio_extra.specs.Added.{Added, named_in}
 use Rattle.aio_body.specs.declared.body.Body.{Body}
 use Rattle.aio_body.specs.declared.standing.Slot.{Slot}
 use Rattle.aio_body.specs.declared.standing.Standing.{Standing}
-use Rattle.aio_body.specs.declared.standing.Standing.TheVariants.{Asked, Sleeping, Leaving, Serving}
+use Rattle.aio_body.specs.declared.standing.Standing.TheVariants.{Asked, Sleeping, Leaving, Serving, Connecting, Yielding, Reading, ReadingAll}
 use Rattle.aio_body.specs.GivingUp.{given_up_in, let_go_if, timer_cancelled}
 use Rattle.aio_body.specs.Slots.{no_slot}
 use Rattle.aio_body.specs.Stands.{Setting, Stands, HasSlot, StandsAt}
@@ -27,7 +27,7 @@ use Rattle.law_body.proofs.Left.{begun_waits, leaves_begin}
 use Rattle.law_body.proofs.Lasting.{spares_none, stands_on}
 use Rattle.aio_step.specs.Stepping.{IsCalled, DecidesAs, HasBegun, begun_by}
 use Rattle.aio_step.proofs.Beginning.{stands_taken}
-use Rattle.aio_step.proofs.Called.{called_asked, called_asking, called_leaving, called_within}
+use Rattle.aio_step.proofs.Called.{called_asked, called_asking, called_leaving, called_opened, called_within}
 use Rattle.aio_step.proofs.Opening.{begin_revoke, gives_up}
 
 -- ---- the machine gives up first
@@ -97,48 +97,26 @@ given_calls Asked v = refl
 given_calls (Sleeping timer future) v = let_go_calls (is_some (outcome_at (slice_get v.futures future))) future (timer_cancelled timer v)
 given_calls (Leaving group) v = refl
 given_calls (Serving key) v = refl
+given_calls (Connecting conn) v = refl
+given_calls (Yielding whom) v = refl
+given_calls (Reading from op on) v = refl
+given_calls (ReadingAll from taken on) v = refl
 
 given_runs : (standing : Standing) (v : View) → (given_up_in standing v).running ≡ v.running
 given_runs Asked v = refl
 given_runs (Sleeping timer future) v = let_go_runs (is_some (outcome_at (slice_get v.futures future))) future (timer_cancelled timer v)
 given_runs (Leaving group) v = refl
 given_runs (Serving key) v = refl
+given_runs (Connecting conn) v = refl
+given_runs (Yielding whom) v = refl
+given_runs (Reading from op on) v = refl
+given_runs (ReadingAll from taken on) v = refl
 
 -- ---- what it stood at
 pub stood_decides : (t : Ties) (p : Parts) (named : ℕ → Type 0) (task : ℕ) (code : Standing) (standing : plain.Standing)
     → StandsAt t p named task code standing → DecidesAs code standing
-stood_decides t p named task Asked plain.Asked at = tt
-stood_decides t p named task Asked (plain.Sleeping tag) at = at
-stood_decides t p named task Asked (plain.Leaving id) at = at
-stood_decides t p named task Asked (plain.Serving key) at = at
-stood_decides t p named task Asked (plain.Connecting conn) at = at
-stood_decides t p named task Asked (plain.Yielding whom) at = at
-stood_decides t p named task Asked (plain.Reading from op on) at = at
-stood_decides t p named task Asked (plain.ReadingAll from had on) at = at
-stood_decides t p named task (Sleeping timer future) plain.Asked at = at
 stood_decides t p named task (Sleeping timer future) (plain.Sleeping tag) at = tt
-stood_decides t p named task (Sleeping timer future) (plain.Leaving id) at = at
-stood_decides t p named task (Sleeping timer future) (plain.Serving key) at = at
-stood_decides t p named task (Sleeping timer future) (plain.Connecting conn) at = at
-stood_decides t p named task (Sleeping timer future) (plain.Yielding whom) at = at
-stood_decides t p named task (Sleeping timer future) (plain.Reading from op on) at = at
-stood_decides t p named task (Sleeping timer future) (plain.ReadingAll from had on) at = at
-stood_decides t p named task (Leaving group) plain.Asked at = at
-stood_decides t p named task (Leaving group) (plain.Sleeping tag) at = at
-stood_decides t p named task (Leaving group) (plain.Leaving id) at = at
-stood_decides t p named task (Leaving group) (plain.Serving key) at = at
-stood_decides t p named task (Leaving group) (plain.Connecting conn) at = at
-stood_decides t p named task (Leaving group) (plain.Yielding whom) at = at
-stood_decides t p named task (Leaving group) (plain.Reading from op on) at = at
-stood_decides t p named task (Leaving group) (plain.ReadingAll from had on) at = at
-stood_decides t p named task (Serving key) plain.Asked at = at
-stood_decides t p named task (Serving key) (plain.Sleeping tag) at = at
-stood_decides t p named task (Serving key) (plain.Leaving id) at = at
-stood_decides t p named task (Serving key) (plain.Serving kept) at = at
-stood_decides t p named task (Serving key) (plain.Connecting conn) at = at
-stood_decides t p named task (Serving key) (plain.Yielding whom) at = at
-stood_decides t p named task (Serving key) (plain.Reading from op on) at = at
-stood_decides t p named task (Serving key) (plain.ReadingAll from had on) at = at
+stood_decides t p named task _ _ at = at
 
 module _ {X : Type 0} {a : Added X} (task : ℕ) (input : Input) (c : Setting a) (body : Body X) (s : State a.Kept) (h : IsCalled task c body s)
     (v : View) (after : parts v ≡ (begin_step task input (parts body.parts)).parts)
@@ -213,6 +191,7 @@ module _ {X : Type 0} {a : Added X} (task : ℕ) (input : Input) (c : Setting a)
         request = (called_asking task c body s h).asked;
         asked = called_asked task c body s h input;
         leaving = called_leaving task c body s h input;
+        opened = called_opened task c body s h input;
       };
       heard =
           input_kept h.stands.ties body.parts s.loop.parts h.stands.keeps task input

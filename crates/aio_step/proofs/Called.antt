@@ -5,7 +5,7 @@ use Rattle.model_value.specs.Value.{Nothing}
 use Rattle.model_value.specs.declared.input.Input.TheVariants.{Send}
 use Rattle.model_loop.specs.Tasks.{lives, next_task}
 use Rattle.model_machine.specs.Replies.{decides}
-use Rattle.model_machine.specs.Sound.{IsAsking, IsLeft, sends_made}
+use Rattle.model_machine.specs.Sound.{IsAsking, IsLeft, IsOpenedAt, sends_made}
 use Rattle.model_machine.specs.State as plain
 use Rattle.model_machine.specs.State.{State, generator_of}
 use Rattle.law_cancel.proofs.Lookups.{get_within}
@@ -56,6 +56,12 @@ module _ {X : Type 0} {a : Added X} (task : ℕ) (c : Setting a) (body : Body X)
   called_leaving input =
       subst (λ (x : State a.Kept). (id : ℕ) → (generator_of task x).standing ≡ plain.Leaving id → IsLeft (begun_in task input x) id) (sym h.after)
       (h.sound.standing task lived refl).leaving_now
+
+  -- what it stands at was opened
+  pub called_opened : (input : Input) → IsOpenedAt (begun_in task input s).streams (generator_of task s).standing
+  called_opened input =
+      subst (λ (x : State a.Kept). IsOpenedAt (begun_in task input x).streams (generator_of task x).standing) (sym h.after)
+      (h.sound.standing task lived refl).opened
 
   same_count : length body.slots.items ≡ next_task h.before.loop.parts
   same_count = h.stands.made ∙ ap (λ (x : State a.Kept). next_task x.loop.parts) h.after

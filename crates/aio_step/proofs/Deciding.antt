@@ -1,5 +1,5 @@
 -- What the input of a step means, by the request at which its task stood: the pieces of code that decide it.
-use Rattle.std.proofs.Common.{◌≡◌, ℕ, [], Result, Ok, refl, sym, ap, subst}
+use Rattle.std.proofs.Common.{◌≡◌, ℕ, [], ◌++◌, Result, Ok, refl, sym, ap, subst}
 use Rattle.std.specs.Prelude.{IfOk}
 use Rattle.std.proofs.lemmas.Result.{IfOk-weaker}
 use Rattle.model_value.specs.Input.{Input}
@@ -21,6 +21,7 @@ use Rattle.aio_body.specs.declared.body.Body.{Body}
 use Rattle.aio_body.specs.declared.reply.RequestReply.{RequestReply}
 use Rattle.aio_body.specs.declared.standing.Standing.TheVariants.{Asked, Sleeping, Leaving, Serving}
 use Rattle.aio_serve.specs.Adding.{waking}
+use Rattle.law_body.proofs.Growing.{decides_begins}
 use Rattle.law_body.proofs.Unasked.{decides_told}
 use Rattle.aio_step.specs.Stepping.{DecidesAs, deciding}
 use Rattle.aio_step.proofs.First.{asked_decides, leaving_decides, serving_is, sleeping_decides}
@@ -50,7 +51,8 @@ module _ {X W : Type 0} (a : Added X) (o : Outside W) (laws : IsOutside o) (task
       → Says task c new said (decides a.meaning (plain.Leaving group) task input s))
       → Comes o (deciding a task (Leaving group) input old new) (ported wire old.events) (ported wire new.events) (or_stop result)
   heard_leaving group new result leaves =
-      comes_alone o laws (deciding a task (Leaving group) input old new) (ported wire old.events) (ported wire new.events) result refl
+      comes_alone o laws (deciding a task (Leaving group) input old new) (ported wire old.events) (ported wire new.events)
+      (λ c at h. decides_begins a.meaning task (c.past ++ old.events.events) at.0 h.0.in_step.stands.events at.1 input) result refl
       (IfOk-weaker result _ _ (λ said given c at h.
       let says = leaving_decides group task c old new at.0 input said at.1 h.1 h.0 (given c at.0) in
       (decides_told task c new old at.0 h.0.in_step said at.1 input says, says)) leaves)

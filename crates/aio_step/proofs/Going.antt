@@ -1,5 +1,5 @@
 -- The coroutine says on until the step ends.
-use Rattle.std.proofs.Common.{◌≡◌, ℕ, ◌<◌, Bool, true, false, List, [], Ok, Err, length, ◌∙◌, refl, sym, ap, subst}
+use Rattle.std.proofs.Common.{◌≡◌, ℕ, ◌<◌, Bool, true, false, List, [], ◌++◌, Ok, Err, length, ◌∙◌, refl, sym, ap, subst}
 use Rattle.std.proofs.Math.Logic.{∥∥₁_elim, ∥∥₁_map}
 use Rattle.std.specs.Coded.{le_prop}
 use Rattle.model_value.specs.Input.{Input}
@@ -21,7 +21,7 @@ use Rattle.aio_extra.specs.Added.{Added}
 use Rattle.aio_body.specs.declared.body.Body.{Body}
 use Rattle.aio_body.proofs.Asking.{HasCome, come_beside, come_none, come_then, comes_ends, comes_starved, comes_stops}
 use Rattle.aio_body.specs.Asked.{HasRested}
-use Rattle.aio_body.specs.Asking.{Comes}
+use Rattle.aio_body.specs.Asking.{Comes, WentBegins}
 use Rattle.aio_body.specs.Slots.{put_back}
 use Rattle.aio_body.specs.Stands.{Setting, IsBetween, holding, Possible}
 use Rattle.law_body.proofs.Answering.{alive_come, in_step_again, step_again}
@@ -34,7 +34,7 @@ use Rattle.aio_step.specs.Serving.{serving_once}
 use Rattle.aio_step.specs.declared.steps.Served.TheVariants.{Answered, Rests, Ended}
 use Rattle.aio_step.specs.Stepping.{IsServing, Steps, serving_on}
 use Rattle.aio_step.proofs.Resuming.{its_inside}
-use Rattle.aio_step.proofs.Serving.{LeadsTo, leads_end, leads_on, leads_same}
+use Rattle.aio_step.proofs.Serving.{LeadsTo, leads_begin, leads_end, leads_on, leads_same, once_begins}
 
 module _ {X : Type 0} {a : Added X} where
   -- the task's step has ended, and its coroutine is put back
@@ -117,7 +117,15 @@ module _ {X W : Type 0} (a : Added X) (o : Outside W) (laws : IsOutside o) (task
     pub on_starved : (new : Body X) → Comes o (serving_on a task first start old new) (ported was old.events) (ported mid new.events) (Err stop.Memory)
     on_starved new =
         comes_starved o laws (serving_on a task first start old new) on.0 (ported was old.events) (ported mid body.events) (ported mid new.events) refl
-        on.1.exchanged
+        (record {
+          exchanged = on.1.exchanged;
+          told = λ c s h.
+              let t = on.1.told c s h in (
+                t.0,
+                leads_begin a.meaning task (resumed true task first s) (resumed fresh task input t.1.now) t.1.leads t.1.within (c.past ++ body.events.events)
+                    (once_begins a.meaning task (resumed fresh task input t.1.now) (c.past ++ body.events.events) t.1.serving.in_step.stands.events),
+              );
+        })
 
     module _ (new : Body X) (after : Gen) (is : W) where
       pub on_next : (next : Input)
@@ -143,7 +151,7 @@ module _ {X W : Type 0} (a : Added X) (o : Outside W) (laws : IsOutside o) (task
           → Comes o (serving_on a task first start old new) (ported was old.events) (ported is new.events) (Err why)
       on_stop why once =
           comes_stops o laws From on.0 (ported was old.events) (ported mid body.events) (serving_once a task fresh input coroutine after body new)
-          (ported is new.events) (does, (Stops, λ c went it. Steps c new went it)) why
+          (ported is new.events) (does, (Stops, (λ c went it. Steps c new went it, WentBegins))) why
           (record {
             exchanged = on.1.exchanged;
             told = λ c s h.
@@ -153,9 +161,12 @@ module _ {X W : Type 0} (a : Added X) (o : Outside W) (laws : IsOutside o) (task
                     t.1.now,
                     (
                       t.1.serving,
-                      λ how last e.
-                          leads_end a.meaning task (resumed true task first s) (resumed fresh task input t.1.now) (Stops how last) t.1.leads
-                          (λ go_on. ap (λ (f : (State a.Kept → Went a.Kept) → Went a.Kept). f go_on) e) t.1.within,
+                      (
+                        λ how last e.
+                            leads_end a.meaning task (resumed true task first s) (resumed fresh task input t.1.now) (Stops how last) t.1.leads
+                            (λ go_on. ap (λ (f : (State a.Kept → Went a.Kept) → Went a.Kept). f go_on) e) t.1.within,
+                        leads_begin a.meaning task (resumed true task first s) (resumed fresh task input t.1.now) t.1.leads t.1.within,
+                      ),
                     ),
                   ),
                 );

@@ -23,7 +23,7 @@ use Rattle.aio_task.specs.View.{View}
 use Rattle.aio_extra.specs.Added.{Added, named_in}
 use Rattle.aio_body.specs.declared.body.Body.{Body}
 use Rattle.aio_body.specs.declared.standing.Standing.{Standing}
-use Rattle.aio_body.specs.declared.standing.Standing.TheVariants.{Asked, Sleeping, Leaving, Serving}
+use Rattle.aio_body.specs.declared.standing.Standing.TheVariants.{Asked, Sleeping, Leaving, Serving, Connecting, Yielding, Reading, ReadingAll}
 use Rattle.aio_body.specs.GivingUp.{given_up_in, let_go_if, timer_cancelled}
 use Rattle.aio_body.specs.Stands.{Setting, Stands, StandsAt}
 use Rattle.aio_step.proofs.Beginning.{change_revoke, stands_released}
@@ -68,36 +68,12 @@ module _ {X : Type 0} {a : Added X} where
       → OwnsFutures s.loop.parts → StandsAt h.ties s.loop.parts (named_in a s) task code standing → waiter_of s.loop.parts task ≡ None
       → Stands None c (record body { parts = given_up_in code body.parts }) (unbooked_in (given_up standing) s)
   gives_up c body s task Asked plain.Asked h owns at none = h
-  gives_up c body s task Asked (plain.Sleeping tag) h owns at none = absurd at
-  gives_up c body s task Asked (plain.Leaving id) h owns at none = absurd at
-  gives_up c body s task Asked (plain.Serving key) h owns at none = absurd at
-  gives_up c body s task Asked (plain.Connecting conn) h owns at none = absurd at
-  gives_up c body s task Asked (plain.Yielding whom) h owns at none = absurd at
-  gives_up c body s task Asked (plain.Reading from op on) h owns at none = absurd at
-  gives_up c body s task Asked (plain.ReadingAll from had on) h owns at none = absurd at
-  gives_up c body s task (Leaving group) plain.Asked h owns at none = absurd at
-  gives_up c body s task (Leaving group) (plain.Sleeping tag) h owns at none = absurd at
   gives_up c body s task (Leaving group) (plain.Leaving id) h owns at none = h
-  gives_up c body s task (Leaving group) (plain.Serving key) h owns at none = absurd at
-  gives_up c body s task (Leaving group) (plain.Connecting conn) h owns at none = absurd at
-  gives_up c body s task (Leaving group) (plain.Yielding whom) h owns at none = absurd at
-  gives_up c body s task (Leaving group) (plain.Reading from op on) h owns at none = absurd at
-  gives_up c body s task (Leaving group) (plain.ReadingAll from had on) h owns at none = absurd at
-  gives_up c body s task (Serving key) plain.Asked h owns at none = absurd at
-  gives_up c body s task (Serving key) (plain.Sleeping tag) h owns at none = absurd at
-  gives_up c body s task (Serving key) (plain.Leaving id) h owns at none = absurd at
   gives_up c body s task (Serving key) (plain.Serving kept) h owns at none = h
-  gives_up c body s task (Serving key) (plain.Connecting conn) h owns at none = absurd at
-  gives_up c body s task (Serving key) (plain.Yielding whom) h owns at none = absurd at
-  gives_up c body s task (Serving key) (plain.Reading from op on) h owns at none = absurd at
-  gives_up c body s task (Serving key) (plain.ReadingAll from had on) h owns at none = absurd at
-  gives_up c body s task (Sleeping timer future) plain.Asked h owns at none = absurd at
-  gives_up c body s task (Sleeping timer future) (plain.Leaving id) h owns at none = absurd at
-  gives_up c body s task (Sleeping timer future) (plain.Serving key) h owns at none = absurd at
-  gives_up c body s task (Sleeping timer future) (plain.Connecting conn) h owns at none = absurd at
-  gives_up c body s task (Sleeping timer future) (plain.Yielding whom) h owns at none = absurd at
-  gives_up c body s task (Sleeping timer future) (plain.Reading from op on) h owns at none = absurd at
-  gives_up c body s task (Sleeping timer future) (plain.ReadingAll from had on) h owns at none = absurd at
+  gives_up c body s task (Connecting conn) (plain.Connecting id) h owns at none = h
+  gives_up c body s task (Yielding whom) (plain.Yielding drained) h owns at none = h
+  gives_up c body s task (Reading from op on) (plain.Reading source asked future) h owns at none = h
+  gives_up c body s task (ReadingAll from taken on) (plain.ReadingAll source had future) h owns at none = h
   gives_up c body s task (Sleeping timer future) (plain.Sleeping tag) h owns at none = go (is_some (outcome_at (slice_get body.parts.futures future))) refl
     where
       p : Parts
@@ -119,3 +95,4 @@ module _ {X : Type 0} {a : Added X} where
           stands_released None c (record body { parts = cancelled }) (unbooked_in (revoke tag) s) task future revoked owns
           (own_on None p (revoke tag p) (named_in a s) (Some task) future (leaves_revoke tag p) (spares_none p (named_in a s)) at.1) none
           (sym (pending_kept h.ties body.parts p h.keeps future) ∙ done_at (slice_get body.parts.futures future) e)
+  gives_up c body s task _ _ h owns at none = absurd at

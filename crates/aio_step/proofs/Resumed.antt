@@ -24,11 +24,12 @@ use Rattle.aio_body.specs.declared.body.Body.{Body}
 use Rattle.aio_body.specs.declared.reply.RequestReply.{RequestReply}
 use Rattle.aio_wire.specs.EventList.{EventList}
 use Rattle.aio_wire.specs.declared.stop.Stop.{Stop}
+use Rattle.aio_wire.specs.declared.stop.Stop.TheVariants as stop
 use Rattle.aio_exchange.proofs.Among.{told_none}
 use Rattle.aio_exchange.specs.Among.{AreTold}
 use Rattle.aio_exchange.specs.Exchanged.{All}
 use Rattle.aio_exchange.specs.Outside.{IsOutside, Outside, ported}
-use Rattle.aio_body.proofs.Asking.{HasCome, come_none, come_then, comes_ends, comes_stops}
+use Rattle.aio_body.proofs.Asking.{HasCome, come_none, come_then, comes_ends, comes_stops, comes_without}
 use Rattle.aio_body.specs.Asked.{IsAskingFor}
 use Rattle.aio_body.specs.Asking.{Comes, Piece, before, serving}
 use Rattle.aio_body.specs.Stands.{Setting, holding, Possible}
@@ -36,11 +37,11 @@ use Rattle.law_body.proofs.May.{same_prop}
 use Rattle.law_body.proofs.Over.{comes_over, over}
 use Rattle.law_body.proofs.Slotting.{set_length}
 use Rattle.law_body.proofs.Sound.{raised_sound, requests_sound, returned_sound}
-use Rattle.aio_step.specs.Serving.{EndsAt, LeadsOn, RunsAway, halted, served_of, serves_once, serving_once}
+use Rattle.aio_step.specs.Serving.{EndsAt, LeadsOn, OnwardBegins, RunsAway, halted, served_of, serves_once, serving_once}
 use Rattle.aio_step.specs.declared.steps.Served.{Served}
 use Rattle.aio_step.specs.Stepping.{IsServing}
 use Rattle.aio_step.proofs.Resuming.{asks_out, ends_out, its_inside, runs_out, says_out}
-use Rattle.aio_step.proofs.Serving.{answered, halts_so}
+use Rattle.aio_step.proofs.Serving.{answered, asks_begin, halts_so, once_begins}
 use Rattle.law_body.proofs.Sound.{extra_sound}
 
 module _ {X : Type 0} {a : Added X} (task : ℕ) (fresh : Bool) (input : Input) (body : Body X) (taken : Gen) where
@@ -148,12 +149,15 @@ module _ {X : Type 0} {a : Added X} (task : ℕ) (fresh : Bool) (input : Input) 
             → Comes o (serving_once a task fresh input taken now body new) (ported was body.events) (ported is new.events) (Err why)
         asks_stop why replies =
             comes_stops o laws From [] (ported was body.events) (ported was body.events) (asked request new) (ported is new.events)
-            ((λ s. serves_once a.meaning task (resumed fresh task input s)), (halted, λ c said it. LeadsOn task c new now said it)) why
+            ((λ s. serves_once a.meaning task (resumed fresh task input s)), (halted, (λ c said it. LeadsOn task c new now said it, OnwardBegins))) why
             (none body _ refl (λ c s h. (
               resumed fresh task input s,
               (
                 asking c s h request e,
-                λ how last halts. halts_so a.meaning task (resumed fresh task input s) request (says_asks c s h request e) how last halts,
+                (
+                  λ how last halts. halts_so a.meaning task (resumed fresh task input s) request (says_asks c s h request e) how last halts,
+                  asks_begin a.meaning task (resumed fresh task input s) request (says_asks c s h request e),
+                ),
               ),
             )))
             (held request new is (Err why) replies)
@@ -165,3 +169,11 @@ module _ {X : Type 0} {a : Added X} (task : ℕ) (fresh : Bool) (input : Input) 
       ends_so new said same all =
           comes_ends o laws (serving_once a task fresh input taken now body new) [] (ported was body.events) (ported was new.events) said
           (none new _ same all)
+
+-- it had no memory
+module _ {X W : Type 0} (a : Added X) (o : Outside W) (laws : IsOutside o) (task : ℕ) (fresh : Bool) (input : Input) (body : Body X) (taken after : Gen)
+    (was : W) where
+  pub resumes_without : Comes o (serving_once a task fresh input taken after body body) (ported was body.events) (ported was body.events) (Err stop.Memory)
+  resumes_without =
+      comes_without o laws (serving_once a task fresh input taken after body body) (ported was body.events) (ported was body.events)
+      (λ c s h. once_begins a.meaning task (resumed fresh task input s) (c.past ++ body.events.events) h.in_step.stands.events) refl

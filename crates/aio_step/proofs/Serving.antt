@@ -1,9 +1,10 @@
 -- A task is served until its step ends: what one answer after another leads to.
-use Rattle.std.proofs.Common.{◌≡◌, ℕ, suc, ◌+◌, ◌<◌, false, length, ◌∙◌, sym, ap, subst, arith}
+use Rattle.std.proofs.Common.{◌≡◌, ℕ, suc, ◌+◌, ◌<◌, false, List, length, ◌∙◌, sym, ap, subst, arith}
 use Rattle.model_value.specs.Request.{Request}
 use Rattle.model_value.specs.declared.input.Input.TheVariants.{Send, Throw}
 use Rattle.model_says.specs.Endings.{Asks}
 use Rattle.model_says.specs.Says.{step_limit}
+use Rattle.model_wire.specs.Event.{Event}
 use Rattle.model_wire.specs.Trace.{End}
 use Rattle.std.proofs.Math.Path.{fun_ext}
 use Rattle.model_machine.specs.Extra.{Extra}
@@ -18,10 +19,12 @@ use Rattle.aio_gen.specs.declared.generator.Gen.{Gen}
 use Rattle.aio_body.specs.declared.reply.RequestReply.{RequestReply}
 use Rattle.aio_body.specs.declared.reply.RequestReply.TheVariants as said
 use Rattle.aio_body.specs.Asked.{Says}
+use Rattle.aio_body.specs.Asking.{ReplyBegins, WentBegins}
 use Rattle.aio_body.specs.Stands.{Setting, holding}
-use Rattle.aio_step.specs.Serving.{GoesOnWith, LeadsOn, halted, serves_once, served_of}
+use Rattle.aio_step.specs.Serving.{GoesOnWith, LeadsOn, OnwardBegins, halted, serves_once, served_of}
 use Rattle.law_machine.proofs.Kept.{IsKeptInAnswer, reply_state, reply-keeps}
 use Rattle.law_inside.specs.InStep.{RepliesInStep}
+use Rattle.law_body.proofs.Growing.{serve_adds, served_adds, taken_begins}
 use Rattle.law_body.proofs.Sound.{ends_by_itself}
 
 -- what serving what the coroutine says comes to, whatever comes after
@@ -57,15 +60,44 @@ leads_on added task first now next l goes = record {
       ∙ ap (λ k. serve step_limit added k task first) (move m l.count);
 }
 
+-- the whole is the rest from here, with a bound that is not met
+goes_from : {S : Type 0} (added : Extra S) (task : ℕ) (first now : State S) → (l : LeadsTo added task first now) → task < length first.generators
+    → serve_all step_limit added task first ≡ serve step_limit added (suc (most_answers step_limit (generator_of task first).tape)) task now
+goes_from added task first now l within =
+    sym (ends_by_itself added task (suc l.count) first within)
+    ∙ sym (ap (λ k. serve step_limit added k task first) (move (most_answers step_limit (generator_of task first).tape) l.count))
+    ∙ sym (l.same (suc (most_answers step_limit (generator_of task first).tape)))
+
+-- so it begins with what that begins with
+pub leads_begin : {S : Type 0} (added : Extra S) (task : ℕ) (first now : State S) → LeadsTo added task first now → task < length first.generators
+    → (events : List Event) → OnwardBegins events (serves_once added task now) → WentBegins events (serve_all step_limit added task first)
+unfolding serve
+leads_begin added task first now l within events begins =
+    subst (WentBegins events) (sym (goes_from added task first now l within))
+    (begins (serve step_limit added (most_answers step_limit (generator_of task first).tape) task)
+    (serve_adds step_limit added task (most_answers step_limit (generator_of task first).tape)))
+
 pub leads_end : {S : Type 0} (added : Extra S) (task : ℕ) (first now : State S) (went : Went S) → LeadsTo added task first now
     → ServedAs added task now (λ go_on. went)
     → task < length first.generators → serve_all step_limit added task first ≡ went
 unfolding serve
 leads_end added task first now went l goes within =
-    sym (ends_by_itself added task (suc l.count) first within)
-    ∙ sym (ap (λ k. serve step_limit added k task first) (move (most_answers step_limit (generator_of task first).tape) l.count))
-    ∙ sym (l.same (suc (most_answers step_limit (generator_of task first).tape)))
+    goes_from added task first now l within
     ∙ goes (serve step_limit added (most_answers step_limit (generator_of task first).tape) task)
+
+-- what is told before an answer of the coroutine is told after it
+pub once_begins : {S : Type 0} (added : Extra S) (task : ℕ) (s : State S) (events : List Event) → s.events ≡ events
+    → OnwardBegins events (serves_once added task s)
+once_begins added task s events same go_on adds =
+    subst (λ (es : List Event). WentBegins es (serves_once added task s go_on)) same
+    (served_adds step_limit added task (says_of step_limit added task s) go_on adds s)
+
+-- and so is what its request begins with
+pub asks_begin : {S : Type 0} (added : Extra S) (task : ℕ) (s : State S) (request : Request) → says_of step_limit added task s ≡ Asks request
+    → (events : List Event) → ReplyBegins events (reply added task request s) → OnwardBegins events (serves_once added task s)
+asks_begin added task s request asks events begins go_on adds =
+    subst (WentBegins events) (sym (ap (λ saying. served step_limit added saying task go_on s) asks))
+    (taken_begins events (reply added task request s) false task go_on adds begins)
 
 -- a reply that ends the run ends the step
 pub halts_so : {S : Type 0} (added : Extra S) (task : ℕ) (s : State S) (request : Request) → says_of step_limit added task s ≡ Asks request

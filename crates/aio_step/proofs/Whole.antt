@@ -19,13 +19,14 @@ use Rattle.aio_exchange.specs.Outside.{IsOutside, Outside, ported}
 use Rattle.aio_extra.specs.Added.{Added}
 use Rattle.aio_body.proofs.Asking.{HasCome, come_beside, come_none, come_then, comes_ends, comes_goes, comes_stops}
 use Rattle.aio_body.specs.Asked.{Says}
-use Rattle.aio_body.specs.Asking.{Comes, Piece, before}
+use Rattle.aio_body.specs.Asking.{Comes, Piece, ReplyBegins, WentBegins, before}
 use Rattle.aio_body.specs.declared.body.Body.{Body}
 use Rattle.aio_body.specs.declared.reply.RequestReply.{RequestReply}
 use Rattle.aio_body.specs.declared.reply.RequestReply.TheVariants as said
 use Rattle.aio_body.specs.Slots.{put_back}
 use Rattle.aio_body.specs.Stands.{Setting, holding, Possible}
 use Rattle.law_body.proofs.Answering.{alive_come, state_again, stands_again}
+use Rattle.law_body.proofs.Growing.{all_adds, taken_begins}
 use Rattle.law_body.proofs.Over.{comes_over, over}
 use Rattle.law_body.proofs.Unasked.{told_so}
 use Rattle.law_body.specs.Answers.{with_answers, with_rest}
@@ -88,7 +89,7 @@ module _ {X W : Type 0} (a : Added X) (o : Outside W) (laws : IsOutside o) (task
   unfolding step
   decides_stop why decides =
       comes_stops o laws From [] (ported was old.events) (ported was begun.events) decides_so (ported mid new.events)
-      (step step_limit a.meaning task input, (Stops, λ c went it. Steps c new went it)) why
+      (step step_limit a.meaning task input, (Stops, (λ c went it. Steps c new went it, WentBegins))) why
       (record {
         exchanged = begins.exchanged;
         told = λ c s h.
@@ -98,10 +99,17 @@ module _ {X W : Type 0} (a : Added X) (o : Outside W) (laws : IsOutside o) (task
                 (begun_in task input s, (generator_of task s).standing),
                 (
                   (t.1.1.deciding, t.1.1.decides),
-                  λ how last e.
-                      stops_first task (serve_all step_limit a.meaning task) how last (decided a.meaning task input s)
-                      (subst
-                      (λ x. reply.decides a.meaning (generator_of task s).standing task x (begun_in task input s) ≡ reply.Halts how last) t.1.1.heard e),
+                  (
+                    λ how last e.
+                        stops_first task (serve_all step_limit a.meaning task) how last (decided a.meaning task input s)
+                        (subst
+                        (λ x. reply.decides a.meaning (generator_of task s).standing task x (begun_in task input s) ≡ reply.Halts how last) t.1.1.heard e),
+                    λ events begins.
+                        taken_begins events (decided a.meaning task input s) true task (serve_all step_limit a.meaning task)
+                        (all_adds step_limit a.meaning task)
+                        (subst (λ x. ReplyBegins events (reply.decides a.meaning (generator_of task s).standing task x (begun_in task input s))) t.1.1.heard
+                        begins),
+                  ),
                 ),
               ),
             );

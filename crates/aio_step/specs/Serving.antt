@@ -1,8 +1,9 @@
 -- What one answer of a coroutine leads to, whatever comes after it.
-use Rattle.std.specs.Prelude.{◌≡◌, ℕ, ◌<◌, false, Bool, ◌++◌, length}
+use Rattle.std.specs.Prelude.{◌≡◌, ℕ, ◌<◌, false, Bool, List, ◌++◌, length}
 use Rattle.model_value.specs.Input.{Input}
 use Rattle.model_says.specs.Says.{step_limit}
 use Rattle.model_wire.specs.declared.event.End.TheVariants as end
+use Rattle.model_wire.specs.Event.{Event}
 use Rattle.model_wire.specs.Trace.{End}
 use Rattle.model_machine.specs.Extra.{Extra}
 use Rattle.model_machine.specs.Sound.{IsStateSound}
@@ -16,7 +17,7 @@ use Rattle.model_value.specs.declared.input.Input.TheVariants.{Send, Throw}
 use Rattle.aio_body.specs.declared.reply.RequestReply.{RequestReply}
 use Rattle.aio_body.specs.declared.reply.RequestReply.TheVariants as said
 use Rattle.aio_body.specs.Asked.{HasRested}
-use Rattle.aio_body.specs.Asking.{Piece}
+use Rattle.aio_body.specs.Asking.{Piece, WentBegins}
 use Rattle.aio_body.specs.Stands.{Setting, IsBetween, holding}
 use Rattle.aio_step.specs.declared.steps.Served.{Served}
 use Rattle.aio_step.specs.declared.steps.Served.TheVariants.{Answered, Rests, Ended}
@@ -63,6 +64,11 @@ serves_once added task s go_on = served step_limit added (says_of step_limit add
 abbrev pub halted : {S : Type 0} → End → State S → Onward S
 halted how last go_on = Stops how last
 
+-- with these events begins what is left, whatever comes after, as that only adds events
+abbrev pub OnwardBegins : {S : Type 0} → List Event → Onward S → Type 0
+OnwardBegins {S} events machine =
+    (go_on : State S → Went S) → ((s : State S) → WentBegins s.events (go_on s)) → WentBegins events (machine go_on)
+
 abbrev pub serving_once : {X : Type 0} → (a : Added X) → (task : ℕ) (fresh : Bool) (input : Input) (coroutine after : Gen) (old new : Body X)
     → Piece a (State a.Kept) (Onward a.Kept) Served
 serving_once a task fresh input coroutine after old new =
@@ -71,6 +77,7 @@ serving_once a task fresh input coroutine after old new =
       does = λ s. serves_once a.meaning task (resumed fresh task input s);
       ends = halted;
       says = λ c said machine. LeadsOn task c new after said machine;
+      begins = OnwardBegins;
     }
 
 -- what an answer is to the step

@@ -15,6 +15,7 @@ use Rattle.model_machine.specs.Replies.{decides}
 use Rattle.model_machine.specs.Step.{given_up, serve_all, step}
 use Rattle.model_machine.specs.Went.{Went, Goes, Stops}
 use Rattle.aio_gen.specs.declared.generator.Gen.{Gen}
+use Rattle.aio_transports.specs.Readers.{reader_as}
 use Rattle.aio_extra.specs.Added.{Added}
 use Rattle.aio_body.specs.declared.body.Body.{Body}
 use Rattle.aio_body.specs.declared.standing.Standing.{Standing}
@@ -24,7 +25,7 @@ use Rattle.aio_step.specs.declared.steps.Stepped as stepped
 use Rattle.aio_step.specs.declared.steps.Stepped.TheVariants as went
 use Rattle.aio_body.specs.declared.reply.RequestReply.{RequestReply}
 use Rattle.aio_body.specs.Asked.{IsInStep, IsDeciding, Says}
-use Rattle.aio_body.specs.Asking.{Piece}
+use Rattle.aio_body.specs.Asking.{Piece, ReplyBegins, WentBegins}
 use Rattle.aio_body.specs.Stands.{Setting, Stands, IsBetween, holding}
 use Rattle.law_inside.specs.InStep.{IsStepSound}
 
@@ -68,6 +69,12 @@ DecidesAs standing.Asked plain.Asked = Unit {0}
 DecidesAs (standing.Sleeping timer future) (plain.Sleeping tag) = Unit {0}
 DecidesAs (standing.Leaving group) (plain.Leaving id) = group ≡ id
 DecidesAs (standing.Serving key) (plain.Serving kept) = key ≡ kept
+DecidesAs (standing.Connecting conn) (plain.Connecting id) = conn ≡ id
+DecidesAs (standing.Yielding whom) (plain.Yielding drained) = whom ≡ drained
+DecidesAs (standing.Reading from op on) (plain.Reading source asked future) =
+    (reader_as from ≡ source) × (op ≡ asked) × (on ≡ future)
+DecidesAs (standing.ReadingAll from taken on) (plain.ReadingAll source had future) =
+    (reader_as from ≡ source) × (taken ≡ had) × (on ≡ future)
 DecidesAs _ _ = ⊥
 
 abbrev pub IsDecidingAs : {X : Type 0} {a : Added X} → ℕ → Standing → Setting a → Body X → State a.Kept → Type 0
@@ -94,6 +101,7 @@ stepping a task input old new =
       does = step step_limit a.meaning task input;
       ends = Stops;
       says = λ c went it. Steps c new went it;
+      begins = WentBegins;
     }
 
 -- from a state, and the request at which the task stood
@@ -105,6 +113,7 @@ deciding a task code input old new =
       does = λ at. decides a.meaning at.1 task input at.0;
       ends = reply.Halts;
       says = λ c said it. Says task c new said it;
+      begins = ReplyBegins;
     }
 
 abbrev pub serving_on : {X : Type 0} → (a : Added X) → ℕ → Input → Gen → (old new : Body X) → Piece a (State a.Kept) (Went a.Kept) stepped.Stepped
@@ -114,4 +123,5 @@ serving_on a task input coroutine old new =
       does = λ s. serve_all step_limit a.meaning task (resumed true task input s);
       ends = Stops;
       says = λ c went it. Steps c new went it;
+      begins = WentBegins;
     }

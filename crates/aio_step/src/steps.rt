@@ -52,33 +52,39 @@ pub fn step<W: Wire, X: Extra>(
 ) -> Result<Stepped, Stop>
     requires called { Possible X.added (IsCalled task) body.old }
     requires made { HearsMade input body.old }
-    ensures comes { Comes (outside_of W.seen W.fails W.keeps W.quiet)
+    ensures { Comes (outside_of W.seen W.fails W.keeps W.quiet)
         (stepping X.added task input body.old body.new)
         (ported wire.old body.old.events) (ported wire.new body.new.events) result }
-    ensures unasked { wire.new ≡ wire.old }
 {
     let Started {
         coroutine,
         standing,
         input,
     } = begin(body, task, ticket, input);
-    match decide(body, alloc, wire, task, standing, input) {
+    match decide(body, alloc, wire, task, &standing, input) {
         Ok(RequestReply::Answers(value)) => {
+            forget_standing(standing);
             serve(body, alloc, wire, task, coroutine, Input::Send(value))
         }
         Ok(RequestReply::Raises(fault)) => {
+            forget_standing(standing);
             serve(body, alloc, wire, task, coroutine, Input::Throw(fault))
         }
         Ok(RequestReply::Rests) => {
+            forget_standing(standing);
             body.put_back(task, coroutine);
             Ok(Stepped::Goes)
         }
         Err(stop) => {
+            forget_standing(standing);
             forget_coroutine(coroutine);
             Err(stop)
         }
     }
 }
+
+// What a task stood at is let go once it was decided by.
+fn forget_standing(_standing: Standing) {}
 
 // A coroutine whose step has ended is let go.
 fn forget_coroutine(_coroutine: Gen) {}
@@ -94,7 +100,7 @@ fn begin<X: Extra>(body: &mut Body<X>, task: u32, ticket: Ticket, input: Input) 
         coroutine,
         standing,
     } = body.take(task);
-    body.give_up(standing);
+    body.give_up(&standing);
     let Some(coroutine) = coroutine else {
         unreachable!()
     };
@@ -111,14 +117,13 @@ fn decide<W: Wire, X: Extra>(
     alloc: Global,
     wire: &mut W,
     task: u32,
-    standing: Standing,
+    standing: &Standing,
     input: Input,
 ) -> Result<RequestReply, Stop>
-    requires { Possible X.added (IsDecidingAs task standing) body.old }
-    ensures comes { Comes (outside_of W.seen W.fails W.keeps W.quiet)
-        (deciding X.added task standing input body.old body.new)
+    requires { Possible X.added (IsDecidingAs task standing.now) body.old }
+    ensures { Comes (outside_of W.seen W.fails W.keeps W.quiet)
+        (deciding X.added task standing.now input body.old body.new)
         (ported wire.old body.old.events) (ported wire.new body.new.events) result }
-    ensures unasked { wire.new ≡ wire.old }
 {
     match standing {
         Standing::Asked => Ok(reply_of(input)),
@@ -126,8 +131,21 @@ fn decide<W: Wire, X: Extra>(
             timer: _,
             future: _,
         } => Ok(reply_of(input)),
-        Standing::Leaving(group) => or_stop(leave_group(body, alloc, task, group, input)),
-        Standing::Serving(key) => wake(body, alloc, wire, task, key, input),
+        Standing::Leaving(group) => or_stop(leave_group(body, alloc, task, *group, input)),
+        Standing::Serving(key) => wake(body, alloc, wire, task, *key, input),
+        // nothing is open so far, so that no task stands at one of these
+        Standing::Connecting(_) => unreachable!(),
+        Standing::Yielding(_) => unreachable!(),
+        Standing::Reading {
+            from: _,
+            op: _,
+            on: _,
+        } => unreachable!(),
+        Standing::ReadingAll {
+            from: _,
+            taken: _,
+            on: _,
+        } => unreachable!(),
     }
 }
 
@@ -141,10 +159,9 @@ fn serve<W: Wire, X: Extra>(
     input: Input,
 ) -> Result<Stepped, Stop>
     requires { Possible X.added (IsServing task true input coroutine) body.old }
-    ensures comes { Comes (outside_of W.seen W.fails W.keeps W.quiet)
+    ensures { Comes (outside_of W.seen W.fails W.keeps W.quiet)
         (serving_on X.added task input coroutine body.old body.new)
         (ported wire.old body.old.events) (ported wire.new body.new.events) result }
-    ensures unasked { wire.new ≡ wire.old }
 {
     let mut coroutine = coroutine;
     let mut input = input;
@@ -186,10 +203,9 @@ fn serve_one<W: Wire, X: Extra>(
     fresh: bool,
 ) -> Result<Served, Stop>
     requires { Possible X.added (IsServing task fresh input coroutine.old) body.old }
-    ensures comes { Comes (outside_of W.seen W.fails W.keeps W.quiet)
+    ensures { Comes (outside_of W.seen W.fails W.keeps W.quiet)
         (serving_once X.added task fresh input coroutine.old coroutine.new body.old body.new)
         (ported wire.old body.old.events) (ported wire.new body.new.events) result }
-    ensures unasked { wire.new ≡ wire.old }
 {
     match coroutine.resume(alloc, &body.code, input, fresh) {
         Ok(GenOut::Asks(request)) => match reply(body, alloc, wire, task, request) {

@@ -8,9 +8,11 @@ use Rattle.std.proofs.lemmas.Option.{slice_get_past}
 use Rattle.model_wire.specs.declared.event.Handed.TheVariants as to
 use Rattle.model_stream.specs.declared.answers.Wrote.{Wrote}
 use Rattle.model_stream.specs.declared.answers.Wrote.TheVariants as wrote
-use Rattle.model_stream.specs.Connections.{Connection, write_to}
+use Rattle.model_stream.specs.Connections.{Connection, its_receiver, write_to}
 use Rattle.model_stream.specs.Doing.{Doing, Ends, and_then}
-use Rattle.model_stream.specs.Requests.{asked_one, noted, write, write_unnoted, written_by}
+use Rattle.model_stream.specs.Receivers.{give_up_read}
+use Rattle.model_stream.specs.Requests as requests
+use Rattle.model_stream.specs.Requests.{OfConn, asked_one, noted, write, write_unnoted, written_by}
 use Rattle.model_stream.specs.Streams.{Streams, its_connections, on_one}
 use Rattle.aio_wire.specs.declared.stop.Stop.{Stop}
 use Rattle.aio_exchange.specs.Outside.{IsOutside, Outside}
@@ -26,7 +28,7 @@ use Rattle.aio_sender.specs.Owned.{futures_of}
 use Rattle.aio_connection.specs.Owned.{OwnsConnection}
 use Rattle.aio_stream.specs.Kept.{Kept}
 use Rattle.aio_stream.specs.Owned.{OwnsStreams}
-use Rattle.aio_stream.specs.Standing.{Answers, Comes, StandsFor, Told, ToldWith}
+use Rattle.aio_stream.specs.Standing.{Answers, Becomes, Comes, StandsAfter, StandsFor, Told, ToldWith}
 
 -- ---- reads of a list
 pub at_place : {X : Type 0} (xs : List X) (id : ℕ) (x : X) → id < length xs → x ≡ slice_index_or xs id x → slice_get xs id ≡ Some x
@@ -78,13 +80,16 @@ module _ (k : Kept) (id : ℕ) (c after : Connection) (at : slice_get k.connecti
   abbrev put_in : Streams → Streams
   put_in s = record s { connections = slice_set s.connections id after }
 
-  stands_placed : (s : Streams) → StandsFor k s → StandsFor placed (put_in s)
-  stands_placed s h = record {
-    servers = h.servers;
-    connections = ap (λ cs. slice_set cs id after) h.connections;
-    opened = h.opened;
-    most = h.most;
-  }
+  stands_placed : (s : Streams) → StandsFor k s → StandsAfter placed s (put_in s)
+  stands_placed s h = (
+    record {
+      servers = h.servers;
+      connections = ap (λ cs. slice_set cs id after) h.connections;
+      opened = h.opened;
+      most = h.most;
+    },
+    refl,
+  )
 
   is_there : (s : Streams) → StandsFor k s → Some c ≡ slice_get s.connections id
   is_there s h = sym (ap (λ cs. slice_get cs id) h.connections ∙ at)
@@ -114,7 +119,7 @@ module _ (k : Kept) (id : ℕ) (c after : Connection) (at : slice_get k.connecti
         goes (Err why) f =
             follows_stopped o laws seen_changed (change c) (λ it. Ends (record s { connections = slice_set s.connections id it })) why old new f
 
-        ok : (r : Result R Stop) → OnOk r (StandsFor placed (put_in s))
+        ok : (r : Result R Stop) → OnOk r (StandsAfter placed s (put_in s))
         ok (Ok said) = stands_placed s h
         ok (Err why) = tt
 
@@ -151,20 +156,28 @@ module _ (k : Kept) (id : ℕ) (c after : Connection) (at : slice_get k.connecti
     noted_so : (s : Streams) → StandsFor k s → (noting : List ℕ)
         → Follows o seen_changed (write_unnoted (to.Conn id) piece (noted (to.Conn id) noting s)) old new
         (with_after (put_in (noted (to.Conn id) noting s)) result)
-        × OnOk result (StandsFor placed (put_in (noted (to.Conn id) noting s)))
+        × OnOk result (StandsAfter placed s (put_in (noted (to.Conn id) noting s)))
     noted_so s h [] = (unnoted s (is_there s h), ok result)
       where
-        ok : (r : Result Wrote Stop) → OnOk r (StandsFor placed (put_in s))
+        ok : (r : Result Wrote Stop) → OnOk r (StandsAfter placed s (put_in s))
         ok (Ok said) = stands_placed s h
         ok (Err why) = tt
     noted_so s h (byte ∷ bytes) =
         let it = noted (to.Conn id) (byte ∷ bytes) s in
         let stands : StandsFor k it = record { servers = h.servers; connections = h.connections; opened = h.opened; most = h.most } in
-        (unnoted it (is_there it stands), ok it stands result)
+        (unnoted it (is_there it stands), ok result)
       where
-        ok : (it : Streams) → StandsFor k it → (r : Result Wrote Stop) → OnOk r (StandsFor placed (put_in it))
-        ok it stands (Ok said) = stands_placed it stands
-        ok it stands (Err why) = tt
+        ok : (r : Result Wrote Stop) → OnOk r (StandsAfter placed s (put_in (noted (to.Conn id) (byte ∷ bytes) s)))
+        ok (Ok said) = (
+          record {
+            servers = h.servers;
+            connections = ap (λ cs. slice_set cs id after) h.connections;
+            opened = h.opened;
+            most = h.most;
+          },
+          refl,
+        )
+        ok (Err why) = tt
 
     abbrev writes_by : Streams → Option Connection → Doing (Streams × Wrote)
     writes_by s it = elim (option_map (λ (c : Connection). c.sender) it) [
@@ -249,10 +262,31 @@ module _ (k : Kept) (id : ℕ) (c after : Connection) (at : slice_get k.connecti
             (one (own_at old k.connections id c at own))
         by (Err why) f one = tt
 
+  -- a read that gives up
+  module _ (on : ℕ) (is : after ≡ its_receiver.put (give_up_read on c.receiver) c) where
+    abbrev given_by : Streams → Option Connection → Streams
+    given_by s it = elim it [
+      | None ↦ s
+      | Some one ↦ record s { connections = slice_set s.connections id (its_receiver.put (give_up_read on one.receiver) one) }
+    ]
+
+    pub given_placed : Becomes (requests.give_up_read on (OfConn id)) k placed
+    given_placed s h =
+        subst (λ it. StandsAfter placed s (given_by s it)) (is_there s h)
+        (subst (λ a. StandsAfter placed s (record s { connections = slice_set s.connections id a })) is (stands_placed s h))
+
 -- ---- on one that there isn't
 module _ (k : Kept) (id : ℕ) (past : slice_get k.connections id ≡ None) where
   none_there : (s : Streams) → StandsFor k s → None ≡ slice_get s.connections id
   none_there s h = sym (ap (λ cs. slice_get cs id) h.connections ∙ past)
+
+  pub given_absent : (on : ℕ) → Becomes (requests.give_up_read on (OfConn id)) k k
+  given_absent on s h =
+      subst (λ (it : Option Connection). StandsAfter k s
+      (elim it [
+        | None ↦ s
+        | Some one ↦ record s { connections = slice_set s.connections id (its_receiver.put (give_up_read on one.receiver) one) }
+      ])) (none_there s h) (h, refl)
 
   pub comes_absent : {R W : Type 0} (o : Outside W) (laws : IsOutside o) (change : Connection → Doing Connection) (at : Reach View W) (result : R)
       → Comes o (on_one its_connections id change) k k at at (Ok result)
@@ -264,7 +298,7 @@ module _ (k : Kept) (id : ℕ) (past : slice_get k.connections id ≡ None) wher
             | None ↦ Ends s
             | Some one ↦ and_then (change one) (λ it. Ends (record s { connections = slice_set s.connections id it }))
           ]) at at (Ok s)) (none_there s h) (follows_ends o laws seen_changed s at),
-      h,
+      (h, refl),
     ),
   )
 
@@ -278,7 +312,7 @@ module _ (k : Kept) (id : ℕ) (past : slice_get k.connections id ≡ None) wher
             | None ↦ Ends (s, wrote.Done)
             | Some sender ↦ write_unnoted (to.Conn id) piece (noted (to.Conn id) (written_by (to.Conn id) piece sender) s)
           ]) at at (Ok (s, wrote.Done))) (none_there s h) (follows_ends o laws seen_changed {A = Streams × Wrote} (s, wrote.Done) at),
-      h,
+      (h, refl),
     ),
   )
 
@@ -292,7 +326,7 @@ module _ (k : Kept) (id : ℕ) (past : slice_get k.connections id ≡ None) wher
             | None ↦ Ends (s, other)
             | Some one ↦ and_then (change one) (λ it. Ends (record s { connections = slice_set s.connections id it.0 }, it.1))
           ]) at at (s, other)) (none_there s h) (tells_ends seen_changed {A = Streams × S} (s, other) at),
-      h,
+      (h, refl),
     ),
   )
 
@@ -305,6 +339,6 @@ module _ (k : Kept) (id : ℕ) (past : slice_get k.connections id ≡ None) wher
             | None ↦ Ends s
             | Some one ↦ and_then (change one) (λ it. Ends (record s { connections = slice_set s.connections id it }))
           ]) at at s) (none_there s h) (tells_ends seen_changed s at),
-      h,
+      (h, refl),
     ),
   )

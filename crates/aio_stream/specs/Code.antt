@@ -28,8 +28,8 @@ coded_opened = code_by (Bool × (Bool × ℕ)) (coded× coded_bool (coded× code
 
 abbrev pub coded_kept : Coded Kept
 coded_kept =
-    code_by (List Server × (List Connection × List Opened))
-    (coded× (coded_list server.the_row.coded) (coded× (coded_list coded_connection) (coded_list coded_opened)))
-    (λ k. (k.servers, (k.connections, k.opened)))
-    (λ p. record { servers = p.0; connections = p.1.0; opened = p.1.1 })
+    code_by (List Server × (List Connection × (List Opened × ℕ)))
+    (coded× (coded_list server.the_row.coded) (coded× (coded_list coded_connection) (coded× (coded_list coded_opened) coded_ℕ)))
+    (λ k. (k.servers, (k.connections, (k.opened, k.most))))
+    (λ p. record { servers = p.0; connections = p.1.0; opened = p.1.1.0; most = p.1.1.1 })
     (λ _. refl)

@@ -1,8 +1,9 @@
 //! What was opened.
 
-/// A listener or a connection, by its number.
+/// A listener, a connection or a child, by its number.
 #[derive(Clone, Copy, PartialEq, Eq)]
 pub enum Opened {
     Server(u32),
     Conn(u32),
+    Child(u32),
 }

@@ -10,12 +10,14 @@ use crate::server::Server;
 use aio_connection::Connection;
 use std::marker::Model;
 
-/// Listeners and connections by number, and what was opened, in order.
+/// Listeners and connections by number, and what was opened, in order: children too.
 #[derive(Drop)]
 pub struct Streams {
     servers: Vec<Server>,
     connections: Vec<Connection>,
     opened: Vec<Opened>,
+    // how many of each kind can be numbered
+    most: u32,
 }
 
 impl Model for Streams {
@@ -30,5 +32,6 @@ impl Model for Streams {
       servers = s.servers.items;
       connections = s.connections.items;
       opened = all_opened s.opened.items;
+      most = s.most;
     } };
 }

@@ -103,12 +103,13 @@ module _ {X : Type 0} {a : Added X} (running out : Option ℕ) (c : Setting a) (
       within = (plain_within p id own.plain).1
 
       new : a.owns s.extra id ⊎ (next_future p ≤ id) → ⊥
-      new (inl mine) = own.unnamed (inr mine)
+      new (inl mine) = own.unnamed (inr (inl mine))
       new (inr past) = omega (arith, within, past)
 
       unnamed : named_in a (called call s) id → ⊥
       unnamed (inl found) = own.unnamed (inl found)
-      unnamed (inr mine) = new (r.own id mine)
+      unnamed (inr (inl mine)) = new (r.own id mine)
+      unnamed (inr (inr kept)) = own.unnamed (inr (inr kept))
 
       before : (task : ℕ) → (waiter_of p task ≡ Some id) ⊎ IsNew None task id → waiter_of p task ≡ Some id
       before task (inl e) = e

@@ -74,7 +74,8 @@ module _ {X : Type 0} {a : Added X} (answers : List Entry) (c : Setting a) (body
     futures = h.futures;
     few_futures = h.few_futures;
     main_done = h.main_done;
-    streams = h.streams;
+    transports = h.transports;
+    closed = h.closed;
     time = h.time;
     counts = h.counts;
     events = h.events;
@@ -108,6 +109,7 @@ module _ {X : Type 0} {a : Added X} (answers : List Entry) (c : Setting a) (body
     request = h.request;
     asked = asked_again a.meaning answers s task stood h.request h.asked;
     leaving = h.leaving;
+    opened = h.opened;
   }
 
   pub next_again : (action : Action) → IsNext action c body s → IsNext action (with_rest answers c) body (with_answers answers s)

@@ -1,7 +1,8 @@
 -- A sleep: a future, a timer and a wait, as one.
 use Rattle.std.proofs.Common.{◌≡◌, ℕ, ◌+◌, ◌<◌, ◌⊎◌, true, [], ◌∷◌, ◌++◌, Option, Some, None, length, slice_get, ◌∙◌, refl, sym, ap, subst, inl, inr}
 use Rattle.std.proofs.Common.{arith}
-use Rattle.std.specs.Prelude.{min, pos}
+use Rattle.std.proofs.lemmas.Bool.{cases_lt}
+use Rattle.std.specs.Prelude.{◌≤◌, min, pos}
 use Rattle.model_value.specs.Number.{most}
 use Rattle.model_value.specs.declared.action.Action.TheVariants.{SleepDone}
 use Rattle.model_loop.specs.Futures.{new_plain, next_future}
@@ -10,7 +11,9 @@ use Rattle.model_loop.specs.Owning.{OwnsFutures, is_plain}
 use Rattle.model_loop.specs.Parts.{Parts, Plain}
 use Rattle.model_loop.specs.Suspend.{suspend}
 use Rattle.model_loop.specs.Tasks.{next_task, waiter_of}
+use Rattle.model_stream.specs.Kept.{times_kept}
 use Rattle.model_machine.specs.Replies.{alarmed, waits}
+use Rattle.model_machine.specs.Sound.{AreStreamsFutures}
 use Rattle.model_machine.specs.State as plain
 use Rattle.model_machine.specs.State.{State, stands, unbooked_in}
 use Rattle.law_cancel.proofs.Lookups.{get-push_last}
@@ -19,6 +22,7 @@ use Rattle.law_handles.proofs.Scheduling as scheduling
 use Rattle.law_inside.proofs.Counts.{of_plain, own_there}
 use Rattle.law_kept.proofs.Calls.{kept_suspend}
 use Rattle.law_settling.proofs.CancelSound.{plain_within}
+use Rattle.law_trees.proofs.Fits.{kept_nowhere}
 use Rattle.aio_cancel.specs.Awaitables.{Appended}
 use Rattle.aio_timer.specs.declared.live.TimerId.{TimerId}
 use Rattle.aio_timer.specs.Schedule.{placed_after, timer}
@@ -123,11 +127,23 @@ own_sleep task delay p named there waiting leaves plain = record {
     at other (inl e) = let within = waiting other (next_future p) e in absurd (omega (arith, within))
     at other (inr new) = ap Some (sym new.0)
 
+-- what streams keep was made
+pub kept_within : {S : Type 0} (s : State S) → AreStreamsFutures s → (id : ℕ) → 0 < times_kept id s.streams → id < next_future s.loop.parts
+kept_within s keep id kept = at (cases_lt id (next_future s.loop.parts))
+  where
+    at : (id < next_future s.loop.parts) ⊎ (next_future s.loop.parts ≤ id) → id < next_future s.loop.parts
+    at (inl below) = below
+    at (inr past) =
+        let nowhere =
+        kept_nowhere (λ future. is_plain s.loop.parts future ≡ true) id (λ plain. let within = (plain_within s.loop.parts id plain).1 in
+        omega (arith, within, past)) s.streams keep in
+        absurd (omega (arith, kept, nowhere))
+
 module _ {X : Type 0} {a : Added X} where
   -- a sleep, up to what the task stands at
   pub sleeps_so : (task delay : ℕ) (c : Setting a) (old new : Body X) (s : State a.Kept) (v w : View) (id : TimerId) (future : ℕ)
       → (h : IsInStep task c old s) → OwnsFutures s.loop.parts
-      → ((place it : ℕ) → slice_get s.futures place ≡ Some it → is_plain s.loop.parts it ≡ true)
+      → ((place it : ℕ) → slice_get s.futures place ≡ Some it → is_plain s.loop.parts it ≡ true) → AreStreamsFutures s
       → ((other on : ℕ) → waiter_of s.loop.parts other ≡ Some on → on < next_future s.loop.parts) → task < next_task s.loop.parts
       → future ≡ length old.parts.futures → id ≡ record { number = old.parts.schedule.next; when = min (old.parts.time + delay) most }
       → length old.parts.futures ≡ next_future s.loop.parts
@@ -138,7 +154,7 @@ module _ {X : Type 0} {a : Added X} where
       → HasRested task c new
       (stands (plain.Sleeping s.loop.parts.next_tag) task
       (waits task (next_future s.loop.parts) (unbooked_in (alarmed task (pos delay)) s)))
-  sleeps_so task delay c old new s v w id future h owns plains waiting within number is made alarm after appended beside slots items = record {
+  sleeps_so task delay c old new s v w id future h owns plains keep waiting within number is made alarm after appended beside slots items = record {
     stands =
         stands_standing c (record old { parts = w }) new (waits task on (unbooked_in (alarmed task (pos delay)) s)) task (Sleeping id future)
         (plain.Sleeping p.next_tag) asleep (at_it) slots items tasks;
@@ -202,7 +218,8 @@ module _ {X : Type 0} {a : Added X} where
 
       there : (it : ℕ) → named_in a s it → it < next_future p
       there it (inl found) = (plain_within p it (plains found.0 it found.1)).1
-      there it (inr own) = a.made h.stands.ties p old.extra s.extra h.stands.extra it own
+      there it (inr (inl own)) = a.made h.stands.ties p old.extra s.extra h.stands.extra it own
+      there it (inr (inr kept)) = kept_within s keep it kept
 
       at_it : Knows asleep.ties r p.next_tag (ByTimer id) × IsOwnSleep r (named_in a s) (Some task) future
       at_it = (knows, subst (IsOwnSleep r (named_in a s) (Some task)) (sym here) (own_sleep task delay p (named_in a s) there waiting leaves plain_on))

@@ -16,7 +16,7 @@ use Rattle.aio_group.specs.GoesOn.{GoesOn}
 use Rattle.aio_group.specs.Held.{Held}
 use Rattle.aio_body.specs.declared.body.Body.{Body}
 use Rattle.aio_body.specs.declared.standing.Standing.{Standing}
-use Rattle.aio_body.specs.declared.standing.Standing.TheVariants.{Asked, Sleeping, Leaving, Serving}
+use Rattle.aio_body.specs.declared.standing.Standing.TheVariants.{Sleeping}
 use Rattle.aio_body.specs.Stands.{AreBlocks, Setting, Stands, IsOwnSleep, StandsAt}
 use Rattle.law_body.proofs.Blocks.{blocks_on}
 use Rattle.law_body.proofs.Leaving.{IsNew, Leaves}
@@ -62,38 +62,8 @@ pub stands_at_by : (t u : Ties) (p q : Parts) (named names : ℕ → Type 0) (ta
     → ((tag : ℕ) (timer : TimerId) → Knows t p tag (ByTimer timer) → Knows u q tag (ByTimer timer))
     → ((id : ℕ) → IsOwnSleep p named (Some task) id → IsOwnSleep q names (Some task) id)
     → StandsAt t p named task code standing → StandsAt u q names task code standing
-stands_at_by t u p q named names task Asked plain.Asked knows own h = tt
-stands_at_by t u p q named names task Asked (plain.Sleeping tag) knows own h = h
-stands_at_by t u p q named names task Asked (plain.Leaving id) knows own h = h
-stands_at_by t u p q named names task Asked (plain.Serving key) knows own h = h
-stands_at_by t u p q named names task Asked (plain.Connecting conn) knows own h = h
-stands_at_by t u p q named names task Asked (plain.Yielding whom) knows own h = h
-stands_at_by t u p q named names task Asked (plain.Reading from op on) knows own h = h
-stands_at_by t u p q named names task Asked (plain.ReadingAll from had on) knows own h = h
-stands_at_by t u p q named names task (Sleeping timer future) plain.Asked knows own h = h
 stands_at_by t u p q named names task (Sleeping timer future) (plain.Sleeping tag) knows own h = (knows tag timer h.0, own future h.1)
-stands_at_by t u p q named names task (Sleeping timer future) (plain.Leaving id) knows own h = h
-stands_at_by t u p q named names task (Sleeping timer future) (plain.Serving key) knows own h = h
-stands_at_by t u p q named names task (Sleeping timer future) (plain.Connecting conn) knows own h = h
-stands_at_by t u p q named names task (Sleeping timer future) (plain.Yielding whom) knows own h = h
-stands_at_by t u p q named names task (Sleeping timer future) (plain.Reading from op on) knows own h = h
-stands_at_by t u p q named names task (Sleeping timer future) (plain.ReadingAll from had on) knows own h = h
-stands_at_by t u p q named names task (Leaving group) plain.Asked knows own h = h
-stands_at_by t u p q named names task (Leaving group) (plain.Sleeping tag) knows own h = h
-stands_at_by t u p q named names task (Leaving group) (plain.Leaving id) knows own h = h
-stands_at_by t u p q named names task (Leaving group) (plain.Serving key) knows own h = h
-stands_at_by t u p q named names task (Leaving group) (plain.Connecting conn) knows own h = h
-stands_at_by t u p q named names task (Leaving group) (plain.Yielding whom) knows own h = h
-stands_at_by t u p q named names task (Leaving group) (plain.Reading from op on) knows own h = h
-stands_at_by t u p q named names task (Leaving group) (plain.ReadingAll from had on) knows own h = h
-stands_at_by t u p q named names task (Serving key) plain.Asked knows own h = h
-stands_at_by t u p q named names task (Serving key) (plain.Sleeping tag) knows own h = h
-stands_at_by t u p q named names task (Serving key) (plain.Leaving id) knows own h = h
-stands_at_by t u p q named names task (Serving key) (plain.Serving kept) knows own h = h
-stands_at_by t u p q named names task (Serving key) (plain.Connecting conn) knows own h = h
-stands_at_by t u p q named names task (Serving key) (plain.Yielding whom) knows own h = h
-stands_at_by t u p q named names task (Serving key) (plain.Reading from op on) knows own h = h
-stands_at_by t u p q named names task (Serving key) (plain.ReadingAll from had on) knows own h = h
+stands_at_by t u p q named names task _ _ knows own h = h
 
 -- what is added stands beside what an operation leaves
 pub goes_beside : (owned : ℕ → Type 0) (t u : Ties) (p q : Parts) → Extends p t q u → ((id : ℕ) → is_plain p id ≡ true → is_plain q id ≡ true)
@@ -158,7 +128,8 @@ module _ {X : Type 0} {a : Added X} where
     futures = h.futures;
     few_futures = h.few_futures;
     main_done = h.main_done;
-    streams = h.streams;
+    transports = h.transports;
+    closed = h.closed;
     time = goes.time;
     counts = goes.counts;
     events = h.events;

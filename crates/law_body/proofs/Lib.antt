@@ -16,4 +16,5 @@ pub mod Asleep
 pub mod TimeoutsOn
 pub mod Adding
 pub mod Over
+pub mod Growing
 pub mod Unasked

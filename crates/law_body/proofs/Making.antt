@@ -16,7 +16,7 @@ use Rattle.aio_future.specs.Settled as settled
 use Rattle.aio_future.specs.Settled.{called}
 use Rattle.aio_task.specs.View.{View}
 use Rattle.aio_task.specs.Keeps.{Kept}
-use Rattle.aio_extra.specs.Added.{Added, IsNamed, named_in}
+use Rattle.aio_extra.specs.Added.{Added, IsNamed, named_in, owned_in}
 use Rattle.aio_body.specs.declared.body.Body.{Body}
 use Rattle.aio_body.specs.Asked.{IsInStep}
 use Rattle.aio_body.specs.Stands.{Setting, Stands, IsOwnSleep}
@@ -80,7 +80,7 @@ module _ {X : Type 0} {a : Added X} where
       → Stands out c new (record s { futures = s.futures ++ next_future s.loop.parts ∷ [] })
   stands_named out c old new s h beside items few =
       subst (λ b. Stands out c b now) (sym beside) (telling_changes out c c old (record old { futures = new.futures }) s now h refl refl refl (record {
-        own = own_named p s.futures (a.owns s.extra);
+        own = own_named p s.futures (owned_in a s);
         futures = items ∙ ap (λ xs. xs ++ next_future p ∷ []) h.futures;
         few_futures = let l = length-append s.futures (next_future p ∷ []) in omega (arith, few, l);
         main_done = h.main_done;

@@ -6,7 +6,7 @@ use Rattle.model_machine.specs.State.{State, generator_of, noted}
 use Rattle.model_machine.specs.Went.{answers_in}
 use Rattle.aio_wire.specs.EventList.{EventList}
 use Rattle.aio_wire.specs.Events.{answers_after, pushed}
-use Rattle.aio_extra.specs.Added.{Added, IsNamed, named_in}
+use Rattle.aio_extra.specs.Added.{Added, IsNamed, named_in, owned_in}
 use Rattle.aio_body.specs.declared.body.Body.{Body}
 use Rattle.aio_body.specs.Stands.{IsOwnSleep, Setting, Stands}
 use Rattle.law_body.proofs.Lasting.{stands_at_by}
@@ -44,7 +44,7 @@ counted n xs (event.Got answer) e =
 -- futures that scripts name, which no future of a sleep becomes.
 pub record TellsAs {X : Type 0} {a : Added X} (d : Setting a) (new : Body X) (s now : State a.Kept) : Type 0 where
   pub own : (sleeper : Option ℕ) (id : ℕ) → IsOwnSleep s.loop.parts (named_in a s) sleeper id
-      → IsOwnSleep s.loop.parts (IsNamed now.futures (a.owns s.extra)) sleeper id
+      → IsOwnSleep s.loop.parts (IsNamed now.futures (owned_in a s)) sleeper id
   pub futures : new.futures.items ≡ now.futures
   pub few_futures : length now.futures < 2 ^ 32
   pub main_done : new.main_done ≡ now.main_done
@@ -78,7 +78,7 @@ module _ {X : Type 0} {a : Added X} where
           right = record {
             waits = has.right.waits;
             standing =
-                stands_at_by h.ties h.ties s.loop.parts s.loop.parts (named_in a s) (IsNamed now.futures (a.owns s.extra)) task has.slot.standing
+                stands_at_by h.ties h.ties s.loop.parts s.loop.parts (named_in a s) (IsNamed now.futures (owned_in a s)) task has.slot.standing
                 (generator_of task s).standing (λ tag timer k. k) (tells.own (Some task)) has.right.standing;
           };
         };
@@ -86,7 +86,8 @@ module _ {X : Type 0} {a : Added X} where
         futures = tells.futures;
         few_futures = tells.few_futures;
         main_done = tells.main_done;
-        streams = h.streams;
+        transports = h.transports;
+        closed = h.closed;
         time = h.time;
         counts = h.counts;
         events = tells.events;

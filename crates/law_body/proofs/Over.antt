@@ -17,7 +17,7 @@ pub record IsBeside {X : Type 0} {a : Added X} (change : Setting a → Setting a
 
 abbrev pub over : {X At M R : Type 0} {a : Added X} → (Setting a → Setting a) → Piece a At M R → Piece a At M R
 over change p =
-    record { from = λ c at. p.from (change c) at; does = p.does; ends = p.ends; says = λ c said it. p.says (change c) said it }
+    record { from = λ c at. p.from (change c) at; does = p.does; ends = p.ends; says = λ c said it. p.says (change c) said it; begins = p.begins }
 
 module _ {X W At M R : Type 0} {a : Added X} (o : Outside W) (change : Setting a → Setting a) (beside : IsBeside change) (p : Piece a At M R) where
   moved : (had : List Exchange) (c : Setting a) → change (before had c) ≡ before had (change c)
@@ -44,7 +44,15 @@ module _ {X W At M R : Type 0} {a : Added X} (o : Outside W) (change : Setting a
             (subst (RestFits (Met call reply)) (sym (beside.rest c)) fits) in
             (it.0, subst (λ (es : List Event). StopsWith p.ends why es new.events.events (p.does s)) (beside.past c) it.1),
       )
-      at Starved (Err why) comes = comes
+      at Starved (Err why) comes = (
+        comes.0,
+        (
+          comes.1.0,
+          λ c s from.
+              let it = comes.1.1 (change c) s (subst (λ d. p.from d s) (moved h.had c) from) in
+              (it.0, subst (λ (es : List Event). p.begins (es ++ comes.1.0) (p.does s)) (beside.past c) it.1),
+        ),
+      )
       at All (Err why) comes = absurd comes
       at (Met call reply) (Ok said) comes = absurd comes
       at Starved (Ok said) comes = absurd comes

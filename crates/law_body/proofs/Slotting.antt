@@ -100,7 +100,8 @@ module _ {X : Type 0} {a : Added X} where
         futures = h.futures;
         few_futures = h.few_futures;
         main_done = h.main_done;
-        streams = h.streams;
+        transports = h.transports;
+        closed = h.closed;
         time = h.time;
         counts = h.counts;
         events = h.events;

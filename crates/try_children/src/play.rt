@@ -15,7 +15,7 @@ use std::alloc::Global;
 /// asked, a line each.
 pub struct ChildRow {
     pub name: &'static str,
-    pub most: u64,
+    pub most: u32,
     pub steps: &'static [Step],
     pub answers: &'static str,
     pub told: &'static str,

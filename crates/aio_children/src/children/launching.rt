@@ -1,5 +1,5 @@
 //! How children are launched.
-ghost use Rattle.std.specs.Prelude.{◌≡◌, ◌<◌, ◌^◌, ◌++◌, ◌∷◌, [], None, OnOk, length, nat_lt};
+ghost use Rattle.std.specs.Prelude.{◌≡◌, ◌<◌, ◌^◌, ◌++◌, ◌∷◌, [], true, None, OnOk, length, nat_lt};
 ghost use Rattle.model_stream.specs.Answers.{is_child};
 ghost use Rattle.model_stream.specs.Streams as plain;
 ghost use Rattle.aio_exchange.specs.Outside.{outside_of};
@@ -18,7 +18,7 @@ use std::alloc::Global;
 
 impl Children {
     /// None was launched so far, and so many can be numbered.
-    pub fn new(alloc: Global, most: u64) -> Children
+    pub fn new(alloc: Global, most: u32) -> Children
         ensures { result ≡ record { children = []; most = most } }
     {
         Children {
@@ -36,9 +36,10 @@ impl Children {
 
     /// Whether one more can be numbered.
     pub fn may_launch(&self) -> bool
-        ensures { result ≡ nat_lt (length self.now.children) self.now.most }
+        ensures is { result ≡ nat_lt (length self.now.children) self.now.most }
+        ensures room { result ≡ true → length self.now.children < 2 ^ 32 }
     {
-        self.launched() < self.most
+        self.children.len() < self.most as usize
     }
 
     /// `launch`: a program is started. Its number, or none where the outside refuses.

@@ -1,5 +1,5 @@
-//! One listener or connection more, with the next number.
-ghost use Rattle.std.specs.Prelude.{◌≡◌, ◌^◌, ◌<◌, true, IfOk, OnOk, length, nat_lt};
+//! One listener or connection more, with the next number; or a child, which is numbered elsewhere.
+ghost use Rattle.std.specs.Prelude.{◌≡◌, ◌^◌, ◌<◌, true, IfOk, OnOk, length};
 ghost use Rattle.aio_stream.specs.Kept as kept;
 
 use super::Streams;
@@ -8,22 +8,21 @@ use crate::server::Server;
 use aio_base::Memory;
 use aio_connection::Connection;
 
-/// How many of each kind can be numbered.
-const MOST_IDS: usize = 4_294_967_296;
-
 impl Streams {
     /// Whether one more listener can be numbered.
     pub fn may_listen(&self) -> bool
-        ensures { result ≡ nat_lt (length self.now.servers) (2 ^ 32) }
+        ensures is { result ≡ kept.may_listen self.now }
+        ensures room { result ≡ true → length self.now.servers < 2 ^ 32 }
     {
-        self.servers.len() < MOST_IDS
+        self.servers.len() < self.most as usize
     }
 
     /// Whether one more connection can be numbered.
     pub fn may_connect(&self) -> bool
-        ensures { result ≡ nat_lt (length self.now.connections) (2 ^ 32) }
+        ensures is { result ≡ kept.may_connect self.now }
+        ensures room { result ≡ true → length self.now.connections < 2 ^ 32 }
     {
-        self.connections.len() < MOST_IDS
+        self.connections.len() < self.most as usize
     }
 
     /// A listener that is open, and its number. The coroutine `handler` handles its connections.
@@ -49,6 +48,14 @@ impl Streams {
         self.connections.push(connection)?;
         self.opened.push(Opened::Conn(id))?;
         Ok(id)
+    }
+
+    /// A child was opened, with this number. Of a child no more is kept here.
+    pub fn add_child(&mut self, id: u32) -> Result<(), Memory>
+        ensures { OnOk result (self.new ≡ kept.with_child id self.old) }
+    {
+        self.opened.push(Opened::Child(id))?;
+        Ok(())
     }
 
     /// The coroutine that handles the connections of a listener, if that is open.

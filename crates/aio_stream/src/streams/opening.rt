@@ -3,22 +3,33 @@ ghost use Rattle.std.specs.Prelude.{◌≡◌, [], length, slice_get};
 ghost use Rattle.std.specs.Option.{option_map};
 ghost use Rattle.model_stream.specs.Connections.{Connection as PlainConnection};
 ghost use Rattle.model_stream.specs.Streams.{Streams as PlainStreams, handler_of};
+ghost use Rattle.aio_stream.specs.Kept.{all_opened};
 ghost use Rattle.aio_stream.specs.Standing.{StandsFor};
 
 use super::Streams;
+use crate::opened::Opened;
 use aio_task::FutureId;
 use std::alloc::Global;
 
 impl Streams {
-    /// Nothing was opened so far.
-    pub fn new(alloc: Global) -> Streams
-        ensures { result ≡ record { servers = []; connections = []; opened = [] } }
+    /// Nothing was opened so far, and so many of each kind can be numbered.
+    pub fn new(alloc: Global, most: u32) -> Streams
+        ensures { result
+            ≡ record { servers = []; connections = []; opened = []; most = most } }
     {
         Streams {
             servers: Vec::new(alloc),
             connections: Vec::new(alloc),
             opened: Vec::new(alloc),
+            most,
         }
+    }
+
+    /// How many listeners were numbered so far.
+    pub fn listened(&self) -> u64
+        ensures { result ≡ length self.now.servers }
+    {
+        self.servers.len() as u64
     }
 
     /// How many connections were numbered so far.
@@ -26,6 +37,13 @@ impl Streams {
         ensures { result ≡ length self.now.connections }
     {
         self.connections.len() as u64
+    }
+
+    /// What was opened, in order of opening.
+    pub fn opened_in_order(&self) -> &[Opened]
+        ensures { all_opened result.now ≡ self.now.opened }
+    {
+        &self.opened
     }
 
     /// The future that `wait_closed` of a connection awaits.

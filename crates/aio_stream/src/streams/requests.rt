@@ -3,13 +3,12 @@ ghost use Rattle.std.specs.Prelude.{◌≡◌, [], None, IfOk, OnOk, length};
 ghost use Rattle.model_stream.specs.declared.answers.StreamGot.TheVariants as got_as;
 ghost use Rattle.model_wire.specs.declared.event.Handed.TheVariants as to;
 ghost use Rattle.model_stream.specs.Requests as plain;
-ghost use Rattle.model_stream.specs.Streams.{Streams as PlainStreams};
 ghost use Rattle.aio_exchange.specs.Outside.{outside_of};
 ghost use Rattle.law_doing.specs.Follows.{reach};
 ghost use Rattle.aio_task.specs.View.{View};
 ghost use Rattle.aio_receiver.specs.Gotten.{all_got};
 ghost use Rattle.aio_stream.specs.Owned.{OwnsStreams};
-ghost use Rattle.aio_stream.specs.Standing.{Answers, Comes, StandsFor, Told, ToldWith};
+ghost use Rattle.aio_stream.specs.Standing.{Answers, Becomes, Comes, Told, ToldWith};
 
 use super::Streams;
 use aio_base::{Blob, Memory};
@@ -192,8 +191,7 @@ impl Streams {
 
     /// The task of a read of a connection that waits on this future was resumed.
     pub fn give_up(&mut self, id: u32, on: FutureId)
-        ensures after { (s : PlainStreams) → StandsFor self.old s
-            → StandsFor self.new (plain.give_up_read on (plain.OfConn id) s) }
+        ensures after { Becomes (plain.give_up_read on (plain.OfConn id)) self.old self.new }
         ensures own { (v : View) → OwnsStreams v self.old → OwnsStreams v self.new }
     {
         let Some(connection) = self.connections.get_mut(id as usize) else {

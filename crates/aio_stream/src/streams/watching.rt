@@ -1,48 +1,21 @@
-//! What a select watches of listeners and connections.
-ghost use Rattle.std.specs.Prelude.{◌≡◌, ◌++◌, Some, OnOk, slice_get};
-ghost use Rattle.model_stream.specs.Streams.{Streams as PlainStreams};
+//! What a select watches of one listener or one connection.
+ghost use Rattle.std.specs.Prelude.{◌≡◌, Some, slice_get};
 ghost use Rattle.model_stream.specs.Watching as plain;
-ghost use Rattle.aio_stream.specs.Kept.{opened_as};
-ghost use Rattle.aio_stream.specs.Standing.{StandsFor};
-ghost use Rattle.aio_stream.specs.Watched.{entries, watched_of};
+ghost use Rattle.aio_stream.specs.Kept.{may_connect};
+ghost use Rattle.aio_stream.specs.Watched.{entries};
 
 use super::Streams;
-use crate::opened::Opened;
-use aio_base::Memory;
 use aio_connection::Connection;
 use aio_wire::Watch;
 
 impl Streams {
-    /// What a select watches, in order of opening, behind what stands in the list. Want of memory
-    /// leaves a front of it.
-    pub fn watch(&self, into: &mut Vec<Watch>) -> Result<(), Memory>
-        ensures { OnOk result ((s : PlainStreams) → StandsFor self.now s
-            → into.new.items ≡ into.old.items ++ plain.watch_list s) }
+    /// What a select waits for of a listener: of one that is open, while connections may be
+    /// numbered.
+    pub fn watched_server(&self, id: u32) -> Option<Watch>
+        ensures { entries result
+            ≡ plain.watched_server (may_connect self.now) id (slice_get self.now.servers id) }
     {
         let may_accept = self.may_connect();
-        for one in &self.opened {
-            if let Some(entry) = self.watched(may_accept, *one) {
-                into.push(entry)?;
-            }
-        }
-        Ok(())
-    }
-
-    // What is watched of one that was opened.
-    fn watched(&self, may_accept: bool, one: Opened) -> Option<Watch>
-        ensures { entries result ≡ watched_of may_accept self.now (opened_as one) }
-    {
-        match one {
-            Opened::Server(id) => self.watched_server(may_accept, id),
-            Opened::Conn(id) => watched_connection(id, self.connections.get(id as usize)?),
-        }
-    }
-
-    // A listener that is open, while connections may be numbered.
-    fn watched_server(&self, may_accept: bool, id: u32) -> Option<Watch>
-        ensures { entries result
-            ≡ plain.watched_server may_accept id (slice_get self.now.servers id) }
-    {
         let server = self.servers.get(id as usize)?;
         if server.is_open() && may_accept {
             Some(Watch::Server(id))
@@ -50,10 +23,19 @@ impl Streams {
             None
         }
     }
+
+    /// What a select waits for of a connection: of one that is being made, that reads, or that
+    /// has something to send.
+    pub fn watched_connection(&self, id: u32) -> Option<Watch>
+        ensures { entries result
+            ≡ plain.watched_connection id (slice_get self.now.connections id) }
+    {
+        watched_of_one(id, self.connections.get(id as usize)?)
+    }
 }
 
-// A connection that is being made, that reads, or that has something to send.
-fn watched_connection(id: u32, connection: &Connection) -> Option<Watch>
+// Of a connection that there is.
+fn watched_of_one(id: u32, connection: &Connection) -> Option<Watch>
     ensures { entries result ≡ plain.watched_connection id (Some connection.now) }
 {
     if connection.making().is_some() {

@@ -23,7 +23,7 @@ pub fn launches<W: Wire>(
     ensures own { OnOk result (OwnsChildren parts.new children.new) }
     ensures idle { OnOk result (parts.new.called ≡ None) }
 {
-    if !children.may_launch() || children.launched() >= 4_294_967_296 {
+    if !children.may_launch() {
         return Ok(say("no more", told)?);
     }
     let words = one_word(alloc)?;

@@ -18,8 +18,8 @@ resolve-was_pending-requires-clause-idle g c = sleep_idle _ c.in-SleepDone.futur
 pub resolve-was_pending-requires-clause-no_task : goal.resolve-was_pending-requires-clause-no_task
 resolve-was_pending-requires-clause-no_task g c = sleep_free _ c.in-SleepDone.future c.args.body.now (rw c.in-SleepDone.is at c.requires.taken)
 
-pub returns-in-SleepDone : goal.returns-in-SleepDone
-returns-in-SleepDone g c =
+pub returns-in-SleepDone-clause-acts : goal.returns-in-SleepDone-clause-acts
+returns-in-SleepDone-clause-acts g c =
     let body = c.args.body.now in
     let future = c.in-SleepDone.future in
     rw c.in-SleepDone.is (sleep_acts _ future body c.resolve-was_pending.new.self
@@ -36,23 +36,23 @@ child_done-requires g c = rw c.in-GroupDone.is at c.requires.taken
 pub fire-requires : goal.fire-requires
 fire-requires g c = rw c.in-Fires.is at c.requires.taken
 
-pub returns-in-GroupDone : goal.returns-in-GroupDone
-returns-in-GroupDone g c =
+pub returns-in-GroupDone-clause-acts : goal.returns-in-GroupDone-clause-acts
+returns-in-GroupDone-clause-acts g c =
     rw c.in-GroupDone.is
     (group_acts c.in-GroupDone.group c.in-GroupDone.task c.args.body.now c.child_done.new.body c.child_done.ensures)
 
-pub returns-in-Fires : goal.returns-in-Fires
-returns-in-Fires g c = rw c.in-Fires.is (fire_acts c.in-Fires.timeout c.args.body.now c.fire.new.body c.fire.ensures)
+pub returns-in-Fires-clause-acts : goal.returns-in-Fires-clause-acts
+returns-in-Fires-clause-acts g c = rw c.in-Fires.is (fire_acts c.in-Fires.timeout c.args.body.now c.fire.new.body c.fire.ensures)
 
-pub returns-in-MainDone : goal.returns-in-MainDone
-returns-in-MainDone g c = rw c.in-MainDone.is (main_acts c.args.body.now)
+pub returns-in-MainDone-clause-acts : goal.returns-in-MainDone-clause-acts
+returns-in-MainDone-clause-acts g c = rw c.in-MainDone.is (main_acts c.args.body.now)
 
 -- ---- what is added
 pub act-requires : goal.act-requires
 act-requires g c = record { serves = extra_serves c.in-Extra.key c.args.body.now (rw c.in-Extra.is at c.requires.taken) }
 
-pub returns-in_ok-act-in-Extra : goal.returns-in_ok-act-in-Extra
-returns-in_ok-act-in-Extra g c =
+pub returns-in_ok-act-in-Extra-clause-acts : goal.returns-in_ok-act-in-Extra-clause-acts
+returns-in_ok-act-in-Extra-clause-acts g c =
     rw c.in-Extra.is (extra_acts c.in-Extra.key c.args.body.now c.act.new.parts c.act.new.self c.in_ok-act-in-Extra.ensures)
 
 pub item-requires : goal.item-requires
@@ -60,8 +60,8 @@ item-requires g c = record {
   serves = item_serves c.in-ExtraItem.code c.in-ExtraItem.bytes c.args.body.now (rw c.in-ExtraItem.is at c.requires.taken);
 }
 
-pub returns-in_ok-item-in-ExtraItem : goal.returns-in_ok-item-in-ExtraItem
-returns-in_ok-item-in-ExtraItem g c =
+pub returns-in_ok-item-in-ExtraItem-clause-acts : goal.returns-in_ok-item-in-ExtraItem-clause-acts
+returns-in_ok-item-in-ExtraItem-clause-acts g c =
     let code = c.in-ExtraItem.code in
     let bytes = c.in-ExtraItem.bytes in
     let hears = HearsNews g.X.Extra.added c.args.body.now c.item.new.parts c.item.new.self in
@@ -76,8 +76,8 @@ module _ (it : Action) where
   either (inl a) f g = f a
   either (inr b) f g = g b
 
-pub returns-in-Step : goal.returns-in-Step
-returns-in-Step g c =
+pub returns-in-Step-clause-acts : goal.returns-in-Step-clause-acts
+returns-in-Step-clause-acts g c =
     let it = c.args.action.now in
     rw c.pass.ensures (streams_act it c.args.body.now (
     either it c.in-Step.is (λ w. no_step it _ c.requires.idle (ap runner_of w.1)) (λ v.

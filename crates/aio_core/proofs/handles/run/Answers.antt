@@ -1,11 +1,8 @@
 use Rattle.std.proofs.Common.{refl, sym, subst}
-use Rattle.aio_exchange.proofs.Among.{on_none}
-use Rattle.aio_exchange.specs.Outside.{IsOutside, outside_of, ported}
-use Rattle.aio_body.proofs.Asking.{comes_starved}
+use Rattle.aio_exchange.specs.Outside.{IsOutside, outside_of}
 use Rattle.aio_body.specs.Stands.{Possible}
 use Rattle.aio_body.specs.Taken.{IsTaken}
-use Rattle.aio_core.specs.Running.{running_one}
-use Rattle.aio_core.proofs.Acting.{may_act, runs_acting}
+use Rattle.aio_core.proofs.Acting.{may_act, runs_acting, runs_without}
 use Rattle.aio_core.proofs.handles.run.Given.{Over}
 use Rattle.aio_core.proofs.handles.run.Goals as goal
 
@@ -21,12 +18,11 @@ pub act-requires : goal.act-requires
 act-requires g c =
     subst (Possible g.X.Extra.added (IsTaken c.args.action.now)) (sym c.in-Ok.ensures) (may_act c.args.action.now c.args.body.now _ refl c.requires)
 
-pub returns-in-Ok-clause-comes : goal.returns-in-Ok-clause-comes
-returns-in-Ok-clause-comes g c =
+pub returns-in-Ok : goal.returns-in-Ok
+returns-in-Ok g c =
     runs_acting g.X.Extra.added _ (laws g) c.args.action.now c.args.body.now c.note.new.body c.act.new.body c.args.wire.now c.act.new.wire
-    c.act.result c.in-Ok.ensures c.act.ensures.comes
+    c.act.result c.in-Ok.ensures c.act.ensures
 
-pub returns-in-Err-clause-comes : goal.returns-in-Err-clause-comes
-returns-in-Err-clause-comes g c =
-    comes_starved _ (laws g) (running_one g.X.Extra.added c.args.action.now c.args.body.now _) _
-    (ported c.args.wire.now c.args.body.now.events) (ported c.args.wire.now c.args.body.now.events) _ refl (on_none _ (laws g) c.args.wire.now)
+pub returns-in-Err : goal.returns-in-Err
+returns-in-Err g c =
+    runs_without g.X.Extra.added _ (laws g) c.args.action.now c.args.body.now _ c.args.wire.now

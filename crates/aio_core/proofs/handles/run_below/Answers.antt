@@ -1,4 +1,4 @@
-use Rattle.std.proofs.Common.{◌∙◌, refl, sym, ap}
+use Rattle.std.proofs.Common.{◌∙◌, sym, ap}
 use Rattle.std.specs.Option.{option_map}
 use Rattle.aio_exchange.specs.Outside.{IsOutside, outside_of}
 use Rattle.aio_core.proofs.Running.{alive_on, at_bar_so, fewer, may_run, reached_first, reached_next, run_stops, runs_away}
@@ -15,64 +15,53 @@ laws g = record {
 }
 
 pub loop-action-init : goal.loop-action-init
-loop-action-init g c = (refl, reached_first g.X.Extra.added _ (laws g) c.args.body.now c.args.wire.now)
+loop-action-init g c = reached_first g.X.Extra.added _ (laws g) c.args.body.now c.args.wire.now
 
 pub next_below-requires : goal.next_below-requires
 next_below-requires g c =
     let l = c.loop-action in
-    record { idle = idle_alive l.body (alive_on g.X.Extra.added _ (laws g) c.args.body.now c.args.wire.now l.body l.wire l.invariant.1 c.requires) }
+    record { idle = idle_alive l.body (alive_on g.X.Extra.added _ (laws g) c.args.body.now c.args.wire.now l.body l.wire l.invariant c.requires) }
 
 pub run_next-requires : goal.run_next-requires
 run_next-requires g c =
     let l = c.loop-action in
     let next = sym c.next_below.ensures.action ∙ ap (option_map (λ it. it.0)) c.in-Some.is in
     may_run l.body c.next_below.new.self c.in-Some.action c.next_below.ensures.after next
-    (alive_on g.X.Extra.added _ (laws g) c.args.body.now c.args.wire.now l.body l.wire l.invariant.1 c.requires)
+    (alive_on g.X.Extra.added _ (laws g) c.args.body.now c.args.wire.now l.body l.wire l.invariant c.requires)
 
 pub loop-action-smaller : goal.loop-action-smaller
 loop-action-smaller g c =
     let l = c.loop-action in
     let next = sym c.next_below.ensures.action ∙ ap (option_map (λ it. it.0)) c.in-Some.is in
-    fewer g.X.Extra.added _ (laws g) c.args.body.now c.args.wire.now l.body l.wire l.invariant.1
+    fewer g.X.Extra.added _ (laws g) c.args.body.now c.args.wire.now l.body l.wire l.invariant
     c.next_below.new.self c.next_below.ensures.after c.in-Some.action next c.run_next.new.body c.run_next.new.wire c.requires
-    (rw c.in-Ok-Goes.field-0-is at c.in-Ok-Goes.ensures.comes)
+    (rw c.in-Ok-Goes.field-0-is at c.in-Ok-Goes.ensures)
 
 pub loop-action-preserved : goal.loop-action-preserved
 loop-action-preserved g c =
     let l = c.loop-action in
-    let next = sym c.next_below.ensures.action ∙ ap (option_map (λ it. it.0)) c.in-Some.is in (
-      c.in-Ok-Goes.ensures.unasked ∙ l.invariant.0,
-      reached_next g.X.Extra.added _ (laws g) c.args.body.now c.args.wire.now l.body l.wire l.invariant.1
-          c.next_below.new.self c.next_below.ensures.after c.in-Some.action next c.run_next.new.body c.run_next.new.wire
-          (rw c.in-Ok-Goes.field-0-is at c.in-Ok-Goes.ensures.comes),
-    )
+    let next = sym c.next_below.ensures.action ∙ ap (option_map (λ it. it.0)) c.in-Some.is in
+    reached_next g.X.Extra.added _ (laws g) c.args.body.now c.args.wire.now l.body l.wire l.invariant
+    c.next_below.new.self c.next_below.ensures.after c.in-Some.action next c.run_next.new.body c.run_next.new.wire
+    (rw c.in-Ok-Goes.field-0-is at c.in-Ok-Goes.ensures)
 
-pub returns-in-Ok-Runaway-clause-comes : goal.returns-in-Ok-Runaway-clause-comes
-returns-in-Ok-Runaway-clause-comes g c =
+pub returns-in-Ok-Runaway : goal.returns-in-Ok-Runaway
+returns-in-Ok-Runaway g c =
     let l = c.loop-action in
     let next = sym c.next_below.ensures.action ∙ ap (option_map (λ it. it.0)) c.in-Some.is in
-    runs_away g.X.Extra.added _ (laws g) c.args.body.now c.args.wire.now l.body l.wire l.invariant.1
+    runs_away g.X.Extra.added _ (laws g) c.args.body.now c.args.wire.now l.body l.wire l.invariant
     c.next_below.new.self c.next_below.ensures.after c.in-Some.action next c.run_next.new.body c.run_next.new.wire c.in-Ok-Runaway.task
-    (rw c.in-Ok-Runaway.field-0-is at c.in-Ok-Runaway.ensures.comes)
+    (rw c.in-Ok-Runaway.field-0-is at c.in-Ok-Runaway.ensures)
 
-pub returns-in-Ok-Runaway-clause-unasked : goal.returns-in-Ok-Runaway-clause-unasked
-returns-in-Ok-Runaway-clause-unasked g c = c.in-Ok-Runaway.ensures.unasked ∙ c.loop-action.invariant.0
-
-pub returns-in-Err-clause-comes : goal.returns-in-Err-clause-comes
-returns-in-Err-clause-comes g c =
+pub returns-in-Err : goal.returns-in-Err
+returns-in-Err g c =
     let l = c.loop-action in
     let next = sym c.next_below.ensures.action ∙ ap (option_map (λ it. it.0)) c.in-Some.is in
-    run_stops g.X.Extra.added _ (laws g) c.args.body.now c.args.wire.now l.body l.wire l.invariant.1
-    c.next_below.new.self c.next_below.ensures.after c.in-Some.action next c.run_next.new.body c.run_next.new.wire c.in-Err.stop c.in-Err.ensures.comes
+    run_stops g.X.Extra.added _ (laws g) c.args.body.now c.args.wire.now l.body l.wire l.invariant
+    c.next_below.new.self c.next_below.ensures.after c.in-Some.action next c.run_next.new.body c.run_next.new.wire c.in-Err.stop c.in-Err.ensures
 
-pub returns-in-Err-clause-unasked : goal.returns-in-Err-clause-unasked
-returns-in-Err-clause-unasked g c = c.in-Err.ensures.unasked ∙ c.loop-action.invariant.0
-
-pub returns-clause-comes : goal.returns-clause-comes
-returns-clause-comes g c =
+pub returns : goal.returns
+returns g c =
     let l = c.loop-action in
     let next = sym c.next_below.ensures.action ∙ ap (option_map (λ it. it.0)) c.in_default.is in
-    at_bar_so g.X.Extra.added _ (laws g) c.args.body.now c.args.wire.now l.body l.wire l.invariant.1 c.next_below.new.self c.next_below.ensures.after next
-
-pub returns-clause-unasked : goal.returns-clause-unasked
-returns-clause-unasked g c = c.loop-action.invariant.0
+    at_bar_so g.X.Extra.added _ (laws g) c.args.body.now c.args.wire.now l.body l.wire l.invariant c.next_below.new.self c.next_below.ensures.after next

@@ -28,21 +28,21 @@ run_below-requires g c =
 pub end_turn-requires : goal.end_turn-requires
 end_turn-requires g c =
     alive_ran g.X.Extra.added _ (laws g) c.args.answer.now c.args.body.now c.wake.new.body c.run_below.new.body c.wake.ensures c.args.wire.now
-    c.run_below.new.wire (rw c.in-Ok-Goes.field-0-is at c.in-Ok-Goes.ensures.comes) c.requires.alive
+    c.run_below.new.wire (rw c.in-Ok-Goes.field-0-is at c.in-Ok-Goes.ensures) c.requires.alive
 
-pub returns-in-Ok-Goes-clause-comes : goal.returns-in-Ok-Goes-clause-comes
-returns-in-Ok-Goes-clause-comes g c =
+pub returns-in-Ok-Goes : goal.returns-in-Ok-Goes
+returns-in-Ok-Goes g c =
     subst (Comes _ (turning_by g.X.Extra.added c.args.answer.now c.args.body.now c.end_turn.new.body) (ported c.args.wire.now c.args.body.now.events)
     (ported c.run_below.new.wire c.end_turn.new.body.events)) (sym c.or_stop.ensures)
     (after_goes g.X.Extra.added _ (laws g) c.args.answer.now c.args.body.now c.wake.new.body c.run_below.new.body c.wake.ensures c.args.wire.now
-    c.run_below.new.wire (rw c.in-Ok-Goes.field-0-is at c.in-Ok-Goes.ensures.comes) c.end_turn.new.body c.end_turn.result c.end_turn.ensures)
+    c.run_below.new.wire (rw c.in-Ok-Goes.field-0-is at c.in-Ok-Goes.ensures) c.end_turn.new.body c.end_turn.result c.end_turn.ensures)
 
-pub returns-in-Ok-Runaway-clause-comes : goal.returns-in-Ok-Runaway-clause-comes
-returns-in-Ok-Runaway-clause-comes g c =
+pub returns-in-Ok-Runaway : goal.returns-in-Ok-Runaway
+returns-in-Ok-Runaway g c =
     after_runs_away g.X.Extra.added _ (laws g) c.args.answer.now c.args.body.now c.wake.new.body c.run_below.new.body c.wake.ensures c.args.wire.now
-    c.run_below.new.wire c.in-Ok-Runaway.task (rw c.in-Ok-Runaway.field-0-is at c.in-Ok-Runaway.ensures.comes)
+    c.run_below.new.wire c.in-Ok-Runaway.task (rw c.in-Ok-Runaway.field-0-is at c.in-Ok-Runaway.ensures)
 
-pub returns-in-Err-clause-comes : goal.returns-in-Err-clause-comes
-returns-in-Err-clause-comes g c =
+pub returns-in-Err : goal.returns-in-Err
+returns-in-Err g c =
     after_stops g.X.Extra.added _ (laws g) c.args.answer.now c.args.body.now c.wake.new.body c.run_below.new.body c.wake.ensures c.args.wire.now
-    c.run_below.new.wire c.in-Err.stop c.in-Err.ensures.comes
+    c.run_below.new.wire c.in-Err.stop c.in-Err.ensures

@@ -1,11 +1,11 @@
-use Rattle.std.proofs.Common.{Err, ◌∙◌, refl, sym, subst, append-nil, arith}
+use Rattle.std.proofs.Common.{[], Err, ◌∙◌, refl, sym, subst, append-nil, arith}
 use Rattle.aio_exchange.specs.Outside.{IsOutside, outside_of}
 use Rattle.aio_core.specs.Turning.{StallsAs, resting, said_by, stood_by}
 use Rattle.aio_core.specs.declared.went.Went.TheVariants as went
-use Rattle.aio_core.proofs.Answered.{alive_then, asked_then, comes_then, still_then, time_then}
+use Rattle.aio_core.proofs.Answered.{alive_then, asked_then, comes_then, starved_then, still_then, time_then}
 use Rattle.aio_core.proofs.Asking.{failing_answered, failing_stopped, stalls_so, stalls_stopped, still_stopped, stops_so}
-use Rattle.aio_core.proofs.Asked.{none_once}
-use Rattle.aio_core.proofs.AskedByTurn.{stop_asks}
+use Rattle.aio_core.proofs.Asked.{asks_none}
+use Rattle.aio_core.proofs.AskedByTurn.{stop_asks, stop_starves, wire_over}
 use Rattle.aio_core.proofs.turns.turn.Given.{Over}
 use Rattle.aio_core.proofs.turns.turn.Goals as goal
 
@@ -27,7 +27,10 @@ returns-then-is_stalled-clause-stalls g c =
 
 pub returns-then-is_stalled-clause-asked : goal.returns-then-is_stalled-clause-asked
 returns-then-is_stalled-clause-asked g c =
-    λ past answers s h. (none_once (g.W.Wire.seen c.args.wire.now), sym (append-nil c.args.body.now.events.events))
+    λ past answers s h. ([], (sym (append-nil c.args.body.now.events.events), asks_none (g.W.Wire.seen c.args.wire.now)))
+
+pub returns-then-is_stalled-clause-starved : goal.returns-then-is_stalled-clause-starved
+returns-then-is_stalled-clause-starved g c = λ past answers s h. tt
 
 pub returns-then-is_stalled-clause-keeps : goal.returns-then-is_stalled-clause-keeps
 returns-then-is_stalled-clause-keeps g c = g.met.W.Wire.keeps_same c.args.wire.now
@@ -49,6 +52,12 @@ pub returns-in-Err-clause-asked : goal.returns-in-Err-clause-asked
 returns-in-Err-clause-asked g c =
     λ past answers s h. stop_asks c.first_call-call.result c.args.body.now.events c.ask.new.body.events
     (g.W.Wire.seen c.args.wire.now) (g.W.Wire.seen c.ask.new.wire) (Err c.in-Err.stop) c.in-Err.stop refl c.in-Err.ensures.asks
+
+pub returns-in-Err-clause-starved : goal.returns-in-Err-clause-starved
+returns-in-Err-clause-starved g c =
+    λ past answers s h. stop_starves g.X.Extra.added c.args.body.now c.first_call-call.result c.ask.new.body.events
+    (wire_over g.X.Extra.added (outside_of g.W.Wire.seen g.W.Wire.fails g.W.Wire.keeps g.W.Wire.quiet) c.args.body.now c.ask.new.body c.args.wire.now
+    c.ask.new.wire) (Err c.in-Err.stop) c.in-Err.stop refl c.in-Err.ensures.asks
 
 pub returns-in-Err-clause-stalls : goal.returns-in-Err-clause-stalls
 returns-in-Err-clause-stalls g c =
@@ -85,7 +94,7 @@ returns-in-Ok-clause-comes g c =
     (comes_then g.X.Extra.added _ (laws g) c.args.body.now c.first_call-call.result c.first_call-call.ensures.call
     (λ d s h. sym c.if-is_stalled.false ∙ c.is_stalled.ensures d s h) c.in-Ok.answer c.ask.new.body c.in-Ok.ensures.beside c.args.wire.now c.ask.new.wire
     c.in-Ok.ensures.asks c.in-Ok.ensures.stays c.in-Ok.ensures.fails c.in-Ok.ensures.keeps c.in-Ok.ensures.quiet
-    c.after.new.body c.after.new.wire c.after.result c.after.ensures.comes c.requires).0
+    c.after.new.body c.after.new.wire c.after.result c.after.ensures c.requires).0
 
 pub returns-in-Ok-clause-stalls : goal.returns-in-Ok-clause-stalls
 returns-in-Ok-clause-stalls g c =
@@ -94,38 +103,45 @@ returns-in-Ok-clause-stalls g c =
     (comes_then g.X.Extra.added _ (laws g) c.args.body.now c.first_call-call.result c.first_call-call.ensures.call
     (λ d s h. sym c.if-is_stalled.false ∙ c.is_stalled.ensures d s h) c.in-Ok.answer c.ask.new.body c.in-Ok.ensures.beside c.args.wire.now c.ask.new.wire
     c.in-Ok.ensures.asks c.in-Ok.ensures.stays c.in-Ok.ensures.fails c.in-Ok.ensures.keeps c.in-Ok.ensures.quiet
-    c.after.new.body c.after.new.wire c.after.result c.after.ensures.comes c.requires).1.0
+    c.after.new.body c.after.new.wire c.after.result c.after.ensures c.requires).1.0
 
 pub returns-in-Ok-clause-alive : goal.returns-in-Ok-clause-alive
 returns-in-Ok-clause-alive g c =
     (comes_then g.X.Extra.added _ (laws g) c.args.body.now c.first_call-call.result c.first_call-call.ensures.call
     (λ d s h. sym c.if-is_stalled.false ∙ c.is_stalled.ensures d s h) c.in-Ok.answer c.ask.new.body c.in-Ok.ensures.beside c.args.wire.now c.ask.new.wire
     c.in-Ok.ensures.asks c.in-Ok.ensures.stays c.in-Ok.ensures.fails c.in-Ok.ensures.keeps c.in-Ok.ensures.quiet
-    c.after.new.body c.after.new.wire c.after.result c.after.ensures.comes c.requires).1.1
+    c.after.new.body c.after.new.wire c.after.result c.after.ensures c.requires).1.1
 
 pub returns-in-Ok-clause-asked : goal.returns-in-Ok-clause-asked
 returns-in-Ok-clause-asked g c =
     asked_then g.X.Extra.added _ (laws g) c.args.body.now c.first_call-call.result c.first_call-call.ensures.call
     (λ d s h. sym c.if-is_stalled.false ∙ c.is_stalled.ensures d s h) c.in-Ok.answer c.ask.new.body c.in-Ok.ensures.beside c.args.wire.now c.ask.new.wire
     c.in-Ok.ensures.asks c.in-Ok.ensures.stays c.in-Ok.ensures.fails c.in-Ok.ensures.keeps c.in-Ok.ensures.quiet
-    c.after.new.body c.after.new.wire c.after.result c.after.ensures.comes c.after.ensures.unasked
+    c.after.new.body c.after.new.wire c.after.result c.after.ensures
+
+pub returns-in-Ok-clause-starved : goal.returns-in-Ok-clause-starved
+returns-in-Ok-clause-starved g c =
+    starved_then g.X.Extra.added _ (laws g) c.args.body.now c.first_call-call.result c.first_call-call.ensures.call
+    (λ d s h. sym c.if-is_stalled.false ∙ c.is_stalled.ensures d s h) c.in-Ok.answer c.ask.new.body c.in-Ok.ensures.beside c.args.wire.now c.ask.new.wire
+    c.in-Ok.ensures.asks c.in-Ok.ensures.stays c.in-Ok.ensures.fails c.in-Ok.ensures.keeps c.in-Ok.ensures.quiet
+    c.after.new.body c.after.new.wire c.after.result c.after.ensures
 
 pub returns-in-Ok-clause-fails : goal.returns-in-Ok-clause-fails
 returns-in-Ok-clause-fails g c = λ fails. absurd (failing_answered c.first_call-call.result c.in-Ok.answer (c.in-Ok.ensures.fails fails))
 
 pub returns-in-Ok-clause-keeps : goal.returns-in-Ok-clause-keeps
 returns-in-Ok-clause-keeps g c =
-    g.met.W.Wire.keeps_on c.args.wire.now c.ask.new.wire c.after.new.wire c.in-Ok.ensures.keeps c.after.ensures.comes.exchanged.keeps
+    g.met.W.Wire.keeps_on c.args.wire.now c.ask.new.wire c.after.new.wire c.in-Ok.ensures.keeps c.after.ensures.exchanged.keeps
 
 pub returns-in-Ok-clause-quiet : goal.returns-in-Ok-clause-quiet
 returns-in-Ok-clause-quiet g c =
     still_then g.X.Extra.added _ (laws g) c.args.body.now c.first_call-call.result c.first_call-call.ensures.call
     (λ d s h. sym c.if-is_stalled.false ∙ c.is_stalled.ensures d s h) c.in-Ok.answer c.ask.new.body c.in-Ok.ensures.beside c.args.wire.now c.ask.new.wire
     c.in-Ok.ensures.asks c.in-Ok.ensures.stays c.in-Ok.ensures.fails c.in-Ok.ensures.keeps c.in-Ok.ensures.quiet
-    c.after.new.body c.after.new.wire c.after.result c.after.ensures.comes
+    c.after.new.body c.after.new.wire c.after.result c.after.ensures
 
 pub returns-in-Ok-clause-later : goal.returns-in-Ok-clause-later
 returns-in-Ok-clause-later g c =
     let first = c.in-Ok.ensures.stays.1 in
-    let then_ = c.after.ensures.comes.exchanged.stays.1 in
+    let then_ = c.after.ensures.exchanged.stays.1 in
     omega (arith, first, then_)

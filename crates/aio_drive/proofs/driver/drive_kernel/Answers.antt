@@ -1,4 +1,4 @@
-use Rattle.std.proofs.Common.{◌≡◌, ◌-◌, ◌^◌, ◌≤◌, ap, refl, sym, ◌∙◌, arith}
+use Rattle.std.proofs.Common.{◌≡◌, ap, refl, sym, ◌∙◌, arith}
 use Rattle.std.specs.Option.{option_copied}
 use Rattle.aio_drive.proofs.Rounds.{last_err, last_ok, round_err, round_ok, round_on, still_goes, under_way_first}
 use Rattle.aio_drive.proofs.driver.drive_kernel.Goals as goal
@@ -31,21 +31,19 @@ loop-made-preserved g c =
 pub returns-in-Ok-Some-clause-ok : goal.returns-in-Ok-Some-clause-ok
 returns-in-Ok-Some-clause-ok g c =
     let l = c.loop-made in
-    let fits : c.args.manner.turns ≤ 2 ^ 64 - 1 = omega arith in
     λ program begins.
     let under = l.invariant.running program begins in
     round_ok (g.W.Wire.seen c.args.wire.now) under c.loop-made-test.true l.invariant.later
-    (g.met.W.Wire.quiet_on c.args.wire.now l.wire c.tell_next.new.wire under.still) (c.tell_next.new.shelf ≡ c.args.shelf.now) fits
+    (g.met.W.Wire.quiet_on c.args.wire.now l.wire c.tell_next.new.wire under.still) (c.tell_next.new.shelf ≡ c.args.shelf.now)
     c.in-Ok-Some.field-0 c.in-Ok-Some.status c.in-Ok-Some.field-0-is (c.in-Ok-Some.ensures.turned (still_goes under))
 
 pub returns-in-Err-clause-err : goal.returns-in-Err-clause-err
 returns-in-Err-clause-err g c =
     let l = c.loop-made in
-    let fits : c.args.manner.turns ≤ 2 ^ 64 - 1 = omega arith in
     λ program begins.
     let under = l.invariant.running program begins in
     round_err (g.W.Wire.seen c.args.wire.now) under c.loop-made-test.true l.invariant.later
-    (g.met.W.Wire.quiet_on c.args.wire.now l.wire c.tell_next.new.wire under.still) (c.tell_next.new.shelf ≡ c.args.shelf.now) fits
+    (g.met.W.Wire.quiet_on c.args.wire.now l.wire c.tell_next.new.wire under.still) (c.tell_next.new.shelf ≡ c.args.shelf.now)
     (λ same. sym (ap g.F.Shelf.seen same)) (λ same then. same ∙ then)
     c.in-Err.cut (c.in-Err.ensures.turned (still_goes under))
 

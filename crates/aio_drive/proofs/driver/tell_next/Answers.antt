@@ -25,6 +25,7 @@ returns-clause-turned g c = λ going.
       turned = it.1;
       stands = c.events-events.ensures.stands;
       left = c.events-events.ensures.left;
+      told = c.tell_turn.ensures.told;
       noted = subst (λ (es : List Event). OnOk c.tell_turn.result (Records shelf.name (recorded es) shelf.old shelf.new)) out
           c.tell_turn.ensures.noted;
       ok = subst (λ (es : List Event). IfOk c.tell_turn.result (λ status.

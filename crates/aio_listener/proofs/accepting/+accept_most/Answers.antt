@@ -1,4 +1,4 @@
-use Rattle.std.proofs.Common.{◌≡◌, ℕ, suc, ◌-◌, Ok, Err, length, ◌∙◌, refl, sym, subst, arith}
+use Rattle.std.proofs.Common.{◌≡◌, ℕ, suc, ◌-◌, ◌<◌, Ok, Err, length, ◌∙◌, refl, sym, subst, arith}
 use Rattle.std.proofs.lemmas.Result.{err_from_is_err_and}
 use Rattle.model_stream.specs.Streams.{accept_most}
 use Rattle.aio_wire.specs.declared.stop.Stop.TheVariants as stop
@@ -6,7 +6,7 @@ use Rattle.aio_exchange.specs.Outside.{IsOutside, Outside, outside_of}
 use Rattle.law_doing.specs.Follows.{Reach, reach}
 use Rattle.aio_task.specs.View.{View}
 use Rattle.aio_stream.specs.Standing.{Comes}
-use Rattle.aio_listener.proofs.Accepts.{no_room, none_left, round_met, round_on, round_over, round_starved}
+use Rattle.aio_listener.proofs.Accepts.{accepts_over, round_met, round_on, round_over, round_starved}
 use Rattle.aio_listener.proofs.accepting.+accept_most.Given.{Over}
 use Rattle.aio_listener.proofs.accepting.+accept_most.Goals as goal
 
@@ -21,22 +21,14 @@ laws g = record {
   quiet_on = g.met.W.Wire.quiet_on;
 }
 
-one_less : (more : ℕ) → (more ≡ 0 → ⊥) → suc (more - 1) ≡ more
-one_less more h = omega arith
+one_less : (more : ℕ) → 0 < more → suc (more - 1) ≡ more
+one_less more h = omega (arith, h)
 
-pub returns-then-more-eq0-clause-comes : goal.returns-then-more-eq0-clause-comes
-returns-then-more-eq0-clause-comes g t c =
+pub returns-then-not-accepts-clause-comes : goal.returns-then-not-accepts-clause-comes
+returns-then-not-accepts-clause-comes g t c =
     let at : Reach View g.row.W.Denot = reach c.args.parts.now c.args.port.now.wire.now c.args.port.now.events.now in
-    let next = length c.args.parts.now.futures in
-    subst (λ (more : ℕ). Comes {R = Unit {0}} (outside g) (accept_most more c.args.server c.args.handler next) c.args.streams.now c.args.streams.now at at
-    (Ok tt)) (sym c.if-more-eq0.true)
-    (none_left (outside g) (laws g) c.args.server c.args.handler c.args.streams.now next at)
-
-pub returns-then-not-may_connect-clause-comes : goal.returns-then-not-may_connect-clause-comes
-returns-then-not-may_connect-clause-comes g t c =
-    let at : Reach View g.row.W.Denot = reach c.args.parts.now c.args.port.now.wire.now c.args.port.now.events.now in
-    no_room (outside g) (laws g) c.args.server c.args.handler c.args.streams.now c.args.more (length c.args.parts.now.futures) at
-    (sym c.may_connect.ensures ∙ c.if-not-may_connect.true)
+    accepts_over (outside g) (laws g) c.args.server c.args.handler c.args.streams.now c.args.more (length c.args.parts.now.futures) at
+    (c.accepts.ensures.stops c.if-not-accepts.true)
 
 pub returns-in_err-came-clause-comes : goal.returns-in_err-came-clause-comes
 returns-in_err-came-clause-comes g t c =
@@ -46,9 +38,9 @@ returns-in_err-came-clause-comes g t c =
     let next = length c.args.parts.now.futures in
     rw (p.1, p.2)
     (subst (λ (more : ℕ). Comes {R = Unit {0}} (outside g) (accept_most more c.args.server c.args.handler next) c.args.streams.now c.args.streams.now old mid
-    (Err c.in_err-came.field-0.0)) (one_less c.args.more c.if-more-eq0.false)
+    (Err c.in_err-came.field-0.0)) (one_less c.args.more (c.accepts.ensures.goes c.if-not-accepts.false).0)
     (round_met (outside g) (laws g) c.args.server c.args.handler c.args.streams.now (c.args.more - 1) next
-    (sym c.may_connect.ensures ∙ c.if-not-may_connect.false) old mid refl c.args.streams.now c.in_err-came.field-0.0 c.in_err-came.ensures.asks))
+    (c.accepts.ensures.goes c.if-not-accepts.false).1 old mid refl c.args.streams.now c.in_err-came.field-0.0 c.in_err-came.ensures.asks))
 
 pub returns-then-not-comes-clause-comes : goal.returns-then-not-comes-clause-comes
 returns-then-not-comes-clause-comes g t c =
@@ -56,9 +48,9 @@ returns-then-not-comes-clause-comes g t c =
     let mid : Reach View g.row.W.Denot = reach c.args.parts.now c.ask.new.port.wire.now c.ask.new.port.events.now in
     let next = length c.args.parts.now.futures in
     subst (λ (more : ℕ). Comes {R = Unit {0}} (outside g) (accept_most more c.args.server c.args.handler next) c.args.streams.now c.args.streams.now old mid
-    (Ok tt)) (one_less c.args.more c.if-more-eq0.false)
+    (Ok tt)) (one_less c.args.more (c.accepts.ensures.goes c.if-not-accepts.false).0)
     (round_over (outside g) (laws g) c.args.server c.args.handler c.args.streams.now (c.args.more - 1) next
-    (sym c.may_connect.ensures ∙ c.if-not-may_connect.false) old mid refl c.in_ok-came.came c.in_ok-came.ensures.asks
+    (c.accepts.ensures.goes c.if-not-accepts.false).1 old mid refl c.in_ok-came.came c.in_ok-came.ensures.asks
     (sym c.is_conn-comes.ensures ∙ c.if-not-comes.true))
 
 pub returns-in_err-accept-clause-comes : goal.returns-in_err-accept-clause-comes
@@ -70,9 +62,9 @@ returns-in_err-accept-clause-comes g t c =
     let next = length c.args.parts.now.futures in
     rw (p.1, p.2)
     (subst (λ (more : ℕ). Comes {R = Unit {0}} (outside g) (accept_most more c.args.server c.args.handler next) c.args.streams.now c.accept.new.streams old new
-    (Err stop.Memory)) (one_less c.args.more c.if-more-eq0.false)
+    (Err stop.Memory)) (one_less c.args.more (c.accepts.ensures.goes c.if-not-accepts.false).0)
     (round_starved (outside g) (laws g) c.args.server c.args.handler c.args.streams.now (c.args.more - 1) next
-    (sym c.may_connect.ensures ∙ c.if-not-may_connect.false) old mid refl c.in_ok-came.came c.in_ok-came.ensures.asks c.accept.new.streams new refl))
+    (c.accepts.ensures.goes c.if-not-accepts.false).1 old mid refl c.in_ok-came.came c.in_ok-came.ensures.asks c.accept.new.streams new refl))
 
 pub returns-clause-comes : goal.returns-clause-comes
 returns-clause-comes g t c =
@@ -82,9 +74,9 @@ returns-clause-comes g t c =
     let new : Reach View g.row.W.Denot = reach c.accept_most.new.parts c.accept_most.new.port.wire.now c.accept_most.new.port.events.now in
     let next = length c.args.parts.now.futures in
     subst (λ (more : ℕ). Comes (outside g) (accept_most more c.args.server c.args.handler next) c.args.streams.now c.accept_most.new.streams old new
-    c.accept_most.result) (one_less c.args.more c.if-more-eq0.false)
+    c.accept_most.result) (one_less c.args.more (c.accepts.ensures.goes c.if-not-accepts.false).0)
     (round_on (outside g) (laws g) c.args.server c.args.handler c.args.streams.now (c.args.more - 1) next
-    (sym c.may_connect.ensures ∙ c.if-not-may_connect.false) old mid refl c.in_ok-came.came c.in_ok-came.ensures.asks c.accept.new.streams
+    (c.accepts.ensures.goes c.if-not-accepts.false).1 old mid refl c.in_ok-came.came c.in_ok-came.ensures.asks c.accept.new.streams
     c.accept_most.new.streams third new c.accept_most.result (sym c.is_conn-comes.ensures ∙ c.if-not-comes.false) c.in_ok-accept.ensures.told refl
     (subst (λ (n : ℕ). Comes (outside g) (accept_most (c.args.more - 1) c.args.server c.args.handler n) c.accept.new.streams c.accept_most.new.streams third new
     c.accept_most.result) c.in_ok-accept.ensures.next c.accept_most.ensures.comes))

@@ -1,4 +1,3 @@
-use Rattle.std.proofs.Common.{◌∙◌, refl}
 use Rattle.aio_exchange.specs.Outside.{IsOutside, outside_of}
 use Rattle.aio_serve.proofs.Adding.{on_answer, on_end, on_first, on_next, on_starved, on_stop}
 use Rattle.aio_serve.proofs.added.answer.Given.{Over}
@@ -13,43 +12,32 @@ laws g = record {
 }
 
 pub loop-woken-init : goal.loop-woken-init
-loop-woken-init g c = (refl, on_first g.X.Extra.added _ (laws g) c.args.task c.args.asked c.args.body.now c.args.wire.now)
+loop-woken-init g c = on_first g.X.Extra.added _ (laws g) c.args.task c.args.asked c.args.body.now c.args.wire.now
 
 pub answer_one-requires : goal.answer_one-requires
 answer_one-requires g c =
     let l = c.loop-woken in
-    on_answer g.X.Extra.added _ (laws g) c.args.task c.args.asked c.args.body.now c.args.wire.now l.asked l.body l.wire l.invariant.1 c.requires
+    on_answer g.X.Extra.added _ (laws g) c.args.task c.args.asked c.args.body.now c.args.wire.now l.asked l.body l.wire l.invariant c.requires
 
 pub loop-woken-preserved : goal.loop-woken-preserved
 loop-woken-preserved g c =
-    let l = c.loop-woken in (
-      c.in-Ok-Again.ensures.unasked ∙ l.invariant.0,
-      on_next g.X.Extra.added _ (laws g) c.args.task c.args.asked c.args.body.now c.args.wire.now l.asked l.body l.wire l.invariant.1
-          c.answer_one.new.body c.answer_one.new.wire c.in-Ok-Again.next (rw c.in-Ok-Again.field-0-is at c.in-Ok-Again.ensures.comes),
-    )
-
-pub returns-in-Ok-Replies-clause-comes : goal.returns-in-Ok-Replies-clause-comes
-returns-in-Ok-Replies-clause-comes g c =
     let l = c.loop-woken in
-    on_end g.X.Extra.added _ (laws g) c.args.task c.args.asked c.args.body.now c.args.wire.now l.asked l.body l.wire l.invariant.1
-    c.answer_one.new.body c.answer_one.new.wire c.in-Ok-Replies.said (rw c.in-Ok-Replies.field-0-is at c.in-Ok-Replies.ensures.comes)
+    on_next g.X.Extra.added _ (laws g) c.args.task c.args.asked c.args.body.now c.args.wire.now l.asked l.body l.wire l.invariant
+    c.answer_one.new.body c.answer_one.new.wire c.in-Ok-Again.next (rw c.in-Ok-Again.field-0-is at c.in-Ok-Again.ensures)
 
-pub returns-in-Ok-Replies-clause-unasked : goal.returns-in-Ok-Replies-clause-unasked
-returns-in-Ok-Replies-clause-unasked g c = c.in-Ok-Replies.ensures.unasked ∙ c.loop-woken.invariant.0
-
-pub returns-in-Err-clause-comes : goal.returns-in-Err-clause-comes
-returns-in-Err-clause-comes g c =
+pub returns-in-Ok-Replies : goal.returns-in-Ok-Replies
+returns-in-Ok-Replies g c =
     let l = c.loop-woken in
-    on_stop g.X.Extra.added _ (laws g) c.args.task c.args.asked c.args.body.now c.args.wire.now l.asked l.body l.wire l.invariant.1
-    c.answer_one.new.body c.answer_one.new.wire c.in-Err.stop c.in-Err.ensures.comes
+    on_end g.X.Extra.added _ (laws g) c.args.task c.args.asked c.args.body.now c.args.wire.now l.asked l.body l.wire l.invariant
+    c.answer_one.new.body c.answer_one.new.wire c.in-Ok-Replies.said (rw c.in-Ok-Replies.field-0-is at c.in-Ok-Replies.ensures)
 
-pub returns-in-Err-clause-unasked : goal.returns-in-Err-clause-unasked
-returns-in-Err-clause-unasked g c = c.in-Err.ensures.unasked ∙ c.loop-woken.invariant.0
-
-pub returns-clause-comes : goal.returns-clause-comes
-returns-clause-comes g c =
+pub returns-in-Err : goal.returns-in-Err
+returns-in-Err g c =
     let l = c.loop-woken in
-    on_starved g.X.Extra.added _ (laws g) c.args.task c.args.asked c.args.body.now c.args.wire.now l.asked l.body l.wire l.invariant.1 l.body
+    on_stop g.X.Extra.added _ (laws g) c.args.task c.args.asked c.args.body.now c.args.wire.now l.asked l.body l.wire l.invariant
+    c.answer_one.new.body c.answer_one.new.wire c.in-Err.stop c.in-Err.ensures
 
-pub returns-clause-unasked : goal.returns-clause-unasked
-returns-clause-unasked g c = c.loop-woken.invariant.0
+pub returns : goal.returns
+returns g c =
+    let l = c.loop-woken in
+    on_starved g.X.Extra.added _ (laws g) c.args.task c.args.asked c.args.body.now c.args.wire.now l.asked l.body l.wire l.invariant l.body

@@ -17,21 +17,21 @@ laws g = record {
   quiet_on = g.met.W.Wire.quiet_on;
 }
 
-pub returns-in-Answer-clause-comes : goal.returns-in-Answer-clause-comes
-returns-in-Answer-clause-comes g c =
+pub returns-in-Answer : goal.returns-in-Answer
+returns-in-Answer g c =
     rw c.in-Answer.is (once_alone g.X.Extra.added _ (laws g) c.args.task _ c.args.body.now c.args.body.now c.args.wire.now refl
     (Ok (Replies (Answers c.in-Answer.value))) (λ at s it h. answer_so c.args.task at c.args.body.now s c.in-Answer.value it h))
 
-pub returns-in-Raise-clause-comes : goal.returns-in-Raise-clause-comes
-returns-in-Raise-clause-comes g c =
+pub returns-in-Raise : goal.returns-in-Raise
+returns-in-Raise g c =
     rw c.in-Raise.is (once_alone g.X.Extra.added _ (laws g) c.args.task _ c.args.body.now c.args.body.now c.args.wire.now refl
     (Ok (Replies (Raises c.in-Raise.fault))) (λ at s it h. raise_so c.args.task at c.args.body.now s c.in-Raise.fault it h))
 
 pub wait-requires : goal.wait-requires
 wait-requires g c = subst (λ k. Possible g.X.Extra.added (HasAnswer c.args.task k) c.args.body.now) c.in-Wait.is c.requires
 
-pub returns-in-Wait-clause-comes : goal.returns-in-Wait-clause-comes
-returns-in-Wait-clause-comes g c =
+pub returns-in-Wait : goal.returns-in-Wait
+returns-in-Wait g c =
     subst (Comes _ (answering_once g.X.Extra.added c.args.task c.args.asked c.args.body.now c.wait.new.body)
     (ported c.args.wire.now c.args.body.now.events) (ported c.args.wire.now c.wait.new.body.events)) (sym c.or_stop.ensures)
     (rw c.in-Wait.is (once_alone g.X.Extra.added _ (laws g) c.args.task _ c.args.body.now c.wait.new.body c.args.wire.now c.wait.ensures.events

@@ -4,11 +4,9 @@ use Rattle.std.proofs.lemmas.Result.{IfOk-weaker}
 use Rattle.model_says.specs.Requests.{bad_argument}
 use Rattle.model_machine.specs.Arguments.{as_list}
 use Rattle.model_value.specs.declared.request.Request.TheVariants as request
-use Rattle.aio_exchange.proofs.Among.{on_none}
 use Rattle.aio_exchange.specs.Outside.{IsOutside, outside_of, ported}
-use Rattle.aio_body.proofs.Asking.{comes_starved}
 use Rattle.aio_body.specs.Asking.{Comes, serving}
-use Rattle.aio_serve.proofs.Adding.{Asks, asks_answer, asks_go, asks_served, serves_alone}
+use Rattle.aio_serve.proofs.Adding.{Asks, asks_answer, asks_go, asks_served, serves_alone, serves_without}
 use Rattle.aio_serve.proofs.added.extra.Given.{Over}
 use Rattle.aio_serve.proofs.Meaning.{arguments_refused, code_refused}
 use Rattle.aio_serve.proofs.Saying.{raises_so}
@@ -30,8 +28,8 @@ laws g = record {
   quiet_on = g.met.W.Wire.quiet_on;
 }
 
-pub returns-in_default-clause-comes : goal.returns-in_default-clause-comes
-returns-in_default-clause-comes g c =
+pub returns-in_default : goal.returns-in_default
+returns-in_default g c =
     let task = c.args.task in
     let asked = request.Extra c.args.code.now c.args.arguments.now in
     subst (Comes _ (serving g.X.Extra.added task asked c.args.body.now c.args.body.now) (ported c.args.wire.now c.args.body.now.events)
@@ -42,8 +40,8 @@ returns-in_default-clause-comes g c =
     (code_refused g.X.Extra.added.meaning task s c.args.code.now c.args.arguments.now (sym c.as_int.ensures ∙ c.in_default.is)) h.going.in_step)
     c.bad_argument.ensures))
 
-pub returns-then-not-is_list-clause-comes : goal.returns-then-not-is_list-clause-comes
-returns-then-not-is_list-clause-comes g c =
+pub returns-then-not-is_list : goal.returns-then-not-is_list
+returns-then-not-is_list g c =
     let task = c.args.task in
     let asked = request.Extra c.args.code.now c.args.arguments.now in
     subst (Comes _ (serving g.X.Extra.added task asked c.args.body.now c.args.body.now) (ported c.args.wire.now c.args.body.now.events)
@@ -67,17 +65,16 @@ answer-requires g c =
     (subst (Asks g.X.Extra.added c.args.task c.args.body.now c.args.arguments.now c.ask.new.parts c.ask.new.self c.in-Ok.asked)
     (to_z-of_z w64 c.in-Some.code fits) c.in-Ok.ensures) c.requires
 
-pub returns-in-Ok-clause-comes : goal.returns-in-Ok-clause-comes
-returns-in-Ok-clause-comes g c =
+pub returns-in-Ok : goal.returns-in-Ok
+returns-in-Ok g c =
     let fits : SFits w64 c.in-Some.code = search rules in
     let items = some_of (as_list c.args.arguments.now) (sym c.is_list.ensures ∙ c.if-not-is_list.false) in
     asks_go g.X.Extra.added c.args.task c.args.body.now c.args.code.now c.args.arguments.now c.in-Some.code items.0
     (sym c.as_int.ensures ∙ c.in-Some.is) items.1 c.ask.new.parts c.ask.new.self c.in-Ok.asked
     (subst (Asks g.X.Extra.added c.args.task c.args.body.now c.args.arguments.now c.ask.new.parts c.ask.new.self c.in-Ok.asked)
     (to_z-of_z w64 c.in-Some.code fits) c.in-Ok.ensures) _ (laws g) c.answer.new.body c.args.wire.now c.answer.new.wire c.answer.result
-    c.answer.ensures.comes
+    c.answer.ensures
 
-pub returns-in-Err-clause-comes : goal.returns-in-Err-clause-comes
-returns-in-Err-clause-comes g c =
-    comes_starved _ (laws g) (serving g.X.Extra.added c.args.task (request.Extra c.args.code.now c.args.arguments.now) c.args.body.now _) _
-    (ported c.args.wire.now c.args.body.now.events) (ported c.args.wire.now c.args.body.now.events) _ refl (on_none _ (laws g) c.args.wire.now)
+pub returns-in-Err : goal.returns-in-Err
+returns-in-Err g c =
+    serves_without g.X.Extra.added _ (laws g) c.args.task (request.Extra c.args.code.now c.args.arguments.now) c.args.body.now c.args.wire.now _

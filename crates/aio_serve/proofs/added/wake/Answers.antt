@@ -1,10 +1,7 @@
-use Rattle.std.proofs.Common.{ap, refl}
+use Rattle.std.proofs.Common.{ap}
 use Rattle.std.specs.Prelude.{is_some}
-use Rattle.aio_exchange.proofs.Among.{on_none}
-use Rattle.aio_exchange.specs.Outside.{IsOutside, outside_of, ported}
-use Rattle.aio_body.proofs.Asking.{comes_starved}
-use Rattle.aio_serve.specs.Adding.{waking}
-use Rattle.aio_serve.proofs.Adding.{decides_run, decides_served, wakes_answer, wakes_go}
+use Rattle.aio_exchange.specs.Outside.{IsOutside, outside_of}
+use Rattle.aio_serve.proofs.Adding.{decides_run, decides_served, wakes_answer, wakes_go, wakes_without}
 use Rattle.aio_serve.proofs.added.wake.Given.{Over}
 use Rattle.aio_serve.proofs.added.wake.Goals as goal
 
@@ -26,12 +23,11 @@ pub answer-requires : goal.answer-requires
 answer-requires g c =
     wakes_answer c.args.task c.args.key c.args.body.now c.args.input c.wake.new.parts c.wake.new.self c.in-Ok.asked c.in-Ok.ensures c.requires
 
-pub returns-in-Ok-clause-comes : goal.returns-in-Ok-clause-comes
-returns-in-Ok-clause-comes g c =
+pub returns-in-Ok : goal.returns-in-Ok
+returns-in-Ok g c =
     wakes_go c.args.task c.args.key c.args.body.now c.args.input c.wake.new.parts c.wake.new.self c.in-Ok.asked c.in-Ok.ensures
-    _ (laws g) c.answer.new.body c.args.wire.now c.answer.new.wire c.answer.result c.answer.ensures.comes
+    _ (laws g) c.answer.new.body c.args.wire.now c.answer.new.wire c.answer.result c.answer.ensures
 
-pub returns-in-Err-clause-comes : goal.returns-in-Err-clause-comes
-returns-in-Err-clause-comes g c =
-    comes_starved _ (laws g) (waking g.X.Extra.added c.args.task c.args.key c.args.input c.args.body.now _) _
-    (ported c.args.wire.now c.args.body.now.events) (ported c.args.wire.now c.args.body.now.events) _ refl (on_none _ (laws g) c.args.wire.now)
+pub returns-in-Err : goal.returns-in-Err
+returns-in-Err g c =
+    wakes_without g.X.Extra.added _ (laws g) c.args.task c.args.key c.args.input c.args.body.now c.args.wire.now _

@@ -18,11 +18,11 @@ laws g = record {
 pub extra-requires : goal.extra-requires
 extra-requires g c = subst (λ r. Possible g.X.Extra.added (IsAskingFor c.args.task r) c.args.body.now) c.in-Extra.is c.requires
 
-pub returns-in-Extra-clause-comes : goal.returns-in-Extra-clause-comes
-returns-in-Extra-clause-comes g c = rw c.in-Extra.is c.extra.ensures.comes
+pub returns-in-Extra : goal.returns-in-Extra
+returns-in-Extra g c = rw c.in-Extra.is c.extra.ensures
 
-pub returns-in_default-clause-comes : goal.returns-in_default-clause-comes
-returns-in_default-clause-comes g c =
+pub returns-in_default : goal.returns-in_default
+returns-in_default g c =
     subst (Comes _ (serving g.X.Extra.added c.args.task c.args.request c.args.body.now c.serve.new.body)
     (ported c.args.wire.now c.args.body.now.events) (ported c.args.wire.now c.serve.new.body.events)) (sym c.or_stop.ensures)
     (serves_alone g.X.Extra.added _ (laws g) c.args.task c.args.request c.args.body.now c.args.wire.now c.serve.new.body c.serve.result c.serve.ensures)

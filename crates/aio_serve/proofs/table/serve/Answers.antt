@@ -150,7 +150,7 @@ returns-in-Listen g c =
     IfOk-weaker c.open_port.result _ _ (λ said e at s h.
     raises_so c.args.task at c.args.body.now s said _ _ e
     (ap (λ r. reply g.X.Extra.added.meaning c.args.task r s) c.in-Listen.is
-    ∙ listen_none g.X.Extra.added.meaning c.args.task s h.going.in_step.stands.streams _ _) h.going.in_step)
+    ∙ listen_none g.X.Extra.added.meaning c.args.task s h.going.in_step.stands.closed _ _) h.going.in_step)
     c.open_port.ensures
 
 pub returns-in-Connect : goal.returns-in-Connect
@@ -158,7 +158,7 @@ returns-in-Connect g c =
     IfOk-weaker c.open_port-in-Connect.result _ _ (λ said e at s h.
     raises_so c.args.task at c.args.body.now s said _ _ e
     (ap (λ r. reply g.X.Extra.added.meaning c.args.task r s) c.in-Connect.is
-    ∙ connect_none g.X.Extra.added.meaning c.args.task s h.going.in_step.stands.streams _) h.going.in_step)
+    ∙ connect_none g.X.Extra.added.meaning c.args.task s h.going.in_step.stands.closed _) h.going.in_step)
     c.open_port-in-Connect.ensures
 
 pub returns-in-Launch : goal.returns-in-Launch
@@ -166,7 +166,7 @@ returns-in-Launch g c =
     IfOk-weaker c.launch.result _ _ (λ said e at s h.
     raises_so c.args.task at c.args.body.now s said _ _ e
     (ap (λ r. reply g.X.Extra.added.meaning c.args.task r s) c.in-Launch.is
-    ∙ launch_none g.X.Extra.added.meaning c.args.task s h.going.in_step.stands.streams _) h.going.in_step)
+    ∙ launch_none g.X.Extra.added.meaning c.args.task s h.going.in_step.stands.closed _) h.going.in_step)
     c.launch.ensures
 
 -- those that name one
@@ -187,7 +187,7 @@ returns g c =
     let asked = c.args.request in
     let m = g.X.Extra.added.meaning in
     IfOk-weaker c.bad_argument.result _ _ (λ said e at s h.
-    let closed = h.going.in_step.stands.streams in
+    let closed = h.going.in_step.stands.closed in
     raises_so task at c.args.body.now s said _ bad_argument e (
     either m task s closed asked c.in-Extra.is (λ w. added_never m task s closed asked _ _ w.2 c.requires.own) (λ v.
     either m task s closed asked v (λ w. by m task s closed asked _ w.2 (write_none m task s closed _ _)) (λ v.

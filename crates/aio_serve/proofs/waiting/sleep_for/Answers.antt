@@ -53,7 +53,7 @@ returns g c at s h =
       schedule = record { live = placed_after (timer id (SleepDone task n)) old.parts.schedule.live; next = old.parts.schedule.next + 1 };
     }) made.number in
     sleeps_so task c.args.delay at old c.stand.new.self s v w id future h.in_step h.sound.others.loop.parts.owns
-    (plain_named g.X.Extra.added.meaning task s h.sound)
+    (plain_named g.X.Extra.added.meaning task s h.sound) h.sound.others.streams
     h.sound.others.loop.parts.waits_made (within_going task at old s h) made.number made.id (next_kept stands.ties old.parts p stands.keeps) alarm
     c.suspend-suspension.ensures.after c.suspend-suspension.ensures.queue c.suspend-suspension.ensures.beside
     (c.stand.ensures.beside ∙ ap (λ (b : Body _). record b { parts = w; slots = c.stand.new.self.slots }) made.after)

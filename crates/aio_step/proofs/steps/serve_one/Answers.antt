@@ -1,11 +1,8 @@
 use Rattle.std.proofs.Common.{refl}
-use Rattle.aio_exchange.proofs.Among.{on_none}
-use Rattle.aio_exchange.specs.Outside.{IsOutside, outside_of, ported}
-use Rattle.aio_body.proofs.Asking.{comes_starved}
-use Rattle.aio_step.specs.Serving.{serving_once}
+use Rattle.aio_exchange.specs.Outside.{IsOutside, outside_of}
 use Rattle.aio_step.specs.declared.steps.Served.TheVariants.{Ended}
 use Rattle.aio_step.specs.declared.steps.Stepped.TheVariants.{Goes, Runaway}
-use Rattle.aio_step.proofs.Resumed.{ask_of, asks_so, asks_stop, ends_so, raises_so, returns_so, runs_so, serve_idle, serve_runs}
+use Rattle.aio_step.proofs.Resumed.{ask_of, asks_so, asks_stop, ends_so, raises_so, resumes_without, returns_so, runs_so, serve_idle, serve_runs}
 use Rattle.aio_step.proofs.steps.serve_one.Given.{Over}
 use Rattle.aio_step.proofs.steps.serve_one.Goals as goal
 
@@ -23,17 +20,17 @@ reply-requires g c =
     ask_of c.args.task c.args.fresh c.args.input c.args.body.now c.args.coroutine.now c.resume.new.self c.in-Ok-Asks.field-0
     c.in-Ok-Asks.ensures.said c.in-Ok-Asks.ensures.stands c.requires c.in-Ok-Asks.request c.in-Ok-Asks.field-0-is
 
-pub returns-in-Ok-clause-comes : goal.returns-in-Ok-clause-comes
-returns-in-Ok-clause-comes g c =
+pub returns-in-Ok : goal.returns-in-Ok
+returns-in-Ok g c =
     rw c.onward.ensures (asks_so c.args.task c.args.fresh c.args.input c.args.body.now c.args.coroutine.now c.resume.new.self c.in-Ok-Asks.field-0
     c.in-Ok-Asks.ensures.said c.in-Ok-Asks.ensures.stands _ (laws g) c.args.wire.now
-    c.in-Ok-Asks.request c.in-Ok-Asks.field-0-is c.reply.new.body c.reply.new.wire c.in-Ok.said c.in-Ok.ensures.comes)
+    c.in-Ok-Asks.request c.in-Ok-Asks.field-0-is c.reply.new.body c.reply.new.wire c.in-Ok.said c.in-Ok.ensures)
 
-pub returns-in-Err-reply-clause-comes : goal.returns-in-Err-reply-clause-comes
-returns-in-Err-reply-clause-comes g c =
+pub returns-in-Err-reply : goal.returns-in-Err-reply
+returns-in-Err-reply g c =
     asks_stop c.args.task c.args.fresh c.args.input c.args.body.now c.args.coroutine.now c.resume.new.self c.in-Ok-Asks.field-0
     c.in-Ok-Asks.ensures.said c.in-Ok-Asks.ensures.stands _ (laws g) c.args.wire.now
-    c.in-Ok-Asks.request c.in-Ok-Asks.field-0-is c.reply.new.body c.reply.new.wire c.in-Err-reply.stop c.in-Err-reply.ensures.comes
+    c.in-Ok-Asks.request c.in-Ok-Asks.field-0-is c.reply.new.body c.reply.new.wire c.in-Err-reply.stop c.in-Err-reply.ensures
 
 -- ---- it ends
 pub finish-requires-clause-idle : goal.finish-requires-clause-idle
@@ -48,8 +45,8 @@ finish-requires-in-Ok-Raises-clause-idle g c = serve_idle c.args.task c.args.fre
 pub finish-requires-in-Ok-Raises-clause-running : goal.finish-requires-in-Ok-Raises-clause-running
 finish-requires-in-Ok-Raises-clause-running g c = serve_runs c.args.task c.args.fresh c.args.input c.args.body.now c.args.coroutine.now c.requires
 
-pub returns-in-Ok-Returns-clause-comes : goal.returns-in-Ok-Returns-clause-comes
-returns-in-Ok-Returns-clause-comes g c =
+pub returns-in-Ok-Returns : goal.returns-in-Ok-Returns
+returns-in-Ok-Returns g c =
     ends_so c.args.task c.args.fresh c.args.input c.args.body.now c.args.coroutine.now c.resume.new.self c.in-Ok-Returns.field-0
     c.in-Ok-Returns.ensures.said c.in-Ok-Returns.ensures.stands _ (laws g) c.args.wire.now
     (record c.args.body.now { parts = c.finish.new.self }) (Ended Goes) refl (λ d s h.
@@ -57,8 +54,8 @@ returns-in-Ok-Returns-clause-comes g c =
     c.in-Ok-Returns.ensures.said c.in-Ok-Returns.ensures.stands d s h c.in-Ok-Returns.value c.in-Ok-Returns.field-0-is c.finish.new.self c.finish.ensures.after
     c.finish.ensures.queue c.finish.ensures.beside)
 
-pub returns-in-Ok-Raises-clause-comes : goal.returns-in-Ok-Raises-clause-comes
-returns-in-Ok-Raises-clause-comes g c =
+pub returns-in-Ok-Raises : goal.returns-in-Ok-Raises
+returns-in-Ok-Raises g c =
     ends_so c.args.task c.args.fresh c.args.input c.args.body.now c.args.coroutine.now c.resume.new.self c.in-Ok-Raises.field-0
     c.in-Ok-Raises.ensures.said c.in-Ok-Raises.ensures.stands _ (laws g) c.args.wire.now
     (record c.args.body.now { parts = c.finish-in-Ok-Raises.new.self }) (Ended Goes) refl (λ d s h.
@@ -66,8 +63,8 @@ returns-in-Ok-Raises-clause-comes g c =
     c.in-Ok-Raises.ensures.said c.in-Ok-Raises.ensures.stands d s h c.in-Ok-Raises.fault c.in-Ok-Raises.field-0-is c.finish-in-Ok-Raises.new.self
     c.finish-in-Ok-Raises.ensures.after c.finish-in-Ok-Raises.ensures.queue c.finish-in-Ok-Raises.ensures.beside)
 
-pub returns-in-Ok-Runaway-clause-comes : goal.returns-in-Ok-Runaway-clause-comes
-returns-in-Ok-Runaway-clause-comes g c =
+pub returns-in-Ok-Runaway : goal.returns-in-Ok-Runaway
+returns-in-Ok-Runaway g c =
     ends_so c.args.task c.args.fresh c.args.input c.args.body.now c.args.coroutine.now c.resume.new.self c.in-Ok-Runaway.field-0
     c.in-Ok-Runaway.ensures.said c.in-Ok-Runaway.ensures.stands _ (laws g) c.args.wire.now
     c.args.body.now (Ended (Runaway c.args.task)) refl (λ d s h. (
@@ -76,8 +73,6 @@ returns-in-Ok-Runaway-clause-comes g c =
           c.in-Ok-Runaway.ensures.said c.in-Ok-Runaway.ensures.stands d s h c.in-Ok-Runaway.field-0-is,
     ))
 
-pub returns-in-Err-clause-comes : goal.returns-in-Err-clause-comes
-returns-in-Err-clause-comes g c =
-    comes_starved _ (laws g)
-    (serving_once g.X.Extra.added c.args.task c.args.fresh c.args.input c.args.coroutine.now c.resume.new.self c.args.body.now c.args.body.now) _
-    (ported c.args.wire.now c.args.body.now.events) (ported c.args.wire.now c.args.body.now.events) _ refl (on_none _ (laws g) c.args.wire.now)
+pub returns-in-Err : goal.returns-in-Err
+returns-in-Err g c =
+    resumes_without g.X.Extra.added _ (laws g) c.args.task c.args.fresh c.args.input c.args.body.now c.args.coroutine.now c.resume.new.self c.args.wire.now

@@ -27,43 +27,43 @@ serve-requires g c =
     serve_of g.X.Extra.added _ (laws g) c.args.task c.args.input c.args.body.now c.requires.made c.begin-coroutine.result c.begin-coroutine.new.body
     c.begin-coroutine.ensures c.args.wire.now c.decide.new.body c.decide.new.wire (Answers c.in-Ok-Answers.value) (Send c.in-Ok-Answers.value)
     (λ d e s h b says. answers_first c.args.task c.args.input d c.args.body.now s h c.requires.made c.begin-coroutine.result c.begin-coroutine.new.body b e
-    c.decide.new.body c.in-Ok-Answers.value says) (rw c.in-Ok-Answers.field-0-is at c.in-Ok-Answers.ensures.comes) c.requires.called
+    c.decide.new.body c.in-Ok-Answers.value says) (rw c.in-Ok-Answers.field-0-is at c.in-Ok-Answers.ensures) c.requires.called
 
 pub serve-requires-in-Ok-Raises : goal.serve-requires-in-Ok-Raises
 serve-requires-in-Ok-Raises g c =
     serve_of g.X.Extra.added _ (laws g) c.args.task c.args.input c.args.body.now c.requires.made c.begin-coroutine.result c.begin-coroutine.new.body
     c.begin-coroutine.ensures c.args.wire.now c.decide.new.body c.decide.new.wire (Raises c.in-Ok-Raises.fault) (Throw c.in-Ok-Raises.fault)
     (λ d e s h b says. raises_first c.args.task c.args.input d c.args.body.now s h c.requires.made c.begin-coroutine.result c.begin-coroutine.new.body b e
-    c.decide.new.body c.in-Ok-Raises.fault says) (rw c.in-Ok-Raises.field-0-is at c.in-Ok-Raises.ensures.comes) c.requires.called
+    c.decide.new.body c.in-Ok-Raises.fault says) (rw c.in-Ok-Raises.field-0-is at c.in-Ok-Raises.ensures) c.requires.called
 
 pub put_back-requires : goal.put_back-requires
 put_back-requires g c =
     waits_there g.X.Extra.added _ (laws g) c.args.task c.args.input c.args.body.now c.requires.made c.begin-coroutine.result c.begin-coroutine.new.body
-    c.begin-coroutine.ensures c.args.wire.now c.decide.new.body c.decide.new.wire (rw c.in-Ok-Rests.field-0-is at c.in-Ok-Rests.ensures.comes) c.requires.called
+    c.begin-coroutine.ensures c.args.wire.now c.decide.new.body c.decide.new.wire (rw c.in-Ok-Rests.field-0-is at c.in-Ok-Rests.ensures) c.requires.called
 
-pub returns-in-Ok-Answers-clause-comes : goal.returns-in-Ok-Answers-clause-comes
-returns-in-Ok-Answers-clause-comes g c =
+pub returns-in-Ok-Answers : goal.returns-in-Ok-Answers
+returns-in-Ok-Answers g c =
     serves_on g.X.Extra.added _ (laws g) c.args.task c.args.input c.args.body.now c.requires.made c.begin-coroutine.result c.begin-coroutine.new.body
     c.begin-coroutine.ensures c.args.wire.now c.decide.new.body c.decide.new.wire (Answers c.in-Ok-Answers.value) (Send c.in-Ok-Answers.value)
     (λ d e s h b says. answers_first c.args.task c.args.input d c.args.body.now s h c.requires.made c.begin-coroutine.result c.begin-coroutine.new.body b e
-    c.decide.new.body c.in-Ok-Answers.value says) (rw c.in-Ok-Answers.field-0-is at c.in-Ok-Answers.ensures.comes)
-    c.serve.new.body c.serve.new.wire c.serve.result c.serve.ensures.comes
+    c.decide.new.body c.in-Ok-Answers.value says) (rw c.in-Ok-Answers.field-0-is at c.in-Ok-Answers.ensures)
+    c.serve.new.body c.serve.new.wire c.serve.result c.serve.ensures
 
-pub returns-in-Ok-Raises-clause-comes : goal.returns-in-Ok-Raises-clause-comes
-returns-in-Ok-Raises-clause-comes g c =
+pub returns-in-Ok-Raises : goal.returns-in-Ok-Raises
+returns-in-Ok-Raises g c =
     serves_on g.X.Extra.added _ (laws g) c.args.task c.args.input c.args.body.now c.requires.made c.begin-coroutine.result c.begin-coroutine.new.body
     c.begin-coroutine.ensures c.args.wire.now c.decide.new.body c.decide.new.wire (Raises c.in-Ok-Raises.fault) (Throw c.in-Ok-Raises.fault)
     (λ d e s h b says. raises_first c.args.task c.args.input d c.args.body.now s h c.requires.made c.begin-coroutine.result c.begin-coroutine.new.body b e
-    c.decide.new.body c.in-Ok-Raises.fault says) (rw c.in-Ok-Raises.field-0-is at c.in-Ok-Raises.ensures.comes)
-    c.serve-in-Ok-Raises.new.body c.serve-in-Ok-Raises.new.wire c.serve-in-Ok-Raises.result c.serve-in-Ok-Raises.ensures.comes
+    c.decide.new.body c.in-Ok-Raises.fault says) (rw c.in-Ok-Raises.field-0-is at c.in-Ok-Raises.ensures)
+    c.serve-in-Ok-Raises.new.body c.serve-in-Ok-Raises.new.wire c.serve-in-Ok-Raises.result c.serve-in-Ok-Raises.ensures
 
-pub returns-in-Ok-Rests-clause-comes : goal.returns-in-Ok-Rests-clause-comes
-returns-in-Ok-Rests-clause-comes g c =
+pub returns-in-Ok-Rests : goal.returns-in-Ok-Rests
+returns-in-Ok-Rests g c =
     waits_on g.X.Extra.added _ (laws g) c.args.task c.args.input c.args.body.now c.requires.made c.begin-coroutine.result c.begin-coroutine.new.body
-    c.begin-coroutine.ensures c.args.wire.now c.decide.new.body c.decide.new.wire (rw c.in-Ok-Rests.field-0-is at c.in-Ok-Rests.ensures.comes)
+    c.begin-coroutine.ensures c.args.wire.now c.decide.new.body c.decide.new.wire (rw c.in-Ok-Rests.field-0-is at c.in-Ok-Rests.ensures)
     c.put_back.new.self c.put_back.ensures.beside c.put_back.ensures.slots
 
-pub returns-in-Err-clause-comes : goal.returns-in-Err-clause-comes
-returns-in-Err-clause-comes g c =
+pub returns-in-Err : goal.returns-in-Err
+returns-in-Err g c =
     decides_stop g.X.Extra.added _ (laws g) c.args.task c.args.input c.args.body.now c.requires.made c.begin-coroutine.result c.begin-coroutine.new.body
-    c.begin-coroutine.ensures c.args.wire.now c.decide.new.body c.decide.new.wire c.in-Err.stop c.in-Err.ensures.comes
+    c.begin-coroutine.ensures c.args.wire.now c.decide.new.body c.decide.new.wire c.in-Err.stop c.in-Err.ensures

@@ -1,5 +1,11 @@
+use Rattle.std.proofs.Common.{[], ◌∙◌}
 use Rattle.aio_live.proofs.Launched.{launch_all}
+use Rattle.aio_live.proofs.Later.{plainly_posts}
 use Rattle.aio_live.proofs.state.State.launch.Goals as goal
+
+pub returns-clause-posts : goal.returns-clause-posts
+returns-clause-posts g c =
+    c.launch_next.ensures.posts ∙ plainly_posts [] c.args.self.now c.serve.new.self c.serve.ensures
 
 pub returns-clause-asks : goal.returns-clause-asks
 returns-clause-asks g c =

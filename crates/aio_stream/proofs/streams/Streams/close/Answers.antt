@@ -12,14 +12,14 @@ use Rattle.aio_stream.proofs.streams.Streams.close.Goals as goal
 pub returns-in_default-clause-told : goal.returns-in_default-clause-told
 returns-in_default-clause-told c =
     let i = c.self.inside in
-    let before : Kept = record { servers = i.servers.items; connections = i.connections.items; opened = all_opened i.opened.items } in
+    let before : Kept = record { servers = i.servers.items; connections = i.connections.items; opened = all_opened i.opened.items; most = i.most } in
     subst (λ (k : Kept). Told (requests.close (to.Conn c.args.id)) k before c.args.parts.now c.args.parts.now) c.self.view_is
     (told_absent before c.args.id (past_place i.connections.items c.args.id c.in_default.ensures.item.3) (connection.close c.args.id) c.args.parts.now)
 
 pub returns-clause-told : goal.returns-clause-told
 returns-clause-told c =
     let i = c.self.inside in
-    let before : Kept = record { servers = i.servers.items; connections = i.connections.items; opened = all_opened i.opened.items } in
+    let before : Kept = record { servers = i.servers.items; connections = i.connections.items; opened = all_opened i.opened.items; most = i.most } in
     subst (λ (k : Kept). OnOk c.close.result (Told (requests.close (to.Conn c.args.id)) k
     (record before { connections = slice_set i.connections.items c.args.id c.close.new.self }) c.args.parts.now c.close.new.parts))
     c.self.view_is
@@ -30,7 +30,7 @@ returns-clause-told c =
 pub returns-clause-own : goal.returns-clause-own
 returns-clause-own c =
     let i = c.self.inside in
-    let before : Kept = record { servers = i.servers.items; connections = i.connections.items; opened = all_opened i.opened.items } in
+    let before : Kept = record { servers = i.servers.items; connections = i.connections.items; opened = all_opened i.opened.items; most = i.most } in
     own_told before c.args.id c.in-Some.connection.now c.close.new.self
     (at_place i.connections.items c.args.id c.in-Some.connection.now c.in-Some.ensures.item.3.0 c.in-Some.ensures.item.1)
     (connection.close c.args.id) c.args.parts.now c.close.new.parts c.close.result c.close.ensures.tells (on_ok_weaker c.close.result

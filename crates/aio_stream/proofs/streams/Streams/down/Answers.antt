@@ -26,7 +26,7 @@ pub returns-in_default-clause-comes : goal.returns-in_default-clause-comes
 returns-in_default-clause-comes g c =
     let old : Reach View g.row.W.Denot = reach c.args.parts.now c.args.port.now.wire.now c.args.port.now.events.now in
     let i = c.self.inside in
-    let before : Kept = record { servers = i.servers.items; connections = i.connections.items; opened = all_opened i.opened.items } in
+    let before : Kept = record { servers = i.servers.items; connections = i.connections.items; opened = all_opened i.opened.items; most = i.most } in
     let nothing : Unit {0} = tt in
     subst (λ (k : Kept). Comes {R = Unit {0}} (outside g) (on_one its_connections c.args.id (down c.args.id)) k before old old (Ok tt)) c.self.view_is
     (comes_absent before c.args.id (past_place i.connections.items c.args.id c.in_default.ensures.item.3) (outside g) (laws g) (down c.args.id) old nothing)
@@ -34,7 +34,7 @@ returns-in_default-clause-comes g c =
 pub down-requires-clause-own : goal.down-requires-clause-own
 down-requires-clause-own g c =
     let i = c.self.inside in
-    let before : Kept = record { servers = i.servers.items; connections = i.connections.items; opened = all_opened i.opened.items } in
+    let before : Kept = record { servers = i.servers.items; connections = i.connections.items; opened = all_opened i.opened.items; most = i.most } in
     own_at c.args.parts.now i.connections.items c.args.id c.in-Some.connection.now
     (at_place i.connections.items c.args.id c.in-Some.connection.now c.in-Some.ensures.item.3.0 c.in-Some.ensures.item.1)
     (subst (OwnsStreams c.args.parts.now) (sym c.self.view_is) c.requires.own)
@@ -44,7 +44,7 @@ returns-clause-comes g c =
     let old : Reach View g.row.W.Denot = reach c.args.parts.now c.args.port.now.wire.now c.args.port.now.events.now in
     let new : Reach View g.row.W.Denot = reach c.down.new.parts c.down.new.port.wire.now c.down.new.port.events.now in
     let i = c.self.inside in
-    let before : Kept = record { servers = i.servers.items; connections = i.connections.items; opened = all_opened i.opened.items } in
+    let before : Kept = record { servers = i.servers.items; connections = i.connections.items; opened = all_opened i.opened.items; most = i.most } in
     subst (λ (k : Kept). Comes (outside g) (on_one its_connections c.args.id (down c.args.id)) k
     (record before { connections = slice_set i.connections.items c.args.id c.down.new.self }) old new c.down.result)
     c.self.view_is
@@ -57,7 +57,7 @@ returns-clause-own g c =
     let old : Reach View g.row.W.Denot = reach c.args.parts.now c.args.port.now.wire.now c.args.port.now.events.now in
     let new : Reach View g.row.W.Denot = reach c.down.new.parts c.down.new.port.wire.now c.down.new.port.events.now in
     let i = c.self.inside in
-    let before : Kept = record { servers = i.servers.items; connections = i.connections.items; opened = all_opened i.opened.items } in
+    let before : Kept = record { servers = i.servers.items; connections = i.connections.items; opened = all_opened i.opened.items; most = i.most } in
     own_placed before c.args.id c.in-Some.connection.now c.down.new.self
     (at_place i.connections.items c.args.id c.in-Some.connection.now c.in-Some.ensures.item.3.0 c.in-Some.ensures.item.1)
     (outside g) (laws g) (down c.args.id) old new c.down.result c.down.ensures.follows c.down.ensures.own

@@ -13,7 +13,7 @@ use Rattle.aio_stream.proofs.streams.Streams.drain.Goals as goal
 pub returns-in_default-clause-told : goal.returns-in_default-clause-told
 returns-in_default-clause-told c =
     let i = c.self.inside in
-    let before : Kept = record { servers = i.servers.items; connections = i.connections.items; opened = all_opened i.opened.items } in
+    let before : Kept = record { servers = i.servers.items; connections = i.connections.items; opened = all_opened i.opened.items; most = i.most } in
     subst (λ (k : Kept). ToldWith (drain c.args.yielded (length c.args.parts.now.futures)
     (to.Conn c.args.id)) k before c.args.parts.now c.args.parts.now drain_as.Goes) c.self.view_is
     (said_absent before c.args.id (past_place i.connections.items c.args.id c.in_default.ensures.item.3) drain_as.Goes (drain_of c.args.yielded
@@ -22,7 +22,7 @@ returns-in_default-clause-told c =
 pub returns-clause-told : goal.returns-clause-told
 returns-clause-told c =
     let i = c.self.inside in
-    let before : Kept = record { servers = i.servers.items; connections = i.connections.items; opened = all_opened i.opened.items } in
+    let before : Kept = record { servers = i.servers.items; connections = i.connections.items; opened = all_opened i.opened.items; most = i.most } in
     subst (λ (k : Kept). IfOk c.drain.result (λ said. ToldWith (drain c.args.yielded (length c.args.parts.now.futures) (to.Conn c.args.id)) k
     (record before { connections = slice_set i.connections.items c.args.id c.drain.new.self }) c.args.parts.now c.drain.new.parts said))
     c.self.view_is
@@ -34,7 +34,7 @@ returns-clause-told c =
 pub returns-clause-own : goal.returns-clause-own
 returns-clause-own c =
     let i = c.self.inside in
-    let before : Kept = record { servers = i.servers.items; connections = i.connections.items; opened = all_opened i.opened.items } in
+    let before : Kept = record { servers = i.servers.items; connections = i.connections.items; opened = all_opened i.opened.items; most = i.most } in
     own_said before c.args.id c.in-Some.connection.now c.drain.new.self
     (at_place i.connections.items c.args.id c.in-Some.connection.now c.in-Some.ensures.item.3.0 c.in-Some.ensures.item.1)
     drain_as.Goes (drain_of c.args.yielded (length c.args.parts.now.futures)) (λ

@@ -27,7 +27,7 @@ pub returns-in_default-clause-comes : goal.returns-in_default-clause-comes
 returns-in_default-clause-comes g c =
     let old : Reach View g.row.W.Denot = reach c.args.parts.now c.args.port.now.wire.now c.args.port.now.events.now in
     let i = c.self.inside in
-    let before : Kept = record { servers = i.servers.items; connections = i.connections.items; opened = all_opened i.opened.items } in
+    let before : Kept = record { servers = i.servers.items; connections = i.connections.items; opened = all_opened i.opened.items; most = i.most } in
     let nothing : Unit {0} = tt in
     subst (λ (k : Kept). Comes {R = Unit {0}} (outside g) (requests.drop_connect c.args.id) k before old old (Ok tt)) c.self.view_is
     (comes_absent before c.args.id (past_place i.connections.items c.args.id c.in_default.ensures.item.3) (outside g) (laws g)
@@ -38,7 +38,7 @@ returns-clause-comes g c =
     let old : Reach View g.row.W.Denot = reach c.args.parts.now c.args.port.now.wire.now c.args.port.now.events.now in
     let new : Reach View g.row.W.Denot = reach c.drop_connect.new.parts c.drop_connect.new.port.wire.now c.drop_connect.new.port.events.now in
     let i = c.self.inside in
-    let before : Kept = record { servers = i.servers.items; connections = i.connections.items; opened = all_opened i.opened.items } in
+    let before : Kept = record { servers = i.servers.items; connections = i.connections.items; opened = all_opened i.opened.items; most = i.most } in
     subst (λ (k : Kept). Comes (outside g) (requests.drop_connect c.args.id) k
     (record before { connections = slice_set i.connections.items c.args.id c.drop_connect.new.self }) old new c.drop_connect.result)
     c.self.view_is
@@ -51,7 +51,7 @@ returns-clause-own g c =
     let old : Reach View g.row.W.Denot = reach c.args.parts.now c.args.port.now.wire.now c.args.port.now.events.now in
     let new : Reach View g.row.W.Denot = reach c.drop_connect.new.parts c.drop_connect.new.port.wire.now c.drop_connect.new.port.events.now in
     let i = c.self.inside in
-    let before : Kept = record { servers = i.servers.items; connections = i.connections.items; opened = all_opened i.opened.items } in
+    let before : Kept = record { servers = i.servers.items; connections = i.connections.items; opened = all_opened i.opened.items; most = i.most } in
     own_placed before c.args.id c.in-Some.connection.now c.drop_connect.new.self
     (at_place i.connections.items c.args.id c.in-Some.connection.now c.in-Some.ensures.item.3.0 c.in-Some.ensures.item.1)
     (outside g) (laws g) (connection.drop_connect c.args.id) old new c.drop_connect.result c.drop_connect.ensures.follows

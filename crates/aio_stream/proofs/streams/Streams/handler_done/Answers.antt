@@ -11,7 +11,7 @@ use Rattle.aio_stream.proofs.streams.Streams.handler_done.Goals as goal
 pub returns-in_default-clause-told : goal.returns-in_default-clause-told
 returns-in_default-clause-told c =
     let i = c.self.inside in
-    let before : Kept = record { servers = i.servers.items; connections = i.connections.items; opened = all_opened i.opened.items } in
+    let before : Kept = record { servers = i.servers.items; connections = i.connections.items; opened = all_opened i.opened.items; most = i.most } in
     subst (λ (k : Kept). Told (on_one its_connections c.args.id
     (handler_done c.args.id c.args.returned)) k before c.args.parts.now c.args.parts.now) c.self.view_is
     (told_absent before c.args.id (past_place i.connections.items c.args.id c.in_default.ensures.item.3)
@@ -20,7 +20,7 @@ returns-in_default-clause-told c =
 pub returns-clause-told : goal.returns-clause-told
 returns-clause-told c =
     let i = c.self.inside in
-    let before : Kept = record { servers = i.servers.items; connections = i.connections.items; opened = all_opened i.opened.items } in
+    let before : Kept = record { servers = i.servers.items; connections = i.connections.items; opened = all_opened i.opened.items; most = i.most } in
     subst (λ (k : Kept). OnOk c.handler_done.result (Told (on_one its_connections c.args.id (handler_done c.args.id c.args.returned)) k
     (record before { connections = slice_set i.connections.items c.args.id c.handler_done.new.self }) c.args.parts.now c.handler_done.new.parts))
     c.self.view_is
@@ -31,7 +31,7 @@ returns-clause-told c =
 pub returns-clause-own : goal.returns-clause-own
 returns-clause-own c =
     let i = c.self.inside in
-    let before : Kept = record { servers = i.servers.items; connections = i.connections.items; opened = all_opened i.opened.items } in
+    let before : Kept = record { servers = i.servers.items; connections = i.connections.items; opened = all_opened i.opened.items; most = i.most } in
     own_told before c.args.id c.in-Some.connection.now c.handler_done.new.self
     (at_place i.connections.items c.args.id c.in-Some.connection.now c.in-Some.ensures.item.3.0 c.in-Some.ensures.item.1)
     (handler_done c.args.id c.args.returned) c.args.parts.now c.handler_done.new.parts c.handler_done.result c.handler_done.ensures.tells

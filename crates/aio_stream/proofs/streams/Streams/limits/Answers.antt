@@ -16,7 +16,7 @@ use Rattle.aio_stream.proofs.streams.Streams.limits.Goals as goal
 pub returns-in_default-clause-told : goal.returns-in_default-clause-told
 returns-in_default-clause-told c v =
     let i = c.self.inside in
-    let before : Kept = record { servers = i.servers.items; connections = i.connections.items; opened = all_opened i.opened.items } in
+    let before : Kept = record { servers = i.servers.items; connections = i.connections.items; opened = all_opened i.opened.items; most = i.most } in
     subst (λ (k : Kept). ToldWith (asked_one its_connections limited.Set c.args.id (limits_of c.args.high c.args.low)) k before v v limited.Set)
     c.self.view_is
     (said_absent before c.args.id (past_place i.connections.items c.args.id c.in_default.ensures.item.3) limited.Set
@@ -25,7 +25,7 @@ returns-in_default-clause-told c v =
 pub returns-clause-told : goal.returns-clause-told
 returns-clause-told c v =
     let i = c.self.inside in
-    let before : Kept = record { servers = i.servers.items; connections = i.connections.items; opened = all_opened i.opened.items } in
+    let before : Kept = record { servers = i.servers.items; connections = i.connections.items; opened = all_opened i.opened.items; most = i.most } in
     let after = c.limits.new.self in
     let there = at_place i.connections.items c.args.id c.in-Some.connection.now c.in-Some.ensures.item.3.0 c.in-Some.ensures.item.1 in
     let done : Result Limited (Unit {0}) = Ok c.limits.result in

@@ -26,7 +26,7 @@ pub returns-in_default-clause-comes : goal.returns-in_default-clause-comes
 returns-in_default-clause-comes g c =
     let old : Reach View g.row.W.Denot = reach c.args.parts.now c.args.port.now.wire.now c.args.port.now.events.now in
     let i = c.self.inside in
-    let before : Kept = record { servers = i.servers.items; connections = i.connections.items; opened = all_opened i.opened.items } in
+    let before : Kept = record { servers = i.servers.items; connections = i.connections.items; opened = all_opened i.opened.items; most = i.most } in
     let nothing : Unit {0} = tt in
     subst (λ (k : Kept). Comes {R = Unit {0}} (outside g) (on_one its_connections c.args.id (lose c.args.id c.args.broken)) k before old old
     (Ok tt)) c.self.view_is
@@ -36,7 +36,7 @@ returns-in_default-clause-comes g c =
 pub lose-requires-clause-own : goal.lose-requires-clause-own
 lose-requires-clause-own g c =
     let i = c.self.inside in
-    let before : Kept = record { servers = i.servers.items; connections = i.connections.items; opened = all_opened i.opened.items } in
+    let before : Kept = record { servers = i.servers.items; connections = i.connections.items; opened = all_opened i.opened.items; most = i.most } in
     own_at c.args.parts.now i.connections.items c.args.id c.in-Some.connection.now
     (at_place i.connections.items c.args.id c.in-Some.connection.now c.in-Some.ensures.item.3.0 c.in-Some.ensures.item.1)
     (subst (OwnsStreams c.args.parts.now) (sym c.self.view_is) c.requires.own)
@@ -46,7 +46,7 @@ returns-clause-comes g c =
     let old : Reach View g.row.W.Denot = reach c.args.parts.now c.args.port.now.wire.now c.args.port.now.events.now in
     let new : Reach View g.row.W.Denot = reach c.lose.new.parts c.lose.new.port.wire.now c.lose.new.port.events.now in
     let i = c.self.inside in
-    let before : Kept = record { servers = i.servers.items; connections = i.connections.items; opened = all_opened i.opened.items } in
+    let before : Kept = record { servers = i.servers.items; connections = i.connections.items; opened = all_opened i.opened.items; most = i.most } in
     subst (λ (k : Kept). Comes (outside g) (on_one its_connections c.args.id (lose c.args.id c.args.broken)) k
     (record before { connections = slice_set i.connections.items c.args.id c.lose.new.self }) old new c.lose.result)
     c.self.view_is
@@ -59,7 +59,7 @@ returns-clause-own g c =
     let old : Reach View g.row.W.Denot = reach c.args.parts.now c.args.port.now.wire.now c.args.port.now.events.now in
     let new : Reach View g.row.W.Denot = reach c.lose.new.parts c.lose.new.port.wire.now c.lose.new.port.events.now in
     let i = c.self.inside in
-    let before : Kept = record { servers = i.servers.items; connections = i.connections.items; opened = all_opened i.opened.items } in
+    let before : Kept = record { servers = i.servers.items; connections = i.connections.items; opened = all_opened i.opened.items; most = i.most } in
     own_placed before c.args.id c.in-Some.connection.now c.lose.new.self
     (at_place i.connections.items c.args.id c.in-Some.connection.now c.in-Some.ensures.item.3.0 c.in-Some.ensures.item.1)
     (outside g) (laws g) (lose c.args.id c.args.broken) old new c.lose.result c.lose.ensures.follows c.lose.ensures.own

@@ -13,7 +13,7 @@ use Rattle.aio_stream.proofs.streams.Streams.read.Goals as goal
 pub returns-in_default-clause-told : goal.returns-in_default-clause-told
 returns-in_default-clause-told c =
     let i = c.self.inside in
-    let before : Kept = record { servers = i.servers.items; connections = i.connections.items; opened = all_opened i.opened.items } in
+    let before : Kept = record { servers = i.servers.items; connections = i.connections.items; opened = all_opened i.opened.items; most = i.most } in
     subst (λ (k : Kept). ToldWith (requests.read (length c.args.parts.now.futures) c.args.op.now
     (requests.OfConn c.args.id)) k before c.args.parts.now c.args.parts.now (c.no_bytes.result)) c.self.view_is
     (subst (λ (it : receivers.StreamGot). ToldWith (requests.read (length c.args.parts.now.futures) c.args.op.now
@@ -24,7 +24,7 @@ returns-in_default-clause-told c =
 pub returns-clause-told : goal.returns-clause-told
 returns-clause-told c =
     let i = c.self.inside in
-    let before : Kept = record { servers = i.servers.items; connections = i.connections.items; opened = all_opened i.opened.items } in
+    let before : Kept = record { servers = i.servers.items; connections = i.connections.items; opened = all_opened i.opened.items; most = i.most } in
     subst (λ (k : Kept). IfOk c.read.result (λ said. ToldWith (requests.read (length c.args.parts.now.futures) c.args.op.now (requests.OfConn c.args.id)) k
     (record before { connections = slice_set i.connections.items c.args.id c.read.new.self }) c.args.parts.now c.read.new.parts (said)))
     c.self.view_is
@@ -36,7 +36,7 @@ returns-clause-told c =
 pub returns-clause-own : goal.returns-clause-own
 returns-clause-own c =
     let i = c.self.inside in
-    let before : Kept = record { servers = i.servers.items; connections = i.connections.items; opened = all_opened i.opened.items } in
+    let before : Kept = record { servers = i.servers.items; connections = i.connections.items; opened = all_opened i.opened.items; most = i.most } in
     own_said before c.args.id c.in-Some.connection.now c.read.new.self
     (at_place i.connections.items c.args.id c.in-Some.connection.now c.in-Some.ensures.item.3.0 c.in-Some.ensures.item.1)
     (got_as.Bytes []) (asked_on its_receiver (receivers.read (length c.args.parts.now.futures) c.args.op.now)) (λ

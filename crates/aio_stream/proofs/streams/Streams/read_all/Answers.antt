@@ -14,7 +14,7 @@ use Rattle.aio_stream.proofs.streams.Streams.read_all.Goals as goal
 pub returns-in_default-clause-told : goal.returns-in_default-clause-told
 returns-in_default-clause-told c =
     let i = c.self.inside in
-    let before : Kept = record { servers = i.servers.items; connections = i.connections.items; opened = all_opened i.opened.items } in
+    let before : Kept = record { servers = i.servers.items; connections = i.connections.items; opened = all_opened i.opened.items; most = i.most } in
     subst (λ (k : Kept). ToldWith (requests.read_all (length c.args.parts.now.futures)
     (requests.OfConn c.args.id)) k before c.args.parts.now c.args.parts.now (all_got c.nothing_taken.result)) c.self.view_is
     (subst (λ (it : receivers.AllGot). ToldWith (requests.read_all (length c.args.parts.now.futures)
@@ -25,7 +25,7 @@ returns-in_default-clause-told c =
 pub returns-clause-told : goal.returns-clause-told
 returns-clause-told c =
     let i = c.self.inside in
-    let before : Kept = record { servers = i.servers.items; connections = i.connections.items; opened = all_opened i.opened.items } in
+    let before : Kept = record { servers = i.servers.items; connections = i.connections.items; opened = all_opened i.opened.items; most = i.most } in
     subst (λ (k : Kept). IfOk c.read_all.result (λ said. ToldWith (requests.read_all (length c.args.parts.now.futures) (requests.OfConn c.args.id)) k
     (record before { connections = slice_set i.connections.items c.args.id c.read_all.new.self }) c.args.parts.now c.read_all.new.parts (all_got said)))
     c.self.view_is
@@ -37,7 +37,7 @@ returns-clause-told c =
 pub returns-clause-own : goal.returns-clause-own
 returns-clause-own c =
     let i = c.self.inside in
-    let before : Kept = record { servers = i.servers.items; connections = i.connections.items; opened = all_opened i.opened.items } in
+    let before : Kept = record { servers = i.servers.items; connections = i.connections.items; opened = all_opened i.opened.items; most = i.most } in
     own_said before c.args.id c.in-Some.connection.now c.read_all.new.self
     (at_place i.connections.items c.args.id c.in-Some.connection.now c.in-Some.ensures.item.3.0 c.in-Some.ensures.item.1)
     (record { taken = []; got = got_as.Bytes [] }) (asked_on its_receiver (receivers.read_all

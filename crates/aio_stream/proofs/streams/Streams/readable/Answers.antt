@@ -26,7 +26,7 @@ pub returns-in_default-clause-comes : goal.returns-in_default-clause-comes
 returns-in_default-clause-comes g c =
     let old : Reach View g.row.W.Denot = reach c.args.parts.now c.args.port.now.wire.now c.args.port.now.events.now in
     let i = c.self.inside in
-    let before : Kept = record { servers = i.servers.items; connections = i.connections.items; opened = all_opened i.opened.items } in
+    let before : Kept = record { servers = i.servers.items; connections = i.connections.items; opened = all_opened i.opened.items; most = i.most } in
     let nothing : Unit {0} = tt in
     subst (λ (k : Kept). Comes {R = Unit {0}} (outside g) (on_one its_connections c.args.id (readable c.args.id)) k before old old (Ok tt)) c.self.view_is
     (comes_absent before c.args.id (past_place i.connections.items c.args.id c.in_default.ensures.item.3) (outside g) (laws g)
@@ -35,7 +35,7 @@ returns-in_default-clause-comes g c =
 pub readable-requires-clause-own : goal.readable-requires-clause-own
 readable-requires-clause-own g c =
     let i = c.self.inside in
-    let before : Kept = record { servers = i.servers.items; connections = i.connections.items; opened = all_opened i.opened.items } in
+    let before : Kept = record { servers = i.servers.items; connections = i.connections.items; opened = all_opened i.opened.items; most = i.most } in
     own_at c.args.parts.now i.connections.items c.args.id c.in-Some.connection.now
     (at_place i.connections.items c.args.id c.in-Some.connection.now c.in-Some.ensures.item.3.0 c.in-Some.ensures.item.1)
     (subst (OwnsStreams c.args.parts.now) (sym c.self.view_is) c.requires.own)
@@ -45,7 +45,7 @@ returns-clause-comes g c =
     let old : Reach View g.row.W.Denot = reach c.args.parts.now c.args.port.now.wire.now c.args.port.now.events.now in
     let new : Reach View g.row.W.Denot = reach c.readable.new.parts c.readable.new.port.wire.now c.readable.new.port.events.now in
     let i = c.self.inside in
-    let before : Kept = record { servers = i.servers.items; connections = i.connections.items; opened = all_opened i.opened.items } in
+    let before : Kept = record { servers = i.servers.items; connections = i.connections.items; opened = all_opened i.opened.items; most = i.most } in
     subst (λ (k : Kept). Comes (outside g) (on_one its_connections c.args.id (readable c.args.id)) k
     (record before { connections = slice_set i.connections.items c.args.id c.readable.new.self }) old new c.readable.result)
     c.self.view_is
@@ -58,7 +58,7 @@ returns-clause-own g c =
     let old : Reach View g.row.W.Denot = reach c.args.parts.now c.args.port.now.wire.now c.args.port.now.events.now in
     let new : Reach View g.row.W.Denot = reach c.readable.new.parts c.readable.new.port.wire.now c.readable.new.port.events.now in
     let i = c.self.inside in
-    let before : Kept = record { servers = i.servers.items; connections = i.connections.items; opened = all_opened i.opened.items } in
+    let before : Kept = record { servers = i.servers.items; connections = i.connections.items; opened = all_opened i.opened.items; most = i.most } in
     own_placed before c.args.id c.in-Some.connection.now c.readable.new.self
     (at_place i.connections.items c.args.id c.in-Some.connection.now c.in-Some.ensures.item.3.0 c.in-Some.ensures.item.1)
     (outside g) (laws g) (readable c.args.id) old new c.readable.result c.readable.ensures.follows c.readable.ensures.own

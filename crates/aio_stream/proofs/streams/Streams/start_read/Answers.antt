@@ -12,14 +12,14 @@ use Rattle.aio_stream.proofs.streams.Streams.start_read.Goals as goal
 pub returns-in_default-clause-told : goal.returns-in_default-clause-told
 returns-in_default-clause-told c v =
     let i = c.self.inside in
-    let before : Kept = record { servers = i.servers.items; connections = i.connections.items; opened = all_opened i.opened.items } in
+    let before : Kept = record { servers = i.servers.items; connections = i.connections.items; opened = all_opened i.opened.items; most = i.most } in
     subst (λ (k : Kept). Told (on_one its_connections c.args.id (λ it. Ends (start_read it))) k before v v) c.self.view_is
     (told_absent before c.args.id (past_place i.connections.items c.args.id c.in_default.ensures.item.3) (λ (it : Connection). Ends (start_read it)) v)
 
 pub returns-clause-told : goal.returns-clause-told
 returns-clause-told c v =
     let i = c.self.inside in
-    let before : Kept = record { servers = i.servers.items; connections = i.connections.items; opened = all_opened i.opened.items } in
+    let before : Kept = record { servers = i.servers.items; connections = i.connections.items; opened = all_opened i.opened.items; most = i.most } in
     let done : Result (Unit {0}) (Unit {0}) = Ok tt in
     let there = at_place i.connections.items c.args.id c.in-Some.connection.now c.in-Some.ensures.item.3.0 c.in-Some.ensures.item.1 in
     subst (λ (k : Kept). Told (on_one its_connections c.args.id (λ it. Ends (start_read it))) k

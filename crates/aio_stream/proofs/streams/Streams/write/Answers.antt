@@ -27,7 +27,7 @@ pub returns-in_default-clause-comes : goal.returns-in_default-clause-comes
 returns-in_default-clause-comes g c =
     let old : Reach View g.row.W.Denot = reach c.args.parts.now c.args.port.now.wire.now c.args.port.now.events.now in
     let i = c.self.inside in
-    let before : Kept = record { servers = i.servers.items; connections = i.connections.items; opened = all_opened i.opened.items } in
+    let before : Kept = record { servers = i.servers.items; connections = i.connections.items; opened = all_opened i.opened.items; most = i.most } in
     subst (λ (k : Kept). Answers (outside g) (write (to.Conn c.args.id) c.args.piece.now) k before old old (Ok wrote.Done)) c.self.view_is
     (writes_absent before c.args.id (past_place i.connections.items c.args.id c.in_default.ensures.item.3) (outside g) (laws g) c.args.piece.now old)
 
@@ -36,7 +36,7 @@ returns-clause-comes g c =
     let old : Reach View g.row.W.Denot = reach c.args.parts.now c.args.port.now.wire.now c.args.port.now.events.now in
     let new : Reach View g.row.W.Denot = reach c.write.new.parts c.write.new.port.wire.now c.write.new.port.events.now in
     let i = c.self.inside in
-    let before : Kept = record { servers = i.servers.items; connections = i.connections.items; opened = all_opened i.opened.items } in
+    let before : Kept = record { servers = i.servers.items; connections = i.connections.items; opened = all_opened i.opened.items; most = i.most } in
     subst (λ (k : Kept). Answers (outside g) (write (to.Conn c.args.id) c.args.piece.now) k
     (record before { connections = slice_set i.connections.items c.args.id c.write.new.self }) old new c.write.result)
     c.self.view_is
@@ -49,7 +49,7 @@ returns-clause-own g c =
     let old : Reach View g.row.W.Denot = reach c.args.parts.now c.args.port.now.wire.now c.args.port.now.events.now in
     let new : Reach View g.row.W.Denot = reach c.write.new.parts c.write.new.port.wire.now c.write.new.port.events.now in
     let i = c.self.inside in
-    let before : Kept = record { servers = i.servers.items; connections = i.connections.items; opened = all_opened i.opened.items } in
+    let before : Kept = record { servers = i.servers.items; connections = i.connections.items; opened = all_opened i.opened.items; most = i.most } in
     own_written before c.args.id c.in-Some.connection.now c.write.new.self
     (at_place i.connections.items c.args.id c.in-Some.connection.now c.in-Some.ensures.item.3.0 c.in-Some.ensures.item.1)
     (outside g) (laws g) c.args.piece.now old new c.write.result c.write.ensures.follows c.write.ensures.own

@@ -1,0 +1,161 @@
+//! The outside of a run: a hub over the sockets and the programs of the system.
+ghost use Rattle.std.specs.Prelude.{◌≡◌};
+ghost use Rattle.aio_inbox.specs.Naming.{table_of};
+
+use crate::OUT_OF_MEMORY;
+use aio_asked::{Finished, Hub};
+use aio_base::Memory;
+use aio_edge::{Files, Output};
+use aio_inbox::{InboxName, UnnamedInbox};
+use aio_launcher::RealLauncher;
+use aio_memwire::DeadWire;
+use aio_poller::{PollerBell, RealPoller};
+use aio_run::aio_main;
+use aio_wire::Wire;
+use std::alloc::Global;
+use std::io::ErrorKind;
+use std::marker::Brand;
+use std::net::Net;
+use std::process::{Processes, SystemProcess};
+use std::sync::Wait;
+use std::thread::Threads;
+use std::time::Clock;
+use std::{io, rt};
+
+/// Does what the words ask for, and gives the status. Its wire is a hub. Where there is no poller, as where the system
+/// has no descriptor left, it is one of which each call fails.
+///
+/// The poller is made before anything is written: it then has no descriptor that a closed standard output left free.
+pub fn run<R>(rt: R, alloc: Global, words: &Vec<String>) -> u8
+where
+    R: rt::Files
+        + Print
+        + Net
+        + Clock
+        + Processes<Started = SystemProcess>
+        + Threads
+        + Wait
+        + Copy
+        + Send
+        + 'static,
+{
+    match RealPoller::make(rt, alloc) {
+        Ok(poller) => run_polling(rt, alloc, words, poller),
+        Err(error) if is_memory(&error) => OUT_OF_MEMORY,
+        Err(_) => run_over(rt, alloc, words, &mut DeadWire::new()),
+    }
+}
+
+/// The program's own memory was refused, and no call of the system.
+fn is_memory(error: &io::Error) -> bool {
+    error.kind() == ErrorKind::OutOfMemory && error.raw_os_error().is_none()
+}
+
+/// Runs over this wire.
+fn run_over<R: rt::Files + Print + Copy, W: Wire>(
+    rt: R,
+    alloc: Global,
+    words: &Vec<String>,
+    wire: &mut W,
+) -> u8 {
+    let mut files = Files::new(rt);
+    let mut output = Output::new(rt);
+    aio_main(alloc, words, &mut files, wire, &mut output)
+}
+
+fn forget_poller<R: Drop>(_poller: RealPoller<R>) {}
+
+fn forget_bell(_bell: PollerBell) {}
+
+/// Makes the queue of an inbox, and picks the name of the inbox.
+fn run_polling<R>(rt: R, alloc: Global, words: &Vec<String>, poller: RealPoller<R>) -> u8
+where
+    R: rt::Files
+        + Print
+        + Net
+        + Clock
+        + Processes<Started = SystemProcess>
+        + Threads
+        + Wait
+        + Copy
+        + Send
+        + 'static,
+{
+    let Ok(bell) = poller.bell() else {
+        forget_poller(poller);
+        return OUT_OF_MEMORY;
+    };
+    match UnnamedInbox::new(alloc) {
+        Ok(unnamed) => run_named::<Brand, R>(rt, alloc, words, poller, bell, unnamed),
+        Err(Memory) => {
+            forget_poller(poller);
+            forget_bell(bell);
+            OUT_OF_MEMORY
+        }
+    }
+}
+
+/// Makes the launcher and the hub, runs over it, and ends the children.
+fn run_named<N, R>(
+    rt: R,
+    alloc: Global,
+    words: &Vec<String>,
+    poller: RealPoller<R>,
+    bell: PollerBell,
+    unnamed: UnnamedInbox,
+) -> u8
+where
+    N: InboxName + Send + Sync + 'static,
+    R: rt::Files
+        + Print
+        + Net
+        + Clock
+        + Processes<Started = SystemProcess>
+        + Threads
+        + Wait
+        + Copy
+        + Send
+        + 'static,
+    requires { table_of unnamed ≡ N.table }
+{
+    let Ok(launcher) = RealLauncher::<R, N>::make(rt, alloc, bell) else {
+        forget_poller(poller);
+        return OUT_OF_MEMORY;
+    };
+    match Hub::<N, R, RealPoller<R>, RealLauncher<R, N>>::make(
+        rt, alloc, poller, launcher, unnamed,
+    ) {
+        Ok(hub) => run_hub(rt, alloc, words, hub),
+        Err(Memory) => OUT_OF_MEMORY,
+    }
+}
+
+/// Runs over a hub. Then its children end, and the threads that served them are joined, whatever the run came to.
+fn run_hub<N, R>(
+    rt: R,
+    alloc: Global,
+    words: &Vec<String>,
+    hub: Hub<N, R, RealPoller<R>, RealLauncher<R, N>>,
+) -> u8
+where
+    N: InboxName + Send + Sync + 'static,
+    R: rt::Files
+        + Print
+        + Net
+        + Clock
+        + Processes<Started = SystemProcess>
+        + Threads
+        + Wait
+        + Copy
+        + Send
+        + 'static,
+{
+    let mut wire = hub;
+    let status = run_over(rt, alloc, words, &mut wire);
+    let Finished {
+        told: _told,
+        launcher,
+    } = wire.finish(alloc);
+    launcher.close();
+    status
+}

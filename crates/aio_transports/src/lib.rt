@@ -1,0 +1,9 @@
+//! All listeners, connections and children of a run together, with every callback and request on
+//! them.
+#![tactic(auto)]
+
+mod reader;
+mod transports;
+
+pub use reader::StreamReader;
+pub use transports::Transports;

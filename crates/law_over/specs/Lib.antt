@@ -1,0 +1,3 @@
+pub mod AllEnds
+pub mod Gone
+pub mod Grown

@@ -1,0 +1,5 @@
+use Rattle.law_ways.proofs.Doing.{streams_end}
+use Rattle.law_ways.proofs.machine.ways_end_as_trees_do.Goals as goal
+
+pub returns : goal.returns
+returns g c = streams_end
