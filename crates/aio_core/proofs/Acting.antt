@@ -204,7 +204,7 @@ told_going c old new s told left (Stops how last) row answered h = absurd h
 
 -- a handle only adds events
 effect_row : {S : Type 0} (added : Extra S) (it : Action) (s : State S) → InRun s (state_of (effect step_limit added it s))
-effect_row added it s = in_turn (in_callback (effect_goes step_limit added it s).reaches)
+effect_row added it s = in_turn added (in_callback added (effect_goes step_limit added it s).reaches)
 
 module _ {X W : Type 0} (a : Added X) (o : Outside W) (laws : IsOutside o) (it : Action) (body : Body X) where
   -- it is noted that it runs

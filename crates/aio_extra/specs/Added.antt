@@ -36,7 +36,7 @@ pub record Added (X : Type 0) : Type 1 where
   pub made : (t : Ties) (p : Parts) (x : X) (kept : Kept) → stands t p x kept → (id : ℕ) → owns kept id → id < next_future p
   -- its steps keep a loop sound
   pub allowed : MakesAllowedSteps meaning
-  -- a request that goes on waiting for what is done is woken fewer times each time
+  -- a request that is woken and is to be woken again is woken fewer times each time
   pub falls : WakesFall meaning
   -- it watches nothing of the outside
   pub quiet : (kept : Kept) → meaning.watches kept ≡ false

@@ -14,3 +14,4 @@ pub mod Creating
 pub mod Adding
 pub mod Again
 pub mod NoStreams
+pub mod Hearing

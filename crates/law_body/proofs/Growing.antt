@@ -61,7 +61,7 @@ pub row_begins : {S : Type 0} (events : List Event) (s t : State S) → InRun s 
 row_begins events s t row same = subst (λ (es : List Event). GoesOn es t.events) same (row_on s t row).0
 
 -- ---- requests
-replies_begin : {S : Type 0} (events : List Event) (it : plain.RequestReply S) → GoesOn events (left_by it).events → ReplyBegins events it
+pub replies_begin : {S : Type 0} (events : List Event) (it : plain.RequestReply S) → GoesOn events (left_by it).events → ReplyBegins events it
 replies_begin events (plain.Answers value now) goes = goes
 replies_begin events (plain.Raises fault now) goes = goes
 replies_begin events (plain.Rests now) goes = goes
@@ -71,13 +71,13 @@ module _ {S : Type 0} (added : Extra S) (task : ℕ) (events : List Event) (s : 
   pub reply_begins : (request : Request) → ReplyBegins events (reply added task request s)
   reply_begins request =
       replies_begin events (reply added task request s)
-      (row_begins events s (left_by (reply added task request s)) (in_turn (in_callback (in_answer (reply_comes added task request s).reaches))) same)
+      (row_begins events s (left_by (reply added task request s)) (in_turn added (in_callback added (in_answer added (reply_comes added task request s).reaches))) same)
 
   pub decides_begins : (stood : Standing) (input : Input) → ReplyBegins events (decides added stood task input s)
   decides_begins stood input =
       replies_begin events (decides added stood task input s)
       (row_begins events s (left_by (decides added stood task input s))
-      (in_turn (in_callback (in_answer (decides_comes added task stood input s).reaches))) same)
+      (in_turn added (in_callback added (in_answer added (decides_comes added task stood input s).reaches))) same)
 
 -- ---- steps
 -- whatever comes next only adds events

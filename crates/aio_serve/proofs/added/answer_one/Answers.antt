@@ -36,3 +36,9 @@ returns-in-Wait g c =
     (ported c.args.wire.now c.args.body.now.events) (ported c.args.wire.now c.wait.new.body.events)) (sym c.or_stop.ensures)
     (rw c.in-Wait.is (once_alone g.X.Extra.added _ (laws g) c.args.task _ c.args.body.now c.wait.new.body c.args.wire.now c.wait.ensures.events
     c.wait.result c.wait.ensures.answers))
+
+pub ask_outside-requires : goal.ask_outside-requires
+ask_outside-requires g c = subst (λ k. Possible g.X.Extra.added (HasAnswer c.args.task k) c.args.body.now) c.in-Outside.is c.requires
+
+pub returns-in-Outside : goal.returns-in-Outside
+returns-in-Outside g c = rw c.in-Outside.is c.ask_outside.ensures
