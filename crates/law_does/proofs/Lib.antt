@@ -1,0 +1,14 @@
+pub mod Noted
+pub mod Stopping
+pub mod Calling
+pub mod Leaving
+pub mod Owning
+pub mod Standing
+pub mod Going
+pub mod Requests
+pub mod Answering
+pub mod GivingUp
+pub mod May
+pub mod Meaning
+pub mod Possible
+pub mod Replying
