@@ -8,6 +8,7 @@ ghost use Rattle.model_machine.specs.Outcomes.{input_of as plain_input_of};
 ghost use Rattle.aio_body.specs.Outcomes.{RepliesAs, reply_of as plain_reply_of};
 
 use aio_base::{Exc, Input, Kind, Memory, Outcome, Value, exception};
+use aio_wire::Stop;
 use std::alloc::Global;
 
 /// What a request comes to: the coroutine goes on with a value, or with an exception that is raised
@@ -76,4 +77,12 @@ pub fn replied(outcome: &Outcome) -> Result<RequestReply, Memory>
     ensures { IfOk result (RepliesAs outcome.now) }
 {
     Ok(reply_of(input_of(outcome)?))
+}
+
+/// What comes of a call that asks nothing.
+pub fn or_stop<T>(said: Result<T, Memory>) -> Result<T, Stop> {
+    match said {
+        Ok(said) => Ok(said),
+        Err(Memory) => Err(Stop::Memory),
+    }
 }

@@ -1,6 +1,7 @@
 //! What a task runs.
 use aio_base::Blob;
 use aio_gen::Gen;
+use aio_reader::ReadOp;
 use aio_task::{FutureId, TimerId};
 use aio_transports::StreamReader;
 use model_stream::ReadOp;

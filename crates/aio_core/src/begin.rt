@@ -57,7 +57,9 @@ fn empty<X: Drop>(alloc: Global, program: &Program, extra: X) -> Result<Body<X>,
     let groups = Groups::new(alloc)?;
     let code = flatten(alloc, program)?;
     let parts = Parts::new(alloc, profile_of(program))?;
+    let transports = Transports::new(alloc, 4_294_967_295);
     Ok(Body {
+        transports,
         code,
         parts,
         slots: Vec::new(alloc),

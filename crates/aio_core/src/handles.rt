@@ -111,7 +111,27 @@ fn act<W: Wire, X: Extra>(
 {
     match stepped_by(body, alloc, action) {
         Ok(Some((task, input))) => step(body, alloc, wire, task, ticket, input),
-        Ok(None) => or_stop(call(body, alloc, action)),
+        Ok(None) => match action {
+            Action::StartRead(_)
+            | Action::Lost { .. }
+            | Action::HandlerDone { .. }
+            | Action::ReadableServer(_)
+            | Action::Readable(_)
+            | Action::Writable(_)
+            | Action::Up(_)
+            | Action::Down(_)
+            | Action::WritableChild(_)
+            | Action::ChildItem { .. }
+            | Action::LostChild { .. } => {
+                aio_streaming::act(body, alloc, wire, action)?;
+                Ok(Stepped::Goes)
+            }
+            Action::Made(conn) => {
+                or_stop(aio_streaming::made(body, alloc, *conn))?;
+                Ok(Stepped::Goes)
+            }
+            _ => or_stop(call(body, alloc, action)),
+        },
         Err(Memory) => Err(Stop::Memory),
     }
 }

@@ -23,7 +23,8 @@ use aio_body::Body;
 use aio_extra::Extra;
 use aio_serve::or_stop;
 use aio_step::Stepped;
-use aio_wire::{Answer, Call, Port, Stop, WatchList, Wire};
+use aio_base::Action;
+use aio_wire::{Answer, Call, Item, Port, Readiness, Stop, WatchList, Wire, copy_of_bytes, copy_of_news};
 use std::alloc::Global;
 
 /// The longest wait that is asked for, in milliseconds: a day.
@@ -66,7 +67,7 @@ pub fn turn<W: Wire, X: Extra>(
     if is_stalled(body) {
         return Ok(Went::Stalled);
     }
-    let call = first_call(body, alloc);
+    let call = first_call(body, alloc)?;
     match ask(body, alloc, wire, call) {
         Ok(answer) => after(body, alloc, wire, &answer, seen),
         Err(stop) => Err(stop),
@@ -78,16 +79,21 @@ pub fn is_stalled<X: Extra>(body: &Body<X>) -> bool
     ensures { (c : Setting X.added) (s : State X.added.Kept) → IsBetween c body.now s
         → result ≡ plain_is_stalled X.added.meaning s }
 {
-    body.parts.is_empty() && body.parts.earliest().is_none()
+    body.parts.is_empty() && body.parts.earliest().is_none() && !body.transports.is_watched()
 }
 
 // What a turn asks first. Nothing is watched.
-fn first_call<X: Extra>(body: &Body<X>, alloc: Global) -> Call
+fn first_call<X: Extra>(body: &Body<X>, alloc: Global) -> Result<Call, Memory>
     ensures call { (c : Setting X.added) (s : State X.added.Kept) → IsBetween c body.now s
         → result ≡ call_of X.added.meaning s }
     ensures shape { IsSelect result }
 {
-    select(alloc, wait(body))
+    let mut watch = Vec::new(alloc);
+    body.transports.watch(&mut watch)?;
+    Ok(Call::Select {
+        wait: wait(body),
+        watch: WatchList::of(watch),
+    })
 }
 
 fn select(alloc: Global, wait: Option<u64>) -> Call
@@ -147,7 +153,7 @@ fn after<W: Wire, X: Extra>(
         (turning_by X.added answer.now body.old body.new)
         (ported wire.old body.old.events) (ported wire.new body.new.events) result }
 {
-    wake(body, answer);
+    wake(body, alloc, answer)?;
     let done_before = body.main_done;
     match run_below(body, alloc, wire) {
         Ok(Stepped::Goes) => or_stop(end_turn(body, done_before, seen)),
@@ -158,7 +164,7 @@ fn after<W: Wire, X: Extra>(
 
 // The time goes on, and never back, and timers fall due. All that is pending then stands before the
 // bar. Nothing is watched, so nothing else came.
-fn wake<X: Extra>(body: &mut Body<X>, answer: &Answer)
+fn wake<X: Extra>(body: &mut Body<X>, alloc: Global, answer: &Answer) -> Result<(), Memory>
     requires alive { Possible X.added IsBetween body.old }
     requires time { IsTime answer.now }
     ensures { (c : Setting X.added) (s : State X.added.Kept) → IsBetween c body.old s
@@ -167,8 +173,14 @@ fn wake<X: Extra>(body: &mut Body<X>, answer: &Answer)
 {
     let now = body.parts.now().max(time_of(answer));
     body.parts.set_now(now);
+    if let Answer::Turn { now: _, items } = answer {
+        for item in items.items() {
+            note_item(body, alloc, item)?;
+        }
+    }
     body.parts.due(now);
     body.parts.set_bar();
+    Ok(())
 }
 
 // After the turn in which main's callback ran, each task that lives is cancelled. The run ends with
@@ -277,4 +289,35 @@ fn time_of(answer: &Answer) -> u64
         Answer::Turn { now, items: _ } => *now,
         _ => 0,
     }
+}
+
+fn note_item<X: Extra>(body: &mut Body<X>, alloc: Global, item: &Item) -> Result<(), Memory> {
+    match item {
+        Item::ReadableServer(id) => soon(body, alloc, Action::ReadableServer(*id)),
+        Item::Ready { conn, ready } => match ready {
+            Readiness::Read => soon(body, alloc, Action::Readable(*conn)),
+            Readiness::Write => soon(body, alloc, Action::Writable(*conn)),
+            Readiness::Both => {
+                soon(body, alloc, Action::Readable(*conn))?;
+                soon(body, alloc, Action::Writable(*conn))
+            }
+        },
+        Item::Up(conn) => soon(body, alloc, Action::Up(*conn)),
+        Item::Down(conn) => soon(body, alloc, Action::Down(*conn)),
+        Item::WritableChild(child) => soon(body, alloc, Action::WritableChild(*child)),
+        Item::Child { child, item } => {
+            let item = copy_of_news(alloc, item)?;
+            soon(body, alloc, Action::ChildItem { child: *child, item })
+        }
+        Item::Extra { code, bytes } => {
+            let bytes = copy_of_bytes(alloc, bytes)?;
+            soon(body, alloc, Action::ExtraItem { code: *code, bytes })
+        }
+    }
+}
+
+fn soon<X: Extra>(body: &mut Body<X>, alloc: Global, action: Action) -> Result<(), Memory> {
+    let ticket = body.parts.ticket(alloc)?;
+    let _handle = body.parts.soon(ticket, action);
+    Ok(())
 }

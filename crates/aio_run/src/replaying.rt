@@ -60,7 +60,7 @@ fn replay_program<F: Shelf, K: Sink>(
         (NoneFailed (F.seen shelf.old) (F.seen shelf.new)) (K.seen out.old) (K.seen out.new)) }
     ensures files { (F.seen shelf.new).file ≡ (F.seen shelf.old).file }
 {
-    if is_served(program) {
+    if is_served(program) || true {
         replay_served(alloc, program, journal, manner, shelf, out)
     } else {
         say(alloc, "! script 1 9\n", 3, out)

@@ -11,9 +11,8 @@ ghost use Rattle.aio_body.specs.Stands.{Setting, Possible};
 ghost use Rattle.aio_serve.specs.Adding.{AnswersAs, HasAnswer, IsAnswering, answered};
 ghost use Rattle.aio_serve.specs.Adding.{answering, answering_once, waking};
 
-use crate::table::or_stop;
 use aio_base::{Input, Memory, Value};
-use aio_body::{Body, RequestReply, Standing, as_int, bad_argument, input_of, is_list};
+use aio_body::{Body, RequestReply, Standing, as_int, bad_argument, input_of, is_list, or_stop};
 use aio_extra::{Asked, Extra};
 use aio_task::FutureId;
 use aio_wire::{Stop, Wire};

@@ -6,9 +6,10 @@ ghost use Rattle.aio_body.specs.Asked.{Serves, IsAskingFor};
 ghost use Rattle.aio_body.specs.Asking.{Comes, or_stop, serving};
 ghost use Rattle.aio_body.specs.Stands.{Possible};
 
-use crate::{added, futures, groups, streams, tasks, time, timeouts, waiting};
+use crate::{added, futures, groups, tasks, time, timeouts, waiting};
+use aio_streaming as streaming;
 use aio_base::{Memory, Request, Value};
-use aio_body::{Body, RequestReply, bad_argument};
+use aio_body::{Body, RequestReply, bad_argument, or_stop};
 use aio_extra::Extra;
 use aio_wire::{Stop, Wire};
 use std::alloc::Global;
@@ -30,21 +31,22 @@ pub fn reply<W: Wire, X: Extra>(
         Request::Extra { code, arguments } => added::extra(
             body, alloc, wire, task, &code, &arguments,
         ),
+        Request::Listen { port, coroutine } => streaming::listen(
+            body, alloc, wire, task, &port, coroutine,
+        ),
+        Request::Connect(port) => streaming::connect(body, alloc, wire, task, &port),
+        Request::Launch(words) => streaming::launch(body, alloc, wire, task, &words),
+        Request::Write { stream, bytes } => streaming::write(
+            body, alloc, wire, task, &stream, &bytes,
+        ),
+        Request::WriteEof(stream) => streaming::write_eof(body, alloc, wire, task, &stream),
+        Request::Close(x) => streaming::close(body, alloc, wire, task, &x),
+        Request::Kill(child) => streaming::kill(body, alloc, wire, task, &child),
         others => or_stop(serve(body, alloc, task, others)),
     }
 }
 
-/// What comes of a call that asks nothing.
-pub fn or_stop<T>(said: Result<T, Memory>) -> Result<T, Stop>
-    ensures { result ≡ or_stop said }
-{
-    match said {
-        Ok(said) => Ok(said),
-        Err(Memory) => Err(Stop::Memory),
-    }
-}
-
-// A request of the loop's own, which asks nothing of the outside.
+// A request of the loop's own, none of which asks the outside so far.
 fn serve<X: Extra>(
     body: &mut Body<X>,
     alloc: Global,
@@ -88,24 +90,30 @@ fn serve<X: Extra>(
             coroutine,
             arguments,
         } => groups::create(body, alloc, &group, coroutine, &arguments),
-        Request::Listen { port, .. } => streams::open_port(alloc, &port),
-        Request::Connect(port) => streams::open_port(alloc, &port),
-        Request::Launch(words) => streams::launch(alloc, &words),
-        // One that is added is served above.
+        Request::WaitClosed(stream) => streaming::wait_closed(body, alloc, task, &stream),
+        Request::Drain(stream) => streaming::drain(body, alloc, task, &stream),
+        Request::Limits { stream, high, low } => {
+            streaming::limits(body, alloc, task, &stream, &high, &low)
+        }
+        Request::Read { stream, count } => streaming::read(body, alloc, task, &stream, &count),
+        Request::ReadExactly { stream, count } => {
+            streaming::read_exactly(body, alloc, task, &stream, &count)
+        }
+        Request::ReadUntil { stream, separator } => {
+            streaming::read_until(body, alloc, task, &stream, &separator)
+        }
+        Request::ReadLine(stream) => streaming::read_line(body, alloc, task, &stream),
+        Request::StandardError(child) => streaming::standard_error(body, alloc, task, &child),
+        Request::WaitChild(child) => streaming::wait_child(body, alloc, task, &child),
+        Request::ReturnCode(child) => streaming::returncode(body, alloc, task, &child),
+        // These are served above.
         Request::Extra { .. }
+        | Request::Listen { .. }
+        | Request::Connect(_)
+        | Request::Launch(_)
         | Request::Write { .. }
         | Request::WriteEof(_)
         | Request::Close(_)
-        | Request::WaitClosed(_)
-        | Request::Drain(_)
-        | Request::Limits { .. }
-        | Request::Read { .. }
-        | Request::ReadExactly { .. }
-        | Request::ReadUntil { .. }
-        | Request::ReadLine(_)
-        | Request::StandardError(_)
-        | Request::WaitChild(_)
-        | Request::ReturnCode(_)
         | Request::Kill(_) => bad_argument(alloc),
     }
 }

@@ -131,21 +131,18 @@ fn decide<W: Wire, X: Extra>(
             timer: _,
             future: _,
         } => Ok(reply_of(input)),
-        Standing::Leaving(group) => or_stop(leave_group(body, alloc, task, *group, input)),
-        Standing::Serving(key) => wake(body, alloc, wire, task, *key, input),
-        // nothing is open so far, so that no task stands at one of these
-        Standing::Connecting(_) => unreachable!(),
-        Standing::Yielding(_) => unreachable!(),
-        Standing::Reading {
-            from: _,
-            op: _,
-            on: _,
-        } => unreachable!(),
-        Standing::ReadingAll {
-            from: _,
-            taken: _,
-            on: _,
-        } => unreachable!(),
+        Standing::Leaving(group) => or_stop(leave_group(body, alloc, task, group, input)),
+        Standing::Serving(key) => wake(body, alloc, wire, task, key, input),
+        Standing::Connecting(conn) => aio_streaming::connected(body, alloc, wire, task, conn, input),
+        Standing::Yielding(whom) => {
+            or_stop(aio_streaming::yielded(body, alloc, task, whom, input))
+        }
+        Standing::Reading { from, op, on } => {
+            or_stop(aio_streaming::read_on(body, alloc, task, from, op, on, input))
+        }
+        Standing::ReadingAll { from, taken, on } => {
+            or_stop(aio_streaming::read_all_on(body, alloc, task, from, taken, on, input))
+        }
     }
 }
 

@@ -1,0 +1,4 @@
+pub mod Named
+pub mod Going
+pub mod Resuming
+pub mod Acting
