@@ -1,8 +1,10 @@
 //! What the arguments of requests name, where they are of the kind that is wanted.
 ghost use Rattle.std.specs.Prelude.{◌≡◌, IfOk, is_some};
 ghost use Rattle.std.specs.List.{list_all};
+ghost use Rattle.std.specs.Option.{option_map};
+ghost use Rattle.std.specs.Rc.{rc_slice_items};
 ghost use Rattle.model_machine.specs.Arguments.{as_task as task_of, as_timeout as timeout_of, as_group as group_of, as_int as int_of};
-ghost use Rattle.model_machine.specs.Arguments.{as_failure as failure_of, as_list, as_words};
+ghost use Rattle.model_machine.specs.Arguments.{as_bytes as bytes_of, as_failure as failure_of, as_list, as_words};
 ghost use Rattle.model_value.specs.Value.{Exception, Items, values};
 ghost use Rattle.aio_task.specs.View.{parts};
 ghost use Rattle.aio_body.specs.Named.{future_in, awaited_in};
@@ -11,6 +13,7 @@ ghost use Rattle.aio_body.specs.Words.{is_text};
 use crate::body::Body;
 use aio_base::{Exc, Kind, Memory, Value, ValueCase, kind_matches};
 use aio_task::FutureId;
+use std::rc::RcSlice;
 
 impl<X> Body<X> {
     /// A future of `future()`.
@@ -71,6 +74,16 @@ pub fn as_int(value: &Value) -> Option<i64>
 {
     match value.case() {
         ValueCase::Int(number) => Some(number),
+        _ => None,
+    }
+}
+
+/// The bytes that a value holds, which are shared; None for any other kind.
+pub fn as_bytes(value: &Value) -> Option<&RcSlice<u8>>
+    ensures { option_map (λ bytes. rc_slice_items bytes.now) result ≡ bytes_of value.now }
+{
+    match value.case() {
+        ValueCase::Bytes(bytes) => Some(bytes),
         _ => None,
     }
 }

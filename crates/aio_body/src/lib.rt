@@ -4,15 +4,21 @@
 mod arguments;
 mod body;
 mod delay;
+mod opened;
 mod reply;
 mod slots;
 mod standing;
+mod texts;
 
-pub use arguments::{as_failure, as_group, as_int, as_task, as_timeout, is_list, is_program};
+pub use arguments::{
+    as_bytes, as_failure, as_group, as_int, as_task, as_timeout, is_list, is_program,
+};
 pub use body::Body;
 pub use delay::{Delay, as_delay};
+pub use opened::Closable;
 pub use reply::{
     MOST_IDS, RequestReply, bad_argument, cancelled_error, input_of, out_of_range, raises, replied,
     reply_of,
 };
 pub use standing::{Slot, Standing};
+pub use texts::as_words;
