@@ -7,6 +7,7 @@ ghost use Rattle.model_stream.specs.Receivers as receivers;
 ghost use Rattle.model_stream.specs.Senders as senders;
 ghost use Rattle.model_stream.specs.Sending as sending;
 ghost use Rattle.law_doing.specs.Tells.{Tells};
+ghost use Rattle.law_over.specs.Gone.{is_over};
 ghost use Rattle.aio_change.specs.Seen.{seen_changed};
 ghost use Rattle.aio_connection.specs.Owned.{OwnsConnection};
 
@@ -128,6 +129,14 @@ impl Connection {
         ensures { result ≡ senders.has_unsent self.now.sender }
     {
         self.sender.has_unsent()
+    }
+
+    /// Whether it is over: it isn't being made any more, its loss is done, and nothing is left to
+    /// send. Then it stays so, and a select waits for nothing of it any more.
+    pub fn is_over(&self) -> bool
+        ensures { result ≡ is_over self.now }
+    {
+        self.making.is_none() && self.sender.is_lost() && self.sender.ended() && !self.has_unsent()
     }
 
     // Whether all was sent, and nothing failed.
