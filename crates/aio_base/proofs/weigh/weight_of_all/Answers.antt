@@ -1,9 +1,10 @@
+-- The total so far grows by the item's weight, up to the cap.
 use Rattle.std.proofs.Common.{◌≡◌, ◌+◌, ◌++◌, [], ◌∷◌, take, ap, sym, ◌∙◌, arith}
 use Rattle.std.proofs.lemmas.List.{take_more}
 use Rattle.model_value.specs.Value.{values}
 use Rattle.model_value.specs.Weight.{weight_of, items_weight}
 use Rattle.law_value.proofs.Weights.{items_weight-push}
-use Rattle.aio_expr.proofs.items.weight_of_all.Goals as goal
+use Rattle.aio_base.proofs.weigh.weight_of_all.Goals as goal
 
 pub loop-item-preserved : goal.loop-item-preserved
 loop-item-preserved c =

@@ -1,9 +1,10 @@
+-- The depth so far becomes the item's where that is greater.
 use Rattle.std.proofs.Common.{◌≡◌, ◌+◌, ◌++◌, [], ◌∷◌, take, ap, sym, ◌∙◌, max, arith}
 use Rattle.std.proofs.lemmas.List.{take_more}
 use Rattle.model_value.specs.Value.{values}
 use Rattle.model_value.specs.Depth.{depth_of, items_depth}
 use Rattle.law_value.proofs.Depths.{items_depth-push}
-use Rattle.aio_expr.proofs.items.depth_of_all.Goals as goal
+use Rattle.aio_base.proofs.nesting.depth_of_all.Goals as goal
 
 pub loop-item-preserved : goal.loop-item-preserved
 loop-item-preserved c =
