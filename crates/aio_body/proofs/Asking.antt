@@ -91,7 +91,8 @@ module _ {X W At : Type 0} {a : Added X} (o : Outside W) (laws : IsOutside o) (f
           × ((events : List Event) → q.begins events (q.does next) → p.1.1.1 events (p.0 at))
 
       -- it stopped, and so does the whole: an end of the run in it is one of the whole
-      pub comes_stops : (why : Stop) → HasCome o from had old mid (λ c at. (next : At') × (q.from c next × IsPart at next)) → Comes o q mid new (Err why) → Comes o whole old new (Err why)
+      pub comes_stops : (why : Stop) → HasCome o from had old mid (λ c at. (next : At') × (q.from c next × IsPart at next))
+          → Comes o q mid new (Err why) → Comes o whole old new (Err why)
       comes_stops why come second = by second.last second.exchanged second.comes
         where
           by : (last : Last) → ExchangedOn o second.had last mid.wire new.wire → ComesBy q second.had last mid.events new.events (Err why)

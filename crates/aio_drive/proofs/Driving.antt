@@ -191,7 +191,8 @@ module _ {g : _} {program : Program} {how : Manner} {made left : ℕ} {kernel : 
 
   -- over entries that agree with what is told
   ends_over : (entries : List Entry) (ways : End → State (Unit {0}) → Type 0) → Agrees now_seen.left entries
-      → (it : Ends nothing_added ways taken new (running.at entries).s) → (end : End) → end ≡ it.end → EndsHere program how made taken first_seen.left so_far end
+      → (it : Ends nothing_added ways taken new (running.at entries).s) → (end : End) → end ≡ it.end
+      → EndsHere program how made taken first_seen.left so_far end
   ends_over entries ways agrees it end is =
       record {
         entries = past ++ entries;

@@ -131,7 +131,8 @@ module _ (program : Program) (how : Manner) (fault : End) (it : Driven) (made : 
   stops_text Sink text (records, stops) = stops
 
   -- the turn's answers could not be recorded
-  stops : Asks (so_far ++ more) it.before it.after → made ≤ how.turns → (had rest : List Entry) → Agrees it.before.left (had ++ rest) → (run program had made).events ≡ so_far
+  stops : Asks (so_far ++ more) it.before it.after → made ≤ how.turns → (had rest : List Entry) → Agrees it.before.left (had ++ rest)
+      → (run program had made).events ≡ so_far
       → (others : List Event) → (run program had how.turns).events ≡ (so_far ++ more) ++ others → (text : List ℕ)
       → StopsTelling (record it.shelf { old = mid }) (recorded more) text now last Unrecorded → StopsRecording program how it first last
   stops asked fewer had rest agrees before others is text (front, some, fails, same) = record {
@@ -275,7 +276,8 @@ module _ (program : Program) (how : Manner) (fault : End) (it : Driven) (made : 
         (lines_of_events how.trace more) (lines_of_events how.trace here.more ++ line (end_text whole.end))
         (further_text whole here.more here.is) last halt stops
 
-    pub goes_cut : Asks (so_far ++ more) it.before it.after → made ≤ how.turns → (cut : Cut) → StopsTelling (record it.shelf { old = mid }) (recorded more) (lines_of_events how.trace more) now last cut
+    pub goes_cut : Asks (so_far ++ more) it.before it.after → made ≤ how.turns → (cut : Cut)
+        → StopsTelling (record it.shelf { old = mid }) (recorded more) (lines_of_events how.trace more) now last cut
         → CutsShort program how fault it first last cut
     goes_cut asked fewer (Halted halt) stopped =
         goes_early halt (until asked (run program here.entries how.turns).events here.more here.is halt (lines_of_events how.trace more) stopped)

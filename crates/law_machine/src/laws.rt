@@ -24,9 +24,9 @@ pub fn what_happened_stays<S>()
         → GoesOn s.events (run_on limit added allowed left s).events }
 {}
 
-/// A turn selects once, unless nothing can come. Where nothing is open it has one answer at most,
-/// by which the code counts its answers so far (`asks_are_bounded` holds whatever is open). A run
-/// begins at most one turn more than the outside answers: the one that finds no answer.
+/// A turn selects once, unless nothing can come. Where nothing is open it has one answer at most
+/// (`asks_are_bounded` holds whatever is open). A run begins at most one turn more than the outside
+/// answers: the one that finds no answer.
 pub fn turns_are_bounded<S>()
     ensures one { (limit : ℕ) (added : Extra S) (s : State S) → is_stalled added s ≡ false
         → turns_in (state_of (turn limit added s)).events ≡ turns_in s.events + 1 }
