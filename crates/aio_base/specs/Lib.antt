@@ -5,3 +5,4 @@ pub mod ValueFalls
 pub mod ValueCase
 pub mod Code
 pub mod Size
+pub mod Counted

@@ -1,9 +1,13 @@
 //! The exceptions of scripts.
-ghost use Rattle.std.specs.Prelude.{◌≡◌, [], IfOk};
+ghost use Rattle.std.specs.Prelude.{◌≡◌, [], ◌-◌, ◌^◌, min, IfOk};
 ghost use Rattle.std.specs.Rc.{rc_slice_items};
-ghost use Rattle.model_value.specs.Value.{kind_of, text_of, bytes_of, members_of, with_bytes, with_members, exception_of};
+ghost use Rattle.model_value.specs.Value.{kind_of, text_of, bytes_of, members_of, excs, with_bytes, with_members, exception_of};
+ghost use Rattle.model_value.specs.Weight.{members_weight};
+ghost use Rattle.model_value.specs.Depth.{members_depth};
 
 use crate::memory::Memory;
+use crate::nesting::depth_of_members;
+use crate::weigh::weight_of_members;
 use model_value::Kind;
 use std::alloc::{AllocError, Global};
 use std::marker::Model;
@@ -25,6 +29,9 @@ pub struct Exc {
 #[derive(Drop)]
 pub struct ExcList {
     items: Vec<Exc>,
+    // what they weigh together, and how deep the deepest is
+    weight: u64,
+    depth: u64,
 }
 
 impl Model for Exc {
@@ -58,8 +65,11 @@ impl Model for ExcList {
     ghost coded = { coded_list coded_exc };
 
     ghost use Rattle.aio_base.specs.Size.{excs_size};
+    ghost use Rattle.aio_base.specs.Counted.{AreCounted};
 
     ghost view = { λ a. a.items.items };
+
+    ghost invariant = { λ a. AreCounted a.items.items a.weight a.depth };
 
     ghost size = { excs_size };
 
@@ -118,6 +128,28 @@ impl Exc {
             None => &[],
         }
     }
+
+    /// What the members weigh together, or 18,446,744,073,709,551,615 where it is more.
+    #[tactic(auto, using(law_value::proofs::Rows::rows))]
+    pub fn members_weight(&self) -> u64
+        ensures { result ≡ min (members_weight (excs (members_of self.now))) (2 ^ 64 - 1) }
+    {
+        match &self.members {
+            Some(members) => members.as_ref().weight(),
+            None => 0,
+        }
+    }
+
+    /// The depth of the deepest member, or 18,446,744,073,709,551,615 where it is more; else 0.
+    #[tactic(auto, using(law_value::proofs::Rows::rows))]
+    pub fn members_depth(&self) -> u64
+        ensures { result ≡ min (members_depth (excs (members_of self.now))) (2 ^ 64 - 1) }
+    {
+        match &self.members {
+            Some(members) => members.as_ref().depth(),
+            None => 0,
+        }
+    }
 }
 
 impl Exc {
@@ -163,11 +195,31 @@ impl Clone for Exc {
 }
 
 impl ExcList {
-    /// The exceptions of a vector; nothing is copied.
+    /// The exceptions of a vector; nothing is copied. Their weights and depths are counted.
     pub fn of(items: Vec<Exc>) -> ExcList
         ensures { result ≡ items.items }
     {
-        ExcList { items }
+        let weight = weight_of_members(items.as_slice());
+        let depth = depth_of_members(items.as_slice());
+        ExcList {
+            items,
+            weight,
+            depth,
+        }
+    }
+
+    /// What they weigh together, or 18,446,744,073,709,551,615 where it is more.
+    pub fn weight(&self) -> u64
+        ensures { result ≡ min (members_weight (excs self.now)) (2 ^ 64 - 1) }
+    {
+        self.weight
+    }
+
+    /// The depth of the deepest, or 18,446,744,073,709,551,615 where it is more.
+    pub fn depth(&self) -> u64
+        ensures { result ≡ min (members_depth (excs self.now)) (2 ^ 64 - 1) }
+    {
+        self.depth
     }
 
     /// The exceptions in order.

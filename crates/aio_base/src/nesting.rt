@@ -7,19 +7,18 @@ use crate::exc::Exc;
 use crate::value::{Value, ValueCase};
 
 /// The value's depth, or 18,446,744,073,709,551,615 where it is more.
-#[cycle(depth)]
 pub fn depth(value: &Value) -> u64
     ensures { result ≡ min (depth_of value.now) (2 ^ 64 - 1) }
 {
     match value.case() {
-        ValueCase::List(list) => depth_of_all(list.as_ref().items()).saturating_add(1),
+        ValueCase::List(list) => list.as_ref().depth().saturating_add(1),
         ValueCase::Exc(exc) => depth_of_exc(exc),
         _ => 0,
     }
 }
 
-#[cycle(depth)]
-fn depth_of_all(items: &[Value]) -> u64
+/// The depth of the deepest value, up to the same number.
+pub(crate) fn depth_of_all(items: &[Value]) -> u64
     ensures { result ≡ min (items_depth (values items.now)) (2 ^ 64 - 1) }
 {
     let mut deepest = 0u64;
@@ -30,15 +29,14 @@ fn depth_of_all(items: &[Value]) -> u64
 }
 
 /// The depth of an exception, or 18,446,744,073,709,551,615 where it is more.
-#[cycle(exc_depth)]
 pub fn depth_of_exc(exc: &Exc) -> u64
     ensures { result ≡ min (exc_depth exc.now) (2 ^ 64 - 1) }
 {
-    depth_of_members(exc.members()).saturating_add(1)
+    exc.members_depth().saturating_add(1)
 }
 
-#[cycle(exc_depth)]
-fn depth_of_members(members: &[Exc]) -> u64
+/// The depth of the deepest exception, up to the same number.
+pub(crate) fn depth_of_members(members: &[Exc]) -> u64
     ensures { result ≡ min (members_depth (excs members.now)) (2 ^ 64 - 1) }
 {
     let mut deepest = 0u64;

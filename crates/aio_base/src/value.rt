@@ -1,11 +1,15 @@
 //! The values of scripts.
-ghost use Rattle.std.specs.Prelude.{◌≡◌, IfOk};
+ghost use Rattle.std.specs.Prelude.{◌≡◌, ◌++◌, ◌-◌, ◌^◌, min, IfOk, OnOk};
 ghost use Rattle.std.specs.Rc.{rc_str_bytes, rc_slice_items};
 ghost use Rattle.model_value.specs.Value.{Nothing, Truth, Int, Text, Bytes, Items, Fut, Task, Group, Timeout, Conn, Server, Child, Errs, Exception, values};
+ghost use Rattle.model_value.specs.Weight.{items_weight};
+ghost use Rattle.model_value.specs.Depth.{items_depth};
 ghost use Rattle.aio_base.specs.ValueCase.{value_of_case};
 
 use crate::exc::Exc;
 use crate::memory::Memory;
+use crate::nesting::depth_of_all;
+use crate::weigh::weight_of_all;
 use std::alloc::{AllocError, Global};
 use std::marker::Model;
 use std::rc::{Rc, RcSlice, RcStr};
@@ -42,6 +46,9 @@ enum ValueNode {
 #[derive(Drop)]
 pub struct ValueList {
     items: Vec<Value>,
+    // what the items weigh together, and how deep the deepest is
+    weight: u64,
+    depth: u64,
 }
 
 impl Model for Value {
@@ -75,8 +82,11 @@ impl Model for ValueList {
     ghost coded = { coded_list coded_value };
 
     ghost use Rattle.aio_base.specs.Size.{list_size};
+    ghost use Rattle.aio_base.specs.Counted.{IsCounted};
 
     ghost view = { λ a. a.items.items };
+
+    ghost invariant = { λ a. IsCounted a.items.items a.weight a.depth };
 
     ghost size = { list_size };
 
@@ -179,6 +189,14 @@ impl Value {
         ensures { IfOk result (λ value. value ≡ Items (values items.items)) }
     {
         Ok(Value::list(Rc::new(alloc, ValueList::of(items))?))
+    }
+
+    /// A list of the values of both, those of the first before the others. Nothing else shares it.
+    pub fn list_joined(alloc: Global, front: &ValueList, back: &ValueList) -> Result<Value, Memory>
+        ensures { IfOk result (λ value. value ≡ Items (values (front.now ++ back.now))) }
+    {
+        let joined = ValueList::joined(alloc, front, back)?;
+        Ok(Value::list(Rc::new(alloc, joined)?))
     }
 
     /// A future that a script made. Each kind of thing has ids of its own, from 0 in order of making.
@@ -311,11 +329,45 @@ impl Clone for Value {
 }
 
 impl ValueList {
-    /// The values of a vector; nothing is copied.
+    /// The values of a vector; nothing is copied. Their weights and depths are counted.
     pub fn of(items: Vec<Value>) -> ValueList
         ensures { result ≡ items.items }
     {
-        ValueList { items }
+        let weight = weight_of_all(items.as_slice());
+        let depth = depth_of_all(items.as_slice());
+        ValueList {
+            items,
+            weight,
+            depth,
+        }
+    }
+
+    /// What the items weigh together, or 18,446,744,073,709,551,615 where it is more.
+    pub fn weight(&self) -> u64
+        ensures { result ≡ min (items_weight (values self.now)) (2 ^ 64 - 1) }
+    {
+        self.weight
+    }
+
+    /// The depth of the deepest item, or 18,446,744,073,709,551,615 where it is more.
+    pub fn depth(&self) -> u64
+        ensures { result ≡ min (items_depth (values self.now)) (2 ^ 64 - 1) }
+    {
+        self.depth
+    }
+
+    // The values of both. What they weigh together and how deep they are is read of the two lists.
+    fn joined(alloc: Global, front: &ValueList, back: &ValueList) -> Result<ValueList, AllocError>
+        ensures { IfOk result (λ list. list ≡ front.now ++ back.now) }
+    {
+        let mut items = Vec::new(alloc);
+        push_copies(&mut items, front.items.as_slice())?;
+        push_copies(&mut items, back.items.as_slice())?;
+        Ok(ValueList {
+            items,
+            weight: front.weight.saturating_add(back.weight),
+            depth: front.depth.max(back.depth),
+        })
     }
 
     /// The values in order.
@@ -324,4 +376,13 @@ impl ValueList {
     {
         self.items.as_slice()
     }
+}
+
+fn push_copies(items: &mut Vec<Value>, from: &[Value]) -> Result<(), AllocError>
+    ensures { OnOk result (items.new.items ≡ items.old.items ++ from.now) }
+{
+    for item in from {
+        items.push(item.clone()?)?;
+    }
+    Ok(())
 }

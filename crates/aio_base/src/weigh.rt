@@ -6,23 +6,21 @@ ghost use Rattle.model_value.specs.Weight.{weight_of, items_weight, exc_weight, 
 use crate::exc::Exc;
 use crate::value::{Value, ValueCase};
 
-/// The value's weight, or 18,446,744,073,709,551,615 where it is more. Values nest at most as deep as scripts may build
-/// them, which is 64.
-#[cycle(weight)]
+/// The value's weight, or 18,446,744,073,709,551,615 where it is more. Lists know theirs.
 pub fn weight(value: &Value) -> u64
     ensures { result ≡ min (weight_of value.now) (2 ^ 64 - 1) }
 {
     match value.case() {
         ValueCase::Text(text) => (text.len() as u64).saturating_add(1),
         ValueCase::Bytes(bytes) => (bytes.len() as u64).saturating_add(1),
-        ValueCase::List(list) => weight_of_all(list.as_ref().items()).saturating_add(1),
+        ValueCase::List(list) => list.as_ref().weight().saturating_add(1),
         ValueCase::Exc(exc) => weight_of_exc(exc),
         _ => 1,
     }
 }
 
-#[cycle(weight)]
-fn weight_of_all(items: &[Value]) -> u64
+/// What values weigh together, up to the same number.
+pub(crate) fn weight_of_all(items: &[Value]) -> u64
     ensures { result ≡ min (items_weight (values items.now)) (2 ^ 64 - 1) }
 {
     let mut total = 0u64;
@@ -33,18 +31,17 @@ fn weight_of_all(items: &[Value]) -> u64
 }
 
 /// The weight of an exception, or 18,446,744,073,709,551,615 where it is more.
-#[cycle(exc_weight)]
 pub fn weight_of_exc(exc: &Exc) -> u64
     ensures { result ≡ min (exc_weight exc.now) (2 ^ 64 - 1) }
 {
-    weight_of_members(exc.members())
+    exc.members_weight()
         .saturating_add(exc.text().len() as u64)
         .saturating_add(exc.bytes().len() as u64)
         .saturating_add(1)
 }
 
-#[cycle(exc_weight)]
-fn weight_of_members(members: &[Exc]) -> u64
+/// What exceptions weigh together, up to the same number.
+pub(crate) fn weight_of_members(members: &[Exc]) -> u64
     ensures { result ≡ min (members_weight (excs members.now)) (2 ^ 64 - 1) }
 {
     let mut total = 0u64;

@@ -10,7 +10,6 @@ use Rattle.model_loop.specs.Parts.{Parts}
 use Rattle.model_loop.specs.Owning.{is_plain}
 use Rattle.model_loop.specs.Tasks.{cancelling, lives, next_task, waiter_of}
 use Rattle.model_loop.specs.Ways.{is_running}
-use Rattle.model_stream.specs.Streams.{no_streams}
 use Rattle.model_machine.specs.Sound.{IsStateSound}
 use Rattle.model_machine.specs.State as plain
 use Rattle.model_machine.specs.State.{Generator, State, generator_of}
@@ -119,8 +118,6 @@ pub record Stands {X : Type 0} {a : Added X} (out : Option ℕ) (c : Setting a) 
   pub few_futures : length s.futures < 2 ^ 32
   pub main_done : body.main_done ≡ s.main_done
   pub transports : AreTransports body.transports s.streams
-  -- no listener, connection or child is open so far
-  pub closed : s.streams ≡ no_streams 0
   -- numbers that a script can have
   pub time : s.loop.parts.time ≤ most
   pub counts : (task : ℕ) → cancelling s.loop.parts task ≤ most

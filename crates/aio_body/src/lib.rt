@@ -12,7 +12,7 @@ pub use arguments::{as_failure, as_group, as_int, as_task, as_timeout, is_list, 
 pub use body::Body;
 pub use delay::{Delay, as_delay};
 pub use reply::{
-    MOST_IDS, RequestReply, bad_argument, cancelled_error, input_of, out_of_range, raises, replied,
-    reply_of,
+    MOST_IDS, RequestReply, bad_argument, cancelled_error, input_of, or_stop, out_of_range, raises,
+    replied, reply_of,
 };
 pub use standing::{Slot, Standing};

@@ -5,9 +5,11 @@ ghost use Rattle.model_says.specs.Operations.{out_of_range as plain_out_of_range
 ghost use Rattle.model_says.specs.Requests.{bad_argument as plain_bad_argument};
 ghost use Rattle.model_loop.specs.Tasks.{cancelled_error as plain_cancelled_error};
 ghost use Rattle.model_machine.specs.Outcomes.{input_of as plain_input_of};
+ghost use Rattle.aio_body.specs.Asking.{or_stop};
 ghost use Rattle.aio_body.specs.Outcomes.{RepliesAs, reply_of as plain_reply_of};
 
 use aio_base::{Exc, Input, Kind, Memory, Outcome, Value, exception};
+use aio_wire::Stop;
 use std::alloc::Global;
 
 /// What a request comes to: the coroutine goes on with a value, or with an exception that is raised
@@ -76,4 +78,14 @@ pub fn replied(outcome: &Outcome) -> Result<RequestReply, Memory>
     ensures { IfOk result (RepliesAs outcome.now) }
 {
     Ok(reply_of(input_of(outcome)?))
+}
+
+/// What comes of a call that asks nothing.
+pub fn or_stop<T>(said: Result<T, Memory>) -> Result<T, Stop>
+    ensures { result ≡ or_stop said }
+{
+    match said {
+        Ok(said) => Ok(said),
+        Err(Memory) => Err(Stop::Memory),
+    }
 }

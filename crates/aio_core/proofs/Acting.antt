@@ -2,7 +2,7 @@
 use Rattle.std.proofs.Common.{◌≡◌, ℕ, ℤ, Bool, true, false, ◌&&◌, not, cond, List, [], ◌∷◌, ◌++◌, Some, None, Result, Ok, Err, length, slice_get, ◌∙◌}
 use Rattle.std.proofs.Common.{refl, sym, ap, subst, arith}
 use Rattle.std.proofs.Math.Logic.{∥∥₁_elim, ∥∥₁_map}
-use Rattle.std.proofs.lemmas.Bool.{eq-eqb, false≢true}
+use Rattle.std.proofs.lemmas.Bool.{eq-eqb}
 use Rattle.model_value.specs.Action.{Action, Circle}
 use Rattle.model_value.specs.Input.{Input}
 use Rattle.model_value.specs.declared.action.Action.TheVariants as action
@@ -23,8 +23,6 @@ use Rattle.model_machine.specs.Outcomes.{woken_with}
 use Rattle.model_machine.specs.State.{State, in_loop, noted, unbooked_in}
 use Rattle.model_machine.specs.Step.{step}
 use Rattle.model_machine.specs.Turn.{effect, ran}
-use Rattle.law_trees.specs.Trees.{is_of_streams}
-use Rattle.law_cases.proofs.Closed.{effect_none}
 use Rattle.model_machine.specs.Went.{Went, Goes, Stops, state_of}
 use Rattle.law_inside.specs.InStep.{LeavesStateSound}
 use Rattle.law_runs.proofs.Callbacks.{callback_in}
@@ -70,11 +68,13 @@ use Rattle.aio_wire.specs.declared.stop.Stop.{Stop}
 use Rattle.aio_wire.specs.declared.stop.Stop.TheVariants as stop
 use Rattle.aio_exchange.proofs.Among.{told_beside, told_none}
 use Rattle.aio_exchange.specs.Among.{AreTold}
-use Rattle.aio_exchange.specs.Exchanged.{All}
+use Rattle.aio_exchange.specs.Exchanged.{Last, All, Met, Starved}
 use Rattle.aio_exchange.specs.Outside.{IsOutside, Outside, ported}
 use Rattle.aio_body.proofs.Asking.{come_none, comes_alone, comes_goes, comes_without}
-use Rattle.aio_body.specs.Asking.{Comes, WentBegins, or_stop}
-use Rattle.aio_core.specs.Running.{StepsBy, acting, running_one}
+use Rattle.aio_body.specs.Asking.{Comes, ComesBy, WentBegins, before, or_stop}
+use Rattle.aio_streaming.specs.Acting as streaming
+use Rattle.aio_streaming.specs.Acting.{GoesOn}
+use Rattle.aio_core.specs.Running.{StepsBy, acting, goes_as, running_one}
 use Rattle.law_body.proofs.Lasting.{spares_none, stands_on}
 use Rattle.law_body.proofs.Left.{leaves_settle}
 use Rattle.law_body.proofs.May.{same_prop}
@@ -204,7 +204,7 @@ told_going c old new s told left (Stops how last) row answered h = absurd h
 
 -- a handle only adds events
 effect_row : {S : Type 0} (added : Extra S) (it : Action) (s : State S) → InRun s (state_of (effect step_limit added it s))
-effect_row added it s = in_turn (in_callback (effect_goes step_limit added it s).reaches)
+effect_row added it s = in_turn added (in_callback added (effect_goes step_limit added it s).reaches)
 
 module _ {X W : Type 0} (a : Added X) (o : Outside W) (laws : IsOutside o) (it : Action) (body : Body X) where
   -- it is noted that it runs
@@ -419,19 +419,52 @@ module _ {X : Type 0} {a : Added X} where
       calls_so (action.ExtraItem number bytes) c old s h sound refl (a.meaning.item number bytes s) (a.allowed.item number bytes s sound) refl v x
       (λ t now served same. does t s (subst (λ n. IsServed a None t n old.extra old.parts) same served))
 
--- ---- callbacks of listeners, connections and children: none is open so far
-steps_none : (it : Action) → is_of_streams it ≡ true → stepped it ≡ None
-steps_none (action.Step task) is = absurd (false≢true is)
-steps_none (action.StepInCircle task circle) is = absurd (false≢true is)
-steps_none (action.Wakeup task) is = absurd (false≢true is)
-steps_none _ is = refl
+-- ---- callbacks of listeners, connections and children
+module _ {X : Type 0} {a : Added X} (it : Action) (old new : Body X) where
+  -- one that goes on leaves a sound state
+  goes_so : (d c : Setting a) (s : State a.Kept) (h : IsTaken it d old s) (w : Went a.Kept)
+      → effect step_limit a.meaning it s ≡ w → GoesOn c new w
+      → Steps c new went.Goes w
+  goes_so d c s h (Goes now) e goes =
+      record {
+        stands = goes.stands;
+        called = goes.called;
+        running = goes.running;
+        sound = subst (LeavesStateSound a.meaning) e (sound_then it d old s h);
+      }
+  goes_so d c s h (Stops how last) e goes = absurd goes
 
-module _ {X : Type 0} {a : Added X} where
-  pub streams_act : (it : Action) (old : Body X) → is_of_streams it ≡ true → Acts a it old old went.Goes
-  streams_act it old is c s h =
-      after_so it c old s h old s (effect_none s h.stands.closed step_limit a.meaning it is)
-      (record { stands = h.stands; called = h.called ∙ steps_none it is; running = h.running })
+module _ {X W : Type 0} (a : Added X) (o : Outside W) (laws : IsOutside o) (it : Action) (body new : Body X) where
+  -- one that may ask
+  pub acts_streaming : {R : Type 0} (was is : W) (result : Result R Stop)
+      → Comes o (streaming.acting a it body new) (ported was body.events) (ported is new.events) result
+      → Comes o (acting a it body new) (ported was body.events) (ported is new.events) (goes_as result)
+  acts_streaming {R = R} was is result h =
+      record { had = h.had; last = h.last; exchanged = h.exchanged; comes = at h.last result h.comes }
+    where
+      at : (last : Last) (result : Result R Stop) → ComesBy (streaming.acting a it body new) h.had last body.events new.events
+          result
+          → ComesBy (acting a it body new) h.had last body.events new.events (goes_as result)
+      at All (Ok said) comes = λ c s taken.
+          let t = comes c s taken in (
+            t.0,
+            goes_so it body new (before h.had c) c s taken (effect step_limit a.meaning it s) refl
+                t.1,
+          )
+      at (Met call said) (Err why) comes = comes
+      at Starved (Err why) comes = comes
+      at All (Err why) comes = absurd comes
+      at (Met call said) (Ok it) comes = absurd comes
+      at Starved (Ok said) comes = absurd comes
 
--- a step is no such callback
-pub no_step : (it : Action) (task : ℕ) → runner_of it ≡ None → runner_of it ≡ Some task → is_of_streams it ≡ true
-no_step it task idle runs = absurd (let e = sym idle ∙ runs in cc)
+  -- one that asks nothing
+  pub acts_made : {R : Type 0} (wire : W) (result : Result R Memory) → streaming.Acts a it body new result
+      → Comes o (acting a it body new) (ported wire body.events) (ported wire new.events) (goes_as (or_stop result))
+  acts_made wire (Ok said) acts =
+      acts_alone a o laws it body new wire (Ok went.Goes)
+      (λ c s h. goes_so it body new c c s h (effect step_limit a.meaning it s) refl (acts c s h)) refl
+  acts_made wire (Err memory) acts = acts_without a o laws it body new wire
+
+-- a handle that steps no task is no step
+pub no_step : (it : Action) (task : ℕ) → runner_of it ≡ None → runner_of it ≡ Some task → ⊥
+no_step it task idle runs = let e = sym idle ∙ runs in cc

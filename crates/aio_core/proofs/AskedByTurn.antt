@@ -1,6 +1,6 @@
 -- What a turn asked of the wire, by its exchanges: what was noted in it; and where memory was refused, what the machine's turn begins with.
 use Rattle.std.proofs.Common.{◌≡◌, ◌⊎◌, inl, inr, ℕ, Bool, true, false, if◌then◌else◌, List, [], ◌∷◌, ◌++◌, Option, Some, Result, Ok, Err, ◌∙◌, refl, sym}
-use Rattle.std.proofs.Common.{ap, subst, append_assoc, append-nil}
+use Rattle.std.proofs.Common.{ap, subst, append-nil}
 use Rattle.std.proofs.Math.Path.{fun_ext}
 use Rattle.model_says.specs.Says.{step_limit}
 use Rattle.model_wire.specs.declared.event.Event.TheVariants as event
@@ -25,7 +25,7 @@ use Rattle.aio_wire.specs.declared.wire.Reply.{Reply}
 use Rattle.aio_wire.specs.declared.wire.Reply.TheVariants as reply
 use Rattle.aio_exchange.proofs.Exchanging.{agreed}
 use Rattle.aio_exchange.specs.Among.{AreTold, ExchangedOn, asks_among, told_by, told_last}
-use Rattle.aio_exchange.specs.Exchanged.{Exchange, IsOneMore, Last, All, Met, Starved, StopsAs, TellsBytes, TellsCalls}
+use Rattle.aio_exchange.specs.Exchanged.{Exchange, IsOneMore, Last, All, Met, Starved, StopsAs}
 use Rattle.aio_exchange.specs.Exchanged.{answers_of, asked_by, bytes_last, bytes_to, called_last, calls_of, entries_of, handed_to}
 use Rattle.aio_exchange.specs.Outside.{Outside, ported}
 use Rattle.aio_extra.specs.Added.{Added}
@@ -36,7 +36,7 @@ use Rattle.law_body.proofs.Answering.{between_again}
 use Rattle.law_body.specs.Answers.{with_answers}
 use Rattle.aio_core.specs.declared.went.Went as code
 use Rattle.aio_core.specs.declared.went.Went.TheVariants as went
-use Rattle.aio_core.specs.Asked.{Asks}
+use Rattle.aio_core.specs.Asked.{Asks, AsksOnce}
 use Rattle.aio_core.specs.Turning.{AsksBy, IsAtRest, IsStarved, StarvesAs, Stood, Turned, WireTurn, resting, said_by, stood_by, turning}
 use Rattle.aio_core.proofs.Asked.{bytes-append, calls-append, last_in, asks_replied, maybe_once, noted_after, noted_by}
 use Rattle.aio_core.proofs.Coming.{entries_map}
@@ -182,19 +182,23 @@ module _ {X : Type 0} (a : Added X) (old : Body X) where
       subst (λ es. GoesOn es (state_of (turn step_limit a.meaning s)).events)
       (r.1.stands.events ∙ ap (λ es. past ++ es) (sym (append-nil old.events.events))) (turn-grows step_limit a.meaning s)
 
+  -- where one call was asked at most
+  pub once_starves : (wire : WireTurn) → AsksOnce wire.before wire.after
+      → IsStarved a.meaning wire (stood_by a old) old.events.events
+  once_starves wire once = record {
+    had = [];
+    left = agreed wire.before.left;
+    first = [];
+    begins = grown;
+    more = once.0;
+    one = once.1;
+    asks = once.2;
+    failing = λ fails. refl;
+  }
+
   pub select_starves : (call : Call) (wire : WireTurn) → MayHaveReplied call wire.before wire.after
       → IsStarved a.meaning wire (stood_by a old) old.events.events
-  select_starves call wire may =
-      let once = maybe_once call wire.before wire.after may in record {
-        had = [];
-        left = agreed wire.before.left;
-        first = [];
-        begins = grown;
-        more = once.0;
-        one = once.1;
-        asks = once.2;
-        failing = λ fails. refl;
-      }
+  select_starves call wire may = once_starves wire (maybe_once call wire.before wire.after may)
 
   pub stop_starves : (call : Call) (events : EventList) (wire : WireTurn) (result : Result Answer Stop) (why : Stop) → result ≡ Err why
       → ((said : Reply) × Exchanges call old.events events result said × Replied call wire.before wire.after said)

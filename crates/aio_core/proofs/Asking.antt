@@ -13,7 +13,7 @@ use Rattle.model_wire.specs.Told.{Agrees, WireSeen}
 use Rattle.model_machine.specs.Extra.{Extra}
 use Rattle.model_machine.specs.State.{State, noted}
 use Rattle.model_machine.specs.Turn.{call_of, is_stalled, turn, turn_unless, turned_by}
-use Rattle.model_machine.specs.Went.{Went, Stops, answered_by, answers_in, ask, fitted}
+use Rattle.model_machine.specs.Went.{Stops, answered_by, answers_in, ask, fitted}
 use Rattle.law_runs.proofs.Turning.{noted_in}
 use Rattle.aio_wire.specs.EventList.{EventList}
 use Rattle.aio_wire.specs.Events.{pushed}
@@ -37,6 +37,7 @@ use Rattle.law_body.proofs.Answering.{stands_again}
 use Rattle.law_body.proofs.Noting.{counted, stands_noted}
 use Rattle.aio_core.specs.declared.went.Went as code
 use Rattle.aio_core.specs.declared.went.Went.TheVariants as went
+use Rattle.aio_core.specs.Watched.{StandsOn}
 use Rattle.aio_core.specs.Turning.{ComesTo, EndsFrom, Is, NoneLeft, OfFailing, StallsAs, Stood, UnlessFailed, changed_by, resting, stood_by, turning, turning_by}
 
 -- ---- the machine
@@ -210,52 +211,69 @@ module _ {X : Type 0} {a : Added X} (old : Body X) (call : Call)
       at (reply.Bad fault) x replied = absurd (let y = sym x.1 ∙ e in cc)
       at reply.Failed x replied = absurd (let y = sym x.1 ∙ e in cc)
 
-  -- what is stood for then
-  pub got_between : (answer : Answer) (events : EventList) → events ≡ pushed (pushed old.events (event.Called call)) (event.Got answer)
-      → (c : Setting a) (s : State a.Kept) (rest : List Entry) → IsBetween c old s
-      → IsBetween (record c { answers = rest }) (record old { events = events }) (got_at call answer rest s)
-  got_between answer events e c s rest h = record {
-    stands =
-        stands_noted None (record c { answers = rest }) (record old { events = pushed old.events (event.Called call) })
-        (record (called_at call s) { answers = rest }) (event.Got answer) events e
-        (stands_again rest c (record old { events = pushed old.events (event.Called call) }) (called_at call s) None
-        (stands_noted None c old s (event.Called call) (pushed old.events (event.Called call)) refl h.stands));
-    called = h.called;
-    running = h.running;
-    sound = noted_in a.meaning s rest call answer h.sound;
-  }
+  -- what is stood for then, where all this was stood for as the watch list was made
+  module _ (held : Body X) (on : StandsOn a old held) where
+    held_notes : (it : Event) → pushed old.events it ≡ pushed held.events it
+    held_notes it = ap (λ (l : EventList). pushed l it) (sym on.events)
 
-  pub got_alive : (answer : Answer) (events : EventList) → events ≡ pushed (pushed old.events (event.Called call)) (event.Got answer)
-      → Possible a IsBetween old → Possible a IsBetween (record old { events = events })
-  got_alive answer events e alive =
-      ∥∥₁_map alive (λ w. (record w.0 { answers = [] }, (got_at call answer [] w.1.0, got_between answer events e w.0 w.1.0 [] w.1.1)))
+    pub got_between : (answer : Answer) (events : EventList) → events ≡ pushed (pushed old.events (event.Called call))
+        (event.Got answer)
+        → (c : Setting a) (s : State a.Kept) (rest : List Entry) → IsBetween c old s
+        → IsBetween (record c { answers = rest }) (record held { events = events }) (got_at call answer rest s)
+    got_between answer events e c s rest before_ =
+        let h = on.between c s before_ in record {
+          stands =
+              stands_noted None (record c { answers = rest }) (record held { events = pushed old.events (event.Called call) })
+              (record (called_at call s) { answers = rest }) (event.Got answer) events e
+              (stands_again rest c (record held { events = pushed old.events (event.Called call) }) (called_at call s) None
+              (stands_noted None c held s (event.Called call) (pushed old.events (event.Called call))
+              (held_notes (event.Called call)) h.stands));
+          called = h.called;
+          running = h.running;
+          sound = noted_in a.meaning s rest call answer h.sound;
+        }
 
-  -- a turn that has this answer goes on by it
-  module _ {W : Type 0} (o : Outside W) (laws : IsOutside o) (was mid : W) (answer : Answer) (events : EventList)
-      (one : AsksOne o call (ported was old.events) (ported mid events) (Ok answer)) where
-    abbrev asked : List Exchange
-    asked = record { call = call; answer = answer } ∷ []
+    pub got_alive : (answer : Answer) (events : EventList) → events ≡ pushed (pushed old.events (event.Called call))
+        (event.Got answer)
+        → Possible a IsBetween old → Possible a IsBetween (record held { events = events })
+    got_alive answer events e alive =
+        ∥∥₁_map alive (λ w. (
+          record w.0 { answers = [] },
+          (
+            got_at call answer [] w.1.0,
+            got_between answer events e w.0 w.1.0 []
+                w.1.1,
+          ),
+        ))
 
-    pub answered_so : (new : Body X) (is : W) (result : Result code.Went Stop)
-        → Comes o (turning_by a answer (record old { events = events }) new) (ported mid events) (ported is new.events) result
-        → Comes o (turning a old new) (ported was old.events) (ported is new.events) result
-    answered_so new is result turns =
-        comes_goes o laws (turning a old new) asked (ported was old.events) (ported mid events) (λ c s. IsBetween c (record old { events = events }) s)
-        (turned_by step_limit a.meaning answer) (ported is new.events) result
-        (record {
-          exchanged = on_wire o asked All (ported was old.events) (ported mid events) one;
-          told = λ c s h. (
-            noted_told asked old.events events one.notes,
-            (
-              got_at call answer c.answers s,
+    -- a turn that has this answer goes on by it
+    module _ {W : Type 0} (o : Outside W) (laws : IsOutside o) (was mid : W) (answer : Answer) (events : EventList)
+        (one : AsksOne o call (ported was old.events) (ported mid events) (Ok answer)) where
+      abbrev asked : List Exchange
+      asked = record { call = call; answer = answer } ∷ []
+
+      pub answered_so : (new : Body X) (is : W) (result : Result code.Went Stop)
+          → Comes o (turning_by a answer (record held { events = events }) new) (ported mid events) (ported is new.events) result
+          → Comes o (turning a old new) (ported was old.events) (ported is new.events) result
+      answered_so new is result turns =
+          comes_goes o laws (turning a old new) asked (ported was old.events) (ported mid events)
+          (λ c s. IsBetween c (record held { events = events }) s) (turned_by step_limit a.meaning answer) (ported is new.events)
+          result
+          (record {
+            exchanged = on_wire o asked All (ported was old.events) (ported mid events) one;
+            told = λ c s h. (
+              noted_told asked old.events events one.notes,
               (
-                got_between answer events one.notes (before asked c) s c.answers h,
-                turned_as (before asked c) s h (Answered answer ∷ c.answers) h.stands.rest
-                    ∙ ap (λ b. fitted b call answer (turned_by step_limit a.meaning) (got_at call answer c.answers s)) one.fit.0,
+                got_at call answer c.answers s,
+                (
+                  got_between answer events one.notes (before asked c) s c.answers h,
+                  turned_as (before asked c) s h (Answered answer ∷ c.answers) h.stands.rest
+                      ∙ ap (λ b. fitted b call answer (turned_by step_limit a.meaning) (got_at call answer c.answers s))
+                      one.fit.0,
+                ),
               ),
-            ),
-          );
-        }) turns
+            );
+          }) turns
 
 module _ {X : Type 0} {a : Added X} where
   -- ---- a turn that is stalled

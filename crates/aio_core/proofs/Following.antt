@@ -10,8 +10,11 @@ use Rattle.model_machine.specs.State.{State, unbooked_in}
 use Rattle.model_machine.specs.Outcomes.{finished_as}
 use Rattle.model_machine.specs.Turn.{cancelled_if, finished_if, run_pending, turn_over, turned_by, woken_by}
 use Rattle.model_machine.specs.Went.{Went, Goes, Stops, state_of, went_on}
+use Rattle.law_going.proofs.Turning.{turned_row}
+use Rattle.law_reach.proofs.Rows.{in_turn}
 use Rattle.aio_base.specs.declared.memory.Memory.{Memory}
 use Rattle.aio_wire.specs.declared.stop.Stop.{Stop}
+use Rattle.aio_wire.specs.declared.stop.Stop.TheVariants as stop
 use Rattle.aio_exchange.specs.Among.{asks_among}
 use Rattle.aio_exchange.specs.Exchanged.{Exchange, Last, All, Met, Starved}
 use Rattle.aio_exchange.specs.Outside.{IsOutside, Outside, ported}
@@ -20,11 +23,12 @@ use Rattle.aio_step.specs.declared.steps.Stepped.{Stepped}
 use Rattle.aio_step.specs.declared.steps.Stepped.TheVariants as stepped
 use Rattle.aio_step.specs.Stepping.{Steps}
 use Rattle.aio_body.proofs.Asking.{HasCome, come_beside, come_none, come_then, comes_ends, comes_starved, comes_stops}
+use Rattle.aio_body.proofs.Asking.{comes_without}
 use Rattle.aio_body.specs.declared.body.Body.{Body}
 use Rattle.aio_body.specs.Asking.{Comes, ComesBy, Piece, WentBegins, before, or_stop}
 use Rattle.aio_body.specs.Stands.{Setting, IsBetween, Possible}
 use Rattle.law_body.proofs.Answering.{alive_come, between_again}
-use Rattle.law_body.proofs.Growing.{OnlyAdds, went_begins}
+use Rattle.law_body.proofs.Growing.{OnlyAdds, row_begins, went_begins}
 use Rattle.law_body.proofs.Unasked.{told_so}
 use Rattle.law_body.specs.Answers.{with_answers}
 use Rattle.aio_core.specs.declared.went.Went as Said
@@ -231,6 +235,14 @@ module _ {X W : Type 0} (a : Added X) (o : Outside W) (laws : IsOutside o) (answ
               ),
             );
       }) (runs_below (Err why) runs)
+
+-- ---- or memory was refused before any handle ran
+module _ {X W : Type 0} (a : Added X) (o : Outside W) (laws : IsOutside o) (answer : Answer) (old new : Body X) (was : W) where
+  pub after_starves : Comes o (turning_by a answer old new) (ported was old.events) (ported was new.events) (Err stop.Memory)
+  after_starves =
+      comes_without o laws (turning_by a answer old new) (ported was old.events) (ported was new.events) (λ c s h.
+      row_begins (c.past ++ old.events.events) s (state_of (turned_by step_limit a.meaning answer s))
+      (in_turn a.meaning (turned_row step_limit a.meaning answer s)) h.stands.events) refl
 
 module _ {X : Type 0} {a : Added X} where
   -- whether each task is cancelled

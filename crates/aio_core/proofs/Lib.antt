@@ -2,7 +2,9 @@ pub mod Below
 pub mod Running
 pub mod Inputs
 pub mod Acting
+pub mod Appending
 pub mod Waking
+pub mod Watching
 pub mod Stopping
 pub mod Asked
 pub mod Asking

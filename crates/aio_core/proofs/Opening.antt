@@ -14,6 +14,7 @@ use Rattle.model_wire.specs.Journal.{Entry}
 use Rattle.model_loop.specs.Parts.{OfTask, Future, Parts, Task}
 use Rattle.model_loop.specs.Start.{first_parts, no_parts}
 use Rattle.model_loop.specs.Tasks.{cancelling, future_of, lives, spawn}
+use Rattle.model_machine.specs.Replies.{most_ids}
 use Rattle.model_machine.specs.State as machine
 use Rattle.model_machine.specs.State.{generator, start}
 use Rattle.law_kept.proofs.Calls.{kept_register, kept_spawn}
@@ -131,7 +132,8 @@ module _ {X : Type 0} (a : Added X) (program : Program) (none held : Body X) (x 
   one_slot : held.slots.items ≡ holds.slot ∷ []
   one_slot = holds.slots ∙ ap (λ (xs : List Slot). xs ++ holds.slot ∷ []) e.slots
 
-  begins_at : (answers : List Entry) → Stands None (resting a [] answers (callback_kept (profile_of program)).ties.bar) begun (start kept program answers)
+  begins_at : (answers : List Entry) → Stands None (resting a [] answers (callback_kept (profile_of program)).ties.bar) begun
+      (start most_ids kept program answers)
   begins_at answers = record {
     ties = (callback_kept (profile_of program)).ties;
     code = subst (IsCodeOf program) (sym (ap (λ (b : Body X). b.code) holds.beside)) e.code;
@@ -155,8 +157,8 @@ module _ {X : Type 0} (a : Added X) (program : Program) (none held : Body X) (x 
     futures = ap (λ (b : Body X). b.futures.items) holds.beside ∙ e.futures;
     few_futures = omega arith;
     main_done = ap (λ (b : Body X). b.main_done) holds.beside ∙ e.main_done;
-    transports = subst (λ t. AreTransports t (no_streams 0)) (sym (ap (λ (b : Body X). b.transports) holds.beside)) e.transports;
-    closed = refl;
+    transports = subst (λ t. AreTransports t (no_streams most_ids)) (sym (ap (λ (b : Body X). b.transports) holds.beside))
+        e.transports;
     time = omega arith;
     counts = counts;
     events = sym (ap (λ (b : Body X). b.events.events) holds.beside ∙ ap (λ (l : EventList). l.events) e.events);
@@ -172,14 +174,17 @@ module _ {X : Type 0} (a : Added X) (program : Program) (none held : Body X) (x 
       counts (suc task) = omega arith
 
       stand : (code : Standing) → code ≡ Asked
-          → StandsAt (callback_kept (profile_of program)).ties first_parts (named_in a (start kept program answers)) 0 code machine.Asked
+          → StandsAt (callback_kept (profile_of program)).ties first_parts (named_in a (start most_ids kept program answers)) 0
+          code machine.Asked
       stand code is =
           subst (λ (x : Standing).
-          StandsAt (callback_kept (profile_of program)).ties first_parts (named_in a (start kept program answers)) 0 x machine.Asked)
+          StandsAt (callback_kept (profile_of program)).ties first_parts (named_in a (start most_ids kept program answers)) 0 x
+          machine.Asked)
           (sym is) tt
 
       has : (task : ℕ) → lives first_parts task ≡ true
-          → HasSlot a None None (callback_kept (profile_of program)).ties held.code held.slots.items (start kept program answers) task
+          → HasSlot a None None (callback_kept (profile_of program)).ties held.code held.slots.items
+          (start most_ids kept program answers) task
       has zero l = record {
         slot = holds.slot;
         found = ap (λ (xs : List Slot). slice_get xs 0) one_slot;
@@ -193,14 +198,14 @@ module _ {X : Type 0} (a : Added X) (program : Program) (none held : Body X) (x 
       has (suc task) l = absurd (false≢true l)
 
   pub begins_so : (last : Body X) → last ≡ record held { parts = with_callback (profile_of program) } → (answers : List Entry)
-      → IsAtRest a [] answers last (start kept program answers)
-  begins_so last is answers = subst (λ b. IsAtRest a [] answers b (start kept program answers)) (sym is) (
+      → IsAtRest a [] answers last (start most_ids kept program answers)
+  begins_so last is answers = subst (λ b. IsAtRest a [] answers b (start most_ids kept program answers)) (sym is) (
     (callback_kept (profile_of program)).ties.bar,
     record {
       stands = begins_at answers;
       called = refl;
       running = refl;
-      sound = begins_sound a.meaning kept program answers;
+      sound = begins_sound a.meaning most_ids kept program answers;
     },
   )
 
@@ -213,7 +218,8 @@ module _ {X : Type 0} {a : Added X} where
       → v.queue ≡ queue.soon (Step (length ticketed.tasks)) ticketed.queue
       → v ≡ record ticketed { queue = v.queue; futures = v.futures; tasks = v.tasks } → own ≡ future_of (parts v) task
       → w ≡ record v { futures = registered own MainDone v.futures; queue = soon_if_done own MainDone v.futures v.queue }
-      → last ≡ record held { parts = w } → (answers : List Entry) → IsAtRest a [] answers last (start kept program answers)
+      → last ≡ record held { parts = w } → (answers : List Entry) → IsAtRest a [] answers last
+      (start most_ids kept program answers)
   main_made program none held last x kept fresh e place arguments at_place no_arguments holds ticketed v w task own ticket number after pending
       beside is_own on is answers =
       begins_so a program none held x kept fresh e held_main last (is ∙ ap (λ (x : View). record held { parts = x }) is_w) answers

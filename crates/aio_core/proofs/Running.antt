@@ -88,7 +88,7 @@ below_adds added bar (suc count) s = next s.loop.parts.pending (below_adds added
         → WentBegins s.events (run_if step_limit added b handle rest (run_below step_limit added bar count) s)
     at true handle rest adds =
         went_begins s.events (run_first step_limit added handle rest s) (run_below step_limit added bar count) adds
-        (row_begins s.events s (state_of (run_first step_limit added handle rest s)) (in_turn (first_turns step_limit added handle rest s).reaches) refl)
+        (row_begins s.events s (state_of (run_first step_limit added handle rest s)) (in_turn added (first_turns step_limit added handle rest s).reaches) refl)
     at false handle rest adds = ([], sym (append-nil s.events))
 
     next : (handles : List Handle) → OnlyAdds (run_below step_limit added bar count)

@@ -14,7 +14,6 @@ use Rattle.aio_core.specs.Turned.{StandsFor}
 pub turn_sound : {X : Type 0} {g : _} (a : Added X) (past : List Event) (answers : List Entry) (kernel : Kernel X g) (s : State a.Kept)
     → StandsFor a past answers kernel s → IsTurnSound a s
 turn_sound a past answers kernel s h = record {
-  closed = h.rests.1.stands.closed;
   between = mids_in a.meaning (extra_sound a) s h.rests.1.sound;
   after = turn_in a.meaning (extra_sound a) s h.rests.1.sound;
 }

@@ -1,27 +1,29 @@
--- A turn's answer: the time goes on, timers fall due, and all that is pending stands before the bar.
+-- A turn's answer: the time goes on, what came appends its callbacks, timers fall due, and all that is pending stands before
+-- the bar.
 use Rattle.std.proofs.Common.{◌≡◌, ℕ, ◌<◌, ◌≤◌, ◌+◌, Bool, true, false, ◌&&◌, List, [], ◌∷◌, ◌++◌, Option, Some, None, length, max, ◌∙◌, refl, sym, ap, subst}
 use Rattle.std.proofs.Common.{arith}
 use Rattle.std.proofs.Math.Logic.{∥∥₁_elim}
 use Rattle.std.proofs.lemmas.Bool.{false≢true, leb-true}
 use Rattle.std.proofs.lemmas.List.{length-map}
 use Rattle.std.specs.Coded.{le_prop}
-use Rattle.std.specs.Prelude.{nat_le, nat_lt, filter, is_some, not, min, ◌-◌, ◌^◌}
+use Rattle.std.specs.Prelude.{nat_le, nat_lt, filter, is_none, is_some, not, min, ◌-◌, ◌^◌}
 use Rattle.std.specs.Option.{option_map}
+use Rattle.model_value.specs.Action.{Action}
 use Rattle.model_value.specs.Number.{most}
 use Rattle.model_wire.specs.declared.answer.Answer.TheVariants as answer
-use Rattle.model_wire.specs.Call.{Answer, Item}
+use Rattle.model_wire.specs.declared.watch.Watch.{Watch}
+use Rattle.model_wire.specs.Call.{Answer}
 use Rattle.model_wire.specs.Fits.{fits, are_few, are_awaited}
-use Rattle.model_loop.specs.Handles.{by_deadline, due, fall_due}
+use Rattle.model_loop.specs.Handles.{by_deadline, due, fall_due, soon, soon_all}
 use Rattle.model_loop.specs.Loop.{in_parts}
 use Rattle.model_loop.specs.Parts.{Parts, Timer}
-use Rattle.model_stream.specs.Streams.{no_streams}
-use Rattle.model_machine.specs.Outside.{select, time_of, watched}
+use Rattle.model_machine.specs.Outside.{news_of, select, time_of}
 use Rattle.model_machine.specs.State.{State, unbooked_in}
-use Rattle.model_machine.specs.Turn.{call_of, is_stalled, longest_wait, nothing_comes, wait_of, watched_by, woken_by}
-use Rattle.law_handles.proofs.Appending.{waiting_kept}
+use Rattle.model_machine.specs.Turn.{is_stalled, longest_wait, wait_of, watched_by, woken_by}
+use Rattle.law_handles.proofs.Appending.{kept_soon_all, waiting_kept}
 use Rattle.law_handles.proofs.Running.{keeps_barred}
 use Rattle.law_handles.proofs.Scheduling.{due_ties, keeps_fallen, stall_kept, wait_kept}
-use Rattle.law_handles.specs.Waiting.{stalls_by, wait_by}
+use Rattle.law_handles.specs.Waiting.{is_none_watched, stalls_by, wait_by}
 use Rattle.law_runs.proofs.Turning.{woken_in}
 use Rattle.aio_ready.specs.Queue as queue
 use Rattle.aio_timer.specs.Schedule as schedule
@@ -41,21 +43,14 @@ use Rattle.law_body.proofs.May.{same_prop}
 use Rattle.aio_core.specs.Turning.{IsTime, all_below}
 
 -- ---- what fits is a time
-is_awaited_none : (items : List Item) → are_awaited [] items ≡ true → items ≡ []
-is_awaited_none [] h = refl
-is_awaited_none (it ∷ items) h = absurd (false≢true h)
+first_of_both : (a b : Bool) → (a && b) ≡ true → a ≡ true
+first_of_both true b h = refl
+first_of_both false b h = absurd (false≢true h)
 
-both : (a b : Bool) → (a && b) ≡ true → (a ≡ true) × (b ≡ true)
-both true true h = (refl, refl)
-both true false h = absurd (false≢true h)
-both false b h = absurd (false≢true h)
-
-pub fits_time : (wait : Option ℕ) (it : Answer) → fits (select wait []) it ≡ true → IsTime it
-fits_time wait (answer.Turn now items) h =
-    let a = both (nat_le now most) (are_few items && are_awaited [] items) h in
-    let b = both (are_few items) (are_awaited [] items) a.1 in
-    (leb-true now most a.0, is_awaited_none items b.1)
-fits_time wait _ h = absurd (false≢true h)
+pub fits_time : (wait : Option ℕ) (watched : List Watch) (it : Answer) → fits (select wait watched) it ≡ true → IsTime it
+fits_time wait watched (answer.Turn now items) h =
+    leb-true now most (first_of_both (nat_le now most) (are_few items && are_awaited watched items) h)
+fits_time wait watched _ h = absurd (false≢true h)
 
 -- ---- the time
 pub keeps_timed : (t : Ties) (v : View) (p : Parts) (now : ℕ) → Keeps t v p → Keeps t (record v { time = now }) (record p { time = now })
@@ -150,10 +145,19 @@ fall_due_keeps (timer ∷ timers) p =
       next_stamp = p.next_stamp + 1;
     })
 
+-- ---- what came appends its callbacks
+soon_all_keeps : (actions : List Action) (p : Parts)
+    → ((soon_all actions p).futures ≡ p.futures) × ((soon_all actions p).tasks ≡ p.tasks) × ((soon_all actions p).time ≡ p.time)
+soon_all_keeps [] p = (refl, refl, refl)
+soon_all_keeps (action ∷ actions) p = soon_all_keeps actions (soon action p)
+
 -- ---- all of it
 -- the parts' view after the calls
 abbrev pub timed_view : ℕ → View → View
 timed_view now v = record v { time = now }
+
+abbrev pub news_view : List Action → View → View
+news_view actions v = record v { queue = queue.soon_all actions v.queue }
 
 abbrev pub due_view : ℕ → View → View
 due_view now v = record v {
@@ -164,62 +168,78 @@ due_view now v = record v {
 abbrev pub barred_view : View → View
 barred_view v = record v { queue = queue.barred v.queue }
 
-abbrev pub woken_view : ℕ → View → View
-woken_view now v = barred_view (due_view now (timed_view now v))
+abbrev pub woken_view : List Action → ℕ → View → View
+woken_view actions now v = barred_view (due_view now (news_view actions (timed_view now v)))
 
 due_keeps : (p : Parts) → ((due p).futures ≡ p.futures) × ((due p).tasks ≡ p.tasks) × ((due p).time ≡ p.time)
 due_keeps p =
     fall_due_keeps (by_deadline (filter (λ (timer : Timer). nat_le timer.when p.time) p.timers))
     (record p { timers = filter (λ (timer : Timer). nat_lt p.time timer.when) p.timers })
 
-module _ {X : Type 0} {a : Added X} (c : Setting a) (body : Body X) (s : State a.Kept) (now : ℕ) (few : now ≤ most) where
+module _ {X : Type 0} {a : Added X} (c : Setting a) (body : Body X) (s : State a.Kept) (actions : List Action) (now : ℕ)
+    (few : now ≤ most) where
+  abbrev at_now : View
+  at_now = timed_view now body.parts
+
+  abbrev heard : View
+  heard = news_view actions at_now
+
   abbrev timed : State a.Kept
   timed = unbooked_in (λ p. record p { time = now }) s
 
+  abbrev told : State a.Kept
+  told = unbooked_in (soon_all actions) timed
+
   abbrev fell : State a.Kept
-  fell = unbooked_in due timed
+  fell = unbooked_in due told
 
   timed_stands : (h : Stands None c body s)
-      → Stands None (record c { left = length body.parts.queue.below; bar = h.ties.bar }) (record body { parts = timed_view now body.parts }) timed
-  timed_stands h =
-      stands_timed c body s (timed_view now body.parts) now h.ties.bar h few refl (keeps_timed h.ties body.parts s.loop.parts now h.keeps)
+      → Stands None (record c { left = length body.parts.queue.below; bar = h.ties.bar }) (record body { parts = at_now }) timed
+  timed_stands h = stands_timed c body s at_now now h.ties.bar h few refl (keeps_timed h.ties body.parts s.loop.parts now h.keeps)
 
-  fell_stands : (d : Setting a) (h : Stands None d (record body { parts = timed_view now body.parts }) timed)
-      → Stands None (record d { left = length (due_view now (timed_view now body.parts)).queue.below })
-      (record body { parts = due_view now (timed_view now body.parts) }) fell
-  fell_stands d h =
-      let is = due_keeps timed.loop.parts in
-      stands_left None None d (record body { parts = timed_view now body.parts }) timed (due_view now (timed_view now body.parts)) (in_parts due) h
-      (record {
-        ties = h.ties;
-        keeps = keeps_fallen h.ties (timed_view now body.parts) timed.loop.parts now h.keeps refl;
-        extends = due_ties h.ties timed.loop.parts;
-      })
-      (leaves_handles timed.loop.parts (due timed.loop.parts) is.0 is.1 is.2) (spares_none timed.loop.parts (named_in a timed)) (refl, refl)
+  told_stands : (d : Setting a) (h : Stands None d (record body { parts = at_now }) timed)
+      → Stands None (record d { left = length heard.queue.below }) (record body { parts = heard }) told
+  told_stands d h =
+      let is = soon_all_keeps actions timed.loop.parts in
+      stands_left None None d (record body { parts = at_now }) timed heard (in_parts (soon_all actions)) h
+      (kept_soon_all h.ties at_now timed.loop.parts actions h.keeps)
+      (leaves_handles timed.loop.parts (soon_all actions timed.loop.parts) is.0 is.1 is.2)
+      (spares_none timed.loop.parts (named_in a timed)) (refl, refl)
       refl
 
-  all_stand : (d : Setting a) (h : Stands None d (record body { parts = due_view now (timed_view now body.parts) }) fell)
+  fell_stands : (d : Setting a) (h : Stands None d (record body { parts = heard }) told)
+      → Stands None (record d { left = length (due_view now heard).queue.below }) (record body { parts = due_view now heard })
+      fell
+  fell_stands d h =
+      let is = due_keeps told.loop.parts in
+      stands_left None None d (record body { parts = heard }) told (due_view now heard) (in_parts due) h
+      (record {
+        ties = h.ties;
+        keeps = keeps_fallen h.ties heard told.loop.parts now h.keeps refl;
+        extends = due_ties h.ties told.loop.parts;
+      })
+      (leaves_handles told.loop.parts (due told.loop.parts) is.0 is.1 is.2) (spares_none told.loop.parts (named_in a told))
+      (refl, refl) refl
+
+  all_stand : (d : Setting a) (h : Stands None d (record body { parts = due_view now heard }) fell)
       → Stands None (record d { left = length fell.loop.parts.pending; bar = fell.loop.parts.next_stamp })
-      (record body { parts = woken_view now body.parts }) fell
+      (record body { parts = woken_view actions now body.parts }) fell
   all_stand d h =
-      subst (λ n. Stands None (record d { left = n; bar = fell.loop.parts.next_stamp }) (record body { parts = woken_view now body.parts }) fell)
-      (ap length (waiting_kept h.ties (due_view now (timed_view now body.parts)) fell.loop.parts h.keeps)
-      ∙ length-map fell.loop.parts.pending (handle_as h.ties.known))
-      (stands_timed d (record body { parts = due_view now (timed_view now body.parts) }) fell (woken_view now body.parts) fell.loop.parts.time
-      fell.loop.parts.next_stamp h h.time refl (keeps_barred h.ties (due_view now (timed_view now body.parts)) fell.loop.parts h.keeps))
+      subst (λ n. Stands None (record d { left = n; bar = fell.loop.parts.next_stamp })
+      (record body { parts = woken_view actions now body.parts }) fell)
+      (ap length (waiting_kept h.ties (due_view now heard) fell.loop.parts h.keeps) ∙ length-map fell.loop.parts.pending
+      (handle_as h.ties.known))
+      (stands_timed d (record body { parts = due_view now heard }) fell (woken_view actions now body.parts) fell.loop.parts.time
+      fell.loop.parts.next_stamp h h.time refl (keeps_barred h.ties (due_view now heard) fell.loop.parts h.keeps))
 
   pub wakes : Stands None c body s
       → Stands None (record c { left = length fell.loop.parts.pending; bar = fell.loop.parts.next_stamp })
-      (record body { parts = woken_view now body.parts }) fell
-  wakes h = let first = timed_stands h in let second = fell_stands _ first in all_stand _ second
-
--- what an answer that is a time makes of the parts
-woken_as : (it : Answer) → IsTime it → (p : Parts) → woken_by it p ≡ due (record p { time = max p.time (time_of it) })
-woken_as (answer.Turn now items) h p = rw h.1 refl
-woken_as _ h p = absurd h
+      (record body { parts = woken_view actions now body.parts }) fell
+  wakes h = let first = timed_stands h in let second = told_stands _ first in let third = fell_stands _ second in all_stand _
+      third
 
 most_of : (it : Answer) → IsTime it → time_of it ≤ most
-most_of (answer.Turn now items) h = h.0
+most_of (answer.Turn now items) h = h
 most_of _ h = absurd h
 
 pub later_time : (it : Answer) → IsTime it → (time : ℕ) → time ≤ most → max time (time_of it) ≤ most
@@ -234,13 +254,16 @@ module _ {X : Type 0} {a : Added X} where
   idle_alive body alive = ∥∥₁_elim alive (same_prop body.parts.called None) (λ w. w.1.1.called)
 
   pub wakes_so : (c : Setting a) (body : Body X) (s : State a.Kept) (it : Answer) → IsTime it → IsBetween c body s
-      → IsBetween (all_below c (unbooked_in (woken_by it) s)) (record body { parts = woken_view (max body.parts.time (time_of it)) body.parts })
+      → IsBetween (all_below c (unbooked_in (woken_by it) s))
+      (record body { parts = woken_view (news_of it) (max body.parts.time (time_of it)) body.parts })
       (unbooked_in (woken_by it) s)
   wakes_so c body s it is h = record {
     stands =
-        subst (λ q. Stands None (all_below c (unbooked_in (λ p. q) s)) (record body { parts = woken_view now body.parts }) (unbooked_in (λ p. q) s))
-        (sym same)
-        (wakes c body s now (later_time it is body.parts.time (subst (λ n. n ≤ most) (sym h.stands.keeps.time) h.stands.time)) h.stands);
+        subst (λ q. Stands None (all_below c (unbooked_in (λ p. q) s))
+        (record body { parts = woken_view (news_of it) now body.parts })
+        (unbooked_in (λ p. q) s)) (sym same)
+        (wakes c body s (news_of it) now (later_time it is body.parts.time (subst (λ n. n ≤ most) (sym h.stands.keeps.time)
+        h.stands.time)) h.stands);
     called = h.called;
     running = h.running;
     sound = woken_in a.meaning s it h.sound;
@@ -249,29 +272,40 @@ module _ {X : Type 0} {a : Added X} where
       now : ℕ
       now = max body.parts.time (time_of it)
 
-      same : woken_by it s.loop.parts ≡ due (record s.loop.parts { time = now })
-      same =
-          woken_as it is s.loop.parts
-          ∙ ap (λ n. due (record s.loop.parts { time = max n (time_of it) })) (sym h.stands.keeps.time)
+      same : woken_by it s.loop.parts ≡ due (soon_all (news_of it) (record s.loop.parts { time = now }))
+      same = ap (λ n. due (soon_all (news_of it) (record s.loop.parts { time = max n (time_of it) }))) (sym h.stands.keeps.time)
 
   pub tasks_few : (body : Body X) → Possible a IsBetween body → length body.slots.items < 2 ^ 32
   tasks_few body alive = ∥∥₁_elim alive le_prop (λ w. w.1.1.stands.few)
 
 -- ---- what a turn asks first
-pub stall_then : (idle : Bool) (first : Option ℕ) (none : Bool) → idle ≡ true → (told : Option ℕ) → told ≡ first → is_some told ≡ not none
-    → none ≡ stalls_by idle first []
-stall_then false first none e told same is = absurd (false≢true e)
-stall_then true first none e told same is = at first none (ap is_some (sym same) ∙ is)
-  where
-    at : (o : Option ℕ) (b : Bool) → is_some o ≡ not b → b ≡ stalls_by true o []
-    at None true x = refl
-    at None false x = absurd (false≢true x)
-    at (Some when) true x = absurd (false≢true (sym x))
-    at (Some when) false x = refl
+-- no timer lives
+none_first : (o : Option ℕ) (none : Bool) → is_some o ≡ not none → is_none o ≡ none
+none_first None true is = refl
+none_first None false is = absurd (false≢true is)
+none_first (Some when) true is = absurd (false≢true (sym is))
+none_first (Some when) false is = refl
 
-pub stall_else : (idle : Bool) (first : Option ℕ) → idle ≡ false → false ≡ stalls_by idle first []
-stall_else true first e = absurd (false≢true (sym e))
-stall_else false first e = refl
+twice : (b : Bool) → not (not b) ≡ b
+twice true = refl
+twice false = refl
+
+module _ (idle : Bool) (first told : Option ℕ) (none : Bool) (watched : List Watch) (is_idle : idle ≡ true) (same : told ≡ first)
+    (is : is_some told ≡ not none) where
+  stall_idle : (b : Bool) → none ≡ b → (b && is_none_watched watched) ≡ stalls_by idle first watched
+  stall_idle b e =
+      ap (λ n. n && is_none_watched watched) (sym e ∙ sym (none_first told none is) ∙ ap is_none same)
+      ∙ ap (λ i. i && (is_none first && is_none_watched watched)) (sym is_idle)
+
+  pub stall_then : (some : Bool) → none ≡ true → some ≡ not (is_none_watched watched) → not some ≡ stalls_by idle first watched
+  stall_then some e watches = ap not watches ∙ twice (is_none_watched watched) ∙ stall_idle true e
+
+  pub stall_timer : none ≡ false → false ≡ stalls_by idle first watched
+  stall_timer e = stall_idle false e
+
+pub stall_else : (idle : Bool) (first : Option ℕ) (watched : List Watch) → idle ≡ false → false ≡ stalls_by idle first watched
+stall_else true first watched e = absurd (false≢true (sym e))
+stall_else false first watched e = refl
 
 pub wait_busy : (idle : Bool) (first : Option ℕ) (time : ℕ) → idle ≡ false → Some 0 ≡ wait_by idle first time
 wait_busy true first time e = absurd (false≢true (sym e))
@@ -282,20 +316,13 @@ wait_idle true first time e = refl
 wait_idle false first time e = absurd (false≢true e)
 
 module _ {X : Type 0} {a : Added X} where
-  -- nothing is open, and what is added watches nothing
-  watches_none : (c : Setting a) (body : Body X) (s : State a.Kept) → IsBetween c body s → [] ≡ watched_by a.meaning s
-  watches_none c body s h =
-      ap (λ b. watched (no_streams 0) b) (sym (a.quiet s.extra)) ∙ ap (λ streams. watched streams (a.meaning.watches s.extra)) (sym h.stands.closed)
-
   pub stalls_so : (c : Setting a) (body : Body X) (s : State a.Kept) → IsBetween c body s
-      → stalls_by (queue.is_empty (waiting body.parts.queue)) (schedule.first_when body.parts.schedule.live) [] ≡ is_stalled a.meaning s
-  stalls_so c body s h =
-      sym (stall_kept h.stands.ties body.parts s.loop.parts h.stands.keeps [])
-      ∙ ap (nothing_comes s.loop.parts.pending s.loop.parts.timers) (watches_none c body s h)
+      → stalls_by (queue.is_empty (waiting body.parts.queue)) (schedule.first_when body.parts.schedule.live)
+      (watched_by a.meaning s)
+      ≡ is_stalled a.meaning s
+  stalls_so c body s h = sym (stall_kept h.stands.ties body.parts s.loop.parts h.stands.keeps (watched_by a.meaning s))
 
   pub waits_for : (c : Setting a) (body : Body X) (s : State a.Kept) → IsBetween c body s
-      → select (wait_by (queue.is_empty (waiting body.parts.queue)) (schedule.first_when body.parts.schedule.live) body.parts.time) []
-      ≡ call_of a.meaning s
-  waits_for c body s h =
-      ap (λ w. select w []) (sym (wait_kept h.stands.ties body.parts s.loop.parts h.stands.keeps))
-      ∙ ap (select (wait_of s.loop.parts)) (watches_none c body s h)
+      → wait_by (queue.is_empty (waiting body.parts.queue)) (schedule.first_when body.parts.schedule.live)
+      body.parts.time ≡ wait_of s.loop.parts
+  waits_for c body s h = sym (wait_kept h.stands.ties body.parts s.loop.parts h.stands.keeps)

@@ -2,6 +2,7 @@
 use Rattle.std.specs.Prelude.{◌≡◌, false, []}
 use Rattle.model_stream.specs.Streams.{no_streams}
 use Rattle.model_tree.specs.Syntax.{Program}
+use Rattle.model_machine.specs.Replies.{most_ids}
 use Rattle.aio_flat.specs.Code.{IsCodeOf}
 use Rattle.aio_task.specs.View.{empty}
 use Rattle.aio_transports.specs.Standing.{StandsFor as AreTransports}
@@ -14,7 +15,7 @@ pub record IsEmpty {X : Type 0} (program : Program) (extra : X) (body : Body X) 
   pub slots : body.slots.items ≡ []
   pub timeouts : body.timeouts ≡ []
   pub groups : body.groups ≡ []
-  pub transports : AreTransports body.transports (no_streams 0)
+  pub transports : AreTransports body.transports (no_streams most_ids)
   pub futures : body.futures.items ≡ []
   pub added : body.extra ≡ extra
   pub main_done : body.main_done ≡ false

@@ -5,3 +5,5 @@ pub mod Empty
 pub mod Again
 pub mod Turned
 pub mod Sound
+pub mod News
+pub mod Watched

@@ -1,5 +1,5 @@
 -- The handles of a turn, as pieces of the machine.
-use Rattle.std.specs.Prelude.{◌≡◌, ℕ, Option, Some, None}
+use Rattle.std.specs.Prelude.{◌≡◌, ℕ, Option, Some, None, Result, Ok, Err}
 use Rattle.model_value.specs.Action.{Action}
 use Rattle.model_value.specs.Input.{Input}
 use Rattle.model_says.specs.Says.{step_limit}
@@ -9,8 +9,10 @@ use Rattle.model_machine.specs.Step.{step}
 use Rattle.model_machine.specs.Turn.{effect, run_below}
 use Rattle.model_machine.specs.Went.{Went, Stops}
 use Rattle.law_reach.specs.Changes.{runner_of}
+use Rattle.aio_wire.specs.declared.stop.Stop.{Stop}
 use Rattle.aio_extra.specs.Added.{Added}
 use Rattle.aio_step.specs.declared.steps.Stepped.{Stepped}
+use Rattle.aio_step.specs.declared.steps.Stepped.TheVariants as went
 use Rattle.aio_step.specs.Stepping.{HearsMade, IsCalled, Steps}
 use Rattle.aio_body.specs.declared.body.Body.{Body}
 use Rattle.aio_body.specs.Asking.{Piece, WentBegins}
@@ -50,6 +52,11 @@ acting a action old new =
       says = λ c went it. Steps c new went it;
       begins = WentBegins;
     }
+
+-- one that steps no task goes on, unless it stops the run
+abbrev pub goes_as : {R : Type 0} → Result R Stop → Result Stepped Stop
+goes_as (Ok said) = Ok went.Goes
+goes_as (Err why) = Err why
 
 -- which task it steps, if it does, and with what
 abbrev pub StepsBy : {X : Type 0} → (a : Added X) → Action → Body X → Option (ℕ × Input) → Type 0

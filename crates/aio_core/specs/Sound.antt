@@ -1,7 +1,6 @@
 -- A turn that is sound all along.
 use Rattle.model_says.specs.Says.{step_limit}
 use Rattle.model_machine.specs.Mids.{mids}
-use Rattle.model_machine.specs.Sound.{IsClosed}
 use Rattle.model_machine.specs.State.{State}
 use Rattle.model_machine.specs.Turn.{turn}
 use Rattle.law_inside.specs.InStep.{AreStatesSound}
@@ -9,8 +8,7 @@ use Rattle.law_ends.specs.Ends.{IsLeftSound}
 use Rattle.aio_extra.specs.Added.{Added}
 
 -- Of the machine's turn from this state: each state between two callbacks is sound, and so is the one after it, where the run
--- goes on and where it ends, unless a callback ended it: by a task that ran away, as nothing is open so far.
+-- goes on and where it ends, unless a callback ended it: by a task that ran away, or by a call that had no answer that fits.
 pub record IsTurnSound {X : Type 0} (added : Added X) (s : State added.Kept) : Type 0 where
-  pub closed : IsClosed s
   pub between : AreStatesSound added.meaning (mids step_limit added.meaning s)
   pub after : IsLeftSound added.meaning s (turn step_limit added.meaning s)

@@ -6,6 +6,7 @@ use Rattle.model_wire.specs.Event.{Event}
 use Rattle.model_wire.specs.Journal.{Entry}
 use Rattle.model_wire.specs.Told.{WireSeen}
 use Rattle.model_wire.specs.Trace.{End}
+use Rattle.model_machine.specs.Replies.{most_ids}
 use Rattle.model_machine.specs.State.{State, start}
 use Rattle.model_machine.specs.Turn.{is_stalled}
 use Rattle.aio_extra.specs.Added.{Added}
@@ -35,7 +36,7 @@ pub record StandsFor {X : Type 0} {g : _} (a : Added X) (past : List Event) (lef
 
 -- a run begins, in which what is added keeps nothing so far
 abbrev pub Begins : {X : Type 0} {g : _} → (a : Added X) → a.Kept → Program → Kernel X g → Type 0
-Begins a kept program kernel = (answers : List Entry) → StandsFor a [] answers kernel (start kept program answers)
+Begins a kept program kernel = (answers : List Entry) → StandsFor a [] answers kernel (start most_ids kept program answers)
 
 -- ---- a turn
 abbrev pub stood_for : {X : Type 0} {g : _} → (a : Added X) → Kernel X g → Stood a.Kept

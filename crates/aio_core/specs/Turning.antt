@@ -4,6 +4,7 @@ use Rattle.model_value.specs.Number.{most}
 use Rattle.model_says.specs.Says.{step_limit}
 use Rattle.model_wire.specs.declared.answer.Answer.TheVariants as answer
 use Rattle.model_wire.specs.declared.event.End.TheVariants as end
+use Rattle.model_wire.specs.declared.watch.Watch.{Watch}
 use Rattle.model_wire.specs.Call.{Answer, Call}
 use Rattle.model_wire.specs.Event.{Event, calls_in}
 use Rattle.model_wire.specs.Journal.{Entry, Answered}
@@ -39,13 +40,12 @@ abbrev pub IsAtRest : {X : Type 0} → (a : Added X) → List Event → List Ent
 IsAtRest a past answers body s = (bar : ℕ) × IsBetween (resting a past answers bar) body s
 
 -- ---- what a turn asks
--- a select that watches nothing
 abbrev pub IsSelect : Call → Type 0
-IsSelect it = (wait : Option ℕ) × (it ≡ select wait [])
+IsSelect it = (wait : Option ℕ) × ((watched : List Watch) × (it ≡ select wait watched))
 
--- the answer is a time, and no news
+-- the answer is a time, with news or without
 abbrev pub IsTime : Answer → Type 0
-IsTime (answer.Turn now items) = (now ≤ most) × (items ≡ [])
+IsTime (answer.Turn now items) = now ≤ most
 IsTime _ = ⊥
 
 -- all that is pending stands before the bar

@@ -3,6 +3,7 @@ ghost use Rattle.std.specs.Prelude.{◌≡◌, List, [], None, IfOk, OnOk};
 ghost use Rattle.model_text.specs.SecondPass.{main_text};
 ghost use Rattle.model_wire.specs.Journal.{Entry};
 ghost use Rattle.model_says.specs.Requests.{place_among, place_of};
+ghost use Rattle.model_machine.specs.Replies.{most_ids};
 ghost use Rattle.model_machine.specs.State.{start};
 ghost use Rattle.aio_extra.specs.Added.{KeepsNothing};
 ghost use Rattle.aio_body.specs.Stands.{profile_of as plain_profile_of};
@@ -21,12 +22,15 @@ use aio_transports::Transports;
 use aio_wire::Events;
 use std::alloc::Global;
 
+/// How many listeners can be numbered, and how many connections and children, each kind alone.
+const MOST_IDS: u32 = 4_294_967_295;
+
 /// A run begins at time 0, with main's task, whose first step is pending, and what is called when
 /// it is done.
 pub fn begin<X: Extra + Drop>(alloc: Global, program: &Program, extra: X) -> Result<Body<X>, Memory>
     ensures { IfOk result (λ body. (kept : X.added.Kept) → KeepsNothing X.added extra kept
         → (answers : List Entry)
-        → IsAtRest X.added [] answers body (start kept program.now answers)) }
+        → IsAtRest X.added [] answers body (start most_ids kept program.now answers)) }
 {
     let mut body = empty(alloc, program, extra)?;
     make_main(alloc, program, &mut body)?;
@@ -38,7 +42,7 @@ fn make_main<X: Extra>(alloc: Global, program: &Program, body: &mut Body<X>) -> 
     requires idle { body.old.parts.called ≡ None }
     ensures { OnOk result ((extra : X) (kept : X.added.Kept) → KeepsNothing X.added extra kept
         → IsEmpty program.now extra body.old → (answers : List Entry)
-        → IsAtRest X.added [] answers body.new (start kept program.now answers)) }
+        → IsAtRest X.added [] answers body.new (start most_ids kept program.now answers)) }
 {
     let main = main_of(program)?;
     body.hold(alloc, main, &ValueList::of(Vec::new(alloc)))?;
@@ -63,7 +67,7 @@ fn empty<X: Drop>(alloc: Global, program: &Program, extra: X) -> Result<Body<X>,
         slots: Vec::new(alloc),
         timeouts,
         groups,
-        transports: Transports::new(alloc, 0),
+        transports: Transports::new(alloc, MOST_IDS),
         futures: Vec::new(alloc),
         main_done: false,
         events: Events::new(alloc),

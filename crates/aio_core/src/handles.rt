@@ -1,11 +1,12 @@
 //! The handles of a turn.
-ghost use Rattle.std.specs.Prelude.{◌≡◌, None, Ok, IfOk, OnOk};
+ghost use Rattle.std.specs.Prelude.{◌≡◌, false, None, Ok, IfOk, OnOk};
 ghost use Rattle.model_says.specs.Says.{step_limit};
 ghost use Rattle.model_wire.specs.declared.event.Event.TheVariants as event;
 ghost use Rattle.model_loop.specs.Circles.{circle_fault as plain_circle_fault};
 ghost use Rattle.model_machine.specs.Outcomes.{woken_with as plain_woken_with};
 ghost use Rattle.model_machine.specs.State.{State};
 ghost use Rattle.model_machine.specs.Turn.{effect as plain_effect};
+ghost use Rattle.law_trees.specs.Trees.{is_of_streams};
 ghost use Rattle.law_reach.specs.Changes.{runner_of};
 ghost use Rattle.aio_wire.specs.Events.{pushed};
 ghost use Rattle.aio_exchange.specs.Outside.{outside_of, ported};
@@ -14,13 +15,13 @@ ghost use Rattle.aio_body.specs.Stands.{Setting, IsBetween, Possible};
 ghost use Rattle.aio_body.specs.Taken.{IsNext, IsTaken};
 ghost use Rattle.aio_step.specs.declared.steps.Stepped.TheVariants.{Goes};
 ghost use Rattle.aio_step.specs.Stepping.{Steps, HearsMade, IsCalled};
-ghost use Rattle.aio_core.specs.Running.{StepsBy, acting, running, running_one};
+ghost use Rattle.aio_core.specs.Running.{StepsBy, acting, goes_as, running, running_one};
 
 use crate::copying::copy_of_action;
 use aio_base::{Action, Circle, Exc, Input, Kind, Memory, Outcome, Value, exception};
-use aio_body::{Body, input_of};
+use aio_body::{Body, input_of, or_stop};
 use aio_extra::Extra;
-use aio_serve::{child_done, fire, or_stop};
+use aio_serve::{child_done, fire};
 use aio_step::{Stepped, step};
 use aio_task::Ticket;
 use aio_wire::{Event, Stop, Wire};
@@ -111,8 +112,57 @@ fn act<W: Wire, X: Extra>(
 {
     match stepped_by(body, alloc, action) {
         Ok(Some((task, input))) => step(body, alloc, wire, task, ticket, input),
-        Ok(None) => or_stop(call(body, alloc, action)),
+        Ok(None) => call_back(body, alloc, wire, action),
         Err(Memory) => Err(Stop::Memory),
+    }
+}
+
+// What a handle does that steps no task. One of a listener, a connection or a child may ask the
+// outside.
+fn call_back<W: Wire, X: Extra>(
+    body: &mut Body<X>,
+    alloc: Global,
+    wire: &mut W,
+    action: &Action,
+) -> Result<Stepped, Stop>
+    requires taken { Possible X.added (IsTaken action.now) body.old }
+    requires idle { runner_of action.now ≡ None }
+    ensures { Comes (outside_of W.seen W.fails W.keeps W.quiet)
+        (acting X.added action.now body.old body.new)
+        (ported wire.old body.old.events) (ported wire.new body.new.events) result }
+{
+    match action {
+        Action::StartRead(_)
+        | Action::Lost { .. }
+        | Action::HandlerDone { .. }
+        | Action::ReadableServer(_)
+        | Action::Readable(_)
+        | Action::Writable(_)
+        | Action::Up(_)
+        | Action::Down(_)
+        | Action::WritableChild(_)
+        | Action::ChildItem { .. }
+        | Action::LostChild { .. } => goes(aio_streaming::act(body, alloc, wire, action)),
+        Action::Made(conn) => goes(or_stop(aio_streaming::made(body, alloc, *conn))),
+        Action::Step(_)
+        | Action::StepInCircle { .. }
+        | Action::Wakeup(_)
+        | Action::SleepDone { .. }
+        | Action::GroupDone { .. }
+        | Action::Fires(_)
+        | Action::MainDone
+        | Action::ExtraItem { .. }
+        | Action::Extra(_) => or_stop(call(body, alloc, action)),
+    }
+}
+
+// A handle that steps no task goes on, unless it stops the run.
+fn goes(said: Result<(), Stop>) -> Result<Stepped, Stop>
+    ensures { result ≡ goes_as said }
+{
+    match said {
+        Ok(()) => Ok(Stepped::Goes),
+        Err(stop) => Err(stop),
     }
 }
 
@@ -156,10 +206,11 @@ fn stepped_by<X: Extra>(
     }
 }
 
-// What a handle does that steps no task.
+// What a handle of the loop itself does, or of what is added, that steps no task.
 fn call<X: Extra>(body: &mut Body<X>, alloc: Global, action: &Action) -> Result<Stepped, Memory>
     requires taken { Possible X.added (IsTaken action.now) body.old }
     requires idle { runner_of action.now ≡ None }
+    requires of_loop { is_of_streams action.now ≡ false }
     ensures acts { IfOk result
         (λ went. (c : Setting X.added) (s : State X.added.Kept) → IsTaken action.now c body.old s
         → Steps c body.new went (plain_effect step_limit X.added.meaning action.now s)) }
@@ -193,7 +244,7 @@ fn call<X: Extra>(body: &mut Body<X>, alloc: Global, action: &Action) -> Result<
                 .item(alloc, *code, bytes.items(), &mut body.parts)?;
             Ok(Stepped::Goes)
         }
-        // Steps are no calls, and no listener, connection or child is open so far.
+        // Those of steps, listeners, connections and children are no such calls.
         Action::Step(_)
         | Action::StepInCircle { .. }
         | Action::Wakeup(_)

@@ -6,6 +6,7 @@ mod copying;
 mod ending;
 mod handles;
 mod kernel;
+mod news;
 mod turns;
 mod went;
 

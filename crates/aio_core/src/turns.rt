@@ -1,29 +1,34 @@
 //! A turn of the loop.
-ghost use Rattle.std.specs.Prelude.{◌≡◌, ◌≤◌, ◌⊎◌, ◌&&◌, true, not, length, List, [], IfOk};
+ghost use Rattle.std.specs.Prelude.{◌≡◌, ◌≤◌, ◌⊎◌, ◌&&◌, ◌++◌, true, not, length, List, IfOk, OnOk};
+ghost use Rattle.model_wire.specs.declared.watch.Watch.TheVariants as watch;
 ghost use Rattle.model_wire.specs.Event.{Event};
 ghost use Rattle.model_wire.specs.Journal.{Entry};
 ghost use Rattle.model_loop.specs.Ending.{cancel_everything as plain_cancel_everything};
 ghost use Rattle.model_machine.specs.Outcomes.{finished_as, no_task_lives};
-ghost use Rattle.model_machine.specs.Outside.{select as plain_select, time_of as plain_time_of};
+ghost use Rattle.model_machine.specs.Outside.{time_of as plain_time_of};
 ghost use Rattle.model_machine.specs.State.{State, in_loop, unbooked_in};
-ghost use Rattle.model_machine.specs.Turn.{call_of, cancelled_if, finished_if, is_stalled as plain_is_stalled, turn_over, woken_by};
+ghost use Rattle.model_machine.specs.Turn.{cancelled_if, finished_if, turn_over, woken_by};
+ghost use Rattle.model_machine.specs.Turn.{call_of, is_stalled as plain_is_stalled, wait_of, watched_by};
+ghost use Rattle.model_stream.specs.Watching.{entry_if};
+ghost use Rattle.law_handles.specs.Waiting.{is_none_watched};
 ghost use Rattle.aio_wire.specs.Port.{Exchanges, StopsShort, AlwaysFails, UnlessStopped};
 ghost use Rattle.aio_wire.specs.Replied.{Replied, MayHaveReplied, Stays};
 ghost use Rattle.aio_wire.specs.declared.wire.Reply.{Reply as AnyReply};
 ghost use Rattle.aio_exchange.specs.Outside.{outside_of, ported};
 ghost use Rattle.aio_body.specs.Asking.{Comes};
 ghost use Rattle.aio_body.specs.Stands.{Setting, IsBetween, Possible};
+ghost use Rattle.aio_core.specs.Watched.{StandsOn};
 ghost use Rattle.aio_core.specs.Turning.{AsksBy, IsAtRest, IsSelect, IsTime, Turned, AliveIfWent, ComesTo, OfFailing, StallsAs, StarvesAs, UnlessFailed};
 ghost use Rattle.aio_core.specs.Turning.{all_below, changed_by, said_by, stood_by, turning_by};
 
 use crate::handles::run_below;
+use crate::news::note_news;
 use crate::went::{Went, copy_of_outcome};
 use aio_base::Memory;
-use aio_body::Body;
+use aio_body::{Body, or_stop};
 use aio_extra::Extra;
-use aio_serve::or_stop;
 use aio_step::Stepped;
-use aio_wire::{Answer, Call, Port, Stop, WatchList, Wire};
+use aio_wire::{Answer, Call, Port, Stop, Watch, WatchList, Wire};
 use std::alloc::Global;
 
 /// The longest wait that is asked for, in milliseconds: a day.
@@ -66,10 +71,12 @@ pub fn turn<W: Wire, X: Extra>(
     if is_stalled(body) {
         return Ok(Went::Stalled);
     }
-    let call = first_call(body, alloc);
-    match ask(body, alloc, wire, call) {
-        Ok(answer) => after(body, alloc, wire, &answer, seen),
-        Err(stop) => Err(stop),
+    match first_call(body, alloc) {
+        Ok(call) => match ask(body, alloc, wire, call) {
+            Ok(answer) => after(body, alloc, wire, &answer, seen),
+            Err(stop) => Err(stop),
+        },
+        Err(Memory) => Err(Stop::Memory),
     }
 }
 
@@ -78,30 +85,62 @@ pub fn is_stalled<X: Extra>(body: &Body<X>) -> bool
     ensures { (c : Setting X.added) (s : State X.added.Kept) → IsBetween c body.now s
         → result ≡ plain_is_stalled X.added.meaning s }
 {
-    body.parts.is_empty() && body.parts.earliest().is_none()
+    if !body.parts.is_empty() {
+        return false;
+    }
+    body.parts.earliest().is_none() && !is_watched(body)
 }
 
-// What a turn asks first. Nothing is watched.
-fn first_call<X: Extra>(body: &Body<X>, alloc: Global) -> Call
-    ensures call { (c : Setting X.added) (s : State X.added.Kept) → IsBetween c body.now s
-        → result ≡ call_of X.added.meaning s }
-    ensures shape { IsSelect result }
+// Whether a turn watches anything.
+fn is_watched<X: Extra>(body: &Body<X>) -> bool
+    ensures { (c : Setting X.added) (s : State X.added.Kept) → IsBetween c body.now s
+        → result ≡ not (is_none_watched (watched_by X.added.meaning s)) }
 {
-    select(alloc, wait(body))
+    body.transports.is_watched() || body.extra.watches()
 }
 
-fn select(alloc: Global, wait: Option<u64>) -> Call
-    ensures { result ≡ plain_select wait [] }
+// What a turn asks first.
+fn first_call<X: Extra>(body: &mut Body<X>, alloc: Global) -> Result<Call, Memory>
+    ensures call { IfOk result
+        (λ call. (c : Setting X.added) (s : State X.added.Kept) → IsBetween c body.old s
+        → call ≡ call_of X.added.meaning s) }
+    ensures shape { IfOk result (λ call. IsSelect call) }
+    ensures stands { OnOk result (StandsOn X.added body.old body.new) }
 {
-    let watch = WatchList::of(Vec::new(alloc));
-    Call::Select { wait, watch }
+    let wait = wait(body);
+    let watch = watched(body, alloc)?;
+    Ok(Call::Select { wait, watch })
+}
+
+// What a turn watches: listeners, connections and children in order of opening, and then what is
+// added, where it watches.
+fn watched<X: Extra>(body: &mut Body<X>, alloc: Global) -> Result<WatchList, Memory>
+    ensures list { IfOk result
+        (λ list. (c : Setting X.added) (s : State X.added.Kept) → IsBetween c body.old s
+        → list ≡ watched_by X.added.meaning s) }
+    ensures stands { OnOk result (StandsOn X.added body.old body.new) }
+{
+    let mut entries = Vec::new(alloc);
+    body.transports.watch(&mut entries)?;
+    put_extra(&mut entries, body.extra.watches())?;
+    Ok(WatchList::of(entries))
+}
+
+fn put_extra(entries: &mut Vec<Watch>, watches: bool) -> Result<(), Memory>
+    ensures { OnOk result
+        (entries.new.items ≡ entries.old.items ++ entry_if watches watch.Extra) }
+{
+    if watches {
+        entries.push(Watch::Extra)?;
+    }
+    Ok(())
 }
 
 // How long a turn waits: not at all where something is pending, else until the next deadline, and
 // without a bound where there is none.
 fn wait<X: Extra>(body: &Body<X>) -> Option<u64>
     ensures { (c : Setting X.added) (s : State X.added.Kept) → IsBetween c body.now s
-        → plain_select result [] ≡ call_of X.added.meaning s }
+        → result ≡ wait_of s.loop.parts }
 {
     if !body.parts.is_empty() {
         return Some(0);
@@ -147,28 +186,34 @@ fn after<W: Wire, X: Extra>(
         (turning_by X.added answer.now body.old body.new)
         (ported wire.old body.old.events) (ported wire.new body.new.events) result }
 {
-    wake(body, answer);
-    let done_before = body.main_done;
-    match run_below(body, alloc, wire) {
-        Ok(Stepped::Goes) => or_stop(end_turn(body, done_before, seen)),
-        Ok(Stepped::Runaway(task)) => Ok(Went::Runaway(task)),
-        Err(stop) => Err(stop),
+    match wake(body, alloc, answer) {
+        Ok(()) => {
+            let done_before = body.main_done;
+            match run_below(body, alloc, wire) {
+                Ok(Stepped::Goes) => or_stop(end_turn(body, done_before, seen)),
+                Ok(Stepped::Runaway(task)) => Ok(Went::Runaway(task)),
+                Err(stop) => Err(stop),
+            }
+        }
+        Err(Memory) => Err(Stop::Memory),
     }
 }
 
-// The time goes on, and never back, and timers fall due. All that is pending then stands before the
-// bar. Nothing is watched, so nothing else came.
-fn wake<X: Extra>(body: &mut Body<X>, answer: &Answer)
+// The time goes on, and never back. What came appends its callbacks, and behind them stand the
+// timers that fall due. All that is pending then stands before the bar.
+fn wake<X: Extra>(body: &mut Body<X>, alloc: Global, answer: &Answer) -> Result<(), Memory>
     requires alive { Possible X.added IsBetween body.old }
     requires time { IsTime answer.now }
-    ensures { (c : Setting X.added) (s : State X.added.Kept) → IsBetween c body.old s
+    ensures { OnOk result ((c : Setting X.added) (s : State X.added.Kept) → IsBetween c body.old s
         → IsBetween (all_below c (unbooked_in (woken_by answer.now) s)) body.new
-        (unbooked_in (woken_by answer.now) s) }
+        (unbooked_in (woken_by answer.now) s)) }
 {
     let now = body.parts.now().max(time_of(answer));
     body.parts.set_now(now);
+    note_news(&mut body.parts, alloc, answer)?;
     body.parts.due(now);
     body.parts.set_bar();
+    Ok(())
 }
 
 // After the turn in which main's callback ran, each task that lives is cancelled. The run ends with

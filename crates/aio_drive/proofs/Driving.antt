@@ -11,8 +11,10 @@ use Rattle.model_wire.specs.Journal.{Entry, Answered}
 use Rattle.model_wire.specs.Told.{Agrees, Rose, SinkSeen, WireSeen, took}
 use Rattle.model_wire.specs.Trace.{End, lines_of_events}
 use Rattle.model_machine.specs.Extra.{no_extra}
+use Rattle.model_machine.specs.Replies.{most_ids}
 use Rattle.model_machine.specs.Outcomes.{end_of}
-use Rattle.model_machine.specs.Run.{Run, run, run_after, run_on, turns_over}
+use Rattle.model_machine.specs.Run.{Run, run_after, run_on, turns_over}
+use Rattle.model_program.specs.Runs.{run}
 use Rattle.model_machine.specs.State.{State, start}
 use Rattle.model_machine.specs.Turn.{is_stalled, turn}
 use Rattle.model_machine.specs.Went.{Went, Goes, Stops, answers_in, state_of}
@@ -40,8 +42,10 @@ pub record At {g : _} (program : Program) (how : Manner) (made left : ℕ) (kern
     (rest : List Entry) : Type 0 where
   pub s : State (Unit {0})
   pub stands : StandsFor nothing_added taken rest kernel s
-  pub on : (allowed more : ℕ) → run_on step_limit no_extra allowed (made + more) (start tt program (past ++ rest)) ≡ run_on step_limit no_extra allowed more s
-  pub begun : made ≡ 0 → s ≡ start tt program rest
+  pub on : (allowed more : ℕ)
+      → run_on step_limit no_extra allowed (made + more) (start most_ids tt program (past ++ rest))
+      ≡ run_on step_limit no_extra allowed more s
+  pub begun : made ≡ 0 → s ≡ start most_ids tt program rest
 
 -- A run of a program, driven in this manner, in which some turns were made and others are left: the answers so far, the
 -- events that were taken out, what was seen of the wire first and is now, and what the sink took.
@@ -65,13 +69,14 @@ pub running_first : {g : _} (program : Program) (how : Manner) (kernel : Kernel 
 running_first program how kernel seen sink begins =
     record {
       at = λ rest. record {
-        s = start tt program rest;
+        s = start most_ids tt program rest;
         stands = begins rest;
         on = λ allowed more.
-            let none : 0 + more ≡ more = omega arith in ap (λ n. run_on step_limit no_extra allowed n (start tt program rest)) none;
+            let none : 0 + more ≡ more = omega arith in
+            ap (λ n. run_on step_limit no_extra allowed n (start most_ids tt program rest)) none;
         begun = λ none. refl;
       };
-      none = none-taken kernel (start tt program []) refl (begins []).events;
+      none = none-taken kernel (start most_ids tt program []) refl (begins []).events;
       turns = omega arith;
       told = λ rest agrees. agrees;
       asked = asks_none seen;
@@ -123,7 +128,7 @@ module _ {g : _} {program : Program} {how : Manner} {made left : ℕ} {kernel : 
   -- the run from the start is the run from here
   pub ran : (rest : List Entry) → run program (past ++ rest) how.turns ≡ run_on step_limit no_extra how.turns left (running.at rest).s
   ran rest =
-      ap (λ n. run_on step_limit no_extra how.turns n (start tt program (past ++ rest))) (sym running.turns)
+      ap (λ n. run_on step_limit no_extra how.turns n (start most_ids tt program (past ++ rest))) (sym running.turns)
       ∙ (running.at rest).on how.turns left
 
   -- the turns so far are all that it makes where no more are allowed
@@ -131,7 +136,7 @@ module _ {g : _} {program : Program} {how : Manner} {made left : ℕ} {kernel : 
   ran_so_far rest =
       let here = running.at rest in
       let all : made ≡ made + 0 = omega arith in
-      ap (λ n. (run_on step_limit no_extra made n (start tt program (past ++ rest))).events) all
+      ap (λ n. (run_on step_limit no_extra made n (start most_ids tt program (past ++ rest))).events) all
       ∙ ap (λ (it : Run). it.events) (here.on made 0 ∙ run_on-last made here.s) ∙ told_all rest
 
   -- what was written is a front of the run
@@ -322,8 +327,9 @@ module _ {g : _} {program : Program} {how : Manner} {made left : ℕ} {kernel : 
                 stands = takes_out taken rest now stands;
                 on = λ allowed more.
                     let one : (made + 1) + more ≡ made + suc more = omega arith in
-                    ap (λ n. run_on step_limit no_extra allowed n (start tt program ((past ++ map Answered had) ++ rest))) one
-                    ∙ ap (λ (es : List Entry). run_on step_limit no_extra allowed (made + suc more) (start tt program es)) (sym (regrouped rest))
+                    ap (λ n. run_on step_limit no_extra allowed n (start most_ids tt program ((past ++ map Answered had) ++ rest))) one
+                    ∙ ap (λ (es : List Entry). run_on step_limit no_extra allowed (made + suc more) (start most_ids tt program es))
+                    (sym (regrouped rest))
                     ∙ (running.at (map Answered had ++ rest)).on allowed (suc more)
                     ∙ run_on-turn allowed more (running.at (map Answered had ++ rest)).s (Goes now) went;
                 begun = λ none. absurd (omega arith);

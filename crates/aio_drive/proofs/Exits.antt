@@ -9,6 +9,7 @@ use Rattle.model_wire.specs.Journal.{Entry}
 use Rattle.model_wire.specs.Told.{Rose, SinkSeen, WireSeen}
 use Rattle.model_wire.specs.Trace.{End, lines_of_events}
 use Rattle.model_machine.specs.Extra.{no_extra}
+use Rattle.model_machine.specs.Replies.{most_ids}
 use Rattle.model_machine.specs.State.{State, start}
 use Rattle.model_machine.specs.Turn.{turn}
 use Rattle.model_machine.specs.Went.{Stops}
@@ -36,7 +37,8 @@ use Rattle.aio_drive.proofs.Telling.{records_none}
 use Rattle.aio_drive.proofs.Written.{fails_silent, goes_early, nothing_at_all}
 
 -- a run that begins asks
-pub start-asks : (program : Program) (last : State (Unit {0})) → turn step_limit no_extra (start tt program []) ≡ Stops ends.Stalled last → ⊥
+pub start-asks : (program : Program) (last : State (Unit {0}))
+    → turn step_limit no_extra (start most_ids tt program []) ≡ Stops ends.Stalled last → ⊥
 unfolding turn
 start-asks program last e = cc e
 

@@ -10,8 +10,8 @@ use Rattle.model_wire.specs.Told.{Rose, ShelfSeen, SinkSeen, WireSeen, took}
 use Rattle.model_wire.specs.Trace.{End, end_text, line, lines_of_events}
 use Rattle.model_machine.specs.Outcomes.{end_of}
 use Rattle.model_machine.specs.State.{State}
-use Rattle.model_machine.specs.Written.{WritesWhole}
-use Rattle.model_machine.specs.Transcript.{status_of}
+use Rattle.model_program.specs.Written.{WritesWhole}
+use Rattle.model_program.specs.Transcript.{status_of}
 use Rattle.model_commands.specs.Recorded.{Records, recorded}
 use Rattle.aio_wire.specs.declared.stop.Stop.TheVariants as stop
 use Rattle.aio_extra.specs.Nothing.{nothing_added}

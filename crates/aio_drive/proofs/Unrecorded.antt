@@ -4,7 +4,7 @@ use Rattle.model_tree.specs.Syntax.{Program}
 use Rattle.model_wire.specs.Event.{Event}
 use Rattle.model_wire.specs.Told.{ShelfSeen, SinkSeen, WireSeen}
 use Rattle.model_wire.specs.Trace.{End}
-use Rattle.model_machine.specs.Written.{MayBegin, ProgramOutput, WritesWhole}
+use Rattle.model_program.specs.Written.{MayBegin, ProgramOutput, WritesWhole}
 use Rattle.aio_drive.specs.Drive.{AsksUntil, CutsShort, Driven, DrivenWire, IsUnbegun, IsUntold, MayDrive, MayTell, StopsRecording, TellsAll, TellsUntil, Undisturbed}
 use Rattle.aio_drive.specs.Drive.{driven_over, over_all, over_front, wire_by}
 use Rattle.aio_drive.specs.Outcome.{EndsEarly}

@@ -6,10 +6,11 @@ use Rattle.model_wire.specs.Event.{Event}
 use Rattle.model_wire.specs.Journal.{Entry}
 use Rattle.model_wire.specs.Told.{Agrees, Rose, ShelfSeen, SinkSeen, WireSeen, took}
 use Rattle.model_wire.specs.Trace.{End, end_text, line, lines_of_events}
-use Rattle.model_machine.specs.Program.{output_of}
-use Rattle.model_machine.specs.Run.{Run, run}
-use Rattle.model_machine.specs.Written.{IsFrontOf, ProgramOutput, WritesWhole}
-use Rattle.model_machine.specs.Transcript.{status_of, transcript}
+use Rattle.model_program.specs.Program.{output_of}
+use Rattle.model_machine.specs.Run.{Run}
+use Rattle.model_program.specs.Runs.{run}
+use Rattle.model_program.specs.Written.{IsFrontOf, ProgramOutput, WritesWhole}
+use Rattle.model_program.specs.Transcript.{status_of, transcript}
 use Rattle.model_commands.specs.Recorded.{FailsRecording, Records, recorded}
 use Rattle.aio_record.proofs.Growing.{recorded-append}
 use Rattle.aio_core.specs.Asked.{Asks}

@@ -6,11 +6,12 @@ use Rattle.model_wire.specs.Journal.{Entry}
 use Rattle.model_wire.specs.Told.{Agrees, Rose, SinkSeen, WireSeen, took}
 use Rattle.model_wire.specs.Trace.{End, end_text, line, lines_of_events}
 use Rattle.model_machine.specs.Extra.{no_extra}
-use Rattle.model_machine.specs.Program.{IsOver, output_of}
-use Rattle.model_machine.specs.Run.{run, turns_over}
+use Rattle.model_program.specs.Program.{IsOver, output_of}
+use Rattle.model_machine.specs.Run.{turns_over}
+use Rattle.model_program.specs.Runs.{run}
 use Rattle.model_machine.specs.State.{State}
-use Rattle.model_machine.specs.Written.{IsFrontOf, ProgramOutput}
-use Rattle.model_machine.specs.Transcript.{status_of}
+use Rattle.model_program.specs.Written.{IsFrontOf, ProgramOutput}
+use Rattle.model_program.specs.Transcript.{status_of}
 use Rattle.model_machine.specs.Turn.{is_stalled}
 use Rattle.model_commands.specs.Recorded.{FailsRecording, Records, recorded}
 use Rattle.aio_extra.specs.Nothing.{nothing_added}

@@ -4,7 +4,7 @@ use Rattle.model_wire.specs.declared.event.End.TheVariants as end
 use Rattle.model_wire.specs.Told.{SinkSeen, took}
 use Rattle.model_wire.specs.Trace.{End, end_text, line}
 use Rattle.model_machine.specs.Outcomes.{end_of}
-use Rattle.model_machine.specs.Transcript.{status_of}
+use Rattle.model_program.specs.Transcript.{status_of}
 use Rattle.aio_wire.specs.declared.stop.Stop.TheVariants as stop
 use Rattle.aio_core.specs.declared.went.Went.{Went}
 use Rattle.aio_core.specs.declared.went.Went.TheVariants as went

@@ -1,6 +1,6 @@
 -- How writing stops before all is written, by what may be written.
 use Rattle.model_wire.specs.Told.{SinkSeen}
-use Rattle.model_machine.specs.Written.{ProgramOutput, StopsShort, SinkStops}
+use Rattle.model_program.specs.Written.{ProgramOutput, StopsShort, SinkStops}
 use Rattle.aio_drive.specs.declared.halt.Halt.{Halt}
 use Rattle.aio_drive.specs.declared.halt.Halt.TheVariants.{Memory, Sink}
 

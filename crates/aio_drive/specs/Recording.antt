@@ -7,7 +7,7 @@ use Rattle.model_wire.specs.Told.{ShelfSeen, SinkSeen}
 use Rattle.model_wire.specs.Trace.{End, end_text, line, lines_of_events}
 use Rattle.model_machine.specs.Outcomes.{end_of}
 use Rattle.model_machine.specs.State.{State}
-use Rattle.model_machine.specs.Written.{IsFrontOf}
+use Rattle.model_program.specs.Written.{IsFrontOf}
 use Rattle.model_commands.specs.Recorded.{FailsRecording, Records, recorded}
 use Rattle.aio_wire.specs.declared.stop.Stop.TheVariants as stop
 use Rattle.aio_extra.specs.Nothing.{nothing_added}

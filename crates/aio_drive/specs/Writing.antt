@@ -1,7 +1,7 @@
 -- What a sink has where writing stopped.
 use Rattle.std.specs.Prelude.{◌≡◌, ℕ, List}
 use Rattle.model_wire.specs.Told.{SinkSeen, took, SinkFailed}
-use Rattle.model_machine.specs.Written.{IsFrontOf}
+use Rattle.model_program.specs.Written.{IsFrontOf}
 use Rattle.aio_drive.specs.declared.halt.Halt.{Halt}
 use Rattle.aio_drive.specs.declared.halt.Halt.TheVariants.{Memory, Sink}
 

@@ -2,7 +2,7 @@
 ghost use Rattle.std.specs.Prelude.{◌≡◌, ◌≤◌, None, IfOk, IfErr};
 ghost use Rattle.std.specs.Option.{option_copied};
 ghost use Rattle.model_tree.specs.Syntax.{Program};
-ghost use Rattle.model_machine.specs.Written.{WritesWhole};
+ghost use Rattle.model_program.specs.Written.{WritesWhole};
 ghost use Rattle.aio_extra.specs.Nothing.{nothing_added};
 ghost use Rattle.aio_core.specs.Turned.{Begins, ended};
 ghost use Rattle.aio_drive.specs.Drive.{CutsShort, IsUnbegun, LastOf, MayDrive, MayTell, Undisturbed, WritesLimit, driven_over, over_all, over_front};

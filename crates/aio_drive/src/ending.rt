@@ -1,7 +1,7 @@
 //! How runs end, and their exit status.
 ghost use Rattle.std.specs.Prelude.{◌≡◌};
 ghost use Rattle.model_machine.specs.Outcomes.{end_of};
-ghost use Rattle.model_machine.specs.Transcript.{status_of};
+ghost use Rattle.model_program.specs.Transcript.{status_of};
 
 use aio_base::Outcome;
 use aio_trace::End;

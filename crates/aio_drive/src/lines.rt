@@ -3,7 +3,7 @@ ghost use Rattle.std.specs.Prelude.{◌≡◌, ◌++◌, true, false, IfOk, IfEr
 ghost use Rattle.std.specs.Option.{option_copied};
 ghost use Rattle.model_wire.specs.Told.{took};
 ghost use Rattle.model_wire.specs.Trace.{end_text, line, lines_of_events};
-ghost use Rattle.model_machine.specs.Transcript.{status_of};
+ghost use Rattle.model_program.specs.Transcript.{status_of};
 ghost use Rattle.model_commands.specs.Recorded.{Records, recorded};
 ghost use Rattle.aio_drive.specs.Ending.{StopsLast, StopsTurn, WroteLast, WroteTurn};
 ghost use Rattle.aio_drive.specs.Recording.{CutsTurn, is_refused, telling};

@@ -1,4 +1,4 @@
--- What joined lists weigh, and how deep they are; when a value is in bounds.
+-- When a value is in bounds.
 use Rattle.std.proofs.Common.{◌≡◌, ℕ, ◌+◌, ◌<◌, ◌≤◌, max, Bool, true, false, nat_le, ◌&&◌, if◌then◌else◌, List, [], ◌∷◌, ◌++◌, Ok, Err, refl, ap, ap₂, sym}
 use Rattle.std.proofs.Common.{arith}
 use Rattle.std.proofs.lemmas.Bool.{false≢true, lt-leb, le-leb}
@@ -6,14 +6,6 @@ use Rattle.model_value.specs.Value.{Value, values}
 use Rattle.model_value.specs.Weight.{weight_of, items_weight}
 use Rattle.model_value.specs.Depth.{depth_of, items_depth}
 use Rattle.model_says.specs.Operations.{bounded, heaviest, deepest, out_of_range}
-
-pub items_weight-append : (xs ys : List Value) → items_weight (values (xs ++ ys)) ≡ items_weight (values xs) + items_weight (values ys)
-items_weight-append [] ys = omega arith
-items_weight-append (x ∷ xs) ys = omega (arith, items_weight-append xs ys)
-
-pub items_depth-append : (xs ys : List Value) → items_depth (values (xs ++ ys)) ≡ max (items_depth (values xs)) (items_depth (values ys))
-items_depth-append [] ys = omega arith
-items_depth-append (x ∷ xs) ys = omega (arith, items_depth-append xs ys)
 
 not_le : (a b : ℕ) → b < a → nat_le a b ≡ false
 not_le a b above = lt-leb a b above

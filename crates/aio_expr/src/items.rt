@@ -1,16 +1,14 @@
 //! Lists, and the items of lists and of bytes.
-ghost use Rattle.std.specs.Prelude.{◌≡◌, ◌-◌, ◌^◌, ◌++◌, min, map, OnOk};
+ghost use Rattle.std.specs.Prelude.{◌≡◌, ◌++◌, map};
 ghost use Rattle.model_value.specs.Value.{Items, values};
-ghost use Rattle.model_value.specs.Weight.{items_weight};
-ghost use Rattle.model_value.specs.Depth.{items_depth};
 ghost use Rattle.model_says.specs.Operations.{bounded, indexed, found, item_at, byte_value};
 ghost use Rattle.aio_expr.specs.Places.{place_of};
 ghost use Rattle.aio_expr.specs.Gives.{Gives};
 
 use crate::bounds::{DEEPEST, HEAVIEST, bounded};
 use crate::operation_fault::OperationFault;
-use aio_base::{Value, ValueCase, depth, weight};
-use std::alloc::{AllocError, Global};
+use aio_base::{Value, ValueCase, ValueList};
+use std::alloc::Global;
 
 /// A list of these values.
 pub fn list_of(alloc: Global, items: Vec<Value>) -> Result<Value, OperationFault>
@@ -20,50 +18,20 @@ pub fn list_of(alloc: Global, items: Vec<Value>) -> Result<Value, OperationFault
 }
 
 /// The items of both lists in order. They are weighed before the list is made.
-pub fn joined_lists(alloc: Global, front: &[Value], back: &[Value]) -> Result<Value, OperationFault>
+pub fn joined_lists(
+    alloc: Global,
+    front: &ValueList,
+    back: &ValueList,
+) -> Result<Value, OperationFault>
     ensures { Gives (bounded (Items (values (front.now ++ back.now)))) result }
 {
-    if weight_of_all(front).saturating_add(weight_of_all(back)) >= HEAVIEST {
+    if front.weight().saturating_add(back.weight()) >= HEAVIEST {
         return Err(OperationFault::OutOfRange);
     }
-    if depth_of_all(front).max(depth_of_all(back)) >= DEEPEST {
+    if front.depth().max(back.depth()) >= DEEPEST {
         return Err(OperationFault::OutOfRange);
     }
-    let mut items = Vec::new(alloc);
-    push_copies(&mut items, front)?;
-    push_copies(&mut items, back)?;
-    Ok(Value::list_from(alloc, items)?)
-}
-
-fn push_copies(items: &mut Vec<Value>, from: &[Value]) -> Result<(), AllocError>
-    ensures { OnOk result (items.new.items ≡ items.old.items ++ from.now) }
-{
-    for item in from {
-        items.push(item.clone()?)?;
-    }
-    Ok(())
-}
-
-/// The weight of all items, or 18,446,744,073,709,551,615 where it is more.
-fn weight_of_all(items: &[Value]) -> u64
-    ensures { result ≡ min (items_weight (values items.now)) (2 ^ 64 - 1) }
-{
-    let mut total = 0u64;
-    for item in items {
-        total = total.saturating_add(weight(item));
-    }
-    total
-}
-
-/// The depth of the deepest item, or 18,446,744,073,709,551,615 where it is more.
-fn depth_of_all(items: &[Value]) -> u64
-    ensures { result ≡ min (items_depth (values items.now)) (2 ^ 64 - 1) }
-{
-    let mut deepest = 0u64;
-    for item in items {
-        deepest = deepest.max(depth(item));
-    }
-    deepest
+    Ok(Value::list_joined(alloc, front, back)?)
 }
 
 /// `x[i]`.

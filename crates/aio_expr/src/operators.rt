@@ -44,11 +44,7 @@ fn sum(alloc: Global, left: &Value, right: &Value) -> Result<Value, OperationFau
             a.as_slice(),
             b.as_slice(),
         ),
-        (ValueCase::List(a), ValueCase::List(b)) => joined_lists(
-            alloc,
-            a.as_ref().items(),
-            b.as_ref().items(),
-        ),
+        (ValueCase::List(a), ValueCase::List(b)) => joined_lists(alloc, a.as_ref(), b.as_ref()),
         _ => Err(OperationFault::BadOperand),
     }
 }

@@ -1,5 +1,5 @@
 -- What is added to the loop's own requests, in code and in the machine.
-use Rattle.std.specs.Prelude.{◌≡◌, ℕ, ◌<◌, ◌≤◌, ◌⊎◌, true, false, List, Some, slice_get}
+use Rattle.std.specs.Prelude.{◌≡◌, ℕ, ◌<◌, ◌≤◌, ◌⊎◌, true, List, Some, slice_get}
 use Rattle.model_loop.specs.Futures.{next_future}
 use Rattle.model_loop.specs.Owning.{is_plain, owner_of}
 use Rattle.model_loop.specs.Parts.{Parts}
@@ -36,10 +36,8 @@ pub record Added (X : Type 0) : Type 1 where
   pub made : (t : Ties) (p : Parts) (x : X) (kept : Kept) → stands t p x kept → (id : ℕ) → owns kept id → id < next_future p
   -- its steps keep a loop sound
   pub allowed : MakesAllowedSteps meaning
-  -- a request that goes on waiting for what is done is woken fewer times each time
+  -- a request that is woken and is to be woken again is woken fewer times each time
   pub falls : WakesFall meaning
-  -- it watches nothing of the outside
-  pub quiet : (kept : Kept) → meaning.watches kept ≡ false
 
 -- a script names this future, or it is somebody's own
 abbrev pub IsNamed : (named : List ℕ) → (owned : ℕ → Type 0) → ℕ → Type 0

@@ -11,7 +11,7 @@ use Rattle.aio_task.specs.Keeps.{Ties, Keeps, Extends}
 use Rattle.aio_task.specs.View.{View}
 use Rattle.aio_extra.specs.Added.{Added, IsNamed}
 use Rattle.aio_extra.specs.declared.asked.Asked.{Asked}
-use Rattle.aio_extra.specs.declared.asked.Asked.TheVariants.{Answer, Raise, Wait}
+use Rattle.aio_extra.specs.declared.asked.Asked.TheVariants.{Answer, Raise, Wait, Outside}
 
 -- The parts and the object stand for a state, in which no task runs or this one does. Nothing was taken from the queue.
 pub record IsServed {X : Type 0} (a : Added X) (running : Option ℕ) (t : Ties) (s : State a.Kept) (x : X) (v : View) : Type 0 where
@@ -39,13 +39,14 @@ pub record CallsAs {X : Type 0} (a : Added X) (t : Ties) (s : State a.Kept) (v w
   pub called : w.called ≡ v.called
   pub running : w.running ≡ v.running
 
--- The answer is the machine's. A future that is waited for wasn't let go, and is the own one of what is added, or a script's,
--- or a task's.
+-- The answer is the machine's, and so is what is asked of the outside. A future that is waited for wasn't let go, and is the own
+-- one of what is added, or a script's, or a task's.
 abbrev pub AnswersAs : {X : Type 0} → (a : Added X) → Ties → State a.Kept → Asked → ExtraAnswer → Type 0
 AnswersAs a t s (Answer value) (extra.Answers said) = value ≡ said
 AnswersAs a t s (Raise fault) (extra.Raises said) = fault ≡ said
 AnswersAs a t s (Wait on key) (extra.Waits future kept) =
     (on ≡ future) × (key ≡ kept) × (t.gone on ≡ false) × (is_plain s.loop.parts on ≡ true → IsNamed s.futures (a.owns s.extra) on)
+AnswersAs a t s (Outside code bytes key) (extra.Asks number piece kept) = (code ≡ number) × (bytes ≡ piece) × (key ≡ kept)
 AnswersAs a t s _ _ = ⊥
 
 pub record SaysAs {X : Type 0} (a : Added X) (t : Ties) (s : State a.Kept) (v w : View) (x : X) (asked : Asked)

@@ -1,8 +1,7 @@
 -- Nothing is added.
-use Rattle.std.specs.Prelude.{refl}
+use Rattle.std.specs.Prelude.{refl, Option, Some, None}
 use Rattle.std.proofs.Common.{subst}
-use Rattle.model_machine.specs.Extra as extra
-use Rattle.model_machine.specs.Extra.{ExtraAnswer, WakesFall, no_extra}
+use Rattle.model_machine.specs.Extra.{WakesFall, no_extra}
 use Rattle.law_extras.specs.Allowed.{MakesAllowedSteps}
 use Rattle.aio_extra.specs.Added.{Added}
 
@@ -15,13 +14,13 @@ nothing_allowed = record {
   item = λ code bytes s sound. tt;
 }
 
--- it waits for nothing
-abbrev IsRaise : ExtraAnswer → Type 0
-IsRaise (extra.Raises fault) = Unit {0}
-IsRaise _ = ⊥
+-- no request of it is to be woken
+abbrev IsNone : {A : Type 0} → Option A → Type 0
+IsNone None = Unit {0}
+IsNone (Some it) = ⊥
 
 pub nothing_falls : WakesFall no_extra
-nothing_falls = λ key input s on next e. absurd (subst IsRaise e tt)
+nothing_falls = λ key input s next e. absurd (subst IsNone e tt)
 
 abbrev pub nothing_added : {X : Type 0} → Added X
 nothing_added =
@@ -34,5 +33,4 @@ nothing_added =
       made = λ t p x kept stands id own. absurd own;
       allowed = nothing_allowed;
       falls = nothing_falls;
-      quiet = λ kept. refl;
     }

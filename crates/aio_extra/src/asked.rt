@@ -1,5 +1,5 @@
 //! What comes of a request that is added.
-use aio_base::{Exc, Value};
+use aio_base::{Blob, Exc, Value};
 use aio_task::FutureId;
 
 /// What comes of a request that is added, or of its wait.
@@ -11,4 +11,7 @@ pub enum Asked {
     Raise(Exc),
     /// The task waits for this future, and the request is kept under this key.
     Wait { on: FutureId, key: u64 },
+    /// The outside is asked `extra CODE BYTES`, in the middle of the step, and what it answers wakes
+    /// the request under this key.
+    Outside { code: i64, bytes: Blob, key: u64 },
 }

@@ -1,7 +1,7 @@
 -- What a file has in which answers are recorded, where that stopped.
 use Rattle.std.specs.Prelude.{ℕ, List}
 use Rattle.model_wire.specs.Told.{ShelfSeen}
-use Rattle.model_machine.specs.Written.{IsFrontOf}
+use Rattle.model_program.specs.Written.{IsFrontOf}
 use Rattle.model_commands.specs.Recorded.{Grew, GrewAndFailed}
 use Rattle.aio_record.specs.declared.Unrecorded.{Unrecorded}
 use Rattle.aio_record.specs.declared.Unrecorded.TheVariants.{Memory, File}

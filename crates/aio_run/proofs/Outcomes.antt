@@ -16,10 +16,10 @@ use Rattle.model_wire.specs.Journal.{Entry}
 use Rattle.model_wire.specs.JournalText.{entries_of}
 use Rattle.model_wire.specs.Told.{Agrees, FileFailed, Rose, ShelfSeen, SinkSeen, WireSeen, NoneFailed}
 use Rattle.model_wire.specs.Trace.{line}
-use Rattle.model_machine.specs.Program.{Manner, script_refused, FileSays, JournalSays, JournalBegins, MayRun, MayRunIf, MayRunScript, MayReplay}
-use Rattle.model_machine.specs.Program.{MayCheck, checked, not_run}
-use Rattle.model_machine.specs.Served.{is_served}
-use Rattle.model_machine.specs.Written.{ProgramOutput, WritesWhole}
+use Rattle.model_program.specs.Program.{Manner, script_refused, FileSays, JournalSays, JournalBegins, MayRun, MayRunScript, MayReplay}
+use Rattle.model_program.specs.Program.{MayCheck, checked}
+use Rattle.model_program.specs.Written.{ProgramOutput, WritesWhole}
+use Rattle.model_commands.specs.Outputs.{no_work}
 use Rattle.aio_memwire.specs.declared.buffers.Buffers.{Buffers}
 use Rattle.aio_memwire.specs.JournalWire.{left_of, seen_of}
 use Rattle.aio_memwire.specs.Reading.{IsFront}
@@ -172,9 +172,9 @@ pub line_unwritten : (may : ProgramOutput → Type 0) (none : Type 0) (output : 
     → EndsEarly may none sink sink Memory
 line_unwritten may none output sink allowed = ([], inr (output, allowed, (output.text, refl)), sym (took-nil sink))
 
--- the line of a script that doesn't run so far
-pub not_run_text : not_run.text ≡ codes "! script 1 9\n"
-not_run_text =
+-- the line for the work of a seed
+pub no_work_text : no_work.text ≡ codes "! script 1 9\n"
+no_work_text =
     ap (λ (digits : List ℕ). line (codes "! script " ++ digits ++ codes " " ++ decimal 9)) (decimal_digit 1 (omega arith))
     ∙ ap (λ (digits : List ℕ). line (codes "! script 1 " ++ digits)) (decimal_digit 9 (omega arith))
 
@@ -192,9 +192,9 @@ front_says (Some held) front is =
 
 -- a script's replay, by the rules for its text; reading it changed nothing of the shelf
 pub replay_by_script : (script : Program) (old mid new : ShelfSeen) (name : List ℕ) (how : Manner) → SpellsScript (old.file name) script → mid ≡ old
-    → (output : ProgramOutput) → MayRunIf mid new (is_served script) script how output → MayReplay old new name how output
+    → (output : ProgramOutput) → MayRun mid new script how output → MayReplay old new name how output
 replay_by_script script old mid new name how spells same output may =
-    let here = subst (λ (s : ShelfSeen). MayRunIf s new (is_served script) script how output) same may in
+    let here = subst (λ (s : ShelfSeen). MayRun s new script how output) same may in
     inr (spells.0, spells.1, subst (λ (p : Judged Program). MayRunScript old new p how output) (sym spells.2) here)
 
 pub refused_as : (number cause : ℕ) (why : Cause) (output : ProgramOutput) → cause ≡ cause_number why → Tells (Refused number cause) output

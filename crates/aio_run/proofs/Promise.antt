@@ -1,15 +1,14 @@
 -- From what the program did for its words to the theorem.
-use Rattle.std.proofs.Common.{◌≡◌, ℕ, List, [], ◌++◌, Option, Some, None, Ok, Err, true, false, refl, sym, subst, inl, inr, append-nil, Bool, arith}
+use Rattle.std.proofs.Common.{◌≡◌, ℕ, List, [], ◌++◌, Option, Some, None, Ok, Err, refl, sym, subst, inl, inr, append-nil, arith}
 use Rattle.model_tree.specs.Syntax.{Program}
 use Rattle.model_text.specs.Scripts.{script_of}
 use Rattle.model_text.specs.SecondPass.{Judged}
 use Rattle.model_wire.specs.Event.{Event}
 use Rattle.model_wire.specs.Told.{SinkSeen}
-use Rattle.model_machine.specs.Served.{is_served}
-use Rattle.model_machine.specs.Written.{ProgramOutput, SinkStops, StopsShort, WritesWhole}
+use Rattle.model_program.specs.Written.{ProgramOutput, SinkStops, StopsShort, WritesWhole}
 use Rattle.model_words.specs.Words.{Command, Check, Replay, Run, Work, command_of}
 use Rattle.model_commands.specs.Asked.{Asks}
-use Rattle.model_commands.specs.Outputs.{IsUnbegun, KeepsFiles, KeepsWire, MayRun, MayRunIf, MayRunOver, MayRunScript, MayWrite, Outside, Pace}
+use Rattle.model_commands.specs.Outputs.{IsUnbegun, KeepsFiles, KeepsWire, MayRun, MayRunOver, MayRunScript, MayWrite, Outside, Pace}
 use Rattle.model_commands.specs.Promise.{Behaves, Moment, between, starved, stopped, whole}
 use Rattle.model_commands.specs.Recorded.{recorded}
 use Rattle.model_commands.specs.Telling.{Between, TellsAll, TellsFirstAndOne}
@@ -26,15 +25,10 @@ module _ (seen : Between) (fails : Type 0) (mine more : Option (List ℕ) → Li
   run_wider program pace output (inr (inl (rose, had, told, over, is, tells))) = inr (inl (rose, had, told, over, is, wider _ _ tells))
   run_wider program pace output (inr (inr stops)) = inr (inr stops)
 
-  served_wider : (served : Bool) (program : Program) (pace : Pace) (output : ProgramOutput)
-      → MayRunIf (told_as mine) served program pace output → MayRunIf (told_as more) served program pace output
-  served_wider false program pace output may = may
-  served_wider true program pace output may = run_wider program pace output may
-
   script_wider : (judged : Judged Program) (pace : Pace) (output : ProgramOutput) → MayRunScript (told_as mine) judged pace output
       → MayRunScript (told_as more) judged pace output
   script_wider (Err fault) pace output may = may
-  script_wider (Ok program) pace output may = served_wider (is_served program) program pace output may
+  script_wider (Ok program) pace output may = run_wider program pace output may
 
   over_wider : (script : List ℕ) (pace : Pace) (output : ProgramOutput) → MayRunOver (told_as mine) script pace output
       → MayRunOver (told_as more) script pace output

@@ -13,12 +13,11 @@ use Rattle.model_wire.specs.Call.{Call}
 use Rattle.model_wire.specs.Event.{Event, calls_in, handed_in}
 use Rattle.model_wire.specs.Told.{ShelfSeen, SinkSeen, WireSeen, took}
 use Rattle.model_wire.specs.Trace.{lines_of_events}
-use Rattle.model_machine.specs.Run.{run}
-use Rattle.model_machine.specs.Served.{is_served}
-use Rattle.model_machine.specs.Written.{MayBegin, ProgramOutput, WritesWhole}
+use Rattle.model_program.specs.Runs.{run}
+use Rattle.model_program.specs.Written.{MayBegin, ProgramOutput, WritesWhole}
 use Rattle.model_commands.specs.Asked as plain
 use Rattle.model_commands.specs.Asked.{Asks, AsksOnce}
-use Rattle.model_commands.specs.Outputs.{KeepsOthers, MayRun, MayRunIf, MayRunOver, MayRunScript, Outside, Pace, faulted}
+use Rattle.model_commands.specs.Outputs.{KeepsOthers, MayRun, MayRunOver, MayRunScript, Outside, Pace, faulted}
 use Rattle.model_commands.specs.Outputs as outputs
 use Rattle.model_commands.specs.Recorded.{FailsRecording, Records}
 use Rattle.model_commands.specs.Telling.{Between, TellsAll}
@@ -190,11 +189,11 @@ module _ (program : Program) (how : Manner) (it : Driven) (first mid : SinkSeen)
 pub run_by_script : (script : Program) (old mid new : ShelfSeen) (before after : WireSeen) (name : List ℕ) (fails : Type 0)
     (told : Between → Option (List ℕ) → List Event → Type 0) (pace : Pace) → SpellsScript (old.file name) script → mid ≡ old
     → (output : ProgramOutput)
-    → MayRunIf (record { seen = between mid new before after; fails = fails; told = told (between mid new before after) }) (is_served script) script pace output
+    → MayRun (record { seen = between mid new before after; fails = fails; told = told (between mid new before after) }) script pace output
     → MayRunOver (record { seen = between old new before after; fails = fails; told = told (between old new before after) }) name pace output
 run_by_script script old mid new before after name fails told pace spells same output may =
     let it : ShelfSeen → Outside = λ s. record { seen = between s new before after; fails = fails; told = told (between s new before after) } in
-    let here = subst (λ (s : ShelfSeen). MayRunIf (it s) (is_served script) script pace output) same may in
+    let here = subst (λ (s : ShelfSeen). MayRun (it s) script pace output) same may in
     inr (spells.0, spells.1, subst (λ (p : Judged Program). MayRunScript (it old) p pace output) (sym spells.2) here)
 
 pub run_without : (none : NoScript) (old new : ShelfSeen) (seen : WireSeen) (name : List ℕ) (fails : Type 0)

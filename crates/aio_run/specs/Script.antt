@@ -8,8 +8,8 @@ use Rattle.model_text.specs.FirstPass.{fault_at}
 use Rattle.model_text.specs.Scripts.{script_of}
 use Rattle.model_wire.specs.Told.{ShelfSeen, FileFailed}
 use Rattle.model_wire.specs.Trace.{line}
-use Rattle.model_machine.specs.Written.{ProgramOutput}
-use Rattle.model_machine.specs.Program.{FileSays, script_failed}
+use Rattle.model_program.specs.Written.{ProgramOutput}
+use Rattle.model_program.specs.Program.{FileSays, script_failed}
 use Rattle.aio_run.specs.declared.script.NoScript.{NoScript}
 use Rattle.aio_run.specs.declared.script.NoScript.TheVariants.{Refused, Failed, Memory}
 

@@ -1,8 +1,8 @@
 //! Checking a script.
 ghost use Rattle.std.specs.Prelude.{◌≡◌, IfOk, IfErr};
 ghost use Rattle.model_wire.specs.Told.{NoneFailed};
-ghost use Rattle.model_machine.specs.Program.{MayCheck};
-ghost use Rattle.model_machine.specs.Written.{WritesWhole};
+ghost use Rattle.model_program.specs.Program.{MayCheck};
+ghost use Rattle.model_program.specs.Written.{WritesWhole};
 ghost use Rattle.aio_drive.specs.Outcome.{EndsEarly};
 
 use crate::script::{read_script, refuse};

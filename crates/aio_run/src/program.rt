@@ -1,7 +1,7 @@
 //! What the program does for its words.
 ghost use Rattle.std.specs.Prelude.{◌≡◌, None, IfOk, IfErr, map, string_bytes};
 ghost use Rattle.model_words.specs.Words.{command_of as plain_command_of};
-ghost use Rattle.model_machine.specs.Written.{WritesWhole};
+ghost use Rattle.model_program.specs.Written.{WritesWhole};
 ghost use Rattle.model_commands.specs.Outputs.{IsUnbegun, KeepsFiles, KeepsWire, MayWrite};
 ghost use Rattle.model_commands.specs.Promise.{Behaves};
 ghost use Rattle.aio_drive.specs.Outcome.{EndsEarly};
@@ -22,12 +22,12 @@ use std::alloc::Global;
 /// and writes the transcript; `run SCRIPT` runs it over the wire. In both, `--trace` adds a line
 /// for each call, answer and handle, and `--turns N` allows so many turns. With `--record NAME` a
 /// run appends each answer to that file, those of a turn before the turn's lines are written. So
-/// far `work N` is answered as a script that doesn't run. The statuses: 0, the script was checked,
-/// or main returned; 1, main raised or was cancelled; 2, the words are refused; 3, the script is,
-/// or it doesn't run so far; 4, a line of the journal that is needed is refused; 5, an answer
-/// doesn't fit its call; 6, no answer is left; 7, nothing is pending and nothing can come; 8, a
-/// step has too many statements; 9, the shelf, the wire or the sink failed; 10, as many turns were
-/// made as are allowed; 11, memory was refused.
+/// far `work N` isn't done, and is answered as a script that is refused. The statuses: 0, the
+/// script was checked, or main returned; 1, main raised or was cancelled; 2, the words are refused;
+/// 3, the script is, or a work is asked for; 4, a line of the journal that is needed is refused; 5,
+/// an answer doesn't fit its call; 6, no answer is left; 7, nothing is pending and nothing can
+/// come; 8, a step has too many statements; 9, the shelf, the wire or the sink failed; 10, as many
+/// turns were made as are allowed; 11, memory was refused.
 pub fn aio_main<F: Shelf, W: Wire, K: Sink>(
     alloc: Global,
     words: &Vec<String>,

@@ -1,17 +1,15 @@
 //! Replaying a script over a journal.
 ghost use Rattle.std.specs.Prelude.{◌≡◌, ◌≤◌, IfOk, IfErr};
 ghost use Rattle.model_wire.specs.Told.{NoneFailed};
-ghost use Rattle.model_machine.specs.Program.{MayReplay, MayRun, MayRunIf};
-ghost use Rattle.model_machine.specs.Served.{is_served};
-ghost use Rattle.model_machine.specs.Written.{WritesWhole};
+ghost use Rattle.model_program.specs.Program.{MayReplay, MayRun};
+ghost use Rattle.model_program.specs.Written.{WritesWhole};
 ghost use Rattle.aio_drive.specs.Outcome.{EndsEarly};
 ghost use Rattle.aio_run.specs.Manner.{manner_of};
 
 use crate::script::{read_script, refuse};
-use aio_drive::{Halt, Manner, drive, say};
+use aio_drive::{Halt, Manner, drive};
 use aio_memwire::JournalWire;
 use aio_script::Program;
-use aio_served::is_served;
 use aio_trace::End;
 use aio_wire::{Shelf, Sink};
 use std::alloc::Global;
@@ -40,35 +38,8 @@ pub fn replay<F: Shelf, K: Sink>(
     }
 }
 
-/// Replays a program, if all that it asks is served.
-fn replay_program<F: Shelf, K: Sink>(
-    alloc: Global,
-    program: &Program,
-    journal: &str,
-    manner: Manner,
-    shelf: &mut F,
-    out: &mut K,
-) -> Result<u8, Halt>
-    requires some { 1 ≤ manner.turns }
-    ensures ok { IfOk result (WritesWhole
-        (MayRunIf (F.seen shelf.old) (F.seen shelf.new) (is_served program.now) program.now
-        (manner_of journal.now manner))
-        (K.seen out.old) (K.seen out.new)) }
-    ensures err { IfErr result (EndsEarly
-        (MayRunIf (F.seen shelf.old) (F.seen shelf.new) (is_served program.now) program.now
-        (manner_of journal.now manner))
-        (NoneFailed (F.seen shelf.old) (F.seen shelf.new)) (K.seen out.old) (K.seen out.new)) }
-    ensures files { (F.seen shelf.new).file ≡ (F.seen shelf.old).file }
-{
-    if is_served(program) {
-        replay_served(alloc, program, journal, manner, shelf, out)
-    } else {
-        say(alloc, "! script 1 9\n", 3, out)
-    }
-}
-
 /// Replays a program over a journal.
-fn replay_served<F: Shelf, K: Sink>(
+fn replay_program<F: Shelf, K: Sink>(
     alloc: Global,
     program: &Program,
     journal: &str,

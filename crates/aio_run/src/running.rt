@@ -1,17 +1,15 @@
 //! Running a script over the wire.
 ghost use Rattle.std.specs.Prelude.{◌≡◌, ◌≤◌, IfOk, IfErr};
 ghost use Rattle.std.specs.Option.{option_copied};
-ghost use Rattle.model_machine.specs.Served.{is_served};
-ghost use Rattle.model_machine.specs.Written.{WritesWhole};
+ghost use Rattle.model_program.specs.Written.{WritesWhole};
 ghost use Rattle.model_commands.specs.Asked.{AsksOnce};
-ghost use Rattle.model_commands.specs.Outputs.{KeepsOthers, MayRun, MayRunIf, MayRunOver};
+ghost use Rattle.model_commands.specs.Outputs.{KeepsOthers, MayRun, MayRunOver};
 ghost use Rattle.aio_drive.specs.Outcome.{EndsEarly};
 ghost use Rattle.aio_run.specs.Running.{between, pace_of, told_all, told_until};
 
 use crate::script::{read_script, refuse};
 use aio_drive::{Cut, Halt, Manner, drive_recorded, say};
 use aio_script::Program;
-use aio_served::is_served;
 use aio_trace::End;
 use aio_wire::{Shelf, Sink, Wire};
 use std::alloc::Global;
@@ -47,42 +45,8 @@ pub fn run<F: Shelf, W: Wire, K: Sink>(
     }
 }
 
-/// Runs a program over the wire, if all that it asks is served.
-fn run_program<F: Shelf, W: Wire, K: Sink>(
-    alloc: Global,
-    program: &Program,
-    journal: Option<&str>,
-    manner: Manner,
-    shelf: &mut F,
-    wire: &mut W,
-    out: &mut K,
-) -> Result<u8, Halt>
-    requires some { 1 ≤ manner.turns }
-    ensures ok { IfOk result (WritesWhole
-        (MayRunIf (told_all
-        (between (F.seen shelf.old) (F.seen shelf.new) (W.seen wire.old) (W.seen wire.new))
-        (W.fails wire.old)) (is_served program.now) program.now
-        (pace_of (option_copied journal.entry) manner))
-        (K.seen out.old) (K.seen out.new)) }
-    ensures err { IfErr result (λ halt. EndsEarly
-        (MayRunIf (told_until halt
-        (between (F.seen shelf.old) (F.seen shelf.new) (W.seen wire.old) (W.seen wire.new))
-        (W.fails wire.old)) (is_served program.now) program.now
-        (pace_of (option_copied journal.entry) manner))
-        ((F.seen shelf.new ≡ F.seen shelf.old) × AsksOnce (W.seen wire.old) (W.seen wire.new))
-        (K.seen out.old) (K.seen out.new) halt) }
-    ensures files { KeepsOthers (option_copied journal.entry)
-        (F.seen shelf.old) (F.seen shelf.new) }
-{
-    if is_served(program) {
-        run_served(alloc, program, journal, manner, shelf, wire, out)
-    } else {
-        say(alloc, "! script 1 9\n", 3, out)
-    }
-}
-
 /// Runs a program over the wire. Where its answers can't be recorded it ends there.
-fn run_served<F: Shelf, W: Wire, K: Sink>(
+fn run_program<F: Shelf, W: Wire, K: Sink>(
     alloc: Global,
     program: &Program,
     journal: Option<&str>,

@@ -1,7 +1,7 @@
 //! A script of the shelf, or why there is none.
 ghost use Rattle.std.specs.Prelude.{◌≡◌, IfOk, IfErr, OnOk, string_bytes};
 ghost use Rattle.model_wire.specs.Trace.{line};
-ghost use Rattle.model_machine.specs.Written.{WritesWhole};
+ghost use Rattle.model_program.specs.Written.{WritesWhole};
 ghost use Rattle.aio_drive.specs.Outcome.{EndsEarly};
 ghost use Rattle.aio_run.specs.Script.{SpellsScript, IsMissing, Tells, refusal_text};
 

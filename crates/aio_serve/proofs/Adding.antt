@@ -1,6 +1,6 @@
 -- What is added serves a request, in code as in the machine.
-use Rattle.std.proofs.Common.{◌≡◌, ℕ, ℤ, suc, ◌+◌, ◌-◌, ◌<◌, true, List, [], ◌++◌, Option, Some, None, Result, Ok, Err, length, slice_get, ◌∙◌, refl, sym, ap, subst}
-use Rattle.std.proofs.Common.{append-nil, arith}
+use Rattle.std.proofs.Common.{◌≡◌, ℕ, ℤ, suc, ◌+◌, ◌-◌, ◌<◌, true, List, [], ◌++◌, Option, Some, None, Result, Ok, Err, length}
+use Rattle.std.proofs.Common.{slice_get, ◌∙◌, refl, sym, ap, subst, append-nil, arith}
 use Rattle.std.specs.Prelude.{IfOk, is_none}
 use Rattle.std.proofs.Math.Logic.{∥∥₁_elim, ∥∥₁_map}
 use Rattle.std.proofs.Props.{props}
@@ -10,23 +10,24 @@ use Rattle.model_value.specs.Request.{Request}
 use Rattle.model_wire.specs.Event.{Event}
 use Rattle.model_value.specs.Value.{Exc, Outcome, Value}
 use Rattle.model_value.specs.declared.request.Request.TheVariants as request
+use Rattle.model_wire.specs.declared.call.Call.TheVariants as call
 use Rattle.model_loop.specs.Futures.{future_outcome, is_pending_at, outcome_at}
 use Rattle.model_loop.specs.Sound.{IsSound}
 use Rattle.model_loop.specs.Suspend.{suspend}
 use Rattle.model_loop.specs.Tasks.{next_task}
 use Rattle.model_machine.specs.Arguments.{as_int, as_list}
 use Rattle.model_machine.specs.Extra as extra
-use Rattle.model_machine.specs.Extra.{Extra, ExtraAnswer, ExtraSaid, WakesFall, called}
+use Rattle.model_machine.specs.Extra.{Extra, ExtraAnswer, ExtraSaid, WakesFall, called, key_of}
 use Rattle.model_machine.specs.Outcomes.{input_of}
 use Rattle.model_machine.specs.Replies as plain
-use Rattle.model_machine.specs.Replies.{ended, serves_as, serves_until, waits, woken, woken_within}
+use Rattle.model_machine.specs.Replies.{ended, input_by, serves_as, serves_until, waits, woken, woken_within}
 use Rattle.model_machine.specs.State as standing
 use Rattle.model_machine.specs.State.{State, stands}
 use Rattle.model_machine.specs.Told.{told_in}
 use Rattle.law_extras.specs.Allowed.{IsSaidAllowed}
 use Rattle.law_inside.proofs.Counts.{get_there, lives_within}
 use Rattle.law_kept.proofs.Telling.{outcome_kept, pending_kept}
-use Rattle.law_machine.proofs.Waking.{woken_ends}
+use Rattle.law_machine.proofs.Waking.{asks_alike, woken_ends}
 use Rattle.law_turns.specs.Replied.{RunsSound}
 use Rattle.aio_cancel.specs.Awaitables.{Appended}
 use Rattle.aio_task.specs.Keeps.{Ties}
@@ -63,7 +64,12 @@ use Rattle.law_body.proofs.May.{same_prop}
 use Rattle.law_body.proofs.Rooms.{waits_so}
 use Rattle.law_body.proofs.Slotting.{stands_standing}
 use Rattle.law_body.proofs.Telling.{named_also}
-use Rattle.law_body.proofs.Growing.{decides_begins, reply_begins}
+use Rattle.law_body.proofs.Growing.{decides_begins, replies_begin, reply_begins, row_begins}
+use Rattle.law_reach.proofs.Opened.{decides_comes}
+use Rattle.law_reach.proofs.Rows.{in_answer, in_callback, in_turn}
+use Rattle.law_reach.proofs.Streams.{done_row}
+use Rattle.law_reach.specs.Reaches.{left_by}
+use Rattle.model_stream.specs.Doing as doing
 use Rattle.law_body.proofs.Unasked.{reply_told}
 use Rattle.aio_serve.specs.Adding.{AnswersAgain, AnswersAs, IsAnswering, answered, answering, answering_once, HasAnswer, waking}
 use Rattle.aio_serve.proofs.Again.{answering_again}
@@ -98,7 +104,12 @@ module _ {S : Type 0} (added : Extra S) (falls : WakesFall added) (task : ℕ) w
           → serves_as answer (woken_within added (added.wakes_left key s.extra) task) task now ≡ serves_as answer (woken added task) task now
       at (extra.Answers value) e = refl
       at (extra.Raises fault) e = refl
-      at (extra.Waits on next) e = until on next (falls key input s on next e) (ended now on)
+      at (extra.Waits on next) e = until on next (falls key input s next (ap key_of e)) (ended now on)
+      at (extra.Asks code bytes next) e =
+          let less = falls key input s next (ap key_of e) in
+          asks_alike (call.Extra code bytes) (λ said. woken_within added (added.wakes_left key s.extra) task next (input_by said))
+          (λ said. woken added task next (input_by said)) now
+          (λ said t same. enough (added.wakes_left key s.extra) next (input_by said) t (let is = ap (added.wakes_left next) same in omega (arith, less, is)))
 
 -- an answer only adds events
 pub answered_begins : {S : Type 0} (added : Extra S) (task : ℕ) (it : ExtraAnswer) (s : State S) (events : List Event) → s.events ≡ events
@@ -110,6 +121,12 @@ answered_begins added task (extra.Waits on key) s events same = by (ended s on)
     by : (o : Option Outcome) → ReplyBegins events (serves_until o (woken added task) task on key s)
     by (Some outcome) = decides_begins added task events s same (standing.Serving key) (input_of outcome)
     by None = ([], same ∙ sym (append-nil events))
+answered_begins added task (extra.Asks code bytes key) s events same =
+    replies_begin events (answered added task (extra.Asks code bytes key) s)
+    (row_begins events s (left_by (answered added task (extra.Asks code bytes key) s))
+    (done_row left_by plain.Halts (λ how t. refl) (doing.Asks (call.Extra code bytes) doing.Ends) (λ said. woken added task key (input_by said)) s
+    (λ said t. in_turn added
+    (in_callback added (in_answer added (decides_comes added task (standing.Serving key) (input_by said) t).reaches)))) same)
 
 -- ---- what it may rely on
 module _ {X : Type 0} {a : Added X} where
@@ -189,17 +206,20 @@ module _ {X : Type 0} {a : Added X} (task : ℕ) (c : Setting a) (body : Body X)
   answer_so value (extra.Answers said) h = (h.answers, h.in_step)
   answer_so value (extra.Raises fault) h = absurd h.answers
   answer_so value (extra.Waits on key) h = absurd h.answers
+  answer_so value (extra.Asks code bytes key) h = absurd h.answers
 
   pub raise_so : (fault : Exc) (it : ExtraAnswer) → IsAnswering task (Raise fault) it c body s
       → Says task c body (reply.Raises fault) (answered a.meaning task it s)
   raise_so fault (extra.Raises said) h = (h.answers, h.in_step)
   raise_so fault (extra.Answers value) h = absurd h.answers
   raise_so fault (extra.Waits on key) h = absurd h.answers
+  raise_so fault (extra.Asks code bytes key) h = absurd h.answers
 
   waits_is : (on key : ℕ) (it : ExtraAnswer) → IsAnswering task (Wait on key) it c body s → extra.Waits on key ≡ it
   waits_is on key (extra.Waits future kept) h = ap (λ f. extra.Waits f key) h.answers.0 ∙ ap (extra.Waits future) h.answers.1
   waits_is on key (extra.Answers value) h = absurd h.answers
   waits_is on key (extra.Raises fault) h = absurd h.answers
+  waits_is on key (extra.Asks code bytes other) h = absurd h.answers
 
   -- of a wait, whatever the answer is called
   pub waits_as : (P : ExtraAnswer → Type 0) (on key : ℕ) (it : ExtraAnswer) → IsAnswering task (Wait on key) it c body s

@@ -9,6 +9,7 @@ use Rattle.aio_task.specs.Keeps.{Ties}
 use Rattle.aio_extra.specs.Added.{Added}
 use Rattle.aio_extra.specs.Called as called
 use Rattle.aio_extra.specs.declared.asked.Asked.{Asked}
+use Rattle.aio_extra.specs.declared.asked.Asked.TheVariants as variants
 use Rattle.aio_extra.specs.declared.asked.Asked.TheVariants.{Answer, Raise, Wait}
 use Rattle.aio_body.specs.declared.body.Body.{Body}
 use Rattle.aio_body.specs.Stands.{Setting}
@@ -21,6 +22,7 @@ allowed_again : {S : Type 0} (answers : List Entry) (it : ExtraAnswer) (s : Stat
 allowed_again answers (extra.Answers value) s h = h
 allowed_again answers (extra.Raises fault) s h = h
 allowed_again answers (extra.Waits on key) s h = h
+allowed_again answers (extra.Asks code bytes key) s h = h
 
 module _ {X : Type 0} (a : Added X) (answers : List Entry) where
   answers_again : (t : Ties) (s : State a.Kept) (asked : Asked) (it : ExtraAnswer) → called.AnswersAs a t s asked it
@@ -28,12 +30,19 @@ module _ {X : Type 0} (a : Added X) (answers : List Entry) where
   answers_again t s (Answer value) (extra.Answers said) h = h
   answers_again t s (Answer value) (extra.Raises fault) h = absurd h
   answers_again t s (Answer value) (extra.Waits on key) h = absurd h
+  answers_again t s (Answer value) (extra.Asks code bytes key) h = absurd h
   answers_again t s (Raise fault) (extra.Raises said) h = h
   answers_again t s (Raise fault) (extra.Answers value) h = absurd h
   answers_again t s (Raise fault) (extra.Waits on key) h = absurd h
+  answers_again t s (Raise fault) (extra.Asks code bytes key) h = absurd h
   answers_again t s (Wait on key) (extra.Waits future kept) h = h
   answers_again t s (Wait on key) (extra.Answers value) h = absurd h
   answers_again t s (Wait on key) (extra.Raises fault) h = absurd h
+  answers_again t s (Wait on key) (extra.Asks code bytes other) h = absurd h
+  answers_again t s (variants.Outside code bytes key) (extra.Asks number piece kept) h = h
+  answers_again t s (variants.Outside code bytes key) (extra.Answers value) h = absurd h
+  answers_again t s (variants.Outside code bytes key) (extra.Raises fault) h = absurd h
+  answers_again t s (variants.Outside code bytes key) (extra.Waits on kept) h = absurd h
 
   pub answering_again : (task : ℕ) (asked : Asked) (it : ExtraAnswer) (c : Setting a) (body : Body X) (s : State a.Kept)
       → IsAnswering task asked it c body s → IsAnswering task asked it (with_rest answers c) body (with_answers answers s)

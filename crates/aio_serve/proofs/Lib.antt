@@ -13,4 +13,5 @@ pub mod Grouping
 pub mod Creating
 pub mod Adding
 pub mod Again
-pub mod NoStreams
+pub mod Hearing
+pub mod Owning

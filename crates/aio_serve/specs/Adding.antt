@@ -7,6 +7,7 @@ use Rattle.model_machine.specs.Replies.{decides, serves_as, woken}
 use Rattle.model_machine.specs.State.{State, Serving}
 use Rattle.law_extras.specs.Allowed.{IsAnswerAllowed}
 use Rattle.law_turns.specs.Replied.{RunsSound}
+use Rattle.aio_task.specs.Keeps.{Ties}
 use Rattle.aio_extra.specs.Added.{Added}
 use Rattle.aio_extra.specs.Called as called
 use Rattle.aio_extra.specs.declared.asked.Asked.{Asked}
@@ -41,6 +42,12 @@ pub record AnswersAgain {X : Type 0} {a : Added X} (task : ℕ) (asked : Asked) 
   pub it : ExtraAnswer
   pub answering : IsAnswering task asked it c body now
   pub same : answered a.meaning task it now ≡ machine
+
+-- A request was woken with this, and said that; of the body its parts and what is added changed alone.
+pub record Woke {X : Type 0} (a : Added X) (key : ℕ) (input : Input) (old new : Body X) (asked : Asked) : Type 0 where
+  pub beside : new ≡ record old { parts = new.parts; extra = new.extra }
+  pub says : (t : Ties) (s : State a.Kept) → called.IsServed a old.parts.running t s old.extra old.parts
+      → called.SaysAs a t s old.parts new.parts new.extra asked (a.meaning.wake key input s)
 
 abbrev pub AnswersAs : {X : Type 0} {a : Added X} → ℕ → Setting a → Body X → Answered → plain.RequestReply a.Kept → Type 0
 AnswersAs task c body (Replies said) machine = Says task c body said machine

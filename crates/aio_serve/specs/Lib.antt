@@ -2,4 +2,4 @@ pub mod Alarm
 pub mod Left
 pub mod GoneOn
 pub mod Adding
-pub mod Refusing
+pub mod Own

@@ -1,22 +1,25 @@
 //! Requests that are added to the loop's own.
-ghost use Rattle.std.specs.Prelude.{◌≡◌, IfOk};
+ghost use Rattle.std.specs.Prelude.{◌≡◌, true, IfOk, is_some};
 ghost use Rattle.model_value.specs.declared.request.Request.TheVariants as request;
 ghost use Rattle.model_machine.specs.Extra.{ExtraAnswer};
+ghost use Rattle.model_machine.specs.Replies.{extra_refused as plain_extra_refused, input_by as plain_input_by};
 ghost use Rattle.model_machine.specs.State.{State, Serving};
+ghost use Rattle.aio_exchange.specs.Exchanged.{AsksOne};
 ghost use Rattle.aio_exchange.specs.Outside.{outside_of, ported};
-ghost use Rattle.aio_extra.specs.declared.asked.Asked.TheVariants.{Wait};
+ghost use Rattle.aio_extra.specs.Called.{MayServe};
+ghost use Rattle.aio_extra.specs.declared.asked.Asked.{Asked as AnyAsked};
+ghost use Rattle.aio_extra.specs.declared.asked.Asked.TheVariants.{Outside, Wait};
 ghost use Rattle.aio_body.specs.Asked.{IsDeciding, IsAskingFor};
 ghost use Rattle.aio_body.specs.Asking.{Comes, serving};
 ghost use Rattle.aio_body.specs.Stands.{Setting, Possible};
-ghost use Rattle.aio_serve.specs.Adding.{AnswersAs, HasAnswer, IsAnswering, answered};
+ghost use Rattle.aio_serve.specs.Adding.{AnswersAs, HasAnswer, IsAnswering, Woke, answered};
 ghost use Rattle.aio_serve.specs.Adding.{answering, answering_once, waking};
 
-use crate::table::or_stop;
-use aio_base::{Input, Memory, Value};
-use aio_body::{Body, RequestReply, Standing, as_int, bad_argument, input_of, is_list};
+use aio_base::{Blob, Input, Kind, Memory, Value, exception};
+use aio_body::{Body, RequestReply, Standing, as_int, bad_argument, input_of, is_list, or_stop};
 use aio_extra::{Asked, Extra};
 use aio_task::FutureId;
-use aio_wire::{Stop, Wire};
+use aio_wire::{Answer, Call, Port, Stop, Wire};
 use std::alloc::Global;
 
 /// What comes of an answer of what is added: a reply to the task, or another answer, of a request
@@ -120,7 +123,88 @@ fn answer_one<W: Wire, X: Extra>(
         Asked::Answer(value) => Ok(Answered::Replies(RequestReply::Answers(value))),
         Asked::Raise(fault) => Ok(Answered::Replies(RequestReply::Raises(fault))),
         Asked::Wait { on, key } => or_stop(wait(body, alloc, task, on, key)),
+        Asked::Outside { code, bytes, key } => {
+            ask_outside(body, alloc, wire, task, code, bytes, key)
+        }
     }
+}
+
+// The outside is asked, and what it answers wakes the request, in the same step.
+fn ask_outside<W: Wire, X: Extra>(
+    body: &mut Body<X>,
+    alloc: Global,
+    wire: &mut W,
+    task: u32,
+    code: i64,
+    bytes: Blob,
+    key: u64,
+) -> Result<Answered, Stop>
+    requires { Possible X.added (HasAnswer task (Outside code bytes key)) body.old }
+    ensures { Comes (outside_of W.seen W.fails W.keeps W.quiet)
+        (answering_once X.added task (Outside code bytes key) body.old body.new)
+        (ported wire.old body.old.events) (ported wire.new body.new.events) result }
+{
+    match ask(body, alloc, wire, Call::Extra { code, bytes }) {
+        Ok(answer) => or_stop(hear(body, alloc, key, answer)),
+        Err(stop) => Err(stop),
+    }
+}
+
+// The outside is asked once, and it is noted.
+fn ask<W: Wire, X: Extra>(
+    body: &mut Body<X>,
+    alloc: Global,
+    wire: &mut W,
+    call: Call,
+) -> Result<Answer, Stop>
+    ensures beside { body.new ≡ record body.old { events = body.new.events } }
+    ensures asks { AsksOne (outside_of W.seen W.fails W.keeps W.quiet) call
+        (ported wire.old body.old.events) (ported wire.new body.new.events) result }
+{
+    let mut port = Port::new(wire, &mut body.events);
+    aio_exchange::ask(&mut port, alloc, call)
+}
+
+// The request is woken with what the outside answered.
+fn hear<X: Extra>(
+    body: &mut Body<X>,
+    alloc: Global,
+    key: u64,
+    answer: Answer,
+) -> Result<Answered, Memory>
+    requires runs { is_some body.old.parts.running ≡ true }
+    requires serves { MayServe X.added body.old.parts.running body.old.extra body.old.parts }
+    ensures { IfOk result (λ told. (asked : AnyAsked) × (told ≡ Answered.Again asked)
+        × Woke X.added key (plain_input_by answer) body.old body.new asked) }
+{
+    let input = input_by(alloc, answer)?;
+    let next = body.extra.wake(alloc, key, input, &mut body.parts)?;
+    Ok(Answered::Again(next))
+}
+
+// Bytes, or a refusal: no other answer fits.
+fn input_by(alloc: Global, answer: Answer) -> Result<Input, Memory>
+    ensures { IfOk result (λ input. input ≡ plain_input_by answer) }
+{
+    match &answer {
+        Answer::Extra(bytes) => Ok(Input::Send(Value::bytes_from(alloc, bytes.items())?)),
+        Answer::Refused => extra_refused(alloc),
+        Answer::Turn { now: _, items: _ } => extra_refused(alloc),
+        Answer::Done => extra_refused(alloc),
+        Answer::Conn => extra_refused(alloc),
+        Answer::Again => extra_refused(alloc),
+        Answer::Broken => extra_refused(alloc),
+        Answer::Data(_) => extra_refused(alloc),
+        Answer::Eof => extra_refused(alloc),
+        Answer::Took(_) => extra_refused(alloc),
+        Answer::Child => extra_refused(alloc),
+    }
+}
+
+fn extra_refused(alloc: Global) -> Result<Input, Memory>
+    ensures { IfOk result (λ input. input ≡ plain_extra_refused) }
+{
+    Ok(Input::Throw(exception(alloc, Kind::OSError, "extra refused")?))
 }
 
 // The task waits for the future, or the request is woken at once.

@@ -4,7 +4,6 @@
 mod added;
 mod futures;
 mod groups;
-mod streams;
 mod table;
 mod tasks;
 mod time;
@@ -12,6 +11,7 @@ mod timeouts;
 mod waiting;
 
 pub use added::{Answered, wake};
+pub use aio_body::or_stop;
 pub use groups::{child_done, leave_group};
-pub use table::{or_stop, reply};
+pub use table::reply;
 pub use timeouts::fire;

@@ -19,12 +19,13 @@ use Rattle.aio_body.specs.Outcomes.{reply_of}
 use Rattle.aio_body.specs.Stands.{Setting}
 use Rattle.aio_body.specs.declared.body.Body.{Body}
 use Rattle.aio_body.specs.declared.reply.RequestReply.{RequestReply}
-use Rattle.aio_body.specs.declared.standing.Standing.TheVariants.{Asked, Sleeping, Leaving, Serving}
-use Rattle.aio_serve.specs.Adding.{waking}
+use Rattle.aio_body.specs.declared.standing.Standing.{Standing}
+use Rattle.aio_body.specs.declared.standing.Standing.TheVariants.{Asked, Sleeping}
+use Rattle.aio_streaming.specs.Resuming.{resuming}
 use Rattle.law_body.proofs.Growing.{decides_begins}
 use Rattle.law_body.proofs.Unasked.{decides_told}
 use Rattle.aio_step.specs.Stepping.{DecidesAs, deciding}
-use Rattle.aio_step.proofs.First.{asked_decides, leaving_decides, serving_is, sleeping_decides}
+use Rattle.aio_step.proofs.First.{asked_decides, sleeping_decides}
 
 module _ {X W : Type 0} (a : Added X) (o : Outside W) (laws : IsOutside o) (task : ℕ) (input : Input) (old : Body X) (wire : W) where
   -- the input answers what the coroutine asked
@@ -45,35 +46,38 @@ module _ {X W : Type 0} (a : Added X) (o : Outside W) (laws : IsOutside o) (task
         sleeping_decides timer future task c old at.0 input at.1 h.1 h.0.in_step,
       )))
 
-  -- the exit of a group goes on
-  pub heard_leaving : (group : ℕ) (new : Body X) (result : Result RequestReply Memory)
-      → IfOk result (λ said. (c : Setting a) (s : State a.Kept) → IsDeciding task (plain.Leaving group) c old s
-      → Says task c new said (decides a.meaning (plain.Leaving group) task input s))
-      → Comes o (deciding a task (Leaving group) input old new) (ported wire old.events) (ported wire new.events) (or_stop result)
-  heard_leaving group new result leaves =
-      comes_alone o laws (deciding a task (Leaving group) input old new) (ported wire old.events) (ported wire new.events)
-      (λ c at h. decides_begins a.meaning task (c.past ++ old.events.events) at.0 h.0.in_step.stands.events at.1 input) result refl
-      (IfOk-weaker result _ _ (λ said given c at h.
-      let says = leaving_decides group task c old new at.0 input said at.1 h.1 h.0 (given c at.0) in
-      (decides_told task c new old at.0 h.0.in_step said at.1 input says, says)) leaves)
+  -- the machine's task stood at this alone
+  module _ (code : Standing) (stood : plain.Standing) (is : (other : plain.Standing) → DecidesAs code other → stood ≡ other) where
+    stood_there : (c : Setting a) (s : State a.Kept) (other : plain.Standing) → DecidesAs code other → IsDeciding task other c old s
+        → IsDeciding task stood c old s
+    stood_there c s other d h = subst (λ st. IsDeciding task st c old s) (sym (is other d)) h
 
-  -- a request that was added goes on
-  pub decides_woken : (key : ℕ) (new : Body X) (is : W) (result : Result RequestReply Stop)
-      → Comes o (waking a task key input old new) (ported wire old.events) (ported is new.events) result
-      → Comes o (deciding a task (Serving key) input old new) (ported wire old.events) (ported is new.events) result
-  decides_woken key new is result wakes =
-      comes_goes o laws (deciding a task (Serving key) input old new) [] (ported wire old.events) (ported wire old.events)
-      (λ c s. IsDeciding task (plain.Serving key) c old s) (decides a.meaning (plain.Serving key) task input) (ported is new.events) result
-      (come_none o laws (λ c at. IsDeciding task at.1 c old at.0 × DecidesAs (Serving key) at.1) (ported wire old.events) (ported wire old.events)
-      (λ c at. (next : State a.Kept) × (IsDeciding task (plain.Serving key) c old next
-      × (decides a.meaning at.1 task input at.0 ≡ decides a.meaning (plain.Serving key) task input next))) refl (λ c at h. (
-        told_none old.events.events,
-        (
-          at.0,
-          (
-            subst (λ st. IsDeciding task st c old at.0) (sym (serving_is key at.1 h.1)) h.0,
-            ap (λ st. decides a.meaning st task input at.0) (sym (serving_is key at.1 h.1)),
-          ),
-        ),
-      )))
-      wakes
+    -- what it stood at goes on, and asks nothing
+    pub heard_alone : (new : Body X) (result : Result RequestReply Memory)
+        → IfOk result (λ said. (c : Setting a) (s : State a.Kept) → IsDeciding task stood c old s
+        → Says task c new said (decides a.meaning stood task input s))
+        → (told : Result RequestReply Stop) → told ≡ or_stop result
+        → Comes o (deciding a task code input old new) (ported wire old.events) (ported wire new.events) told
+    heard_alone new result goes told same =
+        subst (Comes o (deciding a task code input old new) (ported wire old.events) (ported wire new.events)) (sym same)
+        (comes_alone o laws (deciding a task code input old new) (ported wire old.events) (ported wire new.events)
+        (λ c at h. decides_begins a.meaning task (c.past ++ old.events.events) at.0 h.0.in_step.stands.events at.1 input) result refl
+        (IfOk-weaker result _ _ (λ said given c at h.
+        let says = subst (λ (st : plain.Standing). Says task c new said (decides a.meaning st task input at.0)) (is at.1 h.1)
+        (given c at.0 (stood_there c at.0 at.1 h.1 h.0)) in
+        (decides_told task c new old at.0 h.0.in_step said at.1 input says, says)) goes))
+
+    -- it goes on, and may ask
+    pub heard_on : (new : Body X) (now : W) (result : Result RequestReply Stop)
+        → Comes o (resuming a task stood input old new) (ported wire old.events) (ported now new.events) result
+        → Comes o (deciding a task code input old new) (ported wire old.events) (ported now new.events) result
+    heard_on new now result goes =
+        comes_goes o laws (deciding a task code input old new) [] (ported wire old.events) (ported wire old.events)
+        (λ c s. IsDeciding task stood c old s) (decides a.meaning stood task input) (ported now new.events) result
+        (come_none o laws (λ c at. IsDeciding task at.1 c old at.0 × DecidesAs code at.1) (ported wire old.events) (ported wire old.events)
+        (λ c at. (next : State a.Kept) × (IsDeciding task stood c old next
+        × (decides a.meaning at.1 task input at.0 ≡ decides a.meaning stood task input next))) refl (λ c at h. (
+          told_none old.events.events,
+          (at.0, (stood_there c at.0 at.1 h.1 h.0, ap (λ st. decides a.meaning st task input at.0) (sym (is at.1 h.1)))),
+        )))
+        goes

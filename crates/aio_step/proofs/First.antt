@@ -18,12 +18,14 @@ use Rattle.law_inside.proofs.Counts.{lives_within}
 use Rattle.law_inside.specs.InStep.{RepliesInStep}
 use Rattle.law_machine.proofs.Kept.{reply_state, decides-keeps}
 use Rattle.aio_timer.specs.declared.live.TimerId.{TimerId}
+use Rattle.aio_transports.specs.Readers.{reader_as}
 use Rattle.aio_gen.specs.declared.generator.Gen.{Gen}
 use Rattle.aio_extra.specs.Added.{Added}
 use Rattle.aio_body.specs.declared.body.Body.{Body}
 use Rattle.aio_body.specs.declared.reply.RequestReply.{RequestReply}
 use Rattle.aio_body.specs.declared.reply.RequestReply.TheVariants as said
-use Rattle.aio_body.specs.declared.standing.Standing.TheVariants.{Asked, Sleeping, Leaving, Serving}
+use Rattle.aio_body.specs.declared.standing.Standing.{Standing}
+use Rattle.aio_body.specs.declared.standing.Standing.TheVariants.{Asked, Sleeping, Leaving, Serving, Connecting, Yielding, Reading, ReadingAll}
 use Rattle.aio_body.specs.Asked.{IsInStep, HasRested, IsDeciding, Says}
 use Rattle.aio_body.specs.Outcomes.{reply_of}
 use Rattle.aio_body.specs.Stands.{Setting, holding}
@@ -60,44 +62,27 @@ module _ {X : Type 0} {a : Added X} where
   sleeping_decides timer future task c body s input (plain.Reading from op on) d h = absurd d
   sleeping_decides timer future task c body s input (plain.ReadingAll from had on) d h = absurd d
 
-pub leaving_is : (group : ℕ) (stood : plain.Standing) → DecidesAs (Leaving group) stood → plain.Leaving group ≡ stood
-leaving_is group plain.Asked d = absurd d
-leaving_is group (plain.Sleeping tag) d = absurd d
-leaving_is group (plain.Leaving id) d = ap plain.Leaving d
-leaving_is group (plain.Serving key) d = absurd d
-leaving_is group (plain.Connecting conn) d = absurd d
-leaving_is group (plain.Yielding whom) d = absurd d
-leaving_is group (plain.Reading from op on) d = absurd d
-leaving_is group (plain.ReadingAll from had on) d = absurd d
+-- what the machine's task stands at, where the code's stands at this: of a sleep the code has no tag
+abbrev pub stood_as : Standing → (other : plain.Standing) → plain.Standing
+stood_as Asked other = plain.Asked
+stood_as (Sleeping timer future) other = other
+stood_as (Leaving group) other = plain.Leaving group
+stood_as (Serving key) other = plain.Serving key
+stood_as (Connecting conn) other = plain.Connecting conn
+stood_as (Yielding whom) other = plain.Yielding whom
+stood_as (Reading from op on) other = plain.Reading (reader_as from) op on
+stood_as (ReadingAll from taken on) other = plain.ReadingAll (reader_as from) taken on
 
-module _ {X : Type 0} {a : Added X} where
-  pub leaving_decides : (group : ℕ) (task : ℕ) (c : Setting a) (old new : Body X) (s : State a.Kept) (input : Input) (it : RequestReply)
-      (stood : plain.Standing)
-      → DecidesAs (Leaving group) stood → IsDeciding task stood c old s
-      → (IsDeciding task (plain.Leaving group) c old s → Says task c new it (decides a.meaning (plain.Leaving group) task input s))
-      → Says task c new it (decides a.meaning stood task input s)
-  leaving_decides group task c old new s input it stood d h go =
-      subst (λ st. Says task c new it (decides a.meaning st task input s)) (leaving_is group stood d)
-      (go (subst (λ st. IsDeciding task st c old s) (sym (leaving_is group stood d)) h))
-
-pub serving_is : (key : ℕ) (stood : plain.Standing) → DecidesAs (Serving key) stood → plain.Serving key ≡ stood
-serving_is key plain.Asked d = absurd d
-serving_is key (plain.Sleeping tag) d = absurd d
-serving_is key (plain.Leaving id) d = absurd d
-serving_is key (plain.Serving kept) d = ap plain.Serving d
-serving_is key (plain.Connecting conn) d = absurd d
-serving_is key (plain.Yielding whom) d = absurd d
-serving_is key (plain.Reading from op on) d = absurd d
-serving_is key (plain.ReadingAll from had on) d = absurd d
-
-module _ {X : Type 0} {a : Added X} where
-  pub serving_decides : (key : ℕ) (task : ℕ) (c : Setting a) (old new : Body X) (s : State a.Kept) (input : Input) (it : RequestReply) (stood : plain.Standing)
-      → DecidesAs (Serving key) stood → IsDeciding task stood c old s
-      → (IsDeciding task (plain.Serving key) c old s → Says task c new it (decides a.meaning (plain.Serving key) task input s))
-      → Says task c new it (decides a.meaning stood task input s)
-  serving_decides key task c old new s input it stood d h go =
-      subst (λ st. Says task c new it (decides a.meaning st task input s)) (serving_is key stood d)
-      (go (subst (λ st. IsDeciding task st c old s) (sym (serving_is key stood d)) h))
+pub stood_is : (code : Standing) (other : plain.Standing) → DecidesAs code other → stood_as code other ≡ other
+stood_is Asked plain.Asked d = refl
+stood_is (Sleeping timer future) (plain.Sleeping tag) d = refl
+stood_is (Leaving group) (plain.Leaving id) d = ap plain.Leaving d
+stood_is (Serving key) (plain.Serving kept) d = ap plain.Serving d
+stood_is (Connecting conn) (plain.Connecting id) d = ap plain.Connecting d
+stood_is (Yielding whom) (plain.Yielding drained) d = ap plain.Yielding d
+stood_is (Reading from op on) (plain.Reading source asked future) d = cc
+stood_is (ReadingAll from taken on) (plain.ReadingAll source had future) d = cc
+stood_is _ _ d = absurd d
 
 -- ---- how the step goes on
 module _ {X : Type 0} {a : Added X} where

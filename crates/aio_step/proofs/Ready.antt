@@ -1,15 +1,10 @@
 -- What a call may do where there is a state that is stood for, whichever it is.
-use Rattle.std.proofs.Common.{◌≡◌, ℕ, ◌<◌, arith, Option, Some, None, length, slice_get, ◌∙◌, refl, sym, ap, subst}
+use Rattle.std.proofs.Common.{◌≡◌, ℕ, ◌<◌, Option, Some, None, length, slice_get, ◌∙◌, refl, sym, ap, subst}
 use Rattle.std.proofs.Math.Logic.{∥∥₁_elim, ∥∥₁_map}
 use Rattle.std.specs.Coded.{le_prop}
 use Rattle.model_value.specs.Input.{Input}
 use Rattle.model_loop.specs.Owning.{owner_at}
 use Rattle.model_loop.specs.Parts.{Parts}
-use Rattle.model_stream.specs.Requests.{StreamReader, OfConn, OfChild}
-use Rattle.model_stream.specs.Streams.{no_streams}
-use Rattle.model_wire.specs.declared.event.Handed.{Handed}
-use Rattle.model_wire.specs.declared.event.Handed.TheVariants as to
-use Rattle.model_machine.specs.Sound.{IsOpenedAt, IsOpenedReader, IsOpenedWriter}
 use Rattle.model_machine.specs.State as plain
 use Rattle.model_machine.specs.State.{State, generator_of}
 use Rattle.law_kept.proofs.Telling.{owner_kept}
@@ -30,7 +25,6 @@ use Rattle.law_body.proofs.May.{same_prop}
 use Rattle.aio_step.specs.declared.steps.Started.{Started}
 use Rattle.aio_step.specs.Stepping.{DecidesAs, HasBegun, IsCalled, begun_in, IsDecidingAs}
 use Rattle.aio_step.proofs.Called.{called_own, called_slot, own_slot}
-use Rattle.aio_step.proofs.First.{leaving_is, serving_is}
 
 -- ---- a step begins
 module _ {X : Type 0} {a : Added X} (task : ℕ) (body : Body X) (may : Possible a (IsCalled task) body) where
@@ -90,45 +84,8 @@ module _ {X : Type 0} {a : Added X} (task : ℕ) (body : Body X) (may : Possible
       no_waits s None e h = h
       no_waits s (Some coroutine) e h = absurd (cc)
 
--- ---- what was opened
-abbrev pub IsOfStreams : Standing → Type 0
-IsOfStreams (Connecting conn) = Unit {0}
-IsOfStreams (Yielding whom) = Unit {0}
-IsOfStreams (Reading from op on) = Unit {0}
-IsOfStreams (ReadingAll from taken on) = Unit {0}
-IsOfStreams Asked = ⊥
-IsOfStreams (Sleeping timer future) = ⊥
-IsOfStreams (Leaving group) = ⊥
-IsOfStreams (Serving key) = ⊥
-
-no_writer : (whom : Handed) → IsOpenedWriter (no_streams 0) whom → ⊥
-no_writer (to.Conn id) opened = omega (arith, opened)
-no_writer (to.Child id) opened = omega (arith, opened)
-
-no_reader : (from : StreamReader) → IsOpenedReader (no_streams 0) from → ⊥
-no_reader (OfConn id) opened = omega (arith, opened)
-no_reader (OfChild pipe id) opened = omega (arith, opened)
-
--- where nothing is open no task stands at what was
-none_opened : (code : Standing) (stood : plain.Standing) → IsOfStreams code → DecidesAs code stood → IsOpenedAt (no_streams 0) stood → ⊥
-none_opened (Connecting conn) (plain.Connecting id) of d opened = omega (arith, opened)
-none_opened (Connecting conn) _ of d opened = d
-none_opened (Yielding whom) (plain.Yielding drained) of d opened = no_writer drained opened
-none_opened (Yielding whom) _ of d opened = d
-none_opened (Reading from op on) (plain.Reading source asked future) of d opened = no_reader source opened
-none_opened (Reading from op on) _ of d opened = d
-none_opened (ReadingAll from taken on) (plain.ReadingAll source had future) of d opened = no_reader source opened
-none_opened (ReadingAll from taken on) _ of d opened = d
-none_opened _ _ of d opened = of
-
+-- ---- what its input means
 module _ {X : Type 0} {a : Added X} where
-  pub opened_never : (task : ℕ) (body : Body X) (code : Standing) → IsOfStreams code → Possible a (IsDecidingAs task code) body → ⊥
-  opened_never task body code of may =
-      ∥∥₁_elim may (λ x y. absurd x) (λ w.
-      none_opened code w.1.1.0 of w.1.1.1.0
-      (subst (λ streams. IsOpenedAt streams w.1.1.0) w.1.1.1.1.in_step.stands.closed w.1.1.1.1.opened))
-
-  -- ---- what its input means
   pub decide_of : (task : ℕ) (input : Input) (old new : Body X) (started : Started) → Possible a (IsCalled task) old
       → ((c : Setting a) (s : State a.Kept) → IsCalled task c old s → HasBegun task input c s started new)
       → Possible a (IsDecidingAs task started.standing) new
@@ -136,11 +93,8 @@ module _ {X : Type 0} {a : Added X} where
       ∥∥₁_map may (λ w. let b = begun w.0 w.1.0 w.1.1 in
       (holding started.coroutine w.0, (begun_in task input w.1.0, ((generator_of task w.1.0).standing, (b.decides, b.deciding)))))
 
-  pub leave_of : (task group : ℕ) (body : Body X) → Possible a (IsDecidingAs task (Leaving group)) body
-      → Possible a (IsDeciding task (plain.Leaving group)) body
-  leave_of task group body may =
-      ∥∥₁_map may (λ w. (w.0, (w.1.0, subst (λ st. IsDeciding task st w.0 body w.1.0) (sym (leaving_is group w.1.1.0 w.1.1.1.0)) w.1.1.1.1)))
-
-  pub wake_of : (task key : ℕ) (body : Body X) → Possible a (IsDecidingAs task (Serving key)) body → Possible a (IsDeciding task (plain.Serving key)) body
-  wake_of task key body may =
-      ∥∥₁_map may (λ w. (w.0, (w.1.0, subst (λ st. IsDeciding task st w.0 body w.1.0) (sym (serving_is key w.1.1.0 w.1.1.1.0)) w.1.1.1.1)))
+  -- where the machine's task stood at this alone
+  pub stood_of : (task : ℕ) (code : Standing) (stood : plain.Standing) → ((other : plain.Standing) → DecidesAs code other → stood ≡ other)
+      → (body : Body X) → Possible a (IsDecidingAs task code) body → Possible a (IsDeciding task stood) body
+  stood_of task code stood is body may =
+      ∥∥₁_map may (λ w. (w.0, (w.1.0, subst (λ st. IsDeciding task st w.0 body w.1.0) (sym (is w.1.1.0 w.1.1.1.0)) w.1.1.1.1)))

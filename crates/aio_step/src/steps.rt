@@ -13,6 +13,7 @@ use aio_body::{Body, RequestReply, Slot, Standing, reply_of};
 use aio_extra::Extra;
 use aio_gen::{Gen, GenOut};
 use aio_serve::{leave_group, or_stop, reply, wake};
+use aio_streaming::{connected, read_all_on, read_on, yielded};
 use aio_task::Ticket;
 use aio_wire::{Stop, Wire};
 use std::alloc::Global;
@@ -61,30 +62,23 @@ pub fn step<W: Wire, X: Extra>(
         standing,
         input,
     } = begin(body, task, ticket, input);
-    match decide(body, alloc, wire, task, &standing, input) {
+    match decide(body, alloc, wire, task, standing, input) {
         Ok(RequestReply::Answers(value)) => {
-            forget_standing(standing);
             serve(body, alloc, wire, task, coroutine, Input::Send(value))
         }
         Ok(RequestReply::Raises(fault)) => {
-            forget_standing(standing);
             serve(body, alloc, wire, task, coroutine, Input::Throw(fault))
         }
         Ok(RequestReply::Rests) => {
-            forget_standing(standing);
             body.put_back(task, coroutine);
             Ok(Stepped::Goes)
         }
         Err(stop) => {
-            forget_standing(standing);
             forget_coroutine(coroutine);
             Err(stop)
         }
     }
 }
-
-// What a task stood at is let go once it was decided by.
-fn forget_standing(_standing: Standing) {}
 
 // A coroutine whose step has ended is let go.
 fn forget_coroutine(_coroutine: Gen) {}
@@ -117,12 +111,12 @@ fn decide<W: Wire, X: Extra>(
     alloc: Global,
     wire: &mut W,
     task: u32,
-    standing: &Standing,
+    standing: Standing,
     input: Input,
 ) -> Result<RequestReply, Stop>
-    requires { Possible X.added (IsDecidingAs task standing.now) body.old }
+    requires { Possible X.added (IsDecidingAs task standing) body.old }
     ensures { Comes (outside_of W.seen W.fails W.keeps W.quiet)
-        (deciding X.added task standing.now input body.old body.new)
+        (deciding X.added task standing input body.old body.new)
         (ported wire.old body.old.events) (ported wire.new body.new.events) result }
 {
     match standing {
@@ -131,21 +125,16 @@ fn decide<W: Wire, X: Extra>(
             timer: _,
             future: _,
         } => Ok(reply_of(input)),
-        Standing::Leaving(group) => or_stop(leave_group(body, alloc, task, *group, input)),
-        Standing::Serving(key) => wake(body, alloc, wire, task, *key, input),
-        // nothing is open so far, so that no task stands at one of these
-        Standing::Connecting(_) => unreachable!(),
-        Standing::Yielding(_) => unreachable!(),
-        Standing::Reading {
-            from: _,
-            op: _,
-            on: _,
-        } => unreachable!(),
-        Standing::ReadingAll {
-            from: _,
-            taken: _,
-            on: _,
-        } => unreachable!(),
+        Standing::Leaving(group) => or_stop(leave_group(body, alloc, task, group, input)),
+        Standing::Serving(key) => wake(body, alloc, wire, task, key, input),
+        Standing::Connecting(conn) => connected(body, alloc, wire, task, conn, input),
+        Standing::Yielding(whom) => or_stop(yielded(body, alloc, task, whom, input)),
+        Standing::Reading { from, op, on } => {
+            or_stop(read_on(body, alloc, task, from, op, on, input))
+        }
+        Standing::ReadingAll { from, taken, on } => {
+            or_stop(read_all_on(body, alloc, task, from, taken, on, input))
+        }
     }
 }
 

@@ -1,6 +1,7 @@
 -- What is watched, by what is kept.
-use Rattle.std.proofs.Common.{◌≡◌, ℕ, ◌+◌, ◌<◌, List, [], ◌∷◌, ◌++◌, Option, Some, None, MatchOption, length, nat_lt, slice_get, take, get_or}
-use Rattle.std.proofs.Common.{◌≤◌, append-nil, ◌∙◌, refl, sym, ap}
+use Rattle.std.proofs.Common.{◌≡◌, ℕ, zero, suc, ◌+◌, ◌<◌, ◌≤◌, ◌==◌, true, false, not, List, [], ◌∷◌, ◌++◌, Option, Some, None, MatchOption}
+use Rattle.std.proofs.Common.{Result, Ok, Err, OnOk, append-nil, get_or, is_some, length, nat_lt, slice_get, take, arith, ◌∙◌, refl, sym, ap}
+use Rattle.std.proofs.Math.Dec.{eqb-suc-zero}
 use Rattle.std.proofs.lemmas.List.{append_assoc, take_all, take_more}
 use Rattle.std.specs.List.{flat_map}
 use Rattle.model_wire.specs.declared.watch.Watch.{Watch}
@@ -62,3 +63,45 @@ module _ (f : PlainOpened → List Watch) where
   pub watched_whole : (xs : List Opened) (i : ℕ) (first after : List Watch) → length xs ≤ i
       → after ≡ first ++ flat_map f (all_opened (take i xs)) → after ≡ first ++ flat_map f (all_opened xs)
   watched_whole xs i first after h is = is ∙ ap (λ ys. first ++ flat_map f (all_opened ys)) (take_all i xs h)
+
+  -- ---- whether any is watched
+  none_before : (here more : List Watch) → (length more == 0) ≡ false → (length (here ++ more) == 0) ≡ false
+  none_before [] more is = is
+  none_before (w ∷ here) more is = eqb-suc-zero (length (here ++ more))
+
+  some_first : (here more : List Watch) → (length here == 0) ≡ false → (length (here ++ more) == 0) ≡ false
+  some_first [] more is = absurd (let bad : ⊥ = cc in bad)
+  some_first (w ∷ here) more is = eqb-suc-zero (length (here ++ more))
+
+  watched_some : (xs : List Opened) (i : ℕ) (d : Opened) → i < length xs → (length (f (opened_as (get_or xs i d))) == 0) ≡ false
+      → (length (flat_map f (all_opened xs)) == 0) ≡ false
+  watched_some [] i d h is = absurd (let bad : ⊥ = omega arith in bad)
+  watched_some (x ∷ xs) zero d h is = some_first (f (opened_as x)) (flat_map f (all_opened xs)) is
+  watched_some (x ∷ xs) (suc i) d h is =
+      none_before (f (opened_as x)) (flat_map f (all_opened xs)) (watched_some xs i d (omega arith) is)
+
+  -- one that is watched was found
+  pub some_watched : (xs : List Opened) (i : ℕ) (d : Opened) (these : List Watch) → i < length xs
+      → (length (f (opened_as (get_or xs i d))) == 0) ≡ false → flat_map f (all_opened xs) ≡ these → true ≡ not (length these == 0)
+  some_watched xs i d these h is all =
+      sym (ap (λ (ys : List Watch). not (length ys == 0)) (sym all) ∙ ap not (watched_some xs i d h is))
+
+-- what an entry says of what it is the entry of
+pub some_entry : (entry : Option Watch) (these : List Watch) → is_some entry ≡ true → entries entry ≡ these → (length these == 0) ≡ false
+some_entry None these some is = absurd (let bad : ⊥ = cc in bad)
+some_entry (Some it) these some is = ap (λ (ys : List Watch). length ys == 0) (sym is)
+
+pub no_entry : (entry : Option Watch) (these : List Watch) → is_some entry ≡ false → entries entry ≡ these → these ≡ []
+no_entry None these none is = sym is
+no_entry (Some it) these none is = absurd (let bad : ⊥ = cc in bad)
+
+-- none is watched
+pub none_watched : (these : List Watch) → these ≡ [] → false ≡ not (length these == 0)
+none_watched these is = sym (ap (λ (ys : List Watch). not (length ys == 0)) is)
+
+-- a look at what is watched leaves what is kept as it is
+pub watched_on : {R E : Type 0} (k : Kept) (first after : List Watch) (result : Result R E)
+    → OnOk result ((s : Streams) → StandsFor k s → after ≡ first ++ watch_list s)
+    → OnOk result ((s : Streams) → StandsFor k s → StandsFor k s × (after ≡ first ++ watch_list s))
+watched_on k first after (Ok done) is = λ s h. (h, is s h)
+watched_on k first after (Err why) is = tt

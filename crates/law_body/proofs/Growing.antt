@@ -1,5 +1,5 @@
 -- Events are only added: with what was told before, whatever is open, begins what the machine leaves.
-use Rattle.std.proofs.Common.{◌≡◌, ℕ, zero, suc, ◌+◌, Bool, false, List, [], ◌∷◌, ◌++◌, length, ◌∙◌, refl, sym, ap, subst, arith}
+use Rattle.std.proofs.Common.{◌≡◌, ℕ, zero, suc, ◌+◌, Bool, false, List, [], ◌∷◌, ◌++◌, length, ◌∙◌, refl, ap, subst, arith}
 use Rattle.model_value.specs.Input.{Input}
 use Rattle.model_value.specs.declared.input.Input.TheVariants.{Send, Throw}
 use Rattle.model_value.specs.Request.{Request}
@@ -11,12 +11,13 @@ use Rattle.model_machine.specs.Replies as plain
 use Rattle.model_machine.specs.Replies.{decides, reply}
 use Rattle.model_machine.specs.State.{Standing, State, generator_of, resumed}
 use Rattle.model_machine.specs.Step.{most_answers, says_of, serve, serve_all, served, taken_as}
-use Rattle.model_machine.specs.Went.{Went, Goes, Stops, answers_in, state_of, went_on}
+use Rattle.model_machine.specs.Went.{Went, Goes, Stops, answers_in, went_on}
 use Rattle.law_changes.proofs.Folds.{fold}
 use Rattle.law_machine.proofs.Counts.{goes_on_same, goes_on_one, goes_on_then, answers-said, answers-ran, answers-got, answers-called}
 use Rattle.law_reach.proofs.Opened.{decides_comes, reply_comes}
 use Rattle.law_reach.proofs.Rows.{in_answer, in_callback, in_turn}
-use Rattle.law_reach.specs.Changes.{StateChange, OfLoop, Says as Speaks, MakesCoroutine, Stands as StandsAt, Resumes, NamesFuture, EndsMain, ChangesExtra, ChangesStreams}
+use Rattle.law_reach.specs.Changes.{StateChange, OfLoop, Says as Speaks, MakesCoroutine, Stands as StandsAt, Resumes, NamesFuture, EndsMain}
+use Rattle.law_reach.specs.Changes.{ChangesExtra, ChangesStreams}
 use Rattle.law_reach.specs.Changes.{Runs, Hears, Calls, MayInRun, made}
 use Rattle.law_reach.specs.Reaches.{InRun, left_by}
 use Rattle.aio_body.specs.Asking.{GoesOn, ReplyBegins, WentBegins}
@@ -61,7 +62,7 @@ pub row_begins : {S : Type 0} (events : List Event) (s t : State S) → InRun s 
 row_begins events s t row same = subst (λ (es : List Event). GoesOn es t.events) same (row_on s t row).0
 
 -- ---- requests
-replies_begin : {S : Type 0} (events : List Event) (it : plain.RequestReply S) → GoesOn events (left_by it).events → ReplyBegins events it
+pub replies_begin : {S : Type 0} (events : List Event) (it : plain.RequestReply S) → GoesOn events (left_by it).events → ReplyBegins events it
 replies_begin events (plain.Answers value now) goes = goes
 replies_begin events (plain.Raises fault now) goes = goes
 replies_begin events (plain.Rests now) goes = goes
@@ -71,13 +72,14 @@ module _ {S : Type 0} (added : Extra S) (task : ℕ) (events : List Event) (s : 
   pub reply_begins : (request : Request) → ReplyBegins events (reply added task request s)
   reply_begins request =
       replies_begin events (reply added task request s)
-      (row_begins events s (left_by (reply added task request s)) (in_turn (in_callback (in_answer (reply_comes added task request s).reaches))) same)
+      (row_begins events s (left_by (reply added task request s))
+      (in_turn added (in_callback added (in_answer added (reply_comes added task request s).reaches))) same)
 
   pub decides_begins : (stood : Standing) (input : Input) → ReplyBegins events (decides added stood task input s)
   decides_begins stood input =
       replies_begin events (decides added stood task input s)
       (row_begins events s (left_by (decides added stood task input s))
-      (in_turn (in_callback (in_answer (decides_comes added task stood input s).reaches))) same)
+      (in_turn added (in_callback added (in_answer added (decides_comes added task stood input s).reaches))) same)
 
 -- ---- steps
 -- whatever comes next only adds events

@@ -129,7 +129,6 @@ module _ {X : Type 0} {a : Added X} where
     few_futures = h.few_futures;
     main_done = h.main_done;
     transports = h.transports;
-    closed = h.closed;
     time = goes.time;
     counts = goes.counts;
     events = h.events;

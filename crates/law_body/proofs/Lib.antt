@@ -18,3 +18,4 @@ pub mod Adding
 pub mod Over
 pub mod Growing
 pub mod Unasked
+pub mod Alone

@@ -87,7 +87,6 @@ module _ {X : Type 0} {a : Added X} where
         few_futures = tells.few_futures;
         main_done = tells.main_done;
         transports = h.transports;
-        closed = h.closed;
         time = h.time;
         counts = h.counts;
         events = tells.events;

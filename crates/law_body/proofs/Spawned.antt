@@ -99,7 +99,6 @@ module _ {X : Type 0} {a : Added X} where
         few_futures = h.few_futures;
         main_done = h.main_done;
         transports = h.transports;
-        closed = h.closed;
         time = subst (λ n. n ≤ most) (sym more.time) h.time;
         counts = more.counts h.counts;
         events = h.events;

@@ -82,13 +82,13 @@ even_told past old new s t row answered left before after =
 
 module _ {X : Type 0} {a : Added X} (task : ℕ) (c : Setting a) (new : Body X) where
   module _ (old : Body X) (s : State a.Kept) (h : IsInStep task c old s) where
-    told_in : (now : State a.Kept) → InAnswer (Some task) s now → IsAnswered s now → now.answers ≡ c.answers → now.events ≡ c.past ++ new.events.events
-        → AreTold [] All old.events.events new.events.events
+    told_in : (now : State a.Kept) → InAnswer a.meaning (Some task) s now → IsAnswered s now → now.answers ≡ c.answers
+        → now.events ≡ c.past ++ new.events.events → AreTold [] All old.events.events new.events.events
     told_in now row answered left told =
-        even_told c.past old.events.events new.events.events s now (in_turn (in_callback (in_answer row))) answered (left ∙ sym h.stands.rest)
-        h.stands.events told
+        even_told c.past old.events.events new.events.events s now
+        (in_turn a.meaning (in_callback a.meaning (in_answer a.meaning row))) answered (left ∙ sym h.stands.rest) h.stands.events told
 
-    told_by : (it : RequestReply) (machine : plain.RequestReply a.Kept) → ComesTo (Some task) s machine → Says task c new it machine
+    told_by : (it : RequestReply) (machine : plain.RequestReply a.Kept) → ComesTo a.meaning (Some task) s machine → Says task c new it machine
         → AreTold [] All old.events.events new.events.events
     told_by (said.Answers value) (plain.Answers v now) comes h = told_in now comes.reaches comes.asks h.1.stands.rest h.1.stands.events
     told_by (said.Raises fault) (plain.Raises f now) comes h = told_in now comes.reaches comes.asks h.1.stands.rest h.1.stands.events

@@ -9,6 +9,7 @@ use Rattle.model_wire.specs.declared.event.Event.TheVariants as event
 use Rattle.model_wire.specs.Event.{Event}
 use Rattle.model_loop.specs.Ways.{is_running, steps}
 use Rattle.model_loop.specs.Parts.{Parts}
+use Rattle.model_machine.specs.Extra.{Extra}
 use Rattle.model_machine.specs.State.{Standing, Asked, Sleeping, Leaving, Serving, Connecting, Yielding, Reading, ReadingAll, State}
 use Rattle.model_machine.specs.Step.{given_up}
 use Rattle.law_changes.proofs.Parts.{parts_of}
@@ -46,42 +47,43 @@ runs_as (action.StepInCircle other circle) task = refl
 runs_as (action.Wakeup other) task = refl
 runs_as _ task = refl
 
-change_within : {S : Type 0} (r : Option ℕ) (change : StateChange S) (s : State S) → MayInCallback r change s → IsWithin r s (made change s)
-change_within r (OfLoop change) s may = quiet r s _ (later_row (parts_of {r = r} (one change may))) refl
-change_within r (Says task text) s may = record {
+change_within : {S : Type 0} (added : Extra S) (r : Option ℕ) (change : StateChange S) (s : State S) → MayInCallback added r change s
+    → IsWithin r s (made change s)
+change_within added r (OfLoop change) s may = quiet r s _ (later_row (parts_of {r = r} (one change may))) refl
+change_within added r (Says task text) s may = record {
   later = later_refl s.loop.parts;
   more = event.Said task text ∷ [];
   events = refl;
   others = λ other h. ap (λ b. b || false) (ap (λ o. is_running o other) (sym may) ∙ h);
 }
-change_within r (Runs it) s may = record {
+change_within added r (Runs it) s may = record {
   later = later_refl s.loop.parts;
   more = event.Ran it ∷ [];
   events = refl;
   others = λ other h. ap (λ b. b || false) (runs_as it other ∙ ap (λ o. is_running o other) may ∙ h);
 }
-change_within r (MakesCoroutine coroutine arguments) s may = quiet r s _ (later_refl s.loop.parts) refl
-change_within r (Stands standing task) s may = quiet r s _ (later_refl s.loop.parts) refl
-change_within r (Resumes fresh task input) s may = quiet r s _ (later_refl s.loop.parts) refl
-change_within r (NamesFuture future) s may = quiet r s _ (later_refl s.loop.parts) refl
-change_within r EndsMain s may = quiet r s _ (later_refl s.loop.parts) refl
-change_within r (ChangesExtra extra) s may = quiet r s _ (later_refl s.loop.parts) refl
-change_within r (ChangesStreams streams) s may = quiet r s _ (later_refl s.loop.parts) refl
-change_within r (Hears call answer left) s may = record {
+change_within added r (MakesCoroutine coroutine arguments) s may = quiet r s _ (later_refl s.loop.parts) refl
+change_within added r (Stands standing task) s may = quiet r s _ (later_refl s.loop.parts) refl
+change_within added r (Resumes fresh task input) s may = quiet r s _ (later_refl s.loop.parts) refl
+change_within added r (NamesFuture future) s may = quiet r s _ (later_refl s.loop.parts) refl
+change_within added r EndsMain s may = quiet r s _ (later_refl s.loop.parts) refl
+change_within added r (ChangesExtra extra) s may = quiet r s _ (later_refl s.loop.parts) refl
+change_within added r (ChangesStreams streams) s may = quiet r s _ (later_refl s.loop.parts) refl
+change_within added r (Hears call answer left) s may = record {
   later = later_refl s.loop.parts;
   more = event.Called call ∷ event.Got answer ∷ [];
   events = append_assoc s.events (event.Called call ∷ []) (event.Got answer ∷ []);
   others = λ other h. refl;
 }
-change_within r (Calls call) s may = record {
+change_within added r (Calls call) s may = record {
   later = later_refl s.loop.parts;
   more = event.Called call ∷ [];
   events = refl;
   others = λ other h. refl;
 }
 
-pub within_row : {S : Type 0} {r : Option ℕ} {s t : State S} → InCallback r s t → IsWithin r s t
-within_row {r = r} row = fold (IsWithin r) (same r) (within_then r) (change_within r) row
+pub within_row : {S : Type 0} (added : Extra S) {r : Option ℕ} {s t : State S} → InCallback added r s t → IsWithin r s t
+within_row added {r = r} row = fold (IsWithin r) (same r) (within_then r) (change_within added r) row
 
 pub later_given_up : (standing : Standing) (p : Parts) → IsLater p (given_up standing p)
 later_given_up Asked p = later_refl p

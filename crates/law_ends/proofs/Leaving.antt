@@ -18,9 +18,9 @@ use Rattle.law_going.proofs.Turning.{pending_turns, turn_row}
 use Rattle.law_ends.specs.Ends.{IsLeftSound, EndsAfter, EndsSound}
 
 -- what was open as the streams were the same
-same_ends : {S : Type 0} (s t : State S) → t.streams ≡ s.streams → (how : End) → EndsIn t how → EndsIn s how
-same_ends s t same how (inl away) = inl away
-same_ends s t same how (inr met) = inr (λ closed. met.0 (same ∙ closed), met.1)
+same_ends : {S : Type 0} (added : Extra S) (s t : State S) → t.streams ≡ s.streams → (how : End) → EndsIn added t how → EndsIn added s how
+same_ends added s t same how (inl away) = inl away
+same_ends added s t same how (inr met) = inr (λ closed nothing. met.0 (same ∙ closed) nothing, met.1)
 
 module _ {S : Type 0} (added : Extra S) (keeps : KeepsSound added) where
   -- ---- a turn
@@ -30,10 +30,10 @@ module _ {S : Type 0} (added : Extra S) (keeps : KeepsSound added) where
       let woken = unbooked_in (woken_by answer) t in
       at (run_pending step_limit added woken) (pending_in added keeps woken (woken_in added t answer sound)) (pending_turns step_limit added woken).ends
     where
-      at : (w : Went S) → LeavesStateSound added w → StopsIn (unbooked_in (woken_by answer) t) w
+      at : (w : Went S) → LeavesStateSound added w → StopsIn added (unbooked_in (woken_by answer) t) w
           → IsLeftSound added s (went_on (turn_over t.main_done) w)
       at (Goes now) left ends = over_left added (IsLeftSound added s) (λ t h. h) (λ how last h. inr h) t.main_done now left
-      at (Stops how last) left ends = inl (same_ends s (unbooked_in (woken_by answer) t) same how ends)
+      at (Stops how last) left ends = inl (same_ends added s (unbooked_in (woken_by answer) t) same how ends)
 
   pub turn_in : (s : State S) → IsStateSound added s → IsLeftSound added s (turn step_limit added s)
   turn_in s = turn_left added (IsLeftSound added s) (λ t h. h) (λ how last h. inr h) s (turned_in s)
@@ -49,5 +49,5 @@ module _ {S : Type 0} (added : Extra S) (keeps : KeepsSound added) where
           → ((t : State S) → InRun first t → IsStateSound added t → EndsSound added first turns t)
           → EndsAfter added first (EndsSound added first turns) w
       at (Goes now) left reaches rest = rest now reaches left
-      at (Stops how last) (inl ends) reaches rest = inl (ends_before row how ends)
+      at (Stops how last) (inl ends) reaches rest = inl (ends_before added row how ends)
       at (Stops how last) (inr left) reaches rest = inr left

@@ -13,14 +13,15 @@ ghost use Rattle.law_replies.specs.Added.{KeepsSound};
 ghost use Rattle.law_reach.specs.Reaches.{StopsIn};
 ghost use Rattle.law_ends.specs.Ends.{IsLeftSound, EndsSound};
 
-/// A callback ends a run in two ways: it steps a task that runs away, or, where something is open,
-/// it asks the outside, which has no answer that fits. So do all callbacks of a turn.
+/// A callback ends a run in two ways: it steps a task that runs away, or, where something is open
+/// or what is added asks, it asks the outside, which has no answer that fits. So do all callbacks
+/// of a turn.
 pub fn callbacks_end_a_run_so<S>()
     ensures callback { (limit : ℕ) (added : Extra S) (handle : Handle) (rest : List Handle)
         (s : State S)
-        → StopsIn s (run_first limit added handle rest s) }
+        → StopsIn added s (run_first limit added handle rest s) }
     ensures pending { (limit : ℕ) (added : Extra S) (s : State S)
-        → StopsIn s (run_pending limit added s) }
+        → StopsIn added s (run_pending limit added s) }
 {}
 
 /// A turn from a sound state leaves a sound state, unless a callback ended the run so: where the
@@ -32,14 +33,14 @@ pub fn a_turn_leaves_a_sound_state<S>()
 {}
 
 /// So the state in which a run ends is sound, for every program and whatever the outside answers,
-/// unless a callback ended it; and so from every sound state on. As a run of a program begins
-/// nothing is open, so there that callback steps a task that runs away.
+/// unless a callback ended it; and so from every sound state on. Where nothing can be opened, and
+/// what is added asks nothing, that callback steps a task that runs away.
 pub fn every_run_ends_sound<S>()
-    ensures nothing_added { (program : Program) (answers : List Entry) (turns : ℕ)
-        → let begun = start tt program answers in EndsSound no_extra begun turns begun }
+    ensures nothing_added { (most : ℕ) (program : Program) (answers : List Entry) (turns : ℕ)
+        → let begun = start most tt program answers in EndsSound no_extra begun turns begun }
     ensures added { (added : Extra S) → KeepsSound added
-        → (state : S) (program : Program) (answers : List Entry) (turns : ℕ)
-        → let begun = start state program answers in EndsSound added begun turns begun }
+        → (most : ℕ) (state : S) (program : Program) (answers : List Entry) (turns : ℕ)
+        → let begun = start most state program answers in EndsSound added begun turns begun }
     ensures from_any { (added : Extra S) → KeepsSound added
         → (s : State S) → IsStateSound added s → (turns : ℕ) → EndsSound added s turns s }
 {}

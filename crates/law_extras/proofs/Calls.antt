@@ -1,5 +1,6 @@
 -- What is added makes allowed steps alone: then its requests, their waits, its handles and its news keep states sound.
-use Rattle.std.proofs.Common.{◌≡◌, ℕ, ℤ, ◌<◌, zero, suc, Bool, true, false, List, [], Option, Some, None, length, refl, sym, ap, subst, ◌∙◌}
+use Rattle.std.proofs.Common.{◌≡◌, ℕ, ℤ, ◌<◌, zero, suc, Bool, true, false, List, [], ◌∷◌, ◌++◌, Option, Some, None, length, slice_index_or, refl, sym}
+use Rattle.std.proofs.Common.{ap, subst, ◌∙◌}
 use Rattle.std.proofs.lemmas.Bool.{false≢true}
 use Rattle.model_value.specs.Input.{Input}
 use Rattle.model_value.specs.Value.{Value, Exc, Outcome}
@@ -8,22 +9,31 @@ use Rattle.model_value.specs.declared.request.Request.TheVariants as request
 use Rattle.model_says.specs.Endings.{Asks, saying_of}
 use Rattle.model_says.specs.Requests.{bad_argument}
 use Rattle.model_says.specs.Says.{course, step_limit}
+use Rattle.model_wire.specs.declared.call.Call.TheVariants as call
+use Rattle.model_wire.specs.declared.event.Event.TheVariants as event
+use Rattle.model_wire.specs.Call.{Answer, Call}
+use Rattle.model_wire.specs.Fits.{fits}
+use Rattle.model_wire.specs.Journal.{Entry, Answered, Refused}
 use Rattle.model_loop.specs.Futures.{future_outcome}
+use Rattle.model_loop.specs.Sound.{IsSound}
 use Rattle.model_loop.specs.Suspend.{suspend}
 use Rattle.model_loop.specs.Tasks.{lives, next_task}
 use Rattle.model_machine.specs.Arguments.{as_int, as_list}
 use Rattle.model_machine.specs.Extra as extra
 use Rattle.model_machine.specs.Extra.{Extra, ExtraAnswer, ExtraCall, ExtraSaid, called, made_by_all}
 use Rattle.model_machine.specs.Outcomes.{input_of}
-use Rattle.model_machine.specs.Replies.{Wake, ended, given, reply, serves, serves_as, serves_until, waits, woken, woken_within}
+use Rattle.model_machine.specs.Replies.{RequestReply, Halts, Wake, ended, given, input_by, reply, serves, serves_as, serves_until, waits, woken, woken_within}
 use Rattle.model_machine.specs.Sound.{IsOpenedAt, IsStateSound, StandsRightly, blocks_of, names_made, sends_made}
-use Rattle.model_machine.specs.State.{Standing, Asked, Sleeping, Leaving, Serving, State, generator_of, resumed, stands}
+use Rattle.model_machine.specs.State.{Standing, Asked, Sleeping, Leaving, Serving, Generator, State, generator, generator_of, noted, resumed, stands}
 use Rattle.model_machine.specs.Step.{says_of}
 use Rattle.model_machine.specs.Told.{told_in}
+use Rattle.model_machine.specs.Went.{answered_so, ask_so, fitted_so}
 use Rattle.law_sound.proofs.Steps.{suspend_step_sound}
 use Rattle.law_after.specs.After.{IsLoopAfter}
 use Rattle.law_after.proofs.Loops.{book_loop, refl_loop}
 use Rattle.law_after.proofs.Requests.{suspend_after}
+use Rattle.law_turns.proofs.TreeSteps.{told_in-none}
+use Rattle.law_turns.proofs.Turning.{as_told}
 use Rattle.law_inside.specs.InStep.{IsAsked, IsStepSound, RepliesInStep, SameTapes}
 use Rattle.law_inside.proofs.Blocks.{open_kept}
 use Rattle.law_inside.proofs.Counts.{get_there, lives_before}
@@ -53,41 +63,59 @@ pause_first added task s e =
     ap (λ tape. saying_of (course step_limit s.program (generator_of task s).coroutine (generator_of task s).arguments tape)) e
 
 module _ {S : Type 0} (added : Extra S) (task : ℕ) (stood : Standing) (still : (id : ℕ) → stood ≡ Leaving id → ⊥) (code arguments : Value) where
-  -- ---- after the steps of a call the coroutine asks as before
-  module _ (s : State S) (call : ExtraCall S) (may : AreAllowed call.steps s.loop)
-      (is : IsAsked added task stood (request.Extra code arguments) s) where
-    abbrev t : State S
-    t = called call s
+  -- ---- after steps of the loop, which leave the tapes as they are, the coroutine asks as before
+  module _ (s t : State S) (tapes : SameTapes s t) (futures : t.futures ≡ s.futures) (done : t.main_done ≡ s.main_done)
+      (moved : IsLoopAfter (names_made (next_task s.loop.parts)) false (Some task) None None None s.loop t.loop)
+      (sound : IsSound (Some task) (told_in t.events) t.loop) (is : IsAsked added task stood (request.Extra code arguments) s) where
+    same_at : generator_of task t ≡ generator_of task s
+    same_at = ap (λ gs. slice_index_or gs task (generator 0 [])) tapes.generators
 
-    tapes : SameTapes s (called call s)
-    tapes = record { program = refl; generators = refl; streams = refl }
-
-    moved : IsLoopAfter (names_made (next_task s.loop.parts)) false (Some task) None None None s.loop (called call s).loop
-    moved = all_after (next_task s.loop.parts) (Some task) call.steps s.loop refl may
-
-    over : s.main_done ≡ true → lives (called call s).loop.parts 0 ≡ false
-    over done = at (lives (called call s).loop.parts 0) refl
+    over : t.main_done ≡ true → lives t.loop.parts 0 ≡ false
+    over now = at (lives t.loop.parts 0) refl
       where
-        at : (b : Bool) → lives (called call s).loop.parts 0 ≡ b → lives (called call s).loop.parts 0 ≡ false
+        at : (b : Bool) → lives t.loop.parts 0 ≡ b → lives t.loop.parts 0 ≡ false
         at false e = e
         at true e =
-            absurd (false≢true (sym (is.others.main_over done)
-            ∙ lives_before _ _ (Some task) s.loop.parts (called call s).loop.parts moved.parts is.others.loop.parts.owns 0 is.others.main_told.made e))
+            absurd (false≢true (sym (is.others.main_over (sym done ∙ now))
+            ∙ lives_before _ _ (Some task) s.loop.parts t.loop.parts moved.parts is.others.loop.parts.owns 0 is.others.main_told.made e))
 
-    pub called_in : IsAsked added task stood (request.Extra code arguments) (called call s)
-    called_in = record {
+    asked_on : IsAsked added task stood (request.Extra code arguments) t
+    asked_on = record {
       others = with_open added (Some task) (Some task) t
-          (loop_keeps added s t tapes (Some task) (Some task) (Some task) (Some task) moved.parts (moved.parts.same refl)
-          (all_sound (Some task) (told_in s.events) call.steps s.loop may is.others.loop) (λ other f. f) over
+          (loop_keeps added s t tapes (Some task) (Some task) (Some task) (Some task) moved.parts (moved.parts.same refl) sound
+          (λ other f. f) over
           (stays_stood added s t tapes (Some task) (Some task) (Some task) (Some task) _ _ None None None moved (λ other id f e r. refl))
           (leaves_none added s t tapes (Some task) (Some task) (Some task) (Some task) _ _ None None None moved (λ id f. (refl, refl)))
-          (futures_kept s t refl tapes.streams (λ id h. moved.parts.plain id h) is.others.futures) (half added task stood (request.Extra code arguments) s is))
+          (futures_kept s t futures tapes.streams (λ id h. moved.parts.plain id h) is.others.futures)
+          (half added task stood (request.Extra code arguments) s is))
           (open_kept _ _ (Some task) None s.loop t.loop (blocks_of s) (blocks_of t) moved
           (tapes_blocks added s t tapes (Some task) (Some task) (Some task) (Some task)) (open_of added (Some task) (Some task) s is.others.blocks));
-      standing = is.standing;
-      says = says_same added s t tapes.program task refl ∙ is.says;
+      standing = ap (λ (g : Generator). g.standing) same_at ∙ is.standing;
+      says = says_same added s t tapes.program task same_at ∙ is.says;
       exits = λ id e mine. is.exits id (left_before s t _ _ (Some task) None None None moved id refl refl e) (mine ∙ (moved.groups id).parent);
     }
+
+  -- the steps of a call
+  called_in : (s : State S) (call : ExtraCall S) → AreAllowed call.steps s.loop → IsAsked added task stood (request.Extra code arguments) s
+      → IsAsked added task stood (request.Extra code arguments) (called call s)
+  called_in s call may is =
+      asked_on s (called call s) (record { program = refl; generators = refl; streams = refl }) refl refl
+      (all_after (next_task s.loop.parts) (Some task) call.steps s.loop refl may)
+      (all_sound (Some task) (told_in s.events) call.steps s.loop may is.others.loop) is
+
+  -- a call on the outside, and its answer
+  abbrev gotten : Call → Answer → List Entry → State S → State S
+  gotten call answer left s = noted (event.Got answer) (record (noted (event.Called call) s) { answers = left })
+
+  gotten_in : (call : Call) (answer : Answer) (left : List Entry) (s : State S) → IsAsked added task stood (request.Extra code arguments) s
+      → IsAsked added task stood (request.Extra code arguments) (gotten call answer left s)
+  gotten_in call answer left s is =
+      let asked = s.events ++ event.Called call ∷ [] in
+      asked_on s (gotten call answer left s) (record { program = refl; generators = refl; streams = refl }) refl refl
+      (refl_loop (names_made (next_task s.loop.parts)) refl false (Some task) None None None s.loop)
+      (as_told (Some task) (told_in s.events) (told_in (asked ++ event.Got answer ∷ [])) s.loop
+      (λ group. told_in-none asked (event.Got answer ∷ []) (λ any. refl) group
+      ∙ told_in-none s.events (event.Called call ∷ []) (λ any. refl) group) is.others.loop) is
 
   -- ---- it is answered
   pub answered_in : (fresh : Bool) (s : State S) → IsAsked added task stood (request.Extra code arguments) s → (input : Input)
@@ -140,11 +168,29 @@ module _ {S : Type 0} (added : Extra S) (task : ℕ) (stood : Standing) (still :
   until_in fresh (Some outcome) wake s on key each is there e = each key (input_of outcome) s is
   until_in fresh None wake s on key each is there e = waits_in s is on key there e
 
+  -- an ask ends the run, or the coroutine asks as before
+  asked_in : (fresh : Bool) (it : Call) (next : Answer → State S → RequestReply S) (s : State S)
+      → IsAsked added task stood (request.Extra code arguments) s
+      → ((answer : Answer) (t : State S) → IsAsked added task stood (request.Extra code arguments) t → RepliesInStep added fresh task (next answer t))
+      → RepliesInStep added fresh task (ask_so Halts it next s)
+  asked_in fresh it next s is each = by s.answers
+    where
+      fit : (b : Bool) (answer : Answer) (left : List Entry) → RepliesInStep added fresh task (fitted_so Halts b it answer next (gotten it answer left s))
+      fit true answer left = each answer (gotten it answer left s) (gotten_in it answer left s is)
+      fit false answer left = tt
+
+      by : (entries : List Entry) → RepliesInStep added fresh task (answered_so Halts entries it next (noted (event.Called it) s))
+      by [] = tt
+      by (Refused line cause ∷ entries) = tt
+      by (Answered answer ∷ entries) = fit (fits it answer) answer entries
+
   serves_in : (fresh : Bool) (answer : ExtraAnswer) (wake : Wake S) (s : State S) → IsAnswerAllowed answer s → Wakes fresh wake
       → IsAsked added task stood (request.Extra code arguments) s → RepliesInStep added fresh task (serves_as answer wake task s)
   serves_in fresh (extra.Answers value) wake s may each is = answered_in fresh s is (Send value) may
   serves_in fresh (extra.Raises fault) wake s may each is = answered_in fresh s is (Throw fault) refl
   serves_in fresh (extra.Waits on key) wake s may each is = until_in fresh (ended s on) wake s on key each is may refl
+  serves_in fresh (extra.Asks number bytes key) wake s may each is =
+      asked_in fresh (call.Extra number bytes) (λ said. wake key (input_by said)) s is (λ said t asks. each key (input_by said) t asks)
 
   pub said_in : (fresh : Bool) (said : ExtraSaid S) (wake : Wake S) (s : State S) → IsSaidAllowed said s → Wakes fresh wake
       → IsAsked added task stood (request.Extra code arguments) s → RepliesInStep added fresh task (serves said wake task s)

@@ -58,6 +58,7 @@ abbrev pub IsAnswerAllowed : {S : Type 0} → ExtraAnswer → State S → Type 0
 IsAnswerAllowed (extra.Answers value) s = names_made (next_task s.loop.parts) value ≡ true
 IsAnswerAllowed (extra.Raises fault) s = Unit {0}
 IsAnswerAllowed (extra.Waits on key) s = on < next_future s.loop.parts
+IsAnswerAllowed (extra.Asks code bytes key) s = Unit {0}
 
 abbrev pub IsSaidAllowed : {S : Type 0} → ExtraSaid S → State S → Type 0
 IsSaidAllowed said s = AreAllowed said.call.steps s.loop × IsAnswerAllowed said.answer (called said.call s)

@@ -50,6 +50,6 @@ pub fn each_step_keeps_the_loop_sound()
 pub fn allowed_extras_keep_states_sound<S>()
     ensures keeps { (added : Extra S) → MakesAllowedSteps added → KeepsSound added }
     ensures runs { (added : Extra S) → MakesAllowedSteps added
-        → (state : S) (program : Program) (answers : List Entry) (turns : ℕ)
-        → IsRunSound added turns (start state program answers) }
+        → (most : ℕ) (state : S) (program : Program) (answers : List Entry) (turns : ℕ)
+        → IsRunSound added turns (start most state program answers) }
 {}

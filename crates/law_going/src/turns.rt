@@ -16,11 +16,11 @@ ghost use Rattle.law_reach.specs.Reaches.{GoesTo, InRun, InTurn, TurnsTo};
 /// last one, at which the run ends.
 pub fn turns_are_rows_of_changes<S>()
     ensures effect { (limit : ℕ) (added : Extra S) (it : Action) (s : State S)
-        → GoesTo (runner_of it) s (effect limit added it s) }
+        → GoesTo added (runner_of it) s (effect limit added it s) }
     ensures pending { (limit : ℕ) (added : Extra S) (s : State S)
-        → TurnsTo s (run_pending limit added s) }
+        → TurnsTo added s (run_pending limit added s) }
     ensures turned { (limit : ℕ) (added : Extra S) (answer : Answer) (s : State S)
-        → InTurn s (state_of (turned_by limit added answer s)) }
+        → InTurn added s (state_of (turned_by limit added answer s)) }
     ensures turn { (limit : ℕ) (added : Extra S) (s : State S)
         → InRun s (state_of (turn limit added s)) }
     ensures asks { (limit : ℕ) (added : Extra S) (s : State S) → WentAsks s (turn limit added s) }

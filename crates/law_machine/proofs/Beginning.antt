@@ -17,13 +17,12 @@ use Rattle.model_loop.specs.Futures.{future_outcome}
 use Rattle.model_machine.specs.Extra.{Extra}
 use Rattle.model_machine.specs.Sound.{AreBlocksOf, AreTasksMade, IsAsking, IsMainTold, IsStateSound, IsUnbegun}
 use Rattle.model_machine.specs.Sound.{StandsRightly, blocks_of, exchanges_of, names_block, names_made, sends_made}
-use Rattle.model_machine.specs.State.{State, generator_of, start, with_streams}
-use Rattle.model_stream.specs.Streams.{no_streams}
+use Rattle.model_machine.specs.State.{State, generator_of, start}
 use Rattle.law_sound.proofs.Beginning.{first_sound}
 
-module _ {S : Type 0} (added : Extra S) (state : S) (program : Program) (answers : List Entry) (most : ℕ) where
+module _ {S : Type 0} (added : Extra S) (most : ℕ) (state : S) (program : Program) (answers : List Entry) where
   abbrev begun : State S
-  begun = with_streams (no_streams most) (start state program answers)
+  begun = start most state program answers
 
   asking : (task : ℕ) → lives begun.loop.parts task ≡ true → IsAsking added begun task
   unfolding course
@@ -71,9 +70,8 @@ module _ {S : Type 0} (added : Extra S) (state : S) (program : Program) (answers
       outcomes zero value e = absurd (none-some _ e)
       outcomes (suc id) value e = absurd (none-some _ e)
 
-  -- where so many listeners, connections and children can be numbered
-  pub begins_open : IsStateSound added begun
-  begins_open = record {
+  pub begins_sound : IsStateSound added begun
+  begins_sound = record {
     loop = first_sound;
     generators = refl;
     asking = λ task l f. asking task l;
@@ -93,6 +91,3 @@ module _ {S : Type 0} (added : Extra S) (state : S) (program : Program) (answers
     futures = record { plain = λ place id e. absurd (none-some id e); once = λ place other id e f. absurd (none-some id e); apart = λ place id e. refl };
     made = tasks_made;
   }
-
-pub begins_sound : {S : Type 0} (added : Extra S) (state : S) (program : Program) (answers : List Entry) → IsStateSound added (start state program answers)
-begins_sound added state program answers = begins_open added state program answers 0

@@ -69,33 +69,35 @@ stands-kept standing at task s = record {
 abbrev pub reply_state : {S : Type 0} → RequestReply S → State S
 reply_state it = left_by it
 
-change-keeps : {S : Type 0} (task : ℕ) (change : StateChange S) (s : State S) → MayInAnswer (Some task) change s → IsKeptInAnswer task s (made change s)
-change-keeps task (OfLoop change) s may = kept_as task s _ (goes_on_same s.events) refl
-change-keeps task (Says said text) s may = kept_as task s _ (goes_on_one s.events _) refl
-change-keeps task (MakesCoroutine coroutine arguments) s may = record {
+change-keeps : {S : Type 0} (added : Extra S) (task : ℕ) (change : StateChange S) (s : State S) → MayInAnswer added (Some task) change s
+    → IsKeptInAnswer task s (made change s)
+change-keeps added task (OfLoop change) s may = kept_as task s _ (goes_on_same s.events) refl
+change-keeps added task (Says said text) s may = kept_as task s _ (goes_on_one s.events _) refl
+change-keeps added task (MakesCoroutine coroutine arguments) s may = record {
   events = goes_on_same s.events;
   tape = tape-added s.generators task (generator coroutine arguments) refl;
   generators = rw (length-append s.generators (generator coroutine arguments ∷ [])) (omega arith);
 }
-change-keeps task (Stands standing at) s may = stands-kept standing at task s
-change-keeps task (Resumes fresh at input) s may = absurd may
-change-keeps task (NamesFuture future) s may = kept_as task s _ (goes_on_same s.events) refl
-change-keeps task EndsMain s may = absurd may
-change-keeps task (ChangesExtra extra) s may = kept_as task s _ (goes_on_same s.events) refl
-change-keeps task (ChangesStreams streams) s may = kept_as task s _ (goes_on_same s.events) refl
-change-keeps task (Runs it) s may = absurd may
-change-keeps task (Hears call answer left) s may =
+change-keeps added task (Stands standing at) s may = stands-kept standing at task s
+change-keeps added task (Resumes fresh at input) s may = absurd may
+change-keeps added task (NamesFuture future) s may = kept_as task s _ (goes_on_same s.events) refl
+change-keeps added task EndsMain s may = absurd may
+change-keeps added task (ChangesExtra extra) s may = kept_as task s _ (goes_on_same s.events) refl
+change-keeps added task (ChangesStreams streams) s may = kept_as task s _ (goes_on_same s.events) refl
+change-keeps added task (Runs it) s may = absurd may
+change-keeps added task (Hears call answer left) s may =
     kept_as task s _ (goes_on_then s.events (s.events ++ event.Called call ∷ []) ((s.events ++ event.Called call ∷ []) ++ event.Got answer ∷ [])
     (goes_on_one s.events _) (goes_on_one (s.events ++ event.Called call ∷ []) _)) refl
-change-keeps task (Calls call) s may = kept_as task s _ (goes_on_one s.events _) refl
+change-keeps added task (Calls call) s may = kept_as task s _ (goes_on_one s.events _) refl
 
-row-keeps : {S : Type 0} {task : ℕ} {s t : State S} → InAnswer (Some task) s t → IsKeptInAnswer task s t
-row-keeps {task = task} row = fold (IsKeptInAnswer task) (λ t. kept_as task t t (goes_on_same t.events) refl) (kept_then task) (change-keeps task) row
+row-keeps : {S : Type 0} (added : Extra S) {task : ℕ} {s t : State S} → InAnswer added (Some task) s t → IsKeptInAnswer task s t
+row-keeps added {task = task} row =
+    fold (IsKeptInAnswer task) (λ t. kept_as task t t (goes_on_same t.events) refl) (kept_then task) (change-keeps added task) row
 
 pub reply-keeps : {S : Type 0} (added : Extra S) (task : ℕ) (asked : Request) (s : State S)
     → IsKeptInAnswer task s (reply_state (reply added task asked s))
-reply-keeps added task asked s = row-keeps (reply_comes added task asked s).reaches
+reply-keeps added task asked s = row-keeps added (reply_comes added task asked s).reaches
 
 pub decides-keeps : {S : Type 0} (added : Extra S) (standing : Standing) (task : ℕ) (input : Input) (s : State S)
     → IsKeptInAnswer task s (reply_state (decides added standing task input s))
-decides-keeps added standing task input s = row-keeps (decides_comes added task standing input s).reaches
+decides-keeps added standing task input s = row-keeps added (decides_comes added task standing input s).reaches

@@ -8,7 +8,7 @@ use Rattle.model_wire.specs.Call.{Answer}
 use Rattle.model_wire.specs.Event.{Event}
 use Rattle.model_wire.specs.Fits.{fits}
 use Rattle.model_wire.specs.Journal.{Entry, Answered, Refused}
-use Rattle.model_machine.specs.Extra.{Extra}
+use Rattle.model_machine.specs.Extra.{AsksNothing, Extra}
 use Rattle.model_machine.specs.Run.{run_after, run_on}
 use Rattle.model_machine.specs.Sound.{IsClosed}
 use Rattle.model_machine.specs.State.{State, noted}
@@ -67,26 +67,28 @@ change-along (ChangesExtra extra) s may = along_as s _ refl refl
 change-along (ChangesStreams streams) s may = along_as s _ refl refl
 
 -- ---- the rest of a turn, once its select was answered: no turn begins
-change-turns : {S : Type 0} (change : StateChange S) (s : State S) → MayInTurn change s → turns_in (made change s).events ≡ turns_in s.events
-change-turns (Says task text) s may = turns-said s.events task text
-change-turns (Runs it) s may = turns-ran s.events it
-change-turns (Calls call) s may = turns-other s.events call may.other
-change-turns (Hears call answer left) s may = turns-got (s.events ++ event.Called call ∷ []) answer ∙ turns-other s.events call may.other
-change-turns (OfLoop change) s may = refl
-change-turns (MakesCoroutine coroutine arguments) s may = refl
-change-turns (Stands standing task) s may = refl
-change-turns (Resumes fresh task input) s may = refl
-change-turns (NamesFuture future) s may = refl
-change-turns EndsMain s may = refl
-change-turns (ChangesExtra extra) s may = refl
-change-turns (ChangesStreams streams) s may = refl
+change-turns : {S : Type 0} (added : Extra S) (change : StateChange S) (s : State S) → MayInTurn added change s
+    → turns_in (made change s).events ≡ turns_in s.events
+change-turns added (Says task text) s may = turns-said s.events task text
+change-turns added (Runs it) s may = turns-ran s.events it
+change-turns added (Calls call) s may = turns-other s.events call may.other
+change-turns added (Hears call answer left) s may = turns-got (s.events ++ event.Called call ∷ []) answer ∙ turns-other s.events call may.other
+change-turns added (OfLoop change) s may = refl
+change-turns added (MakesCoroutine coroutine arguments) s may = refl
+change-turns added (Stands standing task) s may = refl
+change-turns added (Resumes fresh task input) s may = refl
+change-turns added (NamesFuture future) s may = refl
+change-turns added EndsMain s may = refl
+change-turns added (ChangesExtra extra) s may = refl
+change-turns added (ChangesStreams streams) s may = refl
 
 turned-turns : {S : Type 0} (limit : ℕ) (added : Extra S) (answer : Answer) (s : State S)
     → turns_in (state_of (turned_by limit added answer s)).events ≡ turns_in s.events
 turned-turns limit added answer s =
-    fold (λ a b. turns_in b.events ≡ turns_in a.events) (λ a. refl) (λ a b c first second. second ∙ first) change-turns (turned_row limit added answer s)
+    fold (λ a b. turns_in b.events ≡ turns_in a.events) (λ a. refl) (λ a b c first second. second ∙ first) (change-turns added)
+    (turned_row limit added answer s)
 
--- ---- where nothing is open the outside isn't asked then
+-- ---- where nothing is open, and what is added asks nothing, the outside isn't asked then
 pub record IsOn {S : Type 0} (s t : State S) : Type 0 where
   pub events : GoesOn s.events t.events
   pub turns : asks_in t.events ≡ asks_in s.events
@@ -105,31 +107,32 @@ on_then s t u first second = record {
 abbrev StaysOn : {S : Type 0} → State S → State S → Type 0
 StaysOn s t = IsClosed s → IsOn s t × IsClosed t
 
-change-on : {S : Type 0} (change : StateChange S) (s : State S) → MayInTurn change s → StaysOn s (made change s)
-change-on (Says task text) s may closed = (
+change-on : {S : Type 0} (added : Extra S) → AsksNothing added → (change : StateChange S) (s : State S) → MayInTurn added change s
+    → StaysOn s (made change s)
+change-on added nothing (Says task text) s may closed = (
   record { events = goes_on_one s.events _; turns = asks-said s.events task text; got = answers-said s.events task text },
   closed,
 )
-change-on (Runs it) s may closed = (
+change-on added nothing (Runs it) s may closed = (
   record { events = goes_on_one s.events _; turns = asks-ran s.events it; got = answers-ran s.events it },
   closed,
 )
-change-on (Calls call) s may closed = absurd (may.opened closed)
-change-on (Hears call answer left) s may closed = absurd (may.opened closed)
-change-on (ChangesStreams streams) s may closed = absurd (may closed)
-change-on (OfLoop change) s may closed = (on_as s _ refl, closed)
-change-on (MakesCoroutine coroutine arguments) s may closed = (on_as s _ refl, closed)
-change-on (Stands standing task) s may closed = (on_as s _ refl, closed)
-change-on (Resumes fresh task input) s may closed = (on_as s _ refl, closed)
-change-on (NamesFuture future) s may closed = (on_as s _ refl, closed)
-change-on EndsMain s may closed = (on_as s _ refl, closed)
-change-on (ChangesExtra extra) s may closed = (on_as s _ refl, closed)
+change-on added nothing (Calls call) s may closed = absurd (may.may_ask closed nothing)
+change-on added nothing (Hears call answer left) s may closed = absurd (may.may_ask closed nothing)
+change-on added nothing (ChangesStreams streams) s may closed = absurd (may closed)
+change-on added nothing (OfLoop change) s may closed = (on_as s _ refl, closed)
+change-on added nothing (MakesCoroutine coroutine arguments) s may closed = (on_as s _ refl, closed)
+change-on added nothing (Stands standing task) s may closed = (on_as s _ refl, closed)
+change-on added nothing (Resumes fresh task input) s may closed = (on_as s _ refl, closed)
+change-on added nothing (NamesFuture future) s may closed = (on_as s _ refl, closed)
+change-on added nothing EndsMain s may closed = (on_as s _ refl, closed)
+change-on added nothing (ChangesExtra extra) s may closed = (on_as s _ refl, closed)
 
-pub turned-on : {S : Type 0} (limit : ℕ) (added : Extra S) (answer : Answer) (s : State S) → IsClosed s
+pub turned-on : {S : Type 0} (limit : ℕ) (added : Extra S) (answer : Answer) (s : State S) → IsClosed s → AsksNothing added
     → IsOn s (state_of (turned_by limit added answer s))
-turned-on limit added answer s closed =
+turned-on limit added answer s closed nothing =
     (fold StaysOn (λ t c. (on_as t t refl, c))
-    (λ a b c first second closed. let x = first closed in let y = second x.1 in (on_then a b c x.0 y.0, y.1)) change-on
+    (λ a b c first second closed. let x = first closed in let y = second x.1 in (on_then a b c x.0 y.0, y.1)) (change-on added nothing)
     (turned_row limit added answer s) closed).0
 
 -- ---- turns. Each selects once. One that goes on took an answer.
@@ -171,7 +174,7 @@ module _ {S : Type 0} (limit : ℕ) (added : Extra S) where
           → Turned s (fitted b (call_of added s) answer (turned_by limit added) (heard_by s answer left))
       fit true answer left e =
           after answer left e (turned_by limit added answer (heard_by s answer left)) (turned-turns limit added answer (heard_by s answer left))
-          (fold IsAlong (λ t. along_as t t refl refl) along_then change-along (in_turn (turned_row limit added answer (heard_by s answer left))))
+          (fold IsAlong (λ t. along_as t t refl refl) along_then change-along (in_turn added (turned_row limit added answer (heard_by s answer left))))
       fit false answer left e = begun answer left
 
       by : (entries : List Entry) → s.answers ≡ entries
@@ -191,13 +194,13 @@ module _ {S : Type 0} (limit : ℕ) (added : Extra S) where
       of (Goes now) is = is.0 ∙ omega arith
       of (Stops how last) is = is ∙ omega arith
 
-  -- where nothing is open, a turn has one answer at most
+  -- where nothing is open, and what is added asks nothing, a turn has one answer at most
   abbrev pub HadOne : State S → Went S → Type 0
   HadOne s went = answers_in (state_of went).events ≤ answers_in s.events + 1
 
-  pub turn-had_one : (s : State S) → IsClosed s → HadOne s (turn limit added s)
+  pub turn-had_one : (s : State S) → IsClosed s → AsksNothing added → HadOne s (turn limit added s)
   unfolding turn
-  turn-had_one s closed = unless (is_stalled added s)
+  turn-had_one s closed nothing = unless (is_stalled added s)
     where
       one : (answer : Answer) (left : List Entry) (n : ℕ) → n ≡ answers_in (heard_by s answer left).events → n ≤ answers_in s.events + 1
       one answer left n same =
@@ -206,7 +209,7 @@ module _ {S : Type 0} (limit : ℕ) (added : Extra S) where
           omega (arith, same, a, b)
 
       fit : (b : Bool) (answer : Answer) (left : List Entry) → HadOne s (fitted b (call_of added s) answer (turned_by limit added) (heard_by s answer left))
-      fit true answer left = one answer left _ (turned-on limit added answer (heard_by s answer left) closed).got
+      fit true answer left = one answer left _ (turned-on limit added answer (heard_by s answer left) closed nothing).got
       fit false answer left = one answer left _ refl
 
       none : HadOne s (Stops (end.Over (call_of added s)) (noted (event.Called (call_of added s)) s))

@@ -1,12 +1,33 @@
 -- What is added is woken no more often than it says.
-use Rattle.std.proofs.Common.{◌≡◌, ℕ, zero, suc, ◌+◌, ◌<◌, Option, Some, None, refl, ap, ◌∙◌, arith}
+use Rattle.std.proofs.Common.{◌≡◌, ℕ, zero, suc, ◌+◌, ◌<◌, Bool, true, false, List, [], ◌∷◌, Option, Some, None, refl, ap, ◌∙◌, arith}
 use Rattle.model_value.specs.Input.{Input}
 use Rattle.model_value.specs.Value.{Outcome}
+use Rattle.model_wire.specs.declared.call.Call.TheVariants as call
+use Rattle.model_wire.specs.declared.event.Event.TheVariants as event
+use Rattle.model_wire.specs.Call.{Answer, Call}
+use Rattle.model_wire.specs.Fits.{fits}
+use Rattle.model_wire.specs.Journal.{Entry, Answered, Refused}
 use Rattle.model_machine.specs.Extra as extra
-use Rattle.model_machine.specs.Extra.{Extra, ExtraAnswer, WakesFall, called, no_extra}
+use Rattle.model_machine.specs.Extra.{AsksNothing, Extra, ExtraAnswer, WakesFall, called, key_of, no_extra}
 use Rattle.model_machine.specs.Outcomes.{input_of}
-use Rattle.model_machine.specs.Replies.{ended, serves_as, serves_until, woken_within}
-use Rattle.model_machine.specs.State.{State}
+use Rattle.model_machine.specs.Replies.{RequestReply, Halts, ended, input_by, serves_as, serves_until, woken_within}
+use Rattle.model_machine.specs.State.{State, noted}
+use Rattle.model_machine.specs.Went.{answered_so, ask_so, fitted_so}
+
+-- what an ask comes to is the same where what follows is, after whatever the outside answers
+pub asks_alike : {S : Type 0} (call : Call) (next other : Answer → State S → RequestReply S) (s : State S)
+    → ((answer : Answer) (t : State S) → t.extra ≡ s.extra → next answer t ≡ other answer t) → ask_so Halts call next s ≡ ask_so Halts call other s
+asks_alike {S} call next other s each = by s.answers
+  where
+    fit : (b : Bool) (answer : Answer) (t : State S) → t.extra ≡ s.extra → fitted_so Halts b call answer next t ≡ fitted_so Halts b call answer other t
+    fit true answer t same = each answer t same
+    fit false answer t same = refl
+
+    by : (entries : List Entry)
+        → answered_so Halts entries call next (noted (event.Called call) s) ≡ answered_so Halts entries call other (noted (event.Called call) s)
+    by [] = refl
+    by (Refused line cause ∷ entries) = refl
+    by (Answered answer ∷ entries) = fit (fits call answer) answer _ refl
 
 module _ {S : Type 0} (added : Extra S) (falls : WakesFall added) (task : ℕ) where
   abbrev pub Ends : ℕ → Type 0
@@ -35,8 +56,16 @@ module _ {S : Type 0} (added : Extra S) (falls : WakesFall added) (task : ℕ) w
           at (extra.Answers value) e = refl
           at (extra.Raises fault) e = refl
           at (extra.Waits on next) e =
-              let less = falls key input s on next e in
+              let less = falls key input s next (ap key_of e) in
               until on next (omega (arith, less, h)) (ended (called (added.wake key input s).call s) on)
+          at (extra.Asks code bytes next) e =
+              let less = falls key input s next (ap key_of e) in
+              asks_alike (call.Extra code bytes) (λ said. woken_within added (count + more) task next (input_by said))
+              (λ said. woken_within added count task next (input_by said)) (called (added.wake key input s).call s)
+              (λ said t same. ends more next (input_by said) t (let is = ap (added.wakes_left next) same in omega (arith, less, h, is)))
 
 pub nothing_falls : WakesFall no_extra
-nothing_falls = λ key input s on next e. absurd (cc)
+nothing_falls = λ key input s next e. absurd (cc)
+
+pub nothing_asks : AsksNothing no_extra
+nothing_asks = record { ask = λ task code arguments s. refl; wake = λ key input s. refl }

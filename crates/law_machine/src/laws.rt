@@ -4,11 +4,10 @@ ghost use Rattle.std.specs.Prelude.{◌≡◌, ℕ, suc, ◌+◌, ◌<◌, ◌�
 ghost use Rattle.model_value.specs.Input.{Input};
 ghost use Rattle.model_tree.specs.Syntax.{Program};
 ghost use Rattle.model_wire.specs.Journal.{Entry};
-ghost use Rattle.model_machine.specs.Extra.{Extra, WakesFall, no_extra};
+ghost use Rattle.model_machine.specs.Extra.{AsksNothing, Extra, WakesFall, no_extra};
 ghost use Rattle.model_machine.specs.Replies.{woken_within};
 ghost use Rattle.model_machine.specs.Sound.{IsClosed, IsStateSound};
-ghost use Rattle.model_machine.specs.State.{State, generator_of, start, with_streams};
-ghost use Rattle.model_stream.specs.Streams.{no_streams};
+ghost use Rattle.model_machine.specs.State.{State, generator_of, start};
 ghost use Rattle.model_machine.specs.Step.{most_answers, serve};
 ghost use Rattle.model_machine.specs.Turn.{is_stalled, turn};
 ghost use Rattle.model_machine.specs.Run.{run_on};
@@ -24,17 +23,19 @@ pub fn what_happened_stays<S>()
         → GoesOn s.events (run_on limit added allowed left s).events }
 {}
 
-/// A turn selects once, unless nothing can come. Where nothing is open it has one answer at most
-/// (`asks_are_bounded` holds whatever is open). A run begins at most one turn more than the outside
-/// answers: the one that finds no answer.
+/// A turn selects once, unless nothing can come. Where nothing is open, and what is added asks
+/// nothing, it has one answer at most (`asks_are_bounded` holds whatever is open and whatever asks); nothing is asked
+/// where nothing is added. A run begins at most one turn more than the outside answers: the one
+/// that finds no answer.
 pub fn turns_are_bounded<S>()
     ensures one { (limit : ℕ) (added : Extra S) (s : State S) → is_stalled added s ≡ false
         → turns_in (state_of (turn limit added s)).events ≡ turns_in s.events + 1 }
-    ensures answers { (limit : ℕ) (added : Extra S) (s : State S) → IsClosed s
+    ensures answers { (limit : ℕ) (added : Extra S) (s : State S) → IsClosed s → AsksNothing added
         → answers_in (state_of (turn limit added s)).events ≤ answers_in s.events + 1 }
     ensures most { (limit : ℕ) (added : Extra S) (allowed left : ℕ) (s : State S)
         → turns_in (run_on limit added allowed left s).events
         ≤ turns_in s.events + length s.answers + 1 }
+    ensures nothing { AsksNothing no_extra }
 {}
 
 /// A turn asks finitely often: each call takes one of the answers that the outside has left, but a
@@ -59,8 +60,8 @@ pub fn a_step_ends_by_itself<S>()
         serve limit added (most + more) task s ≡ serve limit added most task s }
 {}
 
-/// What is added is woken no more often in a step than it says, where that number falls each time;
-/// it does where nothing is added.
+/// What is added is woken no more often in a step than it says, whether by what is done or by what
+/// the outside answers, where that number falls each time; it does where nothing is added.
 pub fn wakes_end_by_themselves<S>()
     ensures within { (added : Extra S) (task more key : ℕ) (input : Input) (s : State S) →
         WakesFall added →
@@ -70,12 +71,8 @@ pub fn wakes_end_by_themselves<S>()
     ensures nothing { WakesFall no_extra }
 {}
 
-/// A run begins in a sound state, also one in which so many listeners, connections and children can
-/// be numbered.
+/// A run begins in a sound state, however many listeners, connections and children can be numbered.
 pub fn a_run_begins_sound<S>()
-    ensures closed { (added : Extra S) (state : S) (program : Program) (answers : List Entry)
-        → IsStateSound added (start state program answers) }
-    ensures open_ { (added : Extra S) (state : S) (program : Program) (answers : List Entry)
-        (most : ℕ)
-        → IsStateSound added (with_streams (no_streams most) (start state program answers)) }
+    ensures { (added : Extra S) (most : ℕ) (state : S) (program : Program) (answers : List Entry)
+        → IsStateSound added (start most state program answers) }
 {}

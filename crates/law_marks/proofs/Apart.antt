@@ -13,18 +13,18 @@ use Rattle.model_machine.specs.State.{Standing, Asked, Sleeping, Leaving, Servin
 use Rattle.model_machine.specs.Step.{given_up}
 use Rattle.model_machine.specs.Turn.{run_first, turn_over, woken_by}
 use Rattle.model_machine.specs.Went.{state_of}
+use Rattle.law_changes.specs.Reaches.{LoopReaches}
 use Rattle.law_changes.proofs.Parts.{parts_of}
 use Rattle.law_reach.specs.Changes.{runner_of}
-use Rattle.law_reach.specs.Reaches.{InCallback}
 use Rattle.law_going.proofs.Loops.{loop_of}
 use Rattle.law_going.proofs.Running.{ran_goes}
-use Rattle.law_going.proofs.Turning.{over_row, taken_row, woken_row}
+use Rattle.law_going.proofs.Turning.{over_loop, taken_loop, woken_loop}
 use Rattle.law_promises.proofs.Falling.{cancels_input}
 use Rattle.law_promises.proofs.MarksStay.{row_marked}
 use Rattle.law_marks.specs.Marked.{IsMarkedIn, ThrowsCancel}
 
-row : {S : Type 0} {r : Option ℕ} {s t : State S} → InCallback r s t → (me : ℕ) → (r ≡ Some me → ⊥) → IsMarkedIn me s → IsMarkedIn me t
-row it me n m = row_marked (parts_of (loop_of it)) me n m
+row : {S : Type 0} {r : Option ℕ} (s t : State S) → LoopReaches r s.loop t.loop → (me : ℕ) → (r ≡ Some me → ⊥) → IsMarkedIn me s → IsMarkedIn me t
+row s t it me n m = row_marked (parts_of it) me n m
 
 nobody : (me : ℕ) → None ≡ Some me → ⊥
 nobody me e = absurd cc
@@ -44,14 +44,15 @@ apart it me h e = at it h e
 pub first_marked : {S : Type 0} (me limit : ℕ) (added : Extra S) (handle : Handle) (rest : List Handle) (s : State S)
     → steps me handle.action ≡ false → IsMarkedIn me s → IsMarkedIn me (state_of (run_first limit added handle rest s))
 first_marked me limit added handle rest s h m =
-    row (ran_goes limit added handle.dead handle.action (unbooked_in (λ p. record p { pending = rest }) s)).reaches me (apart handle.action me h)
-    (row (taken_row rest s) me (nobody me) m)
+    let out = unbooked_in (λ p. record p { pending = rest }) s in
+    row out (state_of (run_first limit added handle rest s)) (loop_of added (ran_goes limit added handle.dead handle.action out).reaches) me
+    (apart handle.action me h) (row s out (taken_loop rest s.loop) me (nobody me) m)
 
 pub woken_by_marked : {S : Type 0} (me : ℕ) (answer : Answer) (s : State S) → IsMarkedIn me s → IsMarkedIn me (unbooked_in (woken_by answer) s)
-woken_by_marked me answer s m = row (woken_row answer s) me (nobody me) m
+woken_by_marked me answer s m = row s (unbooked_in (woken_by answer) s) (woken_loop answer s.loop) me (nobody me) m
 
 pub over_marked : {S : Type 0} (me : ℕ) (done_before : Bool) (s : State S) → IsMarkedIn me s → IsMarkedIn me (state_of (turn_over done_before s))
-over_marked me done_before s m = row (over_row done_before s) me (nobody me) m
+over_marked me done_before s m = row s (state_of (turn_over done_before s)) (over_loop done_before s) me (nobody me) m
 
 -- ---- its own step
 given_up_marked : (task : ℕ) (standing : Standing) (p : Parts) → is_marked p task ≡ true → is_marked (given_up standing p) task ≡ true

@@ -66,9 +66,9 @@ any future = true
 pub any_kept : (s : Streams) → StreamsKeep (IsOwn any) s
 any_kept s = streams_all (IsOwn any) (λ future. refl) s
 
-module _ {S : Type 0} (task : ℕ) where
+module _ {S : Type 0} (added : Extra S) (task : ℕ) where
   abbrev Comes : State S → RequestReply S → Type 0
-  Comes s it = ComesTo (Some task) s it
+  Comes s it = ComesTo added (Some task) s it
 
   -- ---- what is no tree
   answers_comes : (value : Value) (s : State S) → Comes s (Answers value s)
@@ -78,12 +78,13 @@ module _ {S : Type 0} (task : ℕ) where
   raises_comes fault s = record { reaches = stays; ends = tt; asks = refl }
 
   waits_comes : (on : ℕ) (s : State S) → Comes s (Rests (waits task on s))
-  waits_comes on s = record { reaches = waits_row task on s; ends = tt; asks = refl }
+  waits_comes on s = record { reaches = waits_row added task on s; ends = tt; asks = refl }
 
   stood_comes : (standing : Standing) (on : ℕ) (s : State S) → Comes s (Rests (stands standing task (waits task on s)))
-  stood_comes standing on s = record { reaches = goes (waits_row task on s) (Stands standing task) refl; ends = tt; asks = refl }
+  stood_comes standing on s = record { reaches = goes (waits_row added task on s) (Stands standing task) refl; ends = tt; asks = refl }
 
-  given_comes : {A : Type 0} (o : Option A) (next : A → State S → RequestReply S) (s : State S) → ((a : A) → Comes s (next a s)) → Comes s (given o next s)
+  given_comes : {A : Type 0} (o : Option A) (next : A → State S → RequestReply S) (s : State S) → ((a : A) → Comes s (next a s))
+      → Comes s (given o next s)
   given_comes None next s each = raises_comes _ s
   given_comes (Some a) next s each = each a
 
@@ -91,7 +92,8 @@ module _ {S : Type 0} (task : ℕ) where
   numbered_comes true next s it = it
   numbered_comes false next s it = raises_comes _ s
 
-  port_comes : (number : ℤ) (next : ℕ → State S → RequestReply S) (s : State S) → ((port : ℕ) → Comes s (next port s)) → Comes s (to_port number next s)
+  port_comes : (number : ℤ) (next : ℕ → State S → RequestReply S) (s : State S) → ((port : ℕ) → Comes s (next port s))
+      → Comes s (to_port number next s)
   port_comes (negsuc before) next s each = raises_comes _ s
   port_comes (pos port) next s each = at (nat_lt 0 port && nat_lt port 65536)
     where
@@ -101,20 +103,21 @@ module _ {S : Type 0} (task : ℕ) where
 
   -- ---- what is one
   with_comes : (streams : Streams) (t : State S) (it : RequestReply S) → IsOpen t → Comes (with_streams streams t) it → Comes t it
-  with_comes streams t it opened comes = comes_after (Some task) (one (ChangesStreams streams) opened) refl comes
+  with_comes streams t it opened comes = comes_after added (Some task) (one (ChangesStreams streams) opened) refl comes
 
   change_comes : (n : ℕ) (tree : Doing Streams) (next : State S → RequestReply S) (s : State S)
       → Keeping (KeepsStreams any n s.streams) any n tree → IsOpen s
       → ((t : State S) → Comes t (next t)) → Comes s (streams_change tree next s)
   change_comes n tree next s keeps opened each =
-      tree_comes (Some task) (KeepsStreams any n s.streams) any n tree (λ streams now. next (with_streams streams now)) s keeps opened
+      tree_comes added (Some task) (KeepsStreams any n s.streams) any n tree (λ streams now. next (with_streams streams now)) s keeps opened
       (λ streams t o. with_comes streams t (next (with_streams streams t)) o (each (with_streams streams t)))
 
-  do_comes : {R : Type 0} (Waits : (ℕ → Type 0) → R → Type 0) (n : ℕ) (tree : Doing (Streams × R)) (next : R → State S → RequestReply S) (s : State S)
+  do_comes : {R : Type 0} (Waits : (ℕ → Type 0) → R → Type 0) (n : ℕ) (tree : Doing (Streams × R))
+      (next : R → State S → RequestReply S) (s : State S)
       → Keeping (AnswersStreams Waits any n s.streams) any n tree → IsOpen s
       → ((answer : R) (t : State S) → Comes t (next answer t)) → Comes s (streams_do tree next s)
   do_comes Waits n tree next s keeps opened each =
-      tree_comes (Some task) (AnswersStreams Waits any n s.streams) any n tree (λ done now. next done.1 (with_streams done.0 now)) s keeps opened
+      tree_comes added (Some task) (AnswersStreams Waits any n s.streams) any n tree (λ done now. next done.1 (with_streams done.0 now)) s keeps opened
       (λ done t o. with_comes done.0 t (next done.1 (with_streams done.0 t)) o (each done.1 (with_streams done.0 t)))
 
   -- ---- what follows
@@ -129,8 +132,8 @@ module _ {S : Type 0} (task : ℕ) where
   connects_comes : (port : ℕ) (s : State S) → IsOpen s → Comes s (connects task port s)
   connects_comes port s opened =
       let n = next_future s.loop.parts in
-      tree_comes (Some task) (ConnectsStreams any n s.streams) any n (connect port n s.streams) (λ done now. connects_as task done.1 (with_streams done.0 now))
-      s (opening.connects any n port s.streams (any_kept s.streams)) opened
+      tree_comes added (Some task) (ConnectsStreams any n s.streams) any n (connect port n s.streams)
+      (λ done now. connects_as task done.1 (with_streams done.0 now)) s (opening.connects any n port s.streams (any_kept s.streams)) opened
       (λ done t o. with_comes done.0 t (connects_as task done.1 (with_streams done.0 t)) o (connected_comes done.1 (with_streams done.0 t)))
 
   wrote_comes : (it : Wrote) (s : State S) → Comes s (writes_as it s)
@@ -141,7 +144,7 @@ module _ {S : Type 0} (task : ℕ) where
   awaits_comes on s = at (ended s on)
     where
       at : (o : Option Outcome) → Comes s (awaits_as o task on s)
-      at (Some outcome) = replied_comes task (input_of outcome) s
+      at (Some outcome) = replied_comes added task (input_of outcome) s
       at None = waits_comes on s
 
   closed_comes : (on : Option ℕ) (s : State S) → Comes s (awaits_closed_as on task s)
@@ -216,108 +219,109 @@ module _ {S : Type 0} (task : ℕ) where
 
 module _ {S : Type 0} (added : Extra S) (task : ℕ) where
   -- ---- the requests, where something is open
-  streams_comes : (asked : Request) (s : State S) → IsOpen s → is_to_streams asked ≡ true → ComesTo (Some task) s (reply added task asked s)
+  streams_comes : (asked : Request) (s : State S) → IsOpen s → is_to_streams asked ≡ true → ComesTo added (Some task) s (reply added task asked s)
   unfolding reply
   streams_comes (request.Listen port handler) s o is =
-      given_comes task (as_int port) _ s (λ number. numbered_comes task (may_listen s.streams) _ s (port_comes task number (listens handler) s (λ at.
-      do_comes task {R = Option ℕ} WaitsNever (next_future s.loop.parts) (listen at handler s.streams) listens_as s
-      (opening.listens any (next_future s.loop.parts) at handler s.streams (any_kept s.streams)) o (listened_comes task))))
+      given_comes added task (as_int port) _ s (λ number. numbered_comes added task (may_listen s.streams) _ s (port_comes added task number (listens handler) s (λ at.
+      do_comes added task {R = Option ℕ} WaitsNever (next_future s.loop.parts) (listen at handler s.streams) listens_as s
+      (opening.listens any (next_future s.loop.parts) at handler s.streams (any_kept s.streams)) o (listened_comes added task))))
   streams_comes (request.Connect port) s o is =
-      given_comes task (as_int port) _ s (λ number. numbered_comes task (may_connect s.streams) _ s (port_comes task number (connects task) s (λ at.
-      connects_comes task at s o)))
+      given_comes added task (as_int port) _ s (λ number. numbered_comes added task (may_connect s.streams) _ s (port_comes added task number (connects task) s (λ at.
+      connects_comes added task at s o)))
   streams_comes (request.Launch words) s o is =
-      given_comes task (as_words words) _ s (λ program. numbered_comes task (may_launch s.streams) (launches program) s
-      (do_comes task {R = Option ℕ} WaitsNever (next_future s.loop.parts) (launch program (next_future s.loop.parts) s.streams) launches_as s
-      (opening.launches any (next_future s.loop.parts) program s.streams (any_kept s.streams)) o (launched_comes task)))
+      given_comes added task (as_words words) _ s (λ program. numbered_comes added task (may_launch s.streams) (launches program) s
+      (do_comes added task {R = Option ℕ} WaitsNever (next_future s.loop.parts) (launch program (next_future s.loop.parts) s.streams) launches_as s
+      (opening.launches any (next_future s.loop.parts) program s.streams (any_kept s.streams)) o (launched_comes added task)))
   streams_comes (request.Write stream bytes) s o is =
-      given_comes task (as_writer s stream) _ s (λ whom. given_comes task (as_bytes bytes) _ s (λ piece.
-      do_comes task {R = Wrote} WaitsNever (next_future s.loop.parts) (write whom piece s.streams) writes_as s
-      (asking.writes any (next_future s.loop.parts) whom piece s.streams (any_kept s.streams)) o (wrote_comes task)))
+      given_comes added task (as_writer s stream) _ s (λ whom. given_comes added task (as_bytes bytes) _ s (λ piece.
+      do_comes added task {R = Wrote} WaitsNever (next_future s.loop.parts) (write whom piece s.streams) writes_as s
+      (asking.writes any (next_future s.loop.parts) whom piece s.streams (any_kept s.streams)) o (wrote_comes added task)))
   streams_comes (request.WriteEof stream) s o is =
-      given_comes task (as_conn s stream) _ s (λ conn.
-      change_comes task (next_future s.loop.parts) (write_eof conn s.streams) (Answers Nothing) s
-      (asking.ends any (next_future s.loop.parts) conn s.streams (any_kept s.streams)) o (answers_comes task Nothing))
-  streams_comes (request.Close x) s o is = given_comes task (as_closable s x) closes s shut
+      given_comes added task (as_conn s stream) _ s (λ conn.
+      change_comes added task (next_future s.loop.parts) (write_eof conn s.streams) (Answers Nothing) s
+      (asking.ends any (next_future s.loop.parts) conn s.streams (any_kept s.streams)) o (answers_comes added task Nothing))
+  streams_comes (request.Close x) s o is = given_comes added task (as_closable s x) closes s shut
     where
-      shut : (it : Closable) → ComesTo (Some task) s (closes it s)
+      shut : (it : Closable) → ComesTo added (Some task) s (closes it s)
       shut (AServer id) =
-          change_comes task (next_future s.loop.parts) (close_server id s.streams) (Answers Nothing) s
-          (opening.closes_server any (next_future s.loop.parts) id s.streams (any_kept s.streams)) o (answers_comes task Nothing)
+          change_comes added task (next_future s.loop.parts) (close_server id s.streams) (Answers Nothing) s
+          (opening.closes_server any (next_future s.loop.parts) id s.streams (any_kept s.streams)) o (answers_comes added task Nothing)
       shut (AWriter whom) =
-          change_comes task (next_future s.loop.parts) (close whom s.streams) (Answers Nothing) s
-          (asking.closes any (next_future s.loop.parts) whom s.streams (any_kept s.streams)) o (answers_comes task Nothing)
+          change_comes added task (next_future s.loop.parts) (close whom s.streams) (Answers Nothing) s
+          (asking.closes any (next_future s.loop.parts) whom s.streams (any_kept s.streams)) o (answers_comes added task Nothing)
   streams_comes (request.WaitClosed stream) s o is =
-      given_comes task (as_writer s stream) _ s (λ whom. closed_comes task (closed_future whom s.streams) s)
-  streams_comes (request.Drain stream) s o is = given_comes task (as_writer s stream) (drains false task) s (λ whom. drains_comes task false whom s)
+      given_comes added task (as_writer s stream) _ s (λ whom. closed_comes added task (closed_future whom s.streams) s)
+  streams_comes (request.Drain stream) s o is = given_comes added task (as_writer s stream) (drains false task) s (λ whom. drains_comes added task false whom s)
   streams_comes (request.Limits stream high low) s o is =
-      given_comes task (as_writer s stream) _ s (λ whom. given_comes task (as_delay high) _ s (λ most. given_comes task (as_delay low) _ s (λ least.
-      do_comes task {R = Limited} WaitsNever (next_future s.loop.parts) (limits most least whom s.streams) limits_as s
-      (asking.limits_keep any (next_future s.loop.parts) most least whom s.streams (any_kept s.streams)) o (limited_comes task))))
+      given_comes added task (as_writer s stream) _ s (λ whom. given_comes added task (as_delay high) _ s (λ most. given_comes added task (as_delay low) _ s (λ least.
+      do_comes added task {R = Limited} WaitsNever (next_future s.loop.parts) (limits most least whom s.streams) limits_as s
+      (asking.limits_keep any (next_future s.loop.parts) most least whom s.streams (any_kept s.streams)) o (limited_comes added task))))
   streams_comes (request.Read stream count) s o is =
-      given_comes task (as_reader s stream) _ s (λ from. given_comes task (as_int count) _ s (λ number. counts_comes task number from s))
+      given_comes added task (as_reader s stream) _ s (λ from. given_comes added task (as_int count) _ s (λ number. counts_comes added task number from s))
   streams_comes (request.ReadExactly stream count) s o is =
-      given_comes task (as_reader s stream) _ s (λ from. given_comes task (as_int count) _ s (λ number. reads_comes task (Exactly number) from s))
+      given_comes added task (as_reader s stream) _ s (λ from. given_comes added task (as_int count) _ s (λ number. reads_comes added task (Exactly number) from s))
   streams_comes (request.ReadUntil stream separator) s o is =
-      given_comes task (as_reader s stream) _ s (λ from. given_comes task (as_bytes separator) _ s (λ bytes. reads_comes task (Until bytes) from s))
-  streams_comes (request.ReadLine stream) s o is = given_comes task (as_reader s stream) _ s (λ from. reads_comes task Line from s)
-  streams_comes (request.StandardError child) s o is = given_comes task (as_child s child) _ s (λ id. answers_comes task _ s)
+      given_comes added task (as_reader s stream) _ s (λ from. given_comes added task (as_bytes separator) _ s (λ bytes. reads_comes added task (Until bytes) from s))
+  streams_comes (request.ReadLine stream) s o is = given_comes added task (as_reader s stream) _ s (λ from. reads_comes added task Line from s)
+  streams_comes (request.StandardError child) s o is = given_comes added task (as_child s child) _ s (λ id. answers_comes added task _ s)
   streams_comes (request.WaitChild child) s o is =
-      given_comes task (as_child s child) _ s (λ id.
-      do_comes task ExitWaits (next_future s.loop.parts) (wait (next_future s.loop.parts) id s.streams) (awaits_exit_as task) s
-      (asking.waits any (next_future s.loop.parts) id s.streams (any_kept s.streams)) o (exited_comes task))
-  streams_comes (request.ReturnCode child) s o is = given_comes task (as_child s child) _ s (λ id. answers_comes task _ s)
+      given_comes added task (as_child s child) _ s (λ id.
+      do_comes added task ExitWaits (next_future s.loop.parts) (wait (next_future s.loop.parts) id s.streams) (awaits_exit_as task) s
+      (asking.waits any (next_future s.loop.parts) id s.streams (any_kept s.streams)) o (exited_comes added task))
+  streams_comes (request.ReturnCode child) s o is = given_comes added task (as_child s child) _ s (λ id. answers_comes added task _ s)
   streams_comes (request.Kill child) s o is =
-      given_comes task (as_child s child) _ s (λ id.
-      change_comes task (next_future s.loop.parts) (kill id s.streams) (Answers Nothing) s
-      (asking.kills any (next_future s.loop.parts) id s.streams (any_kept s.streams)) o (answers_comes task Nothing))
+      given_comes added task (as_child s child) _ s (λ id.
+      change_comes added task (next_future s.loop.parts) (kill id s.streams) (Answers Nothing) s
+      (asking.kills any (next_future s.loop.parts) id s.streams (any_kept s.streams)) o (answers_comes added task Nothing))
   streams_comes _ s o is = absurd (false≢true is)
 
   -- ---- each request
-  pub reply_comes : (asked : Request) (s : State S) → ComesTo (Some task) s (reply added task asked s)
+  pub reply_comes : (asked : Request) (s : State S) → ComesTo added (Some task) s (reply added task asked s)
   reply_comes asked s = at (is_to_streams asked) refl
     where
-      by : IsClosed s ⊎ IsOpen s → is_to_streams asked ≡ true → ComesTo (Some task) s (reply added task asked s)
-      by (inl closed) is = let none = refused s closed added task asked is in subst (ComesTo (Some task) s) (sym none.1) (raises_comes task none.0 s)
+      by : IsClosed s ⊎ IsOpen s → is_to_streams asked ≡ true → ComesTo added (Some task) s (reply added task asked s)
+      by (inl closed) is = let none = refused s closed added task asked is in subst (ComesTo added (Some task) s) (sym none.1) (raises_comes added task none.0 s)
       by (inr opened) is = streams_comes asked s opened is
 
-      at : (b : Bool) → is_to_streams asked ≡ b → ComesTo (Some task) s (reply added task asked s)
+      at : (b : Bool) → is_to_streams asked ≡ b → ComesTo added (Some task) s (reply added task asked s)
       at true is = by (closed_or_open s) is
       at false is = case_comes added task s (reply_is added task s asked is)
 
   -- ---- what a task stands at
-  drops_comes : (conn : ℕ) (fault : Exc) (s : State S) → ComesTo (Some task) s (streams_change (drop_connect conn s.streams) (Raises fault) s)
+  drops_comes : (conn : ℕ) (fault : Exc) (s : State S) → ComesTo added (Some task) s (streams_change (drop_connect conn s.streams) (Raises fault) s)
   drops_comes conn fault s = at (closed_or_open s)
     where
-      at : IsClosed s ⊎ IsOpen s → ComesTo (Some task) s (streams_change (drop_connect conn s.streams) (Raises fault) s)
-      at (inl closed) = subst (ComesTo (Some task) s) (sym (drops_none s closed conn fault)) (raises_comes task fault s)
+      at : IsClosed s ⊎ IsOpen s → ComesTo added (Some task) s (streams_change (drop_connect conn s.streams) (Raises fault) s)
+      at (inl closed) = subst (ComesTo added (Some task) s) (sym (drops_none s closed conn fault)) (raises_comes added task fault s)
       at (inr opened) =
-          change_comes task (next_future s.loop.parts) (drop_connect conn s.streams) (Raises fault) s
-          (asking.drops any (next_future s.loop.parts) conn s.streams (any_kept s.streams)) opened (raises_comes task fault)
+          change_comes added task (next_future s.loop.parts) (drop_connect conn s.streams) (Raises fault) s
+          (asking.drops any (next_future s.loop.parts) conn s.streams (any_kept s.streams)) opened (raises_comes added task fault)
 
-  hears_comes : (input : Input) (next : State S → RequestReply S) (s : State S) → ComesTo (Some task) s (next s) → ComesTo (Some task) s (hears input next s)
+  hears_comes : (input : Input) (next : State S → RequestReply S) (s : State S) → ComesTo added (Some task) s (next s)
+      → ComesTo added (Some task) s (hears input next s)
   hears_comes (Send value) next s it = it
-  hears_comes (Throw fault) next s it = raises_comes task fault s
+  hears_comes (Throw fault) next s it = raises_comes added task fault s
 
   -- a read that was resumed waits no more
   woken_read : (on : ℕ) (from : StreamReader) (s : State S) (next : State S → RequestReply S)
-      → ((t : State S) → ComesTo (Some task) t (next t)) → ComesTo (Some task) s (next (waits_no_more on from s))
+      → ((t : State S) → ComesTo added (Some task) t (next t)) → ComesTo added (Some task) s (next (waits_no_more on from s))
   woken_read on from s next each = at (closed_or_open s)
     where
-      at : IsClosed s ⊎ IsOpen s → ComesTo (Some task) s (next (waits_no_more on from s))
-      at (inl closed) = subst (λ t. ComesTo (Some task) s (next t)) (sym (gives_up_none s closed on from)) (each s)
-      at (inr opened) = with_comes task (give_up_read on from s.streams) s _ opened (each (waits_no_more on from s))
+      at : IsClosed s ⊎ IsOpen s → ComesTo added (Some task) s (next (waits_no_more on from s))
+      at (inl closed) = subst (λ t. ComesTo added (Some task) s (next t)) (sym (gives_up_none s closed on from)) (each s)
+      at (inr opened) = with_comes added task (give_up_read on from s.streams) s _ opened (each (waits_no_more on from s))
 
-  pub decides_comes : (standing : Standing) (input : Input) (s : State S) → ComesTo (Some task) s (decides added standing task input s)
-  decides_comes Asked input s = replied_comes task input s
-  decides_comes (Sleeping tag) input s = replied_comes task input s
+  pub decides_comes : (standing : Standing) (input : Input) (s : State S) → ComesTo added (Some task) s (decides added standing task input s)
+  decides_comes Asked input s = replied_comes added task input s
+  decides_comes (Sleeping tag) input s = replied_comes added task input s
   decides_comes (Leaving group) input s =
-      exits_comes task (exit_woken input group s.loop).answer group (exit_woken input group s.loop).loop s (exit_woken_row (Some task) input group s.loop)
+      exits_comes added task (exit_woken input group s.loop).answer group (exit_woken input group s.loop).loop s (exit_woken_row (Some task) input group s.loop)
   decides_comes (Serving key) input s = woken_comes added task key input s
-  decides_comes (Connecting conn) (Send value) s = answers_comes task value s
+  decides_comes (Connecting conn) (Send value) s = answers_comes added task value s
   decides_comes (Connecting conn) (Throw fault) s = drops_comes conn fault s
-  decides_comes (Yielding whom) input s = hears_comes input (drains true task whom) s (drains_comes task true whom s)
+  decides_comes (Yielding whom) input s = hears_comes input (drains true task whom) s (drains_comes added task true whom s)
   decides_comes (Reading from op on) input s =
-      woken_read on from s (λ t. hears input (reads task op from) t) (λ t. hears_comes input (reads task op from) t (reads_comes task op from t))
+      woken_read on from s (λ t. hears input (reads task op from) t) (λ t. hears_comes input (reads task op from) t (reads_comes added task op from t))
   decides_comes (ReadingAll from taken on) input s =
       woken_read on from s (λ t. hears input (reads_all task from taken) t)
-      (λ t. hears_comes input (reads_all task from taken) t (reads_all_comes task from taken t))
+      (λ t. hears_comes input (reads_all task from taken) t (reads_all_comes added task from taken t))

@@ -12,6 +12,7 @@ use Rattle.model_stream.specs.Connections.{Connection}
 use Rattle.model_stream.specs.Children.{Child}
 use Rattle.model_stream.specs.Listeners.{Server}
 use Rattle.model_stream.specs.Streams.{Opened, Streams, Written, no_streams}
+use Rattle.model_machine.specs.Extra.{Extra}
 use Rattle.model_machine.specs.Replies.{RequestReply, Answers, Raises, Rests, Halts}
 use Rattle.model_machine.specs.Sound.{IsClosed}
 use Rattle.model_machine.specs.State.{State}
@@ -20,12 +21,12 @@ use Rattle.law_changes.specs.Reaches.{stays, goes}
 use Rattle.law_changes.proofs.Folds.{widen}
 use Rattle.law_reach.specs.Asked.{IsAnswered, IsAnsweredBefore, ReplyAsks, WentAsks, asks_in}
 use Rattle.law_reach.specs.Changes.{StateChange, OfLoop, Says, MakesCoroutine, Stands, Resumes, NamesFuture, EndsMain, ChangesExtra, ChangesStreams}
-use Rattle.law_reach.specs.Changes.{Runs, Hears, Calls, IsOpen, MayInAnswer, MayInCallback, MayInRun, MayInTurn, made}
+use Rattle.law_reach.specs.Changes.{Runs, Hears, Calls, IsOpen, MayAsk, MayInAnswer, MayInCallback, MayInRun, MayInTurn, made}
 use Rattle.law_reach.specs.Reaches.{EndsIn, HaltsIn, InAnswer, InCallback, InRun, InTurn, StopsIn}
 
 -- ---- in a wider place more may be done
-module _ {S : Type 0} where
-  callback_may : (r : Option ℕ) (change : StateChange S) (s : State S) → MayInAnswer r change s → MayInCallback r change s
+module _ {S : Type 0} (added : Extra S) where
+  callback_may : (r : Option ℕ) (change : StateChange S) (s : State S) → MayInAnswer added r change s → MayInCallback added r change s
   callback_may r (OfLoop change) s may = may
   callback_may r (Says task text) s may = may
   callback_may r (MakesCoroutine coroutine arguments) s may = may
@@ -39,7 +40,7 @@ module _ {S : Type 0} where
   callback_may r (Hears call answer left) s may = may
   callback_may r (Calls call) s may = may
 
-  turn_may : (r : Option ℕ) (change : StateChange S) (s : State S) → MayInCallback r change s → MayInTurn change s
+  turn_may : (r : Option ℕ) (change : StateChange S) (s : State S) → MayInCallback added r change s → MayInTurn added change s
   turn_may r (OfLoop change) s may = tt
   turn_may r (Says task text) s may = tt
   turn_may r (MakesCoroutine coroutine arguments) s may = tt
@@ -53,7 +54,7 @@ module _ {S : Type 0} where
   turn_may r (Hears call answer left) s may = may
   turn_may r (Calls call) s may = may
 
-  run_may : (change : StateChange S) (s : State S) → MayInTurn change s → MayInRun change s
+  run_may : (change : StateChange S) (s : State S) → MayInTurn added change s → MayInRun change s
   run_may (ChangesStreams streams) s may = may
   run_may (Hears call answer left) s may = may.answered
   run_may (OfLoop change) s may = tt
@@ -67,15 +68,16 @@ module _ {S : Type 0} where
   run_may (Runs it) s may = tt
   run_may (Calls call) s may = tt
 
-  pub in_answer : {r : Option ℕ} {s t : State S} → InAnswer r s t → InCallback r s t
+  pub in_answer : {r : Option ℕ} {s t : State S} → InAnswer added r s t → InCallback added r s t
   in_answer row = widen (callback_may _) row
 
-  pub in_callback : {r : Option ℕ} {s t : State S} → InCallback r s t → InTurn s t
+  pub in_callback : {r : Option ℕ} {s t : State S} → InCallback added r s t → InTurn added s t
   in_callback row = widen (turn_may _) row
 
-  pub in_turn : {s t : State S} → InTurn s t → InRun s t
+  pub in_turn : {s t : State S} → InTurn added s t → InRun s t
   in_turn row = widen run_may row
 
+module _ {S : Type 0} where
   -- ---- where nothing is open, no change opens anything
   change_closed : (change : StateChange S) (s : State S) → MayInRun change s → IsClosed s → IsClosed (made change s)
   change_closed (ChangesStreams streams) s may closed = absurd (may closed)
@@ -99,6 +101,13 @@ module _ {S : Type 0} where
   pub was_open : {s t : State S} → InRun s t → IsOpen t → IsOpen s
   was_open row opened = λ closed. opened (row_closed row closed)
 
+  pub might_ask : (added : Extra S) {s t : State S} → InRun s t → MayAsk added t → MayAsk added s
+  might_ask added row may = λ closed nothing. may (row_closed row closed) nothing
+
+  -- what is open may be asked
+  pub asks_open : (added : Extra S) (s : State S) → IsOpen s → MayAsk added s
+  asks_open added s opened = λ closed nothing. opened closed
+
 -- either nothing is open and nothing can be opened, or not
 streams_shut : (servers : List Server) (connections : List Connection) (children : List Child) (opened : List Opened) (written : List Written) (most : ℕ)
     → let t : Streams = record { servers = servers; connections = connections; children = children; opened = opened; written = written; most = most } in
@@ -116,18 +125,18 @@ closed_or_open s =
     streams_shut s.streams.servers s.streams.connections s.streams.children s.streams.opened s.streams.written s.streams.most
 
 -- ---- how a run ends
-module _ {S : Type 0} {s t : State S} (row : InRun s t) where
-  pub ends_before : (how : End) → EndsIn t how → EndsIn s how
+module _ {S : Type 0} (added : Extra S) {s t : State S} (row : InRun s t) where
+  pub ends_before : (how : End) → EndsIn added t how → EndsIn added s how
   ends_before how (inl away) = inl away
-  ends_before how (inr met) = inr (was_open row met.0, met.1)
+  ends_before how (inr met) = inr (might_ask added row met.0, met.1)
 
-  pub halts_before : (it : RequestReply S) → HaltsIn t it → HaltsIn s it
+  pub halts_before : (it : RequestReply S) → HaltsIn added t it → HaltsIn added s it
   halts_before (Answers value now) h = tt
   halts_before (Raises fault now) h = tt
   halts_before (Rests now) h = tt
   halts_before (Halts how last) h = ends_before how h
 
-  pub stops_before : (it : Went S) → StopsIn t it → StopsIn s it
+  pub stops_before : (it : Went S) → StopsIn added t it → StopsIn added s it
   stops_before (Goes now) h = tt
   stops_before (Stops how last) h = ends_before how h
 

@@ -8,6 +8,7 @@ use Rattle.model_wire.specs.declared.event.Event.TheVariants as event
 use Rattle.model_wire.specs.Call.{Answer, Call}
 use Rattle.model_wire.specs.Journal.{Entry, Answered}
 use Rattle.model_stream.specs.Streams.{Streams}
+use Rattle.model_machine.specs.Extra.{AsksNothing, Extra}
 use Rattle.model_machine.specs.Sound.{IsClosed}
 use Rattle.model_machine.specs.State.{Standing, State, in_loop, noted, resumed, stands, with_coroutine, with_streams}
 use Rattle.law_changes.specs.Changes.{LoopChange, MayInLoop, made_of_loop}
@@ -50,28 +51,32 @@ made (Calls call) s = noted (event.Called call) s
 abbrev pub IsOpen : {S : Type 0} → State S → Type 0
 IsOpen s = IsClosed s → ⊥
 
+-- The outside may be asked in the middle of a step: something is open or can be opened, or what is added asks.
+abbrev pub MayAsk : {S : Type 0} → Extra S → State S → Type 0
+MayAsk added s = IsClosed s → AsksNothing added → ⊥
+
 -- A call in the middle of a step, which is no select, and the answer that was next.
-pub record IsHeard {S : Type 0} (call : Call) (answer : Answer) (left : List Entry) (s : State S) : Type 0 where
-  pub opened : IsOpen s
+pub record IsHeard {S : Type 0} (added : Extra S) (call : Call) (answer : Answer) (left : List Entry) (s : State S) : Type 0 where
+  pub may_ask : MayAsk added s
   pub other : is_select call ≡ false
   pub answered : s.answers ≡ Answered answer ∷ left
 
-pub record IsUnheard {S : Type 0} (call : Call) (s : State S) : Type 0 where
-  pub opened : IsOpen s
+pub record IsUnheard {S : Type 0} (added : Extra S) (call : Call) (s : State S) : Type 0 where
+  pub may_ask : MayAsk added s
   pub other : is_select call ≡ false
 
 -- What may change while a request is answered: no coroutine is resumed then. A task speaks in its own step alone.
-abbrev pub MayInAnswer : {S : Type 0} → (runner : Option ℕ) → StateChange S → State S → Type 0
-MayInAnswer runner (OfLoop change) s = MayInLoop runner change s.loop
-MayInAnswer runner (Says task text) s = runner ≡ Some task
-MayInAnswer runner (Stands standing task) s = runner ≡ Some task
-MayInAnswer runner (Resumes fresh task input) s = ⊥
-MayInAnswer runner EndsMain s = ⊥
-MayInAnswer runner (ChangesStreams streams) s = IsOpen s
-MayInAnswer runner (Runs it) s = ⊥
-MayInAnswer runner (Hears call answer left) s = IsHeard call answer left s
-MayInAnswer runner (Calls call) s = IsUnheard call s
-MayInAnswer runner _ s = Unit {0}
+abbrev pub MayInAnswer : {S : Type 0} → Extra S → (runner : Option ℕ) → StateChange S → State S → Type 0
+MayInAnswer added runner (OfLoop change) s = MayInLoop runner change s.loop
+MayInAnswer added runner (Says task text) s = runner ≡ Some task
+MayInAnswer added runner (Stands standing task) s = runner ≡ Some task
+MayInAnswer added runner (Resumes fresh task input) s = ⊥
+MayInAnswer added runner EndsMain s = ⊥
+MayInAnswer added runner (ChangesStreams streams) s = IsOpen s
+MayInAnswer added runner (Runs it) s = ⊥
+MayInAnswer added runner (Hears call answer left) s = IsHeard added call answer left s
+MayInAnswer added runner (Calls call) s = IsUnheard added call s
+MayInAnswer added runner _ s = Unit {0}
 
 -- whose step an action is
 abbrev pub runner_of : Action → Option ℕ
@@ -81,18 +86,18 @@ runner_of (action.Wakeup task) = Some task
 runner_of _ = None
 
 -- what may change in a callback
-abbrev pub MayInCallback : {S : Type 0} → (runner : Option ℕ) → StateChange S → State S → Type 0
-MayInCallback runner (Resumes fresh task input) s = runner ≡ Some task
-MayInCallback runner EndsMain s = Unit {0}
-MayInCallback runner (Runs it) s = runner_of it ≡ runner
-MayInCallback runner change s = MayInAnswer runner change s
+abbrev pub MayInCallback : {S : Type 0} → Extra S → (runner : Option ℕ) → StateChange S → State S → Type 0
+MayInCallback added runner (Resumes fresh task input) s = runner ≡ Some task
+MayInCallback added runner EndsMain s = Unit {0}
+MayInCallback added runner (Runs it) s = runner_of it ≡ runner
+MayInCallback added runner change s = MayInAnswer added runner change s
 
 -- what may change in a turn, once its select was answered
-abbrev pub MayInTurn : {S : Type 0} → StateChange S → State S → Type 0
-MayInTurn (ChangesStreams streams) s = IsOpen s
-MayInTurn (Hears call answer left) s = IsHeard call answer left s
-MayInTurn (Calls call) s = IsUnheard call s
-MayInTurn _ s = Unit {0}
+abbrev pub MayInTurn : {S : Type 0} → Extra S → StateChange S → State S → Type 0
+MayInTurn added (ChangesStreams streams) s = IsOpen s
+MayInTurn added (Hears call answer left) s = IsHeard added call answer left s
+MayInTurn added (Calls call) s = IsUnheard added call s
+MayInTurn added _ s = Unit {0}
 
 -- and in a run
 abbrev pub MayInRun : {S : Type 0} → StateChange S → State S → Type 0

@@ -10,8 +10,7 @@ ghost use Rattle.model_loop.specs.Parts.{Handle};
 ghost use Rattle.model_machine.specs.Extra.{Extra, no_extra};
 ghost use Rattle.model_machine.specs.Mids.{mids};
 ghost use Rattle.model_machine.specs.Sound.{IsStateSound};
-ghost use Rattle.model_stream.specs.Streams.{no_streams};
-ghost use Rattle.model_machine.specs.State.{State, noted, start, unbooked_in, with_streams};
+ghost use Rattle.model_machine.specs.State.{State, noted, start, unbooked_in};
 ghost use Rattle.model_machine.specs.Turn.{run_first, run_pending, turn, turn_over, woken_by};
 ghost use Rattle.law_replies.specs.Added.{KeepsSound};
 ghost use Rattle.law_inside.specs.InStep.{AreStatesSound, IsRunSound, LeavesStateSound};
@@ -22,17 +21,14 @@ pub fn nothing_added_keeps_it_sound()
 {}
 
 /// Each state of each run of every program, over whatever the outside answers, is sound: between
-/// two turns, and between any two callbacks of a turn. So it is where so many listeners, connections
-/// and children can be numbered, and of each run that goes on from a sound state.
+/// two turns, and between any two callbacks of a turn, however many listeners, connections and
+/// children can be numbered. So it is of each run that goes on from a sound state.
 pub fn every_state_of_a_run_is_sound<S>()
-    ensures nothing_added { (program : Program) (answers : List Entry) (turns : ℕ)
-        → IsRunSound no_extra turns (start tt program answers) }
+    ensures nothing_added { (most : ℕ) (program : Program) (answers : List Entry) (turns : ℕ)
+        → IsRunSound no_extra turns (start most tt program answers) }
     ensures added { (added : Extra S) → KeepsSound added
-        → (state : S) (program : Program) (answers : List Entry) (turns : ℕ)
-        → IsRunSound added turns (start state program answers) }
-    ensures open_ { (added : Extra S) → KeepsSound added
-        → (state : S) (program : Program) (answers : List Entry) (most turns : ℕ)
-        → IsRunSound added turns (with_streams (no_streams most) (start state program answers)) }
+        → (most : ℕ) (state : S) (program : Program) (answers : List Entry) (turns : ℕ)
+        → IsRunSound added turns (start most state program answers) }
     ensures from_any { (added : Extra S) → KeepsSound added
         → (s : State S) → IsStateSound added s → (turns : ℕ) → IsRunSound added turns s }
 {}

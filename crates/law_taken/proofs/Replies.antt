@@ -25,18 +25,24 @@ use Rattle.model_loop.specs.Parts.{Plain}
 use Rattle.model_loop.specs.Suspend.{suspend}
 use Rattle.model_loop.specs.Tasks.{lives, next_task, spawn}
 use Rattle.model_loop.specs.Timeouts.{exit_timeout, no_timeout, reschedule, timeout_of}
+use Rattle.model_wire.specs.declared.call.Call.TheVariants as call
+use Rattle.model_wire.specs.declared.event.Event.TheVariants as event
+use Rattle.model_wire.specs.Call.{Answer, Call}
+use Rattle.model_wire.specs.Fits.{fits}
+use Rattle.model_wire.specs.Journal.{Entry, Answered, Refused}
 use Rattle.model_machine.specs.Arguments.{as_timeout, as_group}
 use Rattle.model_machine.specs.Extra as extra
 use Rattle.model_machine.specs.Extra.{Extra, ExtraAnswer, ExtraSaid, called}
 use Rattle.model_machine.specs.Outcomes.{input_of}
-use Rattle.model_machine.specs.Replies.{RequestReply, replied, ended, waits, alarmed}
+use Rattle.model_machine.specs.Replies.{RequestReply, Halts, replied, ended, input_by, waits, alarmed}
 use Rattle.model_machine.specs.Replies.{sleeps_for, timed_out_if, exits_timeout}
 use Rattle.model_machine.specs.Replies.{exits_as, exits_group, Wake, serves_until}
 use Rattle.model_machine.specs.Replies.{serves_as, serves, woken_within, woken, reply, decides}
 use Rattle.model_machine.specs.Sound.{AreBlocksOf, AreBlocksOpen, AreStreamsFutures, blocks_of, has_open, is_open, stands_at}
 use Rattle.model_machine.specs.State.{Standing, Asked, Sleeping, Leaving, Serving, Connecting, Yielding}
-use Rattle.model_machine.specs.State.{Reading, ReadingAll, Generator, State, generator, with_loop}
+use Rattle.model_machine.specs.State.{Reading, ReadingAll, Generator, State, generator, noted, with_loop}
 use Rattle.model_machine.specs.Step.{says_of}
+use Rattle.model_machine.specs.Went.{answered_so, ask_so, fitted_so}
 use Rattle.law_changes.specs.Changes.{CallsSoon, CallsLater, MakesFuture, OfParts}
 use Rattle.law_cases.specs.Cases.{Replies, raises, leaves_none, exits_none, tells, names_itself, hands_on, pauses_on, alarms, awaits, prints, makes}
 use Rattle.law_cases.specs.Cases.{sets}
@@ -181,11 +187,27 @@ until_in : {S : Type 0} (o : Option Outcome) (wake : Wake S) (task on key : ℕ)
 until_in (Some outcome) wake task on key s each is = each key (input_of outcome) s is
 until_in None wake task on key s each is = waits_in task on s is.right is.covered
 
+-- an ask leaves the loop as it is, and so does the end of the run there
+asked_in : {S : Type 0} (it : Call) (next : Answer → State S → RequestReply S) (s : State S) → IsGood s.loop
+    → ((answer : Answer) (t : State S) → IsGood t.loop → Covers (next answer t)) → Covers (ask_so Halts it next s)
+asked_in {S} it next s is each = by s.answers
+  where
+    fit : (b : Bool) (answer : Answer) (t : State S) → IsGood t.loop → Covers (fitted_so Halts b it answer next t)
+    fit true answer t good = each answer t good
+    fit false answer t good = good.covered
+
+    by : (entries : List Entry) → Covers (answered_so Halts entries it next (noted (event.Called it) s))
+    by [] = is.covered
+    by (Refused line cause ∷ entries) = is.covered
+    by (Answered answer ∷ entries) = fit (fits it answer) answer _ is
+
 serves_in : {S : Type 0} (answer : ExtraAnswer) (wake : Wake S) (task : ℕ) (s : State S) → WakeCovers wake → IsGood s.loop
     → Covers (serves_as answer wake task s)
 serves_in (extra.Answers value) wake task s each is = is.covered
 serves_in (extra.Raises fault) wake task s each is = is.covered
 serves_in (extra.Waits on key) wake task s each is = until_in (ended s on) wake task on key s each is
+serves_in (extra.Asks number bytes key) wake task s each is =
+    asked_in (call.Extra number bytes) (λ said. wake key (input_by said)) s is (λ said t good. each key (input_by said) t good)
 
 said_in : {S : Type 0} (said : ExtraSaid S) (wake : Wake S) (task : ℕ) (s : State S) → WakeCovers wake → IsGood s.loop
     → Covers (serves said wake task s)

@@ -258,8 +258,8 @@ module _ {S : Type 0} (added : Extra S) where
           (turn_covers s sound c) (λ t h d. run_in turns t h d),
     )
 
-pub begins_covered : {S : Type 0} (state : S) (program : Program) (answers : List Entry) → IsCovered (start state program answers).loop
-begins_covered state program answers = record {
+pub begins_covered : {S : Type 0} (most : ℕ) (state : S) (program : Program) (answers : List Entry) → IsCovered (start most state program answers).loop
+begins_covered most state program answers = record {
   timeouts_few = omega arith;
   groups_few = omega arith;
   covered = λ task h none. omega arith;

@@ -12,9 +12,9 @@ ghost use Rattle.law_taken.specs.Taken.{HasRightLedgers};
 /// takes its request back and the count is 0 already, a script, or what serves further requests,
 /// called `uncancel` on that task before.
 pub fn what_is_taken_back_was_there<S>()
-    ensures nothing_added { (program : Program) (answers : List Entry) (turns : ℕ)
-        → HasRightLedgers no_extra turns (start tt program answers) }
+    ensures nothing_added { (most : ℕ) (program : Program) (answers : List Entry) (turns : ℕ)
+        → HasRightLedgers no_extra turns (start most tt program answers) }
     ensures added { (added : Extra S) → KeepsSound added
-        → (state : S) (program : Program) (answers : List Entry) (turns : ℕ)
-        → HasRightLedgers added turns (start state program answers) }
+        → (most : ℕ) (state : S) (program : Program) (answers : List Entry) (turns : ℕ)
+        → HasRightLedgers added turns (start most state program answers) }
 {}

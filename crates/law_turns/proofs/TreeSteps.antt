@@ -20,7 +20,7 @@ use Rattle.law_turns.specs.Trees.{FitsChange, FitsTree}
 use Rattle.law_turns.proofs.Turning.{as_told}
 
 -- what tells no group adds nothing to what groups were told
-told_in-none : (events more : List Event) → ((group : ℕ) → told_in more group ≡ []) → (group : ℕ) → told_in (events ++ more) group ≡ told_in events group
+pub told_in-none : (events more : List Event) → ((group : ℕ) → told_in more group ≡ []) → (group : ℕ) → told_in (events ++ more) group ≡ told_in events group
 told_in-none [] more none group = none group
 told_in-none (event.Called call ∷ events) more none group = told_in-none events more none group
 told_in-none (event.Got answer ∷ events) more none group = told_in-none events more none group

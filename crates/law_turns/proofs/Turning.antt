@@ -90,8 +90,8 @@ as_told running a b l same s = record {
 }
 
 -- ---- the beginning of a run
-pub start_sound : {S : Type 0} (extra : S) (program : Program) (answers : List Entry) → HasSoundLoop (start extra program answers)
-start_sound extra program answers = first_sound
+pub start_sound : {S : Type 0} (most : ℕ) (extra : S) (program : Program) (answers : List Entry) → HasSoundLoop (start most extra program answers)
+start_sound most extra program answers = first_sound
 
 -- ---- a turn up to its bar
 pub at_time_sound : (told : ℕ → List ℕ) (now : ℕ) (l : Loop) → IsSound None told l → IsSound None told (in_parts (at_time now) l)

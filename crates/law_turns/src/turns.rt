@@ -15,8 +15,8 @@ ghost use Rattle.law_turns.specs.SoundState.{HasSoundLoop, LeavesSoundLoop};
 
 /// A run of every program begins in a state whose loop is sound.
 pub fn a_run_begins_sound<S>()
-    ensures { (extra : S) (program : Program) (answers : List Entry)
-        → HasSoundLoop (start extra program answers) }
+    ensures { (most : ℕ) (extra : S) (program : Program) (answers : List Entry)
+        → HasSoundLoop (start most extra program answers) }
 {}
 
 /// A turn up to its bar keeps it: the time goes on, and timers fall due.

@@ -48,7 +48,7 @@ module _ {A S R : Type 0} (halts : End → State S → R) (next : A → State S 
       ap (λ (es : List Entry). answered_so halts es call (λ it. does halts (rest it) next) (noted (event.Called call) s)) e
       ∙ ap (λ (b : Bool). fitted_so halts b call answer (λ it. does halts (rest it) next) (heard call answer after s)) fit
 
-  does_along : (way : List Move) (tree between : Doing A) (s : State S) (left : List Entry) → Leads tree way between → AllFit (had_on way)
+  pub does_along : (way : List Move) (tree between : Doing A) (s : State S) (left : List Entry) → Leads tree way between → AllFit (had_on way)
       → s.answers ≡ entries_of (had_on way) ++ left → does halts tree next s ≡ does halts between next (along way left s)
   does_along [] tree between s left h fit e =
       ap (λ (d : Doing A). does halts d next s) h ∙ ap (does halts between next) (sym (along_none left s e))

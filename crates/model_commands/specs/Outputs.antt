@@ -1,5 +1,5 @@
 -- What each command may write, by what is seen of the outside before and after.
-use Rattle.std.specs.Prelude.{◌≡◌, ◌≢◌, ℕ, ◌≤◌, Bool, true, false, List, ◌++◌, Option, Some, None, Ok, Err, ◌⊎◌}
+use Rattle.std.specs.Prelude.{◌≡◌, ◌≢◌, ℕ, ◌≤◌, Bool, List, ◌++◌, Option, Some, None, Ok, Err, ◌⊎◌}
 use Rattle.model_tree.specs.Syntax.{Program}
 use Rattle.model_text.specs.Scripts.{script_of}
 use Rattle.model_text.specs.SecondPass.{Judged}
@@ -8,10 +8,10 @@ use Rattle.model_wire.specs.Event.{Event}
 use Rattle.model_wire.specs.Journal.{Entry}
 use Rattle.model_wire.specs.Told.{Agrees, FileFailed, NoneFailed, Rose, ShelfSeen}
 use Rattle.model_wire.specs.Trace.{End}
-use Rattle.model_machine.specs.Program.{FileSays, IsOver, MayCheck, MayReplay, not_run, output_of, script_failed, script_refused, words_refused}
-use Rattle.model_machine.specs.Run.{Run, run}
-use Rattle.model_machine.specs.Served.{is_served}
-use Rattle.model_machine.specs.Written.{IsFrontOf, ProgramOutput}
+use Rattle.model_program.specs.Program.{FileSays, IsOver, MayCheck, MayReplay, only, output_of, script_failed, script_refused, words_refused}
+use Rattle.model_machine.specs.Run.{Run}
+use Rattle.model_program.specs.Runs.{run}
+use Rattle.model_program.specs.Written.{IsFrontOf, ProgramOutput}
 use Rattle.model_words.specs.Words.{Command, Check, Replay, Run as RunIt, Work}
 use Rattle.model_commands.specs.Asked.{Asks, AsksOnce}
 use Rattle.model_commands.specs.Recorded.{FailsRecording, recorded}
@@ -68,29 +68,28 @@ MayRun it program pace output =
 abbrev pub IsUntouched : Between → Type 0
 IsUntouched it = (it.after ≡ it.before) × (it.new ≡ it.old)
 
--- by whether all that the program asks is served: others don't run so far, and ask nothing
-abbrev pub MayRunIf : Outside → (served : Bool) → Program → Pace → ProgramOutput → Type 0
-MayRunIf it false program pace output = IsUntouched it.seen × (output ≡ not_run)
-MayRunIf it true program pace output = MayRun it program pace output
-
 -- by what the text of the script spells
 abbrev pub MayRunScript : Outside → Judged Program → Pace → ProgramOutput → Type 0
 MayRunScript it (Err fault) pace output = IsUntouched it.seen × (output ≡ script_refused fault)
-MayRunScript it (Ok program) pace output = MayRunIf it (is_served program) program pace output
+MayRunScript it (Ok program) pace output = MayRun it program pace output
 
 abbrev pub MayRunOver : Outside → (script : List ℕ) → Pace → ProgramOutput → Type 0
 MayRunOver it script pace output =
     (FileFailed script it.seen.old it.seen.new × (it.seen.new.file ≡ it.seen.old.file) × (it.seen.after ≡ it.seen.before) × (output ≡ script_failed))
     ⊎ ((text : List ℕ) × FileSays (it.seen.old.file script) text × MayRunScript it (script_of text) pace output)
 
--- What may be written for words. The work of every seed asks for a connection, so its script doesn't run so far.
+-- the work of a seed isn't done so far: line 1, and a cause that no script is refused for
+abbrev pub no_work : ProgramOutput
+no_work = only (end.ScriptRefused 1 9)
+
+-- what may be written for words
 abbrev pub MayWrite : Outside → Option Command → ProgramOutput → Type 0
 MayWrite it None output = NoneFailed it.seen.old it.seen.new × (output ≡ words_refused)
 MayWrite it (Some (Check script)) output = MayCheck it.seen.old it.seen.new script output
 MayWrite it (Some (Replay script journal trace turns)) output =
     MayReplay it.seen.old it.seen.new script (record { journal = journal; trace = trace; turns = turns }) output
 MayWrite it (Some (RunIt script file trace turns)) output = MayRunOver it script (record { trace = trace; turns = turns; file = file }) output
-MayWrite it (Some (Work seed)) output = NoneFailed it.seen.old it.seen.new × (output ≡ not_run)
+MayWrite it (Some (Work seed)) output = NoneFailed it.seen.old it.seen.new × (output ≡ no_work)
 
 -- What is known where nothing was written: no file failed; and in a run nothing was recorded, and the wire was asked one call at most.
 abbrev pub IsUnbegun : Outside → Option Command → Type 0

@@ -2,7 +2,7 @@
 use Rattle.std.specs.Prelude.{◌≡◌, ◌≢◌, ℕ, List, Option, None, ◌⊎◌}
 use Rattle.model_wire.specs.Event.{Event}
 use Rattle.model_wire.specs.Told.{ShelfSeen, SinkSeen, WireSeen}
-use Rattle.model_machine.specs.Written.{SinkStops, StopsShort, WritesWhole}
+use Rattle.model_program.specs.Written.{SinkStops, StopsShort, WritesWhole}
 use Rattle.model_words.specs.Words.{command_of}
 use Rattle.model_commands.specs.Outputs.{IsUnbegun, KeepsFiles, KeepsWire, MayWrite, Outside}
 use Rattle.model_commands.specs.Telling.{Between, TellsAll, TellsFirst, TellsFirstAndOne}

@@ -2,7 +2,7 @@
 use Rattle.std.specs.Prelude.{◌≡◌, ℕ, ◌≤◌, List, ◌++◌, Option, length}
 use Rattle.model_wire.specs.Event.{Event, calls_in}
 use Rattle.model_wire.specs.Told.{ShelfSeen, WireSeen}
-use Rattle.model_machine.specs.Written.{IsFrontOf}
+use Rattle.model_program.specs.Written.{IsFrontOf}
 use Rattle.model_commands.specs.Asked.{Asks}
 use Rattle.model_commands.specs.Recorded.{Records, recorded}
 

@@ -1,6 +1,6 @@
 -- Requests that are added to the loop's own: what serves them, as functions of its own state and the machine's. Each call
 -- gives its new state, what it changes of the loop, step by step, and an answer.
-use Rattle.std.specs.Prelude.{◌≡◌, ◌<◌, ℕ, ℤ, pos, Bool, false, List, [], ◌∷◌, ◌++◌, codes}
+use Rattle.std.specs.Prelude.{◌≡◌, ◌<◌, ℕ, ℤ, pos, Bool, true, false, List, [], ◌∷◌, ◌++◌, Option, Some, None, codes}
 use Rattle.std.specs.Fmt.{signed_decimal}
 use Rattle.model_value.specs.declared.action.Action.TheVariants as action
 use Rattle.model_value.specs.declared.kind.Kind.TheVariants.{NameError}
@@ -51,6 +51,21 @@ pub data ExtraAnswer : Type 0 where
   Raises : (fault : Exc) → ExtraAnswer
   -- the task waits for this future, and the request is kept under this key
   Waits : (on key : ℕ) → ExtraAnswer
+  -- the outside is asked, in the middle of the step, and the request is kept under this key
+  Asks : (code : ℤ) (bytes : List ℕ) (key : ℕ) → ExtraAnswer
+
+-- the key under which a request is kept that will be woken
+abbrev pub key_of : ExtraAnswer → Option ℕ
+key_of (Answers value) = None
+key_of (Raises fault) = None
+key_of (Waits on key) = Some key
+key_of (Asks code bytes key) = Some key
+
+abbrev pub asks_outside : ExtraAnswer → Bool
+asks_outside (Answers value) = false
+asks_outside (Raises fault) = false
+asks_outside (Waits on key) = false
+asks_outside (Asks code bytes key) = true
 
 pub record ExtraCall (S : Type 0) : Type 0 where
   pub state : S
@@ -60,8 +75,8 @@ pub record ExtraSaid (S : Type 0) : Type 0 where
   pub call : ExtraCall S
   pub answer : ExtraAnswer
 
--- `ask` is a task's request, `wake` what a wait came to, `act` its own handle that runs, and `item` news of the outside. A
--- request that goes on waiting for what is done is woken at once; `wakes_left` falls each time.
+-- `ask` is a task's request, `wake` what a wait came to or what the outside answered, `act` its own handle that runs, and `item`
+-- news of the outside. A request that waits for what is done, or asks the outside, is woken at once; `wakes_left` falls each time.
 pub record Extra (S : Type 0) : Type 0 where
   pub ask : (task : ℕ) (code : ℤ) (arguments : List Value) → State S → ExtraSaid S
   pub wake : (key : ℕ) (input : Input) → State S → ExtraSaid S
@@ -70,11 +85,17 @@ pub record Extra (S : Type 0) : Type 0 where
   pub item : (code : ℤ) (bytes : List ℕ) → State S → ExtraCall S
   pub watches : S → Bool
 
--- What is added keeps to its count: each time that it is woken and waits on, fewer times are left.
+-- What is added keeps to its count: each time that a request is woken and is to be woken again, fewer times are left.
 abbrev pub WakesFall : {S : Type 0} → Extra S → Type 0
 WakesFall {S} added =
-    (key : ℕ) (input : Input) (s : State S) (on next : ℕ) → (added.wake key input s).answer ≡ Waits on next
+    (key : ℕ) (input : Input) (s : State S) (next : ℕ) → key_of (added.wake key input s).answer ≡ Some next
     → added.wakes_left next (added.wake key input s).call.state < added.wakes_left key s.extra
+
+-- none of its requests asks the outside
+pub record AsksNothing {S : Type 0} (added : Extra S) : Type 0 where
+  pub ask : (task : ℕ) (code : ℤ) (arguments : List Value) (s : State S)
+      → asks_outside (added.ask task code arguments s).answer ≡ false
+  pub wake : (key : ℕ) (input : Input) (s : State S) → asks_outside (added.wake key input s).answer ≡ false
 
 -- the state after a call
 abbrev pub called : {S : Type 0} → ExtraCall S → State S → State S

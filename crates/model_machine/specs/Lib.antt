@@ -4,15 +4,11 @@ pub mod Extra
 pub mod Mids
 pub mod Outcomes
 pub mod Outside
-pub mod Program
 pub mod Replies
 pub mod Run
-pub mod Served
 pub mod Sound
 pub mod State
 pub mod Step
 pub mod Told
-pub mod Transcript
 pub mod Turn
 pub mod Went
-pub mod Written

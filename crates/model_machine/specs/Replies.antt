@@ -15,9 +15,12 @@ use Rattle.model_value.specs.Shown.{shown}
 use Rattle.model_value.specs.Value.{Value, Nothing, Truth, Int, Bytes, Fut, Task, Group, Timeout, Server, Child, Errs, Exc, Outcome, exception_of}
 use Rattle.model_says.specs.Operations.{out_of_range}
 use Rattle.model_says.specs.Requests.{bad_argument}
+use Rattle.model_wire.specs.declared.answer.Answer.TheVariants as answer
+use Rattle.model_wire.specs.declared.call.Call.TheVariants as call
 use Rattle.model_wire.specs.declared.event.End.TheVariants as end
 use Rattle.model_wire.specs.declared.event.Event.TheVariants as event
 use Rattle.model_wire.specs.declared.event.Handed.{Handed}
+use Rattle.model_wire.specs.Call.{Answer}
 use Rattle.model_wire.specs.Trace.{End}
 use Rattle.model_loop.specs.Futures.{future_outcome, new_plain, next_future, settle}
 use Rattle.model_loop.specs.Groups.{GroupExit, Waits, Passes, Raises as RaisedBy, Exited, Refusal, create, enter_group, exit_begin, exit_woken, group_of}
@@ -55,6 +58,7 @@ use Rattle.model_machine.specs.Extra.{Extra, ExtraAnswer, ExtraSaid, called}
 use Rattle.model_machine.specs.Outcomes.{input_of}
 use Rattle.model_machine.specs.State.{Standing, Asked, Sleeping, Leaving, Serving, Connecting, Yielding, Reading, ReadingAll, State, in_loop, with_loop}
 use Rattle.model_machine.specs.State.{with_streams, unbooked_in, noted, stands, with_coroutine}
+use Rattle.model_machine.specs.Went.{ask_so}
 
 pub data RequestReply (S : Type 0) : Type 0 where
   -- the coroutine goes on with a value
@@ -327,7 +331,7 @@ abbrev pub code_of : Option ℤ → Value
 code_of None = Nothing
 code_of (Some code) = Int code
 
--- ---- requests that are added. One that goes on waiting for what is done is woken at once.
+-- ---- requests that are added. One that waits for what is done, or asks the outside, is woken at once.
 abbrev pub Wake : Type 0 → Type 0
 Wake S = (key : ℕ) → Input → State S → RequestReply S
 
@@ -335,16 +339,39 @@ abbrev pub serves_until : {S : Type 0} → Option Outcome → Wake S → (task o
 serves_until (Some outcome) wake task on key s = wake key (input_of outcome) s
 serves_until None wake task on key s = Rests (stands (Serving key) task (waits task on s))
 
+abbrev pub extra_refused : Input
+extra_refused = Throw (exception_of OSError (codes "extra refused"))
+
+-- what the outside answered: bytes, or a refusal; no other answer fits
+abbrev pub input_by : Answer → Input
+input_by (answer.Extra bytes) = Send (Bytes bytes)
+input_by answer.Refused = extra_refused
+input_by (answer.Turn now items) = extra_refused
+input_by answer.Done = extra_refused
+input_by answer.Conn = extra_refused
+input_by answer.Again = extra_refused
+input_by answer.Broken = extra_refused
+input_by (answer.Data bytes) = extra_refused
+input_by answer.Eof = extra_refused
+input_by (answer.Took count) = extra_refused
+input_by answer.Child = extra_refused
+
+-- the outside is asked in the middle of the step
+abbrev pub serves_asking : {S : Type 0} → (code : ℤ) (bytes : List ℕ) → Wake S → (key : ℕ) → State S → RequestReply S
+serves_asking code bytes wake key s =
+    ask_so Halts (call.Extra code bytes) (λ said. wake key (input_by said)) s
+
 abbrev pub serves_as : {S : Type 0} → ExtraAnswer → Wake S → ℕ → State S → RequestReply S
 serves_as (extra.Answers value) wake task s = Answers value s
 serves_as (extra.Raises fault) wake task s = Raises fault s
 serves_as (extra.Waits on key) wake task s = serves_until (ended s on) wake task on key s
+serves_as (extra.Asks code bytes key) wake task s = serves_asking code bytes wake key s
 
 abbrev pub serves : {S : Type 0} → ExtraSaid S → Wake S → ℕ → State S → RequestReply S
 serves said wake task s = serves_as said.answer wake task (called said.call s)
 
 module _ {S : Type 0} (added : Extra S) where
-  -- Woken so many times at most. What is added says how many times are left, and that falls each time.
+  -- Woken so many times at most. What is added says how many times are left, and that falls each time, whatever wakes it.
   abbrev pub woken_within : ℕ → ℕ → Wake S
   woken_within zero task key input s = Halts (end.Runaway task) s
   woken_within (suc wakes) task key input s = serves (added.wake key input s) (woken_within wakes task) task s

@@ -1,13 +1,10 @@
 -- A whole run. Source: `base_events.py`, `run_until_complete` and `_run_once`.
 use Rattle.std.specs.Prelude.{ℕ, zero, suc, Bool, true, false, List}
-use Rattle.model_says.specs.Says.{step_limit}
-use Rattle.model_tree.specs.Syntax.{Program}
 use Rattle.model_wire.specs.declared.event.End.TheVariants as end
 use Rattle.model_wire.specs.Event.{Event}
-use Rattle.model_wire.specs.Journal.{Entry}
 use Rattle.model_wire.specs.Trace.{End}
-use Rattle.model_machine.specs.Extra.{Extra, no_extra}
-use Rattle.model_machine.specs.State.{State, start}
+use Rattle.model_machine.specs.Extra.{Extra}
+use Rattle.model_machine.specs.State.{State}
 use Rattle.model_machine.specs.Turn.{is_stalled, turn}
 use Rattle.model_machine.specs.Went.{Went, Goes, Stops}
 
@@ -31,8 +28,3 @@ module _ {S : Type 0} (limit : ℕ) (added : Extra S) where
   unfoldable pub run_on : (allowed left : ℕ) → State S → Run
   run_on allowed zero s = ends (turns_over (is_stalled added s) allowed) s
   run_on allowed (suc left) s = run_after (run_on allowed left) (turn limit added s)
-
--- The run of a program over what the outside answers, of at most so many turns, where nothing is added to the loop's own
--- requests.
-abbrev pub run : Program → List Entry → (allowed : ℕ) → Run
-run program answers allowed = run_on step_limit no_extra allowed allowed (start tt program answers)

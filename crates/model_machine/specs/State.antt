@@ -61,14 +61,15 @@ abbrev pub generator : ℕ → List Value → Generator
 generator coroutine arguments =
     record { coroutine = coroutine; arguments = arguments; tape = []; standing = Asked }
 
--- A run of a program begins, over what the outside will answer. So far no listener, connection or child can be numbered.
-abbrev pub start : {S : Type 0} → S → Program → List Entry → State S
-start extra program answers =
+-- A run of a program begins, over what the outside will answer. So many listeners, connections and children can be numbered,
+-- of each kind.
+abbrev pub start : {S : Type 0} → (most : ℕ) → S → Program → List Entry → State S
+start most extra program answers =
     record {
       program = program;
       extra = extra;
       loop = first_loop;
-      streams = no_streams 0;
+      streams = no_streams most;
       generators = generator (place_of program main_text) [] ∷ [];
       futures = [];
       main_done = false;

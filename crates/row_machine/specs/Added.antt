@@ -17,7 +17,7 @@ use Rattle.model_wire.specs.Journal.{Entry, Answered}
 use Rattle.model_loop.specs.Futures.{next_future}
 use Rattle.model_wire.specs.declared.event.End.TheVariants.{Returned}
 use Rattle.model_machine.specs.Extra.{CallsLater, Extra, ExtraAnswer, MakesPlain, Answers, Raises, Settles, Waits}
-use Rattle.model_machine.specs.Replies.{shown_all}
+use Rattle.model_machine.specs.Replies.{most_ids, shown_all}
 use Rattle.model_machine.specs.Run.{Run, run_on}
 use Rattle.model_machine.specs.State.{start}
 use Rattle.model_says.specs.Says.{step_limit}
@@ -46,7 +46,7 @@ alarm =
     }
 
 abbrev pub seen_with_alarm : List ℕ → List ℕ → Seen
-seen_with_alarm script times = seen_of (run_on step_limit alarm 1000 1000 (start 0 (program_of script) (at times)))
+seen_with_alarm script times = seen_of (run_on step_limit alarm 1000 1000 (start most_ids 0 (program_of script) (at times)))
 
 abbrev pub waits_text : List ℕ
 waits_text =
@@ -107,7 +107,7 @@ abbrev pub news : Entry
 news = Answered (answer.Turn 4 (item.Extra (pos 1) [] ∷ []))
 
 abbrev pub run_with_bell : List ℕ → List Entry → Run
-run_with_bell script entries = run_on step_limit bell 1000 1000 (start 0 (program_of script) entries)
+run_with_bell script entries = run_on step_limit bell 1000 1000 (start most_ids 0 (program_of script) entries)
 
 abbrev pub watched : List Watch
 watched = watch.Extra ∷ []

@@ -1,4 +1,5 @@
 pub mod Added
+pub mod Asking
 pub mod Cancels
 pub mod Coroutines
 pub mod Groups

@@ -1,19 +1,26 @@
 -- Scripts and journals as texts, and all that happens in their runs.
 use Rattle.std.specs.Prelude.{ℕ, List, [], ◌∷◌, ◌++◌, Some, codes}
-use Rattle.model_value.specs.Value.{Nothing}
+use Rattle.model_value.specs.Value.{Nothing, exception_of}
+use Rattle.model_value.specs.declared.kind.Kind.TheVariants.{OSError}
 use Rattle.model_value.specs.declared.action.Action.TheVariants.{Step, MainDone}
-use Rattle.model_wire.specs.declared.answer.Answer.TheVariants.{Turn, Eof}
-use Rattle.model_wire.specs.declared.call.Call.TheVariants.{Select}
+use Rattle.model_wire.specs.declared.answer.Answer.TheVariants.{Done, Eof, Refused, Turn}
+use Rattle.model_wire.specs.declared.call.Call.TheVariants.{Listen, Select}
 use Rattle.model_wire.specs.declared.event.End.TheVariants as end
 use Rattle.model_wire.specs.declared.event.Event.TheVariants.{Called, Got, Ran, Said}
+use Rattle.model_wire.specs.declared.watch.Watch.TheVariants.{Server}
 use Rattle.model_wire.specs.Call.{Call}
 use Rattle.model_wire.specs.Event.{Event}
 use Rattle.model_wire.specs.JournalText.{entries_of}
-use Rattle.model_machine.specs.Run.{Run, run}
+use Rattle.model_machine.specs.Run.{Run}
+use Rattle.model_program.specs.Runs.{run}
 use Rattle.row_machine.specs.Reading.{program_of, text}
 use Rattle.row_machine.specs.Turns.{hello_text}
 
--- the run of the script that prints `hi` over a journal, of at most so many turns
+-- the run of a script over a journal
+abbrev pub over : List ℕ → List (List ℕ) → Run
+over script journal = run (program_of script) (entries_of (text journal)) 1000
+
+-- that of the script that prints `hi`, of at most so many turns
 abbrev pub hello_over : List (List ℕ) → ℕ → Run
 hello_over journal turns = run (program_of hello_text) (entries_of (text journal)) turns
 
@@ -39,7 +46,36 @@ at_refused = record { events = first_turn ++ Called at_once ∷ []; end = end.Jo
 abbrev pub misfit : Run
 misfit = record { events = first_turn ++ Called at_once ∷ Got Eof ∷ []; end = end.Mismatch 2 at_once }
 
--- ---- scripts that don't run so far
+-- ---- scripts of connections
+abbrev pub first_step : List Event
+first_step = Called at_once ∷ Got (Turn 0 []) ∷ Ran (Step 0) ∷ []
+
+-- a request that is never reached asks nothing
+abbrev pub never_asked : Run
+never_asked =
+    record { events = first_step ++ Called at_once ∷ Got (Turn 0 []) ∷ Ran MainDone ∷ []; end = end.Returned Nothing }
+
+-- a listener is asked for in the middle of main's step, and watched by the next turn
+abbrev pub listened : Run
+listened =
+    record {
+      events =
+          first_step
+          ++ Called (Listen 5) ∷ Got Done
+          ∷ Called (Select (Some 0) (Server 0 ∷ [])) ∷ Got (Turn 0 []) ∷ Ran MainDone ∷ [];
+      end = end.Returned Nothing;
+    }
+
+-- one that is refused is none
+abbrev pub listening_refused : Run
+listening_refused =
+    record {
+      events =
+          first_step
+          ++ Called (Listen 5) ∷ Got Refused ∷ Called at_once ∷ Got (Turn 0 []) ∷ Ran MainDone ∷ [];
+      end = end.Raised (exception_of OSError (codes "listen refused"));
+    }
+
 abbrev pub asks_deep_inside : List ℕ
 asks_deep_inside =
     text

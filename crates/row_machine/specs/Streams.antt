@@ -1,4 +1,4 @@
--- Scripts of connections and children, over answers that were written by hand; at most three of each kind are opened.
+-- Scripts of connections and children, over answers that were written by hand.
 use Rattle.std.specs.Prelude.{ℕ, pos, true, false, List, [], ◌∷◌, Some, None, codes, map}
 use Rattle.model_value.specs.declared.action.ChildItem.TheVariants as news
 use Rattle.model_value.specs.declared.kind.Kind.TheVariants as kind
@@ -15,10 +15,10 @@ use Rattle.model_wire.specs.Event.{Event}
 use Rattle.model_wire.specs.Journal.{Answered}
 use Rattle.model_wire.specs.Trace.{End}
 use Rattle.model_says.specs.Says.{step_limit}
-use Rattle.model_stream.specs.Streams.{no_streams}
 use Rattle.model_machine.specs.Extra.{no_extra}
 use Rattle.model_machine.specs.Run.{Run, run_on}
 use Rattle.model_machine.specs.State.{start}
+use Rattle.model_program.specs.Runs.{run}
 use Rattle.row_machine.specs.Reading.{PrintedLine, lines_of, prints, program_of, text}
 
 -- what a row compares: the calls in order, what was printed, and the end
@@ -36,9 +36,13 @@ abbrev pub outcome_of : Run → Outcome
 outcome_of it = record { calls = calls_of it.events; lines = lines_of it.events; end = it.end }
 
 abbrev pub over : List ℕ → List Answer → Outcome
-over text answers =
+over text answers = outcome_of (run (program_of text) (map Answered answers) 1000)
+
+-- the same where so few of each kind can be numbered
+abbrev pub over_few : ℕ → List ℕ → List Answer → Outcome
+over_few most text answers =
     outcome_of
-    (run_on step_limit no_extra 1000 1000 (record (start tt (program_of text) (map Answered answers)) { streams = no_streams 3 }))
+    (run_on step_limit no_extra 1000 1000 (start most tt (program_of text) (map Answered answers)))
 
 -- A listener accepts a connection, whose handler reads a line and closes it; then the listener is closed.
 abbrev pub listener_text : List ℕ

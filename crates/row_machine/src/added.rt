@@ -5,7 +5,7 @@ ghost use Rattle.std.specs.Prelude.{◌≡◌, [], ◌∷◌, ◌++◌, Some};
 ghost use Rattle.model_value.specs.Value.{Nothing};
 ghost use Rattle.model_wire.specs.declared.call.Call.TheVariants.{Select};
 ghost use Rattle.model_wire.specs.declared.event.End.TheVariants.{Mismatch, Returned};
-ghost use Rattle.model_machine.specs.Run.{run};
+ghost use Rattle.model_program.specs.Runs.{run};
 ghost use Rattle.row_machine.specs.Reading.{at, program_of};
 ghost use Rattle.row_machine.specs.Added.{run_with_bell, news, news_events, seen_with_alarm, waits_text, waits_seen, cancelled_text, cancelled_seen};
 

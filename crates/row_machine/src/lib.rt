@@ -3,6 +3,7 @@
 #![tactic(auto)]
 
 pub mod added;
+pub mod asking;
 pub mod cancels;
 pub mod coroutines;
 pub mod groups;

@@ -3,12 +3,9 @@
 
 ghost use Rattle.std.specs.Prelude.{◌≡◌, [], ◌∷◌, ◌++◌, codes, true, false};
 ghost use Rattle.model_wire.specs.Trace.{line, lines_of_events};
-ghost use Rattle.model_machine.specs.Program.{faulted, output_of};
-ghost use Rattle.model_machine.specs.Served.{is_served};
+ghost use Rattle.model_program.specs.Program.{faulted, output_of};
 ghost use Rattle.model_words.specs.Words.{most_turns};
-ghost use Rattle.row_machine.specs.Reading.{program_of};
-ghost use Rattle.row_machine.specs.Turns.{hello_text};
-ghost use Rattle.row_machine.specs.Outputs.{asks_deep_inside, at_refused, hello_over, listens, misfit, out_of_answers, out_of_turns, whole};
+ghost use Rattle.row_machine.specs.Outputs.{asks_deep_inside, at_refused, hello_over, listened, listening_refused, listens, misfit, never_asked, out_of_answers, out_of_turns, over, whole};
 
 /// All events of a run: to its end, of one turn, over a journal that ends, with a line that is
 /// none, and with an answer that doesn't fit.
@@ -39,9 +36,12 @@ pub fn outputs()
         } }
 {}
 
-/// Requests on connections aren't served so far, however deep they stand.
-pub fn scripts_that_run_so_far()
-    ensures hello { is_served (program_of hello_text) ≡ true }
-    ensures deep { is_served (program_of asks_deep_inside) ≡ false }
-    ensures listens { is_served (program_of listens) ≡ false }
+/// Scripts that ask for a connection or a listener run like all others: one whose request is never
+/// reached, and one that listens, over a journal in which it may and over one in which it may not.
+pub fn scripts_of_connections()
+    ensures deep { over asks_deep_inside (codes "turn 0" ∷ codes "turn 0" ∷ []) ≡ never_asked }
+    ensures listens { over listens (codes "turn 0" ∷ codes "ok" ∷ codes "turn 0" ∷ [])
+        ≡ listened }
+    ensures refused { over listens (codes "turn 0" ∷ codes "refused" ∷ codes "turn 0" ∷ [])
+        ≡ listening_refused }
 {}

@@ -2,7 +2,7 @@
 #![tactic(auto, unfolding(model_text::specs::Tokens::tokens_of, model_text::specs::Pieces::piece_at, model_text::specs::Tokens::piece_tokens, model_text::specs::Levels::term_of, model_text::specs::Forms::form_of, model_text::specs::FirstPass::forms_from, model_text::specs::SecondPass::second_pass, model_text::specs::Bodies::statements_in, model_text::specs::Scripts::script_of, model_says::specs::Says::course, model_machine::specs::Replies::reply, model_machine::specs::Step::serve, model_machine::specs::Step::step, model_machine::specs::Turn::effect, model_machine::specs::Turn::run_below, model_machine::specs::Turn::turn, model_machine::specs::Run::run_on))]
 
 ghost use Rattle.std.specs.Prelude.{◌≡◌};
-ghost use Rattle.row_machine.specs.Streams.{over, listener_text, listener_answers, listener_seen, write_after_eof_text, write_after_eof_answers, write_after_eof_seen, refused_text, refused_answers, refused_seen, exit_first_text, exit_first_answers, exit_first_seen, failing_handler_text, failing_handler_answers, failing_handler_seen, dropped_text, dropped_answers, dropped_seen, given_up_text, given_up_answers, given_up_seen, numbered_text, numbered_answers, numbered_seen, broken_stdin_text, broken_stdin_answers, broken_stdin_seen, drained_text, drained_answers, drained_seen};
+ghost use Rattle.row_machine.specs.Streams.{over, over_few, listener_text, listener_answers, listener_seen, write_after_eof_text, write_after_eof_answers, write_after_eof_seen, refused_text, refused_answers, refused_seen, exit_first_text, exit_first_answers, exit_first_seen, failing_handler_text, failing_handler_answers, failing_handler_seen, dropped_text, dropped_answers, dropped_seen, given_up_text, given_up_answers, given_up_seen, numbered_text, numbered_answers, numbered_seen, broken_stdin_text, broken_stdin_answers, broken_stdin_seen, drained_text, drained_answers, drained_seen};
 
 /// A listener accepts a connection, whose handler reads a line and closes it; then the listener is closed.
 pub fn listener()
@@ -39,9 +39,9 @@ pub fn given_up()
     ensures { over given_up_text given_up_answers ≡ given_up_seen }
 {}
 
-/// Where no more can be numbered, the outside is not asked.
+/// Where no more can be numbered, as a fourth of three, the outside is not asked.
 pub fn numbered()
-    ensures { over numbered_text numbered_answers ≡ numbered_seen }
+    ensures { over_few 3 numbered_text numbered_answers ≡ numbered_seen }
 {}
 
 /// A standard input that breaks with bytes unsent is lost with an exception, which who waits for its close is thrown.

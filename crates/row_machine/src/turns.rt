@@ -6,7 +6,7 @@ ghost use Rattle.model_value.specs.Value.{Nothing};
 ghost use Rattle.model_wire.specs.Journal.{Refused};
 ghost use Rattle.model_wire.specs.declared.event.End.TheVariants.{JournalRefused, Over, Returned, Turns};
 ghost use Rattle.model_machine.specs.Outside.{select};
-ghost use Rattle.model_machine.specs.Run.{run};
+ghost use Rattle.model_program.specs.Runs.{run};
 ghost use Rattle.row_machine.specs.Reading.{at, program_of, seen, seen_of};
 ghost use Rattle.row_machine.specs.Turns.{first_come_first_run_text, first_come_first_run_seen, equal_deadlines_text, equal_deadlines_seen, stalled_text, stalled_seen, hello_text, hello_until};
 

@@ -1,6 +1,6 @@
 -- What is added: `extra(1, list)` is answered at once, and `extra(2, list)` waits until the next turn.
 use Rattle.std.specs.Prelude.{◌≡◌, ℕ, ℤ, pos, Bool, true, false, List, [], ◌∷◌, ◌++◌, Option, Some, None, length, slice_get, refl}
-use Rattle.std.proofs.Common.{◌∙◌, subst, sym, arith, length-append}
+use Rattle.std.proofs.Common.{◌∙◌, subst, arith, length-append}
 use Rattle.model_value.specs.Input.{Input}
 use Rattle.model_value.specs.Value.{Value, Int}
 use Rattle.model_value.specs.declared.input.Input.TheVariants.{Send, Throw}
@@ -11,7 +11,7 @@ use Rattle.model_loop.specs.Owning.{is_plain}
 use Rattle.model_loop.specs.Parts.{Parts, Plain}
 use Rattle.model_loop.specs.Tasks.{next_task}
 use Rattle.model_machine.specs.Extra.{Extra, ExtraAnswer, Answers, Raises, Waits, ExtraCall, ExtraSaid, ExtraStep, MakesPlain, Settles, CallsSoon, WakesFall}
-use Rattle.model_machine.specs.Extra.{unknown_code}
+use Rattle.model_machine.specs.Extra.{key_of, unknown_code}
 use Rattle.model_machine.specs.Sound.{names_made}
 use Rattle.model_machine.specs.State.{State}
 use Rattle.law_extras.specs.Allowed.{AreAllowed, IsAnswerAllowed, IsSaidAllowed, MakesAllowedSteps}
@@ -120,17 +120,17 @@ next_turn_allowed = record {
   item = λ code bytes s sound. tt;
 }
 
--- no wake waits on
-abbrev IsWait : ExtraAnswer → Type 0
-IsWait (Waits on key) = Unit {0}
-IsWait _ = ⊥
+-- what is woken is not to be woken again
+abbrev IsNone : {A : Type 0} → Option A → Type 0
+IsNone None = Unit {0}
+IsNone (Some it) = ⊥
 
-goes_on_alone : (input : Input) → IsWait (woken_by input) → ⊥
-goes_on_alone (Send value) h = h
-goes_on_alone (Throw fault) h = h
+woken_once : (input : Input) → IsNone (key_of (woken_by input))
+woken_once (Send value) = tt
+woken_once (Throw fault) = tt
 
 pub next_turn_falls : WakesFall next_turn_means
-next_turn_falls = λ key input s on next e. absurd (goes_on_alone input (subst IsWait (sym e) tt))
+next_turn_falls = λ key input s next e. absurd (subst IsNone e (woken_once input))
 
 abbrev pub next_turn : Added NextTurn
 next_turn =
@@ -143,5 +143,4 @@ next_turn =
       made = λ t p x kept h id own. (plain_within p id (h.1 id own).0).1;
       allowed = next_turn_allowed;
       falls = next_turn_falls;
-      quiet = λ kept. refl;
     }

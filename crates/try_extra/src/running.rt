@@ -1,8 +1,10 @@
-//! A script's run, over answers that take no time.
-use crate::next_turn::NextTurn;
+//! A script's run over what the outside answers.
+ghost use Rattle.aio_extra.specs.Added.{KeepsNothing};
+
 use crate::stopped::RunStopped;
 use aio_base::Outcome;
 use aio_core::{Kernel, Went};
+use aio_extra::Extra;
 use aio_memwire::JournalWire;
 use aio_program::Program;
 use aio_script::read;
@@ -10,23 +12,37 @@ use aio_trace::{End, last_line, lines};
 use aio_wire::{MemShelf, Shelf, Stop, Wire};
 use std::alloc::Global;
 
-/// The answers of the outside: the time stays at 0.
-const ANSWERS: &str = "turn 0\nturn 0\nturn 0\nturn 0\nturn 0\nturn 0\nturn 0\nturn 0\n";
+/// Turns whose time stays at 0.
+pub const AT_ONCE: &str = "turn 0\nturn 0\nturn 0\nturn 0\nturn 0\nturn 0\nturn 0\nturn 0\n";
 
 /// More turns than there are answers.
 const TURNS: u64 = 10;
 
-/// The transcript of a script, with the trace.
-pub fn transcript(alloc: Global, script: &str) -> Result<Vec<u8>, RunStopped> {
+/// The transcript of a script over these answers, with the trace.
+pub fn transcript<X: Extra + Drop>(
+    alloc: Global,
+    script: &str,
+    answers: &str,
+    extra: X,
+) -> Result<Vec<u8>, RunStopped>
+    requires fresh { ∥ ((kept : X.added.Kept) × KeepsNothing X.added extra kept) ∥₁ }
+{
     let program = read(alloc, script.as_bytes())?;
     let mut shelf = MemShelf::new(alloc);
-    let _took = shelf.append(alloc, "answers", ANSWERS.as_bytes())?;
+    let _took = shelf.append(alloc, "answers", answers.as_bytes())?;
     let mut wire = JournalWire::new(alloc, &mut shelf, "answers");
-    drive(alloc, &program, &mut wire)
+    drive(alloc, &program, &mut wire, extra)
 }
 
-fn drive<W: Wire>(alloc: Global, program: &Program, wire: &mut W) -> Result<Vec<u8>, RunStopped> {
-    let mut kernel = Kernel::new(alloc, program, NextTurn::new(alloc))?;
+fn drive<W: Wire, X: Extra + Drop>(
+    alloc: Global,
+    program: &Program,
+    wire: &mut W,
+    extra: X,
+) -> Result<Vec<u8>, RunStopped>
+    requires fresh { ∥ ((kept : X.added.Kept) × KeepsNothing X.added extra kept) ∥₁ }
+{
+    let mut kernel = Kernel::new(alloc, program, extra)?;
     let mut text = Vec::new(alloc);
     for _turn in 0..TURNS {
         let went = kernel.turn(alloc, wire);

@@ -76,3 +76,32 @@ def main()
   yield from extra(\"1\", [])
 end
 ";
+
+/// Code 5 asks the outside in the same step.
+pub const ASKS: &str = "
+def main()
+  r = yield from extra(5, [])
+  print r
+end
+";
+
+/// Code 6 asks twice in the same step, the second time what it heard the first time.
+pub const ASKS_TWICE: &str = "
+def main()
+  r = yield from extra(6, [])
+  print r
+end
+";
+
+/// A refusal is caught, and the next request asks anew.
+pub const CATCHES: &str = "
+def main()
+  try
+    yield from extra(5, [])
+  except OSError as e
+    print e
+  end
+  r = yield from extra(5, [])
+  print r
+end
+";

@@ -1,4 +1,4 @@
-//! Bytes that a journal's wire hands on, which no run sends so far.
+//! Bytes that a journal's wire hands on.
 use aio_base::Blob;
 use aio_memwire::{Handed, JournalWire};
 use aio_wire::{Call, MemShelf, Shelf, Wire};

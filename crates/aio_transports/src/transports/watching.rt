@@ -1,5 +1,5 @@
 //! What a select watches.
-ghost use Rattle.std.specs.Prelude.{◌≡◌, ◌++◌, ◌∷◌, [], OnOk};
+ghost use Rattle.std.specs.Prelude.{◌≡◌, ◌++◌, ◌∷◌, ◌==◌, [], OnOk, length, not};
 ghost use Rattle.model_stream.specs.Streams.{Streams as PlainStreams};
 ghost use Rattle.model_stream.specs.Watching.{watch_list};
 ghost use Rattle.aio_stream.specs.Kept.{opened_as};
@@ -13,9 +13,30 @@ use aio_stream::Opened;
 use aio_wire::Watch;
 
 impl Transports {
-    /// What a select watches, in order of opening, behind what stands in the list. Want of memory
-    /// leaves a front of it.
-    pub fn watch(&self, into: &mut Vec<Watch>) -> Result<(), Memory>
+    /// What a select watches, in order of opening, behind what stands in the list. It stands for the
+    /// same streams as before. After want of memory nothing is promised, of either.
+    pub fn watch(&mut self, into: &mut Vec<Watch>) -> Result<(), Memory>
+        ensures { OnOk result ((s : PlainStreams) → StandsFor self.old s
+            → StandsFor self.new s × (into.new.items ≡ into.old.items ++ watch_list s)) }
+    {
+        self.watch_all(into)
+    }
+
+    /// Whether a select watches anything.
+    pub fn is_watched(&self) -> bool
+        ensures { (s : PlainStreams) → StandsFor self.now s
+            → result ≡ not (length (watch_list s) == 0) }
+    {
+        for one in self.streams.opened_in_order() {
+            if self.watched(*one).is_some() {
+                return true;
+            }
+        }
+        false
+    }
+
+    // What is watched of all that was opened.
+    fn watch_all(&self, into: &mut Vec<Watch>) -> Result<(), Memory>
         ensures { OnOk result ((s : PlainStreams) → StandsFor self.now s
             → into.new.items ≡ into.old.items ++ watch_list s) }
     {

@@ -1,8 +1,5 @@
-use Rattle.std.proofs.Common.{sym, subst}
-use Rattle.aio_exchange.specs.Outside.{IsOutside, outside_of, ported}
-use Rattle.aio_body.specs.Asking.{Comes}
-use Rattle.aio_core.specs.Running.{acting}
-use Rattle.aio_core.proofs.Acting.{acts_alone, acts_stepping, acts_without, steps_may}
+use Rattle.aio_exchange.specs.Outside.{IsOutside, outside_of}
+use Rattle.aio_core.proofs.Acting.{acts_stepping, acts_without, steps_may}
 use Rattle.aio_core.proofs.handles.act.Given.{Over}
 use Rattle.aio_core.proofs.handles.act.Goals as goal
 
@@ -26,15 +23,11 @@ returns-in-Ok-Some g c =
     acts_stepping g.X.Extra.added _ (laws g) c.args.action.now c.args.body.now c.in-Ok-Some.task c.in-Ok-Some.input
     (rw c.in-Ok-Some.field-0-is at c.in-Ok-Some.ensures) c.step.new.body c.args.wire.now c.step.new.wire c.step.result c.step.ensures
 
-pub call-requires-clause-idle : goal.call-requires-clause-idle
-call-requires-clause-idle g c = rw c.in-Ok-None.field-0-is at c.in-Ok-None.ensures
+pub call_back-requires-clause-idle : goal.call_back-requires-clause-idle
+call_back-requires-clause-idle g c = rw c.in-Ok-None.field-0-is at c.in-Ok-None.ensures
 
 pub returns-in-Ok-None : goal.returns-in-Ok-None
-returns-in-Ok-None g c =
-    subst (Comes _ (acting g.X.Extra.added c.args.action.now c.args.body.now c.call.new.body) (ported c.args.wire.now c.args.body.now.events)
-    (ported c.args.wire.now c.call.new.body.events)) (sym c.or_stop.ensures)
-    (acts_alone g.X.Extra.added _ (laws g) c.args.action.now c.args.body.now c.call.new.body c.args.wire.now c.call.result c.call.ensures.acts
-    c.call.ensures.goes)
+returns-in-Ok-None g c = c.call_back.ensures
 
 pub returns-in-Err : goal.returns-in-Err
 returns-in-Err g c =

@@ -1,4 +1,5 @@
-use Rattle.std.proofs.Common.{◌≡◌, ◌⊎◌, inl, inr, true, rules, SFits, w64, to_z, of_z, ◌∙◌, ap, subst}
+use Rattle.std.proofs.Common.{◌≡◌, ◌⊎◌, inl, inr, true, false, rules, SFits, w64, to_z, of_z, ◌∙◌, ap, subst, sym}
+use Rattle.std.proofs.lemmas.Bool.{false≢true}
 use Rattle.std.proofs.lemmas.Int.{to_z-of_z}
 use Rattle.model_value.specs.Action.{Action}
 use Rattle.model_value.specs.declared.outcome.Outcome.TheVariants.{Value as Returned}
@@ -7,7 +8,7 @@ use Rattle.aio_ready.specs.Queue.{soon_all}
 use Rattle.aio_future.specs.Settled as settled
 use Rattle.aio_future.specs.Settled.{called}
 use Rattle.aio_core.proofs.Acting.{HearsNews, extra_acts, extra_serves, fire_acts, group_acts, item_acts, item_serves, main_acts, no_step}
-use Rattle.aio_core.proofs.Acting.{sleep_acts, sleep_free, sleep_idle, streams_act}
+use Rattle.aio_core.proofs.Acting.{sleep_acts, sleep_free, sleep_idle}
 use Rattle.law_reach.specs.Changes.{runner_of}
 use Rattle.aio_core.proofs.handles.call.Goals as goal
 
@@ -70,28 +71,30 @@ returns-in_ok-item-in-ExtraItem-clause-acts g c =
     (subst (λ n. hears n bytes) (to_z-of_z w64 code fits)
     (subst (hears (to_z w64 (of_z w64 code))) c.items.ensures c.in_ok-item-in-ExtraItem.ensures)))
 
--- ---- listeners, connections and children
+-- ---- no such calls
 module _ (it : Action) where
-  either : {A B : Type 0} → A ⊎ B → (A → is_of_streams it ≡ true) → (B → is_of_streams it ≡ true) → is_of_streams it ≡ true
+  either : {A B : Type 0} → A ⊎ B → (A → ⊥) → (B → ⊥) → ⊥
   either (inl a) f g = f a
   either (inr b) f g = g b
+
+  no_stream : is_of_streams it ≡ false → is_of_streams it ≡ true → ⊥
+  no_stream loop streams = false≢true (sym loop ∙ streams)
 
 pub returns-in-Step-clause-acts : goal.returns-in-Step-clause-acts
 returns-in-Step-clause-acts g c =
     let it = c.args.action.now in
-    rw c.pass.ensures (streams_act it c.args.body.now (
-    either it c.in-Step.is (λ w. no_step it _ c.requires.idle (ap runner_of w.1)) (λ v.
+    absurd (either it c.in-Step.is (λ w. no_step it _ c.requires.idle (ap runner_of w.1)) (λ v.
     either it v (λ w. no_step it _ c.requires.idle (ap runner_of w.2)) (λ v.
     either it v (λ w. no_step it _ c.requires.idle (ap runner_of w.1)) (λ v.
-    either it v (λ w. ap is_of_streams w.1) (λ v.
-    either it v (λ w. ap is_of_streams w.1) (λ v.
-    either it v (λ w. ap is_of_streams w.2) (λ v.
-    either it v (λ w. ap is_of_streams w.2) (λ v.
-    either it v (λ w. ap is_of_streams w.1) (λ v.
-    either it v (λ w. ap is_of_streams w.1) (λ v.
-    either it v (λ w. ap is_of_streams w.1) (λ v.
-    either it v (λ w. ap is_of_streams w.1) (λ v.
-    either it v (λ w. ap is_of_streams w.1) (λ v.
-    either it v (λ w. ap is_of_streams w.1) (λ v.
-    either it v (λ w. ap is_of_streams w.2) (λ w.
-    ap is_of_streams w.2))))))))))))))))
+    either it v (λ w. no_stream it c.requires.of_loop (ap is_of_streams w.1)) (λ v.
+    either it v (λ w. no_stream it c.requires.of_loop (ap is_of_streams w.1)) (λ v.
+    either it v (λ w. no_stream it c.requires.of_loop (ap is_of_streams w.2)) (λ v.
+    either it v (λ w. no_stream it c.requires.of_loop (ap is_of_streams w.2)) (λ v.
+    either it v (λ w. no_stream it c.requires.of_loop (ap is_of_streams w.1)) (λ v.
+    either it v (λ w. no_stream it c.requires.of_loop (ap is_of_streams w.1)) (λ v.
+    either it v (λ w. no_stream it c.requires.of_loop (ap is_of_streams w.1)) (λ v.
+    either it v (λ w. no_stream it c.requires.of_loop (ap is_of_streams w.1)) (λ v.
+    either it v (λ w. no_stream it c.requires.of_loop (ap is_of_streams w.1)) (λ v.
+    either it v (λ w. no_stream it c.requires.of_loop (ap is_of_streams w.1)) (λ v.
+    either it v (λ w. no_stream it c.requires.of_loop (ap is_of_streams w.2)) (λ w.
+    no_stream it c.requires.of_loop (ap is_of_streams w.2))))))))))))))))

@@ -2,7 +2,7 @@ use Rattle.std.proofs.Common.{◌≡◌, ℕ, List, ◌++◌, IfErr, IfOk, ap, s
 use Rattle.model_wire.specs.Event.{Event}
 use Rattle.model_wire.specs.Told.{took}
 use Rattle.model_wire.specs.Trace.{end_text, line, lines_of_events}
-use Rattle.model_machine.specs.Transcript.{status_of}
+use Rattle.model_program.specs.Transcript.{status_of}
 use Rattle.aio_wire.specs.EventList.{EventList}
 use Rattle.aio_drive.specs.Writing.{StopsWriting}
 use Rattle.aio_drive.proofs.driver.write_limit.Goals as goal

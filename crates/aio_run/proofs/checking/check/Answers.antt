@@ -2,8 +2,8 @@ use Rattle.std.proofs.Common.{◌≡◌, ap, ◌∙◌, List, ℕ}
 use Rattle.std.proofs.lemmas.Result.{IfOk-weaker, IfErr-weaker}
 use Rattle.model_text.specs.Canonical.{canonical}
 use Rattle.model_wire.specs.Told.{NoneFailed, took}
-use Rattle.model_machine.specs.Written.{ProgramOutput}
-use Rattle.model_machine.specs.Program.{MayCheck}
+use Rattle.model_program.specs.Written.{ProgramOutput}
+use Rattle.model_program.specs.Program.{MayCheck}
 use Rattle.aio_run.specs.Script.{Tells}
 use Rattle.aio_run.specs.declared.script.NoScript.TheVariants.{Memory}
 use Rattle.aio_drive.proofs.Unrecorded.{early_wider, whole_wider}

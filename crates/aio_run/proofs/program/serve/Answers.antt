@@ -2,12 +2,12 @@ use Rattle.std.proofs.Common.{ℕ, List, Option, IfErr, IfOk, map, string_bytes,
 use Rattle.std.proofs.lemmas.Result.{IfOk-weaker, IfErr-weaker}
 use Rattle.model_wire.specs.Told.{took}
 use Rattle.model_words.specs.Words.{Command, command_of}
-use Rattle.model_machine.specs.Program.{not_run, words_refused}
-use Rattle.model_machine.specs.Written.{WritesWhole}
-use Rattle.model_commands.specs.Outputs.{IsUnbegun, KeepsFiles, KeepsWire, MayWrite}
+use Rattle.model_program.specs.Program.{words_refused}
+use Rattle.model_program.specs.Written.{WritesWhole}
+use Rattle.model_commands.specs.Outputs.{IsUnbegun, KeepsFiles, KeepsWire, MayWrite, no_work}
 use Rattle.aio_drive.specs.Outcome.{EndsEarly}
 use Rattle.aio_run.specs.Running.{between, told_all, told_until}
-use Rattle.aio_run.proofs.Outcomes.{line_early, not_run_text}
+use Rattle.aio_run.proofs.Outcomes.{line_early, no_work_text}
 use Rattle.aio_run.proofs.program.serve.Goals as goal
 
 -- ---- refused words
@@ -48,9 +48,9 @@ returns-in-Some-Work-clause-ok g c =
     let wire = g.W.Wire.seen c.args.wire.now in
     let it = told_all (between shelf shelf wire wire) (g.W.Wire.fails c.args.wire.now) in
     let found = rw c.in-Some-Work.field-0-is at c.in-Some-Work.ensures.command in
-    let may = subst (λ (o : Option Command). MayWrite it o not_run) found (refl, refl) in
+    let may = subst (λ (o : Option Command). MayWrite it o no_work) found (refl, refl) in
     IfOk-weaker c.say.result _ _
-    (λ status d. (not_run, may, d.1 ∙ ap (λ (t : List ℕ). took (g.K.Sink.seen c.args.out.now) t) (sym not_run_text), d.0)) c.say.ensures.ok
+    (λ status d. (no_work, may, d.1 ∙ ap (λ (t : List ℕ). took (g.K.Sink.seen c.args.out.now) t) (sym no_work_text), d.0)) c.say.ensures.ok
 
 pub returns-in-Some-Work-clause-err : goal.returns-in-Some-Work-clause-err
 returns-in-Some-Work-clause-err g c =
@@ -61,10 +61,10 @@ returns-in-Some-Work-clause-err g c =
     let found = rw c.in-Some-Work.field-0-is at c.in-Some-Work.ensures.command in
     IfErr-weaker c.say.result _ _ (λ halt d.
     line_early halt (MayWrite (told_until halt (between shelf shelf wire wire) fails) asked)
-    (IsUnbegun (told_until halt (between shelf shelf wire wire) fails) asked) not_run _
+    (IsUnbegun (told_until halt (between shelf shelf wire wire) fails) asked) no_work _
     (g.K.Sink.seen c.args.out.now) (g.K.Sink.seen c.say.new.out)
-    (subst (λ (o : Option Command). MayWrite (told_until halt (between shelf shelf wire wire) fails) o not_run) found (refl, refl))
-    (sym not_run_text) d) c.say.ensures.err
+    (subst (λ (o : Option Command). MayWrite (told_until halt (between shelf shelf wire wire) fails) o no_work) found (refl, refl))
+    (sym no_work_text) d) c.say.ensures.err
 
 pub returns-in-Some-Work-clause-files : goal.returns-in-Some-Work-clause-files
 returns-in-Some-Work-clause-files g c =

@@ -1,8 +1,7 @@
 use Rattle.std.proofs.Common.{◌≡◌, ap, ◌∙◌}
 use Rattle.std.proofs.lemmas.Result.{IfOk-weaker, IfErr-weaker}
 use Rattle.model_wire.specs.Told.{ShelfSeen, NoneFailed}
-use Rattle.model_machine.specs.Program.{MayReplay, MayRunIf}
-use Rattle.model_machine.specs.Served.{is_served}
+use Rattle.model_program.specs.Program.{MayReplay, MayRun}
 use Rattle.aio_run.specs.Manner.{manner_of}
 use Rattle.aio_run.specs.Script.{Tells}
 use Rattle.aio_run.specs.declared.script.NoScript.TheVariants.{Memory}
@@ -19,7 +18,7 @@ returns-in-Ok-clause-ok g c =
     let same = c.in-Ok.ensures.kept in
     let wider = replay_by_script c.in-Ok.program old mid new c.args.script.now how c.in-Ok.ensures.script same in
     IfOk-weaker c.replay_program.result _ _ (λ status d.
-    whole_wider (MayRunIf mid new (is_served c.in-Ok.program) c.in-Ok.program how) (MayReplay old new c.args.script.now how)
+    whole_wider (MayRun mid new c.in-Ok.program how) (MayReplay old new c.args.script.now how)
     (NoneFailed mid new) (NoneFailed old new) wider (λ none. none ∙ ap (λ (s : ShelfSeen). s.faults) same)
     (g.K.Sink.seen c.args.out.now) (g.K.Sink.seen c.replay_program.new.out) status d) c.replay_program.ensures.ok
 
@@ -32,7 +31,7 @@ returns-in-Ok-clause-err g c =
     let same = c.in-Ok.ensures.kept in
     let wider = replay_by_script c.in-Ok.program old mid new c.args.script.now how c.in-Ok.ensures.script same in
     IfErr-weaker c.replay_program.result _ _ (λ halt d.
-    early_wider (MayRunIf mid new (is_served c.in-Ok.program) c.in-Ok.program how) (MayReplay old new c.args.script.now how)
+    early_wider (MayRun mid new c.in-Ok.program how) (MayReplay old new c.args.script.now how)
     (NoneFailed mid new) (NoneFailed old new) wider (λ none. none ∙ ap (λ (s : ShelfSeen). s.faults) same)
     halt (g.K.Sink.seen c.args.out.now) (g.K.Sink.seen c.replay_program.new.out) d) c.replay_program.ensures.err
 

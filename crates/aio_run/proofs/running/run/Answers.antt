@@ -1,9 +1,8 @@
 use Rattle.std.proofs.Common.{◌≡◌, ◌∙◌}
 use Rattle.std.specs.Option.{option_copied}
 use Rattle.std.proofs.lemmas.Result.{IfOk-weaker, IfErr-weaker}
-use Rattle.model_machine.specs.Served.{is_served}
 use Rattle.model_commands.specs.Asked.{AsksOnce}
-use Rattle.model_commands.specs.Outputs.{KeepsOthers, MayRunIf, MayRunOver}
+use Rattle.model_commands.specs.Outputs.{KeepsOthers, MayRun, MayRunOver}
 use Rattle.model_commands.specs.Telling.{TellsAll}
 use Rattle.aio_drive.proofs.Unrecorded.{early_wider, whole_wider}
 use Rattle.aio_run.specs.Running.{TellsUntil, between, pace_of, told_all, told_until}
@@ -23,7 +22,7 @@ returns-in-Ok-clause-ok g c =
     let pace = pace_of (option_copied c.args.journal) c.args.manner in
     let program = c.in-Ok.program in
     IfOk-weaker c.run_program.result _ _ (λ status d.
-    whole_wider (MayRunIf (told_all (between mid new before after) fails) (is_served program) program pace)
+    whole_wider (MayRun (told_all (between mid new before after) fails) program pace)
     (MayRunOver (told_all (between old new before after) fails) c.args.script.now pace) (Unit {0}) (Unit {0})
     (run_by_script program old mid new before after c.args.script.now fails TellsAll pace c.in-Ok.ensures.script c.in-Ok.ensures.kept)
     (λ none. none) (g.K.Sink.seen c.args.out.now) (g.K.Sink.seen c.run_program.new.out) status d) c.run_program.ensures.ok
@@ -39,7 +38,7 @@ returns-in-Ok-clause-err g c =
     let pace = pace_of (option_copied c.args.journal) c.args.manner in
     let program = c.in-Ok.program in
     IfErr-weaker c.run_program.result _ _ (λ halt d.
-    early_wider (MayRunIf (told_until halt (between mid new before after) fails) (is_served program) program pace)
+    early_wider (MayRun (told_until halt (between mid new before after) fails) program pace)
     (MayRunOver (told_until halt (between old new before after) fails) c.args.script.now pace)
     ((new ≡ mid) × AsksOnce before after) ((new ≡ old) × AsksOnce before after)
     (run_by_script program old mid new before after c.args.script.now fails (TellsUntil halt) pace c.in-Ok.ensures.script c.in-Ok.ensures.kept)

@@ -1,64 +1,112 @@
-use Rattle.std.proofs.Common.{◌≡◌, ℕ, ◌∙◌, Bool, IfErr, IfOk, List, ap, refl, subst, sym}
+use Rattle.std.proofs.Common.{◌≡◌, ap, refl, subst}
 use Rattle.std.specs.Option.{option_copied}
 use Rattle.std.proofs.lemmas.Result.{IfOk-weaker, IfErr-weaker}
-use Rattle.model_wire.specs.Told.{took}
-use Rattle.model_machine.specs.Program.{not_run}
-use Rattle.model_machine.specs.Served.{is_served}
-use Rattle.model_machine.specs.Written.{WritesWhole}
+use Rattle.model_wire.specs.declared.event.End.TheVariants as end
+use Rattle.model_wire.specs.Told.{ShelfSeen}
 use Rattle.model_commands.specs.Asked.{AsksOnce}
-use Rattle.model_commands.specs.Outputs.{MayRunIf}
-use Rattle.aio_drive.specs.Outcome.{EndsEarly}
-use Rattle.aio_run.specs.Running.{between, pace_of, told_all, told_until}
-use Rattle.aio_run.proofs.Outcomes.{line_early, not_run_text}
-use Rattle.aio_run.proofs.WireRuns.{others_same}
+use Rattle.model_commands.specs.Outputs.{MayRun}
+use Rattle.model_commands.specs.Telling.{TellsAll}
+use Rattle.aio_drive.specs.Drive as drive
+use Rattle.aio_drive.specs.Drive.{Driven, IsUntold, MayDrive, MayTell, driven_over, wire_by}
+use Rattle.aio_drive.proofs.Unrecorded.{early_wider, whole_wider}
+use Rattle.aio_run.specs.Running.{TellsUntil, between, pace_of, told_all, told_until}
+use Rattle.aio_run.proofs.WireRuns.{all_so, cut_early, cut_whole, once-same, others_early, others_failed, others_told, runs_over, until_so}
 use Rattle.aio_run.proofs.running.run_program.Goals as goal
 
-pub returns-then-is_served-clause-ok : goal.returns-then-is_served-clause-ok
-returns-then-is_served-clause-ok g c =
-    let it = told_all (between (g.F.Shelf.seen c.args.shelf.now) (g.F.Shelf.seen c.run_served.new.shelf)
-    (g.W.Wire.seen c.args.wire.now) (g.W.Wire.seen c.run_served.new.wire)) (g.W.Wire.fails c.args.wire.now) in
-    let served = sym c.if-is_served.true ∙ c.is_served.ensures in
-    subst (λ (b : Bool). IfOk c.run_served.result (WritesWhole
-    (MayRunIf it b c.args.program.now (pace_of (option_copied c.args.journal) c.args.manner))
-    (g.K.Sink.seen c.args.out.now) (g.K.Sink.seen c.run_served.new.out))) served c.run_served.ensures.ok
-
-pub returns-then-is_served-clause-err : goal.returns-then-is_served-clause-err
-returns-then-is_served-clause-err g c =
+pub returns-in-Ok-clause-ok : goal.returns-in-Ok-clause-ok
+returns-in-Ok-clause-ok g c =
     let old = g.F.Shelf.seen c.args.shelf.now in
-    let new = g.F.Shelf.seen c.run_served.new.shelf in
+    let new = g.F.Shelf.seen c.drive_recorded.new.shelf in
     let before = g.W.Wire.seen c.args.wire.now in
-    let after = g.W.Wire.seen c.run_served.new.wire in
-    let served = sym c.if-is_served.true ∙ c.is_served.ensures in
-    subst (λ (b : Bool). IfErr c.run_served.result (λ halt.
-    EndsEarly (MayRunIf (told_until halt (between old new before after) (g.W.Wire.fails c.args.wire.now)) b c.args.program.now
-    (pace_of (option_copied c.args.journal) c.args.manner))
-    ((new ≡ old) × AsksOnce before after) (g.K.Sink.seen c.args.out.now) (g.K.Sink.seen c.run_served.new.out) halt)) served c.run_served.ensures.err
-
-pub returns-else-is_served-clause-ok : goal.returns-else-is_served-clause-ok
-returns-else-is_served-clause-ok g c =
-    let shelf = g.F.Shelf.seen c.args.shelf.now in
-    let wire = g.W.Wire.seen c.args.wire.now in
-    let it = told_all (between shelf shelf wire wire) (g.W.Wire.fails c.args.wire.now) in
-    let served = sym c.if-is_served.false ∙ c.is_served.ensures in
-    let may = subst (λ (b : Bool). MayRunIf it b c.args.program.now (pace_of (option_copied c.args.journal) c.args.manner) not_run) served
-    ((refl, refl), refl) in
-    IfOk-weaker c.say.result _ _
-    (λ status d. (not_run, may, d.1 ∙ ap (λ (t : List ℕ). took (g.K.Sink.seen c.args.out.now) t) (sym not_run_text), d.0)) c.say.ensures.ok
-
-pub returns-else-is_served-clause-err : goal.returns-else-is_served-clause-err
-returns-else-is_served-clause-err g c =
-    let shelf = g.F.Shelf.seen c.args.shelf.now in
-    let wire = g.W.Wire.seen c.args.wire.now in
-    let seen = between shelf shelf wire wire in
+    let after = g.W.Wire.seen c.drive_recorded.new.wire in
     let fails = g.W.Wire.fails c.args.wire.now in
-    let pace = pace_of (option_copied c.args.journal) c.args.manner in
-    let served = sym c.if-is_served.false ∙ c.is_served.ensures in
-    IfErr-weaker c.say.result _ _ (λ halt d.
-    line_early halt (MayRunIf (told_until halt seen fails) (is_served c.args.program.now) c.args.program.now pace)
-    ((shelf ≡ shelf) × AsksOnce wire wire) not_run _ (g.K.Sink.seen c.args.out.now) (g.K.Sink.seen c.say.new.out)
-    (subst (λ (b : Bool). MayRunIf (told_until halt seen fails) b c.args.program.now pace not_run) served ((refl, refl), refl))
-    (sym not_run_text) d) c.say.ensures.err
+    let quiet = g.W.Wire.quiet c.args.wire.now c.drive_recorded.new.wire in
+    let file = option_copied c.args.journal in
+    let it : Driven = driven_over before after fails quiet
+    (record { name = file; old = old; new = new }) (c.drive_recorded.new.shelf ≡ c.args.shelf.now) in
+    let program = c.args.program.now in
+    let seen = between old new before after in
+    whole_wider (MayTell program c.args.manner end.WireFault it) (MayRun (told_all seen fails) program (pace_of file c.args.manner)) (Unit {0}) (Unit {0})
+    (runs_over program c.args.manner it fails refl (drive.TellsAll it) (TellsAll seen) (all_so it)) (λ none. none)
+    (g.K.Sink.seen c.args.out.now) (g.K.Sink.seen c.drive_recorded.new.out) c.in-Ok.status c.in-Ok.ensures.ok
 
-pub returns-else-is_served-clause-files : goal.returns-else-is_served-clause-files
-returns-else-is_served-clause-files g c =
-    others_same (option_copied c.args.journal) (g.F.Shelf.seen c.args.shelf.now) (g.F.Shelf.seen c.args.shelf.now) refl
+pub returns-in-Ok-clause-files : goal.returns-in-Ok-clause-files
+returns-in-Ok-clause-files g c =
+    let old = g.F.Shelf.seen c.args.shelf.now in
+    let new = g.F.Shelf.seen c.drive_recorded.new.shelf in
+    let fails = g.W.Wire.fails c.args.wire.now in
+    let quiet = g.W.Wire.quiet c.args.wire.now c.drive_recorded.new.wire in
+    let it : Driven = driven_over (g.W.Wire.seen c.args.wire.now) (g.W.Wire.seen c.drive_recorded.new.wire) fails quiet
+    (record { name = option_copied c.args.journal; old = old; new = new }) (c.drive_recorded.new.shelf ≡ c.args.shelf.now) in
+    let done = c.in-Ok.ensures.ok in
+    others_told c.args.program.now c.args.manner it fails refl done.0 done.1
+
+pub returns-in-Err-Halted-clause-err : goal.returns-in-Err-Halted-clause-err
+returns-in-Err-Halted-clause-err g c =
+    let old = g.F.Shelf.seen c.args.shelf.now in
+    let new = g.F.Shelf.seen c.drive_recorded.new.shelf in
+    let before = g.W.Wire.seen c.args.wire.now in
+    let after = g.W.Wire.seen c.drive_recorded.new.wire in
+    let fails = g.W.Wire.fails c.args.wire.now in
+    let quiet = g.W.Wire.quiet c.args.wire.now c.drive_recorded.new.wire in
+    let file = option_copied c.args.journal in
+    let it : Driven = driven_over before after fails quiet
+    (record { name = file; old = old; new = new }) (c.drive_recorded.new.shelf ≡ c.args.shelf.now) in
+    let program = c.args.program.now in
+    let seen = between old new before after in
+    let halt = c.in-Err-Halted.halt in
+    let stops = rw c.in-Err-Halted.field-0-is at c.in-Err-Halted.ensures.err in
+    early_wider (MayDrive program c.args.manner end.WireFault (wire_by it (drive.TellsUntil halt it)))
+    (MayRun (told_until halt seen fails) program (pace_of file c.args.manner)) (IsUntold it) ((new ≡ old) × AsksOnce before after)
+    (runs_over program c.args.manner it fails refl (drive.TellsUntil halt it) (TellsUntil halt seen) (until_so halt it))
+    (λ untold. (ap g.F.Shelf.seen untold.1, once-same before after untold.0.1))
+    halt (g.K.Sink.seen c.args.out.now) (g.K.Sink.seen c.drive_recorded.new.out) stops
+
+pub returns-in-Err-Halted-clause-files : goal.returns-in-Err-Halted-clause-files
+returns-in-Err-Halted-clause-files g c =
+    let old = g.F.Shelf.seen c.args.shelf.now in
+    let new = g.F.Shelf.seen c.drive_recorded.new.shelf in
+    let fails = g.W.Wire.fails c.args.wire.now in
+    let quiet = g.W.Wire.quiet c.args.wire.now c.drive_recorded.new.wire in
+    let it : Driven = driven_over (g.W.Wire.seen c.args.wire.now) (g.W.Wire.seen c.drive_recorded.new.wire) fails quiet
+    (record { name = option_copied c.args.journal; old = old; new = new }) (c.drive_recorded.new.shelf ≡ c.args.shelf.now) in
+    let stops = rw c.in-Err-Halted.field-0-is at c.in-Err-Halted.ensures.err in
+    others_early c.args.program.now c.args.manner it fails refl
+    (λ same. ap (λ (s : ShelfSeen). s.file) (ap g.F.Shelf.seen same)) c.in-Err-Halted.halt
+    (g.K.Sink.seen c.args.out.now) (g.K.Sink.seen c.drive_recorded.new.out) stops
+
+pub returns-in-Err-Unrecorded-clause-ok : goal.returns-in-Err-Unrecorded-clause-ok
+returns-in-Err-Unrecorded-clause-ok g c =
+    let old = g.F.Shelf.seen c.args.shelf.now in
+    let new = g.F.Shelf.seen c.drive_recorded.new.shelf in
+    let before = g.W.Wire.seen c.args.wire.now in
+    let after = g.W.Wire.seen c.drive_recorded.new.wire in
+    let fails = g.W.Wire.fails c.args.wire.now in
+    let quiet = g.W.Wire.quiet c.args.wire.now c.drive_recorded.new.wire in
+    let it : Driven = driven_over before after fails quiet
+    (record { name = option_copied c.args.journal; old = old; new = new }) (c.drive_recorded.new.shelf ≡ c.args.shelf.now) in
+    let stops = rw c.in-Err-Unrecorded.field-0-is at c.in-Err-Unrecorded.ensures.err in
+    IfOk-weaker c.say.result _ _ (λ status d.
+    cut_whole c.args.program.now c.args.manner it (g.K.Sink.seen c.args.out.now) (g.K.Sink.seen c.drive_recorded.new.out) stops
+    fails (TellsAll (between old new before after)) (g.K.Sink.seen c.say.new.out) status d.0 d.1) c.say.ensures.ok
+
+pub returns-in-Err-Unrecorded-clause-err : goal.returns-in-Err-Unrecorded-clause-err
+returns-in-Err-Unrecorded-clause-err g c =
+    let old = g.F.Shelf.seen c.args.shelf.now in
+    let new = g.F.Shelf.seen c.drive_recorded.new.shelf in
+    let before = g.W.Wire.seen c.args.wire.now in
+    let after = g.W.Wire.seen c.drive_recorded.new.wire in
+    let fails = g.W.Wire.fails c.args.wire.now in
+    let quiet = g.W.Wire.quiet c.args.wire.now c.drive_recorded.new.wire in
+    let it : Driven = driven_over before after fails quiet
+    (record { name = option_copied c.args.journal; old = old; new = new }) (c.drive_recorded.new.shelf ≡ c.args.shelf.now) in
+    let stops = rw c.in-Err-Unrecorded.field-0-is at c.in-Err-Unrecorded.ensures.err in
+    IfErr-weaker c.say.result _ _ (λ halt d.
+    cut_early c.args.program.now c.args.manner it (g.K.Sink.seen c.args.out.now) (g.K.Sink.seen c.drive_recorded.new.out) stops
+    fails (TellsUntil halt (between old new before after)) ((new ≡ old) × AsksOnce before after) (g.K.Sink.seen c.say.new.out) halt d)
+    c.say.ensures.err
+
+pub returns-in-Err-Unrecorded-clause-files : goal.returns-in-Err-Unrecorded-clause-files
+returns-in-Err-Unrecorded-clause-files g c =
+    let stops = rw c.in-Err-Unrecorded.field-0-is at c.in-Err-Unrecorded.ensures.err in
+    others_failed (option_copied c.args.journal) _ (g.F.Shelf.seen c.args.shelf.now) (g.F.Shelf.seen c.drive_recorded.new.shelf) stops.failed

@@ -1,8 +1,8 @@
 use Rattle.std.proofs.Common.{ap, sym, ◌∙◌, refl, subst, List, ℕ}
 use Rattle.std.proofs.lemmas.Result.{IfOk-weaker, IfErr-weaker, err_from_is_err_and}
 use Rattle.model_wire.specs.Told.{took}
-use Rattle.model_machine.specs.Written.{ProgramOutput}
-use Rattle.model_machine.specs.Program.{script_failed}
+use Rattle.model_program.specs.Written.{ProgramOutput}
+use Rattle.model_program.specs.Program.{script_failed}
 use Rattle.model_wire.specs.Trace.{line}
 use Rattle.aio_run.specs.Script.{Tells, refusal_text}
 use Rattle.aio_run.specs.declared.script.NoScript.{NoScript}

@@ -1,4 +1,7 @@
-use Rattle.std.proofs.Common.{Ok, refl, subst, sym}
+use Rattle.std.proofs.Common.{◌≡◌, ℕ, ℤ, List, Ok, SFits, w64, rules, refl, subst, sym, ap, ◌∙◌}
+use Rattle.std.proofs.lemmas.Int.{to_z-of_z}
+use Rattle.aio_extra.specs.declared.asked.Asked.{Asked}
+use Rattle.aio_extra.specs.declared.asked.Asked.TheVariants.{Outside}
 use Rattle.aio_exchange.specs.Outside.{IsOutside, outside_of, ported}
 use Rattle.aio_body.specs.Asking.{Comes}
 use Rattle.aio_body.specs.Stands.{Possible}
@@ -36,3 +39,23 @@ returns-in-Wait g c =
     (ported c.args.wire.now c.args.body.now.events) (ported c.args.wire.now c.wait.new.body.events)) (sym c.or_stop.ensures)
     (rw c.in-Wait.is (once_alone g.X.Extra.added _ (laws g) c.args.task _ c.args.body.now c.wait.new.body c.args.wire.now c.wait.ensures.events
     c.wait.result c.wait.ensures.answers))
+
+-- the question of an answer, as it is passed on
+outside_is : (asked : Asked) (n m : ℤ) (bytes : List ℕ) (key : ℕ) → asked ≡ Outside n bytes key → m ≡ n → asked ≡ Outside m bytes key
+outside_is asked n m bytes key is same = is ∙ ap (λ k. Outside k bytes key) (sym same)
+
+pub ask_outside-requires : goal.ask_outside-requires
+ask_outside-requires g c =
+    let fits : SFits w64 c.in-Outside.code = search rules in
+    subst (λ k. Possible g.X.Extra.added (HasAnswer c.args.task k) c.args.body.now)
+    (outside_is c.args.asked c.in-Outside.code _ c.in-Outside.bytes c.in-Outside.key c.in-Outside.is (to_z-of_z w64 c.in-Outside.code fits))
+    c.requires
+
+pub returns-in-Outside : goal.returns-in-Outside
+returns-in-Outside g c =
+    let fits : SFits w64 c.in-Outside.code = search rules in
+    subst (λ k. Comes (outside_of g.W.Wire.seen g.W.Wire.fails g.W.Wire.keeps g.W.Wire.quiet)
+    (answering_once g.X.Extra.added c.args.task k c.args.body.now c.ask_outside.new.body) (ported c.args.wire.now c.args.body.now.events)
+    (ported c.ask_outside.new.wire c.ask_outside.new.body.events) c.ask_outside.result)
+    (sym (outside_is c.args.asked c.in-Outside.code _ c.in-Outside.bytes c.in-Outside.key c.in-Outside.is
+    (to_z-of_z w64 c.in-Outside.code fits))) c.ask_outside.ensures

@@ -1,8 +1,6 @@
-use Rattle.std.proofs.Common.{subst, sym}
+use Rattle.std.proofs.Common.{sym, subst}
 use Rattle.aio_exchange.specs.Outside.{IsOutside, outside_of, ported}
-use Rattle.aio_body.specs.Asked.{IsAskingFor}
 use Rattle.aio_body.specs.Asking.{Comes, serving}
-use Rattle.aio_body.specs.Stands.{Possible}
 use Rattle.aio_serve.proofs.Adding.{serves_alone}
 use Rattle.aio_serve.proofs.table.reply.Given.{Over}
 use Rattle.aio_serve.proofs.table.reply.Goals as goal
@@ -15,14 +13,8 @@ laws g = record {
   quiet_on = g.met.W.Wire.quiet_on;
 }
 
-pub extra-requires : goal.extra-requires
-extra-requires g c = subst (λ r. Possible g.X.Extra.added (IsAskingFor c.args.task r) c.args.body.now) c.in-Extra.is c.requires
-
-pub returns-in-Extra : goal.returns-in-Extra
-returns-in-Extra g c = rw c.in-Extra.is c.extra.ensures
-
-pub returns-in_default : goal.returns-in_default
-returns-in_default g c =
+pub returns-then-is_own : goal.returns-then-is_own
+returns-then-is_own g c =
     subst (Comes _ (serving g.X.Extra.added c.args.task c.args.request c.args.body.now c.serve.new.body)
     (ported c.args.wire.now c.args.body.now.events) (ported c.args.wire.now c.serve.new.body.events)) (sym c.or_stop.ensures)
     (serves_alone g.X.Extra.added _ (laws g) c.args.task c.args.request c.args.body.now c.args.wire.now c.serve.new.body c.serve.result c.serve.ensures)

@@ -7,14 +7,14 @@ use Rattle.law_ends.proofs.Leaving.{ends_in}
 use Rattle.law_ends.proofs.ends.every_run_ends_sound.Goals as goal
 
 pub returns-clause-nothing_added : goal.returns-clause-nothing_added
-returns-clause-nothing_added g c = λ program answers turns.
-    let begun = start tt program answers in
-    ends_in no_extra nothing_keeps begun turns begun stays (begins_sound no_extra tt program answers)
+returns-clause-nothing_added g c = λ most program answers turns.
+    let begun = start most tt program answers in
+    ends_in no_extra nothing_keeps begun turns begun stays (begins_sound no_extra most tt program answers)
 
 pub returns-clause-added : goal.returns-clause-added
-returns-clause-added g c = λ added keeps state program answers turns.
-    let begun = start state program answers in
-    ends_in added keeps begun turns begun stays (begins_sound added state program answers)
+returns-clause-added g c = λ added keeps most state program answers turns.
+    let begun = start most state program answers in
+    ends_in added keeps begun turns begun stays (begins_sound added most state program answers)
 
 pub returns-clause-from_any : goal.returns-clause-from_any
 returns-clause-from_any g c = λ added keeps s sound turns. ends_in added keeps s turns s stays sound

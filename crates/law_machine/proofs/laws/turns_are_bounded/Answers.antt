@@ -1,3 +1,4 @@
+use Rattle.law_machine.proofs.Waking.{nothing_asks}
 use Rattle.law_machine.proofs.Turns.{turn-one, turn-had_one, run-bounded}
 use Rattle.law_machine.proofs.laws.turns_are_bounded.Goals as goal
 
@@ -9,3 +10,6 @@ returns-clause-most g c = run-bounded
 
 pub returns-clause-answers : goal.returns-clause-answers
 returns-clause-answers g c = turn-had_one
+
+pub returns-clause-nothing : goal.returns-clause-nothing
+returns-clause-nothing g c = nothing_asks

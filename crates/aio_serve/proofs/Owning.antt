@@ -1,0 +1,102 @@
+-- Which requests are the loop's own, by what they are not.
+use Rattle.std.proofs.Common.{◌≡◌, ℕ, true, false, List, Option, refl}
+use Rattle.model_value.specs.declared.request.Request.TheVariants as request
+use Rattle.model_value.specs.Request.{Request}
+use Rattle.model_value.specs.Value.{Exc, Value}
+use Rattle.aio_serve.specs.Own.{is_lent, is_own}
+
+pub is_of_loop : (r : Request)
+    → ((code : Value) (arguments : Value) → r ≡ request.Extra code arguments → ⊥)
+    → ((port : Value) (coroutine : ℕ) → r ≡ request.Listen port coroutine → ⊥)
+    → ((port : Value) → r ≡ request.Connect port → ⊥)
+    → ((words : Value) → r ≡ request.Launch words → ⊥)
+    → ((stream : Value) (bytes : Value) → r ≡ request.Write stream bytes → ⊥)
+    → ((stream : Value) → r ≡ request.WriteEof stream → ⊥)
+    → ((x : Value) → r ≡ request.Close x → ⊥)
+    → ((child : Value) → r ≡ request.Kill child → ⊥)
+    → ((stream : Value) → r ≡ request.WaitClosed stream → ⊥)
+    → ((stream : Value) → r ≡ request.Drain stream → ⊥)
+    → ((stream : Value) (high : Value) (low : Value) → r ≡ request.Limits stream high low → ⊥)
+    → ((stream : Value) (count : Value) → r ≡ request.Read stream count → ⊥)
+    → ((stream : Value) (count : Value) → r ≡ request.ReadExactly stream count → ⊥)
+    → ((stream : Value) (separator : Value) → r ≡ request.ReadUntil stream separator → ⊥)
+    → ((stream : Value) → r ≡ request.ReadLine stream → ⊥)
+    → ((child : Value) → r ≡ request.StandardError child → ⊥)
+    → ((child : Value) → r ≡ request.WaitChild child → ⊥)
+    → ((child : Value) → r ≡ request.ReturnCode child → ⊥)
+    → is_own r ≡ true
+is_of_loop (request.Extra code arguments) isnt _ _ _ _ _ _ _ _ _ _ _ _ _ _ _ _ _ = absurd (isnt code arguments refl)
+is_of_loop (request.Listen port coroutine) _ isnt _ _ _ _ _ _ _ _ _ _ _ _ _ _ _ _ = absurd (isnt port coroutine refl)
+is_of_loop (request.Connect port) _ _ isnt _ _ _ _ _ _ _ _ _ _ _ _ _ _ _ = absurd (isnt port refl)
+is_of_loop (request.Launch words) _ _ _ isnt _ _ _ _ _ _ _ _ _ _ _ _ _ _ = absurd (isnt words refl)
+is_of_loop (request.Write stream bytes) _ _ _ _ isnt _ _ _ _ _ _ _ _ _ _ _ _ _ = absurd (isnt stream bytes refl)
+is_of_loop (request.WriteEof stream) _ _ _ _ _ isnt _ _ _ _ _ _ _ _ _ _ _ _ = absurd (isnt stream refl)
+is_of_loop (request.Close x) _ _ _ _ _ _ isnt _ _ _ _ _ _ _ _ _ _ _ = absurd (isnt x refl)
+is_of_loop (request.Kill child) _ _ _ _ _ _ _ isnt _ _ _ _ _ _ _ _ _ _ = absurd (isnt child refl)
+is_of_loop (request.WaitClosed stream) _ _ _ _ _ _ _ _ isnt _ _ _ _ _ _ _ _ _ = absurd (isnt stream refl)
+is_of_loop (request.Drain stream) _ _ _ _ _ _ _ _ _ isnt _ _ _ _ _ _ _ _ = absurd (isnt stream refl)
+is_of_loop (request.Limits stream high low) _ _ _ _ _ _ _ _ _ _ isnt _ _ _ _ _ _ _ = absurd (isnt stream high low refl)
+is_of_loop (request.Read stream count) _ _ _ _ _ _ _ _ _ _ _ isnt _ _ _ _ _ _ = absurd (isnt stream count refl)
+is_of_loop (request.ReadExactly stream count) _ _ _ _ _ _ _ _ _ _ _ _ isnt _ _ _ _ _ = absurd (isnt stream count refl)
+is_of_loop (request.ReadUntil stream separator) _ _ _ _ _ _ _ _ _ _ _ _ _ isnt _ _ _ _ = absurd (isnt stream separator refl)
+is_of_loop (request.ReadLine stream) _ _ _ _ _ _ _ _ _ _ _ _ _ _ isnt _ _ _ = absurd (isnt stream refl)
+is_of_loop (request.StandardError child) _ _ _ _ _ _ _ _ _ _ _ _ _ _ _ isnt _ _ = absurd (isnt child refl)
+is_of_loop (request.WaitChild child) _ _ _ _ _ _ _ _ _ _ _ _ _ _ _ _ isnt _ = absurd (isnt child refl)
+is_of_loop (request.ReturnCode child) _ _ _ _ _ _ _ _ _ _ _ _ _ _ _ _ _ isnt = absurd (isnt child refl)
+-- each other
+is_of_loop _ _ _ _ _ _ _ _ _ _ _ _ _ _ _ _ _ _ _ = refl
+
+-- one that isn't among those that keep something is lent
+pub lent_of : (r : Request) → ((future value : Value) → r ≡ request.Set future value → ⊥)
+    → ((timeout : Value) (raised : Option Exc) → r ≡ request.TimeoutExit timeout raised → ⊥)
+    → ((group : Value) (raised : Option Exc) → r ≡ request.GroupExit group raised → ⊥) → is_lent r ≡ is_own r
+lent_of (request.Set future value) isnt _ _ = absurd (isnt future value refl)
+lent_of (request.TimeoutExit timeout raised) _ isnt _ = absurd (isnt timeout raised refl)
+lent_of (request.GroupExit group raised) _ _ isnt = absurd (isnt group raised refl)
+lent_of _ _ _ _ = refl
+
+-- what is none of these is not
+pub isnt_lent : (r : Request)
+    → (r ≡ request.Pause → ⊥)
+    → ((x : Value) → r ≡ request.Await x → ⊥)
+    → ((values : List Value) → r ≡ request.Print values → ⊥)
+    → (r ≡ request.MakeFuture → ⊥)
+    → ((future : Value) (fault : Value) → r ≡ request.Fail future fault → ⊥)
+    → ((x : Value) → r ≡ request.IsDone x → ⊥)
+    → ((x : Value) → r ≡ request.IsCancelled x → ⊥)
+    → ((x : Value) → r ≡ request.ResultOf x → ⊥)
+    → ((x : Value) → r ≡ request.Cancel x → ⊥)
+    → ((x : Value) → r ≡ request.Cancelling x → ⊥)
+    → ((x : Value) → r ≡ request.Uncancel x → ⊥)
+    → (r ≡ request.Current → ⊥)
+    → (r ≡ request.Time → ⊥)
+    → ((coroutine : ℕ) (arguments : List Value) → r ≡ request.Spawn coroutine arguments → ⊥)
+    → ((delay : Value) → r ≡ request.Sleep delay → ⊥)
+    → ((delay : Value) → r ≡ request.TimeoutEnter delay → ⊥)
+    → ((timeout : Value) (when : Value) → r ≡ request.Reschedule timeout when → ⊥)
+    → ((timeout : Value) → r ≡ request.Expired timeout → ⊥)
+    → (r ≡ request.GroupEnter → ⊥)
+    → ((group : Value) (coroutine : ℕ) (arguments : List Value) → r ≡ request.Create group coroutine arguments → ⊥)
+    → is_lent r ≡ false
+isnt_lent request.Pause isnt _ _ _ _ _ _ _ _ _ _ _ _ _ _ _ _ _ _ _ = absurd (isnt refl)
+isnt_lent (request.Await x) _ isnt _ _ _ _ _ _ _ _ _ _ _ _ _ _ _ _ _ _ = absurd (isnt x refl)
+isnt_lent (request.Print values) _ _ isnt _ _ _ _ _ _ _ _ _ _ _ _ _ _ _ _ _ = absurd (isnt values refl)
+isnt_lent request.MakeFuture _ _ _ isnt _ _ _ _ _ _ _ _ _ _ _ _ _ _ _ _ = absurd (isnt refl)
+isnt_lent (request.Fail future fault) _ _ _ _ isnt _ _ _ _ _ _ _ _ _ _ _ _ _ _ _ = absurd (isnt future fault refl)
+isnt_lent (request.IsDone x) _ _ _ _ _ isnt _ _ _ _ _ _ _ _ _ _ _ _ _ _ = absurd (isnt x refl)
+isnt_lent (request.IsCancelled x) _ _ _ _ _ _ isnt _ _ _ _ _ _ _ _ _ _ _ _ _ = absurd (isnt x refl)
+isnt_lent (request.ResultOf x) _ _ _ _ _ _ _ isnt _ _ _ _ _ _ _ _ _ _ _ _ = absurd (isnt x refl)
+isnt_lent (request.Cancel x) _ _ _ _ _ _ _ _ isnt _ _ _ _ _ _ _ _ _ _ _ = absurd (isnt x refl)
+isnt_lent (request.Cancelling x) _ _ _ _ _ _ _ _ _ isnt _ _ _ _ _ _ _ _ _ _ = absurd (isnt x refl)
+isnt_lent (request.Uncancel x) _ _ _ _ _ _ _ _ _ _ isnt _ _ _ _ _ _ _ _ _ = absurd (isnt x refl)
+isnt_lent request.Current _ _ _ _ _ _ _ _ _ _ _ isnt _ _ _ _ _ _ _ _ = absurd (isnt refl)
+isnt_lent request.Time _ _ _ _ _ _ _ _ _ _ _ _ isnt _ _ _ _ _ _ _ = absurd (isnt refl)
+isnt_lent (request.Spawn coroutine arguments) _ _ _ _ _ _ _ _ _ _ _ _ _ isnt _ _ _ _ _ _ = absurd (isnt coroutine arguments refl)
+isnt_lent (request.Sleep delay) _ _ _ _ _ _ _ _ _ _ _ _ _ _ isnt _ _ _ _ _ = absurd (isnt delay refl)
+isnt_lent (request.TimeoutEnter delay) _ _ _ _ _ _ _ _ _ _ _ _ _ _ _ isnt _ _ _ _ = absurd (isnt delay refl)
+isnt_lent (request.Reschedule timeout when) _ _ _ _ _ _ _ _ _ _ _ _ _ _ _ _ isnt _ _ _ = absurd (isnt timeout when refl)
+isnt_lent (request.Expired timeout) _ _ _ _ _ _ _ _ _ _ _ _ _ _ _ _ _ isnt _ _ = absurd (isnt timeout refl)
+isnt_lent request.GroupEnter _ _ _ _ _ _ _ _ _ _ _ _ _ _ _ _ _ _ isnt _ = absurd (isnt refl)
+isnt_lent (request.Create group coroutine arguments) _ _ _ _ _ _ _ _ _ _ _ _ _ _ _ _ _ _ _ isnt = absurd (isnt group coroutine arguments refl)
+-- each other
+isnt_lent _ _ _ _ _ _ _ _ _ _ _ _ _ _ _ _ _ _ _ _ _ = refl

@@ -1,0 +1,12 @@
+pub mod Ending
+pub mod Looks
+pub mod Resumes
+pub mod Through
+pub mod Answered
+pub mod Callbacks
+pub mod Connects
+pub mod Handlers
+pub mod Opens
+pub mod Parking
+pub mod Writes
+pub mod Waits

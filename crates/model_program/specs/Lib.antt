@@ -1,0 +1,4 @@
+pub mod Runs
+pub mod Written
+pub mod Transcript
+pub mod Program
