@@ -1,35 +1,54 @@
 -- The streams that code stands for, and what a call on them comes to.
-use Rattle.std.specs.Prelude.{◌≡◌, Result, OnOk}
+use Rattle.std.specs.Prelude.{◌≡◌, ◌⊎◌, true, List, [], ◌∷◌, ◌++◌, Result, OnOk, length}
 use Rattle.model_stream.specs.Doing.{Doing}
-use Rattle.model_stream.specs.Streams.{Streams}
+use Rattle.model_stream.specs.Streams.{Opened, Streams}
 use Rattle.aio_wire.specs.declared.stop.Stop.{Stop}
 use Rattle.aio_exchange.specs.Outside.{Outside}
 use Rattle.law_doing.specs.Follows.{Follows, Reach, after_of, with_after}
 use Rattle.law_doing.specs.Tells.{Tells}
+use Rattle.law_over.specs.Gone.{is_gone}
 use Rattle.aio_task.specs.View.{View}
 use Rattle.aio_change.specs.Seen.{seen_changed}
 use Rattle.aio_children.specs.Standing as children
 use Rattle.aio_stream.specs.Standing as streams
-use Rattle.aio_transports.specs.Kept.{Kept}
+use Rattle.aio_transports.specs.Kept.{Kept, Remaining}
 
--- Its listeners, connections and children, what was opened, and how many of each kind can be numbered are those that are kept. It
--- keeps no history: what was written stands in the streams alone.
+-- those are all of these, in order, but some that are gone
+abbrev pub LeavesGone : Streams → (those these : List Opened) → Type 0
+LeavesGone s those [] = those ≡ []
+LeavesGone s those (one ∷ these) =
+    ((is_gone one s ≡ true) × LeavesGone s those these)
+    ⊎ ((more : List Opened) × ((those ≡ one ∷ more) × LeavesGone s more these))
+
+-- Of what was opened, so much was seen, and what is left out of it is gone.
+pub record Remains (r : Remaining) (s : Streams) : Type 0 where
+  pub before : List Opened
+  pub since : List Opened
+  pub opened : s.opened ≡ before ++ since
+  pub seen : r.seen ≡ length before
+  pub gone : LeavesGone s r.those before
+
+-- Its listeners, connections and children, what was opened, and how many of each kind can be numbered are those that are kept, and
+-- what it doesn't watch any more is gone. It keeps no history: what was written stands in the streams alone.
 pub record StandsFor (k : Kept) (s : Streams) : Type 0 where
   pub streams : streams.StandsFor k.streams s
   pub children : children.StandsFor k.children s
+  pub remaining : Remains k.remaining s
 
 -- It stands for what became of these streams, of which as many can be numbered as before.
 abbrev pub StandsAfter : (new : Kept) (before after : Streams) → Type 0
 StandsAfter new before after = StandsFor new after × (after.most ≡ before.most)
 
 -- A call does what a tree says, whatever the streams that it stands for, and then stands for those that come of it.
-abbrev pub Comes : {W R : Type 0} → Outside W → (Streams → Doing Streams) → (old new : Kept) → (from to : Reach View W) → Result R Stop → Type 0
+abbrev pub Comes : {W R : Type 0} → Outside W → (Streams → Doing Streams) → (old new : Kept) → (from to : Reach View W)
+    → Result R Stop → Type 0
 Comes o tree old new from to result =
     (s : Streams) → StandsFor old s
     → (after : Streams) × (Follows o seen_changed (tree s) from to (after_of after result) × OnOk result (StandsAfter new s after))
 
 -- the same of one with an answer
-abbrev pub Answers : {W R : Type 0} → Outside W → (Streams → Doing (Streams × R)) → (old new : Kept) → (from to : Reach View W) → Result R Stop → Type 0
+abbrev pub Answers : {W R : Type 0} → Outside W → (Streams → Doing (Streams × R)) → (old new : Kept)
+    → (from to : Reach View W) → Result R Stop → Type 0
 Answers o tree old new from to result =
     (s : Streams) → StandsFor old s
     → (after : Streams) × (Follows o seen_changed (tree s) from to (with_after after result) × OnOk result (StandsAfter new s after))
@@ -41,7 +60,8 @@ Told tree old new from to =
 
 abbrev pub ToldWith : {R : Type 0} → (Streams → Doing (Streams × R)) → (old new : Kept) → (from to : View) → R → Type 0
 ToldWith tree old new from to result =
-    (s : Streams) → StandsFor old s → (after : Streams) × (Tells seen_changed (tree s) from to (after, result) × StandsAfter new s after)
+    (s : Streams) → StandsFor old s → (after : Streams) × (Tells seen_changed (tree s) from to
+    (after, result) × StandsAfter new s after)
 
 -- the same of one that changes nothing of the loop
 abbrev pub Becomes : (Streams → Streams) → (old new : Kept) → Type 0
