@@ -82,8 +82,10 @@ module _ {X W : Type 0} {a : Added X} (task number : ℕ) (request : Request) (o
       made_it : (first now : ℕ) → BegunWaits (IsMade first now) it → IsMade first now begun.1
       made_it first now waits = subst (BegunWaits (IsMade first now)) is waits
 
-      come : (had : List Exchange) × HasCome {a = a} o (λ (c : Setting a) (s : State a.Kept). IsAskingFor task request c old s) had (ported wire old.events) (ported after new.events)
-          (λ (c : Setting a) (s : State a.Kept). HasGone (Some task) (λ first now. BegunWaits (IsMade first now) it) (reply a.meaning task request s) (connects_as task it) c old new s)
+      come : (had : List Exchange) × HasCome {a = a} o (λ (c : Setting a) (s : State a.Kept). IsAskingFor task request c old s) had
+          (ported wire old.events) (ported after new.events)
+          (λ (c : Setting a) (s : State a.Kept).
+          HasGone (Some task) (λ first now. BegunWaits (IsMade first now) it) (reply a.meaning task request s) (connects_as task it) c old new s)
       come =
           serving_goes task request old o laws possible new wire after (connect number) (connects_as task) means BegunWaits it call keeping beside
 

@@ -121,7 +121,9 @@ returns-in-Ok-Some g c =
     let fits : SFits w64 c.in-Some.number = search rules in
     record {
       comes =
-          subst (λ r. Comes (outside_of g.W.Wire.seen g.W.Wire.fails g.W.Wire.keeps g.W.Wire.quiet) (serving g.X.Extra.added c.args.task (request.Connect c.args.port.now) c.args.body.now c.waits.new.body)
+          subst (λ r.
+          Comes (outside_of g.W.Wire.seen g.W.Wire.fails g.W.Wire.keeps g.W.Wire.quiet)
+          (serving g.X.Extra.added c.args.task (request.Connect c.args.port.now) c.args.body.now c.waits.new.body)
           (ported c.args.wire.now c.args.body.now.events) (ported c.begun.new.wire c.waits.new.body.events) (Ok r)) (sym c.waits.ensures.is)
           (connect_stands c.args.task c.in-Some-as_port.number (request.Connect c.args.port.now) c.args.body.now
           (outside_of g.W.Wire.seen g.W.Wire.fails g.W.Wire.keeps g.W.Wire.quiet) (laws g) c.requires c.begun.new.body c.args.wire.now c.begun.new.wire
@@ -129,7 +131,8 @@ returns-in-Ok-Some g c =
           connects_to g.X.Extra.added.meaning c.args.task s c.args.port.now c.in-Some.number (sym c.as_int.ensures ∙ c.in-Some.is) c.in-Some-as_port.number
           (sym (c.may_connect.ensures.is s.streams h.going.in_step.stands.transports) ∙ c.if-not-may_connect.false)
           (ap port_in (sym (to_z-of_z w64 c.in-Some.number fits)) ∙ sym c.as_port.ensures ∙ c.in-Some-as_port.is))
-          c.in-Ok-Some.field-0 c.in-Ok-Some.ensures.comes c.in-Ok-Some.ensures.beside c.in-Ok-Some.connecting c.in-Ok-Some.field-0-is c.waits.new.body c.waits.ensures.suspends
+          c.in-Ok-Some.field-0 c.in-Ok-Some.ensures.comes c.in-Ok-Some.ensures.beside c.in-Ok-Some.connecting
+          c.in-Ok-Some.field-0-is c.waits.new.body c.waits.ensures.suspends
           c.waits.ensures.beside c.waits.ensures.slots);
     }
 

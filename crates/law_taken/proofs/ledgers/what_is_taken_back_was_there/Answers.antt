@@ -7,7 +7,8 @@ use Rattle.law_taken.proofs.ledgers.what_is_taken_back_was_there.Goals as goal
 
 pub returns-clause-nothing_added : goal.returns-clause-nothing_added
 returns-clause-nothing_added g c = λ most program answers turns.
-    run_in no_extra nothing_keeps turns (start most tt program answers) (begins_sound no_extra most tt program answers) (begins_covered {S = Unit {0}} most tt program answers)
+    run_in no_extra nothing_keeps turns (start most tt program answers) (begins_sound no_extra most tt program answers)
+    (begins_covered {S = Unit {0}} most tt program answers)
 
 pub returns-clause-added : goal.returns-clause-added
 returns-clause-added g c = λ added keeps most state program answers turns.
