@@ -1,12 +1,16 @@
 """The shapes of programs that bench/replay measures: a script for each, in three sizes, and the journal that it asks for.
 
 A script is `scripts/NAME.aio` with a main that gives its `bench` the size, and `asyncio/NAME.py` is the same program for
-CPython. A journal is a list of times, as long as the run asks. A task's sleep takes two turns, the one in which its timer
-falls due and the one in which the task goes on; a `yield`, a task's first step and a wakeup take one, and main's end one.
+CPython. The journal of tasks alone is a list of times, as long as the run asks. A task's sleep takes two turns, the one in
+which its timer falls due and the one in which the task goes on; a `yield`, a task's first step and a wakeup take one, and
+main's end one. Journals of connections and children are told in journals.py, and what a number makes in made.py.
 """
 
 import os
-from typing import Callable, NamedTuple
+from typing import Callable, NamedTuple, Optional
+
+import journals
+import made
 
 HERE = os.path.dirname(os.path.abspath(__file__))
 THOUSANDS = (1_000, 10_000, 100_000)
@@ -20,26 +24,31 @@ class Shape(NamedTuple):
     # in the plural
     unit: str
     sizes: tuple
-    times: Callable
+    # the journal's lines, or its times
+    answers: Callable
     # how many units the size has
     units: Callable = lambda n: n
     status: int = 0
+    # the name of the script and of the program for CPython, where it isn't the shape's own
+    program: Optional[str] = None
 
     def script(self, n):
+        if self.name == "work":
+            return made.script(n)
         main = f"\ndef main()\n  yield from bench({n})\nend\n"
-        path = os.path.join(HERE, "scripts", f"{self.name}.aio")
+        path = os.path.join(HERE, "scripts", f"{self.program or self.name}.aio")
         if not os.path.exists(path):
             return variables(n) + main
         with open(path) as file:
             return file.read() + main
 
     def journal(self, n):
-        return "".join(f"turn {now}\n" for now in self.times(n))
+        return "".join(f"{it}\n" if isinstance(it, str) else f"turn {it}\n" for it in self.answers(n))
 
-    def asyncio(self):
-        """The program for CPython, if there is one."""
-        path = os.path.join(HERE, "asyncio", f"{self.name}.py")
-        return path if os.path.exists(path) else None
+    def asyncio(self, n):
+        """The words that run the program for CPython, if there is one."""
+        path = os.path.join(HERE, "asyncio", f"{self.program or self.name}.py")
+        return [path, str(n), self.name] if os.path.exists(path) else None
 
 
 def variables(n):
@@ -148,4 +157,52 @@ SHAPES = [
         lambda n: still(2),
         lambda n: 90 * n,
     ),
+    Shape(
+        "echo_clients",
+        "a server of clients, all at once, that say 100 lines each",
+        "clients",
+        (100, 300, 1_000),
+        lambda n: journals.many(n, 100),
+        program="echo_server",
+    ),
+    Shape(
+        "echoes",
+        "a server of clients, all at once, that say 1,000 lines each",
+        "clients",
+        (100, 300, 1_000),
+        lambda n: journals.many(n, 1_000),
+        program="echo_server",
+    ),
+    Shape(
+        "echo_lines",
+        "a server of 1,000 clients, all at once",
+        "lines of each client",
+        (100, 300, 1_000),
+        lambda n: journals.many(1_000, n),
+        program="echo_server",
+    ),
+    Shape(
+        "echo_singly",
+        "a server of clients, one after the other, that say a line each",
+        "clients",
+        (1_000, 10_000, 100_000),
+        journals.singly,
+        program="echo_server",
+    ),
+    Shape(
+        "echo_idle",
+        "a server of a client that says 1,000 lines, and others that say nothing",
+        "others",
+        (100, 300, 1_000),
+        journals.idle,
+        program="echo_server",
+    ),
+    Shape(
+        "supervisor",
+        "a supervisor of programs, all at once, that say 100 lines each",
+        "programs",
+        (20, 60, 200),
+        journals.programs,
+    ),
+    Shape("work", "the work that a number from 0 to 9 makes", "tasks", tuple(range(10)), made.journal, made.group_size),
 ]

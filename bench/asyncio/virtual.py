@@ -22,15 +22,15 @@ class Stepped(selectors.DefaultSelector):
 
 
 class Loop(asyncio.SelectorEventLoop):
-    def __init__(self):
-        self.stepped = Stepped()
-        super().__init__(self.stepped)
+    def __init__(self, stepped):
+        self.stepped = stepped
+        super().__init__(stepped)
 
     def time(self):
         return self.stepped.now
 
 
-def run(bench):
+def run(bench, loop=lambda: Loop(Stepped())):
     """Runs a coroutine function with the size that the first word gives, as asyncio.run does."""
-    with asyncio.Runner(loop_factory=Loop) as runner:
+    with asyncio.Runner(loop_factory=loop) as runner:
         runner.run(bench(int(sys.argv[1])))

@@ -21,10 +21,11 @@ use Rattle.aio_body.specs.Asking.{Comes}
 use Rattle.aio_body.specs.Stands.{IsBetween, Possible, Setting}
 use Rattle.aio_core.specs.declared.went.Went as code
 use Rattle.aio_core.specs.Watched.{StandsOn}
-use Rattle.aio_core.specs.Turning.{AliveIfWent, AsksBy, ComesTo, IsAtRest, IsSelect, IsTime, StallsAs, StarvesAs, UnlessFailed, changed_by, said_by, stood_by}
+use Rattle.aio_core.specs.Turning.{AliveIfWent, AsksBy, ComesTo, HasCause, IsAtRest, IsSelect, IsTime, StallsAs, StarvesAs, UnlessFailed, changed_by, said_by, stood_by}
 use Rattle.aio_core.specs.Turning.{turning, turning_by}
 use Rattle.aio_core.proofs.Asking.{HasGot, answered_so, got_alive, got_so}
 use Rattle.aio_core.proofs.AskedByTurn.{asked_in, starved_in, wire_over}
+use Rattle.aio_core.proofs.Caused.{caused_in}
 use Rattle.aio_core.proofs.Coming.{comes_to, still_so}
 use Rattle.aio_core.proofs.Waking.{fits_time}
 
@@ -85,6 +86,10 @@ module _ {X W : Type 0} (a : Added X) (o : Outside W) (laws : IsOutside o) (old 
     pub asked_then : (past : List Event) (answers : List Entry) (s : State a.Kept) → IsAtRest a past answers old s
         → AsksBy old.events.events new.events.events (o.seen was) (o.seen last) (said_by result)
     asked_then = asked_in a o old new was last result whole
+
+    pub caused_then : (past : List Event) (answers : List Entry) (s : State a.Kept) → IsAtRest a past answers old s
+        → HasCause (o.seen was) (o.seen last) (said_by result)
+    caused_then = caused_in a o old new was last result whole
 
     pub starved_then : (past : List Event) (answers : List Entry) (s : State a.Kept) → IsAtRest a past answers old s
         → StarvesAs a.meaning (wire_over a o old new was last) (stood_by a old) old.events.events (said_by result)

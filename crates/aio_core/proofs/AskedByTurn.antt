@@ -228,7 +228,7 @@ module _ {X W : Type 0} (a : Added X) (o : Outside W) (old new : Body X) (was is
   wire_over = record { before = o.seen was; after = o.seen is; fails = o.fails was; quiet = o.quiet was is }
 
   -- a state that has these answers left
-  there : (had : List Exchange) (past : List Event) (answers rest : List Entry) (s : State a.Kept) → (r : IsAtRest a past answers old s)
+  pub there : (had : List Exchange) (past : List Event) (answers rest : List Entry) (s : State a.Kept) → (r : IsAtRest a past answers old s)
       → IsBetween (before had (resting a past rest r.0)) old (with_answers (entries_of had ++ rest) s)
   there had past answers rest s r = between_again (entries_of had ++ rest) (resting a past answers r.0) old s r.1
 

@@ -1,5 +1,6 @@
 -- A turn over the outside's answer: what a call that has none comes to, and a turn that has its answer.
-use Rattle.std.proofs.Common.{◌≡◌, ◌⊎◌, inl, inr, Bool, true, false, List, [], ◌∷◌, ◌++◌, None, Result, Ok, Err, ◌∙◌, refl, sym, ap, subst, append_assoc}
+use Rattle.std.proofs.Common.{◌≡◌, ◌⊎◌, inl, inr, ℕ, Bool, true, false, List, [], ◌∷◌, ◌++◌, None, Result, Ok, Err, ◌∙◌, refl, sym, ap, subst}
+use Rattle.std.proofs.Common.{append_assoc}
 use Rattle.std.proofs.Common.{if◌then◌else◌}
 use Rattle.std.proofs.Math.Logic.{∥∥₁_map}
 use Rattle.model_says.specs.Says.{step_limit}
@@ -38,7 +39,8 @@ use Rattle.law_body.proofs.Noting.{counted, stands_noted}
 use Rattle.aio_core.specs.declared.went.Went as code
 use Rattle.aio_core.specs.declared.went.Went.TheVariants as went
 use Rattle.aio_core.specs.Watched.{StandsOn}
-use Rattle.aio_core.specs.Turning.{ComesTo, EndsFrom, Is, NoneLeft, OfFailing, StallsAs, Stood, UnlessFailed, changed_by, resting, stood_by, turning, turning_by}
+use Rattle.aio_core.specs.Turning.{ComesTo, EndsFrom, Is, NoneLeft, OfFailing, StallsAs, Stood, UnlessFailed, changed_by, resting, stood_by}
+use Rattle.aio_core.specs.Turning.{turning, turning_by}
 
 -- ---- the machine
 turn_asks : {S : Type 0} (added : Extra S) (s : State S) → is_stalled added s ≡ false
@@ -93,13 +95,14 @@ module _ {X : Type 0} {a : Added X} (old : Body X) (call : Call)
       told = told_call past [] rest s events h.1.stands.events e;
     }
 
-    stops_over : Replied call before after reply.Over → events ≡ pushed old.events (event.Called call) → (new : Stood a.Kept)
-        → ComesTo a.meaning before after (record { old = stood_by a old; new = new; untaken = events.events }) (went.Stopped (stop.Over call))
-    stops_over replied e new = ([], (replied.left.0, ends_over e))
+    stops_over : Replied call before after reply.Over → events ≡ pushed old.events (event.Called call) → (new : Stood a.Kept) (tasks : ℕ)
+        → ComesTo a.meaning before after (record { old = stood_by a old; new = new; untaken = events.events; tasks = tasks }) (went.Stopped (stop.Over call))
+    stops_over replied e new tasks = ([], (replied.left.0, ends_over e))
 
-    stops_bad : (fault : JournalFault) → Replied call before after (reply.Bad fault) → events ≡ pushed old.events (event.Called call) → (new : Stood a.Kept)
-        → ComesTo a.meaning before after (record { old = stood_by a old; new = new; untaken = events.events }) (went.Stopped (stop.Bad fault))
-    stops_bad fault replied e new = (
+    stops_bad : (fault : JournalFault) → Replied call before after (reply.Bad fault) → events ≡ pushed old.events (event.Called call)
+        → (new : Stood a.Kept) (tasks : ℕ)
+        → ComesTo a.meaning before after (record { old = stood_by a old; new = new; untaken = events.events; tasks = tasks }) (went.Stopped (stop.Bad fault))
+    stops_bad fault replied e new tasks = (
       [],
       (
         replied.left.0,
@@ -113,15 +116,16 @@ module _ {X : Type 0} {a : Added X} (old : Body X) (call : Call)
       ),
     )
 
-    stops_failed : Replied call before after reply.Failed → events ≡ pushed old.events (event.Called call) → (new : Stood a.Kept)
-        → ComesTo a.meaning before after (record { old = stood_by a old; new = new; untaken = events.events }) (went.Stopped (stop.Failed call))
-    stops_failed replied e new = ([], (replied.left, ends_over e, replied.failed))
+    stops_failed : Replied call before after reply.Failed → events ≡ pushed old.events (event.Called call) → (new : Stood a.Kept) (tasks : ℕ)
+        → ComesTo a.meaning before after (record { old = stood_by a old; new = new; untaken = events.events; tasks = tasks })
+        (went.Stopped (stop.Failed call))
+    stops_failed replied e new tasks = ([], (replied.left, ends_over e, replied.failed))
 
     stops_misfit : (answer : Answer) → Replied call before after (reply.Got answer)
-        → events ≡ pushed (pushed old.events (event.Called call)) (event.Got answer) → fits call answer ≡ false → (new : Stood a.Kept)
-        → ComesTo a.meaning before after (record { old = stood_by a old; new = new; untaken = events.events })
+        → events ≡ pushed (pushed old.events (event.Called call)) (event.Got answer) → fits call answer ≡ false → (new : Stood a.Kept) (tasks : ℕ)
+        → ComesTo a.meaning before after (record { old = stood_by a old; new = new; untaken = events.events; tasks = tasks })
         (went.Stopped (stop.Mismatch events.answers call))
-    stops_misfit answer replied e misfits new = (
+    stops_misfit answer replied e misfits new tasks = (
       answer ∷ [],
       (
         replied.left,
@@ -148,18 +152,18 @@ module _ {X : Type 0} {a : Added X} (old : Body X) (call : Call)
     pub stops_so : (result : Result Answer Stop) (why : Stop) → result ≡ Err why
         → ((said : Reply) × Exchanges call old.events events result said × Replied call before after said)
         ⊎ (StopsShort old.events events result × MayHaveReplied call before after)
-        → (new : Stood a.Kept)
-        → ComesTo a.meaning before after (record { old = stood_by a old; new = new; untaken = events.events }) (went.Stopped why)
-    stops_so result why e (inr short) new =
-        subst (λ w. ComesTo a.meaning before after (record { old = stood_by a old; new = new; untaken = events.events }) (went.Stopped w))
+        → (new : Stood a.Kept) (tasks : ℕ)
+        → ComesTo a.meaning before after (record { old = stood_by a old; new = new; untaken = events.events; tasks = tasks }) (went.Stopped why)
+    stops_so result why e (inr short) new tasks =
+        subst (λ w. ComesTo a.meaning before after (record { old = stood_by a old; new = new; untaken = events.events; tasks = tasks }) (went.Stopped w))
         (err_same stop.Memory why (sym short.0.0 ∙ e)) tt
       where
         err_same : (a b : Stop) → ◌≡◌ {A = Result Answer Stop} (Err a) (Err b) → a ≡ b
         err_same a b e = cc
-    stops_so result why e (inl (said, exchanged, replied)) new = at said exchanged replied
+    stops_so result why e (inl (said, exchanged, replied)) new tasks = at said exchanged replied
       where
         Comes : Stop → Type 0
-        Comes w = ComesTo a.meaning before after (record { old = stood_by a old; new = new; untaken = events.events }) (went.Stopped w)
+        Comes w = ComesTo a.meaning before after (record { old = stood_by a old; new = new; untaken = events.events; tasks = tasks }) (went.Stopped w)
 
         err_same : (a b : Stop) → ◌≡◌ {A = Result Answer Stop} (Err a) (Err b) → a ≡ b
         err_same a b e = cc
@@ -169,13 +173,13 @@ module _ {X : Type 0} {a : Added X} (old : Body X) (call : Call)
             → events ≡ pushed (pushed old.events (event.Called call)) (event.Got answer) → Replied call before after (reply.Got answer) → Comes why
         misfit answer true f r es replied = absurd (let x = sym r ∙ e in cc)
         misfit answer false f r es replied =
-            subst Comes (err_same (stop.Mismatch events.answers call) why (sym r ∙ e)) (stops_misfit answer replied es f new)
+            subst Comes (err_same (stop.Mismatch events.answers call) why (sym r ∙ e)) (stops_misfit answer replied es f new tasks)
 
         at : (said : Reply) → Exchanges call old.events events result said → Replied call before after said → Comes why
         at (reply.Got answer) x replied = misfit answer (fits call answer) refl x.1 x.0 replied
-        at reply.Over x replied = subst Comes (err_same (stop.Over call) why (sym x.1 ∙ e)) (stops_over replied x.0 new)
-        at (reply.Bad fault) x replied = subst Comes (err_same (stop.Bad fault) why (sym x.1 ∙ e)) (stops_bad fault replied x.0 new)
-        at reply.Failed x replied = subst Comes (err_same (stop.Failed call) why (sym x.1 ∙ e)) (stops_failed replied x.0 new)
+        at reply.Over x replied = subst Comes (err_same (stop.Over call) why (sym x.1 ∙ e)) (stops_over replied x.0 new tasks)
+        at (reply.Bad fault) x replied = subst Comes (err_same (stop.Bad fault) why (sym x.1 ∙ e)) (stops_bad fault replied x.0 new tasks)
+        at reply.Failed x replied = subst Comes (err_same (stop.Failed call) why (sym x.1 ∙ e)) (stops_failed replied x.0 new tasks)
 
   -- ---- it has its answer
   -- the answer was the first of those that were left, and is noted

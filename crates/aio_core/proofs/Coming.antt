@@ -1,5 +1,5 @@
 -- What a whole turn comes to, by what it asked of the wire, whatever that was.
-use Rattle.std.proofs.Common.{◌≡◌, ℕ, false, List, [], ◌∷◌, ◌++◌, Result, Ok, Err, map, refl, sym, ap, subst}
+use Rattle.std.proofs.Common.{◌≡◌, ℕ, false, List, [], ◌∷◌, ◌++◌, Result, Ok, Err, length, map, refl, sym, ap, subst}
 use Rattle.std.proofs.Math.Logic.{∥∥₁_elim, ∥∥₁_map}
 use Rattle.model_value.specs.Value.{Outcome}
 use Rattle.model_says.specs.Says.{step_limit}
@@ -9,7 +9,6 @@ use Rattle.model_wire.specs.Event.{Event}
 use Rattle.model_wire.specs.Journal.{Entry, Answered}
 use Rattle.model_wire.specs.Told.{Agrees}
 use Rattle.model_wire.specs.Trace.{End}
-use Rattle.model_machine.specs.Outcomes.{end_of}
 use Rattle.model_machine.specs.State.{State}
 use Rattle.model_machine.specs.Turn.{turn}
 use Rattle.model_machine.specs.Went.{Went, Goes, Stops}
@@ -30,8 +29,8 @@ use Rattle.law_body.proofs.Answering.{between_again}
 use Rattle.law_body.specs.Answers.{with_answers}
 use Rattle.aio_core.specs.declared.went.Went as code
 use Rattle.aio_core.specs.declared.went.Went.TheVariants as went
-use Rattle.aio_core.specs.Turning.{AliveIfWent, AnyLeft, ComesTo, EndsFrom, EndsTelling, Is, IsAtRest, IsMismatch, NextIs, NoneLeft, StallsAs, Turned}
-use Rattle.aio_core.specs.Turning.{UnlessFailed, changed_by, resting, said_by, stood_by, turning}
+use Rattle.aio_core.specs.Turning.{AliveIfWent, AnyLeft, ComesTo, EndsFrom, EndsTelling, Is, IsAtRest, IsFinished, IsMismatch, NextIs, NoneLeft, StallsAs}
+use Rattle.aio_core.specs.Turning.{Turned, UnlessFailed, changed_by, resting, said_by, stood_by, turning}
 use Rattle.aio_core.proofs.Asking.{stalls_stopped, still_after}
 
 -- ---- the answers that were had
@@ -78,9 +77,10 @@ module _ {X W : Type 0} (a : Added X) (o : Outside W) (old new : Body X) (was is
 
       finishes_at : (outcome : Outcome) (past : List Event) (rest : List Entry) (bar : ℕ) (s : State a.Kept) (w : Went a.Kept)
           → turn step_limit a.meaning s ≡ w → Turned (resting a past rest bar) new (went.Finished outcome) w
-          → EndsTelling a.meaning (Is (end_of outcome)) past new.events.events s
+          → EndsTelling a.meaning (IsFinished outcome (length new.slots.items)) past new.events.events s
       finishes_at outcome past rest bar s (Goes now) e t = absurd t
-      finishes_at outcome past rest bar s (Stops how last) e t = record { end = how; last = last; way = t.0; stops = e; told = t.1 }
+      finishes_at outcome past rest bar s (Stops how last) e t =
+          record { end = how; last = last; way = (t.0, t.1.1); stops = e; told = t.1.0 }
 
       runs_at : (task : ℕ) (past : List Event) (rest : List Entry) (bar : ℕ) (s : State a.Kept) (w : Went a.Kept)
           → turn step_limit a.meaning s ≡ w → Turned (resting a past rest bar) new (went.Runaway task) w

@@ -52,7 +52,7 @@ pub told_turned : {X : Type 0} {a : Added X} (new : Body X) (c : Setting a) (it 
 told_turned new c went.Went (Goes now) t = t.stands.events
 told_turned new c went.Went (Stops how last) t = absurd t
 told_turned new c (went.Finished outcome) (Goes now) t = absurd t
-told_turned new c (went.Finished outcome) (Stops how last) t = t.1
+told_turned new c (went.Finished outcome) (Stops how last) t = t.1.0
 told_turned new c went.Stalled (Goes now) t = absurd t
 told_turned new c went.Stalled (Stops how last) t = absurd t
 told_turned new c (went.Runaway task) (Goes now) t = absurd t

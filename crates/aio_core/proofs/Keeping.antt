@@ -18,7 +18,7 @@ use Rattle.aio_core.specs.declared.went.Went as code
 use Rattle.aio_core.specs.declared.went.Went.TheVariants as went
 use Rattle.aio_core.specs.Again.{Again, IsKept}
 use Rattle.aio_core.specs.Turned.{KeepsEnd, StandsFor, TurnedBy, TurnsTo, ended, stood_for, untaken}
-use Rattle.aio_core.specs.Turning.{AliveIfWent, AliveUnless, AsksBy, ComesTo, IsAtRest, OfFailing, StallsAs, StarvesAs, UnlessFailed, WireTurn}
+use Rattle.aio_core.specs.Turning.{AliveIfWent, AliveUnless, AsksBy, ComesTo, HasCause, IsAtRest, OfFailing, StallsAs, StarvesAs, UnlessFailed, WireTurn}
 use Rattle.aio_core.specs.Turning.{changed_by, resting, stood_by}
 
 module _ {X : Type 0} {a : Added X} where
@@ -77,12 +77,15 @@ module _ {X : Type 0} {a : Added X} where
       → ((past : List Event) (answers : List Entry) (s : State a.Kept) → IsAtRest a past answers old.body s
       → AsksBy (untaken old) (untaken new) wire.before wire.after said)
       → ((past : List Event) (answers : List Entry) (s : State a.Kept) → IsAtRest a past answers old.body s
+      → HasCause wire.before wire.after said)
+      → ((past : List Event) (answers : List Entry) (s : State a.Kept) → IsAtRest a past answers old.body s
       → StarvesAs a.meaning wire (stood_by a old.body) (untaken old) said)
       → UnlessFailed wire.quiet said → (wire.fails → OfFailing said) → Again said result → TurnedBy a wire old new result said
-  turned_up wire old new result said goes comes stalls asks starved still failing either = record {
+  turned_up wire old new result said goes comes stalls asks caused starved still failing either = record {
     turns = comes_up a old new wire.before wire.after said goes comes;
     stalls = λ past answers s h. stalls past answers s h.rests;
     asks = λ past answers s h. asks past answers s h.rests;
+    caused = λ past answers s h. caused past answers s h.rests;
     starved = λ past answers s h. starves_up a wire old said (starved past answers s h.rests);
     still = still;
     failing = failing;

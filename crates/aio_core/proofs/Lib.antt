@@ -11,6 +11,7 @@ pub mod Asking
 pub mod Coming
 pub mod Answered
 pub mod AskedByTurn
+pub mod Caused
 pub mod Following
 pub mod Opening
 pub mod Placing

@@ -274,7 +274,8 @@ said_at (Some outcome) = went.Finished outcome
 module _ {X : Type 0} {a : Added X} (c : Setting a) (body : Body X) (s : State a.Kept) (h : IsBetween c body s) where
   said_so : (o : Option Outcome) → finished_as s ≡ o → Turned c body (said_at o) (finished_if (finished_as s) s)
   said_so None e = subst (λ o. Turned c body went.Went (finished_if o s)) (sym e) h
-  said_so (Some outcome) e = subst (λ o. Turned c body (went.Finished outcome) (finished_if o s)) (sym e) (refl, h.stands.events)
+  said_so (Some outcome) e = subst (λ o. Turned c body (went.Finished outcome) (finished_if o s)) (sym e)
+      (refl, (h.stands.events, (h.stands.made, h.stands.few)))
 
   pub main_goes : body.main_done ≡ false → Turned c body went.Went (finished_if (finished_as s) s)
   main_goes e =

@@ -1,5 +1,5 @@
 -- What a turn of a kernel comes to, by the states of the machine that it stands for.
-use Rattle.std.specs.Prelude.{◌≡◌, List, [], ◌++◌, Option, Some, None, ◌⊎◌}
+use Rattle.std.specs.Prelude.{◌≡◌, ℕ, List, [], ◌++◌, Option, Some, None, ◌⊎◌, length}
 use Rattle.model_tree.specs.Syntax.{Program}
 use Rattle.model_wire.specs.Call.{Answer}
 use Rattle.model_wire.specs.Event.{Event}
@@ -14,12 +14,16 @@ use Rattle.aio_wire.specs.declared.stop.Stop.TheVariants as stop
 use Rattle.aio_core.specs.declared.kernel.Kernel.{Kernel}
 use Rattle.aio_core.specs.declared.went.Went as code
 use Rattle.aio_core.specs.declared.went.Went.TheVariants as went
-use Rattle.aio_core.specs.Turning.{AsksBy, Change, ComesTo, EndsFrom, EndsTelling, GoesOnFrom, IsAtRest, OfFailing, StallsAs, StarvesAs, Stood, UnlessFailed}
+use Rattle.aio_core.specs.Turning.{AsksBy, Change, ComesTo, EndsFrom, EndsTelling, GoesOnFrom, HasCause, IsAtRest, OfFailing, StallsAs, StarvesAs, Stood, UnlessFailed}
 use Rattle.aio_core.specs.Turning.{WireTurn}
 
 -- the events that weren't taken out yet
 abbrev pub untaken : {X : Type 0} {g : _} → Kernel X g → List Event
 untaken kernel = kernel.body.events.events
+
+-- how many tasks have a slot
+abbrev pub held_tasks : {X : Type 0} {g : _} → Kernel X g → ℕ
+held_tasks kernel = length kernel.body.slots.items
 
 -- how the run ended, if it did
 abbrev pub ended : {X : Type 0} {g : _} → Kernel X g → Option code.Went
@@ -55,7 +59,8 @@ EndsAs a had left ways old new = EndsFrom a.meaning had left ways (stood_for a o
 
 -- what a turn changes
 abbrev pub change_of : {X : Type 0} {g : _} → (a : Added X) → (old new : Kernel X g) → Change a.Kept
-change_of a old new = record { old = stood_for a old; new = stood_for a new; untaken = untaken new }
+change_of a old new =
+    record { old = stood_for a old; new = stood_for a new; untaken = untaken new; tasks = held_tasks new }
 
 -- what a turn comes to, by what is seen of the wire before and after it
 abbrev pub TurnsTo : {X : Type 0} {g : _} → Added X → (before after : WireSeen) → (old new : Kernel X g) → code.Went → Type 0
@@ -68,6 +73,8 @@ pub record TurnedBy {X : Type 0} {g : _} (a : Added X) (wire : WireTurn) (old ne
       → StallsAs (is_stalled a.meaning s) said
   pub asks : (past : List Event) (answers : List Entry) (s : State a.Kept) → StandsFor a past answers old s
       → AsksBy (untaken old) (untaken new) wire.before wire.after said
+  pub caused : (past : List Event) (answers : List Entry) (s : State a.Kept) → StandsFor a past answers old s
+      → HasCause wire.before wire.after said
   pub starved : (past : List Event) (answers : List Entry) (s : State a.Kept) → StandsFor a past answers old s
       → StarvesAs a.meaning wire (stood_for a old) (untaken old) said
   pub still : UnlessFailed wire.quiet said

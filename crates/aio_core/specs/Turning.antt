@@ -1,6 +1,7 @@
 -- A turn, piece by piece, and what a whole one comes to, by what is seen of the wire before and after.
-use Rattle.std.specs.Prelude.{◌≡◌, ℕ, ◌-◌, ◌^◌, ◌≤◌, Bool, true, false, List, [], ◌∷◌, ◌++◌, Option, Some, None, Result, Ok, Err, length, map, min}
+use Rattle.std.specs.Prelude.{◌≡◌, ℕ, ◌-◌, ◌^◌, ◌<◌, ◌≤◌, Bool, true, false, List, [], ◌∷◌, ◌++◌, Option, Some, None, Result, Ok, Err, length, map, min}
 use Rattle.model_value.specs.Number.{most}
+use Rattle.model_value.specs.Value.{Outcome}
 use Rattle.model_says.specs.Says.{step_limit}
 use Rattle.model_wire.specs.declared.answer.Answer.TheVariants as answer
 use Rattle.model_wire.specs.declared.event.End.TheVariants as end
@@ -8,8 +9,9 @@ use Rattle.model_wire.specs.declared.watch.Watch.{Watch}
 use Rattle.model_wire.specs.Call.{Answer, Call}
 use Rattle.model_wire.specs.Event.{Event, calls_in}
 use Rattle.model_wire.specs.Journal.{Entry, Answered}
-use Rattle.model_wire.specs.Told.{Agrees, Rose, WireSeen}
+use Rattle.model_wire.specs.Told.{Agrees, AtRefused, OutOfAnswers, Rose, WireSeen}
 use Rattle.model_wire.specs.Trace.{End}
+use Rattle.model_loop.specs.Tasks.{next_task}
 use Rattle.model_machine.specs.Extra.{Extra}
 use Rattle.model_machine.specs.Outcomes.{end_of}
 use Rattle.model_machine.specs.Outside.{select}
@@ -53,10 +55,15 @@ abbrev pub all_below : {X : Type 0} {a : Added X} → Setting a → State a.Kept
 all_below c s = record c { left = length s.loop.parts.pending; bar = s.loop.parts.next_stamp }
 
 -- ---- the end of a turn
--- the run goes on, or it ended in this way, and what happened is told
+-- so many tasks were made, main among them
+abbrev pub HasMade : {S : Type 0} → (tasks : ℕ) → State S → Type 0
+HasMade tasks s = (tasks ≡ next_task s.loop.parts) × (tasks < 2 ^ 32)
+
+-- The run goes on, or it ended in this way, and what happened is told. Where it finished, each task that was made has its slot.
 abbrev pub Turned : {X : Type 0} {a : Added X} → Setting a → Body X → code.Went → Went a.Kept → Type 0
 Turned c body went.Went (Goes now) = IsBetween c body now
-Turned c body (went.Finished outcome) (Stops it last) = (it ≡ end_of outcome) × (last.events ≡ c.past ++ body.events.events)
+Turned c body (went.Finished outcome) (Stops it last) =
+    (it ≡ end_of outcome) × ((last.events ≡ c.past ++ body.events.events) × HasMade (length body.slots.items) last)
 Turned c body (went.Runaway task) (Stops it last) = (it ≡ end.Runaway task) × (last.events ≡ c.past ++ body.events.events)
 Turned c body _ _ = ⊥
 
@@ -121,6 +128,10 @@ EndsFrom {S} added had left ways old untaken =
 abbrev pub Is : {S : Type 0} → End → End → State S → Type 0
 Is wanted it last = it ≡ wanted
 
+-- main's outcome, after so many tasks were made
+abbrev pub IsFinished : {S : Type 0} → Outcome → (tasks : ℕ) → End → State S → Type 0
+IsFinished outcome tasks it last = (it ≡ end_of outcome) × HasMade tasks last
+
 -- the number is the answer's, or the greatest of its type
 abbrev pub IsMismatch : {S : Type 0} → ℕ → Call → End → State S → Type 0
 IsMismatch count call it last =
@@ -135,21 +146,25 @@ NoneLeft rest = rest ≡ []
 abbrev pub NextIs : Entry → List Entry → Type 0
 NextIs entry rest = (others : List Entry) × (rest ≡ entry ∷ others)
 
--- What a turn changes: which states were stood for before it, which are then, and the events that weren't taken out yet.
+-- What a turn changes: which states were stood for before it, and which are then; and after it the events that weren't taken out yet,
+-- and how many tasks have a slot.
 pub record Change (S : Type 0) : Type 1 where
   pub old : Stood S
   pub new : Stood S
   pub untaken : List Event
+  pub tasks : ℕ
 
 abbrev pub changed_by : {X : Type 0} → (a : Added X) → (old new : Body X) → Change a.Kept
-changed_by a old new = record { old = stood_by a old; new = stood_by a new; untaken = new.events.events }
+changed_by a old new =
+    record { old = stood_by a old; new = stood_by a new; untaken = new.events.events; tasks = length new.slots.items }
 
 -- What a turn comes to, by what is seen of the wire before and after it, and by what it changes.
 abbrev pub ComesTo : {S : Type 0} → Extra S → (before after : WireSeen) → Change S → code.Went → Type 0
 ComesTo added before after it went.Went =
     (had : List Answer) × (Takes before.left after.left had × GoesOnFrom added had it.old it.new)
 ComesTo added before after it (went.Finished outcome) =
-    (had : List Answer) × (Takes before.left after.left had × EndsFrom added had AnyLeft (Is (end_of outcome)) it.old it.untaken)
+    (had : List Answer)
+    × (Takes before.left after.left had × EndsFrom added had AnyLeft (IsFinished outcome it.tasks) it.old it.untaken)
 ComesTo added before after it went.Stalled =
     (before.left ≡ after.left) × EndsFrom added [] AnyLeft (Is end.Stalled) it.old it.untaken
 ComesTo added before after it (went.Runaway task) =
@@ -171,6 +186,14 @@ ComesTo added before after it (went.Stopped stop.Memory) = Unit {0}
 abbrev pub AsksBy : (was is : List Event) → (before after : WireSeen) → code.Went → Type 0
 AsksBy was is before after (went.Stopped stop.Memory) = Unit {0}
 AsksBy was is before after _ = (told : List Event) × ((is ≡ was ++ told) × Asks told before after)
+
+-- Why a turn stopped: at a refused line only where the wire stands at it, for want of answers only where it has none left, and by an
+-- answer that doesn't fit only where not each answer of the wire fits.
+abbrev pub HasCause : (before after : WireSeen) → code.Went → Type 0
+HasCause before after (went.Stopped (stop.Over call)) = after.end ≡ OutOfAnswers
+HasCause before after (went.Stopped (stop.Bad fault)) = after.end ≡ AtRefused fault.line fault.cause
+HasCause before after (went.Stopped (stop.Mismatch count call)) = before.fitting ≡ false
+HasCause before after _ = Unit {0}
 
 -- What clauses say of a wire over a turn: what is seen of it before and after, that each call of it fails, and what stays of it as
 -- long as none does.

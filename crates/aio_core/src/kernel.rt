@@ -25,15 +25,16 @@ pub struct Kernel<X: Extra> {
 }
 
 impl<X: Extra + Drop> Kernel<X> {
-    ghost use Rattle.std.specs.Prelude.{◌≡◌, ◌≤◌, List, [], ◌++◌, None, IfOk, IfSome};
+    ghost use Rattle.std.specs.Prelude.{◌≡◌, ◌^◌, ◌<◌, List, [], ◌++◌, None, IfOk, IfSome};
     ghost use Rattle.model_wire.specs.Event.{Event};
     ghost use Rattle.model_wire.specs.Journal.{Entry};
     ghost use Rattle.model_loop.specs.Tasks.{next_task};
     ghost use Rattle.model_machine.specs.State.{State};
     ghost use Rattle.model_machine.specs.Turn.{is_stalled};
+    ghost use Rattle.aio_wire.specs.Replied.{Stays};
     ghost use Rattle.aio_extra.specs.Added.{KeepsNothing};
     ghost use Rattle.aio_core.specs.declared.went.Went.{Went as AnyWent};
-    ghost use Rattle.aio_core.specs.Turned.{StandsFor, Begins, TurnedBy, KeepsEnd, ended, untaken};
+    ghost use Rattle.aio_core.specs.Turned.{StandsFor, Begins, TurnedBy, KeepsEnd, ended, held_tasks, untaken};
     ghost use Rattle.aio_core.specs.Again.{Again};
     ghost use Rattle.aio_core.specs.Sound.{IsTurnSound};
 
@@ -67,7 +68,7 @@ impl<X: Extra + Drop> Kernel<X> {
         ensures sound { (past : List Event) (answers : List Entry) (s : State X.added.Kept)
             → StandsFor X.added past answers self.old s → IsTurnSound X.added s }
         ensures keeps { W.keeps wire.old wire.new }
-        ensures later { (W.seen wire.old).faults ≤ (W.seen wire.new).faults }
+        ensures stays { Stays (W.seen wire.old) (W.seen wire.new) }
         ensures kept { KeepsEnd result (ended self.new) }
         ensures again { IfSome (ended self.old) (λ went. Again went result) }
         ensures still { IfSome (ended self.old) (λ went. wire.new ≡ wire.old) }
@@ -86,6 +87,7 @@ impl<X: Extra + Drop> Kernel<X> {
         ensures taken { result.events ≡ untaken self.old }
         ensures left { untaken self.new ≡ [] }
         ensures ended { ended self.new ≡ ended self.old }
+        ensures tasks { held_tasks self.new ≡ held_tasks self.old }
         ensures stands { (past : List Event) (answers : List Entry) (s : State X.added.Kept)
             → StandsFor X.added past answers self.old s
             → StandsFor X.added (past ++ untaken self.old) answers self.new s }
@@ -101,10 +103,11 @@ impl<X: Extra + Drop> Kernel<X> {
         is_stalled(&self.body)
     }
 
-    /// How many tasks were made so far.
+    /// How many tasks were made so far. After a turn with which a run finished, it is all of them.
     pub fn tasks(&self) -> u32
-        ensures { (past : List Event) (answers : List Entry) (s : State X.added.Kept)
+        ensures made { (past : List Event) (answers : List Entry) (s : State X.added.Kept)
             → StandsFor X.added past answers self.now s → result ≡ next_task s.loop.parts }
+        ensures held { held_tasks self.now < 2 ^ 32 → result ≡ held_tasks self.now }
     {
         u32::try_from(self.body.slots.len()).unwrap_or(u32::MAX)
     }

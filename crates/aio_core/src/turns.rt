@@ -1,5 +1,5 @@
 //! A turn of the loop.
-ghost use Rattle.std.specs.Prelude.{◌≡◌, ◌≤◌, ◌⊎◌, ◌&&◌, ◌++◌, true, not, length, List, IfOk, OnOk};
+ghost use Rattle.std.specs.Prelude.{◌≡◌, ◌⊎◌, ◌&&◌, ◌++◌, true, not, length, List, IfOk, OnOk};
 ghost use Rattle.model_wire.specs.declared.watch.Watch.TheVariants as watch;
 ghost use Rattle.model_wire.specs.Event.{Event};
 ghost use Rattle.model_wire.specs.Journal.{Entry};
@@ -18,7 +18,7 @@ ghost use Rattle.aio_exchange.specs.Outside.{outside_of, ported};
 ghost use Rattle.aio_body.specs.Asking.{Comes};
 ghost use Rattle.aio_body.specs.Stands.{Setting, IsBetween, Possible};
 ghost use Rattle.aio_core.specs.Watched.{StandsOn};
-ghost use Rattle.aio_core.specs.Turning.{AsksBy, IsAtRest, IsSelect, IsTime, Turned, AliveIfWent, ComesTo, OfFailing, StallsAs, StarvesAs, UnlessFailed};
+ghost use Rattle.aio_core.specs.Turning.{AsksBy, HasCause, IsAtRest, IsSelect, IsTime, Turned, AliveIfWent, ComesTo, OfFailing, StallsAs, StarvesAs, UnlessFailed};
 ghost use Rattle.aio_core.specs.Turning.{all_below, changed_by, said_by, stood_by, turning_by};
 
 use crate::handles::run_below;
@@ -52,6 +52,9 @@ pub fn turn<W: Wire, X: Extra>(
         → IsAtRest X.added past answers body.old s
         → AsksBy body.old.events.events body.new.events.events (W.seen wire.old) (W.seen wire.new)
         (said_by result) }
+    ensures caused { (past : List Event) (answers : List Entry) (s : State X.added.Kept)
+        → IsAtRest X.added past answers body.old s
+        → HasCause (W.seen wire.old) (W.seen wire.new) (said_by result) }
     ensures starved { (past : List Event) (answers : List Entry) (s : State X.added.Kept)
         → IsAtRest X.added past answers body.old s
         → StarvesAs X.added.meaning
@@ -66,7 +69,7 @@ pub fn turn<W: Wire, X: Extra>(
     ensures fails { W.fails wire.old → OfFailing (said_by result) }
     ensures keeps { W.keeps wire.old wire.new }
     ensures quiet { UnlessFailed (W.quiet wire.old wire.new) (said_by result) }
-    ensures later { (W.seen wire.old).faults ≤ (W.seen wire.new).faults }
+    ensures stays { Stays (W.seen wire.old) (W.seen wire.new) }
 {
     if is_stalled(body) {
         return Ok(Went::Stalled);

@@ -2,6 +2,7 @@
 use Rattle.std.proofs.Common.{◌≡◌, ◌==◌, ◌⊎◌, inl, inr, ℕ, suc, ◌+◌, ◌-◌, ◌^◌, ◌<◌, ◌≤◌, false, List, [], ◌∷◌, ◌++◌, Option, Some, None, map, min}
 use Rattle.std.proofs.lemmas.Bool.{cases_lt, eq-eqb, true≢false}
 use Rattle.std.proofs.Common.{refl, ap, sym, ◌∙◌, subst, append_assoc, arith}
+use Rattle.model_value.specs.Value.{Outcome}
 use Rattle.model_tree.specs.Syntax.{Program}
 use Rattle.model_says.specs.Says.{step_limit}
 use Rattle.model_wire.specs.declared.event.End.TheVariants as ends
@@ -24,9 +25,9 @@ use Rattle.aio_wire.specs.declared.stop.Stop.TheVariants as stop
 use Rattle.aio_extra.specs.Nothing.{nothing_added}
 use Rattle.aio_extra.specs.declared.nothing.NoExtra.{NoExtra}
 use Rattle.law_machine.specs.Growth as growth
-use Rattle.aio_core.specs.Turned.{Begins, Ends, EndsAs, GoesOn, StandsFor, TurnsTo, stood_for, untaken}
+use Rattle.aio_core.specs.Turned.{Begins, Ends, EndsAs, GoesOn, StandsFor, TurnsTo, held_tasks, stood_for, untaken}
 use Rattle.aio_core.specs.Asked.{Asks}
-use Rattle.aio_core.specs.Turning.{AnyLeft, AsksBy, Is, IsMismatch, IsStarved, Takes, WireTurn}
+use Rattle.aio_core.specs.Turning.{AnyLeft, AsksBy, Is, IsFinished, IsMismatch, IsStarved, Takes, WireTurn}
 use Rattle.aio_core.proofs.Asked.{asks_none, asks_then}
 use Rattle.aio_core.specs.declared.kernel.Kernel.{Kernel}
 use Rattle.aio_core.specs.declared.went.Went as code
@@ -219,6 +220,14 @@ module _ {g : _} {program : Program} {how : Manner} {made left : ℕ} {kernel : 
       let it = ends_after had (Is wanted) takes turns rest agrees in
       ends_over (map Answered had ++ rest) (Is wanted) (takes rest agrees) it end (is ∙ sym it.way)
 
+  ends_finished : (had : List Answer) (outcome : Outcome) → Takes now_seen.left new_seen.left had
+      → EndsAs nothing_added had AnyLeft (IsFinished outcome (held_tasks new)) kernel new
+      → (end : End) → end ≡ end_of outcome → EndsHere program how made taken first_seen.left so_far end
+  ends_finished had outcome takes turns end is =
+      let (rest, agrees) = agreed new_seen.left in
+      let it = ends_after had (IsFinished outcome (held_tasks new)) takes turns rest agrees in
+      ends_over (map Answered had ++ rest) (IsFinished outcome (held_tasks new)) (takes rest agrees) it end (is ∙ sym it.way.0)
+
   -- a number that is held is the answer's
   is_held : (count many : ℕ) → count ≡ min many (2 ^ 64 - 1) → (count == 2 ^ 64 - 1) ≡ false → count ≡ many
   is_held count many is other = at (cases_lt many (2 ^ 64 - 1))
@@ -242,7 +251,7 @@ module _ {g : _} {program : Program} {how : Manner} {made left : ℕ} {kernel : 
   pub ended : (said : code.Went) → TurnsTo nothing_added now_seen new_seen kernel new said
       → (end : End) → EndedSo end said → EndsHere program how made taken first_seen.left so_far end
   ended went.Went comes end is = absurd is
-  ended (went.Finished outcome) (had, (takes, turns)) end is = ends_so had (end_of outcome) takes turns end is
+  ended (went.Finished outcome) (had, (takes, turns)) end is = ends_finished had outcome takes turns end is
   ended went.Stalled (same, turns) end is =
       let (rest, agrees) = agreed now_seen.left in
       let it = turns taken rest (running.at rest).s tt (running.at rest).stands in

@@ -25,7 +25,7 @@ use Rattle.aio_core.specs.declared.kernel.Kernel.{Kernel}
 use Rattle.aio_core.specs.declared.went.Went as code
 use Rattle.aio_core.specs.declared.went.Went.TheVariants as went
 use Rattle.model_commands.specs.Recorded.{Records, recorded}
-use Rattle.aio_drive.specs.Drive.{Driven, IsUntold, MayDrive, TellsUntil, Undisturbed, driven_over, wire_by}
+use Rattle.aio_drive.specs.Drive.{Driven, IsUntold, MayDrive, Undisturbed, driven_over, wire_until}
 use Rattle.aio_drive.specs.Ending.{EndedSo}
 use Rattle.aio_drive.specs.Outcome.{EndsEarly}
 use Rattle.aio_drive.specs.Recording.{Recording}
@@ -113,7 +113,7 @@ module _ {g : _} {program : Program} {how : Manner} {made left : ℕ} {kernel : 
   over quiet_now = record { before = now; after = last; fails = fails_now; quiet = quiet_now }
 
   abbrev EndsUnsaid : SinkSeen → SinkSeen → Type 0
-  EndsUnsaid old late = EndsEarly (MayDrive program how fault (wire_by it (TellsUntil Memory it))) (IsUntold it) old late Memory
+  EndsUnsaid old late = EndsEarly (MayDrive program how fault (wire_until Memory it)) (IsUntold it) old late Memory
 
   -- these events were told besides, and one call more was asked at most
   cut_there : (more besides : List Event) → GoesOnHere program how made taken seen.left (taken ++ more) → (fails → ⊥) → quiet
@@ -151,7 +151,7 @@ module _ {g : _} {program : Program} {how : Manner} {made left : ℕ} {kernel : 
     -- nothing was asked but one call at most
     unbegun : made ≡ 0 → starved.first ≡ [] → EndsUnsaid first sink
     unbegun none empty =
-        nothing_at_all (MayDrive program how fault (wire_by it (TellsUntil Memory it))) (IsUntold it) first sink
+        nothing_at_all (MayDrive program how fault (wire_until Memory it)) (IsUntold it) first sink
         (lines_of_events how.trace taken) running.sink (ap (lines_of_events how.trace) (running.begun none)) (
           (
             holds,

@@ -1,3 +1,4 @@
+pub mod Causes
 pub mod Driving
 pub mod Exits
 pub mod Fronts

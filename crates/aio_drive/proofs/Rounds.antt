@@ -8,11 +8,15 @@ use Rattle.model_wire.specs.Event.{Event}
 use Rattle.model_wire.specs.Journal.{Entry, Answered}
 use Rattle.model_wire.specs.Told.{Rose, ShelfSeen, SinkSeen, WireSeen, took}
 use Rattle.model_wire.specs.Trace.{End, end_text, line, lines_of_events}
+use Rattle.model_machine.specs.Extra.{no_extra}
 use Rattle.model_machine.specs.Outcomes.{end_of}
 use Rattle.model_machine.specs.State.{State}
+use Rattle.model_machine.specs.Turn.{is_stalled}
 use Rattle.model_program.specs.Written.{WritesWhole}
 use Rattle.model_program.specs.Transcript.{status_of}
+use Rattle.model_commands.specs.Causes.{IsCaused}
 use Rattle.model_commands.specs.Recorded.{Records, recorded}
+use Rattle.aio_wire.specs.Replied.{Stays}
 use Rattle.aio_wire.specs.declared.stop.Stop.TheVariants as stop
 use Rattle.aio_extra.specs.Nothing.{nothing_added}
 use Rattle.aio_extra.specs.declared.nothing.NoExtra.{NoExtra}
@@ -31,6 +35,7 @@ use Rattle.aio_drive.specs.declared.cut.Cut.TheVariants.{Halted}
 use Rattle.aio_drive.specs.declared.driver.Manner.{Manner}
 use Rattle.aio_drive.specs.declared.halt.Halt.{Halt}
 use Rattle.aio_drive.specs.declared.halt.Halt.TheVariants.{Memory}
+use Rattle.aio_drive.proofs.Causes.{ended_caused, limit_caused}
 use Rattle.aio_drive.proofs.Driving.{EndsHere, FailsHere, GoesOnHere, IsDriven, asked_all, ended, ends_last, fails, goes_further, goes_on_here, rose_earlier}
 use Rattle.aio_drive.proofs.Driving.{running_first, turned_on}
 use Rattle.aio_drive.proofs.Exits.{alive, ended-quiet, ended-told, refused, said_as}
@@ -93,7 +98,7 @@ some_is is = cc is
 module _ {g : _} {program : Program} {how : Manner} {made left : ℕ} {kernel new : Kernel NoExtra g} {past : List Entry} {taken : List Event}
     {now last : WireSeen} {first sink : SinkSeen} {fails_first fails_now quiet_now quiet : Type 0} {result said : code.Went} (seen : WireSeen)
     (running : IsDriven program how made (suc left) kernel past taken seen now first sink)
-    (fails_then : fails_first → (made ≡ 0) × fails_now) (later : seen.faults ≤ now.faults)
+    (fails_then : fails_first → (made ≡ 0) × fails_now) (stays : Stays seen now)
     (turned : TurnedBy nothing_added (record { before = now; after = last; fails = fails_now; quiet = quiet_now }) kernel new result said)
     (quietly : quiet_now → quiet) where
   -- what was asked in it
@@ -119,11 +124,15 @@ module _ {g : _} {program : Program} {how : Manner} {made left : ℕ} {kernel ne
     ),
   )
 
+  -- why it ended so
+  caused_at : (end : End) → EndedSo end said → IsCaused seen last end
+  caused_at end what = let here = running.at [] in ended_caused seen now last said end what (turned.caused taken [] here.s here.stands) stays.0
+
   fails_at : (call : Call) → said ≡ went.Stopped (stop.Failed call)
       → FailsHere program how made taken seen.left (taken ++ untaken new) × Rose seen.faults last.faults
   fails_at call is =
       let (here, rose) = fails new last running said turned.turns call is in
-      (here, rose_earlier seen.faults now.faults last.faults later rose)
+      (here, rose_earlier seen.faults now.faults last.faults stays.1 rose)
 
   pub goes_at : result ≡ went.Went
       → (had : List Answer) × (Takes now.left last.left had × (GoesOn nothing_added had kernel new × Undisturbed fails_first quiet))
@@ -151,7 +160,7 @@ module _ {g : _} {program : Program} {how : Manner} {made left : ℕ} {kernel ne
     -- nothing more was recorded or written
     pub refused_at : mid ≡ shelf.new → (made ≡ 0 → same) → CutsShort program how fault it first sink (Halted Memory)
     refused_at unnoted unmade =
-        refused new seen last fault fails_first fails_now quiet shelf same running (rose_earlier seen.faults now.faults last.faults later) fails_then
+        refused new seen last fault fails_first fails_now quiet shelf same running (rose_earlier seen.faults now.faults last.faults stays.1) fails_then
         (subst (λ (s : ShelfSeen). Records shelf.name (recorded taken) shelf.old s) unnoted noted) unmade quiet_now said turned.turns
         (still_as said turned.still) asks_now (let here = running.at [] in turned.starved taken [] here.s here.stands) turned.failing
       where
@@ -191,9 +200,10 @@ module _ {g : _} {program : Program} {how : Manner} {made left : ℕ} {kernel ne
           → Records shelf.name (recorded events) mid shelf.new → (status : ℕ) → WroteLast end lines sink final (Some status)
           → WritesWhole (MayTell program how fault it) first final status
       ends_ok end w is other so done status (said_status, wrote) =
-          let (here, still) = ends_at end (subst (λ (w : code.Went). EndedSo end w) (sym (said_so w is other)) so) in
+          let ended_as = subst (λ (w : code.Went). EndedSo end w) (sym (said_so w is other)) so in
+          let (here, still) = ends_at end ended_as in
           ends_whole program how fault it made first sink final mid taken (untaken new) running.sink noted here still
-          (asked_at w is other) (records done) status (some_is said_status)
+          (asked_at w is other) (records done) (caused_at end ended_as) status (some_is said_status)
           (wrote ∙ ap (λ (es : List Event). took sink (lines_of_events how.trace es ++ line (end_text end))) out)
 
       ends_err : (end : End) (w : code.Went) → result ≡ w → (w ≡ went.Stopped stop.Memory → ⊥) → EndedSo end w
@@ -318,7 +328,7 @@ module _ {g : _} {program : Program} {how : Manner} {made : ℕ} {kernel new : K
     {fault : End} (seen : WireSeen)
     (under : IsUnderWay program how made kernel seen now first sink (record { name = name; old = old_files; new = files }) fails_first fails_now
     quiet_then same_then)
-    (some : made < how.turns) (later : seen.faults ≤ now.faults) (quietly : quiet_now → quiet) (same : Type 0) where
+    (some : made < how.turns) (stays : Stays seen now) (quietly : quiet_now → quiet) (same : Type 0) where
   -- the run ended
   pub round_ok : (told : Option ℕ) (status : ℕ) → told ≡ Some status
       → TellsTurn how.trace fault (record { before = now; after = last; fails = fails_now; quiet = quiet_now })
@@ -327,7 +337,7 @@ module _ {g : _} {program : Program} {how : Manner} {made : ℕ} {kernel new : K
       (driven_over seen last fails_first quiet (record { name = name; old = old_files; new = new_files }) same)) first late status
   round_ok told status is it =
       let (fewer, running) = with_turn under.left under.running some in
-      turn_ok seen running under.fails later it.turned quietly (record { name = name; old = old_files; new = new_files }) same files under.noted
+      turn_ok seen running under.fails stays it.turned quietly (record { name = name; old = old_files; new = new_files }) same files under.noted
       fault late (untaken it.mid) refl it.told it.noted told status is it.ok
 
   -- not all was told
@@ -338,7 +348,7 @@ module _ {g : _} {program : Program} {how : Manner} {made : ℕ} {kernel new : K
       (driven_over seen last fails_first quiet (record { name = name; old = old_files; new = new_files }) same) first late cut
   round_err seen_same same_on cut it =
       let (fewer, running) = with_turn under.left under.running some in
-      turn_err seen running under.fails later it.turned quietly (record { name = name; old = old_files; new = new_files }) same files under.noted
+      turn_err seen running under.fails stays it.turned quietly (record { name = name; old = old_files; new = new_files }) same files under.noted
       fault late (untaken it.mid) refl it.went refl (λ none. seen_same (it.refused none))
       (λ first none. same_on (it.refused none) (under.unmade first)) cut it.err
 
@@ -350,10 +360,10 @@ module _ {g : _} {program : Program} {how : Manner} {made : ℕ} {kernel new : K
       quiet same
   round_on fails_then told is it =
       let (fewer, running) = with_turn under.left under.running some in
-      let goes = turn_goes seen running under.fails later it.turned quietly fault late (untaken it.mid) refl told is it.ok in
-      let (had, (takes, (so, still))) = goes_at seen running under.fails later it.turned quietly goes in
+      let goes = turn_goes seen running under.fails stays it.turned quietly fault late (untaken it.mid) refl told is it.ok in
+      let (had, (takes, (so, still))) = goes_at seen running under.fails stays it.turned quietly goes in
       let (left, past, taken, (running_then, noted)) =
-      goes_on seen running under.fails later it.turned quietly fault late (untaken it.mid) refl told is it.ok new it.stands it.left
+      goes_on seen running under.fails stays it.turned quietly fault late (untaken it.mid) refl told is it.ok new it.stands it.left
       name old_files files new_files under.noted it.noted
       in
       record {
@@ -388,6 +398,11 @@ module _ {g : _} {program : Program} {how : Manner} {made : ℕ} {kernel : Kerne
   last_here end is =
       subst (λ (es : List Event). EndsHere program how made taken seen.left es end) (sym (append-nil taken)) (ends_last running (none_left running most) end is)
 
+  last_caused : (end : End) → LastOf kernel how.turns end → IsCaused seen now end
+  last_caused end is =
+      let here = running.at [] in
+      subst (IsCaused seen now) (sym (is taken [] here.s here.stands)) (limit_caused seen now (is_stalled no_extra here.s) how.turns)
+
   last_asked : Asks (taken ++ []) seen now
   last_asked = subst (λ (es : List Event). Asks es seen now) (sym (append-nil taken)) running.asked
 
@@ -395,7 +410,7 @@ module _ {g : _} {program : Program} {how : Manner} {made : ℕ} {kernel : Kerne
       → WritesWhole (MayTell program how fault last_it) first final status
   last_ok end is status (said_so, wrote) =
       ends_whole program how fault last_it made first sink final shelf.new taken [] running.sink under.noted (last_here end is) still last_asked
-      (records_none shelf.name shelf.new) status said_so wrote
+      (records_none shelf.name shelf.new) (last_caused end is) status said_so wrote
 
   pub last_err : (end : End) → LastOf kernel how.turns end → (halt : Halt) → StopsWriting (line (end_text end)) sink final halt
       → CutsShort program how fault last_it first final (Halted halt)

@@ -5,8 +5,9 @@ use Rattle.model_wire.specs.Event.{Event}
 use Rattle.model_wire.specs.Told.{ShelfSeen, SinkSeen, WireSeen}
 use Rattle.model_wire.specs.Trace.{End}
 use Rattle.model_program.specs.Written.{MayBegin, ProgramOutput, WritesWhole}
-use Rattle.aio_drive.specs.Drive.{AsksUntil, CutsShort, Driven, DrivenWire, IsUnbegun, IsUntold, MayDrive, MayTell, StopsRecording, TellsAll, TellsUntil, Undisturbed}
-use Rattle.aio_drive.specs.Drive.{driven_over, over_all, over_front, wire_by}
+use Rattle.model_commands.specs.Causes.{IsCaused}
+use Rattle.aio_drive.specs.Drive.{AsksUntil, CutsShort, Driven, DrivenWire, IsUnbegun, IsUntold, MayDrive, MayTell, StopsRecording}
+use Rattle.aio_drive.specs.Drive.{TellsAll, TellsUntil, Undisturbed, driven_over, over_all, over_front, wire_by, wire_until}
 use Rattle.aio_drive.specs.Outcome.{EndsEarly}
 use Rattle.aio_drive.specs.declared.cut.Cut.{Cut}
 use Rattle.aio_drive.specs.declared.cut.Cut.TheVariants.{Halted, Unrecorded}
@@ -30,10 +31,12 @@ module _ (may might : ProgramOutput → Type 0) (none nothing : Type 0) (wider :
 
 -- a wire of which this is known by a run's events, where that is
 pub drives_as : (program : Program) (how : Manner) (fault : End) (it : Driven) (known more : List Event → Type 0)
-    → ((events : List Event) → known events → more events) → (output : ProgramOutput) → MayDrive program how fault (wire_by it known) output
-    → MayDrive program how fault (wire_by it more) output
-drives_as program how fault it known more wider output (inl (still, entries, agrees, is, holds)) = inl (still, entries, agrees, is, wider _ holds)
-drives_as program how fault it known more wider output (inr (rose, had, told, over, is, holds)) = inr (rose, had, told, over, is, wider _ holds)
+    → ((events : List Event) → known events → more events) → (caused : End → Type 0) → (output : ProgramOutput)
+    → MayDrive program how fault (wire_by it known caused) output → MayDrive program how fault (wire_by it more caused) output
+drives_as program how fault it known more wider caused output (inl (still, entries, agrees, is, holds, cause)) =
+    inl (still, entries, agrees, is, wider _ holds, cause)
+drives_as program how fault it known more wider caused output (inr (rose, had, told, over, is, holds)) =
+    inr (rose, had, told, over, is, wider _ holds)
 
 asks_until : (halt : Halt) (it : Driven) (events : List Event) → TellsUntil halt it events → AsksUntil halt it.before it.after events
 asks_until Memory it events (front, rest, is, (more, one, asks), records) = (front, rest, is, more, one, asks)
@@ -51,14 +54,15 @@ module _ (program : Program) (how : Manner) (fault : End) (before after : WireSe
       → WritesWhole (MayDrive program how fault (over_all before after (Undisturbed fails quiet))) old new status
   whole_unrecorded =
       whole_wider (MayTell program how fault it) (MayDrive program how fault (over_all before after (Undisturbed fails quiet))) (Unit {0}) (Unit {0})
-      (drives_as program how fault it (TellsAll it) ((over_all before after (Undisturbed fails quiet)).asked) (λ events told. told.0)) (λ none. none)
+      (drives_as program how fault it (TellsAll it) ((over_all before after (Undisturbed fails quiet)).asked) (λ events told. told.0)
+      (IsCaused before after)) (λ none. none)
 
   pub early_unrecorded : (cut : Cut) (halt : Halt) → cut ≡ Halted halt → (old new : SinkSeen) → CutsShort program how fault it old new cut
       → EndsEarly (MayDrive program how fault (over_front halt before after (Undisturbed fails quiet))) (IsUnbegun quiet before after) old new halt
   early_unrecorded cut halt is old new cuts =
-      early_wider (MayDrive program how fault (wire_by it (TellsUntil halt it)))
+      early_wider (MayDrive program how fault (wire_until halt it))
       (MayDrive program how fault (over_front halt before after (Undisturbed fails quiet))) (IsUntold it) (IsUnbegun quiet before after)
-      (drives_as program how fault it (TellsUntil halt it) (AsksUntil halt before after) (asks_until halt it)) (λ untold. untold.0) halt old new
+      (drives_as program how fault it (TellsUntil halt it) (AsksUntil halt before after) (asks_until halt it) (λ end. Unit {0})) (λ untold. untold.0) halt old new
       (subst (λ (c : Cut). CutsShort program how fault it old new c) is cuts)
 
   -- no file fails where none is named

@@ -11,10 +11,11 @@ use Rattle.model_machine.specs.Run.{Run}
 use Rattle.model_program.specs.Runs.{run}
 use Rattle.model_program.specs.Written.{IsFrontOf, ProgramOutput, WritesWhole}
 use Rattle.model_program.specs.Transcript.{status_of, transcript}
+use Rattle.model_commands.specs.Causes.{IsCaused}
 use Rattle.model_commands.specs.Recorded.{FailsRecording, Records, recorded}
 use Rattle.aio_record.proofs.Growing.{recorded-append}
 use Rattle.aio_core.specs.Asked.{Asks}
-use Rattle.aio_drive.specs.Drive.{CutsShort, Driven, IsUntold, MayDrive, MayTell, StopsRecording, TellsAll, TellsUntil, wire_by}
+use Rattle.aio_drive.specs.Drive.{CutsShort, Driven, IsUntold, MayDrive, MayTell, StopsRecording, TellsAll, TellsUntil, wire_by, wire_until}
 use Rattle.aio_drive.specs.Outcome.{EndsEarly}
 use Rattle.aio_drive.specs.Recording.{StopsTelling}
 use Rattle.aio_drive.specs.Writing.{StopsWriting}
@@ -85,7 +86,7 @@ module _ (may : ProgramOutput → Type 0) (none : Type 0) (first now : SinkSeen)
 module _ (program : Program) (how : Manner) (fault : End) (it : Driven) (made : ℕ) (first now last : SinkSeen) (mid : ShelfSeen) (so_far more : List Event)
     (wrote : now ≡ took first (lines_of_events how.trace so_far)) (noted : Records it.shelf.name (recorded so_far) it.shelf.old mid) where
   abbrev Early : Halt → SinkSeen → SinkSeen → Type 0
-  Early halt old new = EndsEarly (MayDrive program how fault (wire_by it (TellsUntil halt it))) (IsUntold it) old new halt
+  Early halt old new = EndsEarly (MayDrive program how fault (wire_until halt it)) (IsUntold it) old new halt
 
   abbrev shown : List ℕ
   shown = lines_of_events how.trace so_far
@@ -165,33 +166,43 @@ module _ (program : Program) (how : Manner) (fault : End) (it : Driven) (made : 
     unfolding whole_run
     whole_events = ap (λ (r : Run). r.events) here.is
 
-    may_end : Records it.shelf.name (recorded more) mid it.shelf.new → MayTell program how fault it (output_of how.trace whole_run)
+    may_end : Records it.shelf.name (recorded more) mid it.shelf.new → IsCaused it.before it.after end
+        → MayTell program how fault it (output_of how.trace whole_run)
     unfolding whole_run
-    may_end records = inl (still, here.entries, here.agrees, refl, subst (TellsAll it) (sym whole_events) (told_all asked records))
+    may_end records caused =
+        inl (
+          still,
+          here.entries,
+          here.agrees,
+          refl,
+          subst (TellsAll it) (sym whole_events) (told_all asked records),
+          subst (IsCaused it.before it.after) (sym (ap (λ (r : Run). r.end) here.is)) caused,
+        )
 
     may_end_early : (halt : Halt) → TellsUntil halt it whole_run.events
-        → MayDrive program how fault (wire_by it (TellsUntil halt it)) (output_of how.trace whole_run)
+        → MayDrive program how fault (wire_until halt it) (output_of how.trace whole_run)
     unfolding whole_run
-    may_end_early halt known = inl (still, here.entries, here.agrees, refl, known)
+    may_end_early halt known = inl (still, here.entries, here.agrees, refl, known, tt)
 
     whole_text : transcript how.trace whole_run ≡ shown ++ text_of end
     unfolding whole_run
     whole_text =
         text_is whole_run whole_events ∙ ap (λ (r : Run). shown ++ text_of r.end) here.is
 
-    pub ends_whole : Records it.shelf.name (recorded more) mid it.shelf.new → (status : ℕ) → status ≡ status_of end → last ≡ took now (text_of end)
+    pub ends_whole : Records it.shelf.name (recorded more) mid it.shelf.new → IsCaused it.before it.after end → (status : ℕ) → status ≡ status_of end
+        → last ≡ took now (text_of end)
         → WritesWhole (MayTell program how fault it) first last status
     unfolding whole_run
-    ends_whole records status is all = (
+    ends_whole records caused status is all = (
       output_of how.trace whole_run,
-      may_end records,
+      may_end records caused,
       took_on first now last shown (text_of end) wrote all ∙ ap (took first) (sym whole_text),
       is ∙ ap (λ (r : Run). status_of r.end) (sym here.is),
     )
 
     ends_halted : (halt : Halt) → StopsTelling (record it.shelf { old = mid }) (recorded more) (text_of end) now last (Halted halt) → Early halt first last
     ends_halted halt stops =
-        early_by (MayDrive program how fault (wire_by it (TellsUntil halt it))) (IsUntold it) first now shown wrote
+        early_by (MayDrive program how fault (wire_until halt it)) (IsUntold it) first now shown wrote
         (output_of how.trace whole_run)
         (may_end_early halt (until asked whole_run.events [] (whole_events ∙ sym (append-nil (so_far ++ more))) halt (text_of end) stops))
         (text_of end) [] (whole_text ∙ ap (λ (t : List ℕ). shown ++ t) (sym (append-nil (text_of end)))) last halt (stops_text halt (text_of end) stops)
@@ -213,10 +224,10 @@ module _ (program : Program) (how : Manner) (fault : End) (it : Driven) (made : 
     unfolding failed_run
     failed_events = ap (λ (r : Run). r.events) here.is
 
-    may_fail_by : (known : List Event → Type 0) → known failed_run.events
-        → MayDrive program how fault (wire_by it known) (output_of how.trace failed_run)
+    may_fail_by : (known : List Event → Type 0) (caused : End → Type 0) → known failed_run.events
+        → MayDrive program how fault (wire_by it known caused) (output_of how.trace failed_run)
     unfolding failed_run
-    may_fail_by known holds = inr (rose, here.had, here.told, (here.call, ap (λ (r : Run). r.end) here.is), refl, holds)
+    may_fail_by known caused holds = inr (rose, here.had, here.told, (here.call, ap (λ (r : Run). r.end) here.is), refl, holds)
 
     failed_text : transcript how.trace failed_run ≡ shown ++ text_of fault
     unfolding failed_run
@@ -227,7 +238,7 @@ module _ (program : Program) (how : Manner) (fault : End) (it : Driven) (made : 
     unfolding failed_run
     fails_whole records status is all = (
       output_of how.trace failed_run,
-      may_fail_by (TellsAll it) (subst (TellsAll it) (sym failed_events) (told_all asked records)),
+      may_fail_by (TellsAll it) (IsCaused it.before it.after) (subst (TellsAll it) (sym failed_events) (told_all asked records)),
       took_on first now last shown (text_of fault) wrote all ∙ ap (took first) (sym failed_text),
       is,
     )
@@ -235,9 +246,9 @@ module _ (program : Program) (how : Manner) (fault : End) (it : Driven) (made : 
     fails_halted : (halt : Halt) → StopsTelling (record it.shelf { old = mid }) (recorded more) (text_of fault) now last (Halted halt) → Early halt first last
     unfolding failed_run
     fails_halted halt stops =
-        early_by (MayDrive program how fault (wire_by it (TellsUntil halt it))) (IsUntold it) first now shown wrote
+        early_by (MayDrive program how fault (wire_until halt it)) (IsUntold it) first now shown wrote
         (output_of how.trace failed_run)
-        (may_fail_by (TellsUntil halt it)
+        (may_fail_by (TellsUntil halt it) (λ end. Unit {0})
         (until asked failed_run.events [] (failed_events ∙ sym (append-nil (so_far ++ more))) halt (text_of fault) stops))
         (text_of fault) [] (failed_text ∙ ap (λ (t : List ℕ). shown ++ t) (sym (append-nil (text_of fault)))) last halt
         (stops_text halt (text_of fault) stops)
@@ -272,8 +283,8 @@ module _ (program : Program) (how : Manner) (fault : End) (it : Driven) (made : 
         → StopsWriting (lines_of_events how.trace more) now last halt → Early halt first last
     goes_early halt known stops =
         let whole = run program here.entries how.turns in
-        early_by (MayDrive program how fault (wire_by it (TellsUntil halt it))) (IsUntold it) first now shown wrote
-        (output_of how.trace whole) (inl (still, here.entries, here.agrees, refl, known))
+        early_by (MayDrive program how fault (wire_until halt it)) (IsUntold it) first now shown wrote
+        (output_of how.trace whole) (inl (still, here.entries, here.agrees, refl, known, tt))
         (lines_of_events how.trace more) (lines_of_events how.trace here.more ++ line (end_text whole.end))
         (further_text whole here.more here.is) last halt stops
 

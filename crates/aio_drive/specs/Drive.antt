@@ -13,6 +13,7 @@ use Rattle.model_machine.specs.State.{State}
 use Rattle.model_program.specs.Written.{IsFrontOf, ProgramOutput}
 use Rattle.model_program.specs.Transcript.{status_of}
 use Rattle.model_machine.specs.Turn.{is_stalled}
+use Rattle.model_commands.specs.Causes.{IsCaused}
 use Rattle.model_commands.specs.Recorded.{FailsRecording, Records, recorded}
 use Rattle.aio_extra.specs.Nothing.{nothing_added}
 use Rattle.aio_extra.specs.declared.nothing.NoExtra.{NoExtra}
@@ -32,13 +33,14 @@ use Rattle.aio_drive.specs.declared.halt.Halt.TheVariants.{Memory, Sink}
 abbrev pub Undisturbed : (fails quiet : Type 0) → Type 0
 Undisturbed fails quiet = (fails → ⊥) × quiet
 
--- What is known of a wire over a drive: what is seen of it before and after, what stays of it while it doesn't fail, and what is known
--- by a run's events: that it was asked what they say.
+-- What is known of a wire over a drive: what is seen of it before and after, what stays of it while it doesn't fail, what is known
+-- by a run's events: that it was asked what they say; and by the end of a run in which it didn't fail: why it ended so.
 pub record DrivenWire : Type 1 where
   pub before : WireSeen
   pub after : WireSeen
   pub undisturbed : Type 0
   pub asked : List Event → Type 0
+  pub caused : End → Type 0
 
 -- What may be written of a program's run. Where the wire didn't fail, the whole run over entries that agree with what it
 -- told. Where it failed, the run over the answers had so far, which was over at the call that failed: its lines, and then
@@ -46,7 +48,8 @@ pub record DrivenWire : Type 1 where
 abbrev pub MayDrive : Program → Manner → (fault : End) → DrivenWire → ProgramOutput → Type 0
 MayDrive program how fault wire output =
     (wire.undisturbed × (entries : List Entry) × Agrees wire.before.left entries
-    × (output ≡ output_of how.trace (run program entries how.turns)) × wire.asked (run program entries how.turns).events)
+    × (output ≡ output_of how.trace (run program entries how.turns)) × wire.asked (run program entries how.turns).events
+    × wire.caused (run program entries how.turns).end)
     ⊎ (Rose wire.before.faults wire.after.faults × (had : List Entry) × ((rest : List Entry) × Agrees wire.before.left (had ++ rest))
     × IsOver (run program had how.turns)
     × (output ≡ output_of how.trace (record (run program had how.turns) { end = fault }))
@@ -56,7 +59,13 @@ MayDrive program how fault wire output =
 -- The wire was asked all that the run's events say.
 abbrev pub over_all : (before after : WireSeen) → (undisturbed : Type 0) → DrivenWire
 over_all before after undisturbed =
-    record { before = before; after = after; undisturbed = undisturbed; asked = λ events. Asks events before after }
+    record {
+      before = before;
+      after = after;
+      undisturbed = undisturbed;
+      asked = λ events. Asks events before after;
+      caused = IsCaused before after;
+    }
 
 -- Where the run was cut short, the wire was asked what the first of its events say; and where memory was refused, one call besides at
 -- most.
@@ -68,7 +77,13 @@ AsksUntil Sink before after events = (front : List Event) × (rest : List Event)
 
 abbrev pub over_front : (halt : Halt) → (before after : WireSeen) → (undisturbed : Type 0) → DrivenWire
 over_front halt before after undisturbed =
-    record { before = before; after = after; undisturbed = undisturbed; asked = AsksUntil halt before after }
+    record {
+      before = before;
+      after = after;
+      undisturbed = undisturbed;
+      asked = AsksUntil halt before after;
+      caused = λ end. Unit {0};
+    }
 
 -- What is known where nothing is known of the run yet: this stays of the wire, and it was asked one call at most.
 abbrev pub IsUnbegun : (quiet : Type 0) → (before after : WireSeen) → Type 0
@@ -108,12 +123,20 @@ TellsUntil Memory it events =
     × ((bytes : List ℕ) × IsFrontOf bytes (recorded front) × Records it.shelf.name bytes it.shelf.old it.shelf.new)
 TellsUntil Sink it events = (front : List Event) × (rest : List Event) × (events ≡ front ++ rest) × TellsAll it front
 
-abbrev pub wire_by : Driven → (List Event → Type 0) → DrivenWire
-wire_by it known = record { before = it.before; after = it.after; undisturbed = it.undisturbed; asked = known }
+abbrev pub wire_by : Driven → (known : List Event → Type 0) → (caused : End → Type 0) → DrivenWire
+wire_by it known caused =
+    record { before = it.before; after = it.after; undisturbed = it.undisturbed; asked = known; caused = caused }
+
+-- where it was told all; and where it was told how much of a run that was cut short
+abbrev pub wire_told : Driven → DrivenWire
+wire_told it = wire_by it (TellsAll it) (IsCaused it.before it.after)
+
+abbrev pub wire_until : Halt → Driven → DrivenWire
+wire_until halt it = wire_by it (TellsUntil halt it) (λ end. Unit {0})
 
 -- What may be written of a run that is told whole.
 abbrev pub MayTell : Program → Manner → (fault : End) → Driven → ProgramOutput → Type 0
-MayTell program how fault it output = MayDrive program how fault (wire_by it (TellsAll it)) output
+MayTell program how fault it output = MayDrive program how fault (wire_told it) output
 
 -- nothing is known of the run yet, and nothing was recorded
 abbrev pub IsUntold : Driven → Type 0
@@ -140,7 +163,7 @@ pub record StopsRecording (program : Program) (how : Manner) (it : Driven) (old 
 -- what is left where such a run was cut short
 abbrev pub CutsShort : Program → Manner → (fault : End) → Driven → (old new : SinkSeen) → Cut → Type 0
 CutsShort program how fault it old new (Halted halt) =
-    EndsEarly (MayDrive program how fault (wire_by it (TellsUntil halt it))) (IsUntold it) old new halt
+    EndsEarly (MayDrive program how fault (wire_until halt it)) (IsUntold it) old new halt
 CutsShort program how fault it old new Unrecorded = StopsRecording program how it old new
 
 -- ---- the last turn

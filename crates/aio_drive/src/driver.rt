@@ -3,6 +3,7 @@ ghost use Rattle.std.specs.Prelude.{◌≡◌, ◌≤◌, None, IfOk, IfErr};
 ghost use Rattle.std.specs.Option.{option_copied};
 ghost use Rattle.model_tree.specs.Syntax.{Program};
 ghost use Rattle.model_program.specs.Written.{WritesWhole};
+ghost use Rattle.aio_wire.specs.Replied.{Stays};
 ghost use Rattle.aio_extra.specs.Nothing.{nothing_added};
 ghost use Rattle.aio_core.specs.Turned.{Begins, ended};
 ghost use Rattle.aio_drive.specs.Drive.{CutsShort, IsUnbegun, LastOf, MayDrive, MayTell, Undisturbed, WritesLimit, driven_over, over_all, over_front};
@@ -189,7 +190,7 @@ fn tell_next<W: Wire, F: Shelf, K: Sink>(
         })
         (shelf.new ≡ shelf.old) (K.seen out.old) (K.seen out.new) kernel.old kernel.new result }
     ensures keeps { W.keeps wire.old wire.new }
-    ensures later { (W.seen wire.old).faults ≤ (W.seen wire.new).faults }
+    ensures stays { Stays (W.seen wire.old) (W.seen wire.new) }
 {
     let went = kernel.turn(alloc, wire);
     let events = kernel.events();

@@ -1,8 +1,5 @@
 -- From a driven run to what the program may write.
-use Rattle.std.specs.Prelude.{codes}
-use Rattle.std.specs.Fmt.{decimal}
-use Rattle.std.proofs.lemmas.Fmt.{decimal_digit}
-use Rattle.std.proofs.Common.{◌≡◌, ℕ, List, [], ◌∷◌, ◌++◌, Option, Some, None, refl, ap, sym, ◌∙◌, subst, inl, inr, arith}
+use Rattle.std.proofs.Common.{◌≡◌, ℕ, List, [], ◌∷◌, ◌++◌, Option, Some, None, refl, ap, sym, ◌∙◌, subst, inl, inr}
 use Rattle.model_tree.specs.Syntax.{Program}
 use Rattle.model_text.specs.declared.cause.Cause.{Cause}
 use Rattle.model_text.specs.Canonical.{canonical}
@@ -15,11 +12,14 @@ use Rattle.model_wire.specs.Event.{Event}
 use Rattle.model_wire.specs.Journal.{Entry}
 use Rattle.model_wire.specs.JournalText.{entries_of}
 use Rattle.model_wire.specs.Told.{Agrees, FileFailed, Rose, ShelfSeen, SinkSeen, WireSeen, NoneFailed}
-use Rattle.model_wire.specs.Trace.{line}
+use Rattle.model_wire.specs.Trace.{End, line}
 use Rattle.model_program.specs.Program.{Manner, script_refused, FileSays, JournalSays, JournalBegins, MayRun, MayRunScript, MayReplay}
 use Rattle.model_program.specs.Program.{MayCheck, checked}
+use Rattle.model_program.specs.Runs.{run}
+use Rattle.model_program.specs.Transcript.{status_of}
 use Rattle.model_program.specs.Written.{ProgramOutput, WritesWhole}
-use Rattle.model_commands.specs.Outputs.{no_work}
+use Rattle.model_words.specs.Words.{most_turns}
+use Rattle.model_commands.specs.Works.{MayWork, counts_of, work_text}
 use Rattle.aio_memwire.specs.declared.buffers.Buffers.{Buffers}
 use Rattle.aio_memwire.specs.JournalWire.{left_of, seen_of}
 use Rattle.aio_memwire.specs.Reading.{IsFront}
@@ -31,8 +31,11 @@ use Rattle.aio_drive.specs.declared.halt.Halt.{Halt}
 use Rattle.aio_drive.specs.declared.halt.Halt.TheVariants.{Memory, Sink}
 use Rattle.aio_drive.proofs.Fronts.{took-nil}
 use Rattle.aio_drive.proofs.Unrecorded.{early_wider, whole_wider}
+use Rattle.aio_tally.specs.Tallied.{Tallies, plain_counts}
+use Rattle.aio_tally.specs.declared.tallying.Tally.{Tally}
 use Rattle.aio_run.specs.Manner.{manner_of}
 use Rattle.aio_run.specs.Script.{SpellsScript, IsMissing, Tells, refusal_text}
+use Rattle.aio_run.specs.Working.{TalliesOver, TalliesWork}
 use Rattle.aio_run.specs.declared.script.NoScript.{NoScript}
 use Rattle.aio_run.specs.declared.script.NoScript.TheVariants.{Refused, Failed, Memory as NoMemory}
 use Rattle.aio_run.proofs.TextFronts.{spells_alike}
@@ -62,18 +65,20 @@ none_failed old new same = ap (λ (s : ShelfSeen). s.faults) same
 -- A program's run that was driven over a journal of a shelf, by what is seen of the shelf before and after.
 pub may_run : (program : Program) (how : code.Manner) (journal : List ℕ) (old new : ShelfSeen) (before after : WireSeen) (fails quiet : Type 0)
     → before.left ≡ left_of (old.file journal) None → (old.file journal ≡ Some None → fails) → (quiet → new ≡ old)
-    → (Rose before.faults after.faults → FileFailed journal old new) → (asked : List Event → Type 0) (output : ProgramOutput)
+    → (Rose before.faults after.faults → FileFailed journal old new) → (asked : List Event → Type 0) (caused : End → Type 0) (output : ProgramOutput)
     → MayDrive program how end.ShelfFault
-    (record { before = before; after = after; undisturbed = Undisturbed fails quiet; asked = asked }) output
+    (record { before = before; after = after; undisturbed = Undisturbed fails quiet; asked = asked; caused = caused }) output
     → MayRun old new program (manner_of journal how) output
-may_run program how journal old new before after fails quiet told missing same failed asked output (inl ((alive, still), entries, agrees, is, asks)) =
+may_run program how journal old new before after fails quiet told missing same failed asked caused output
+    (inl ((alive, still), entries, agrees, is, asks, cause)) =
     inl (
       none_failed old new (same still),
       entries,
       says_from (old.file journal) entries (λ gone. alive (missing gone)) (subst (λ (t : Option (List Entry)). Agrees t entries) told agrees),
       is,
     )
-may_run program how journal old new before after fails quiet told missing same failed asked output (inr (rose, had, (rest, agrees), over, is, asks)) =
+may_run program how journal old new before after fails quiet told missing same failed asked caused output
+    (inr (rose, had, (rest, agrees), over, is, asks)) =
     inr (
       failed rose,
       had,
@@ -132,8 +137,8 @@ module _ {F : Type 0} (seen : F → ShelfSeen) (first held now after : F) (name 
   abbrev Runs : ProgramOutput → Type 0
   Runs = MayRun (seen first) (seen after) program (manner_of journal how)
 
-  runs : (asked : List Event → Type 0) (output : ProgramOutput)
-      → Drives (record { before = before; after = after_it; undisturbed = Undisturbed Fails Quiet; asked = asked }) output → Runs output
+  runs : (asked : List Event → Type 0) (caused : End → Type 0) (output : ProgramOutput)
+      → Drives (record { before = before; after = after_it; undisturbed = Undisturbed Fails Quiet; asked = asked; caused = caused }) output → Runs output
   runs =
       may_run program how journal (seen first) (seen after) (seen_of (seen held) name own) (seen_of (seen now) late own_last) Fails Quiet
       (told_first seen held first name journal own.journal kept named unread)
@@ -148,14 +153,15 @@ module _ {F : Type 0} (seen : F → ShelfSeen) (first held now after : F) (name 
       → WritesWhole Runs old new status
   run_whole =
       whole_wider (Drives (over_all before after_it (Undisturbed Fails Quiet))) Runs Quiet (NoneFailed (seen first) (seen after))
-      (runs ((over_all before after_it (Undisturbed Fails Quiet)).asked)) none_then
+      (runs ((over_all before after_it (Undisturbed Fails Quiet)).asked) ((over_all before after_it (Undisturbed Fails Quiet)).caused)) none_then
 
   pub run_early : (halt : Halt) (old new : SinkSeen)
       → EndsEarly (Drives (over_front halt before after_it (Undisturbed Fails Quiet))) (IsUnbegun Quiet before after_it) old new halt
       → EndsEarly Runs (NoneFailed (seen first) (seen after)) old new halt
   run_early halt =
       early_wider (Drives (over_front halt before after_it (Undisturbed Fails Quiet))) Runs (IsUnbegun Quiet before after_it)
-      (NoneFailed (seen first) (seen after)) (runs ((over_front halt before after_it (Undisturbed Fails Quiet)).asked)) (λ holds. none_then holds.0) halt
+      (NoneFailed (seen first) (seen after)) (runs ((over_front halt before after_it (Undisturbed Fails Quiet)).asked)
+      ((over_front halt before after_it (Undisturbed Fails Quiet)).caused)) (λ holds. none_then holds.0) halt
 
 -- nothing was written, for want of memory
 pub nothing_yet : (may : ProgramOutput → Type 0) (none : Type 0) (sink : SinkSeen) → none → EndsEarly may none sink sink Memory
@@ -172,11 +178,32 @@ pub line_unwritten : (may : ProgramOutput → Type 0) (none : Type 0) (output : 
     → EndsEarly may none sink sink Memory
 line_unwritten may none output sink allowed = ([], inr (output, allowed, (output.text, refl)), sym (took-nil sink))
 
--- the line for the work of a seed
-pub no_work_text : no_work.text ≡ codes "! script 1 9\n"
-no_work_text =
-    ap (λ (digits : List ℕ). line (codes "! script " ++ digits ++ codes " " ++ decimal 9)) (decimal_digit 1 (omega arith))
-    ∙ ap (λ (digits : List ℕ). line (codes "! script 1 " ++ digits)) (decimal_digit 9 (omega arith))
+-- ---- the work of a seed
+-- a journal's wire of which nothing was asked tells the entries of its file
+pub told_of_file : (told : Option (Option (List ℕ))) (text : List ℕ) (entries : List Entry) → told ≡ Some (Some text)
+    → Agrees (left_of told None) entries → entries ≡ entries_of text
+told_of_file told text entries is agrees =
+    outright (entries_of text) entries (subst (λ (t : Option (Option (List ℕ))). Agrees (left_of t None) entries) is agrees)
+
+-- over the entries of a journal
+pub tallies_over : (program : Program) (journal : List ℕ) (seen : WireSeen) (it : Tally)
+    → ((entries : List Entry) → Agrees seen.left entries → entries ≡ entries_of journal) → Tallies program most_turns seen it
+    → TalliesOver program journal it
+tallies_over program journal seen it told (entries, agrees, counts, status) =
+    let same = told entries agrees in
+    record {
+      counts = counts ∙ ap (λ (es : List Entry). counts_of program es most_turns) same;
+      status = status ∙ ap (λ (es : List Entry). status_of (run program es most_turns).end) same;
+    }
+
+-- the line of what was counted, and the status
+pub worked_of : (seed : ℕ) (it : Tally) → TalliesWork seed it
+    → MayWork seed (record { text = line (work_text seed (plain_counts it.counts)); status = it.status })
+worked_of seed it (program, spells, tallies) = (
+  program,
+  spells,
+  λ i. record { text = line (work_text seed (tallies.counts i)); status = tallies.status i },
+)
 
 -- ---- scripts
 says_all : (held : Option (List ℕ)) (all : List ℕ) → held ≡ Some all → FileSays (Some held) all

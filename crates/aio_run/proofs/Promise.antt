@@ -5,9 +5,11 @@ use Rattle.model_text.specs.Scripts.{script_of}
 use Rattle.model_text.specs.SecondPass.{Judged}
 use Rattle.model_wire.specs.Event.{Event}
 use Rattle.model_wire.specs.Told.{SinkSeen}
+use Rattle.model_wire.specs.Trace.{End}
 use Rattle.model_program.specs.Written.{ProgramOutput, SinkStops, StopsShort, WritesWhole}
 use Rattle.model_words.specs.Words.{Command, Check, Replay, Run, Work, command_of}
 use Rattle.model_commands.specs.Asked.{Asks}
+use Rattle.model_commands.specs.Causes.{IsCaused}
 use Rattle.model_commands.specs.Outputs.{IsUnbegun, KeepsFiles, KeepsWire, MayRun, MayRunOver, MayRunScript, MayWrite, Outside, Pace}
 use Rattle.model_commands.specs.Promise.{Behaves, Moment, between, starved, stopped, whole}
 use Rattle.model_commands.specs.Recorded.{recorded}
@@ -15,27 +17,34 @@ use Rattle.model_commands.specs.Telling.{Between, TellsAll, TellsFirstAndOne}
 
 -- ---- an outside that was told this much was told that much
 module _ (seen : Between) (fails : Type 0) (mine more : Option (List ℕ) → List Event → Type 0)
-    (wider : (file : Option (List ℕ)) (events : List Event) → mine file events → more file events) where
-  abbrev told_as : (Option (List ℕ) → List Event → Type 0) → Outside
-  told_as told = record { seen = seen; fails = fails; told = told }
+    (wider : (file : Option (List ℕ)) (events : List Event) → mine file events → more file events) (caused : End → Type 0) where
+  abbrev told_as : (Option (List ℕ) → List Event → Type 0) → (End → Type 0) → Outside
+  told_as told caused = record { seen = seen; fails = fails; told = told; caused = caused }
 
-  run_wider : (program : Program) (pace : Pace) (output : ProgramOutput) → MayRun (told_as mine) program pace output
-      → MayRun (told_as more) program pace output
-  run_wider program pace output (inl (alive, entries, agrees, is, tells)) = inl (alive, entries, agrees, is, wider _ _ tells)
+  abbrev whole_as : Outside
+  whole_as = told_as mine caused
+
+  -- of a front it isn't known why the run ends
+  abbrev front_as : Outside
+  front_as = told_as more (λ end. Unit {0})
+
+  run_wider : (program : Program) (pace : Pace) (output : ProgramOutput) → MayRun whole_as program pace output
+      → MayRun front_as program pace output
+  run_wider program pace output (inl (alive, entries, agrees, is, tells, cause)) = inl (alive, entries, agrees, is, wider _ _ tells, tt)
   run_wider program pace output (inr (inl (rose, had, told, over, is, tells))) = inr (inl (rose, had, told, over, is, wider _ _ tells))
   run_wider program pace output (inr (inr stops)) = inr (inr stops)
 
-  script_wider : (judged : Judged Program) (pace : Pace) (output : ProgramOutput) → MayRunScript (told_as mine) judged pace output
-      → MayRunScript (told_as more) judged pace output
+  script_wider : (judged : Judged Program) (pace : Pace) (output : ProgramOutput) → MayRunScript whole_as judged pace output
+      → MayRunScript front_as judged pace output
   script_wider (Err fault) pace output may = may
   script_wider (Ok program) pace output may = run_wider program pace output may
 
-  over_wider : (script : List ℕ) (pace : Pace) (output : ProgramOutput) → MayRunOver (told_as mine) script pace output
-      → MayRunOver (told_as more) script pace output
+  over_wider : (script : List ℕ) (pace : Pace) (output : ProgramOutput) → MayRunOver whole_as script pace output
+      → MayRunOver front_as script pace output
   over_wider script pace output (inl failed) = inl failed
   over_wider script pace output (inr (text, says, may)) = inr (text, says, script_wider (script_of text) pace output may)
 
-  pub write_wider : (command : Option Command) (output : ProgramOutput) → MayWrite (told_as mine) command output → MayWrite (told_as more) command output
+  pub write_wider : (command : Option Command) (output : ProgramOutput) → MayWrite whole_as command output → MayWrite front_as command output
   write_wider None output may = may
   write_wider (Some (Check script)) output may = may
   write_wider (Some (Replay script journal trace turns)) output may = may
@@ -69,7 +78,7 @@ module _ {F W : Type 0} (given : List (List ℕ)) (old new : Moment F W) (files 
     memory = λ is. whole_stops (MayWrite (whole old new) (command_of given)) (MayWrite (starved old new) (command_of given))
         (IsUnbegun (starved old new) (command_of given))
         (write_wider (between old new) old.fails (TellsAll (between old new)) (TellsFirstAndOne (between old new)) (first_of_all (between old new))
-        (command_of given)) old.sink new.sink status done;
+        (IsCaused old.told new.told) (command_of given)) old.sink new.sink status done;
     files = files;
     wire = wire;
     words = words;

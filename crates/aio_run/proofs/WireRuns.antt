@@ -12,7 +12,7 @@ use Rattle.model_wire.specs.declared.event.Handed.{Handed}
 use Rattle.model_wire.specs.Call.{Call}
 use Rattle.model_wire.specs.Event.{Event, calls_in, handed_in}
 use Rattle.model_wire.specs.Told.{ShelfSeen, SinkSeen, WireSeen, took}
-use Rattle.model_wire.specs.Trace.{lines_of_events}
+use Rattle.model_wire.specs.Trace.{End, lines_of_events}
 use Rattle.model_program.specs.Runs.{run}
 use Rattle.model_program.specs.Written.{MayBegin, ProgramOutput, WritesWhole}
 use Rattle.model_commands.specs.Asked as plain
@@ -23,7 +23,7 @@ use Rattle.model_commands.specs.Recorded.{FailsRecording, Records}
 use Rattle.model_commands.specs.Telling.{Between, TellsAll}
 use Rattle.aio_exchange.specs.Exchanged as told
 use Rattle.aio_drive.specs.Asked as code
-use Rattle.aio_drive.specs.Drive.{Driven, IsUntold, MayDrive, MayTell, StopsRecording, Undisturbed, wire_by}
+use Rattle.aio_drive.specs.Drive.{Driven, IsUntold, MayDrive, MayTell, StopsRecording, Undisturbed, wire_by, wire_until}
 use Rattle.aio_drive.specs.Drive as drive
 use Rattle.aio_drive.specs.Outcome.{EndsEarly}
 use Rattle.aio_drive.specs.Writing.{StopsWriting}
@@ -97,17 +97,17 @@ abbrev pub between_of : Driven → Between
 between_of it = between it.shelf.old it.shelf.new it.before it.after
 
 module _ (program : Program) (how : Manner) (it : Driven) (fails : Type 0) (undisturbed : it.undisturbed ≡ Undisturbed fails it.quiet) where
-  pub runs_over : (known : List Event → Type 0) (told : Option (List ℕ) → List Event → Type 0)
+  pub runs_over : (known : List Event → Type 0) (told : Option (List ℕ) → List Event → Type 0) (caused : End → Type 0)
       → ((events : List Event) → known events → told it.shelf.name events) → (output : ProgramOutput)
-      → MayDrive program how end.WireFault (wire_by it known) output
-      → MayRun (record { seen = between_of it; fails = fails; told = told }) program (pace_of it.shelf.name how) output
-  runs_over known told same output (inl (calm, entries, agrees, is, holds)) =
-      inl ((subst (λ (t : Type 0). t) undisturbed calm).0, entries, agrees, is, same _ holds)
-  runs_over known told same output (inr (rose, had, told_so, over, is, holds)) = inr (inl (rose, had, told_so, over, is, same _ holds))
+      → MayDrive program how end.WireFault (wire_by it known caused) output
+      → MayRun (record { seen = between_of it; fails = fails; told = told; caused = caused }) program (pace_of it.shelf.name how) output
+  runs_over known told caused same output (inl (calm, entries, agrees, is, holds, cause)) =
+      inl ((subst (λ (t : Type 0). t) undisturbed calm).0, entries, agrees, is, same _ holds, cause)
+  runs_over known told caused same output (inr (rose, had, told_so, over, is, holds)) = inr (inl (rose, had, told_so, over, is, same _ holds))
 
   -- what no file but the one that is named lost
   pub others_told : (output : ProgramOutput) → MayTell program how end.WireFault it output → KeepsOthers it.shelf.name it.shelf.old it.shelf.new
-  others_told output (inl (calm, entries, agrees, is, told)) = others_kept it.shelf.name _ it.shelf.old it.shelf.new told.1
+  others_told output (inl (calm, entries, agrees, is, told, cause)) = others_kept it.shelf.name _ it.shelf.old it.shelf.new told.1
   others_told output (inr (rose, had, told_so, over, is, told)) = others_kept it.shelf.name _ it.shelf.old it.shelf.new told.1
 
   others_until : (halt : Halt) (events : List Event) → drive.TellsUntil halt it events → KeepsOthers it.shelf.name it.shelf.old it.shelf.new
@@ -115,14 +115,14 @@ module _ (program : Program) (how : Manner) (it : Driven) (fails : Type 0) (undi
   others_until Sink events (front, rest, is, told) = others_kept it.shelf.name _ it.shelf.old it.shelf.new told.1
 
   module _ (kept : it.same → it.shelf.new.file ≡ it.shelf.old.file) (halt : Halt) where
-    others_begun : (front : List ℕ) → MayBegin (MayDrive program how end.WireFault (wire_by it (drive.TellsUntil halt it))) (IsUntold it) front
+    others_begun : (front : List ℕ) → MayBegin (MayDrive program how end.WireFault (wire_until halt it)) (IsUntold it) front
         → KeepsOthers it.shelf.name it.shelf.old it.shelf.new
     others_begun front (inl (empty, untold)) = others_same it.shelf.name it.shelf.old it.shelf.new (kept untold.1)
-    others_begun front (inr (output, inl (calm, entries, agrees, is, told), part)) = others_until halt _ told
+    others_begun front (inr (output, inl (calm, entries, agrees, is, told, cause), part)) = others_until halt _ told
     others_begun front (inr (output, inr (rose, had, told_so, over, is, told), part)) = others_until halt _ told
 
   pub others_early : (kept : it.same → it.shelf.new.file ≡ it.shelf.old.file) (halt : Halt) (old new : SinkSeen)
-      → EndsEarly (MayDrive program how end.WireFault (wire_by it (drive.TellsUntil halt it))) (IsUntold it) old new halt
+      → EndsEarly (MayDrive program how end.WireFault (wire_until halt it)) (IsUntold it) old new halt
       → KeepsOthers it.shelf.name it.shelf.old it.shelf.new
   others_early kept Memory old new early = others_begun kept Memory early.0 early.1
   others_early kept Sink old new early = others_begun kept Sink early.0 early.1
@@ -163,11 +163,11 @@ module _ (program : Program) (how : Manner) (it : Driven) (first mid : SinkSeen)
     is = refl;
   }
 
-  pub cut_whole : (fails : Type 0) (told : Option (List ℕ) → List Event → Type 0) (last : SinkSeen) (status : ℕ)
+  pub cut_whole : (fails : Type 0) (told : Option (List ℕ) → List Event → Type 0) (caused : End → Type 0) (last : SinkSeen) (status : ℕ)
       → status ≡ 9 → last ≡ took mid (codes "! fault shelf\n")
-      → WritesWhole (MayRun (record { seen = between_of it; fails = fails; told = told }) program (pace_of it.shelf.name how)) first last status
+      → WritesWhole (MayRun (record { seen = between_of it; fails = fails; told = told; caused = caused }) program (pace_of it.shelf.name how)) first last status
   unfolding cut_short
-  cut_whole fails told last status is wrote = (
+  cut_whole fails told caused last status is wrote = (
     cut_short,
     inr (inr stops_so),
     took_on first mid last (lines_of_events how.trace (run program stops.had stops.made).events) (codes "! fault shelf\n") stops.wrote wrote
@@ -175,11 +175,11 @@ module _ (program : Program) (how : Manner) (it : Driven) (first mid : SinkSeen)
     is,
   )
 
-  pub cut_early : (fails : Type 0) (told : Option (List ℕ) → List Event → Type 0) (none : Type 0) (last : SinkSeen) (halt : Halt)
+  pub cut_early : (fails : Type 0) (told : Option (List ℕ) → List Event → Type 0) (caused : End → Type 0) (none : Type 0) (last : SinkSeen) (halt : Halt)
       → StopsWriting (codes "! fault shelf\n") mid last halt
-      → EndsEarly (MayRun (record { seen = between_of it; fails = fails; told = told }) program (pace_of it.shelf.name how)) none first last halt
-  cut_early fails told none last halt stopped =
-      early_by (MayRun (record { seen = between_of it; fails = fails; told = told }) program (pace_of it.shelf.name how)) none first mid
+      → EndsEarly (MayRun (record { seen = between_of it; fails = fails; told = told; caused = caused }) program (pace_of it.shelf.name how)) none first last halt
+  cut_early fails told caused none last halt stopped =
+      early_by (MayRun (record { seen = between_of it; fails = fails; told = told; caused = caused }) program (pace_of it.shelf.name how)) none first mid
       (lines_of_events how.trace (run program stops.had stops.made).events) stops.wrote cut_short (inr (inr stops_so))
       (codes "! fault shelf\n") [] (cut_text ∙ ap (λ (t : List ℕ). lines_of_events how.trace (run program stops.had stops.made).events ++ t)
       (sym (append-nil (codes "! fault shelf\n")))) last halt stopped
@@ -187,25 +187,30 @@ module _ (program : Program) (how : Manner) (it : Driven) (first mid : SinkSeen)
 -- ---- scripts
 -- a script's run, by the rules for its text; reading it changed nothing of the shelf
 pub run_by_script : (script : Program) (old mid new : ShelfSeen) (before after : WireSeen) (name : List ℕ) (fails : Type 0)
-    (told : Between → Option (List ℕ) → List Event → Type 0) (pace : Pace) → SpellsScript (old.file name) script → mid ≡ old
+    (told : Between → Option (List ℕ) → List Event → Type 0) (caused : End → Type 0) (pace : Pace) → SpellsScript (old.file name) script → mid ≡ old
     → (output : ProgramOutput)
-    → MayRun (record { seen = between mid new before after; fails = fails; told = told (between mid new before after) }) script pace output
-    → MayRunOver (record { seen = between old new before after; fails = fails; told = told (between old new before after) }) name pace output
-run_by_script script old mid new before after name fails told pace spells same output may =
-    let it : ShelfSeen → Outside = λ s. record { seen = between s new before after; fails = fails; told = told (between s new before after) } in
+    → MayRun (record { seen = between mid new before after; fails = fails; told = told (between mid new before after); caused = caused }) script pace output
+    → MayRunOver (record { seen = between old new before after; fails = fails; told = told (between old new before after); caused = caused }) name pace output
+run_by_script script old mid new before after name fails told caused pace spells same output may =
+    let it : ShelfSeen → Outside = λ s. record {
+      seen = between s new before after;
+      fails = fails;
+      told = told (between s new before after);
+      caused = caused;
+    } in
     let here = subst (λ (s : ShelfSeen). MayRun (it s) script pace output) same may in
     inr (spells.0, spells.1, subst (λ (p : Judged Program). MayRunScript (it old) p pace output) (sym spells.2) here)
 
 pub run_without : (none : NoScript) (old new : ShelfSeen) (seen : WireSeen) (name : List ℕ) (fails : Type 0)
-    (told : Option (List ℕ) → List Event → Type 0) (pace : Pace) → IsMissing name old new none → new.file ≡ old.file
-    → (output : ProgramOutput) → Tells none output → MayRunOver (record { seen = between old new seen seen; fails = fails; told = told }) name pace output
-run_without (Refused number cause) old new seen name fails told pace missing kept output tells =
+    (told : Option (List ℕ) → List Event → Type 0) (caused : End → Type 0) (pace : Pace) → IsMissing name old new none → new.file ≡ old.file
+    → (output : ProgramOutput) → Tells none output → MayRunOver (record { seen = between old new seen seen; fails = fails; told = told; caused = caused }) name pace output
+run_without (Refused number cause) old new seen name fails told caused pace missing kept output tells =
     let (text, why, says, spells, is) = missing.0 in
-    let it : Outside = record { seen = between old new seen seen; fails = fails; told = told } in
+    let it : Outside = record { seen = between old new seen seen; fails = fails; told = told; caused = caused } in
     let refused : MayRunScript it (fault_at number why) pace output = ((refl, missing.1), refused_as number cause why output is tells) in
     inr (text, says, subst (λ (p : Judged Program). MayRunScript it p pace output) (sym spells) refused)
-run_without Failed old new seen name fails told pace missing kept output tells = inl (missing, kept, refl, tells)
-run_without NoMemory old new seen name fails told pace missing kept output tells = absurd tells
+run_without Failed old new seen name fails told caused pace missing kept output tells = inl (missing, kept, refl, tells)
+run_without NoMemory old new seen name fails told caused pace missing kept output tells = absurd tells
 
 -- where memory was refused while a script was read nothing changed
 pub unread : (none : NoScript) (old new : ShelfSeen) (name : List ℕ) → IsMissing name old new none → none ≡ NoMemory → new ≡ old

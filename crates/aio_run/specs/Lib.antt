@@ -1,3 +1,4 @@
 pub mod Manner
 pub mod Running
 pub mod Script
+pub mod Working

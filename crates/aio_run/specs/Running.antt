@@ -2,6 +2,7 @@
 use Rattle.std.specs.Prelude.{ℕ, List, Option}
 use Rattle.model_wire.specs.Event.{Event}
 use Rattle.model_wire.specs.Told.{ShelfSeen, WireSeen}
+use Rattle.model_commands.specs.Causes.{IsCaused}
 use Rattle.model_commands.specs.Outputs.{Outside, Pace}
 use Rattle.model_commands.specs.Telling.{Between, TellsAll, TellsFirst, TellsFirstAndOne}
 use Rattle.aio_drive.specs.declared.driver.Manner.{Manner}
@@ -17,7 +18,7 @@ between old new before after = record { old = old; new = new; before = before; a
 
 -- it was told all of a run
 abbrev pub told_all : Between → (fails : Type 0) → Outside
-told_all seen fails = record { seen = seen; fails = fails; told = TellsAll seen }
+told_all seen fails = record { seen = seen; fails = fails; told = TellsAll seen; caused = IsCaused seen.before seen.after }
 
 abbrev pub TellsUntil : Halt → Between → (file : Option (List ℕ)) → List Event → Type 0
 TellsUntil Memory seen file events = TellsFirstAndOne seen file events
@@ -25,4 +26,4 @@ TellsUntil Sink seen file events = TellsFirst seen file events
 
 -- the first of it
 abbrev pub told_until : Halt → Between → (fails : Type 0) → Outside
-told_until halt seen fails = record { seen = seen; fails = fails; told = TellsUntil halt seen }
+told_until halt seen fails = record { seen = seen; fails = fails; told = TellsUntil halt seen; caused = λ end. Unit {0} }

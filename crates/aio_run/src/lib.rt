@@ -6,5 +6,6 @@ mod program;
 mod replaying;
 mod running;
 mod script;
+mod working;
 
 pub use program::aio_main;

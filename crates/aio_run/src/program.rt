@@ -10,6 +10,7 @@ ghost use Rattle.aio_run.specs.Running.{between, told_all, told_until};
 use crate::checking::check;
 use crate::replaying::replay;
 use crate::running::run;
+use crate::working::work;
 use aio_drive::{Halt, Manner, say};
 use aio_wire::{Shelf, Sink, Wire};
 use aio_words::{Command, command_of};
@@ -21,13 +22,14 @@ use std::alloc::Global;
 /// `replay SCRIPT JOURNAL` runs a script of the shelf over the answers of a journal of the shelf,
 /// and writes the transcript; `run SCRIPT` runs it over the wire. In both, `--trace` adds a line
 /// for each call, answer and handle, and `--turns N` allows so many turns. With `--record NAME` a
-/// run appends each answer to that file, those of a turn before the turn's lines are written. So
-/// far `work N` isn't done, and is answered as a script that is refused. The statuses: 0, the
+/// run appends each answer to that file, those of a turn before the turn's lines are written.
+/// `work N` runs a script that is made from the number, in memory, and writes on one line how many
+/// tasks it made, how many calls it asked and how many lines it printed. The statuses: 0, the
 /// script was checked, or main returned; 1, main raised or was cancelled; 2, the words are refused;
-/// 3, the script is, or a work is asked for; 4, a line of the journal that is needed is refused; 5,
-/// an answer doesn't fit its call; 6, no answer is left; 7, nothing is pending and nothing can
-/// come; 8, a step has too many statements; 9, the shelf, the wire or the sink failed; 10, as many
-/// turns were made as are allowed; 11, memory was refused.
+/// 3, the script is; 4, a line of the journal that is needed is refused; 5, an answer doesn't fit
+/// its call; 6, no answer is left; 7, nothing is pending and nothing can come; 8, a step has too
+/// many statements; 9, the shelf, the wire or the sink failed; 10, as many turns were made as are
+/// allowed; 11, memory was refused.
 pub fn aio_main<F: Shelf, W: Wire, K: Sink>(
     alloc: Global,
     words: &Vec<String>,
@@ -108,7 +110,7 @@ fn serve<F: Shelf, W: Wire, K: Sink>(
             let manner = Manner { trace, turns };
             run(alloc, script, recorded, manner, shelf, wire, out)
         }
-        Some(Command::Work { .. }) => say(alloc, "! script 1 9\n", 3, out),
+        Some(Command::Work { seed }) => work(alloc, seed, out),
         None => say(alloc, "! words\n", 2, out),
     }
 }

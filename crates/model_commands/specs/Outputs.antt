@@ -8,7 +8,7 @@ use Rattle.model_wire.specs.Event.{Event}
 use Rattle.model_wire.specs.Journal.{Entry}
 use Rattle.model_wire.specs.Told.{Agrees, FileFailed, NoneFailed, Rose, ShelfSeen}
 use Rattle.model_wire.specs.Trace.{End}
-use Rattle.model_program.specs.Program.{FileSays, IsOver, MayCheck, MayReplay, only, output_of, script_failed, script_refused, words_refused}
+use Rattle.model_program.specs.Program.{FileSays, IsOver, MayCheck, MayReplay, output_of, script_failed, script_refused, words_refused}
 use Rattle.model_machine.specs.Run.{Run}
 use Rattle.model_program.specs.Runs.{run}
 use Rattle.model_program.specs.Written.{IsFrontOf, ProgramOutput}
@@ -16,13 +16,15 @@ use Rattle.model_words.specs.Words.{Command, Check, Replay, Run as RunIt, Work}
 use Rattle.model_commands.specs.Asked.{Asks, AsksOnce}
 use Rattle.model_commands.specs.Recorded.{FailsRecording, recorded}
 use Rattle.model_commands.specs.Telling.{Between}
+use Rattle.model_commands.specs.Works.{MayWork}
 
--- What is known of the outside over a call of the program: what is seen of it before and after, that each call of the wire fails, and
--- how much of a run it was told, by the file in which the run is recorded and by its events.
+-- What is known of the outside over a call of the program: what is seen of it before and after, that each call of the wire fails, how
+-- much of a run it was told, by the file in which the run is recorded and by its events, and why a run that didn't fail ended so.
 pub record Outside : Type 1 where
   pub seen : Between
   pub fails : Type 0
   pub told : (file : Option (List ℕ)) → List Event → Type 0
+  pub caused : End → Type 0
 
 -- how a run goes: with the trace or without it, how many turns are allowed, and in which file it is recorded, if in one
 pub record Pace : Type 0 where
@@ -58,7 +60,8 @@ pub record StopsRecording (it : Between) (program : Program) (pace : Pace) (outp
 abbrev pub MayRun : Outside → Program → Pace → ProgramOutput → Type 0
 MayRun it program pace output =
     ((it.fails → ⊥) × (entries : List Entry) × Agrees it.seen.before.left entries
-    × (output ≡ output_of pace.trace (run program entries pace.turns)) × it.told pace.file (run program entries pace.turns).events)
+    × (output ≡ output_of pace.trace (run program entries pace.turns)) × it.told pace.file (run program entries pace.turns).events
+    × it.caused (run program entries pace.turns).end)
     ⊎ ((Rose it.seen.before.faults it.seen.after.faults × (had : List Entry) × ((rest : List Entry) × Agrees it.seen.before.left (had ++ rest))
     × IsOver (run program had pace.turns) × (output ≡ faulted pace.trace end.WireFault (run program had pace.turns))
     × it.told pace.file (run program had pace.turns).events)
@@ -78,10 +81,6 @@ MayRunOver it script pace output =
     (FileFailed script it.seen.old it.seen.new × (it.seen.new.file ≡ it.seen.old.file) × (it.seen.after ≡ it.seen.before) × (output ≡ script_failed))
     ⊎ ((text : List ℕ) × FileSays (it.seen.old.file script) text × MayRunScript it (script_of text) pace output)
 
--- the work of a seed isn't done so far: line 1, and a cause that no script is refused for
-abbrev pub no_work : ProgramOutput
-no_work = only (end.ScriptRefused 1 9)
-
 -- what may be written for words
 abbrev pub MayWrite : Outside → Option Command → ProgramOutput → Type 0
 MayWrite it None output = NoneFailed it.seen.old it.seen.new × (output ≡ words_refused)
@@ -89,7 +88,7 @@ MayWrite it (Some (Check script)) output = MayCheck it.seen.old it.seen.new scri
 MayWrite it (Some (Replay script journal trace turns)) output =
     MayReplay it.seen.old it.seen.new script (record { journal = journal; trace = trace; turns = turns }) output
 MayWrite it (Some (RunIt script file trace turns)) output = MayRunOver it script (record { trace = trace; turns = turns; file = file }) output
-MayWrite it (Some (Work seed)) output = NoneFailed it.seen.old it.seen.new × (output ≡ no_work)
+MayWrite it (Some (Work seed)) output = NoneFailed it.seen.old it.seen.new × MayWork seed output
 
 -- What is known where nothing was written: no file failed; and in a run nothing was recorded, and the wire was asked one call at most.
 abbrev pub IsUnbegun : Outside → Option Command → Type 0

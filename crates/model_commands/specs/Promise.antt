@@ -4,6 +4,7 @@ use Rattle.model_wire.specs.Event.{Event}
 use Rattle.model_wire.specs.Told.{ShelfSeen, SinkSeen, WireSeen}
 use Rattle.model_program.specs.Written.{SinkStops, StopsShort, WritesWhole}
 use Rattle.model_words.specs.Words.{command_of}
+use Rattle.model_commands.specs.Causes.{IsCaused}
 use Rattle.model_commands.specs.Outputs.{IsUnbegun, KeepsFiles, KeepsWire, MayWrite, Outside}
 use Rattle.model_commands.specs.Telling.{Between, TellsAll, TellsFirst, TellsFirstAndOne}
 
@@ -21,19 +22,24 @@ pub record Moment (F W : Type 0) : Type 1 where
 abbrev pub between : {F W : Type 0} → (old new : Moment F W) → Between
 between old new = record { old = old.files; new = new.files; before = old.told; after = new.told }
 
--- what is known of it, where it was told this much of a run
-abbrev pub outside : {F W : Type 0} → (old new : Moment F W) → (told : Between → (file : Option (List ℕ)) → List Event → Type 0) → Outside
-outside old new told = record { seen = between old new; fails = old.fails; told = told (between old new) }
-
--- It was told all of the run; or, where the run was cut short, the first of it.
+-- What is known of it: it was told all of the run, and the run's end has its cause.
 abbrev pub whole : {F W : Type 0} → (old new : Moment F W) → Outside
-whole old new = outside old new TellsAll
+whole old new = record {
+  seen = between old new;
+  fails = old.fails;
+  told = TellsAll (between old new);
+  caused = IsCaused old.told new.told;
+}
+
+-- Where the run was cut short it was told the first of it, and nothing is known of the end that it would have had.
+abbrev pub first : {F W : Type 0} → (old new : Moment F W) → (told : Between → (file : Option (List ℕ)) → List Event → Type 0) → Outside
+first old new told = record { seen = between old new; fails = old.fails; told = told (between old new); caused = λ end. Unit {0} }
 
 abbrev pub stopped : {F W : Type 0} → (old new : Moment F W) → Outside
-stopped old new = outside old new TellsFirst
+stopped old new = first old new TellsFirst
 
 abbrev pub starved : {F W : Type 0} → (old new : Moment F W) → Outside
-starved old new = outside old new TellsFirstAndOne
+starved old new = first old new TellsFirstAndOne
 
 -- The theorem: what the program does for the words behind its name, for every shelf, wire and sink, by its exit status.
 pub record Behaves {F W : Type 0} (given : List (List ℕ)) (old new : Moment F W) (status : ℕ) : Type 0 where

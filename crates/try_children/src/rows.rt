@@ -249,6 +249,6 @@ pub static CHILDREN: [ChildRow; 14] = [
             Launch,
         ],
         answers: "",
-        told: "done\ngoes\nset\ngot \ncode 0\nno code\nselect none\nover\nno more\n",
+        told: "done\ngoes\nset\ngot \ncode 0\nno code\nselect none\nnot over\nno more\n",
     },
 ];

@@ -1,11 +1,12 @@
-use Rattle.std.proofs.Common.{[], Err, ◌∙◌, refl, sym, subst, append-nil, arith}
+use Rattle.std.proofs.Common.{[], Err, length, ◌∙◌, refl, sym, subst, append-nil, arith}
 use Rattle.aio_exchange.specs.Outside.{IsOutside, outside_of}
 use Rattle.aio_core.specs.Turning.{StallsAs, resting, said_by, stood_by}
 use Rattle.aio_core.specs.declared.went.Went.TheVariants as went
-use Rattle.aio_core.proofs.Answered.{alive_then, asked_on, asked_then, comes_then, starved_then, still_then, time_then}
+use Rattle.aio_core.proofs.Answered.{alive_then, asked_on, asked_then, caused_then, comes_then, starved_then, still_then, time_then}
 use Rattle.aio_core.proofs.Asking.{failing_answered, failing_stopped, stalls_so, stalls_stopped, still_stopped, stops_so}
 use Rattle.aio_core.proofs.Asked.{asks_none, none_once}
 use Rattle.aio_core.proofs.AskedByTurn.{once_starves, stop_asks, stop_starves, wire_over}
+use Rattle.aio_core.proofs.Caused.{select_caused}
 use Rattle.aio_core.proofs.turns.turn.Given.{Over}
 use Rattle.aio_core.proofs.turns.turn.Goals as goal
 
@@ -29,6 +30,10 @@ pub returns-then-is_stalled-clause-asked : goal.returns-then-is_stalled-clause-a
 returns-then-is_stalled-clause-asked g c =
     λ past answers s h. ([], (sym (append-nil c.args.body.now.events.events), asks_none (g.W.Wire.seen c.args.wire.now)))
 
+pub returns-then-is_stalled-clause-caused : goal.returns-then-is_stalled-clause-caused
+returns-then-is_stalled-clause-caused g c =
+    λ past answers s h. tt
+
 pub returns-then-is_stalled-clause-starved : goal.returns-then-is_stalled-clause-starved
 returns-then-is_stalled-clause-starved g c = λ past answers s h. tt
 
@@ -38,8 +43,9 @@ returns-then-is_stalled-clause-keeps g c = g.met.W.Wire.keeps_same c.args.wire.n
 pub returns-then-is_stalled-clause-quiet : goal.returns-then-is_stalled-clause-quiet
 returns-then-is_stalled-clause-quiet g c = g.met.W.Wire.quiet_same c.args.wire.now
 
-pub returns-then-is_stalled-clause-later : goal.returns-then-is_stalled-clause-later
-returns-then-is_stalled-clause-later g c = omega arith
+pub returns-then-is_stalled-clause-stays : goal.returns-then-is_stalled-clause-stays
+returns-then-is_stalled-clause-stays g c =
+    (refl, omega arith)
 
 -- ---- the call has no answer that fits
 pub returns-in-Err-ask-clause-comes : goal.returns-in-Err-ask-clause-comes
@@ -50,11 +56,19 @@ returns-in-Err-ask-clause-comes g c =
     (asked_on c.args.body.now c.first_call.new.body c.in-Ok.ensures.stands c.in-Ok.call c.ask.new.body.events
     (Err c.in-Err-ask.stop)
     (g.W.Wire.seen c.args.wire.now) (g.W.Wire.seen c.ask.new.wire) c.in-Err-ask.ensures.asks)
-    (stood_by g.X.Extra.added c.ask.new.body)
+    (stood_by g.X.Extra.added c.ask.new.body) (length c.ask.new.body.slots.items)
 
 pub returns-in-Err-ask-clause-asked : goal.returns-in-Err-ask-clause-asked
 returns-in-Err-ask-clause-asked g c =
     λ past answers s h. stop_asks c.in-Ok.call c.args.body.now.events c.ask.new.body.events
+    (g.W.Wire.seen c.args.wire.now) (g.W.Wire.seen c.ask.new.wire) (Err c.in-Err-ask.stop) c.in-Err-ask.stop refl
+    (asked_on c.args.body.now c.first_call.new.body c.in-Ok.ensures.stands c.in-Ok.call c.ask.new.body.events
+    (Err c.in-Err-ask.stop)
+    (g.W.Wire.seen c.args.wire.now) (g.W.Wire.seen c.ask.new.wire) c.in-Err-ask.ensures.asks)
+
+pub returns-in-Err-ask-clause-caused : goal.returns-in-Err-ask-clause-caused
+returns-in-Err-ask-clause-caused g c =
+    λ past answers s h. select_caused c.in-Ok.call c.args.body.now.events c.ask.new.body.events
     (g.W.Wire.seen c.args.wire.now) (g.W.Wire.seen c.ask.new.wire) (Err c.in-Err-ask.stop) c.in-Err-ask.stop refl
     (asked_on c.args.body.now c.first_call.new.body c.in-Ok.ensures.stands c.in-Ok.call c.ask.new.body.events
     (Err c.in-Err-ask.stop)
@@ -85,8 +99,9 @@ pub returns-in-Err-ask-clause-quiet : goal.returns-in-Err-ask-clause-quiet
 returns-in-Err-ask-clause-quiet g c = still_stopped (g.W.Wire.quiet c.args.wire.now c.ask.new.wire) c.in-Err-ask.stop
     c.in-Err-ask.ensures.quiet
 
-pub returns-in-Err-ask-clause-later : goal.returns-in-Err-ask-clause-later
-returns-in-Err-ask-clause-later g c = c.in-Err-ask.ensures.stays.1
+pub returns-in-Err-ask-clause-stays : goal.returns-in-Err-ask-clause-stays
+returns-in-Err-ask-clause-stays g c =
+    c.in-Err-ask.ensures.stays
 
 -- ---- memory was refused before the call
 pub returns-in-Err-clause-comes : goal.returns-in-Err-clause-comes
@@ -97,6 +112,10 @@ returns-in-Err-clause-stalls g c = λ past answers s h. tt
 
 pub returns-in-Err-clause-asked : goal.returns-in-Err-clause-asked
 returns-in-Err-clause-asked g c = λ past answers s h. tt
+
+pub returns-in-Err-clause-caused : goal.returns-in-Err-clause-caused
+returns-in-Err-clause-caused g c =
+    λ past answers s h. tt
 
 pub returns-in-Err-clause-starved : goal.returns-in-Err-clause-starved
 returns-in-Err-clause-starved g c =
@@ -114,8 +133,9 @@ returns-in-Err-clause-keeps g c = g.met.W.Wire.keeps_same c.args.wire.now
 pub returns-in-Err-clause-quiet : goal.returns-in-Err-clause-quiet
 returns-in-Err-clause-quiet g c = g.met.W.Wire.quiet_same c.args.wire.now
 
-pub returns-in-Err-clause-later : goal.returns-in-Err-clause-later
-returns-in-Err-clause-later g c = omega arith
+pub returns-in-Err-clause-stays : goal.returns-in-Err-clause-stays
+returns-in-Err-clause-stays g c =
+    (refl, omega arith)
 
 -- ---- the call has its answer
 pub after-requires-clause-alive : goal.after-requires-clause-alive
@@ -178,6 +198,16 @@ returns-in-Ok-ask-clause-asked g c =
     c.in-Ok-ask.ensures.quiet
     c.after.new.body c.after.new.wire c.after.result c.after.ensures
 
+pub returns-in-Ok-ask-clause-caused : goal.returns-in-Ok-ask-clause-caused
+returns-in-Ok-ask-clause-caused g c =
+    caused_then g.X.Extra.added _ (laws g) c.args.body.now c.in-Ok.call c.in-Ok.ensures.call
+    (λ d s h. sym c.if-is_stalled.false ∙ c.is_stalled.ensures d s h) c.first_call.new.body c.in-Ok.ensures.stands
+    c.in-Ok-ask.answer
+    c.ask.new.body c.in-Ok-ask.ensures.beside c.args.wire.now c.ask.new.wire
+    c.in-Ok-ask.ensures.asks c.in-Ok-ask.ensures.stays c.in-Ok-ask.ensures.fails c.in-Ok-ask.ensures.keeps
+    c.in-Ok-ask.ensures.quiet
+    c.after.new.body c.after.new.wire c.after.result c.after.ensures
+
 pub returns-in-Ok-ask-clause-starved : goal.returns-in-Ok-ask-clause-starved
 returns-in-Ok-ask-clause-starved g c =
     starved_then g.X.Extra.added _ (laws g) c.args.body.now c.in-Ok.call c.in-Ok.ensures.call
@@ -207,8 +237,8 @@ returns-in-Ok-ask-clause-quiet g c =
     c.in-Ok-ask.ensures.quiet
     c.after.new.body c.after.new.wire c.after.result c.after.ensures
 
-pub returns-in-Ok-ask-clause-later : goal.returns-in-Ok-ask-clause-later
-returns-in-Ok-ask-clause-later g c =
-    let first = c.in-Ok-ask.ensures.stays.1 in
-    let then_ = c.after.ensures.exchanged.stays.1 in
-    omega (arith, first, then_)
+pub returns-in-Ok-ask-clause-stays : goal.returns-in-Ok-ask-clause-stays
+returns-in-Ok-ask-clause-stays g c =
+    let first = c.in-Ok-ask.ensures.stays in
+    let then_ = c.after.ensures.exchanged.stays in
+    (then_.0 ∙ first.0, omega (arith, first.1, then_.1))

@@ -10,7 +10,7 @@ loop-made-init g c = record {
       (option_copied c.args.journal) (g.F.Shelf.seen c.args.shelf.now)
       (g.W.Wire.fails c.args.wire.now) (g.W.Wire.quiet c.args.wire.now c.args.wire.now) (c.args.shelf.now ≡ c.args.shelf.now) begins
       (g.met.W.Wire.quiet_same c.args.wire.now) refl;
-  later = omega arith;
+  stays = (refl, omega arith);
   keeps = g.met.W.Wire.keeps_same c.args.wire.now;
 }
 
@@ -20,11 +20,14 @@ loop-made-preserved g c =
     record {
       running = λ program begins.
           let under = l.invariant.running program begins in
-          round_on {same_now = c.tell_next.new.shelf ≡ l.shelf} (g.W.Wire.seen c.args.wire.now) under c.loop-made-test.true l.invariant.later
+          round_on {same_now = c.tell_next.new.shelf ≡ l.shelf} (g.W.Wire.seen c.args.wire.now) under c.loop-made-test.true l.invariant.stays
           (g.met.W.Wire.quiet_on c.args.wire.now l.wire c.tell_next.new.wire under.still) (c.tell_next.new.shelf ≡ c.args.shelf.now)
           (g.W.Wire.fails c.tell_next.new.wire)
           c.in-Ok-None.field-0 c.in-Ok-None.field-0-is (c.in-Ok-None.ensures.turned (still_goes under));
-      later = omega (arith, l.invariant.later, c.tell_next.ensures.later);
+      stays =
+          let before = l.invariant.stays in
+          let now = c.tell_next.ensures.stays in
+          (now.0 ∙ before.0, omega (arith, before.1, now.1));
       keeps = g.met.W.Wire.keeps_on c.args.wire.now l.wire c.tell_next.new.wire l.invariant.keeps c.tell_next.ensures.keeps;
     }
 
@@ -33,7 +36,7 @@ returns-in-Ok-Some-clause-ok g c =
     let l = c.loop-made in
     λ program begins.
     let under = l.invariant.running program begins in
-    round_ok (g.W.Wire.seen c.args.wire.now) under c.loop-made-test.true l.invariant.later
+    round_ok (g.W.Wire.seen c.args.wire.now) under c.loop-made-test.true l.invariant.stays
     (g.met.W.Wire.quiet_on c.args.wire.now l.wire c.tell_next.new.wire under.still) (c.tell_next.new.shelf ≡ c.args.shelf.now)
     c.in-Ok-Some.field-0 c.in-Ok-Some.status c.in-Ok-Some.field-0-is (c.in-Ok-Some.ensures.turned (still_goes under))
 
@@ -42,7 +45,7 @@ returns-in-Err-clause-err g c =
     let l = c.loop-made in
     λ program begins.
     let under = l.invariant.running program begins in
-    round_err (g.W.Wire.seen c.args.wire.now) under c.loop-made-test.true l.invariant.later
+    round_err (g.W.Wire.seen c.args.wire.now) under c.loop-made-test.true l.invariant.stays
     (g.met.W.Wire.quiet_on c.args.wire.now l.wire c.tell_next.new.wire under.still) (c.tell_next.new.shelf ≡ c.args.shelf.now)
     (λ same. sym (ap g.F.Shelf.seen same)) (λ same then. same ∙ then)
     c.in-Err.cut (c.in-Err.ensures.turned (still_goes under))

@@ -1,6 +1,7 @@
-use Rattle.std.proofs.Common.{◌≡◌, ℕ, ◌≤◌, List}
+use Rattle.std.proofs.Common.{◌≡◌, ℕ, List}
 use Rattle.std.specs.Option.{option_copied}
 use Rattle.model_tree.specs.Syntax.{Program}
+use Rattle.aio_wire.specs.Replied.{Stays}
 use Rattle.aio_extra.specs.Nothing.{nothing_added}
 use Rattle.aio_core.specs.Turned.{Begins}
 use Rattle.aio_drive.proofs.Rounds.{IsUnderWay}
@@ -17,6 +18,6 @@ invariant-loop-made g l = record {
         new = g.F.Shelf.seen l.shelf;
       })
       (g.W.Wire.fails l.fn.wire) (g.W.Wire.fails l.wire) (g.W.Wire.quiet l.fn.wire l.wire) (l.shelf ≡ l.fn.shelf);
-  later : (g.W.Wire.seen l.fn.wire).faults ≤ (g.W.Wire.seen l.wire).faults;
+  stays : Stays (g.W.Wire.seen l.fn.wire) (g.W.Wire.seen l.wire);
   keeps : g.W.Wire.keeps l.fn.wire l.wire;
 }

@@ -1,7 +1,7 @@
 use Rattle.std.proofs.Common.{◌≡◌, [], refl, sym}
 use Rattle.std.specs.Option.{option_copied}
 use Rattle.aio_core.proofs.Asked.{none_once}
-use Rattle.aio_drive.specs.Drive.{Driven, IsUntold, MayDrive, TellsUntil, driven_over, wire_by}
+use Rattle.aio_drive.specs.Drive.{Driven, IsUntold, MayDrive, driven_over, wire_until}
 use Rattle.aio_drive.specs.declared.halt.Halt.TheVariants.{Memory}
 use Rattle.aio_drive.proofs.Written.{nothing_at_all}
 use Rattle.aio_drive.proofs.Fronts.{took-nil}
@@ -23,7 +23,7 @@ returns-in-Err-clause-err g c =
     let it : Driven = driven_over seen seen (g.W.Wire.fails c.args.wire.now) (g.W.Wire.quiet c.args.wire.now c.args.wire.now)
     (record { name = option_copied c.args.journal; old = files; new = files }) (c.args.shelf.now ≡ c.args.shelf.now) in
     nothing_at_all
-    (MayDrive c.args.program.now c.args.manner c.args.fault.now (wire_by it (TellsUntil Memory it))) (IsUntold it)
+    (MayDrive c.args.program.now c.args.manner c.args.fault.now (wire_until Memory it)) (IsUntold it)
     (g.K.Sink.seen c.args.out.now) (g.K.Sink.seen c.args.out.now) [] (sym (took-nil (g.K.Sink.seen c.args.out.now))) refl
     ((g.met.W.Wire.quiet_same c.args.wire.now, none_once seen), refl)
 

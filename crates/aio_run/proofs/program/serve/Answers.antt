@@ -1,13 +1,15 @@
-use Rattle.std.proofs.Common.{ℕ, List, Option, IfErr, IfOk, map, string_bytes, ap, refl, subst, sym, ◌∙◌}
+use Rattle.std.proofs.Common.{ℕ, List, Option, Some, IfErr, IfOk, map, string_bytes, refl, subst}
 use Rattle.std.proofs.lemmas.Result.{IfOk-weaker, IfErr-weaker}
-use Rattle.model_wire.specs.Told.{took}
-use Rattle.model_words.specs.Words.{Command, command_of}
+use Rattle.model_wire.specs.Told.{NoneFailed}
+use Rattle.model_words.specs.Words.{Command, Work, command_of}
 use Rattle.model_program.specs.Program.{words_refused}
 use Rattle.model_program.specs.Written.{WritesWhole}
-use Rattle.model_commands.specs.Outputs.{IsUnbegun, KeepsFiles, KeepsWire, MayWrite, no_work}
+use Rattle.model_commands.specs.Outputs.{IsUnbegun, KeepsFiles, KeepsWire, MayWrite}
+use Rattle.model_commands.specs.Works.{MayWork}
 use Rattle.aio_drive.specs.Outcome.{EndsEarly}
+use Rattle.aio_drive.proofs.Unrecorded.{early_wider, whole_wider}
 use Rattle.aio_run.specs.Running.{between, told_all, told_until}
-use Rattle.aio_run.proofs.Outcomes.{line_early, no_work_text}
+use Rattle.aio_run.proofs.Outcomes.{line_early}
 use Rattle.aio_run.proofs.program.serve.Goals as goal
 
 -- ---- refused words
@@ -17,7 +19,7 @@ returns-in-None-clause-ok g c =
     let wire = g.W.Wire.seen c.args.wire.now in
     let it = told_all (between shelf shelf wire wire) (g.W.Wire.fails c.args.wire.now) in
     let may = subst (λ (o : Option Command). MayWrite it o words_refused) c.in-None.ensures.command (refl, refl) in
-    IfOk-weaker c.say-in-None.result _ _ (λ status d. (words_refused, may, d.1, d.0)) c.say-in-None.ensures.ok
+    IfOk-weaker c.say.result _ _ (λ status d. (words_refused, may, d.1, d.0)) c.say.ensures.ok
 
 pub returns-in-None-clause-err : goal.returns-in-None-clause-err
 returns-in-None-clause-err g c =
@@ -25,12 +27,12 @@ returns-in-None-clause-err g c =
     let wire = g.W.Wire.seen c.args.wire.now in
     let fails = g.W.Wire.fails c.args.wire.now in
     let asked = command_of (map string_bytes c.args.words.now) in
-    IfErr-weaker c.say-in-None.result _ _ (λ halt d.
+    IfErr-weaker c.say.result _ _ (λ halt d.
     line_early halt (MayWrite (told_until halt (between shelf shelf wire wire) fails) asked)
     (IsUnbegun (told_until halt (between shelf shelf wire wire) fails) asked) words_refused _
-    (g.K.Sink.seen c.args.out.now) (g.K.Sink.seen c.say-in-None.new.out)
+    (g.K.Sink.seen c.args.out.now) (g.K.Sink.seen c.say.new.out)
     (subst (λ (o : Option Command). MayWrite (told_until halt (between shelf shelf wire wire) fails) o words_refused)
-    c.in-None.ensures.command (refl, refl)) refl d) c.say-in-None.ensures.err
+    c.in-None.ensures.command (refl, refl)) refl d) c.say.ensures.err
 
 pub returns-in-None-clause-files : goal.returns-in-None-clause-files
 returns-in-None-clause-files g c =
@@ -48,23 +50,25 @@ returns-in-Some-Work-clause-ok g c =
     let wire = g.W.Wire.seen c.args.wire.now in
     let it = told_all (between shelf shelf wire wire) (g.W.Wire.fails c.args.wire.now) in
     let found = rw c.in-Some-Work.field-0-is at c.in-Some-Work.ensures.command in
-    let may = subst (λ (o : Option Command). MayWrite it o no_work) found (refl, refl) in
-    IfOk-weaker c.say.result _ _
-    (λ status d. (no_work, may, d.1 ∙ ap (λ (t : List ℕ). took (g.K.Sink.seen c.args.out.now) t) (sym no_work_text), d.0)) c.say.ensures.ok
+    let seed = c.in-Some-Work.seed in
+    subst (λ (o : Option Command). IfOk c.work.result (WritesWhole (MayWrite it o) (g.K.Sink.seen c.args.out.now) (g.K.Sink.seen c.work.new.out)))
+    found
+    (IfOk-weaker c.work.result _ _ (λ status d.
+    whole_wider (MayWork seed) (MayWrite it (Some (Work seed))) (Unit {0}) (NoneFailed shelf shelf) (λ output may. (refl, may)) (λ none. refl)
+    (g.K.Sink.seen c.args.out.now) (g.K.Sink.seen c.work.new.out) status d) c.work.ensures.ok)
 
 pub returns-in-Some-Work-clause-err : goal.returns-in-Some-Work-clause-err
 returns-in-Some-Work-clause-err g c =
     let shelf = g.F.Shelf.seen c.args.shelf.now in
     let wire = g.W.Wire.seen c.args.wire.now in
     let fails = g.W.Wire.fails c.args.wire.now in
-    let asked = command_of (map string_bytes c.args.words.now) in
     let found = rw c.in-Some-Work.field-0-is at c.in-Some-Work.ensures.command in
-    IfErr-weaker c.say.result _ _ (λ halt d.
-    line_early halt (MayWrite (told_until halt (between shelf shelf wire wire) fails) asked)
-    (IsUnbegun (told_until halt (between shelf shelf wire wire) fails) asked) no_work _
-    (g.K.Sink.seen c.args.out.now) (g.K.Sink.seen c.say.new.out)
-    (subst (λ (o : Option Command). MayWrite (told_until halt (between shelf shelf wire wire) fails) o no_work) found (refl, refl))
-    (sym no_work_text) d) c.say.ensures.err
+    let seed = c.in-Some-Work.seed in
+    subst (λ (o : Option Command). IfErr c.work.result (λ halt. EndsEarly (MayWrite (told_until halt (between shelf shelf wire wire) fails) o)
+    (IsUnbegun (told_until halt (between shelf shelf wire wire) fails) o) (g.K.Sink.seen c.args.out.now) (g.K.Sink.seen c.work.new.out) halt)) found
+    (IfErr-weaker c.work.result _ _ (λ halt d.
+    early_wider (MayWork seed) (MayWrite (told_until halt (between shelf shelf wire wire) fails) (Some (Work seed))) (Unit {0}) (NoneFailed shelf shelf)
+    (λ output may. (refl, may)) (λ none. refl) halt (g.K.Sink.seen c.args.out.now) (g.K.Sink.seen c.work.new.out) d) c.work.ensures.err)
 
 pub returns-in-Some-Work-clause-files : goal.returns-in-Some-Work-clause-files
 returns-in-Some-Work-clause-files g c =

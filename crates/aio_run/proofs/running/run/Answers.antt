@@ -2,6 +2,7 @@ use Rattle.std.proofs.Common.{◌≡◌, ◌∙◌}
 use Rattle.std.specs.Option.{option_copied}
 use Rattle.std.proofs.lemmas.Result.{IfOk-weaker, IfErr-weaker}
 use Rattle.model_commands.specs.Asked.{AsksOnce}
+use Rattle.model_commands.specs.Causes.{IsCaused}
 use Rattle.model_commands.specs.Outputs.{KeepsOthers, MayRun, MayRunOver}
 use Rattle.model_commands.specs.Telling.{TellsAll}
 use Rattle.aio_drive.proofs.Unrecorded.{early_wider, whole_wider}
@@ -24,7 +25,7 @@ returns-in-Ok-clause-ok g c =
     IfOk-weaker c.run_program.result _ _ (λ status d.
     whole_wider (MayRun (told_all (between mid new before after) fails) program pace)
     (MayRunOver (told_all (between old new before after) fails) c.args.script.now pace) (Unit {0}) (Unit {0})
-    (run_by_script program old mid new before after c.args.script.now fails TellsAll pace c.in-Ok.ensures.script c.in-Ok.ensures.kept)
+    (run_by_script program old mid new before after c.args.script.now fails TellsAll (IsCaused before after) pace c.in-Ok.ensures.script c.in-Ok.ensures.kept)
     (λ none. none) (g.K.Sink.seen c.args.out.now) (g.K.Sink.seen c.run_program.new.out) status d) c.run_program.ensures.ok
 
 pub returns-in-Ok-clause-err : goal.returns-in-Ok-clause-err
@@ -41,7 +42,8 @@ returns-in-Ok-clause-err g c =
     early_wider (MayRun (told_until halt (between mid new before after) fails) program pace)
     (MayRunOver (told_until halt (between old new before after) fails) c.args.script.now pace)
     ((new ≡ mid) × AsksOnce before after) ((new ≡ old) × AsksOnce before after)
-    (run_by_script program old mid new before after c.args.script.now fails (TellsUntil halt) pace c.in-Ok.ensures.script c.in-Ok.ensures.kept)
+    (run_by_script program old mid new before after c.args.script.now fails (TellsUntil halt) (λ end. Unit {0}) pace c.in-Ok.ensures.script
+    c.in-Ok.ensures.kept)
     (λ unbegun. (unbegun.0 ∙ c.in-Ok.ensures.kept, unbegun.1))
     halt (g.K.Sink.seen c.args.out.now) (g.K.Sink.seen c.run_program.new.out) d) c.run_program.ensures.err
 
@@ -59,7 +61,7 @@ returns-in-Err-clause-ok g c =
     let pace = pace_of (option_copied c.args.journal) c.args.manner in
     IfOk-weaker c.refuse.result _ _ (λ status d.
     whole_wider (Tells c.in-Err.none) (MayRunOver (told_all (between old new seen seen) fails) c.args.script.now pace) (Unit {0}) (Unit {0})
-    (run_without c.in-Err.none old new seen c.args.script.now fails (TellsAll (between old new seen seen)) pace c.in-Err.ensures.none
+    (run_without c.in-Err.none old new seen c.args.script.now fails (TellsAll (between old new seen seen)) (IsCaused seen seen) pace c.in-Err.ensures.none
     c.read_script.ensures.files) (λ none. none)
     (g.K.Sink.seen c.args.out.now) (g.K.Sink.seen c.refuse.new.out) status d) c.refuse.ensures.ok
 
@@ -75,7 +77,8 @@ returns-in-Err-clause-err g c =
     IfErr-weaker c.refuse.result _ _ (λ halt d.
     early_wider (Tells none) (MayRunOver (told_until halt (between old new seen seen) fails) c.args.script.now pace)
     (none ≡ Memory) ((new ≡ old) × AsksOnce seen seen)
-    (run_without none old new seen c.args.script.now fails (TellsUntil halt (between old new seen seen)) pace missing c.read_script.ensures.files)
+    (run_without none old new seen c.args.script.now fails (TellsUntil halt (between old new seen seen)) (λ end. Unit {0}) pace missing
+    c.read_script.ensures.files)
     (λ is. (unread none old new c.args.script.now missing is, once-none seen))
     halt (g.K.Sink.seen c.args.out.now) (g.K.Sink.seen c.refuse.new.out) d) c.refuse.ensures.err
 

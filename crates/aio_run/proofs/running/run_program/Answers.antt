@@ -4,10 +4,11 @@ use Rattle.std.proofs.lemmas.Result.{IfOk-weaker, IfErr-weaker}
 use Rattle.model_wire.specs.declared.event.End.TheVariants as end
 use Rattle.model_wire.specs.Told.{ShelfSeen}
 use Rattle.model_commands.specs.Asked.{AsksOnce}
+use Rattle.model_commands.specs.Causes.{IsCaused}
 use Rattle.model_commands.specs.Outputs.{MayRun}
 use Rattle.model_commands.specs.Telling.{TellsAll}
 use Rattle.aio_drive.specs.Drive as drive
-use Rattle.aio_drive.specs.Drive.{Driven, IsUntold, MayDrive, MayTell, driven_over, wire_by}
+use Rattle.aio_drive.specs.Drive.{Driven, IsUntold, MayDrive, MayTell, driven_over, wire_until}
 use Rattle.aio_drive.proofs.Unrecorded.{early_wider, whole_wider}
 use Rattle.aio_run.specs.Running.{TellsUntil, between, pace_of, told_all, told_until}
 use Rattle.aio_run.proofs.WireRuns.{all_so, cut_early, cut_whole, once-same, others_early, others_failed, others_told, runs_over, until_so}
@@ -27,7 +28,7 @@ returns-in-Ok-clause-ok g c =
     let program = c.args.program.now in
     let seen = between old new before after in
     whole_wider (MayTell program c.args.manner end.WireFault it) (MayRun (told_all seen fails) program (pace_of file c.args.manner)) (Unit {0}) (Unit {0})
-    (runs_over program c.args.manner it fails refl (drive.TellsAll it) (TellsAll seen) (all_so it)) (λ none. none)
+    (runs_over program c.args.manner it fails refl (drive.TellsAll it) (TellsAll seen) (IsCaused before after) (all_so it)) (λ none. none)
     (g.K.Sink.seen c.args.out.now) (g.K.Sink.seen c.drive_recorded.new.out) c.in-Ok.status c.in-Ok.ensures.ok
 
 pub returns-in-Ok-clause-files : goal.returns-in-Ok-clause-files
@@ -56,9 +57,9 @@ returns-in-Err-Halted-clause-err g c =
     let seen = between old new before after in
     let halt = c.in-Err-Halted.halt in
     let stops = rw c.in-Err-Halted.field-0-is at c.in-Err-Halted.ensures.err in
-    early_wider (MayDrive program c.args.manner end.WireFault (wire_by it (drive.TellsUntil halt it)))
+    early_wider (MayDrive program c.args.manner end.WireFault (wire_until halt it))
     (MayRun (told_until halt seen fails) program (pace_of file c.args.manner)) (IsUntold it) ((new ≡ old) × AsksOnce before after)
-    (runs_over program c.args.manner it fails refl (drive.TellsUntil halt it) (TellsUntil halt seen) (until_so halt it))
+    (runs_over program c.args.manner it fails refl (drive.TellsUntil halt it) (TellsUntil halt seen) (λ end. Unit {0}) (until_so halt it))
     (λ untold. (ap g.F.Shelf.seen untold.1, once-same before after untold.0.1))
     halt (g.K.Sink.seen c.args.out.now) (g.K.Sink.seen c.drive_recorded.new.out) stops
 
@@ -88,7 +89,7 @@ returns-in-Err-Unrecorded-clause-ok g c =
     let stops = rw c.in-Err-Unrecorded.field-0-is at c.in-Err-Unrecorded.ensures.err in
     IfOk-weaker c.say.result _ _ (λ status d.
     cut_whole c.args.program.now c.args.manner it (g.K.Sink.seen c.args.out.now) (g.K.Sink.seen c.drive_recorded.new.out) stops
-    fails (TellsAll (between old new before after)) (g.K.Sink.seen c.say.new.out) status d.0 d.1) c.say.ensures.ok
+    fails (TellsAll (between old new before after)) (IsCaused before after) (g.K.Sink.seen c.say.new.out) status d.0 d.1) c.say.ensures.ok
 
 pub returns-in-Err-Unrecorded-clause-err : goal.returns-in-Err-Unrecorded-clause-err
 returns-in-Err-Unrecorded-clause-err g c =
@@ -103,7 +104,7 @@ returns-in-Err-Unrecorded-clause-err g c =
     let stops = rw c.in-Err-Unrecorded.field-0-is at c.in-Err-Unrecorded.ensures.err in
     IfErr-weaker c.say.result _ _ (λ halt d.
     cut_early c.args.program.now c.args.manner it (g.K.Sink.seen c.args.out.now) (g.K.Sink.seen c.drive_recorded.new.out) stops
-    fails (TellsUntil halt (between old new before after)) ((new ≡ old) × AsksOnce before after) (g.K.Sink.seen c.say.new.out) halt d)
+    fails (TellsUntil halt (between old new before after)) (λ end. Unit {0}) ((new ≡ old) × AsksOnce before after) (g.K.Sink.seen c.say.new.out) halt d)
     c.say.ensures.err
 
 pub returns-in-Err-Unrecorded-clause-files : goal.returns-in-Err-Unrecorded-clause-files

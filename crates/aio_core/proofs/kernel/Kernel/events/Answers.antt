@@ -17,6 +17,9 @@ returns-clause-left g c = ap (λ (l : EventList). l.events) c.take.ensures.left
 pub returns-clause-ended : goal.returns-clause-ended
 returns-clause-ended g c = refl
 
+pub returns-clause-tasks : goal.returns-clause-tasks
+returns-clause-tasks g c = refl
+
 pub returns-clause-stands : goal.returns-clause-stands
 returns-clause-stands g c =
     let body = c.args.self.now.body in

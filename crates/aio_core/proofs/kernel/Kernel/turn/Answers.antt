@@ -18,8 +18,8 @@ returns-in-Some-clause-sound g c = λ past answers s h. turn_sound g.X.Extra.add
 pub returns-in-Some-clause-keeps : goal.returns-in-Some-clause-keeps
 returns-in-Some-clause-keeps g c = g.met.W.Wire.keeps_same c.args.wire.now
 
-pub returns-in-Some-clause-later : goal.returns-in-Some-clause-later
-returns-in-Some-clause-later g c = omega arith
+pub returns-in-Some-clause-stays : goal.returns-in-Some-clause-stays
+returns-in-Some-clause-stays g c = (refl, omega arith)
 
 pub returns-in-Some-clause-kept : goal.returns-in-Some-clause-kept
 returns-in-Some-clause-kept g c = kept_end c.end.result c.end.new.kept c.end.ensures.kept
@@ -57,12 +57,12 @@ returns-in-Ok g c =
         c.in-Ok.went,
         turned_up _ c.args.self.now _ c.keep.result c.in-Ok.went
             (kept_goes c.in-Ok.went c.keep.result c.take.new.self c.keep.new.kept c.take.ensures.after c.keep.ensures)
-            c.in-Ok.ensures.comes c.in-Ok.ensures.stalls c.in-Ok.ensures.asked c.in-Ok.ensures.starved c.in-Ok.ensures.quiet c.in-Ok.ensures.fails
+            c.in-Ok.ensures.comes c.in-Ok.ensures.stalls c.in-Ok.ensures.asked c.in-Ok.ensures.caused c.in-Ok.ensures.starved c.in-Ok.ensures.quiet c.in-Ok.ensures.fails
             (kept_again c.in-Ok.went c.keep.result c.take.new.self c.keep.new.kept c.take.ensures.after c.keep.ensures),
       );
       sound = λ past answers s h. turn_sound g.X.Extra.added past answers c.args.self.now s h;
       keeps = c.in-Ok.ensures.keeps;
-      later = c.in-Ok.ensures.later;
+      stays = c.in-Ok.ensures.stays;
       kept = kept_now c.in-Ok.went c.keep.result c.take.new.self c.keep.new.kept c.take.ensures.after c.keep.ensures;
       again = if_none c.args.self.now.ended (λ it. Again it c.keep.result) none;
       still = if_none c.args.self.now.ended (λ it. c.turn.new.wire ≡ c.args.wire.now) none;
@@ -77,12 +77,12 @@ returns-in-Err g c =
         said,
         turned_up _ c.args.self.now _ c.keep-in-Err.result said
             (kept_goes said c.keep-in-Err.result c.take.new.self c.keep-in-Err.new.kept c.take.ensures.after c.keep-in-Err.ensures)
-            c.in-Err.ensures.comes c.in-Err.ensures.stalls c.in-Err.ensures.asked c.in-Err.ensures.starved c.in-Err.ensures.quiet c.in-Err.ensures.fails
+            c.in-Err.ensures.comes c.in-Err.ensures.stalls c.in-Err.ensures.asked c.in-Err.ensures.caused c.in-Err.ensures.starved c.in-Err.ensures.quiet c.in-Err.ensures.fails
             (kept_again said c.keep-in-Err.result c.take.new.self c.keep-in-Err.new.kept c.take.ensures.after c.keep-in-Err.ensures),
       );
       sound = λ past answers s h. turn_sound g.X.Extra.added past answers c.args.self.now s h;
       keeps = c.in-Err.ensures.keeps;
-      later = c.in-Err.ensures.later;
+      stays = c.in-Err.ensures.stays;
       kept = kept_now said c.keep-in-Err.result c.take.new.self c.keep-in-Err.new.kept c.take.ensures.after c.keep-in-Err.ensures;
       again = if_none c.args.self.now.ended (λ it. Again it c.keep-in-Err.result) none;
       still = if_none c.args.self.now.ended (λ it. c.turn.new.wire ≡ c.args.wire.now) none;

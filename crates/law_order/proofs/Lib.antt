@@ -1,0 +1,5 @@
+pub mod Beginning
+pub mod Losing
+pub mod Moving
+pub mod Replying
+pub mod Turning

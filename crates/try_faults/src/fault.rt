@@ -1,0 +1,48 @@
+//! Which call of the outside fails.
+use aio_base::Memory;
+use std::alloc::Global;
+
+/// A part of the outside.
+#[derive(Clone, Copy, PartialEq, Eq)]
+pub enum Part {
+    Wire,
+    Shelf,
+    Sink,
+}
+
+impl Part {
+    /// Its name.
+    pub fn word(self) -> &'static str {
+        match self {
+            Part::Wire => "wire",
+            Part::Shelf => "shelf",
+            Part::Sink => "sink",
+        }
+    }
+}
+
+/// The call that fails: one of a part, counted from 1. No call has the number 0.
+#[derive(Clone, Copy)]
+pub struct Fault {
+    pub part: Part,
+    pub number: u64,
+}
+
+impl Fault {
+    /// No call fails.
+    pub fn none() -> Fault {
+        Fault {
+            part: Part::Wire,
+            number: 0,
+        }
+    }
+
+    /// Which calls of this part fail.
+    pub fn calls_of(self, alloc: Global, part: Part) -> Result<Vec<u64>, Memory> {
+        let mut calls = Vec::new(alloc);
+        if self.part == part {
+            calls.push(self.number)?;
+        }
+        Ok(calls)
+    }
+}
