@@ -6,8 +6,8 @@ ghost use Rattle.model_stream.specs.Children as plain;
 ghost use Rattle.model_stream.specs.Receivers as receivers;
 ghost use Rattle.model_stream.specs.Senders as senders;
 ghost use Rattle.model_stream.specs.Watching.{watched_child};
-ghost use Rattle.law_stream.specs.ChildEnds.{is_over};
 ghost use Rattle.law_doing.specs.Ways.{changed_on};
+ghost use Rattle.law_over.specs.Gone.{is_over_child};
 ghost use Rattle.aio_change.specs.Owned.{AreOwn, settled_way};
 ghost use Rattle.aio_change.specs.Seen.{seen_changed};
 
@@ -123,11 +123,12 @@ impl Child {
         }
     }
 
-    /// Whether it is over: its standard input is lost, both pipes ended, and its exit is known.
+    /// Whether it is over: the loss of its standard input is done, with nothing left to feed, both
+    /// pipes ended, and its exit is known. Then a select waits for nothing of it, now and later.
     pub fn is_over(&self) -> bool
-        ensures { result ≡ is_over self.now }
+        ensures { result ≡ is_over_child self.now }
     {
-        self.stdin.is_lost() && self.out.eof() && self.errs.eof() && self.code.is_some()
+        self.stdin.is_spent() && self.out.eof() && self.errs.eof() && self.code.is_some()
     }
 
     /// What a select waits for of it, if anything.

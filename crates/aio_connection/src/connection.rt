@@ -7,6 +7,7 @@ ghost use Rattle.model_stream.specs.Receivers as receivers;
 ghost use Rattle.model_stream.specs.Senders as senders;
 ghost use Rattle.model_stream.specs.Sending as sending;
 ghost use Rattle.law_doing.specs.Tells.{Tells};
+ghost use Rattle.law_over.specs.Gone.{is_over};
 ghost use Rattle.aio_change.specs.Seen.{seen_changed};
 ghost use Rattle.aio_connection.specs.Owned.{OwnsConnection};
 
@@ -121,6 +122,14 @@ impl Connection {
         ensures { result ≡ senders.is_lost self.now.sender }
     {
         self.sender.is_lost()
+    }
+
+    /// Whether it is over: it isn't being made any more, its loss is done, and nothing is left to
+    /// send. Then a select waits for nothing of it, now and later.
+    pub fn is_over(&self) -> bool
+        ensures { result ≡ is_over self.now }
+    {
+        self.making.is_none() && self.sender.is_spent()
     }
 
     /// Whether something is unsent.

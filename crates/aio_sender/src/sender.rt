@@ -7,6 +7,7 @@ ghost use Rattle.model_stream.specs.Senders as plain;
 ghost use Rattle.model_stream.specs.Sending as sending;
 ghost use Rattle.law_doing.specs.Tells.{Tells};
 ghost use Rattle.law_doing.specs.Ways.{changed_on};
+ghost use Rattle.law_over.specs.Gone.{is_spent};
 ghost use Rattle.law_sender.specs.SoundSenders.{outlet_of};
 ghost use Rattle.aio_change.specs.Owned.{AreOwn, IsOwn, settled_way};
 ghost use Rattle.aio_change.specs.Seen.{seen_changed};
@@ -126,6 +127,13 @@ impl Sender {
         ensures { result ≡ self.now.writer.ended }
     {
         self.flow.ended()
+    }
+
+    /// Whether its loss is done, and nothing is left to send: then nothing is sent any more.
+    pub fn is_spent(&self) -> bool
+        ensures { result ≡ is_spent self.now }
+    {
+        self.is_lost() && self.ended() && !self.has_unsent()
     }
 
     /// Whether the end was written.

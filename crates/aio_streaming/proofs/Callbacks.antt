@@ -32,12 +32,13 @@ use Rattle.aio_body.specs.Stands.{Possible, Setting}
 use Rattle.aio_body.specs.Taken.{IsTaken}
 use Rattle.law_body.proofs.May.{same_prop}
 use Rattle.law_body.proofs.Telling.{own_stays}
+use Rattle.law_does.specs.Streams.{HasStreams}
 use Rattle.law_does.specs.Went.{MayCall}
 use Rattle.law_does.proofs.Answering.{callback_so, gone_ends}
 use Rattle.law_does.proofs.Forgetting.{act_forgets}
 use Rattle.law_does.proofs.May.{may_taken}
 use Rattle.law_does.proofs.Nexts.{went_leaves}
-use Rattle.law_does.proofs.Possible.{most_same, transports_owned}
+use Rattle.law_does.proofs.Possible.{has_streams, transports_owned}
 use Rattle.law_does.proofs.Requests.{change_fails, change_goes}
 use Rattle.aio_streaming.specs.Acting.{acting, is_of_streams, returned_in}
 
@@ -81,8 +82,8 @@ module _ {X : Type 0} {a : Added X} (it : Action) (old : Body X) where
 
   -- ---- what the call requires before it
   module _ (possible : Possible a (IsTaken it) old) where
-    pub taken_same : old.transports.streams.most ≡ old.transports.children.most
-    taken_same = most_same None (IsTaken it) old may possible
+    pub taken_streams : HasStreams old.transports
+    taken_streams = has_streams None (IsTaken it) old may possible
 
     pub taken_owned : OwnsTransports old.parts old.transports
     taken_owned = transports_owned None (IsTaken it) old may possible
@@ -127,11 +128,11 @@ module _ {X : Type 0} {a : Added X} (it : Action) (old : Body X) where
         → new ≡ record old { parts = new.parts; events = new.events; transports = new.transports }
         → Comes o piece (ported wire old.events) (ported after new.events) result
     acts_so (Err why) call beside =
-        change_fails o piece None old new wire after may (taken_same possible) tree Goes means (Unit {0})
+        change_fails o piece None old new wire after may (taken_streams possible) tree Goes means (Unit {0})
         (went_leaves piece.from piece.does piece.says) (λ t. goes_on_same t.events)
         (act_forgets (length old.parts.futures) returned it) why call
     acts_so (Ok said) call beside =
-        let come = change_goes o piece None old new wire after may (taken_same possible) tree Goes means said call
+        let come = change_goes o piece None old new wire after may (taken_streams possible) tree Goes means said call
         (λ s kept. acts (is_plain s.loop.parts) (next_future s.loop.parts) returned it s.streams kept) beside in
         gone_ends o laws piece None old new wire after (λ first now. Unit {0}) Goes come new said refl
         (λ c s began g.

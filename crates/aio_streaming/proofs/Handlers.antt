@@ -47,7 +47,7 @@ use Rattle.law_does.proofs.Answering.{callback_so}
 use Rattle.law_does.proofs.May.{may_taken}
 use Rattle.law_does.proofs.Requests.{change_tells}
 use Rattle.aio_streaming.specs.Acting.{GoesOn, acting}
-use Rattle.aio_streaming.proofs.Callbacks.{taken_same}
+use Rattle.aio_streaming.proofs.Callbacks.{taken_streams}
 
 -- a callback that is registered comes after the bar
 below_registered : (id : ℕ) (it : Action) (futures : List Future) (q : queue.Queue)
@@ -124,7 +124,7 @@ module _ {X : Type 0} (a : Added X) (conn : ℕ) (old : Body X) where
       pub closes_so : Told (close (to.Conn conn)) old.transports new.transports old.parts new.parts
           → (c : Setting a) (s : State a.Kept) → IsTaken made c old s → GoesOn c new (does_ s)
       closes_so told c s h =
-          let g = change_tells piece None old new may (taken_same made old possible) events
+          let g = change_tells piece None old new may (taken_streams made old possible) events
           (beside ∙ ap (λ es. record old { parts = new.parts; events = es; transports = new.transports }) (sym events))
           tree Goes means told
           (λ s kept. closes (is_plain s.loop.parts) (next_future s.loop.parts) (to.Conn conn) s.streams kept) c s h in

@@ -41,9 +41,10 @@ use Rattle.aio_body.specs.Asked.{IsAskingFor, IsInStep, Says, Serves}
 use Rattle.aio_body.specs.Slots.{standing_at}
 use Rattle.aio_body.specs.Stands.{Possible, Setting}
 use Rattle.law_body.proofs.May.{same_prop}
+use Rattle.law_does.specs.Streams.{HasStreams}
 use Rattle.law_does.specs.Went.{MayCall, Suspends}
 use Rattle.law_does.proofs.Meaning.{read_all_means, read_means}
-use Rattle.law_does.proofs.Possible.{most_same, transports_owned}
+use Rattle.law_does.proofs.Possible.{has_streams, transports_owned}
 use Rattle.law_does.proofs.Telling.{tells_answers, tells_pending, tells_raises, tells_running, tells_stands}
 use Rattle.aio_streaming.specs.Counts.{natural_in}
 use Rattle.aio_streaming.specs.Going.{RepliesOn, RunsOn}
@@ -103,8 +104,8 @@ module _ {X : Type 0} {a : Added X} (task : ℕ) where
     may : (c : Setting a) (s : State a.Kept) → RunsOn task c old s → MayCall (Some task) c old s
     may c s h = may_on c old s h
 
-    on_same : old.transports.streams.most ≡ old.transports.children.most
-    on_same = most_same (Some task) (RunsOn task) old may possible
+    on_streams : HasStreams old.transports
+    on_streams = has_streams (Some task) (RunsOn task) old may possible
 
     pub on_owned : OwnsTransports old.parts old.transports
     on_owned = transports_owned (Some task) (RunsOn task) old may possible
@@ -132,7 +133,7 @@ module _ {X : Type 0} {a : Added X} (task : ℕ) where
         pub read_answers : (bytes : List ℕ) → it ≡ got.Bytes bytes
             → RepliesOn a task machine old looked (Ok (said.Answers (Bytes bytes)))
         read_answers bytes is =
-            tells_answers task old looked (λ c s. RunsOn task c old s) machine may in_step on_same refl refl
+            tells_answers task old looked (λ c s. RunsOn task c old s) machine may in_step on_streams refl refl
             (λ n. read n op (reader_as from))
             (reads_as task op (reader_as from)) (λ c s h. refl) ReadWaits it told
             (λ s kept. reads_keep (is_plain s.loop.parts) (next_future s.loop.parts) op (reader_as from) s.streams kept)
@@ -141,7 +142,7 @@ module _ {X : Type 0} {a : Added X} (task : ℕ) where
 
         pub read_raises : (fault : Exc) → it ≡ got.Raises fault → RepliesOn a task machine old looked (Ok (said.Raises fault))
         read_raises fault is =
-            tells_raises task old looked (λ c s. RunsOn task c old s) machine may in_step on_same refl refl
+            tells_raises task old looked (λ c s. RunsOn task c old s) machine may in_step on_streams refl refl
             (λ n. read n op (reader_as from))
             (reads_as task op (reader_as from)) (λ c s h. refl) ReadWaits it told
             (λ s kept. reads_keep (is_plain s.loop.parts) (next_future s.loop.parts) op (reader_as from) s.streams kept) fault
@@ -150,7 +151,7 @@ module _ {X : Type 0} {a : Added X} (task : ℕ) where
         module _ (on : ℕ) (is : it ≡ got.Waits on) where
           pub read_running : v.running ≡ Some task
           read_running =
-              tells_running task old looked (λ c s. RunsOn task c old s) machine may in_step on_same refl refl
+              tells_running task old looked (λ c s. RunsOn task c old s) machine may in_step on_streams refl refl
               (λ n. read n op (reader_as from))
               (reads_as task op (reader_as from)) (λ c s h. refl) ReadWaits it told
               (λ s kept. reads_keep (is_plain s.loop.parts) (next_future s.loop.parts) op (reader_as from) s.streams kept)
@@ -158,7 +159,7 @@ module _ {X : Type 0} {a : Added X} (task : ℕ) where
 
           pub read_pending : is_pending_at (slice_get v.futures on) ≡ true
           read_pending =
-              tells_pending task old looked (λ c s. RunsOn task c old s) machine may in_step on_same refl refl
+              tells_pending task old looked (λ c s. RunsOn task c old s) machine may in_step on_streams refl refl
               (λ n. read n op (reader_as from))
               (reads_as task op (reader_as from)) (λ c s h. refl) ReadWaits it told
               (λ s kept. reads_keep (is_plain s.loop.parts) (next_future s.loop.parts) op (reader_as from) s.streams kept)
@@ -169,7 +170,7 @@ module _ {X : Type 0} {a : Added X} (task : ℕ) where
               → last.slots.items ≡ standing_at task (code.Reading from op on) old.slots.items → Suspends task on v w
               → RepliesOn a task machine old last (Ok said.Rests)
           read_rests last w whole items suspends =
-              tells_stands task old looked (λ c s. RunsOn task c old s) machine may in_step on_same refl refl
+              tells_stands task old looked (λ c s. RunsOn task c old s) machine may in_step on_streams refl refl
               (λ n. read n op (reader_as from))
               (reads_as task op (reader_as from)) (λ c s h. refl) ReadWaits it told
               (λ s kept. reads_keep (is_plain s.loop.parts) (next_future s.loop.parts) op (reader_as from) s.streams kept) last on
@@ -191,7 +192,7 @@ module _ {X : Type 0} {a : Added X} (task : ℕ) where
         pub all_answers : (bytes : List ℕ) → it.got ≡ got.Bytes bytes
             → RepliesOn a task joins old looked (Ok (said.Answers (Bytes (taken ++ it.taken))))
         all_answers bytes is =
-            tells_answers task old looked (λ c s. RunsOn task c old s) joins may in_step on_same refl refl
+            tells_answers task old looked (λ c s. RunsOn task c old s) joins may in_step on_streams refl refl
             (λ n. read_all n (reader_as from)) next
             (λ c s h. refl) AllWaits it told
             (λ s kept. reads_all_keep (is_plain s.loop.parts) (next_future s.loop.parts) (reader_as from) s.streams kept)
@@ -200,7 +201,7 @@ module _ {X : Type 0} {a : Added X} (task : ℕ) where
 
         pub all_raises : (fault : Exc) → it.got ≡ got.Raises fault → RepliesOn a task joins old looked (Ok (said.Raises fault))
         all_raises fault is =
-            tells_raises task old looked (λ c s. RunsOn task c old s) joins may in_step on_same refl refl
+            tells_raises task old looked (λ c s. RunsOn task c old s) joins may in_step on_streams refl refl
             (λ n. read_all n (reader_as from)) next
             (λ c s h. refl) AllWaits it told
             (λ s kept. reads_all_keep (is_plain s.loop.parts) (next_future s.loop.parts) (reader_as from) s.streams kept) fault
@@ -209,7 +210,7 @@ module _ {X : Type 0} {a : Added X} (task : ℕ) where
         module _ (on : ℕ) (is : it.got ≡ got.Waits on) where
           pub all_running : v.running ≡ Some task
           all_running =
-              tells_running task old looked (λ c s. RunsOn task c old s) joins may in_step on_same refl refl
+              tells_running task old looked (λ c s. RunsOn task c old s) joins may in_step on_streams refl refl
               (λ n. read_all n (reader_as from)) next
               (λ c s h. refl) AllWaits it told
               (λ s kept. reads_all_keep (is_plain s.loop.parts) (next_future s.loop.parts) (reader_as from) s.streams kept)
@@ -217,7 +218,7 @@ module _ {X : Type 0} {a : Added X} (task : ℕ) where
 
           pub all_pending : is_pending_at (slice_get v.futures on) ≡ true
           all_pending =
-              tells_pending task old looked (λ c s. RunsOn task c old s) joins may in_step on_same refl refl
+              tells_pending task old looked (λ c s. RunsOn task c old s) joins may in_step on_streams refl refl
               (λ n. read_all n (reader_as from)) next
               (λ c s h. refl) AllWaits it told
               (λ s kept. reads_all_keep (is_plain s.loop.parts) (next_future s.loop.parts) (reader_as from) s.streams kept)
@@ -229,7 +230,7 @@ module _ {X : Type 0} {a : Added X} (task : ℕ) where
               → Suspends task on v w
               → RepliesOn a task joins old last (Ok said.Rests)
           all_rests last w whole items suspends =
-              tells_stands task old looked (λ c s. RunsOn task c old s) joins may in_step on_same refl refl
+              tells_stands task old looked (λ c s. RunsOn task c old s) joins may in_step on_streams refl refl
               (λ n. read_all n (reader_as from)) next
               (λ c s h. refl) AllWaits it told
               (λ s kept. reads_all_keep (is_plain s.loop.parts) (next_future s.loop.parts) (reader_as from) s.streams kept) last

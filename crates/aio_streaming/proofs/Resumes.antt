@@ -30,12 +30,13 @@ use Rattle.aio_body.specs.Asking.{Comes}
 use Rattle.aio_body.specs.Stands.{Possible, Setting}
 use Rattle.aio_body.proofs.Asking.{come_none, comes_ends}
 use Rattle.law_body.proofs.May.{same_prop}
+use Rattle.law_does.specs.Streams.{HasStreams}
 use Rattle.law_does.specs.Went.{MayCall}
 use Rattle.law_does.proofs.Forgetting.{drop_connect_forgets}
 use Rattle.law_does.proofs.GivingUp.{gives_up_in_step, gives_up_so}
 use Rattle.law_does.proofs.May.{may_deciding}
 use Rattle.law_does.proofs.Nexts.{raises_add}
-use Rattle.law_does.proofs.Possible.{most_same, transports_owned}
+use Rattle.law_does.proofs.Possible.{has_streams, transports_owned}
 use Rattle.law_does.proofs.Replying.{changed_fails, changed_goes, raises_go}
 use Rattle.aio_streaming.specs.Done.{raised_as}
 use Rattle.aio_streaming.specs.Going.{RepliesOn, RunsOn}
@@ -122,8 +123,8 @@ module _ {X : Type 0} (a : Added X) (task : ℕ) (stood : state.Standing) (old :
 
   -- ---- what a call requires before it
   module _ (possible : Possible a (IsDeciding task stood) old) where
-    deciding_same : old.transports.streams.most ≡ old.transports.children.most
-    deciding_same = most_same (Some task) (IsDeciding task stood) old may possible
+    deciding_streams : HasStreams old.transports
+    deciding_streams = has_streams (Some task) (IsDeciding task stood) old may possible
 
     pub deciding_owned : OwnsTransports old.parts old.transports
     deciding_owned = transports_owned (Some task) (IsDeciding task stood) old may possible
@@ -157,12 +158,12 @@ module _ {X : Type 0} (a : Added X) (task : ℕ) (stood : state.Standing) (old :
           (λ first now. Unit {0}) (plain.Raises fault)
           (changed_goes o laws task old new new wire after (λ c s. IsDeciding task stood c old s)
           (decides a.meaning stood task (Throw fault)) may in_step
-          (λ n. drop_connect conn) (plain.Raises fault) (λ c s h. means s) (deciding_same possible) it call
+          (λ n. drop_connect conn) (plain.Raises fault) (λ c s h. means s) (deciding_streams possible) it call
           (λ s kept. drops (is_plain s.loop.parts) (next_future s.loop.parts) conn s.streams kept) beside)
           refl fault (λ t. refl)
       connect_raises {R} (Err why) call =
           changed_fails o laws task old new new wire after (λ c s. IsDeciding task stood c old s)
           (decides a.meaning stood task (Throw fault)) may in_step
-          (λ n. drop_connect conn) (plain.Raises fault) (λ c s h. means s) (deciding_same possible) R (raises_add fault)
+          (λ n. drop_connect conn) (plain.Raises fault) (λ c s h. means s) (deciding_streams possible) R (raises_add fault)
           (drop_connect_forgets conn) why
           call

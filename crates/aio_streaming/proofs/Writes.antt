@@ -48,9 +48,10 @@ use Rattle.law_body.proofs.Alone.{serves_without}
 use Rattle.law_body.proofs.May.{same_prop}
 use Rattle.law_body.proofs.Rooms.{pauses_so}
 use Rattle.law_does.specs.Alike.{ForgetsWritten}
+use Rattle.law_does.specs.Streams.{HasStreams}
 use Rattle.law_does.specs.Went.{MayCall, Suspends}
 use Rattle.law_does.proofs.Answering.{goes_in_step, stands_so}
-use Rattle.law_does.proofs.Possible.{most_same, transports_owned}
+use Rattle.law_does.proofs.Possible.{has_streams, transports_owned}
 use Rattle.law_does.proofs.Requests.{told_changes}
 use Rattle.law_does.proofs.Served.{asking_answers, asking_raises}
 use Rattle.law_does.proofs.Telling.{tells_answers, tells_gone, tells_pending, tells_raises, tells_rests, tells_running}
@@ -125,8 +126,8 @@ module _ {X : Type 0} {a : Added X} (task : ℕ) (old : Body X) where
   in_step c s h = h.in_step
 
   module _ (possible : Possible a (RunsOn task) old) where
-    pub going_same : old.transports.streams.most ≡ old.transports.children.most
-    going_same = most_same (Some task) (RunsOn task) old may possible
+    pub going_streams : HasStreams old.transports
+    going_streams = has_streams (Some task) (RunsOn task) old may possible
 
     pub going_owned : OwnsTransports old.parts old.transports
     going_owned = transports_owned (Some task) (RunsOn task) old may possible
@@ -163,19 +164,19 @@ module _ {X : Type 0} {a : Added X} (task : ℕ) (old : Body X) where
 
         pub drain_goes : it ≡ drain_as.Goes → RepliesOn a task makes old new (Ok (said.Answers Nothing))
         drain_goes is =
-            tells_answers task old new Begins makes may in_step going_same events beside tree
+            tells_answers task old new Begins makes may in_step going_streams events beside tree
             (drains_as task whom) means DrainWaits it told keeping Nothing
             (λ t. ap (λ w. drains_as task whom w t) is)
 
         pub drain_raises : (fault : Exc) → it ≡ drain_as.Raises fault → RepliesOn a task makes old new (Ok (said.Raises fault))
         drain_raises fault is =
-            tells_raises task old new Begins makes may in_step going_same events beside tree
+            tells_raises task old new Begins makes may in_step going_streams events beside tree
             (drains_as task whom) means DrainWaits it told keeping fault
             (λ t. ap (λ w. drains_as task whom w t) is)
 
         pub drain_running : new.parts.running ≡ Some task
         drain_running =
-            tells_running task old new Begins makes may in_step going_same events beside tree
+            tells_running task old new Begins makes may in_step going_streams events beside tree
             (drains_as task whom) means DrainWaits it told keeping possible
 
         module _ (on : ℕ) (is : it ≡ drain_as.Waits on) where
@@ -184,13 +185,13 @@ module _ {X : Type 0} {a : Added X} (task : ℕ) (old : Body X) where
 
           pub drain_pending : is_pending_at (slice_get new.parts.futures on) ≡ true
           drain_pending =
-              tells_pending task old new Begins makes may in_step going_same events beside tree
+              tells_pending task old new Begins makes may in_step going_streams events beside tree
               (drains_as task whom) means DrainWaits it told keeping possible on made
 
           pub drain_waits : (v : View) → Suspends task on new.parts v
               → RepliesOn a task makes old (record new { parts = v }) (Ok said.Rests)
           drain_waits v suspends =
-              tells_rests task old new Begins makes may in_step going_same events beside tree
+              tells_rests task old new Begins makes may in_step going_streams events beside tree
               (drains_as task whom) means DrainWaits it told keeping on v made
               suspends (λ t. ap (λ w. drains_as task whom w t) is)
 
@@ -202,7 +203,7 @@ module _ {X : Type 0} {a : Added X} (task : ℕ) (old : Body X) where
             → RepliesOn a task makes old last (Ok said.Rests)
         drain_yields is last v after paused whole items c s h =
             let g =
-            tells_gone task old new Begins makes may in_step going_same events beside tree
+            tells_gone task old new Begins makes may in_step going_streams events beside tree
             (drains_as task whom) means DrainWaits it told keeping c s h in
             let begun = goes_in_step task c old new s h.in_step (λ first now. DrainWaits (IsMade first now) it) (makes s)
             (drains_as task whom it) c g in

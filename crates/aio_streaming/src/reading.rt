@@ -152,7 +152,7 @@ pub fn reads_all<X: Extra>(
         Ok(AllGot { taken: more, got }) => match got {
             StreamGot::Bytes(rest) => {
                 forget_blob(rest);
-                match joined(alloc, taken, more) {
+                match joined(taken, more) {
                     Ok(all) => answers(alloc, all),
                     Err(Memory) => Err(Memory),
                 }
@@ -162,7 +162,7 @@ pub fn reads_all<X: Extra>(
                 forget_blob(more);
                 Ok(RequestReply::Raises(fault))
             }
-            StreamGot::Waits(on) => match joined(alloc, taken, more) {
+            StreamGot::Waits(on) => match joined(taken, more) {
                 Ok(taken) => {
                     let _suspension = body.parts.suspend(task, on);
                     body.stand(task, Standing::ReadingAll { from, taken, on });
@@ -220,12 +220,10 @@ fn blob_of(alloc: Global, bytes: &[u8]) -> Result<Blob, Memory>
     Ok(Blob::of(copy))
 }
 
-// These bytes, and those after them.
-fn joined(alloc: Global, front: Blob, back: Blob) -> Result<Blob, Memory>
+// These bytes, and those after them: the first are extended where they stand.
+fn joined(mut front: Blob, back: Blob) -> Result<Blob, Memory>
     ensures { IfOk result (λ both. both ≡ front ++ back) }
 {
-    let mut both = Vec::new(alloc);
-    both.extend_from_slice(front.items())?;
-    both.extend_from_slice(back.items())?;
-    Ok(Blob::of(both))
+    front.extend(back.items())?;
+    Ok(front)
 }

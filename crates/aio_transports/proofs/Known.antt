@@ -11,7 +11,7 @@ use Rattle.model_stream.specs.Streams.{Streams}
 use Rattle.aio_children.specs.Kept.{Kept as Children}
 use Rattle.aio_stream.specs.Kept as streams
 use Rattle.aio_stream.specs.Kept.{Kept as Conns}
-use Rattle.aio_transports.specs.Kept.{Kept, kept_both}
+use Rattle.aio_transports.specs.Kept.{Kept, Remaining, kept_all}
 use Rattle.aio_transports.specs.Standing.{StandsFor}
 
 closed_conn : (it : Option Connection) → option_map (λ (c : Connection). c.sender.closed_future) it
@@ -24,17 +24,20 @@ closed_child : (it : Option Child) → option_map (λ (p : Child). p.stdin.close
 closed_child None = refl
 closed_child (Some p) = refl
 
-module _ (c : Conns) (p : Children) (k : Kept) (is : kept_both c p ≡ k) (s : Streams) (stands : StandsFor k s) where
-  pub both_stand : StandsFor (kept_both c p) s
+module _ (c : Conns) (p : Children) (rest : Remaining) (k : Kept) (is : kept_all c p rest ≡ k) (s : Streams) (stands : StandsFor k s) where
+  pub both_stand : StandsFor (kept_all c p rest) s
   both_stand = subst (λ (k : Kept). StandsFor k s) (sym is) stands
 
-  pub closed_of_conn : (id : ℕ) → option_map (λ (c : Connection). c.sender.closed_future) (slice_get c.connections id) ≡ closed_future (to.Conn id) s
+  pub closed_of_conn : (id : ℕ)
+      → option_map (λ (c : Connection). c.sender.closed_future) (slice_get c.connections id) ≡ closed_future (to.Conn id) s
   closed_of_conn id =
       closed_conn (slice_get c.connections id)
-      ∙ ap (λ xs. option_map (λ (sender : Sender). sender.closed_future) (option_map (λ (c : Connection). c.sender) (slice_get xs id)))
+      ∙ ap (λ xs. option_map (λ (sender : Sender). sender.closed_future) (option_map (λ (c : Connection). c.sender)
+      (slice_get xs id)))
       (sym both_stand.streams.connections)
 
-  pub closed_of_child : (id : ℕ) → option_map (λ (p : Child). p.stdin.closed_future) (slice_get p.children id) ≡ closed_future (to.Child id) s
+  pub closed_of_child : (id : ℕ)
+      → option_map (λ (p : Child). p.stdin.closed_future) (slice_get p.children id) ≡ closed_future (to.Child id) s
   closed_of_child id =
       closed_child (slice_get p.children id)
       ∙ ap (λ xs. option_map (λ (sender : Sender). sender.closed_future) (option_map (λ (p : Child). p.stdin) (slice_get xs id)))
@@ -45,7 +48,8 @@ module _ (c : Conns) (p : Children) (k : Kept) (is : kept_both c p ≡ k) (s : S
 
   pub servers_few : streams.may_listen c ≡ plain.may_listen s
   servers_few =
-      sym (ap (λ n. nat_lt n s.most) (ap length both_stand.streams.servers) ∙ ap (λ most. nat_lt (length c.servers) most) both_stand.streams.most)
+      sym (ap (λ n. nat_lt n s.most) (ap length both_stand.streams.servers) ∙ ap (λ most. nat_lt
+      (length c.servers) most) both_stand.streams.most)
 
   pub connections_few : streams.may_connect c ≡ plain.may_connect s
   connections_few =

@@ -1,6 +1,9 @@
 pub mod Acts
+pub mod Filtering
 pub mod Known
+pub mod Lasting
 pub mod Launching
 pub mod Lifting
 pub mod Numbering
+pub mod Remaining
 pub mod Watches

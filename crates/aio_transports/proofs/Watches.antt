@@ -1,50 +1,51 @@
 -- What is watched, by what is kept.
-use Rattle.std.proofs.Common.{◌≡◌, ℕ, zero, suc, ◌+◌, ◌<◌, ◌≤◌, ◌==◌, true, false, not, List, [], ◌∷◌, ◌++◌, Option, Some, None, MatchOption}
-use Rattle.std.proofs.Common.{Result, Ok, Err, OnOk, append-nil, get_or, is_some, length, nat_lt, slice_get, take, arith, ◌∙◌, refl, sym, ap}
+use Rattle.std.proofs.Common.{◌≡◌, ℕ, zero, suc, ◌+◌, ◌<◌, ◌≤◌, ◌==◌, true, false, not, List, [], ◌∷◌, ◌++◌, Option, Some, None}
+use Rattle.std.proofs.Common.{MatchOption}
+use Rattle.std.proofs.Common.{Result, Ok, Err, OnOk, Bool, ◌||◌, append-nil, get_or, is_some, length, nat_lt, slice_get, take}
+use Rattle.std.proofs.Common.{arith, ◌∙◌, refl, sym, ap, subst}
 use Rattle.std.proofs.Math.Dec.{eqb-suc-zero}
 use Rattle.std.proofs.lemmas.List.{append_assoc, take_all, take_more}
 use Rattle.std.specs.List.{flat_map}
 use Rattle.model_wire.specs.declared.watch.Watch.{Watch}
-use Rattle.model_stream.specs.Streams.{Streams, Opened as PlainOpened}
+use Rattle.model_stream.specs.Streams.{Streams, Opened as PlainOpened, OpenedServer, OpenedConn, OpenedChild}
 use Rattle.model_stream.specs.Streams as plain
 use Rattle.model_stream.specs.Watching.{watch_list, watched, watched_child, watched_connection, watched_server}
 use Rattle.aio_stream.specs.declared.opened.Opened.{Opened}
-use Rattle.aio_stream.specs.declared.opened.Opened.TheVariants as opened
 use Rattle.aio_stream.specs.Kept.{all_opened, may_connect, opened_as}
 use Rattle.aio_stream.specs.Watched.{entries}
-use Rattle.aio_transports.specs.Kept.{Kept}
+use Rattle.aio_transports.specs.Kept.{Kept, since}
 use Rattle.aio_transports.specs.Standing.{StandsFor}
 use Rattle.aio_transports.specs.Watched.{watched_of}
+use Rattle.aio_transports.proofs.Remaining.{looked, looked_stands, looked_watched, remaining_watched, with_remaining}
 
 module _ (k : Kept) (s : Streams) (h : StandsFor k s) where
   room_same : may_connect k.streams ≡ plain.may_connect s
   room_same =
-      sym (ap (λ n. nat_lt n s.most) (ap length h.streams.connections) ∙ ap (λ most. nat_lt (length k.streams.connections) most) h.streams.most)
+      sym (ap (λ n. nat_lt n s.most) (ap length h.streams.connections) ∙ ap (λ most. nat_lt
+      (length k.streams.connections) most) h.streams.most)
 
-  watched_same : (one : Opened) → watched_of k (opened_as one) ≡ watched s (opened_as one)
-  watched_same (opened.Server id) =
+  watched_same : (one : PlainOpened) → watched_of k one ≡ watched s one
+  watched_same (OpenedServer id) =
       ap (λ room. watched_server room id (slice_get k.streams.servers id)) room_same
       ∙ ap (λ xs. watched_server (plain.may_connect s) id (slice_get xs id)) (sym h.streams.servers)
-  watched_same (opened.Conn id) = ap (λ xs. watched_connection id (slice_get xs id)) (sym h.streams.connections)
-  watched_same (opened.Child id) = ap (λ xs. watched_child id (slice_get xs id)) (sym h.children.children)
+  watched_same (OpenedConn id) = ap (λ xs. watched_connection id (slice_get xs id)) (sym h.streams.connections)
+  watched_same (OpenedChild id) = ap (λ xs. watched_child id (slice_get xs id)) (sym h.children.children)
 
-  watched_all : (those : List Opened) → flat_map (watched_of k) (all_opened those) ≡ flat_map (watched s) (all_opened those)
+  pub watched_all : (those : List PlainOpened) → flat_map (watched_of k) those ≡ flat_map (watched s) those
   watched_all [] = refl
   watched_all (one ∷ more) =
-      ap (λ xs. xs ++ flat_map (watched_of k) (all_opened more)) (watched_same one)
-      ∙ ap (λ xs. watched s (opened_as one) ++ xs) (watched_all more)
-
-  pub watches_all : (those : List Opened) → k.streams.opened ≡ all_opened those → flat_map (watched_of k) (all_opened those) ≡ watch_list s
-  watches_all those is = watched_all those ∙ ap (flat_map (watched s)) (sym (h.streams.opened ∙ is))
+      ap (λ xs. xs ++ flat_map (watched_of k) more) (watched_same one) ∙ ap (λ xs. watched s one ++ xs) (watched_all more)
 
 -- the entry of a child
-pub one_entry : (entry : Option Watch) (these : List Watch) → MatchOption entry (these ≡ []) (λ it. these ≡ it ∷ []) → entries entry ≡ these
+pub one_entry : (entry : Option Watch) (these : List Watch) → MatchOption entry (these ≡ []) (λ it. these ≡ it ∷ [])
+    → entries entry ≡ these
 one_entry None these is = sym is
 one_entry (Some it) these is = sym is
 
 -- ---- one more
 module _ (f : PlainOpened → List Watch) where
-  watched_push : (xs : List Opened) (y : Opened) → flat_map f (all_opened (xs ++ y ∷ [])) ≡ flat_map f (all_opened xs) ++ f (opened_as y)
+  watched_push : (xs : List Opened) (y : Opened)
+      → flat_map f (all_opened (xs ++ y ∷ [])) ≡ flat_map f (all_opened xs) ++ f (opened_as y)
   watched_push [] y = append-nil (f (opened_as y))
   watched_push (x ∷ xs) y =
       ap (λ ys. f (opened_as x) ++ ys) (watched_push xs y)
@@ -82,12 +83,14 @@ module _ (f : PlainOpened → List Watch) where
 
   -- one that is watched was found
   pub some_watched : (xs : List Opened) (i : ℕ) (d : Opened) (these : List Watch) → i < length xs
-      → (length (f (opened_as (get_or xs i d))) == 0) ≡ false → flat_map f (all_opened xs) ≡ these → true ≡ not (length these == 0)
+      → (length (f (opened_as (get_or xs i d))) == 0) ≡ false → flat_map f (all_opened xs) ≡ these
+      → true ≡ not (length these == 0)
   some_watched xs i d these h is all =
       sym (ap (λ (ys : List Watch). not (length ys == 0)) (sym all) ∙ ap not (watched_some xs i d h is))
 
 -- what an entry says of what it is the entry of
-pub some_entry : (entry : Option Watch) (these : List Watch) → is_some entry ≡ true → entries entry ≡ these → (length these == 0) ≡ false
+pub some_entry : (entry : Option Watch) (these : List Watch) → is_some entry ≡ true → entries entry ≡ these
+    → (length these == 0) ≡ false
 some_entry None these some is = absurd (let bad : ⊥ = cc in bad)
 some_entry (Some it) these some is = ap (λ (ys : List Watch). length ys == 0) (sym is)
 
@@ -99,9 +102,42 @@ no_entry (Some it) these none is = absurd (let bad : ⊥ = cc in bad)
 pub none_watched : (these : List Watch) → these ≡ [] → false ≡ not (length these == 0)
 none_watched these is = sym (ap (λ (ys : List Watch). not (length ys == 0)) is)
 
--- a look at what is watched leaves what is kept as it is
-pub watched_on : {R E : Type 0} (k : Kept) (first after : List Watch) (result : Result R E)
-    → OnOk result ((s : Streams) → StandsFor k s → after ≡ first ++ watch_list s)
-    → OnOk result ((s : Streams) → StandsFor k s → StandsFor k s × (after ≡ first ++ watch_list s))
-watched_on k first after (Ok done) is = λ s h. (h, is s h)
-watched_on k first after (Err why) is = tt
+-- what is watched of what remains, once all was seen and what is gone left out, is the list
+pub watch_goes : {R E : Type 0} (k after : Kept) (first list : List Watch) (result : Result R E)
+    → after ≡ with_remaining (looked k) k
+    → OnOk result (list ≡ first ++ flat_map (watched_of after) after.remaining.those)
+    → OnOk result ((s : Streams) → StandsFor k s → StandsFor after s × (list ≡ first ++ watch_list s))
+watch_goes k after first list (Ok done) is watches =
+    λ s h. let stands : StandsFor after s = subst (λ (k : Kept). StandsFor k s) (sym is) (looked_stands k s h) in (
+      stands,
+      watches
+          ∙ ap (λ ws. first ++ ws)
+          (watched_all after s stands after.remaining.those
+          ∙ ap (λ (k : Kept). flat_map (watched s) k.remaining.those) is ∙ looked_watched k s h),
+    )
+watch_goes k after first list (Err why) is watches = tt
+
+-- ---- whether anything is watched
+some_either : (xs ys : List Watch) → not (length (xs ++ ys) == 0) ≡ (not (length xs == 0) || not (length ys == 0))
+some_either [] ys = refl
+some_either (x ∷ xs) ys =
+    ap not (eqb-suc-zero (length (xs ++ ys))) ∙ sym (ap (λ b. not b || not (length ys == 0)) (eqb-suc-zero (length xs)))
+
+module _ (k : Kept) (s : Streams) (h : StandsFor k s) where
+  abbrev pub remaining_list : List Watch
+  remaining_list = flat_map (watched_of k) k.remaining.those
+
+  abbrev pub since_list : List Watch
+  since_list = flat_map (watched_of k) (since k.streams.opened k.remaining)
+
+  both_lists : remaining_list ++ since_list ≡ watch_list s
+  both_lists =
+      ap (λ ws. ws ++ since_list) (watched_all k s h k.remaining.those)
+      ∙ ap (λ ws. flat_map (watched s) k.remaining.those ++ ws) (watched_all k s h (since k.streams.opened k.remaining))
+      ∙ remaining_watched k s h
+
+  pub either_watched : (a b : Bool) → a ≡ not (length remaining_list == 0) → b ≡ not (length since_list == 0)
+      → (a || b) ≡ not (length (watch_list s) == 0)
+  either_watched a b first then =
+      ap (λ a. a || b) first ∙ ap (λ b. not (length remaining_list == 0) || b) then
+      ∙ sym (some_either remaining_list since_list) ∙ ap (λ (ws : List Watch). not (length ws == 0)) both_lists

@@ -4,11 +4,13 @@ mod closing;
 mod known;
 mod opening;
 mod reading;
+mod remaining;
 mod watching;
 mod writing;
 
 use aio_children::Children;
 use aio_stream::Streams;
+use remaining::Remaining;
 use std::marker::Model;
 
 /// The listeners, the connections and the children of a run, each kind by number, and the order in
@@ -18,15 +20,17 @@ pub struct Transports {
     // listeners and connections, and the order of opening, children too
     streams: Streams,
     children: Children,
+    // what may still be watched
+    remaining: Remaining,
 }
 
 impl Model for Transports {
-    ghost use Rattle.aio_transports.specs.Kept.{Kept, kept_both};
+    ghost use Rattle.aio_transports.specs.Kept.{Kept, kept_all};
     ghost use Rattle.aio_transports.specs.Code.{coded_kept};
 
     ghost Value = { Kept };
 
     ghost coded = { coded_kept };
 
-    ghost view = { λ t. kept_both t.streams t.children };
+    ghost view = { λ t. kept_all t.streams t.children t.remaining };
 }

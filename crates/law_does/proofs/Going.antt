@@ -33,26 +33,10 @@ use Rattle.law_ways.proofs.Doing.{does_ends, way_ends}
 use Rattle.law_ways.proofs.Keeping.{way_beside}
 use Rattle.law_does.specs.Alike.{AddsEvents, AreAlike, ForgetsWritten, LeavesState}
 use Rattle.law_does.specs.Passed.{Begins, Call, Passed}
+use Rattle.law_does.specs.Streams.{HasStreams, streams_of}
 use Rattle.law_does.specs.Went.{HasGone, MayCall}
 use Rattle.law_does.proofs.Calling.{call_goes, call_stops}
 use Rattle.law_does.proofs.Standing.{stands_passed, stands_waiting}
-
--- the streams that stand for what is kept, where nothing was written
-abbrev pub streams_of : Transports → Streams
-streams_of k = record {
-  servers = k.streams.servers;
-  connections = k.streams.connections;
-  children = k.children.children;
-  opened = k.streams.opened;
-  written = [];
-  most = k.streams.most;
-}
-
-pub streams_stand : (k : Transports) → k.streams.most ≡ k.children.most → AreTransports k (streams_of k)
-streams_stand k same = record {
-  streams = record { servers = refl; connections = refl; opened = refl; most = refl };
-  children = record { children = refl; most = same };
-}
 
 -- Those that stand for the same differ by what was written alone.
 transports_alike : {A : Type 0} (k : Transports) (tree : Streams → Doing A) → ForgetsWritten tree → (s t : Streams) → AreTransports k s
@@ -74,7 +58,7 @@ module _ {X W A M R : Type 0} {a : Added X} (p : Piece a (State a.Kept) M R) (ca
     (ends : A → Streams) (Made : (first next : ℕ) → A → Type 0)
     (may : (c : Setting a) (s : State a.Kept) → p.from c s → MayCall out c old s)
     (means : (c : Setting a) (s : State a.Kept) → p.from c s → p.does s ≡ does p.ends (call.tree (next_future s.loop.parts) s.streams) call.next s)
-    (same : old.transports.streams.most ≡ old.transports.children.most) where
+    (has : HasStreams old.transports) where
   abbrev number : ℕ
   number = length old.parts.futures
 
@@ -102,7 +86,7 @@ module _ {X W A M R : Type 0} {a : Added X} (p : Piece a (State a.Kept) M R) (ca
       → ((s : Streams) → AreTransports old.transports s → Follows o seen_changed (call.tree number s) from_ to_ (Err why))
       → Comes o p (ported wire old.events) (ported after new.events) (Err why)
   call_fails o leaves adds forgets why went =
-      call_stops o p call (AreTransports old.transports) number from_ to_ (streams_of old.transports) (streams_stand old.transports same) begins leaves adds
+      call_stops o p call (AreTransports old.transports) number from_ to_ (streams_of old.transports) has begins leaves adds
       (transports_alike old.transports (call.tree number) forgets) why went
 
   -- it went well: `So` is of its result
@@ -169,7 +153,7 @@ module _ {X W A M R : Type 0} {a : Added X} (p : Piece a (State a.Kept) M R) (ca
         → (had : List Exchange) × HasCome o p.from had (ported wire old.events) (ported after new.events) (λ c s. HasGone out Known (p.does s) next c old new s)
     call_passes o went =
         let come =
-        call_goes o p call (AreTransports old.transports) number from_ to_ (streams_of old.transports) (streams_stand old.transports same) begins Held went in (
+        call_goes o p call (AreTransports old.transports) number from_ to_ (streams_of old.transports) has begins Held went in (
           come.0,
           record {
             exchanged = come.1.exchanged;

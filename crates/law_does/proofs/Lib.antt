@@ -14,6 +14,7 @@ pub mod Answering
 pub mod GivingUp
 pub mod May
 pub mod Meaning
+pub mod Kept
 pub mod Possible
 pub mod Replying
 pub mod Telling

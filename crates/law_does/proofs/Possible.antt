@@ -1,6 +1,6 @@
 -- What is known where there is a state that is stood for, before a call of streams and after it.
 use Rattle.std.proofs.Common.{◌≡◌, ℕ, Bool, true, List, Option, None, slice_get, sym, ◌∙◌}
-use Rattle.std.proofs.Math.Logic.{∥∥₁_elim}
+use Rattle.std.proofs.Math.Logic.{∥∥₁_elim, ∥∥₁_map}
 use Rattle.std.proofs.Props.{props}
 use Rattle.model_wire.specs.Journal.{Entry}
 use Rattle.model_loop.specs.Futures.{is_pending_at}
@@ -16,22 +16,19 @@ use Rattle.aio_body.proofs.Asking.{HasCome}
 use Rattle.law_body.specs.Answers.{with_rest}
 use Rattle.law_body.proofs.Answering.{alive_come}
 use Rattle.law_body.proofs.May.{same_prop}
+use Rattle.law_does.specs.Streams.{HasStreams}
 use Rattle.law_does.specs.Went.{HasGone, MayCall}
 use Rattle.law_does.proofs.Owning.{owns_prop, transports_own}
-
-same_number : (a b : ℕ) → IsProp (a ≡ b)
-same_number a b = hlevel props
+use Rattle.law_does.proofs.Kept.{streams_stand}
 
 pub same_truth : (a b : Bool) → IsProp (a ≡ b)
 same_truth a b = hlevel props
 
 module _ {X : Type 0} {a : Added X} (out : Option ℕ) (from : Setting a → Body X → State a.Kept → Type 0) (old : Body X)
     (may : (c : Setting a) (s : State a.Kept) → from c old s → MayCall out c old s) (possible : Possible a from old) where
-  -- as many listeners and connections can be numbered as children
-  pub most_same : old.transports.streams.most ≡ old.transports.children.most
-  most_same =
-      ∥∥₁_elim possible (same_number old.transports.streams.most old.transports.children.most)
-      (λ w. let h = (may w.0 w.1.0 w.1.1).stands.transports in sym h.streams.most ∙ h.children.most)
+  -- there are streams that stand for what is kept
+  pub has_streams : HasStreams old.transports
+  has_streams = streams_stand old.transports (∥∥₁_map possible (λ w. (w.1.0.streams, (may w.0 w.1.0 w.1.1).stands.transports)))
 
   -- no future of a listener, a connection or a child is a task's
   pub transports_owned : OwnsTransports old.parts old.transports

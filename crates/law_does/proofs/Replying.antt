@@ -32,6 +32,7 @@ use Rattle.aio_body.specs.Stands.{Setting, StandsAt}
 use Rattle.aio_body.specs.declared.standing.Standing.{Standing}
 use Rattle.aio_body.proofs.Asking.{HasCome}
 use Rattle.law_does.specs.Alike.{AddsEvents, ForgetsWritten}
+use Rattle.law_does.specs.Streams.{HasStreams}
 use Rattle.law_does.specs.Went.{HasGone, MayCall, Suspends}
 use Rattle.law_does.proofs.Answering.{answers_so, gone_ends, gone_starved, raises_so, rests_so, stands_so, waits_so}
 use Rattle.law_does.proofs.Nexts.{reply_leaves}
@@ -98,13 +99,13 @@ module _ {X W : Type 0} {a : Added X} (o : Outside W) (laws : IsOutside o) (task
   -- ---- by a call with an answer
   module _ {R : Type 0} (tree : ℕ → Streams → Doing (Streams × R)) (next : R → State a.Kept → plain.RequestReply a.Kept)
       (means : (c : Setting a) (s : State a.Kept) → from c s → makes s ≡ streams_do (tree (next_future s.loop.parts) s.streams) next s)
-      (same : old.transports.streams.most ≡ old.transports.children.most) where
+      (has : HasStreams old.transports) where
     pub asked_fails : ((it : R) → AddsEvents left_by (next it)) → ForgetsWritten (tree (length old.parts.futures)) → (why : Stop)
         → Answers {R = R} o (tree (length old.parts.futures)) old.transports new.transports (reach old.parts wire old.events)
         (reach new.parts after new.events) (Err why)
         → Comes o replying (ported wire old.events) (ported after new.events) (Err why)
     asked_fails adds forgets why call =
-        do_fails o replying (Some task) old new wire after may same tree next means (reply_leaves from makes (λ c it machine. Says task c last it machine))
+        do_fails o replying (Some task) old new wire after may has tree next means (reply_leaves from makes (λ c it machine. Says task c last it machine))
         adds forgets why call
 
     module _ (Waits : (ℕ → Type 0) → R → Type 0) (it : R) where
@@ -117,18 +118,18 @@ module _ {X W : Type 0} {a : Added X} (o : Outside W) (laws : IsOutside o) (task
           → (had : List Exchange) × HasCome o replying.from had (ported wire old.events) (ported after new.events)
           (λ c s. HasGone (Some task) (λ first now. Waits (IsMade first now) it) (replying.does s) (next it) c old new s)
       asked_goes call keeping beside =
-          do_goes o replying (Some task) old new wire after may same tree next means Waits it call keeping beside
+          do_goes o replying (Some task) old new wire after may has tree next means Waits it call keeping beside
 
   -- ---- by one with none
   module _ (tree : ℕ → Streams → Doing Streams) (next : State a.Kept → plain.RequestReply a.Kept)
       (means : (c : Setting a) (s : State a.Kept) → from c s → makes s ≡ streams_change (tree (next_future s.loop.parts) s.streams) next s)
-      (same : old.transports.streams.most ≡ old.transports.children.most) where
+      (has : HasStreams old.transports) where
     pub changed_fails : (R : Type 0) → AddsEvents left_by next → ForgetsWritten (tree (length old.parts.futures)) → (why : Stop)
         → Changes {R = R} o (tree (length old.parts.futures)) old.transports new.transports (reach old.parts wire old.events)
         (reach new.parts after new.events) (Err why)
         → Comes o replying (ported wire old.events) (ported after new.events) (Err why)
     changed_fails R adds forgets why call =
-        change_fails o replying (Some task) old new wire after may same tree next means R
+        change_fails o replying (Some task) old new wire after may has tree next means R
         (reply_leaves from makes (λ c it machine. Says task c last it machine)) adds forgets why call
 
     pub changed_goes : {R : Type 0} (it : R)
@@ -141,4 +142,4 @@ module _ {X W : Type 0} {a : Added X} (o : Outside W) (laws : IsOutside o) (task
         → (had : List Exchange) × HasCome o replying.from had (ported wire old.events) (ported after new.events)
         (λ c s. HasGone (Some task) (λ first now. Unit {0}) (replying.does s) next c old new s)
     changed_goes it call keeping beside =
-        change_goes o replying (Some task) old new wire after may same tree next means it call keeping beside
+        change_goes o replying (Some task) old new wire after may has tree next means it call keeping beside

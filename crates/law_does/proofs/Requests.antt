@@ -26,6 +26,7 @@ use Rattle.aio_body.specs.Stands.{Setting}
 use Rattle.aio_body.proofs.Asking.{HasCome}
 use Rattle.law_does.specs.Alike.{AddsEvents, ForgetsWritten, LeavesState}
 use Rattle.law_does.specs.Passed.{Call}
+use Rattle.law_does.specs.Streams.{HasStreams}
 use Rattle.law_does.specs.Went.{BegunWaits, HasGone, MayCall}
 use Rattle.law_does.proofs.Going.{call_fails, call_passes, call_tells}
 
@@ -52,7 +53,7 @@ module _ {W : Type 0} (o : Outside W) (laws : IsOutside o) (old new : Transports
 
 module _ {X W M Q : Type 0} {a : Added X} (o : Outside W) (p : Piece a (State a.Kept) M Q) (out : Option ℕ) (old new : Body X) (wire after : W)
     (may : (c : Setting a) (s : State a.Kept) → p.from c s → MayCall out c old s)
-    (same : old.transports.streams.most ≡ old.transports.children.most) where
+    (has : HasStreams old.transports) where
   -- ---- with an answer: `Also` is what is known of it and of the futures that were made
   module _ {R : Type 0} (tree : ℕ → Streams → Doing (Streams × R)) (next : R → State a.Kept → M)
       (means : (c : Setting a) (s : State a.Kept) → p.from c s
@@ -68,7 +69,7 @@ module _ {X W M Q : Type 0} {a : Added X} (o : Outside W) (p : Piece a (State a.
     pub do_fails : (leaves : LeavesState p) → ((it : R) → AddsEvents leaves.left (next it)) → ForgetsWritten (tree (length old.parts.futures))
         → (why : Stop) → Says (Err why) → Comes o p (ported wire old.events) (ported after new.events) (Err why)
     do_fails leaves adds forgets why says =
-        call_fails p call out old new wire after (λ done. done.0) (λ first next_ done. Unit {0}) may means same o leaves
+        call_fails p call out old new wire after (λ done. done.0) (λ first next_ done. Unit {0}) may means has o leaves
         (λ done t. adds done.1 (with_streams done.0 t)) forgets why (λ s stood. (says s stood).1.0)
 
     pub do_goes : (Waits : (ℕ → Type 0) → R → Type 0) (said : R) (says : Says (Ok said))
@@ -79,7 +80,7 @@ module _ {X W M Q : Type 0} {a : Added X} (o : Outside W) (p : Piece a (State a.
         → (had : List Exchange) × HasCome o p.from had (ported wire old.events) (ported after new.events)
         (λ c s. HasGone out (λ first now. Waits (IsMade first now) said) (p.does s) (next said) c old new s)
     do_goes Waits said says keeping beside =
-        call_passes p call out old new wire after (λ done. done.0) (λ first now done. Waits (IsMade first now) done.1) may means same
+        call_passes p call out old new wire after (λ done. done.0) (λ first now done. Waits (IsMade first now) done.1) may means has
         (λ done. done.1 ≡ said) keeping beside (next said) (λ first now. Waits (IsMade first now) said)
         (λ done t so. ap (λ r. next r (with_streams done.0 t)) so)
         (λ first now done so waits. subst (Waits (IsMade first now)) so waits)
@@ -100,7 +101,7 @@ module _ {X W M Q : Type 0} {a : Added X} (o : Outside W) (p : Piece a (State a.
     pub change_fails : (R : Type 0) (leaves : LeavesState p) → AddsEvents leaves.left next → ForgetsWritten (tree (length old.parts.futures))
         → (why : Stop) → Leaves {R = R} (Err why) → Comes o p (ported wire old.events) (ported after new.events) (Err why)
     change_fails R leaves adds forgets why says =
-        call_fails p changing out old new wire after (λ streams. streams) (λ first next_ streams. Unit {0}) may means same o leaves
+        call_fails p changing out old new wire after (λ streams. streams) (λ first next_ streams. Unit {0}) may means has o leaves
         (λ streams t. adds (with_streams streams t)) forgets why (λ s stood. (says s stood).1.0)
 
     pub change_goes : {R : Type 0} (said : R) (says : Leaves (Ok said))
@@ -111,7 +112,7 @@ module _ {X W M Q : Type 0} {a : Added X} (o : Outside W) (p : Piece a (State a.
         → (had : List Exchange) × HasCome o p.from had (ported wire old.events) (ported after new.events)
         (λ c s. HasGone out (λ first now. Unit {0}) (p.does s) next c old new s)
     change_goes said says keeping beside =
-        call_passes p changing out old new wire after (λ streams. streams) (λ first now streams. Unit {0}) may means same
+        call_passes p changing out old new wire after (λ streams. streams) (λ first now streams. Unit {0}) may means has
         (λ streams. Unit {0})
         (λ s kept.
         keeping_more (is_plain s.loop.parts) (KeepsStreams (is_plain s.loop.parts) (next_future s.loop.parts) s.streams)
@@ -123,7 +124,7 @@ module _ {X W M Q : Type 0} {a : Added X} (o : Outside W) (p : Piece a (State a.
 -- ---- a call that asks nothing, where the clause is of none that may
 module _ {X M Q : Type 0} {a : Added X} (p : Piece a (State a.Kept) M Q) (out : Option ℕ) (old new : Body X)
     (may : (c : Setting a) (s : State a.Kept) → p.from c s → MayCall out c old s)
-    (same : old.transports.streams.most ≡ old.transports.children.most) (events : new.events ≡ old.events)
+    (has : HasStreams old.transports) (events : new.events ≡ old.events)
     (beside : new ≡ record old { parts = new.parts; events = new.events; transports = new.transports }) where
   pub do_tells : {R : Type 0} (tree : ℕ → Streams → Doing (Streams × R)) (next : R → State a.Kept → M)
       → ((c : Setting a) (s : State a.Kept) → p.from c s
@@ -137,7 +138,7 @@ module _ {X M Q : Type 0} {a : Added X} (p : Piece a (State a.Kept) M Q) (out : 
       → HasGone out (λ first now. Waits (IsMade first now) said) (p.does s) (next said) c old new s
   do_tells {R} tree next means Waits said told keeping =
       call_tells {W = Unit {0}} p (record { tree = tree; next = λ done now. next done.1 (with_streams done.0 now) }) out old new tt tt (λ done. done.0)
-      (λ first now done. Waits (IsMade first now) done.1) may means same (λ done. done.1 ≡ said) keeping beside (next said)
+      (λ first now done. Waits (IsMade first now) done.1) may means has (λ done. done.1 ≡ said) keeping beside (next said)
       (λ first now. Waits (IsMade first now) said) (λ done t so. ap (λ r. next r (with_streams done.0 t)) so)
       (λ first now done so waits. subst (Waits (IsMade first now)) so waits)
       (λ s stood. let it = told s stood in ((it.0, said), (it.1.0, (it.1.1.0, refl)))) events
@@ -152,7 +153,7 @@ module _ {X M Q : Type 0} {a : Added X} (p : Piece a (State a.Kept) M Q) (out : 
       → (c : Setting a) (s : State a.Kept) → p.from c s → HasGone out (λ first now. Unit {0}) (p.does s) next c old new s
   change_tells tree next means told keeping =
       call_tells {W = Unit {0}} p (record { tree = tree; next = λ streams now. next (with_streams streams now) }) out old new tt tt (λ streams. streams)
-      (λ first now streams. Unit {0}) may means same (λ streams. Unit {0})
+      (λ first now streams. Unit {0}) may means has (λ streams. Unit {0})
       (λ s kept.
       keeping_more (is_plain s.loop.parts) (KeepsStreams (is_plain s.loop.parts) (next_future s.loop.parts) s.streams)
       (λ now streams. KeepsStreams (is_plain s.loop.parts) (next_future s.loop.parts) s.streams now streams × Unit {0})

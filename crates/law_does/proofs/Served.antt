@@ -35,9 +35,10 @@ use Rattle.aio_body.specs.declared.standing.Standing.{Standing}
 use Rattle.aio_body.proofs.Asking.{HasCome}
 use Rattle.law_body.proofs.May.{going_of, idle_of}
 use Rattle.law_does.specs.Alike.{AddsEvents, ForgetsWritten}
+use Rattle.law_does.specs.Streams.{HasStreams}
 use Rattle.law_does.specs.Went.{HasGone, MayCall, Suspends}
 use Rattle.law_does.proofs.May.{may_asking}
-use Rattle.law_does.proofs.Possible.{most_same, transports_owned}
+use Rattle.law_does.proofs.Possible.{has_streams, transports_owned}
 use Rattle.law_does.proofs.Telling.{tells_answers, tells_pending, tells_raises, tells_rests, tells_running}
 use Rattle.law_does.proofs.Replying.{answers_go, asked_fails, asked_goes, changed_fails, changed_goes, raises_go, rests_go, stands_go, starves_go}
 
@@ -50,8 +51,8 @@ module _ {X : Type 0} {a : Added X} (task : ℕ) (request : Request) (old : Body
 
   -- ---- what the call requires before it
   module _ (possible : Possible a (IsAskingFor task request) old) where
-    pub asking_same : old.transports.streams.most ≡ old.transports.children.most
-    asking_same = most_same (Some task) (IsAskingFor task request) old may possible
+    pub asking_streams : HasStreams old.transports
+    asking_streams = has_streams (Some task) (IsAskingFor task request) old may possible
 
     pub asking_owned : OwnsTransports old.parts old.transports
     asking_owned = transports_owned (Some task) (IsAskingFor task request) old may possible
@@ -75,7 +76,7 @@ module _ {X : Type 0} {a : Added X} (task : ℕ) (request : Request) (old : Body
           (reach new.parts after new.events) (Err why)
           → Comes o (serving a task request old new) (ported wire old.events) (ported after new.events) (Err why)
       serving_fails adds forgets why call =
-          asked_fails o laws task old new new wire after Asks makes may in_step tree next means (asking_same possible) adds forgets why call
+          asked_fails o laws task old new new wire after Asks makes may in_step tree next means (asking_streams possible) adds forgets why call
 
       module _ (Waits : (ℕ → Type 0) → R → Type 0) (it : R)
           (call : Answers o (tree (length old.parts.futures)) old.transports new.transports (reach old.parts wire old.events)
@@ -90,7 +91,7 @@ module _ {X : Type 0} {a : Added X} (task : ℕ) (request : Request) (old : Body
         pub serving_goes : (had : List Exchange) × HasCome o Asks had (ported wire old.events) (ported after new.events)
             (λ c s. HasGone (Some task) Known (makes s) (next it) c old new s)
         serving_goes =
-            asked_goes o laws task old new new wire after Asks makes may in_step tree next means (asking_same possible) Waits it call keeping beside
+            asked_goes o laws task old new new wire after Asks makes may in_step tree next means (asking_streams possible) Waits it call keeping beside
 
         pub serving_answers : (value : Value) → ((t : State a.Kept) → next it t ≡ plain.Answers value t)
             → Comes o (serving a task request old new) (ported wire old.events) (ported after new.events) (Ok (said.Answers value))
@@ -130,7 +131,7 @@ module _ {X : Type 0} {a : Added X} (task : ℕ) (request : Request) (old : Body
           (reach new.parts after new.events) (Err why)
           → Comes o (serving a task request old new) (ported wire old.events) (ported after new.events) (Err why)
       changing_fails R adds forgets why call =
-          changed_fails o laws task old new new wire after Asks makes may in_step tree next means (asking_same possible) R adds forgets why call
+          changed_fails o laws task old new new wire after Asks makes may in_step tree next means (asking_streams possible) R adds forgets why call
 
       pub changing_answers : {R : Type 0} (it : R)
           → Changes o (tree (length old.parts.futures)) old.transports new.transports (reach old.parts wire old.events)
@@ -143,7 +144,7 @@ module _ {X : Type 0} {a : Added X} (task : ℕ) (request : Request) (old : Body
           → Comes o (serving a task request old new) (ported wire old.events) (ported after new.events) (Ok (said.Answers value))
       changing_answers it call keeping beside value is =
           answers_go o laws task old new new wire after Asks makes may in_step (λ first now. Unit {0}) next
-          (changed_goes o laws task old new new wire after Asks makes may in_step tree next means (asking_same possible) it call keeping beside) refl
+          (changed_goes o laws task old new new wire after Asks makes may in_step tree next means (asking_streams possible) it call keeping beside) refl
           value is
 
   -- ---- by a call that asks nothing
@@ -163,28 +164,28 @@ module _ {X : Type 0} {a : Added X} (task : ℕ) (request : Request) (old : Body
     pub asking_answers : (value : Value) → ((t : State a.Kept) → next it t ≡ plain.Answers value t)
         → Serves a task request old new (Ok (said.Answers value))
     asking_answers =
-        tells_answers task old new Begins (reply a.meaning task request) may in_step (asking_same possible) events beside tree next means Waits it told
+        tells_answers task old new Begins (reply a.meaning task request) may in_step (asking_streams possible) events beside tree next means Waits it told
         keeping
 
     pub asking_raises : (fault : Exc) → ((t : State a.Kept) → next it t ≡ plain.Raises fault t) → Serves a task request old new (Ok (said.Raises fault))
     asking_raises =
-        tells_raises task old new Begins (reply a.meaning task request) may in_step (asking_same possible) events beside tree next means Waits it told
+        tells_raises task old new Begins (reply a.meaning task request) may in_step (asking_streams possible) events beside tree next means Waits it told
         keeping
 
     module _ (on : ℕ) (made : (first now : ℕ) → Waits (IsMade first now) it → IsMade first now on) where
       -- what the wait requires
       pub asking_running : new.parts.running ≡ Some task
       asking_running =
-          tells_running task old new Begins (reply a.meaning task request) may in_step (asking_same possible) events beside tree next means Waits it told
+          tells_running task old new Begins (reply a.meaning task request) may in_step (asking_streams possible) events beside tree next means Waits it told
           keeping possible
 
       pub asking_pending : is_pending_at (slice_get new.parts.futures on) ≡ true
       asking_pending =
-          tells_pending task old new Begins (reply a.meaning task request) may in_step (asking_same possible) events beside tree next means Waits it told
+          tells_pending task old new Begins (reply a.meaning task request) may in_step (asking_streams possible) events beside tree next means Waits it told
           keeping possible on made
 
       pub asking_rests : (v : View) → Suspends task on new.parts v → ((t : State a.Kept) → next it t ≡ plain.Rests (waits task on t))
           → Serves a task request old (record new { parts = v }) (Ok said.Rests)
       asking_rests v =
-          tells_rests task old new Begins (reply a.meaning task request) may in_step (asking_same possible) events beside tree next means Waits it told
+          tells_rests task old new Begins (reply a.meaning task request) may in_step (asking_streams possible) events beside tree next means Waits it told
           keeping on v made

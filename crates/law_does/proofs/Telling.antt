@@ -27,6 +27,7 @@ use Rattle.aio_body.specs.Slots.{standing_at}
 use Rattle.aio_body.specs.Stands.{Setting, StandsAt}
 use Rattle.aio_body.specs.declared.standing.Standing.{Standing}
 use Rattle.law_body.proofs.May.{same_prop}
+use Rattle.law_does.specs.Streams.{HasStreams}
 use Rattle.law_does.specs.Went.{HasGone, MayCall, Suspends}
 use Rattle.law_does.proofs.Answering.{answers_so, raises_so, rests_so, stands_so, waits_so}
 use Rattle.law_does.proofs.Possible.{same_truth}
@@ -37,7 +38,7 @@ module _ {X : Type 0} {a : Added X} (task : ℕ) (old new : Body X) (from : Sett
     (makes : State a.Kept → plain.RequestReply a.Kept)
     (may : (c : Setting a) (s : State a.Kept) → from c s → MayCall (Some task) c old s)
     (in_step : (c : Setting a) (s : State a.Kept) → from c s → IsInStep task c old s)
-    (same : old.transports.streams.most ≡ old.transports.children.most) (events : new.events ≡ old.events)
+    (has : HasStreams old.transports) (events : new.events ≡ old.events)
     (beside : new ≡ record old { parts = new.parts; events = new.events; transports = new.transports }) where
   abbrev telling : Piece a (State a.Kept) (plain.RequestReply a.Kept) RequestReply
   telling = record { from = from; does = makes; ends = plain.Halts; says = λ c it machine. Says task c new it machine; begins = ReplyBegins }
@@ -54,7 +55,7 @@ module _ {X : Type 0} {a : Added X} (task : ℕ) (old new : Body X) (from : Sett
     Known = λ first now. Waits (IsMade first now) it
 
     pub tells_gone : (c : Setting a) (s : State a.Kept) → from c s → HasGone (Some task) Known (makes s) (next it) c old new s
-    tells_gone = do_tells telling (Some task) old new may same events beside tree next means Waits it told keeping
+    tells_gone = do_tells telling (Some task) old new may has events beside tree next means Waits it told keeping
 
     pub tells_answers : (value : Value) → ((t : State a.Kept) → next it t ≡ plain.Answers value t) → (c : Setting a) (s : State a.Kept) → from c s
         → Says task c new (said.Answers value) (makes s)
@@ -111,4 +112,4 @@ module _ {X : Type 0} {a : Added X} (task : ℕ) (old new : Body X) (from : Sett
       → Keeping (KeepsStreams (is_plain s.loop.parts) (next_future s.loop.parts) s.streams) (is_plain s.loop.parts) (next_future s.loop.parts)
       (tree (next_future s.loop.parts) s.streams)) where
     pub changes_gone : (c : Setting a) (s : State a.Kept) → from c s → HasGone (Some task) (λ first now. Unit {0}) (makes s) next c old new s
-    changes_gone = change_tells telling (Some task) old new may same events beside tree next means told keeping
+    changes_gone = change_tells telling (Some task) old new may has events beside tree next means told keeping

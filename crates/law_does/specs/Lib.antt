@@ -1,3 +1,4 @@
 pub mod Alike
 pub mod Passed
+pub mod Streams
 pub mod Went

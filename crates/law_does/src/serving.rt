@@ -24,6 +24,7 @@ ghost use Rattle.aio_body.specs.Stands.{Setting};
 ghost use Rattle.aio_body.specs.declared.body.Body.{Body};
 ghost use Rattle.aio_body.specs.declared.reply.RequestReply.TheVariants as said;
 ghost use Rattle.law_does.specs.Alike.{AddsEvents, ForgetsWritten};
+ghost use Rattle.law_does.specs.Streams.{HasStreams};
 
 use aio_extra::Extra;
 use aio_wire::Wire;
@@ -38,7 +39,7 @@ pub fn requests_go_by_their_calls<X: Extra, W: Wire, R>()
         → ((c : Setting X.added) (s : State X.added.Kept) → IsAskingFor task request c old s
         → reply X.added.meaning task request s
         ≡ streams_do (tree (next_future s.loop.parts) s.streams) next s)
-        → old.transports.streams.most ≡ old.transports.children.most
+        → HasStreams old.transports
         → ((it : R) → AddsEvents left_by (next it))
         → ForgetsWritten (tree (length old.parts.futures))
         → AnswersTree (outside_of W.seen W.fails W.keeps W.quiet) (tree (length old.parts.futures))
@@ -53,7 +54,7 @@ pub fn requests_go_by_their_calls<X: Extra, W: Wire, R>()
         → ((c : Setting X.added) (s : State X.added.Kept) → IsAskingFor task request c old s
         → reply X.added.meaning task request s
         ≡ streams_do (tree (next_future s.loop.parts) s.streams) next s)
-        → old.transports.streams.most ≡ old.transports.children.most
+        → HasStreams old.transports
         → AnswersTree (outside_of W.seen W.fails W.keeps W.quiet) (tree (length old.parts.futures))
         old.transports new.transports (reach old.parts wire old.events)
         (reach new.parts after new.events) (Ok it)

@@ -118,7 +118,8 @@ module _ {S : Type 0} (limit : ℕ) (added : Extra S) where
       tree_goes added None (KeepsStreams any (next_future s.loop.parts) s.streams) any (next_future s.loop.parts) tree goes_with s keeps opened
       (λ streams t o. record { reaches = one (ChangesStreams streams) o; ends = tt; asks = refl })
 
-  acts_goes : (it : Action) (returned : Bool) (s : State S) → IsOpen s → GoesTo added None s (streams_go (act (next_future s.loop.parts) returned it s.streams) s)
+  acts_goes : (it : Action) (returned : Bool) (s : State S) → IsOpen s
+      → GoesTo added None s (streams_go (act (next_future s.loop.parts) returned it s.streams) s)
   acts_goes it returned s opened =
       streams_goes_on (act (next_future s.loop.parts) returned it s.streams) s
       (acts any (next_future s.loop.parts) returned it s.streams (any_kept s.streams)) opened

@@ -161,7 +161,8 @@ module _ {S : Type 0} (limit : ℕ) (added : Extra S) where
   woken answer s = unbooked_in (woken_by answer) s
 
   pub turned_row : (answer : Answer) (s : State S) → InTurn added s (state_of (turned_by limit added answer s))
-  turned_row answer s = on (in_callback added (woken_row added answer s)) (at (run_pending limit added (woken answer s)) (pending_turns (woken answer s)).reaches)
+  turned_row answer s =
+      on (in_callback added (woken_row added answer s)) (at (run_pending limit added (woken answer s)) (pending_turns (woken answer s)).reaches)
     where
       at : (went : Went S) → InTurn added (woken answer s) (state_of went) → InTurn added (woken answer s) (state_of (went_on (turn_over s.main_done) went))
       at (Goes now) row = on row (in_callback added (over_row added s.main_done now))

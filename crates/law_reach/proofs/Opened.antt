@@ -222,11 +222,13 @@ module _ {S : Type 0} (added : Extra S) (task : ℕ) where
   streams_comes : (asked : Request) (s : State S) → IsOpen s → is_to_streams asked ≡ true → ComesTo added (Some task) s (reply added task asked s)
   unfolding reply
   streams_comes (request.Listen port handler) s o is =
-      given_comes added task (as_int port) _ s (λ number. numbered_comes added task (may_listen s.streams) _ s (port_comes added task number (listens handler) s (λ at.
+      given_comes added task (as_int port) _ s (λ number. numbered_comes added task (may_listen s.streams) _ s
+      (port_comes added task number (listens handler) s (λ at.
       do_comes added task {R = Option ℕ} WaitsNever (next_future s.loop.parts) (listen at handler s.streams) listens_as s
       (opening.listens any (next_future s.loop.parts) at handler s.streams (any_kept s.streams)) o (listened_comes added task))))
   streams_comes (request.Connect port) s o is =
-      given_comes added task (as_int port) _ s (λ number. numbered_comes added task (may_connect s.streams) _ s (port_comes added task number (connects task) s (λ at.
+      given_comes added task (as_int port) _ s (λ number. numbered_comes added task (may_connect s.streams) _ s
+      (port_comes added task number (connects task) s (λ at.
       connects_comes added task at s o)))
   streams_comes (request.Launch words) s o is =
       given_comes added task (as_words words) _ s (λ program. numbered_comes added task (may_launch s.streams) (launches program) s
@@ -253,15 +255,19 @@ module _ {S : Type 0} (added : Extra S) (task : ℕ) where
       given_comes added task (as_writer s stream) _ s (λ whom. closed_comes added task (closed_future whom s.streams) s)
   streams_comes (request.Drain stream) s o is = given_comes added task (as_writer s stream) (drains false task) s (λ whom. drains_comes added task false whom s)
   streams_comes (request.Limits stream high low) s o is =
-      given_comes added task (as_writer s stream) _ s (λ whom. given_comes added task (as_delay high) _ s (λ most. given_comes added task (as_delay low) _ s (λ least.
+      given_comes added task (as_writer s stream) _ s
+      (λ whom. given_comes added task (as_delay high) _ s (λ most. given_comes added task (as_delay low) _ s (λ least.
       do_comes added task {R = Limited} WaitsNever (next_future s.loop.parts) (limits most least whom s.streams) limits_as s
       (asking.limits_keep any (next_future s.loop.parts) most least whom s.streams (any_kept s.streams)) o (limited_comes added task))))
   streams_comes (request.Read stream count) s o is =
-      given_comes added task (as_reader s stream) _ s (λ from. given_comes added task (as_int count) _ s (λ number. counts_comes added task number from s))
+      given_comes added task (as_reader s stream) _ s
+      (λ from. given_comes added task (as_int count) _ s (λ number. counts_comes added task number from s))
   streams_comes (request.ReadExactly stream count) s o is =
-      given_comes added task (as_reader s stream) _ s (λ from. given_comes added task (as_int count) _ s (λ number. reads_comes added task (Exactly number) from s))
+      given_comes added task (as_reader s stream) _ s
+      (λ from. given_comes added task (as_int count) _ s (λ number. reads_comes added task (Exactly number) from s))
   streams_comes (request.ReadUntil stream separator) s o is =
-      given_comes added task (as_reader s stream) _ s (λ from. given_comes added task (as_bytes separator) _ s (λ bytes. reads_comes added task (Until bytes) from s))
+      given_comes added task (as_reader s stream) _ s
+      (λ from. given_comes added task (as_bytes separator) _ s (λ bytes. reads_comes added task (Until bytes) from s))
   streams_comes (request.ReadLine stream) s o is = given_comes added task (as_reader s stream) _ s (λ from. reads_comes added task Line from s)
   streams_comes (request.StandardError child) s o is = given_comes added task (as_child s child) _ s (λ id. answers_comes added task _ s)
   streams_comes (request.WaitChild child) s o is =
@@ -280,7 +286,8 @@ module _ {S : Type 0} (added : Extra S) (task : ℕ) where
   reply_comes asked s = at (is_to_streams asked) refl
     where
       by : IsClosed s ⊎ IsOpen s → is_to_streams asked ≡ true → ComesTo added (Some task) s (reply added task asked s)
-      by (inl closed) is = let none = refused s closed added task asked is in subst (ComesTo added (Some task) s) (sym none.1) (raises_comes added task none.0 s)
+      by (inl closed) is = let none = refused s closed added task asked is in
+          subst (ComesTo added (Some task) s) (sym none.1) (raises_comes added task none.0 s)
       by (inr opened) is = streams_comes asked s opened is
 
       at : (b : Bool) → is_to_streams asked ≡ b → ComesTo added (Some task) s (reply added task asked s)

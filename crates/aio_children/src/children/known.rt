@@ -1,9 +1,9 @@
 //! What is known of children.
-ghost use Rattle.std.specs.Prelude.{◌≡◌, ◌∷◌, [], true, MatchOption, slice_get};
-ghost use Rattle.std.specs.Option.{option_and_then, option_map, option_map_or};
+ghost use Rattle.std.specs.Prelude.{◌≡◌, ◌∷◌, [], MatchOption, slice_get};
+ghost use Rattle.std.specs.Option.{option_and_then, option_map};
 ghost use Rattle.model_stream.specs.Children.{Child as PlainChild};
 ghost use Rattle.model_stream.specs.Watching.{watched_child};
-ghost use Rattle.law_stream.specs.ChildEnds.{is_over};
+ghost use Rattle.law_over.specs.Gone.{holds_at, is_over_child};
 
 use super::Children;
 use aio_task::FutureId;
@@ -28,13 +28,13 @@ impl Children {
         child.code()
     }
 
-    /// Whether a child is over, or none has the number: then a select waits for nothing of it, now and later.
+    /// Whether a child is over: then a select waits for nothing of it, now and later.
     pub fn is_over(&self, id: u32) -> bool
-        ensures { result ≡ option_map_or is_over (slice_get self.now.children id) true }
+        ensures { result ≡ holds_at is_over_child (slice_get self.now.children id) }
     {
         match self.children.get(id as usize) {
             Some(child) => child.is_over(),
-            None => true,
+            None => false,
         }
     }
 

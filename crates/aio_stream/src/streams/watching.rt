@@ -1,6 +1,7 @@
 //! What a select watches of one listener or one connection.
 ghost use Rattle.std.specs.Prelude.{◌≡◌, Some, slice_get};
 ghost use Rattle.model_stream.specs.Watching as plain;
+ghost use Rattle.law_over.specs.Gone.{holds_at, is_closed, is_over};
 ghost use Rattle.aio_stream.specs.Kept.{may_connect};
 ghost use Rattle.aio_stream.specs.Watched.{entries};
 
@@ -31,6 +32,26 @@ impl Streams {
             ≡ plain.watched_connection id (slice_get self.now.connections id) }
     {
         watched_of_one(id, self.connections.get(id as usize)?)
+    }
+
+    /// Whether a listener is closed: then a select waits for nothing of it, now and later.
+    pub fn is_closed(&self, id: u32) -> bool
+        ensures { result ≡ holds_at is_closed (slice_get self.now.servers id) }
+    {
+        match self.servers.get(id as usize) {
+            Some(server) => !server.is_open(),
+            None => false,
+        }
+    }
+
+    /// Whether a connection is over: then a select waits for nothing of it, now and later.
+    pub fn is_over(&self, id: u32) -> bool
+        ensures { result ≡ holds_at is_over (slice_get self.now.connections id) }
+    {
+        match self.connections.get(id as usize) {
+            Some(connection) => connection.is_over(),
+            None => false,
+        }
     }
 }
 

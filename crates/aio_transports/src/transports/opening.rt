@@ -9,6 +9,7 @@ ghost use Rattle.aio_transports.specs.Owned.{OwnsTransports};
 ghost use Rattle.aio_transports.specs.Standing.{Answers, StandsFor};
 
 use super::Transports;
+use super::remaining::Remaining;
 use aio_base::Memory;
 use aio_children::Children;
 use aio_listener::{Connecting, connect, listen};
@@ -26,6 +27,7 @@ impl Transports {
         Transports {
             streams: Streams::new(alloc, most),
             children: Children::new(alloc, most),
+            remaining: Remaining::new(alloc),
         }
     }
 

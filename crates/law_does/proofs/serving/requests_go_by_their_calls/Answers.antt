@@ -19,14 +19,14 @@ laws g = record {
 }
 
 pub returns-clause-stops : goal.returns-clause-stops
-returns-clause-stops g c = λ task request old new wire after tree next why means same adds forgets call.
-    do_fails _ (serving g.X.Extra.added task request old new) (Some task) old new wire after (λ d s from. may_asking d old s task request from) same tree next
+returns-clause-stops g c = λ task request old new wire after tree next why means has adds forgets call.
+    do_fails _ (serving g.X.Extra.added task request old new) (Some task) old new wire after (λ d s from. may_asking d old s task request from) has tree next
     means (reply_leaves _ _ _) adds forgets why call
 
 pub returns-clause-answers : goal.returns-clause-answers
-returns-clause-answers g c = λ task request old new wire after tree next it value means same call keeping beside is.
+returns-clause-answers g c = λ task request old new wire after tree next it value means has call keeping beside is.
     let p = serving g.X.Extra.added task request old new in
     let come =
-    do_goes _ p (Some task) old new wire after (λ d s from. may_asking d old s task request from) same tree next means WaitsNever it call keeping beside in
+    do_goes _ p (Some task) old new wire after (λ d s from. may_asking d old s task request from) has tree next means WaitsNever it call keeping beside in
     gone_ends _ (laws g) p (Some task) old new wire after _ (next it) come new (said.Answers value) refl
     (λ d s from gone. answers_so task (before come.0 d) old new s from.going.in_step _ _ (next it) d gone value is)

@@ -7,12 +7,13 @@ use Rattle.aio_exchange.specs.Outside.{IsOutside, Outside, outside_of}
 use Rattle.law_doing.specs.Follows.{Reach, reach}
 use Rattle.aio_task.specs.View.{View}
 use Rattle.aio_listener.specs.Acts.{is_of_child}
-use Rattle.aio_transports.specs.Kept.{Kept, kept_both}
+use Rattle.aio_transports.specs.Kept.{Kept, kept_all}
 use Rattle.aio_transports.specs.Owned.{OwnsTransports}
 use Rattle.aio_transports.specs.Standing.{Comes}
 use Rattle.aio_transports.proofs.Acts.{or_else, starved_comes, told_comes}
-use Rattle.aio_transports.proofs.Lifting.{comes_on_children, comes_on_streams, own_on_children, own_on_streams, own_told_children, told_on_children}
-use Rattle.aio_transports.proofs.Numbering.{act_keeps}
+use Rattle.aio_transports.proofs.Lifting.{comes_on_children, comes_on_streams, own_on_children, own_on_streams}
+use Rattle.aio_transports.proofs.Lifting.{own_told_children, told_on_children}
+use Rattle.aio_transports.proofs.Lasting.{act_keeps}
 use Rattle.aio_transports.proofs.transports.Transports.act.Given.{Over}
 use Rattle.aio_transports.proofs.transports.Transports.act.Goals as goal
 
@@ -38,10 +39,11 @@ returns-in-WritableChild-clause-comes g c =
     let i = c.self.inside in
     let next = length c.args.parts.now.futures in
     subst (λ (it : Action). Comes (outside g) (act next c.args.returned it) c.args.self.now
-    (kept_both i.streams c.writable.new.self) old new c.writable.result) (sym c.in-WritableChild.is)
+    (kept_all i.streams c.writable.new.self i.remaining) old new c.writable.result) (sym c.in-WritableChild.is)
     (subst (λ (k : Kept). Comes (outside g) (act next c.args.returned (action.WritableChild c.in-WritableChild.id)) k
-    (kept_both i.streams c.writable.new.self) old new c.writable.result) c.self.view_is
-    (comes_on_children (outside g) i.streams i.children old new c.writable.result (act next c.args.returned (action.WritableChild c.in-WritableChild.id))
+    (kept_all i.streams c.writable.new.self i.remaining) old new c.writable.result) c.self.view_is
+    (comes_on_children (outside g) i.streams i.children i.remaining old new c.writable.result (act next c.args.returned
+    (action.WritableChild c.in-WritableChild.id))
     (act_keeps next c.args.returned (action.WritableChild c.in-WritableChild.id)) c.writable.new.self c.writable.ensures.comes))
 
 pub returns-in-WritableChild-clause-own : goal.returns-in-WritableChild-clause-own
@@ -50,8 +52,10 @@ returns-in-WritableChild-clause-own g c =
     let new : Reach View g.row.W.Denot = reach c.writable.new.parts c.writable.new.port.wire.now c.writable.new.port.events.now in
     let i = c.self.inside in
     let next = length c.args.parts.now.futures in
-    own_on_children (outside g) i.streams i.children old new c.writable.result (act next c.args.returned (action.WritableChild c.in-WritableChild.id))
-    (act_keeps next c.args.returned (action.WritableChild c.in-WritableChild.id)) c.writable.new.self c.writable.ensures.comes c.writable.ensures.own
+    own_on_children (outside g) i.streams i.children i.remaining old new c.writable.result (act next c.args.returned
+    (action.WritableChild c.in-WritableChild.id))
+    (act_keeps next c.args.returned
+    (action.WritableChild c.in-WritableChild.id)) c.writable.new.self c.writable.ensures.comes c.writable.ensures.own
     (subst (OwnsTransports c.args.parts.now) (sym c.self.view_is) c.requires.own)
 
 pub lose-requires-clause-own : goal.lose-requires-clause-own
@@ -64,13 +68,16 @@ returns-in-LostChild-clause-comes g c =
     let new : Reach View g.row.W.Denot = reach c.lose.new.parts c.lose.new.port.wire.now c.lose.new.port.events.now in
     let i = c.self.inside in
     let next = length c.args.parts.now.futures in
-    subst (λ (it : Action). Comes (outside g) (act next c.args.returned it) c.args.self.now (kept_both i.streams c.lose.new.self) old new c.lose.result)
+    subst (λ (it : Action). Comes (outside g) (act next c.args.returned it) c.args.self.now
+    (kept_all i.streams c.lose.new.self i.remaining) old new c.lose.result)
     (sym c.in-LostChild.is)
-    (subst (λ (k : Kept). Comes (outside g) (act next c.args.returned (action.LostChild c.in-LostChild.child c.in-LostChild.broken)) k
-    (kept_both i.streams c.lose.new.self) old new c.lose.result) c.self.view_is
-    (comes_on_children (outside g) i.streams i.children old new c.lose.result
+    (subst (λ (k : Kept). Comes (outside g) (act next c.args.returned
+    (action.LostChild c.in-LostChild.child c.in-LostChild.broken)) k
+    (kept_all i.streams c.lose.new.self i.remaining) old new c.lose.result) c.self.view_is
+    (comes_on_children (outside g) i.streams i.children i.remaining old new c.lose.result
     (act next c.args.returned (action.LostChild c.in-LostChild.child c.in-LostChild.broken))
-    (act_keeps next c.args.returned (action.LostChild c.in-LostChild.child c.in-LostChild.broken)) c.lose.new.self c.lose.ensures.comes))
+    (act_keeps next c.args.returned
+    (action.LostChild c.in-LostChild.child c.in-LostChild.broken)) c.lose.new.self c.lose.ensures.comes))
 
 pub returns-in-LostChild-clause-own : goal.returns-in-LostChild-clause-own
 returns-in-LostChild-clause-own g c =
@@ -78,9 +85,10 @@ returns-in-LostChild-clause-own g c =
     let new : Reach View g.row.W.Denot = reach c.lose.new.parts c.lose.new.port.wire.now c.lose.new.port.events.now in
     let i = c.self.inside in
     let next = length c.args.parts.now.futures in
-    own_on_children (outside g) i.streams i.children old new c.lose.result
+    own_on_children (outside g) i.streams i.children i.remaining old new c.lose.result
     (act next c.args.returned (action.LostChild c.in-LostChild.child c.in-LostChild.broken))
-    (act_keeps next c.args.returned (action.LostChild c.in-LostChild.child c.in-LostChild.broken)) c.lose.new.self c.lose.ensures.comes c.lose.ensures.own
+    (act_keeps next c.args.returned
+    (action.LostChild c.in-LostChild.child c.in-LostChild.broken)) c.lose.new.self c.lose.ensures.comes c.lose.ensures.own
     (subst (OwnsTransports c.args.parts.now) (sym c.self.view_is) c.requires.own)
 
 pub tell-requires-clause-own : goal.tell-requires-clause-own
@@ -95,7 +103,8 @@ returns-in_err-tell-in-ChildItem-clause-comes g c =
     let i = c.self.inside in
     let next = length c.args.parts.now.futures in
     rw (p.1, p.2)
-    (starved_comes (outside g) (laws g) (act next c.args.returned c.args.action.now) c.args.self.now (kept_both i.streams c.tell.new.self) old new refl)
+    (starved_comes (outside g) (laws g) (act next c.args.returned c.args.action.now) c.args.self.now
+    (kept_all i.streams c.tell.new.self i.remaining) old new refl)
 
 pub returns-in_ok-tell-in-ChildItem-clause-comes : goal.returns-in_ok-tell-in-ChildItem-clause-comes
 returns-in_ok-tell-in-ChildItem-clause-comes g c =
@@ -104,13 +113,15 @@ returns-in_ok-tell-in-ChildItem-clause-comes g c =
     let i = c.self.inside in
     let next = length c.args.parts.now.futures in
     let fine : Result (Unit {0}) (Unit {0}) = Ok tt in
-    subst (λ (it : Action). Comes {R = Unit {0}} (outside g) (act next c.args.returned it) c.args.self.now (kept_both i.streams c.tell.new.self) old new
+    subst (λ (it : Action). Comes {R = Unit {0}} (outside g) (act next c.args.returned it) c.args.self.now
+    (kept_all i.streams c.tell.new.self i.remaining) old new
     (Ok tt)) (sym c.in-ChildItem.is)
-    (subst (λ (k : Kept). Comes {R = Unit {0}} (outside g) (act next c.args.returned (action.ChildItem c.in-ChildItem.child c.in-ChildItem.item)) k
-    (kept_both i.streams c.tell.new.self) old new (Ok tt)) c.self.view_is
+    (subst (λ (k : Kept). Comes {R = Unit {0}} (outside g) (act next c.args.returned
+    (action.ChildItem c.in-ChildItem.child c.in-ChildItem.item)) k
+    (kept_all i.streams c.tell.new.self i.remaining) old new (Ok tt)) c.self.view_is
     (told_comes (outside g) (laws g) (act next c.args.returned (action.ChildItem c.in-ChildItem.child c.in-ChildItem.item))
-    (kept_both i.streams i.children) (kept_both i.streams c.tell.new.self) old new refl
-    (told_on_children i.streams i.children c.args.parts.now c.tell.new.parts
+    (kept_all i.streams i.children i.remaining) (kept_all i.streams c.tell.new.self i.remaining) old new refl
+    (told_on_children i.streams i.children i.remaining c.args.parts.now c.tell.new.parts
     (act next c.args.returned (action.ChildItem c.in-ChildItem.child c.in-ChildItem.item))
     (act_keeps next c.args.returned (action.ChildItem c.in-ChildItem.child c.in-ChildItem.item)) fine c.tell.new.self
     c.in_ok-tell-in-ChildItem.ensures.told)))
@@ -122,7 +133,7 @@ returns-in_ok-tell-in-ChildItem-clause-own g c =
     let i = c.self.inside in
     let next = length c.args.parts.now.futures in
     let fine : Result (Unit {0}) (Unit {0}) = Ok tt in
-    own_told_children i.streams i.children c.args.parts.now c.tell.new.parts
+    own_told_children i.streams i.children i.remaining c.args.parts.now c.tell.new.parts
     (act next c.args.returned (action.ChildItem c.in-ChildItem.child c.in-ChildItem.item))
     (act_keeps next c.args.returned (action.ChildItem c.in-ChildItem.child c.in-ChildItem.item)) fine c.tell.new.self
     c.in_ok-tell-in-ChildItem.ensures.told c.in_ok-tell-in-ChildItem.ensures.own
@@ -160,8 +171,9 @@ returns-in-ReadableServer-clause-comes g c =
     let i = c.self.inside in
     let next = length c.args.parts.now.futures in
     subst (λ (k : Kept). Comes (outside g) (act next c.args.returned c.args.action.now) k
-    (kept_both c.act.new.streams i.children) old new c.act.result) c.self.view_is
-    (comes_on_streams (outside g) i.streams i.children old new c.act.result (act next c.args.returned c.args.action.now)
+    (kept_all c.act.new.streams i.children i.remaining) old new c.act.result) c.self.view_is
+    (comes_on_streams (outside g) i.streams i.children i.remaining old new c.act.result
+    (act next c.args.returned c.args.action.now)
     (act_keeps next c.args.returned c.args.action.now) c.act.new.streams c.act.ensures.comes)
 
 pub returns-in-ReadableServer-clause-own : goal.returns-in-ReadableServer-clause-own
@@ -170,6 +182,6 @@ returns-in-ReadableServer-clause-own g c =
     let new : Reach View g.row.W.Denot = reach c.act.new.parts c.act.new.port.wire.now c.act.new.port.events.now in
     let i = c.self.inside in
     let next = length c.args.parts.now.futures in
-    own_on_streams (outside g) i.streams i.children old new c.act.result (act next c.args.returned c.args.action.now)
+    own_on_streams (outside g) i.streams i.children i.remaining old new c.act.result (act next c.args.returned c.args.action.now)
     (act_keeps next c.args.returned c.args.action.now) c.act.new.streams c.act.ensures.comes c.act.ensures.own
     (subst (OwnsTransports c.args.parts.now) (sym c.self.view_is) c.requires.own)

@@ -4,5 +4,6 @@ use Rattle.aio_transports.proofs.transports.Transports.has_child.Goals as goal
 
 pub returns : goal.returns
 returns c s stands =
-    ap (λ (n : ℕ). nat_lt c.args.id n) c.launched.ensures ∙ numbers_child c.self.inside.streams c.self.inside.children c.args.self.now c.self.view_is s
+    ap (λ (n : ℕ). nat_lt c.args.id n) c.launched.ensures
+    ∙ numbers_child c.self.inside.streams c.self.inside.children c.self.inside.remaining c.args.self.now c.self.view_is s
     stands c.args.id

@@ -1,36 +1,16 @@
-use Rattle.std.proofs.Common.{List, [], get_or, ◌∙◌, refl, sym, ap}
-use Rattle.model_wire.specs.declared.watch.Watch.{Watch}
-use Rattle.model_stream.specs.Streams.{Opened as PlainOpened}
-use Rattle.model_stream.specs.Watching.{watch_list}
-use Rattle.aio_stream.specs.declared.opened.Opened.TheVariants as opened
-use Rattle.aio_stream.specs.Kept.{opened_as}
-use Rattle.aio_transports.specs.Kept.{Kept}
-use Rattle.aio_transports.specs.Watched.{watched_of}
-use Rattle.aio_transports.proofs.Watches.{no_entry, none_watched, some_entry, some_watched, watched_more, watched_whole, watches_all}
+use Rattle.std.proofs.Common.{Bool, ◌==◌, ◌||◌, not, length, ◌∙◌, refl, sym, ap}
+use Rattle.aio_transports.proofs.Watches.{either_watched, since_list}
 use Rattle.aio_transports.proofs.transports.Transports.is_watched.Goals as goal
 
-pub returns-then-is_some : goal.returns-then-is_some
-returns-then-is_some c s h =
-    let f : PlainOpened → List Watch = watched_of c.args.self.now in
-    let xs = c.opened_in_order-one-items.result.now in
-    let i = c.loop-one.one-index in
-    some_watched f xs i (opened.Server 0) (watch_list s) c.loop-one-test.true
-    (some_entry c.watched.result (f (opened_as (get_or xs i (opened.Server 0)))) (sym c.is_some.ensures ∙ c.if-is_some.true) c.watched.ensures)
-    (watches_all c.args.self.now s h xs (sym (c.opened_in_order-one-items.ensures ∙ ap (λ (k : Kept). k.streams.opened) c.self.view_is)))
+pub returns-then-watches_remaining : goal.returns-then-watches_remaining
+returns-then-watches_remaining c s h =
+    let k = c.args.self.now in
+    let b : Bool = not (length (since_list k s h) == 0) in
+    c.if-watches_remaining.true ∙ sym (ap (λ a. a || b) c.if-watches_remaining.true)
+    ∙ either_watched k s h c.watches_remaining.result b c.watches_remaining.ensures refl
 
-pub loop-one-preserved : goal.loop-one-preserved
-loop-one-preserved c =
-    let f : PlainOpened → List Watch = watched_of c.args.self.now in
-    let xs = c.opened_in_order-one-items.result.now in
-    let i = c.loop-one.one-index in
-    sym (watched_more f xs i (opened.Server 0) [] [] [] [] c.loop-one-test.true (sym c.loop-one.invariant)
-    (sym (no_entry c.watched.result (f (opened_as (get_or xs i (opened.Server 0)))) (sym c.is_some.ensures ∙ c.if-is_some.false) c.watched.ensures))
-    refl)
-
-pub returns : goal.returns
-returns c s h =
-    let f : PlainOpened → List Watch = watched_of c.args.self.now in
-    let xs = c.opened_in_order-one-items.result.now in
-    none_watched (watch_list s)
-    (sym (watched_whole f xs c.loop-one.one-index [] [] c.loop-one-test.false (sym c.loop-one.invariant)
-    ∙ watches_all c.args.self.now s h xs (sym (c.opened_in_order-one-items.ensures ∙ ap (λ (k : Kept). k.streams.opened) c.self.view_is))))
+pub returns-else-watches_remaining : goal.returns-else-watches_remaining
+returns-else-watches_remaining c s h =
+    let k = c.args.self.now in
+    sym (ap (λ a. a || c.watches_since.result) c.if-watches_remaining.false)
+    ∙ either_watched k s h c.watches_remaining.result c.watches_since.result c.watches_remaining.ensures c.watches_since.ensures

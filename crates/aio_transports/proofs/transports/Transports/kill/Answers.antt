@@ -6,7 +6,7 @@ use Rattle.aio_task.specs.View.{View}
 use Rattle.aio_transports.specs.Kept.{Kept}
 use Rattle.aio_transports.specs.Standing.{Comes}
 use Rattle.aio_transports.proofs.Lifting.{comes_on_children}
-use Rattle.aio_transports.proofs.Numbering.{kill_keeps}
+use Rattle.aio_transports.proofs.Lasting.{kill_keeps}
 use Rattle.aio_transports.proofs.transports.Transports.kill.Given.{Over}
 use Rattle.aio_transports.proofs.transports.Transports.kill.Goals as goal
 
@@ -19,5 +19,6 @@ returns-clause-comes g c v =
     let new : Reach View g.row.W.Denot = reach v c.kill.new.port.wire.now c.kill.new.port.events.now in
     let i = c.self.inside in
     subst (λ (k : Kept). Comes (outside g) (kill c.args.child) k k old new c.kill.result) c.self.view_is
-    (comes_on_children (outside g) i.streams i.children old new c.kill.result (kill c.args.child) (kill_keeps c.args.child) i.children
+    (comes_on_children (outside g) i.streams i.children i.remaining old new c.kill.result (kill c.args.child)
+    (kill_keeps c.args.child) i.children
     (c.kill.ensures.comes v))

@@ -5,7 +5,7 @@ use Rattle.aio_wire.specs.declared.stop.Stop.TheVariants as stop
 use Rattle.aio_exchange.specs.Outside.{IsOutside, Outside, outside_of}
 use Rattle.law_doing.specs.Follows.{Reach, reach}
 use Rattle.aio_task.specs.View.{View}
-use Rattle.aio_transports.specs.Kept.{Kept, kept_both}
+use Rattle.aio_transports.specs.Kept.{Kept, kept_all}
 use Rattle.aio_transports.specs.Owned.{OwnsTransports}
 use Rattle.aio_transports.specs.Standing.{Answers}
 use Rattle.aio_transports.proofs.Launching.{launch_goes, launch_starves, launch_stops, own_launched}
@@ -39,9 +39,11 @@ returns-in_err-launched-clause-comes g c =
     let i = c.self.inside in
     let next = length c.args.parts.now.futures in
     rw (p.1, p.2)
-    (subst (λ (k : Kept). Answers (outside g) (launch c.args.words next) k (kept_both i.streams c.launch.new.self) old new
+    (subst (λ (k : Kept). Answers (outside g) (launch c.args.words next) k
+    (kept_all i.streams c.launch.new.self i.remaining) old new
     (Err c.in_err-launched.field-0.0)) c.self.view_is
-    (launch_stops (outside g) (laws g) c.args.words next i.streams i.children c.launch.new.self old new i.streams c.in_err-launched.field-0.0
+    (launch_stops (outside g)
+    (laws g) c.args.words next i.streams i.children i.remaining c.launch.new.self old new i.streams c.in_err-launched.field-0.0
     c.in_err-launched.ensures.comes))
 
 pub returns-in_err-put_in_order-clause-comes : goal.returns-in_err-put_in_order-clause-comes
@@ -52,9 +54,11 @@ returns-in_err-put_in_order-clause-comes g c =
     let i = c.self.inside in
     let next = length c.args.parts.now.futures in
     rw (p.1, p.2)
-    (subst (λ (k : Kept). Answers (outside g) (launch c.args.words next) k (kept_both c.put_in_order.new.streams c.launch.new.self) old new
+    (subst (λ (k : Kept). Answers (outside g) (launch c.args.words next) k
+    (kept_all c.put_in_order.new.streams c.launch.new.self i.remaining) old new
     (Err stop.Memory)) c.self.view_is
-    (launch_starves (outside g) (laws g) c.args.words next i.streams i.children c.launch.new.self old new c.in_ok-launched.launched
+    (launch_starves (outside g)
+    (laws g) c.args.words next i.streams i.children i.remaining c.launch.new.self old new c.in_ok-launched.launched
     c.put_in_order.new.streams c.in_ok-launched.ensures.comes))
 
 pub returns-clause-comes : goal.returns-clause-comes
@@ -63,9 +67,11 @@ returns-clause-comes g c =
     let new : Reach View g.row.W.Denot = reach c.launch.new.parts c.launch.new.port.wire.now c.launch.new.port.events.now in
     let i = c.self.inside in
     let next = length c.args.parts.now.futures in
-    subst (λ (k : Kept). Answers (outside g) (launch c.args.words next) k (kept_both c.put_in_order.new.streams c.launch.new.self) old new
+    subst (λ (k : Kept). Answers (outside g) (launch c.args.words next) k
+    (kept_all c.put_in_order.new.streams c.launch.new.self i.remaining) old new
     (Ok c.in_ok-launched.launched)) c.self.view_is
-    (launch_goes (outside g) (laws g) c.args.words next i.streams i.children c.launch.new.self old new c.in_ok-launched.launched c.put_in_order.new.streams
+    (launch_goes (outside g)
+    (laws g) c.args.words next i.streams i.children i.remaining c.launch.new.self old new c.in_ok-launched.launched c.put_in_order.new.streams
     c.in_ok-put_in_order.ensures
     c.in_ok-launched.ensures.comes)
 
@@ -75,6 +81,8 @@ returns-clause-own g c =
     let new : Reach View g.row.W.Denot = reach c.launch.new.parts c.launch.new.port.wire.now c.launch.new.port.events.now in
     let i = c.self.inside in
     let next = length c.args.parts.now.futures in
-    own_launched (outside g) (laws g) c.args.words next i.streams i.children c.launch.new.self old new c.in_ok-launched.launched c.put_in_order.new.streams
+    own_launched (outside g)
+    (laws g) c.args.words next i.streams i.children i.remaining c.launch.new.self old new c.in_ok-launched.launched c.put_in_order.new.streams
     c.in_ok-put_in_order.ensures
-    c.in_ok-launched.ensures.comes c.in_ok-launched.ensures.own (subst (OwnsTransports c.args.parts.now) (sym c.self.view_is) c.requires.own)
+    c.in_ok-launched.ensures.comes c.in_ok-launched.ensures.own (subst (OwnsTransports c.args.parts.now)
+    (sym c.self.view_is) c.requires.own)

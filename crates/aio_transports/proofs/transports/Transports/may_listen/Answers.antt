@@ -5,7 +5,8 @@ use Rattle.aio_transports.proofs.transports.Transports.may_listen.Goals as goal
 
 pub returns-clause-is : goal.returns-clause-is
 returns-clause-is c s stands =
-    c.may_listen.ensures.is ∙ servers_few c.self.inside.streams c.self.inside.children c.args.self.now c.self.view_is s stands
+    c.may_listen.ensures.is
+    ∙ servers_few c.self.inside.streams c.self.inside.children c.self.inside.remaining c.args.self.now c.self.view_is s stands
 
 pub returns-clause-room : goal.returns-clause-room
 returns-clause-room c =

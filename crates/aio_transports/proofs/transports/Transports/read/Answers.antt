@@ -4,11 +4,11 @@ use Rattle.model_stream.specs.Requests.{OfChild, OfConn}
 use Rattle.model_stream.specs.Requests as requests
 use Rattle.aio_transports.specs.declared.reader.StreamReader.{StreamReader}
 use Rattle.aio_transports.specs.Readers.{reader_as}
-use Rattle.aio_transports.specs.Kept.{Kept, kept_both}
+use Rattle.aio_transports.specs.Kept.{Kept, kept_all}
 use Rattle.aio_transports.specs.Owned.{OwnsTransports}
 use Rattle.aio_transports.specs.Standing.{ToldWith}
 use Rattle.aio_transports.proofs.Lifting.{said_on_streams, said_on_children, own_said_streams, own_said_children}
-use Rattle.aio_transports.proofs.Numbering.{read_keeps}
+use Rattle.aio_transports.proofs.Lasting.{read_keeps}
 use Rattle.aio_transports.proofs.transports.Transports.read.Goals as goal
 
 pub read-requires-clause-own : goal.read-requires-clause-own
@@ -21,12 +21,13 @@ returns-in-Conn-clause-told c =
     let next = length c.args.parts.now.futures in
     subst (λ (from : StreamReader). IfOk c.read.result
     (λ said. ToldWith (requests.read next c.args.op.now (reader_as from)) c.args.self.now
-    (kept_both c.read.new.self i.children) c.args.parts.now c.read.new.parts said))
+    (kept_all c.read.new.self i.children i.remaining) c.args.parts.now c.read.new.parts said))
     (sym c.in-Conn.is)
     (subst (λ (k : Kept). IfOk c.read.result
     (λ said. ToldWith (requests.read next c.args.op.now (OfConn c.in-Conn.id)) k
-    (kept_both c.read.new.self i.children) c.args.parts.now c.read.new.parts said)) c.self.view_is
-    (said_on_streams i.streams i.children c.args.parts.now c.read.new.parts (requests.read next c.args.op.now (OfConn c.in-Conn.id))
+    (kept_all c.read.new.self i.children i.remaining) c.args.parts.now c.read.new.parts said)) c.self.view_is
+    (said_on_streams i.streams i.children i.remaining c.args.parts.now c.read.new.parts (requests.read next c.args.op.now
+    (OfConn c.in-Conn.id))
     (read_keeps next c.args.op.now (OfConn c.in-Conn.id)) (λ (said : StreamGot). said) c.read.result c.read.new.self
     c.read.ensures.told))
 
@@ -34,7 +35,8 @@ pub returns-in-Conn-clause-own : goal.returns-in-Conn-clause-own
 returns-in-Conn-clause-own c =
     let i = c.self.inside in
     let next = length c.args.parts.now.futures in
-    own_said_streams i.streams i.children c.args.parts.now c.read.new.parts (requests.read next c.args.op.now (OfConn c.in-Conn.id))
+    own_said_streams i.streams i.children i.remaining c.args.parts.now c.read.new.parts (requests.read next c.args.op.now
+    (OfConn c.in-Conn.id))
     (read_keeps next c.args.op.now (OfConn c.in-Conn.id)) (λ (said : StreamGot). said) c.read.result c.read.new.self
     c.read.ensures.told c.read.ensures.own (subst (OwnsTransports c.args.parts.now) (sym c.self.view_is) c.requires.own)
 
@@ -48,13 +50,14 @@ returns-in-Child-clause-told c =
     let next = length c.args.parts.now.futures in
     subst (λ (from : StreamReader). IfOk c.read-in-Child.result
     (λ said. ToldWith (requests.read next c.args.op.now (reader_as from)) c.args.self.now
-    (kept_both i.streams c.read-in-Child.new.self) c.args.parts.now c.read-in-Child.new.parts said))
+    (kept_all i.streams c.read-in-Child.new.self i.remaining) c.args.parts.now c.read-in-Child.new.parts said))
     (sym c.in-Child.is)
     (subst (λ (k : Kept). IfOk c.read-in-Child.result
     (λ said. ToldWith (requests.read next c.args.op.now (OfChild c.in-Child.pipe c.in-Child.id)) k
-    (kept_both i.streams c.read-in-Child.new.self) c.args.parts.now c.read-in-Child.new.parts said)) c.self.view_is
-    (said_on_children i.streams i.children c.args.parts.now c.read-in-Child.new.parts
-    (requests.read next c.args.op.now (OfChild c.in-Child.pipe c.in-Child.id)) (read_keeps next c.args.op.now (OfChild c.in-Child.pipe c.in-Child.id))
+    (kept_all i.streams c.read-in-Child.new.self i.remaining) c.args.parts.now c.read-in-Child.new.parts said)) c.self.view_is
+    (said_on_children i.streams i.children i.remaining c.args.parts.now c.read-in-Child.new.parts
+    (requests.read next c.args.op.now (OfChild c.in-Child.pipe c.in-Child.id)) (read_keeps next c.args.op.now
+    (OfChild c.in-Child.pipe c.in-Child.id))
     (λ (said : StreamGot). said) c.read-in-Child.result c.read-in-Child.new.self
     c.read-in-Child.ensures.told))
 
@@ -62,7 +65,9 @@ pub returns-in-Child-clause-own : goal.returns-in-Child-clause-own
 returns-in-Child-clause-own c =
     let i = c.self.inside in
     let next = length c.args.parts.now.futures in
-    own_said_children i.streams i.children c.args.parts.now c.read-in-Child.new.parts
-    (requests.read next c.args.op.now (OfChild c.in-Child.pipe c.in-Child.id)) (read_keeps next c.args.op.now (OfChild c.in-Child.pipe c.in-Child.id))
+    own_said_children i.streams i.children i.remaining c.args.parts.now c.read-in-Child.new.parts
+    (requests.read next c.args.op.now (OfChild c.in-Child.pipe c.in-Child.id)) (read_keeps next c.args.op.now
+    (OfChild c.in-Child.pipe c.in-Child.id))
     (λ (said : StreamGot). said) c.read-in-Child.result c.read-in-Child.new.self
-    c.read-in-Child.ensures.told c.read-in-Child.ensures.own (subst (OwnsTransports c.args.parts.now) (sym c.self.view_is) c.requires.own)
+    c.read-in-Child.ensures.told c.read-in-Child.ensures.own (subst (OwnsTransports c.args.parts.now)
+    (sym c.self.view_is) c.requires.own)

@@ -4,11 +4,11 @@ use Rattle.model_stream.specs.Requests.{OfChild, OfConn}
 use Rattle.model_stream.specs.Requests as requests
 use Rattle.aio_transports.specs.declared.reader.StreamReader.{StreamReader}
 use Rattle.aio_transports.specs.Readers.{reader_as}
-use Rattle.aio_transports.specs.Kept.{Kept, kept_both}
+use Rattle.aio_transports.specs.Kept.{Kept, kept_all}
 use Rattle.aio_transports.specs.Owned.{OwnsTransports}
 use Rattle.aio_transports.specs.Standing.{ToldWith}
 use Rattle.aio_transports.proofs.Lifting.{said_on_streams, said_on_children, own_said_streams, own_said_children}
-use Rattle.aio_transports.proofs.Numbering.{read_all_keeps}
+use Rattle.aio_transports.proofs.Lasting.{read_all_keeps}
 use Rattle.aio_transports.proofs.transports.Transports.read_all.Goals as goal
 
 pub read_all-requires-clause-own : goal.read_all-requires-clause-own
@@ -21,12 +21,14 @@ returns-in-Conn-clause-told c =
     let next = length c.args.parts.now.futures in
     subst (λ (from : StreamReader). IfOk c.read_all.result
     (λ said. ToldWith (requests.read_all next (reader_as from)) c.args.self.now
-    (kept_both c.read_all.new.self i.children) c.args.parts.now c.read_all.new.parts (all_got said)))
+    (kept_all c.read_all.new.self i.children i.remaining) c.args.parts.now c.read_all.new.parts (all_got said)))
     (sym c.in-Conn.is)
     (subst (λ (k : Kept). IfOk c.read_all.result
-    (λ said. ToldWith (requests.read_all next (OfConn c.in-Conn.id)) k (kept_both c.read_all.new.self i.children) c.args.parts.now c.read_all.new.parts
+    (λ said. ToldWith (requests.read_all next (OfConn c.in-Conn.id)) k
+    (kept_all c.read_all.new.self i.children i.remaining) c.args.parts.now c.read_all.new.parts
     (all_got said))) c.self.view_is
-    (said_on_streams i.streams i.children c.args.parts.now c.read_all.new.parts (requests.read_all next (OfConn c.in-Conn.id))
+    (said_on_streams i.streams i.children i.remaining c.args.parts.now c.read_all.new.parts (requests.read_all next
+    (OfConn c.in-Conn.id))
     (read_all_keeps next (OfConn c.in-Conn.id)) all_got c.read_all.result c.read_all.new.self
     c.read_all.ensures.told))
 
@@ -34,7 +36,8 @@ pub returns-in-Conn-clause-own : goal.returns-in-Conn-clause-own
 returns-in-Conn-clause-own c =
     let i = c.self.inside in
     let next = length c.args.parts.now.futures in
-    own_said_streams i.streams i.children c.args.parts.now c.read_all.new.parts (requests.read_all next (OfConn c.in-Conn.id))
+    own_said_streams i.streams i.children i.remaining c.args.parts.now c.read_all.new.parts (requests.read_all next
+    (OfConn c.in-Conn.id))
     (read_all_keeps next (OfConn c.in-Conn.id)) all_got c.read_all.result c.read_all.new.self
     c.read_all.ensures.told c.read_all.ensures.own (subst (OwnsTransports c.args.parts.now) (sym c.self.view_is) c.requires.own)
 
@@ -48,12 +51,14 @@ returns-in-Child-clause-told c =
     let next = length c.args.parts.now.futures in
     subst (λ (from : StreamReader). IfOk c.read_all-in-Child.result
     (λ said. ToldWith (requests.read_all next (reader_as from)) c.args.self.now
-    (kept_both i.streams c.read_all-in-Child.new.self) c.args.parts.now c.read_all-in-Child.new.parts (all_got said)))
+    (kept_all i.streams c.read_all-in-Child.new.self i.remaining) c.args.parts.now c.read_all-in-Child.new.parts (all_got said)))
     (sym c.in-Child.is)
     (subst (λ (k : Kept). IfOk c.read_all-in-Child.result
     (λ said. ToldWith (requests.read_all next (OfChild c.in-Child.pipe c.in-Child.id)) k
-    (kept_both i.streams c.read_all-in-Child.new.self) c.args.parts.now c.read_all-in-Child.new.parts (all_got said))) c.self.view_is
-    (said_on_children i.streams i.children c.args.parts.now c.read_all-in-Child.new.parts (requests.read_all next (OfChild c.in-Child.pipe c.in-Child.id))
+    (kept_all i.streams c.read_all-in-Child.new.self i.remaining) c.args.parts.now c.read_all-in-Child.new.parts
+    (all_got said))) c.self.view_is
+    (said_on_children i.streams i.children i.remaining c.args.parts.now c.read_all-in-Child.new.parts (requests.read_all next
+    (OfChild c.in-Child.pipe c.in-Child.id))
     (read_all_keeps next (OfChild c.in-Child.pipe c.in-Child.id)) all_got c.read_all-in-Child.result c.read_all-in-Child.new.self
     c.read_all-in-Child.ensures.told))
 
@@ -61,6 +66,8 @@ pub returns-in-Child-clause-own : goal.returns-in-Child-clause-own
 returns-in-Child-clause-own c =
     let i = c.self.inside in
     let next = length c.args.parts.now.futures in
-    own_said_children i.streams i.children c.args.parts.now c.read_all-in-Child.new.parts (requests.read_all next (OfChild c.in-Child.pipe c.in-Child.id))
+    own_said_children i.streams i.children i.remaining c.args.parts.now c.read_all-in-Child.new.parts (requests.read_all next
+    (OfChild c.in-Child.pipe c.in-Child.id))
     (read_all_keeps next (OfChild c.in-Child.pipe c.in-Child.id)) all_got c.read_all-in-Child.result c.read_all-in-Child.new.self
-    c.read_all-in-Child.ensures.told c.read_all-in-Child.ensures.own (subst (OwnsTransports c.args.parts.now) (sym c.self.view_is) c.requires.own)
+    c.read_all-in-Child.ensures.told c.read_all-in-Child.ensures.own (subst (OwnsTransports c.args.parts.now)
+    (sym c.self.view_is) c.requires.own)

@@ -1,17 +1,17 @@
-use Rattle.std.proofs.Common.{List, [], ◌∷◌, ◌++◌, append-nil, ◌∙◌, sym, ap}
+use Rattle.std.proofs.Common.{List, [], ◌∷◌, append-nil, ◌∙◌, sym, ap}
 use Rattle.model_wire.specs.declared.watch.Watch.{Watch}
 use Rattle.model_stream.specs.Streams.{Opened as PlainOpened}
 use Rattle.aio_stream.specs.declared.opened.Opened.TheVariants as opened
-use Rattle.aio_transports.specs.Kept.{Kept}
 use Rattle.aio_transports.specs.Watched.{watched_of}
-use Rattle.aio_transports.proofs.Watches.{watched_more, watched_whole, watches_all}
+use Rattle.aio_transports.proofs.Watches.{watched_more, watched_whole}
 use Rattle.aio_transports.proofs.transports.Transports.watch_all.Goals as goal
 use Rattle.aio_transports.proofs.transports.Transports.watch_all.Goals.{in-Some+in_ok-put_last, in_default}
 
 pub loop-one-preserved : goal.loop-one-preserved
 loop-one-preserved c =
     let f : PlainOpened → List Watch = watched_of c.args.self.now in
-    let goes = watched_more f c.opened_in_order-one-items.result.now c.loop-one.one-index (opened.Server 0) c.args.into.now.items c.loop-one.into.items in
+    let goes = watched_more f c.args.those.now c.loop-one.one-index
+    (opened.Server 0) c.args.into.now.items c.loop-one.into.items in
     elim c.match-watched.branch [
       | in-Some+in_ok-put_last w ↦
           goes c.match-watched.into.items (w.in-Some.entry ∷ []) c.loop-one-test.true c.loop-one.invariant w.in-Some.ensures
@@ -22,10 +22,6 @@ loop-one-preserved c =
     ]
 
 pub returns : goal.returns
-returns c s h =
+returns c =
     let f : PlainOpened → List Watch = watched_of c.args.self.now in
-    watched_whole f c.opened_in_order-one-items.result.now c.loop-one.one-index c.args.into.now.items c.loop-one.into.items c.loop-one-test.false
-    c.loop-one.invariant
-    ∙ ap (λ ys. c.args.into.now.items ++ ys)
-    (watches_all c.args.self.now s h c.opened_in_order-one-items.result.now
-    (sym (c.opened_in_order-one-items.ensures ∙ ap (λ (k : Kept). k.streams.opened) c.self.view_is)))
+    watched_whole f c.args.those.now c.loop-one.one-index c.args.into.now.items c.loop-one.into.items c.loop-one-test.false c.loop-one.invariant

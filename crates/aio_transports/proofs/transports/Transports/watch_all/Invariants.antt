@@ -6,4 +6,4 @@ use Rattle.aio_transports.proofs.transports.Transports.watch_all.Given as goal
 
 abbrev pub invariant-loop-one : goal.invariant-loop-one
 invariant-loop-one l =
-    l.into.items ≡ l.fn.into.items ++ flat_map (watched_of l.self) (all_opened (take l.one-index l.one-items))
+    l.into.items ≡ l.fn.into.items ++ flat_map (watched_of l.self) (all_opened (take l.one-index l.those))

@@ -5,11 +5,11 @@ use Rattle.model_stream.specs.Requests.{write}
 use Rattle.aio_exchange.specs.Outside.{Outside, outside_of}
 use Rattle.law_doing.specs.Follows.{Reach, reach}
 use Rattle.aio_task.specs.View.{View}
-use Rattle.aio_transports.specs.Kept.{Kept, kept_both}
+use Rattle.aio_transports.specs.Kept.{Kept, kept_all}
 use Rattle.aio_transports.specs.Owned.{OwnsTransports}
 use Rattle.aio_transports.specs.Standing.{Answers}
 use Rattle.aio_transports.proofs.Lifting.{answers_on_streams, answers_on_children, own_answers_streams, own_answers_children}
-use Rattle.aio_transports.proofs.Numbering.{write_keeps}
+use Rattle.aio_transports.proofs.Lasting.{write_keeps}
 use Rattle.aio_transports.proofs.transports.Transports.write.Given.{Over}
 use Rattle.aio_transports.proofs.transports.Transports.write.Goals as goal
 
@@ -26,11 +26,12 @@ returns-in-Conn-clause-comes g c =
     let new : Reach View g.row.W.Denot = reach c.write.new.parts c.write.new.port.wire.now c.write.new.port.events.now in
     let i = c.self.inside in
     subst (λ (whom : Handed). Answers (outside g) (write whom c.args.piece.now) c.args.self.now
-    (kept_both c.write.new.self i.children) old new c.write.result)
+    (kept_all c.write.new.self i.children i.remaining) old new c.write.result)
     (sym c.in-Conn.is)
     (subst (λ (k : Kept). Answers (outside g) (write (to.Conn c.in-Conn.id) c.args.piece.now) k
-    (kept_both c.write.new.self i.children) old new c.write.result) c.self.view_is
-    (answers_on_streams (outside g) i.streams i.children old new c.write.result (write (to.Conn c.in-Conn.id) c.args.piece.now)
+    (kept_all c.write.new.self i.children i.remaining) old new c.write.result) c.self.view_is
+    (answers_on_streams (outside g) i.streams i.children i.remaining old new c.write.result (write
+    (to.Conn c.in-Conn.id) c.args.piece.now)
     (write_keeps c.args.piece.now (to.Conn c.in-Conn.id)) c.write.new.self
     c.write.ensures.comes))
 
@@ -39,7 +40,8 @@ returns-in-Conn-clause-own g c =
     let old : Reach View g.row.W.Denot = reach c.args.parts.now c.args.port.now.wire.now c.args.port.now.events.now in
     let new : Reach View g.row.W.Denot = reach c.write.new.parts c.write.new.port.wire.now c.write.new.port.events.now in
     let i = c.self.inside in
-    own_answers_streams (outside g) i.streams i.children old new c.write.result (write (to.Conn c.in-Conn.id) c.args.piece.now)
+    own_answers_streams (outside g) i.streams i.children i.remaining old new c.write.result (write
+    (to.Conn c.in-Conn.id) c.args.piece.now)
     (write_keeps c.args.piece.now (to.Conn c.in-Conn.id)) c.write.new.self
     c.write.ensures.comes c.write.ensures.own (subst (OwnsTransports c.args.parts.now) (sym c.self.view_is) c.requires.own)
 
@@ -53,11 +55,12 @@ returns-in-Child-clause-comes g c =
     let new : Reach View g.row.W.Denot = reach c.write-in-Child.new.parts c.write-in-Child.new.port.wire.now c.write-in-Child.new.port.events.now in
     let i = c.self.inside in
     subst (λ (whom : Handed). Answers (outside g) (write whom c.args.piece.now) c.args.self.now
-    (kept_both i.streams c.write-in-Child.new.self) old new c.write-in-Child.result)
+    (kept_all i.streams c.write-in-Child.new.self i.remaining) old new c.write-in-Child.result)
     (sym c.in-Child.is)
     (subst (λ (k : Kept). Answers (outside g) (write (to.Child c.in-Child.id) c.args.piece.now) k
-    (kept_both i.streams c.write-in-Child.new.self) old new c.write-in-Child.result) c.self.view_is
-    (answers_on_children (outside g) i.streams i.children old new c.write-in-Child.result (write (to.Child c.in-Child.id) c.args.piece.now)
+    (kept_all i.streams c.write-in-Child.new.self i.remaining) old new c.write-in-Child.result) c.self.view_is
+    (answers_on_children (outside g) i.streams i.children i.remaining old new c.write-in-Child.result (write
+    (to.Child c.in-Child.id) c.args.piece.now)
     (write_keeps c.args.piece.now (to.Child c.in-Child.id)) c.write-in-Child.new.self
     c.write-in-Child.ensures.comes))
 
@@ -66,6 +69,8 @@ returns-in-Child-clause-own g c =
     let old : Reach View g.row.W.Denot = reach c.args.parts.now c.args.port.now.wire.now c.args.port.now.events.now in
     let new : Reach View g.row.W.Denot = reach c.write-in-Child.new.parts c.write-in-Child.new.port.wire.now c.write-in-Child.new.port.events.now in
     let i = c.self.inside in
-    own_answers_children (outside g) i.streams i.children old new c.write-in-Child.result (write (to.Child c.in-Child.id) c.args.piece.now)
+    own_answers_children (outside g) i.streams i.children i.remaining old new c.write-in-Child.result (write
+    (to.Child c.in-Child.id) c.args.piece.now)
     (write_keeps c.args.piece.now (to.Child c.in-Child.id)) c.write-in-Child.new.self
-    c.write-in-Child.ensures.comes c.write-in-Child.ensures.own (subst (OwnsTransports c.args.parts.now) (sym c.self.view_is) c.requires.own)
+    c.write-in-Child.ensures.comes c.write-in-Child.ensures.own (subst (OwnsTransports c.args.parts.now)
+    (sym c.self.view_is) c.requires.own)
