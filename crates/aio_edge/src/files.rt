@@ -1,24 +1,25 @@
 //! The files of the file system.
-ghost use Rattle.std.specs.Prelude.{◌≡◌, ◌<◌, ℕ, List, length, vec_len, None, IfOk, IfErr, IsErr};
-ghost use Rattle.std.specs.Io.{ReadsAtMost, WritesAtMost};
+ghost use Rattle.std.specs.Prelude.{◌≡◌, ℕ, List, vec_len, IfErr, IsErr};
+ghost use Rattle.std.specs.Io.{ReadsAtMost};
 ghost use Rattle.aio_wire.specs.Got.{FitsRead, ReadLeavesShelf};
 ghost use Rattle.aio_edge.specs.Counts.{counting, Took};
 
+use crate::appended::{Appended, append_to, open_as};
 use aio_base::{Blob, Memory};
 use aio_wire::{Shelf, SinkTook, SourceGot};
 use std::alloc::Global;
-use std::fs::OpenOptions;
-use std::io::{ErrorKind, Read, Seek, SeekFrom, Write};
+use std::io::{ErrorKind, Read, Seek, SeekFrom};
 use std::{fs, io, rt};
 
 /// The most bytes that one read asks for.
 const LONGEST_READ: usize = 65_536;
 
 /// The files of the file system by their paths, as a shelf that tells nothing of what they hold. It has one count of
-/// failures for all of them.
+/// failures for all of them. The file that is appended to stays open until another is.
 #[derive(Drop)]
-pub struct Files<R> {
+pub struct Files<R: rt::Files> {
     rt: R,
+    appended: Option<Appended<R::File>>,
     faults: u64,
 }
 
@@ -27,7 +28,11 @@ impl<R: rt::Files> Files<R> {
     pub fn new(rt: R) -> Files<R>
         ensures { result.faults ≡ 0 }
     {
-        Files { rt, faults: 0 }
+        Files {
+            rt,
+            appended: None,
+            faults: 0,
+        }
     }
 }
 
@@ -47,17 +52,15 @@ impl<R: rt::Files> Shelf for Files<R> {
         Ok(self.got(read, piece))
     }
 
-    fn append(&mut self, _alloc: Global, name: &str, piece: &[u8]) -> Result<SinkTook, Memory> {
-        let opened = OpenOptions::new()
-            .append(true)
-            .create(true)
-            .open(&self.rt, name);
-        let wrote = append_to::<R>(opened, piece);
+    /// It takes memory for the name of a file that isn't open yet.
+    fn append(&mut self, alloc: Global, name: &str, piece: &[u8]) -> Result<SinkTook, Memory> {
+        open_as::<R>(&self.rt, &mut self.appended, alloc, name)?;
+        let wrote = append_to(&mut self.appended, name, piece);
         Ok(self.took(wrote))
     }
 }
 
-impl<R> Files<R> {
+impl<R: rt::Files> Files<R> {
     /// What is answered where the system read so: an error is a failure, and no bytes are the end.
     fn got(&mut self, read: io::Result<usize>, mut piece: Vec<u8>) -> SourceGot
         requires { ReadsAtMost read piece.items }
@@ -109,27 +112,6 @@ fn read_at<R: rt::Files>(
         match source.read(piece) {
             Err(error) if error.kind() == ErrorKind::Interrupted => {}
             read => return read,
-        }
-    }
-    Err(io::Error::from(ErrorKind::Interrupted))
-}
-
-/// Writes a front of the piece behind a file's end, and says how many bytes went. Nothing goes to a file that could not be
-/// opened.
-fn append_to<R: rt::Files>(opened: io::Result<R::File>, piece: &[u8]) -> io::Result<usize>
-    ensures bound { WritesAtMost result piece.now }
-    ensures some { IfOk result (λ count. 0 < length piece.now → 0 < count) }
-    ensures closed { IfErr opened (λ _. IsErr result) }
-{
-    let mut target = opened?;
-    if piece.is_empty() {
-        return Ok(0);
-    }
-    for _ in 0..u64::MAX {
-        match target.write(piece) {
-            Ok(0) => return Err(io::Error::from(ErrorKind::WriteZero)),
-            Err(error) if error.kind() == ErrorKind::Interrupted => {}
-            written => return written,
         }
     }
     Err(io::Error::from(ErrorKind::Interrupted))

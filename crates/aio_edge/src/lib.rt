@@ -1,6 +1,7 @@
 //! The outside of the system: its files as a shelf, and the standard output as a sink.
 #![tactic(auto)]
 
+mod appended;
 mod files;
 mod output;
 #[cfg(test)]

@@ -1,9 +1,12 @@
 //! The real shelf over files of the system, and the real sink over a standard output that fails in turn.
 
+mod scarce;
+
 use crate::files::Files;
 use crate::output::Output;
 use aio_base::Memory;
 use aio_wire::{Shelf, Sink, SinkTook, SourceGot};
+use scarce::Scarce;
 use std::alloc::Global;
 use std::cell::Cell;
 use std::fmt::Display;
@@ -155,5 +158,50 @@ fn whole_files(rt: HostRuntime) -> Result<(), Fail> {
         fs::remove_file(&rt, name.as_str())?;
         assert!(rt; held, "{size}");
     }
+    Ok(())
+}
+
+// A file that is appended to grows though no other can be opened. Its name alone opens it.
+#[test]
+fn no_descriptor_left(rt: HostRuntime) -> Result<(), Fail> {
+    let alloc = rt.alloc();
+    let process = process::id(rt.process());
+    let name = format!(in alloc; "/tmp/aio-scarce-{process}")?;
+    let other = format!(in alloc; "/tmp/aio-other-{process}")?;
+    let scarce = Scarce {
+        files: &rt,
+        left: Cell::new(1),
+    };
+    let mut files = Files::new(&scarce);
+    for (file, piece, want) in [
+        (&name, "ab", SinkTook::Took(2)),
+        (&name, "c", SinkTook::Took(1)),
+        (&other, "d", SinkTook::Failed),
+    ] {
+        let took = files.append(alloc, file.as_str(), piece.as_bytes())?;
+        assert!(rt; took == want, "a write of {piece:?} gave another answer");
+    }
+    let held = holds(alloc, &mut Files::new(&rt), name.as_str(), b"abc")?;
+    fs::remove_file(&rt, name.as_str())?;
+    assert!(rt; held, "what was appended");
+    Ok(())
+}
+
+// Two files that are appended to by turns have each its own pieces.
+#[test]
+fn two_files_by_turns(rt: HostRuntime) -> Result<(), Fail> {
+    let alloc = rt.alloc();
+    let process = process::id(rt.process());
+    let first = format!(in alloc; "/tmp/aio-first-{process}")?;
+    let second = format!(in alloc; "/tmp/aio-second-{process}")?;
+    let mut files = Files::new(&rt);
+    for (name, piece) in [(&first, "a"), (&second, "b"), (&first, "c"), (&second, "d")] {
+        files.append(alloc, name.as_str(), piece.as_bytes())?;
+    }
+    let right = holds(alloc, &mut files, first.as_str(), b"ac")?
+        && holds(alloc, &mut files, second.as_str(), b"bd")?;
+    fs::remove_file(&rt, first.as_str())?;
+    fs::remove_file(&rt, second.as_str())?;
+    assert!(rt; right, "another file's pieces");
     Ok(())
 }
