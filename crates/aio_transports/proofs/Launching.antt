@@ -113,5 +113,8 @@ module _ {W : Type 0} (o : Outside W) (laws : IsOutside o) (words : List (List �
       → OwnsChildren new.parts next
       → OwnsTransports old.parts (kept_all c p rest) → OwnsTransports new.parts (kept_all after next rest)
   own_launched said after is it owns own =
-      subst (λ (a : Conns). OwnsTransports new.parts (kept_all a next rest)) (sym is) (same_connections said
-      (kept_after said it own.0), owns)
+      subst (λ (a : Conns). OwnsTransports new.parts (kept_all a next rest)) (sym is) (
+        same_connections said
+            (kept_after said it own.0),
+        owns,
+      )
