@@ -6,7 +6,6 @@ use Rattle.std.proofs.Math.Logic.{∥∥₁_elim, ∥∥₁_map}
 use Rattle.std.proofs.Props.{props}
 use Rattle.std.proofs.lemmas.Bool.{eq-eqb}
 use Rattle.model_value.specs.Input.{Input}
-use Rattle.model_value.specs.Request.{Request}
 use Rattle.model_wire.specs.Event.{Event}
 use Rattle.model_value.specs.Value.{Exc, Outcome, Value}
 use Rattle.model_value.specs.declared.request.Request.TheVariants as request
@@ -37,7 +36,7 @@ use Rattle.aio_extra.specs.Called as by_call
 use Rattle.aio_extra.specs.Called.{IsServed, MayServe, SaysAs}
 use Rattle.aio_extra.specs.declared.asked.Asked.{Asked}
 use Rattle.aio_extra.specs.declared.asked.Asked.TheVariants.{Answer, Raise, Wait}
-use Rattle.aio_body.specs.Asked.{HasRested, IsAskingFor, IsDeciding, IsGoing, IsInStep, Says, Serves}
+use Rattle.aio_body.specs.Asked.{HasRested, IsAskingFor, IsDeciding, IsGoing, IsInStep, Says}
 use Rattle.aio_body.specs.Slots.{standing_at}
 use Rattle.aio_body.specs.Stands.{IsOwnSleep, Setting, Possible}
 use Rattle.aio_body.specs.declared.body.Body.{Body}
@@ -65,13 +64,12 @@ use Rattle.law_body.proofs.May.{same_prop}
 use Rattle.law_body.proofs.Rooms.{waits_so}
 use Rattle.law_body.proofs.Slotting.{stands_standing}
 use Rattle.law_body.proofs.Telling.{named_also}
-use Rattle.law_body.proofs.Growing.{decides_begins, replies_begin, reply_begins, row_begins}
+use Rattle.law_body.proofs.Growing.{decides_begins, replies_begin, row_begins}
 use Rattle.law_reach.proofs.Opened.{decides_comes}
 use Rattle.law_reach.proofs.Rows.{in_answer, in_callback, in_turn}
 use Rattle.law_reach.proofs.Streams.{done_row}
 use Rattle.law_reach.specs.Reaches.{left_by}
 use Rattle.model_stream.specs.Doing as doing
-use Rattle.law_body.proofs.Unasked.{reply_told}
 use Rattle.aio_serve.specs.Adding.{AnswersAgain, AnswersAs, IsAnswering, answered, answering, answering_once, HasAnswer, waking}
 use Rattle.aio_serve.proofs.Again.{answering_again}
 use Rattle.aio_serve.proofs.Meaning.{added_means}
@@ -477,24 +475,7 @@ module _ {X W : Type 0} (a : Added X) (o : Outside W) (task : ℕ) (asked : Aske
       (λ c at h. answered_begins a.meaning task at.1 at.0 (c.past ++ old.events.events) h.in_step.stands.events) result refl
       (IfOk-weaker result _ _ (λ told are c at h. (told_same, are c at.0 at.1 h)) answers)
 
--- a request that asks nothing, and what lacks memory
-module _ {X W : Type 0} (a : Added X) (o : Outside W) (task : ℕ) (asked : Request) (old : Body X) (wire : W) where
-  serving_begins : (c : Setting a) (s : State a.Kept) → IsAskingFor task asked c old s
-      → ReplyBegins (c.past ++ old.events.events) (plain.reply a.meaning task asked s)
-  serving_begins c s h = reply_begins a.meaning task (c.past ++ old.events.events) s h.going.in_step.stands.events asked
-
-  pub serves_without : (new : Body X)
-      → Comes o (serving a task asked old new) (ported wire old.events) (ported wire new.events) (Err stop.Memory)
-  serves_without new =
-      comes_without o (serving a task asked old new) (ported wire old.events) (ported wire new.events) serving_begins refl
-
-  pub serves_alone : (new : Body X) (result : Result RequestReply Memory) → Serves a task asked old new result
-      → Comes o (serving a task asked old new) (ported wire old.events) (ported wire new.events) (or_stop result)
-  serves_alone new result serves =
-      comes_alone o (serving a task asked old new) (ported wire old.events) (ported wire new.events) serving_begins result refl
-      (IfOk-weaker result _ _
-      (λ said are c s h. let says = are c s h in (reply_told task c new old s h.going.in_step said asked says, says)) serves)
-
+-- what lacks memory
 module _ {X W : Type 0} (a : Added X) (o : Outside W) (task key : ℕ) (input : Input) (old : Body X) (wire : W) where
   pub wakes_without : (new : Body X)
       → Comes o (waking a task key input old new) (ported wire old.events) (ported wire new.events) (Err stop.Memory)

@@ -18,17 +18,16 @@ use Rattle.model_machine.specs.Arguments.{as_awaited, as_int}
 use Rattle.model_machine.specs.Extra.{Extra}
 use Rattle.model_machine.specs.Replies.{Raises, awaits_as, most_ids, numbered_if, pauses, reply, sleeps, sleeps_for, spawns}
 use Rattle.model_machine.specs.State.{State}
-use Rattle.law_inside.proofs.Counts.{lives_within}
 use Rattle.law_kept.proofs.Telling.{pending_kept}
 use Rattle.law_settling.proofs.CancelSound.{plain_within}
 use Rattle.aio_task.specs.View.{parts}
 use Rattle.aio_extra.specs.Added.{Added}
-use Rattle.aio_body.specs.Asked.{IsGoing, IsAskingFor}
+use Rattle.aio_body.specs.Asked.{IsAskingFor}
 use Rattle.aio_body.specs.Named.{awaited_in}
-use Rattle.aio_body.specs.Stands.{IsOwnSleep, Setting, Possible}
+use Rattle.aio_body.specs.Stands.{IsOwnSleep, Possible}
 use Rattle.aio_body.specs.declared.body.Body.{Body}
 use Rattle.law_body.proofs.Lasting.{Spares}
-use Rattle.law_body.proofs.Sound.{awaited_pends, runs_living}
+use Rattle.law_body.proofs.Sound.{awaited_pends}
 use Rattle.aio_serve.proofs.Reading.{awaited_as, outcome_read}
 
 -- ---- what is meant
@@ -119,12 +118,3 @@ module _ {X : Type 0} {a : Added X} where
       pending_kept stands.ties body.parts s.loop.parts stands.keeps on
       ∙ awaited_pends a.meaning task x s going.sound w.1.1.says on (awaited_as task w.0 body s going x (Some on) named)
       (sym (outcome_read task w.0 body s going x on named) ∙ none))
-
-  -- the task whose step goes on has a slot
-  pub within_going : (task : ℕ) (c : Setting a) (body : Body X) (s : State a.Kept) → IsGoing task c body s → task < next_task s.loop.parts
-  within_going task c body s h = lives_within s.loop.parts task (runs_living a.meaning task s h.sound)
-
-  pub slot_there : (task : ℕ) (body : Body X) → Possible a (IsGoing task) body → task < length body.slots.items
-  slot_there task body m =
-      ∥∥₁_elim m (hlevel props) (λ w.
-      subst (λ n. task < n) (sym w.1.1.in_step.stands.made) (within_going task w.0 body w.1.0 w.1.1))

@@ -7,6 +7,5 @@ pub mod Callbacks
 pub mod Connects
 pub mod Handlers
 pub mod Opens
-pub mod Parking
 pub mod Writes
 pub mod Waits

@@ -25,16 +25,13 @@ module _ {A : Type 0} (gone : A → Bool) where
   left_again : (before : A → Bool) → ((one : A) → before one ≡ true → gone one ≡ true) → (these : List A)
       → left_of (filter (λ one. not (before one)) these) ≡ left_of these
   left_again before stays [] = refl
-  left_again before stays (one ∷ these) = by (before one) refl
+  left_again before stays (one ∷ these) = by (before one) refl (left_again before stays these)
     where
-      by : (b : Bool) → before one ≡ b
+      by : (b : Bool) → before one ≡ b → left_of (filter (λ x. not (before x)) these) ≡ left_of these
           → left_of (cond (not b) (one ∷ filter (λ x. not (before x)) these) (filter (λ x. not (before x)) these))
           ≡ cond (not (gone one)) (one ∷ left_of these) (left_of these)
-      by true e =
-          left_again before stays these
-          ∙ sym (ap (λ g. cond (not g) (one ∷ left_of these) (left_of these)) (stays one e))
-      by false e =
-          ap (λ (xs : List A). cond (not (gone one)) (one ∷ xs) xs) (left_again before stays these)
+      by true e again = again ∙ sym (ap (λ g. cond (not g) (one ∷ left_of these) (left_of these)) (stays one e))
+      by false e again = ap (λ (xs : List A). cond (not (gone one)) (one ∷ xs) xs) again
 
   left_more : (those these more : List A) → left_of those ≡ left_of these → left_of (those ++ more) ≡ left_of (these ++ more)
   left_more those these more it =
@@ -45,35 +42,31 @@ module _ {A : Type 0} (gone : A → Bool) where
   left_told : {B : Type 0} (told : A → List B) → ((one : A) → gone one ≡ true → told one ≡ []) → (these : List A)
       → flat_map told (left_of these) ≡ flat_map told these
   left_told told none [] = refl
-  left_told {B} told none (one ∷ these) = by (gone one) refl
+  left_told {B} told none (one ∷ these) = by (gone one) refl (left_told told none these)
     where
-      by : (g : Bool) → gone one ≡ g
+      by : (g : Bool) → gone one ≡ g → flat_map told (left_of these) ≡ flat_map told these
           → flat_map told (cond (not g) (one ∷ left_of these) (left_of these)) ≡ told one ++ flat_map told these
-      by true e = left_told told none these ∙ sym (ap (λ (xs : List B). xs ++ flat_map told these) (none one e))
-      by false e = ap (λ xs. told one ++ xs) (left_told told none these)
+      by true e same = same ∙ sym (ap (λ (xs : List B). xs ++ flat_map told these) (none one e))
+      by false e same = ap (λ xs. told one ++ xs) same
 
 -- ---- after a call
 within : (n : ℕ) (opened : List Opened) → length (take n opened) ≡ n → n ≤ length opened
 within n opened seen = let least = length-take n opened in omega (arith, seen, least)
+
+-- what is gone there
+abbrev gone_in : Streams → Opened → Bool
+gone_in s one = is_gone one s
 
 pub still_remains : (r : Remaining) (s after : Streams) → Lasts s after → Remains r s → Remains r after
 still_remains r s after lasts it =
     record {
       seen = ap length same ∙ it.seen;
       left =
-          sym (left_again now was stays r.those) ∙ ap (left_of now) it.left ∙ left_again now was stays (take r.seen s.opened)
-          ∙ ap (left_of now) (sym same);
+          sym (left_again (gone_in after) (gone_in s) lasts.gone r.those) ∙ ap (left_of (gone_in after)) it.left
+          ∙ left_again (gone_in after) (gone_in s) lasts.gone (take r.seen s.opened)
+          ∙ ap (left_of (gone_in after)) (sym same);
     }
   where
-    abbrev was : Opened → Bool
-    was = λ one. is_gone one s
-
-    abbrev now : Opened → Bool
-    now = λ one. is_gone one after
-
-    stays : (one : Opened) → was one ≡ true → now one ≡ true
-    stays one = lasts.gone one
-
     same : take r.seen after.opened ≡ take r.seen s.opened
     same =
         ap (take r.seen) lasts.grown.1
@@ -109,7 +102,7 @@ module _ (k : Kept) (s : Streams) (h : StandsFor k s) where
   gone_same (OpenedChild id) = ap (λ xs. holds_at is_over_child (slice_get xs id)) (sym h.children.children)
 
   abbrev gone : Opened → Bool
-  gone = λ one. is_gone one s
+  gone = gone_in s
 
   seen_since : take k.remaining.seen s.opened ++ since k.streams.opened k.remaining ≡ s.opened
   seen_since =

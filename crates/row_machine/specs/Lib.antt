@@ -1,6 +1,7 @@
 pub mod Added
 pub mod Asking
 pub mod Cancels
+pub mod Children
 pub mod Coroutines
 pub mod Groups
 pub mod Outputs
