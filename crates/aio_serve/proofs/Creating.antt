@@ -42,7 +42,7 @@ use Rattle.law_body.proofs.Slotting.{runs_no_other}
 use Rattle.law_body.proofs.Spawned.{LeavesMore, leaves_spawn, stands_made}
 use Rattle.aio_serve.proofs.Appending.{Appends, appends_on, appends_only, below_kept}
 use Rattle.aio_serve.proofs.GroupsOn.{StepLeaves, blocks_came, kept_of, stands_stepped, step_same}
-use Rattle.law_body.proofs.Slots.{within_going}
+use Rattle.law_body.proofs.HasSlot.{within_going}
 use Rattle.aio_serve.proofs.Saying.{answers_so, raises_so}
 
 -- ---- a callback is registered

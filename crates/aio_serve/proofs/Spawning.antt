@@ -20,7 +20,7 @@ use Rattle.aio_body.specs.declared.body.Body.{Body}
 use Rattle.law_body.proofs.Blocks.{blocks_on}
 use Rattle.law_body.proofs.Slotting.{runs_no_other}
 use Rattle.law_body.proofs.Spawned.{LeavesMore, leaves_spawn, stands_made}
-use Rattle.law_body.proofs.Slots.{within_going}
+use Rattle.law_body.proofs.HasSlot.{within_going}
 
 module _ {X : Type 0} {a : Added X} where
   pub spawns_so : (task coroutine : ℕ) (arguments : List Value) (c : Setting a) (old held : Body X) (s : State a.Kept) (v : View) → IsGoing task c old s

@@ -41,7 +41,7 @@ use Rattle.law_does.proofs.Nexts.{connects_add}
 use Rattle.law_does.proofs.Possible.{called_gone, pending_gone, running_gone}
 use Rattle.law_does.proofs.Requests.{begun_waits}
 use Rattle.law_does.proofs.Served.{asking_idle, serving_fails, serving_goes, serving_raises, serving_stands, serving_starves}
-use Rattle.law_body.proofs.Slots.{slot_there}
+use Rattle.law_body.proofs.HasSlot.{slot_there}
 
 module _ {X W : Type 0} {a : Added X} (task number : ℕ) (request : Request) (old : Body X) (o : Outside W)
     (possible : Possible a (IsAskingFor task request) old) (new : Body X) (wire after : W)

@@ -19,4 +19,4 @@ pub mod Over
 pub mod Growing
 pub mod Unasked
 pub mod Alone
-pub mod Slots
+pub mod HasSlot

@@ -12,7 +12,7 @@ use Rattle.aio_task.specs.View.{View}
 use Rattle.aio_serve.proofs.GroupExits.{begins_freshly, exit_pends, exits_so}
 use Rattle.aio_serve.proofs.Grouping.{belong_may, exit_entered, exit_fresh, exit_means, exit_refused}
 use Rattle.aio_serve.proofs.GroupsOn.{exit_begin_leaves, groups_stand}
-use Rattle.law_body.proofs.Slots.{slot_there, within_going}
+use Rattle.law_body.proofs.HasSlot.{slot_there, within_going}
 use Rattle.aio_serve.proofs.Saying.{raises_so}
 use Rattle.aio_serve.proofs.groups.exit_group.Goals as goal
 

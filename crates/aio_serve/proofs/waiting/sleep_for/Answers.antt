@@ -11,7 +11,7 @@ use Rattle.aio_body.specs.Slots.{standing_at}
 use Rattle.law_body.proofs.Asleep.{sleeps_so}
 use Rattle.law_body.proofs.May.{idle_of, running_of}
 use Rattle.law_body.proofs.Sound.{plain_named}
-use Rattle.law_body.proofs.Slots.{slot_there, within_going}
+use Rattle.law_body.proofs.HasSlot.{slot_there, within_going}
 use Rattle.aio_serve.proofs.waiting.sleep_for.Goals as goal
 
 pub suspend-suspension-requires-clause-idle : goal.suspend-suspension-requires-clause-idle
