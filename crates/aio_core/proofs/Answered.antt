@@ -21,7 +21,8 @@ use Rattle.aio_body.specs.Asking.{Comes}
 use Rattle.aio_body.specs.Stands.{IsBetween, Possible, Setting}
 use Rattle.aio_core.specs.declared.went.Went as code
 use Rattle.aio_core.specs.Watched.{StandsOn}
-use Rattle.aio_core.specs.Turning.{AliveIfWent, AsksBy, ComesTo, HasCause, IsAtRest, IsSelect, IsTime, StallsAs, StarvesAs, UnlessFailed, changed_by, said_by, stood_by}
+use Rattle.aio_core.specs.Turning.{AliveIfWent, AsksBy, ComesTo, HasCause, IsAtRest, IsSelect, IsTime, StallsAs}
+use Rattle.aio_core.specs.Turning.{StarvesAs, UnlessFailed, changed_by, said_by, stood_by}
 use Rattle.aio_core.specs.Turning.{turning, turning_by}
 use Rattle.aio_core.proofs.Asking.{HasGot, answered_so, got_alive, got_so}
 use Rattle.aio_core.proofs.AskedByTurn.{asked_in, starved_in, wire_over}

@@ -14,7 +14,8 @@ use Rattle.aio_wire.specs.declared.stop.Stop.TheVariants as stop
 use Rattle.aio_core.specs.declared.kernel.Kernel.{Kernel}
 use Rattle.aio_core.specs.declared.went.Went as code
 use Rattle.aio_core.specs.declared.went.Went.TheVariants as went
-use Rattle.aio_core.specs.Turning.{AsksBy, Change, ComesTo, EndsFrom, EndsTelling, GoesOnFrom, HasCause, IsAtRest, OfFailing, StallsAs, StarvesAs, Stood, UnlessFailed}
+use Rattle.aio_core.specs.Turning.{AsksBy, Change, ComesTo, EndsFrom, EndsTelling, GoesOnFrom, HasCause, IsAtRest}
+use Rattle.aio_core.specs.Turning.{OfFailing, StallsAs, StarvesAs, Stood, UnlessFailed}
 use Rattle.aio_core.specs.Turning.{WireTurn}
 
 -- the events that weren't taken out yet

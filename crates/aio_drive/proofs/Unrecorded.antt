@@ -62,7 +62,8 @@ module _ (program : Program) (how : Manner) (fault : End) (before after : WireSe
   early_unrecorded cut halt is old new cuts =
       early_wider (MayDrive program how fault (wire_until halt it))
       (MayDrive program how fault (over_front halt before after (Undisturbed fails quiet))) (IsUntold it) (IsUnbegun quiet before after)
-      (drives_as program how fault it (TellsUntil halt it) (AsksUntil halt before after) (asks_until halt it) (λ end. Unit {0})) (λ untold. untold.0) halt old new
+      (drives_as program how fault it (TellsUntil halt it) (AsksUntil halt before after) (asks_until halt it) (λ end. Unit {0}))
+      (λ untold. untold.0) halt old new
       (subst (λ (c : Cut). CutsShort program how fault it old new c) is cuts)
 
   -- no file fails where none is named

@@ -165,7 +165,8 @@ module _ (program : Program) (how : Manner) (it : Driven) (first mid : SinkSeen)
 
   pub cut_whole : (fails : Type 0) (told : Option (List ℕ) → List Event → Type 0) (caused : End → Type 0) (last : SinkSeen) (status : ℕ)
       → status ≡ 9 → last ≡ took mid (codes "! fault shelf\n")
-      → WritesWhole (MayRun (record { seen = between_of it; fails = fails; told = told; caused = caused }) program (pace_of it.shelf.name how)) first last status
+      → WritesWhole
+      (MayRun (record { seen = between_of it; fails = fails; told = told; caused = caused }) program (pace_of it.shelf.name how)) first last status
   unfolding cut_short
   cut_whole fails told caused last status is wrote = (
     cut_short,
@@ -177,7 +178,8 @@ module _ (program : Program) (how : Manner) (it : Driven) (first mid : SinkSeen)
 
   pub cut_early : (fails : Type 0) (told : Option (List ℕ) → List Event → Type 0) (caused : End → Type 0) (none : Type 0) (last : SinkSeen) (halt : Halt)
       → StopsWriting (codes "! fault shelf\n") mid last halt
-      → EndsEarly (MayRun (record { seen = between_of it; fails = fails; told = told; caused = caused }) program (pace_of it.shelf.name how)) none first last halt
+      → EndsEarly
+      (MayRun (record { seen = between_of it; fails = fails; told = told; caused = caused }) program (pace_of it.shelf.name how)) none first last halt
   cut_early fails told caused none last halt stopped =
       early_by (MayRun (record { seen = between_of it; fails = fails; told = told; caused = caused }) program (pace_of it.shelf.name how)) none first mid
       (lines_of_events how.trace (run program stops.had stops.made).events) stops.wrote cut_short (inr (inr stops_so))
@@ -203,7 +205,8 @@ run_by_script script old mid new before after name fails told caused pace spells
 
 pub run_without : (none : NoScript) (old new : ShelfSeen) (seen : WireSeen) (name : List ℕ) (fails : Type 0)
     (told : Option (List ℕ) → List Event → Type 0) (caused : End → Type 0) (pace : Pace) → IsMissing name old new none → new.file ≡ old.file
-    → (output : ProgramOutput) → Tells none output → MayRunOver (record { seen = between old new seen seen; fails = fails; told = told; caused = caused }) name pace output
+    → (output : ProgramOutput) → Tells none output
+    → MayRunOver (record { seen = between old new seen seen; fails = fails; told = told; caused = caused }) name pace output
 run_without (Refused number cause) old new seen name fails told caused pace missing kept output tells =
     let (text, why, says, spells, is) = missing.0 in
     let it : Outside = record { seen = between old new seen seen; fails = fails; told = told; caused = caused } in

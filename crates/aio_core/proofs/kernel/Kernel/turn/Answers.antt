@@ -57,7 +57,8 @@ returns-in-Ok g c =
         c.in-Ok.went,
         turned_up _ c.args.self.now _ c.keep.result c.in-Ok.went
             (kept_goes c.in-Ok.went c.keep.result c.take.new.self c.keep.new.kept c.take.ensures.after c.keep.ensures)
-            c.in-Ok.ensures.comes c.in-Ok.ensures.stalls c.in-Ok.ensures.asked c.in-Ok.ensures.caused c.in-Ok.ensures.starved c.in-Ok.ensures.quiet c.in-Ok.ensures.fails
+            c.in-Ok.ensures.comes c.in-Ok.ensures.stalls c.in-Ok.ensures.asked c.in-Ok.ensures.caused
+            c.in-Ok.ensures.starved c.in-Ok.ensures.quiet c.in-Ok.ensures.fails
             (kept_again c.in-Ok.went c.keep.result c.take.new.self c.keep.new.kept c.take.ensures.after c.keep.ensures),
       );
       sound = λ past answers s h. turn_sound g.X.Extra.added past answers c.args.self.now s h;
@@ -77,7 +78,8 @@ returns-in-Err g c =
         said,
         turned_up _ c.args.self.now _ c.keep-in-Err.result said
             (kept_goes said c.keep-in-Err.result c.take.new.self c.keep-in-Err.new.kept c.take.ensures.after c.keep-in-Err.ensures)
-            c.in-Err.ensures.comes c.in-Err.ensures.stalls c.in-Err.ensures.asked c.in-Err.ensures.caused c.in-Err.ensures.starved c.in-Err.ensures.quiet c.in-Err.ensures.fails
+            c.in-Err.ensures.comes c.in-Err.ensures.stalls c.in-Err.ensures.asked c.in-Err.ensures.caused
+            c.in-Err.ensures.starved c.in-Err.ensures.quiet c.in-Err.ensures.fails
             (kept_again said c.keep-in-Err.result c.take.new.self c.keep-in-Err.new.kept c.take.ensures.after c.keep-in-Err.ensures),
       );
       sound = λ past answers s h. turn_sound g.X.Extra.added past answers c.args.self.now s h;
