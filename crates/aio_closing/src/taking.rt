@@ -8,11 +8,13 @@ ghost use Rattle.aio_closing.specs.Ends.{AreEnds, TellsKth, HaveRuns, SettlesMor
 
 use crate::telling::{Telling, tell_all};
 use aio_hub::Launcher;
-use aio_inbox::{Inbox, InboxName, Poster};
+use aio_inbox::{Inbox, InboxName, Post, Poster};
 use aio_lane::Head;
 use aio_lanes::{ChildLanes, Lanes};
 use aio_postbox::Postbox;
 use aio_roster::Roster;
+use std::sync::Wait;
+use std::thread;
 
 fn forget_head(_head: Head) {}
 
@@ -41,8 +43,38 @@ fn taken<Run: Drop>(lanes: &mut Lanes<Run>, number: u32) -> Run
     }
 }
 
+fn forget_post(_post: Post) {}
+
+// Takes a post, of which nobody is told, or waits a little where there is none.
+fn take_post<N: InboxName, R: Wait>(rt: &R, postbox: &mut Postbox<N>)
+    ensures { postbox.new.settled ≡ postbox.old.settled }
+{
+    match postbox.take(rt) {
+        Some(post) => forget_post(post),
+        None => thread::yield_now(),
+    }
+}
+
+// Takes posts until the pumps of a run have ended: one that finds the inbox full waits for room.
+fn make_room<N: InboxName, R: Wait, L: Launcher<Inbox<N>, Poster<N>>>(
+    rt: &R,
+    launcher: &L,
+    postbox: &mut Postbox<N>,
+    run: &L::Run,
+)
+    ensures { postbox.new.settled ≡ postbox.old.settled }
+{
+    for _ in rt.forever() {
+        if launcher.has_ended(run) {
+            return;
+        }
+        take_post(rt, postbox);
+    }
+    unreachable!()
+}
+
 // Takes in the child with the k-th of the numbers of those that run. It may wait for its pumps.
-fn take_one<N: InboxName, R, L: Launcher<Inbox<N>, Poster<N>>>(
+fn take_one<N: InboxName, R: Wait, L: Launcher<Inbox<N>, Poster<N>>>(
     rt: &R,
     launcher: &mut L,
     roster: &Roster,
@@ -62,13 +94,14 @@ fn take_one<N: InboxName, R, L: Launcher<Inbox<N>, Poster<N>>>(
 {
     let child = roster.running_child(k);
     let run = taken(lanes, child.number);
+    make_room(rt, launcher, postbox, &run);
     let reports = launcher.take_in(run);
     tell_all(rt, postbox, telling, child.number, reports);
 }
 
 /// Takes in all children that run, in order of launching, and tells how their pumps ended. It may wait
-/// for the pumps.
-pub(crate) fn take_all<N: InboxName, R, L: Launcher<Inbox<N>, Poster<N>>>(
+/// for the pumps, and takes their posts meanwhile.
+pub(crate) fn take_all<N: InboxName, R: Wait, L: Launcher<Inbox<N>, Poster<N>>>(
     rt: &R,
     launcher: &mut L,
     roster: &Roster,

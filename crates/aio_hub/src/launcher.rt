@@ -47,6 +47,12 @@ pub trait Launcher<Inbox, Poster> {
         ensures launches { (seen self.new).launches ≡ (seen self.old).launches }
         ensures later { (seen self.old).faults ≤ (seen self.new).faults };
 
+    /// Whether the pumps of a child have ended, so that `take_in`, which comes next, waits for none of
+    /// them. A launcher whose pumps end with their launch needs no answer of its own.
+    fn has_ended(&self, _run: &Self::Run) -> bool {
+        true
+    }
+
     /// What the pumps of a child did. It may wait for them.
     fn take_in(&mut self, run: Self::Run) -> PumpReports<Poster>
         ensures none { StartsNone (seen self.old) (seen self.new) }

@@ -132,8 +132,18 @@ impl<R: Wait, N: InboxName> Launcher<Inbox<N>, Poster<N>> for RealLauncher<R, N>
         }
     }
 
+    fn has_ended(&self, run: &Run<N>) -> bool {
+        if let Some(process) = self.processes.get(&run.child) {
+            process.leave();
+        }
+        run.reports.are_there(&self.rt)
+    }
+
     fn take_in(&mut self, run: Run<N>) -> PumpReports<Poster<N>> {
         let Run { child, reports } = run;
+        if let Some(process) = self.processes.get(&child) {
+            process.leave();
+        }
         let done = PumpReports {
             stdin: reports.stdin.next(&self.rt),
             out: reports.out.next(&self.rt),

@@ -32,6 +32,11 @@ impl<T: Drop> Slot<T> {
         self.came.notify_one();
     }
 
+    /// Whether a value is there.
+    pub fn is_there<R: Wait>(&self, rt: &R) -> bool {
+        self.item.lock(rt).is_some()
+    }
+
     /// Takes the value. It waits until one is there.
     pub fn next<R: Wait>(&self, rt: &R) -> T {
         let mut item = self.item.lock(rt);

@@ -1,37 +1,43 @@
 //! What wakes the poller from another thread.
-ghost use Rattle.std.specs.Prelude.{None};
+ghost use Rattle.std.specs.Prelude.{◌≡◌, Some, IfOk};
 
+use crate::wakes::{Wakes, wake};
 use aio_pump::Bell;
 use mio::Waker;
 use std::alloc::{AllocError, Global};
 use std::sync::Arc;
 
-/// A bell of the poller that it was made of. It tells nothing of its rings, and no clause says that anybody is woken.
-/// Source: `selector_events.py`, `_write_to_self`.
+/// A bell of the poller that it was made of. It tells how often it was rung, and no clause says that anybody is woken.
 #[derive(Drop)]
 pub struct PollerBell {
     waker: Arc<Waker, Global>,
+    wakes: Wakes,
 }
 
 impl PollerBell {
-    pub fn of(waker: Arc<Waker, Global>) -> PollerBell {
-        PollerBell { waker }
+    /// It was not rung so far.
+    pub fn of(waker: Arc<Waker, Global>) -> PollerBell
+        ensures { result.wakes ≡ 0 }
+    {
+        PollerBell {
+            waker,
+            wakes: Wakes::none(),
+        }
     }
 
-    /// Another bell of the same poller, for another thread.
-    pub fn again(&self) -> Result<PollerBell, AllocError> {
-        Ok(PollerBell {
-            waker: Arc::try_clone(&self.waker)?,
-        })
+    /// Another bell of the same poller, for another thread. It was not rung so far.
+    pub fn again(&self) -> Result<PollerBell, AllocError>
+        ensures { IfOk result (λ bell. bell.wakes ≡ 0) }
+    {
+        Ok(PollerBell::of(Arc::try_clone(&self.waker)?))
     }
 }
 
 impl Bell for PollerBell {
-    ghost rings = { λ bell. None };
+    ghost rings = { λ bell. Some bell.wakes };
 
-    /// Ends the poll that is under way, or else the next. Where the system refuses that, nobody is told: whoever polls
-    /// next takes the post.
+    /// Ends the poll that is under way, or else the next.
     fn ring(&mut self) {
-        let _ = self.waker.wake();
+        self.wakes.count(wake(&self.waker));
     }
 }

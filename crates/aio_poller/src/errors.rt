@@ -1,5 +1,9 @@
 //! Which errors of the system are answers. Any other is a fault.
 //! Source: `selector_events.py`; the library reference, "Exceptions", `OSError`.
+ghost use Rattle.std.specs.Prelude.{◌≡◌};
+ghost use Rattle.std.specs.IoError.{error_kind};
+ghost use Rattle.aio_poller.specs.Answers.{is_idle, is_lost, is_barred, is_short, unready, refused};
+
 use aio_wire::Answer;
 use std::io;
 use std::io::ErrorKind;
@@ -8,15 +12,26 @@ use std::io::ErrorKind;
 const SHORTAGES: [i32; 4] = [24, 23, 105, 12];
 
 /// The system has no descriptor or no buffer left.
-pub fn is_short(error: &io::Error) -> bool {
+pub fn is_short(error: &io::Error) -> bool
+    ensures { result ≡ is_short error.now }
+{
     match error.raw_os_error() {
         Some(number) => SHORTAGES.contains(&number),
         None => false,
     }
 }
 
+/// Nothing came yet, or a signal interrupted the call.
+fn is_idle(kind: ErrorKind) -> bool
+    ensures { result ≡ is_idle kind }
+{
+    matches!(kind, ErrorKind::WouldBlock | ErrorKind::Interrupted)
+}
+
 /// The peer is gone, or the way to it.
-pub fn is_lost(kind: ErrorKind) -> bool {
+pub fn is_lost(kind: ErrorKind) -> bool
+    ensures { result ≡ is_lost kind }
+{
     matches!(
         kind,
         ErrorKind::ConnectionReset
@@ -31,25 +46,36 @@ pub fn is_lost(kind: ErrorKind) -> bool {
     )
 }
 
-/// What a listener or a connection answers from which nothing came.
-pub fn unready(error: io::Error) -> io::Result<Answer> {
-    match error.kind() {
-        ErrorKind::WouldBlock | ErrorKind::Interrupted => Ok(Answer::Again),
-        kind if is_lost(kind) => Ok(Answer::Broken),
-        _ => Err(error),
+/// The address is taken, isn't there or isn't permitted.
+fn is_barred(kind: ErrorKind) -> bool
+    ensures { result ≡ is_barred kind }
+{
+    matches!(
+        kind,
+        ErrorKind::AddrInUse | ErrorKind::AddrNotAvailable | ErrorKind::PermissionDenied
+    )
+}
+
+/// What an accept, a recv or a send answers where the system failed so: `again` where nothing came yet, and nowhere else.
+pub fn unready(error: io::Error) -> io::Result<Answer>
+    ensures { result ≡ unready error }
+{
+    let kind = error.kind();
+    if is_idle(kind) {
+        Ok(Answer::Again)
+    } else if is_lost(kind) {
+        Ok(Answer::Broken)
+    } else {
+        Err(error)
     }
 }
 
-/// What a listener or a connection answers that the system won't have.
-pub fn refused(error: io::Error) -> io::Result<Answer> {
+/// What a listen or a connect answers where the system failed so.
+pub fn refused(error: io::Error) -> io::Result<Answer>
+    ensures { result ≡ refused error }
+{
     let kind = error.kind();
-    let is_refused = is_lost(kind)
-        || is_short(&error)
-        || matches!(
-            kind,
-            ErrorKind::AddrInUse | ErrorKind::AddrNotAvailable | ErrorKind::PermissionDenied
-        );
-    if is_refused {
+    if is_lost(kind) || is_short(&error) || is_barred(kind) {
         Ok(Answer::Refused)
     } else {
         Err(error)

@@ -1,6 +1,7 @@
 //! The sockets of the system: listeners and connections on 127.0.0.1, polled over epoll.
 #![tactic(auto)]
 
+mod answers;
 mod bell;
 mod conn;
 mod errors;
@@ -8,6 +9,8 @@ mod registration;
 mod server;
 mod sockets;
 mod system;
+mod time;
+mod wakes;
 
 pub use bell::PollerBell;
 pub use system::RealPoller;

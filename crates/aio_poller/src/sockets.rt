@@ -1,9 +1,10 @@
 //! The open sockets. A call may fail; that is counted above.
+use crate::answers::{received, sent, shut};
 use crate::bell::PollerBell;
 use crate::conn::Conn;
-use crate::errors::{is_lost, is_short, refused, unready};
+use crate::errors::{is_short, refused, unready};
 use crate::server::Server;
-use aio_base::{Blob, Memory};
+use aio_base::Memory;
 use aio_wire::{Answer, Call, Item, Readiness, Watch};
 use indexmap::IndexMap;
 use mio::event::Event;
@@ -14,7 +15,7 @@ use std::io;
 use std::io::{ErrorKind, Read, Write};
 use std::net::{Ipv4Addr, Net, Shutdown, SocketAddr};
 use std::sync::Arc;
-use std::time::{Clock, Duration, Instant};
+use std::time::Duration;
 
 /// The most bytes that one recv takes.
 const MOST_BYTES: usize = 262_144;
@@ -26,9 +27,7 @@ const MOST_ITEMS: usize = 4_096;
 const BELL: Token = Token(usize::MAX);
 
 #[derive(Drop)]
-pub struct Sockets<R> {
-    rt: R,
-    start: Instant,
+pub struct Sockets {
     poll: Poll,
     events: Events,
     waker: Arc<Waker, Global>,
@@ -42,15 +41,12 @@ pub struct Sockets<R> {
     buffer: Vec<u8>,
 }
 
-impl<R: Net + Clock + Drop> Sockets<R> {
-    /// No socket. The time begins now.
-    pub fn make(rt: R, alloc: Global) -> io::Result<Sockets<R>> {
-        let poll = Poll::new(&rt)?;
+impl Sockets {
+    /// No socket.
+    pub fn make<R: Net>(rt: &R, alloc: Global) -> io::Result<Sockets> {
+        let poll = Poll::new(rt)?;
         let waker = Arc::new(alloc, Waker::new(poll.registry(), BELL)?)?;
-        let start = Instant::now(&rt)?;
         Ok(Sockets {
-            rt,
-            start,
             poll,
             events: Events::with_capacity(alloc, MOST_ITEMS)?,
             waker,
@@ -63,38 +59,15 @@ impl<R: Net + Clock + Drop> Sockets<R> {
             buffer: vec![in alloc; 0; MOST_BYTES]?,
         })
     }
-}
 
-impl<R> Sockets<R> {
     pub fn bell(&self) -> Result<PollerBell, Memory> {
         Ok(PollerBell::of(Arc::try_clone(&self.waker)?))
     }
-}
 
-impl<R: Net + Clock> Sockets<R> {
-    /// Milliseconds since it was made. The clock never goes back.
-    fn now(&self) -> io::Result<u64> {
-        let since = self.start.elapsed(&self.rt)?;
-        Ok(since.as_millis().min(i64::MAX as u128) as u64)
-    }
-
-    /// Waits for what is watched; when it was done, and what was found.
-    pub fn find(
-        &mut self,
-        alloc: Global,
-        wait: Option<u64>,
-        watch: &[Watch],
-    ) -> io::Result<(u64, Vec<Item>)> {
-        let now = self.wait_for(wait, watch)?;
-        let items = self.items_of(alloc, watch)?;
-        Ok((now, items))
-    }
-
-    /// Waits for what is watched, and says when it was done. What was found stands in the sockets.
-    fn wait_for(&mut self, wait: Option<u64>, watch: &[Watch]) -> io::Result<u64> {
+    /// Waits for what is watched, from now on. What was found stands in the sockets.
+    pub fn wait_for(&mut self, now: u64, wait: Option<u64>, watch: &[Watch]) -> io::Result<()> {
         self.round = self.round.wrapping_add(1);
         let mut wait = wait;
-        let now = self.now()?;
         for entry in watch {
             if let Some(rest) = self.watch_entry(*entry, now)? {
                 wait = Some(wait.map_or(rest, |other| other.min(rest)));
@@ -105,11 +78,13 @@ impl<R: Net + Clock> Sockets<R> {
             .poll
             .poll(&mut self.events, wait.map(Duration::from_millis))
         {
-            Ok(()) => self.note_events(),
-            Err(error) if error.kind() == ErrorKind::Interrupted => {}
-            Err(error) => return Err(error),
+            Ok(()) => {
+                self.note_events();
+                Ok(())
+            }
+            Err(error) if error.kind() == ErrorKind::Interrupted => Ok(()),
+            Err(error) => Err(error),
         }
-        self.now()
     }
 
     fn note_events(&mut self) {
@@ -182,7 +157,7 @@ impl<R: Net + Clock> Sockets<R> {
     }
 
     /// What was found of what is watched, in that order.
-    fn items_of(&mut self, alloc: Global, watch: &[Watch]) -> io::Result<Vec<Item>> {
+    pub fn items_of(&mut self, alloc: Global, watch: &[Watch]) -> io::Result<Vec<Item>> {
         let mut items = Vec::new(alloc);
         for entry in watch {
             if items.len() >= MOST_ITEMS {
@@ -241,12 +216,18 @@ impl<R: Net + Clock> Sockets<R> {
         Some(Item::Ready { conn, ready })
     }
 
-    /// What a call on a socket comes to.
-    pub fn answer(&mut self, alloc: Global, call: &Call) -> io::Result<Answer> {
+    /// What a call on a socket comes to, at this time.
+    pub fn answer<R: Net>(
+        &mut self,
+        rt: &R,
+        alloc: Global,
+        call: &Call,
+        now: u64,
+    ) -> io::Result<Answer> {
         match call {
-            Call::Listen(port) => self.listen(*port),
-            Call::Accept(server) => self.accept(*server),
-            Call::Connect(port) => self.connect(*port),
+            Call::Listen(port) => self.listen(rt, *port),
+            Call::Accept(server) => self.accept(*server, now),
+            Call::Connect(port) => self.connect(rt, *port),
             Call::Recv(conn) => self.recv(alloc, *conn),
             Call::Send { conn, bytes } => self.send(*conn, bytes.items()),
             Call::Shut(conn) => self.shut(*conn),
@@ -269,8 +250,8 @@ impl<R: Net + Clock> Sockets<R> {
         }
     }
 
-    fn listen(&mut self, port: u16) -> io::Result<Answer> {
-        let listener = match TcpListener::bind(&self.rt, here(port)) {
+    fn listen<R: Net>(&mut self, rt: &R, port: u16) -> io::Result<Answer> {
+        let listener = match TcpListener::bind(rt, here(port)) {
             Ok(listener) => listener,
             Err(error) => return refused(error),
         };
@@ -280,8 +261,7 @@ impl<R: Net + Clock> Sockets<R> {
         Ok(Answer::Done)
     }
 
-    fn accept(&mut self, number: u32) -> io::Result<Answer> {
-        let now = self.now()?;
+    fn accept(&mut self, number: u32, now: u64) -> io::Result<Answer> {
         let Some(server) = self.servers.get_mut(&number) else {
             return Ok(Answer::Broken);
         };
@@ -295,8 +275,8 @@ impl<R: Net + Clock> Sockets<R> {
         }
     }
 
-    fn connect(&mut self, port: u16) -> io::Result<Answer> {
-        match TcpStream::connect(&self.rt, here(port)) {
+    fn connect<R: Net>(&mut self, rt: &R, port: u16) -> io::Result<Answer> {
+        match TcpStream::connect(rt, here(port)) {
             Ok(stream) => self.keep(Conn::begun(stream)),
             Err(error) => refused(error),
         }
@@ -314,35 +294,22 @@ impl<R: Net + Clock> Sockets<R> {
         let Some(conn) = self.conns.get(&conn) else {
             return Ok(Answer::Broken);
         };
-        match (&conn.stream).read(self.buffer.as_mut_slice()) {
-            Ok(0) => Ok(Answer::Eof),
-            Ok(count) => {
-                let bytes = Vec::from_slice(alloc, &self.buffer[..count])?;
-                Ok(Answer::Data(Blob::of(bytes)))
-            }
-            Err(error) => unready(error),
-        }
+        let read = (&conn.stream).read(self.buffer.as_mut_slice());
+        received(alloc, read, self.buffer.as_slice())
     }
 
     fn send(&mut self, conn: u32, bytes: &[u8]) -> io::Result<Answer> {
         let Some(conn) = self.conns.get(&conn) else {
             return Ok(Answer::Broken);
         };
-        match (&conn.stream).write(bytes) {
-            Ok(0) => Ok(Answer::Again),
-            Ok(count) => Ok(Answer::Took(count as u64)),
-            Err(error) => unready(error),
-        }
+        sent((&conn.stream).write(bytes))
     }
 
     fn shut(&mut self, conn: u32) -> io::Result<Answer> {
         let Some(conn) = self.conns.get(&conn) else {
             return Ok(Answer::Done);
         };
-        match conn.stream.shutdown(Shutdown::Write) {
-            Err(error) if !is_lost(error.kind()) => Err(error),
-            _ => Ok(Answer::Done),
-        }
+        shut(conn.stream.shutdown(Shutdown::Write))
     }
 }
 

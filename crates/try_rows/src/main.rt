@@ -2,20 +2,15 @@
 //! out otherwise it prints a line, and at the end how many rows there were.
 #![tactic(auto)]
 
-mod line;
-mod row;
-mod stopped;
+mod running;
 mod tally;
 
-use aio_text::next_line;
-use line::{RowLine, line_of};
-use row::Row;
 use std::alloc::Global;
 use std::process::ExitCode;
 use std::rt::{Env, Files};
 use std::{env, fs};
-use stopped::RowsStopped;
 use tally::Tally;
+use try_row::{RowReader, RowsStopped};
 
 fn main(rt: HostRuntime) -> ExitCode {
     match run_files(&rt, rt.alloc()) {
@@ -39,32 +34,19 @@ fn run_files<R: Env + Files + Print + AllocGlobal>(
     Ok(tally)
 }
 
-/// Runs the rows of a text, each as soon as the next one begins.
+/// Runs the rows of a text, one after another.
 fn run_rows<R: Print>(
     rt: &R,
     alloc: Global,
     text: &[u8],
     tally: &mut Tally,
 ) -> Result<(), RowsStopped> {
-    let mut row: Option<Row> = None;
-    let mut rest = text;
+    let mut rows = RowReader::new(text);
     for _ in 0..u64::MAX {
-        let Some((bytes, more)) = next_line(rest) else {
+        let Some(row) = rows.next(alloc)? else {
             break;
         };
-        rest = more;
-        match (line_of(bytes), &mut row) {
-            (RowLine::Row(name), _) => {
-                if let Some(whole) = row.replace(Row::new(alloc, name)?) {
-                    tally.run(rt, alloc, whole)?;
-                }
-            }
-            (_, None) => {}
-            (line, Some(open)) => open.add(alloc, &line)?,
-        }
+        tally.run(rt, alloc, row)?;
     }
-    match row {
-        Some(whole) => tally.run(rt, alloc, whole),
-        None => Ok(()),
-    }
+    Ok(())
 }

@@ -1,7 +1,7 @@
 //! How many rows there were, and how many came out otherwise.
-use crate::row::{Row, Verdict};
-use crate::stopped::RowsStopped;
+use crate::running::{Verdict, run};
 use std::alloc::Global;
+use try_row::{Row, RowsStopped};
 
 #[derive(Clone, Copy)]
 pub struct Tally {
@@ -23,7 +23,7 @@ impl Tally {
         mut row: Row,
     ) -> Result<(), RowsStopped> {
         self.rows = self.rows.saturating_add(1);
-        match row.run(alloc) {
+        match run(alloc, &mut row) {
             Verdict::Right => return Ok(()),
             Verdict::OtherStatus(status) => println!(rt;
                 "{}: ended with status {status}",

@@ -1,8 +1,7 @@
 //! A row: words, files, and what must come of them.
 use crate::line::RowLine;
 use aio_base::Memory;
-use aio_memwire::{DeadWire, FailAt};
-use aio_run::aio_main;
+use aio_memwire::FailAt;
 use aio_text::number;
 use aio_wire::{MemShelf, MemSink, Shelf};
 use std::alloc::Global;
@@ -15,42 +14,32 @@ enum Into {
     Written,
 }
 
-/// The words of one call of the program, its files, which calls of the outside fail, what it must write and how it must
-/// end.
+/// The words of one call of the program, its files and its output, each with the calls that fail, what it must write, and
+/// how it must end, in digits.
 #[derive(Drop)]
 pub struct Row {
     pub name: String,
-    words: Vec<String>,
-    shelf: FailAt<MemShelf>,
-    out: FailAt<MemSink>,
+    pub words: Vec<String>,
+    pub shelf: FailAt<MemShelf>,
+    pub out: FailAt<MemSink>,
+    pub written: Vec<u8>,
+    status: Vec<u8>,
     file: String,
     into: Into,
-    written: Vec<u8>,
-    status: Vec<u8>,
-}
-
-/// What came of a row.
-#[derive(Clone, Copy)]
-pub enum Verdict {
-    Right,
-    /// It ended with this status.
-    OtherStatus(u8),
-    /// What it wrote differs first at this byte, from 0.
-    OtherText(usize),
 }
 
 impl Row {
-    /// A row without words, files or text, which must end with status 0.
+    /// A row without words, files or text.
     pub fn new(alloc: Global, name: &str) -> Result<Row, Memory> {
         Ok(Row {
             name: String::from_str(alloc, name)?,
             words: Vec::new(alloc),
             shelf: FailAt::new(MemShelf::new(alloc), Vec::new(alloc)),
             out: FailAt::new(MemSink::new(alloc), Vec::new(alloc)),
-            file: String::new(alloc),
-            into: Into::Nowhere,
             written: Vec::new(alloc),
             status: Vec::new(alloc),
+            file: String::new(alloc),
+            into: Into::Nowhere,
         })
     }
 
@@ -83,6 +72,11 @@ impl Row {
             RowLine::Times(words) => self.add_times(alloc, words),
             RowLine::Row(_) | RowLine::Comment => Ok(()),
         }
+    }
+
+    /// Whether the program must end with this status.
+    pub fn ends_with(&self, status: u8) -> bool {
+        number(&self.status) == Some(u64::from(status))
     }
 
     /// Notes a call that fails: of the shelf or of the sink, counted from 1 over all calls that the program makes on it.
@@ -127,33 +121,5 @@ impl Row {
                 Ok(())
             }
         }
-    }
-
-    /// Runs the program over the row's words and files.
-    pub fn run(&mut self, alloc: Global) -> Verdict {
-        let status = aio_main(
-            alloc,
-            &self.words,
-            &mut self.shelf,
-            &mut DeadWire::new(),
-            &mut self.out,
-        );
-        if number(&self.status) != Some(u64::from(status)) {
-            return Verdict::OtherStatus(status);
-        }
-        match first_difference(self.out.inner.taken(), &self.written) {
-            Some(at) => Verdict::OtherText(at),
-            None => Verdict::Right,
-        }
-    }
-}
-
-/// Where two texts differ first.
-fn first_difference(one: &[u8], other: &[u8]) -> Option<usize> {
-    let found = one.iter().zip(other).position(|(a, b)| a != b);
-    match found {
-        Some(at) => Some(at),
-        None if one.len() == other.len() => None,
-        None => Some(one.len().min(other.len())),
     }
 }

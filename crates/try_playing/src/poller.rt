@@ -1,0 +1,39 @@
+//! A poller by whose polls the pumps of children post.
+use crate::plan::Posts;
+use crate::stage::Stage;
+use aio_base::Memory;
+use aio_hub::{Polled, Poller};
+use aio_inbox::InboxName;
+use aio_wire::{Call, Reply, WatchList};
+use std::alloc::Global;
+use std::collections::VecDeque;
+use std::sync::{Arc, Wait};
+
+/// Answers as the poller in it does. Before each poll the pumps post what comes next, and nothing past the list.
+#[derive(Drop)]
+pub struct PlayPoller<N: InboxName, R, P> {
+    pub rt: R,
+    pub stage: Arc<Stage<N>, Global>,
+    pub polls: VecDeque<Posts>,
+    pub inner: P,
+}
+
+impl<N: InboxName, R: Wait, P: Poller> Poller for PlayPoller<N, R, P> {
+    ghost seen = { λ poller. P.seen poller.inner };
+
+    fn poll(
+        &mut self,
+        alloc: Global,
+        wait: Option<u64>,
+        watch: &WatchList,
+    ) -> Result<Polled, Memory> {
+        if let Some(posts) = self.polls.pop_front() {
+            self.stage.post_all(&self.rt, posts);
+        }
+        self.inner.poll(alloc, wait, watch)
+    }
+
+    fn net(&mut self, alloc: Global, call: &Call) -> Result<Reply, Memory> {
+        self.inner.net(alloc, call)
+    }
+}
