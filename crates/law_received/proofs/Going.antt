@@ -1,0 +1,433 @@
+-- What reads took is a front of what was received, and goes on with each small thing that the machine does.
+use Rattle.std.proofs.Common.{◌≡◌, ℕ, zero, suc, ◌+◌, ◌-◌, ◌<◌, ◌≤◌, Bool, true, false, cond, eqb, List, [], ◌∷◌, ◌++◌, Option, Some, None, length, nat_lt}
+use Rattle.std.proofs.Common.{take, refl, sym, ap, subst, ◌∙◌, le_refl, max, arith}
+use Rattle.std.proofs.lemmas.Bool.{false≢true, lt-ltb}
+use Rattle.std.proofs.lemmas.List.{append-nil, append_assoc, length-append}
+use Rattle.model_pump.specs.declared.stream.Stream.TheVariants as stream
+use Rattle.model_tree.specs.Syntax.{Program}
+use Rattle.model_value.specs.declared.action.Action.TheVariants as action
+use Rattle.model_value.specs.declared.action.ChildItem.{ChildItem}
+use Rattle.model_value.specs.declared.action.ChildItem.TheVariants as news
+use Rattle.model_value.specs.Action.{Action}
+use Rattle.model_wire.specs.declared.call.Call.TheVariants as call
+use Rattle.model_wire.specs.declared.event.Event.TheVariants as event
+use Rattle.model_wire.specs.Call.{Call, Answer}
+use Rattle.model_wire.specs.Event.{Event}
+use Rattle.model_wire.specs.Fits.{fits}
+use Rattle.model_wire.specs.Journal.{Entry}
+use Rattle.model_loop.specs.Handles.{due, soon, soon_all}
+use Rattle.model_loop.specs.Parts.{Handle, Parts}
+use Rattle.model_loop.specs.Totals.{callbacks_of}
+use Rattle.model_stream.specs.Requests.{StreamReader, OfConn, OfChild}
+use Rattle.model_stream.specs.Streams.{Streams}
+use Rattle.model_machine.specs.Outside.{news_of, select, time_of, watched}
+use Rattle.model_machine.specs.State.{State, start}
+use Rattle.model_machine.specs.Turn.{at_time, woken_by}
+use Rattle.law_bytes.specs.ReaderSteps.{taken_away}
+use Rattle.law_changes.specs.Changes.{FallsDue, Passes}
+use Rattle.law_sender.specs.Ways.{Move, Did, Heard, one_if, told_by}
+use Rattle.law_walk.specs.Walks.{In, IsAside, IsHere, News, Walks, hears, is_aside, made_on, news_in, says}
+use Rattle.law_received.specs.Received.{AreReadInOrder, HaveRead, brought_by, brought_last, bytes_if, held_of, read_of, received, received_after, told_to}
+use Rattle.law_received.specs.Running.{AreBelow, Entry, IsBetween, IsDue, IsReading, NoNews, NoneNews, OwnNoNews, entries_of, is_news, is_news_to, may_hear, waiting}
+use Rattle.law_received.proofs.AllFed.{all_fed}
+use Rattle.law_received.specs.Feeding.{AreFed}
+use Rattle.law_received.proofs.Select.{told_count, told_once}
+use Rattle.law_received.proofs.Waiting.{Appends, Follows, below_both, below_later, due_after, due_heard, due_over, due_streams, due_taken, due_told}
+use Rattle.law_received.proofs.Waiting.{entries_push, goes_on, made_follows, none_behind, none_empty}
+
+-- ---- what is received in events, one after another
+-- events that say for themselves what is received, whatever call came before
+abbrev pub SayAll : StreamReader → List Event → Type 0
+SayAll from events = (last : Option Call) → received_after from last events ≡ received from events
+
+pub received_then : (from : StreamReader) (last : Option Call) (events more : List Event) → SayAll from more
+    → received_after from last (events ++ more) ≡ received_after from last events ++ received from more
+received_then from last [] more say = say last
+received_then from last (event.Called it ∷ events) more say = received_then from (Some it) events more say
+received_then from last (event.Got came ∷ events) more say =
+    ap (λ bytes. brought_last from last came ++ bytes) (received_then from None events more say)
+    ∙ sym (append_assoc (brought_last from last came) (received_after from None events) (received from more))
+received_then from last (event.Ran it ∷ events) more say =
+    ap (λ bytes. told_to from it ++ bytes) (received_then from last events more say)
+    ∙ sym (append_assoc (told_to from it) (received_after from last events) (received from more))
+received_then from last (event.Said task text ∷ events) more say = received_then from last events more say
+
+pub moves_say : (from : StreamReader) (moves : List Move) → SayAll from (told_by moves)
+moves_say from [] last = refl
+moves_say from (Did change ∷ moves) last = moves_say from moves last
+moves_say from (Heard it came ∷ moves) last = refl
+
+ran_say : (from : StreamReader) (it : Action) (moves : List Move) → SayAll from (event.Ran it ∷ told_by moves)
+ran_say from it moves last = ap (λ bytes. told_to from it ++ bytes) (moves_say from moves last)
+
+-- what happens beside brings nothing
+beside_none : (from : StreamReader) (it : Call) (came : Answer) → is_aside it ≡ true → brought_by from it came ≡ []
+beside_none (OfConn id) (call.Select wait watched) came is = refl
+beside_none (OfConn id) (call.Extra code bytes) came is = refl
+beside_none (OfChild pipe id) (call.Select wait watched) came is = refl
+beside_none (OfChild pipe id) (call.Extra code bytes) came is = refl
+beside_none from _ came is = absurd (false≢true is)
+
+-- and so does a handle that has no news
+ran_none : (from : StreamReader) (it : Action) → news_in it ≡ None → told_to from it ≡ []
+ran_none (OfConn id) it none = refl
+ran_none (OfChild pipe id) (action.ChildItem child told) none = absurd (let bad : ⊥ = cc in bad)
+ran_none (OfChild stream.Out id) _ none = refl
+ran_none (OfChild stream.Errs id) _ none = refl
+
+-- ---- what was read
+pub taken_front : (front back : List ℕ) → take (length front) (front ++ back) ≡ front
+taken_front [] back = refl
+taken_front (byte ∷ front) back = ap (λ bytes. byte ∷ bytes) (taken_front front back)
+
+read_is : (went held : List ℕ) → taken_away (went ++ held) held ≡ went
+read_is went held =
+    ap (λ n. take n (went ++ held)) (let e = length-append went held in omega (arith, e)) ∙ taken_front went held
+
+-- what a step adds to what was read
+pub record ReadsMore (from : StreamReader) (s : Streams) (events : List Event) (after : Streams) (later_ : List Event) : Type 0 where
+  pub went : List ℕ
+  pub read : read_of from after later_ ≡ read_of from s events ++ went
+  pub order : received from later_ ≡ read_of from after later_ ++ held_of from after
+
+abbrev pub ReadMore : Streams → List Event → Streams → List Event → Type 0
+ReadMore s events after later_ = (from : StreamReader) → ReadsMore from s events after later_
+
+-- a step in which this is brought, and this goes
+whole_of : (from : StreamReader) (s : Streams) (events : List Event) (after : Streams) (later_ : List Event) (brought went : List ℕ)
+    → received from events ≡ read_of from s events ++ held_of from s → received from later_ ≡ received from events ++ brought
+    → held_of from s ++ brought ≡ went ++ held_of from after → received from later_ ≡ (read_of from s events ++ went) ++ held_of from after
+whole_of from s events after later_ brought went ordered came fed =
+    came ∙ ap (λ bytes. bytes ++ brought) ordered ∙ append_assoc (read_of from s events) (held_of from s) brought
+    ∙ ap (λ bytes. read_of from s events ++ bytes) fed ∙ sym (append_assoc (read_of from s events) went (held_of from after))
+
+pub read_more : (from : StreamReader) (s : Streams) (events : List Event) (after : Streams) (later_ : List Event) (brought went : List ℕ)
+    → received from events ≡ read_of from s events ++ held_of from s → received from later_ ≡ received from events ++ brought
+    → held_of from s ++ brought ≡ went ++ held_of from after → read_of from after later_ ≡ read_of from s events ++ went
+read_more from s events after later_ brought went ordered came fed =
+    ap (λ all. taken_away all (held_of from after)) (whole_of from s events after later_ brought went ordered came fed)
+    ∙ read_is (read_of from s events ++ went) (held_of from after)
+
+step : (from : StreamReader) (s : Streams) (events : List Event) (after : Streams) (later_ : List Event) (brought went : List ℕ)
+    → received from events ≡ read_of from s events ++ held_of from s → received from later_ ≡ received from events ++ brought
+    → held_of from s ++ brought ≡ went ++ held_of from after → ReadsMore from s events after later_
+step from s events after later_ brought went ordered came fed =
+    let read = read_more from s events after later_ brought went ordered came fed in
+    record {
+      went = went;
+      read = read;
+      order = whole_of from s events after later_ brought went ordered came fed ∙ ap (λ bytes. bytes ++ held_of from after) (sym read);
+    }
+
+-- with events that bring nothing
+still : (s : Streams) (events more : List Event) (p : Parts) → AreReadInOrder s events p → ((from : StreamReader) → SayAll from more)
+    → ((from : StreamReader) → received from more ≡ []) → ReadMore s events s (events ++ more)
+still s events more p ordered say none from =
+    step from s events s (events ++ more) [] [] (ordered from)
+    (received_then from None events more (say from) ∙ ap (λ bytes. received from events ++ bytes) (none from))
+    (append-nil (held_of from s))
+
+-- with what a tree does
+moved : (s : Streams) (events : List Event) (p : Parts) (moves : List Move) (after : Streams) → AreReadInOrder s events p → AreFed None s moves after
+    → ReadMore s events after (events ++ told_by moves)
+moved s events p moves after ordered fed from =
+    let it = fed.each from in
+    step from s events after (events ++ told_by moves) (received from (told_by moves)) it.0 (ordered from)
+    (received_then from None events (told_by moves) (moves_say from moves)) it.1.order
+
+-- with what a child told, where its pipe takes more
+told_nothing : (from : StreamReader) (it : Action) → (is_news_to from it ≡ true → ⊥) → told_to from it ≡ []
+told_nothing (OfConn id) it none = refl
+told_nothing (OfChild stream.Out id) (action.ChildItem child (news.Out bytes)) none = at (eqb id child) none
+  where
+    at : (b : Bool) → (b ≡ true → ⊥) → bytes_if b bytes ≡ []
+    at true none_ = absurd (none_ refl)
+    at false none_ = refl
+told_nothing (OfChild stream.Errs id) (action.ChildItem child (news.Errs bytes)) none = at (eqb id child) none
+  where
+    at : (b : Bool) → (b ≡ true → ⊥) → bytes_if b bytes ≡ []
+    at true none_ = absurd (none_ refl)
+    at false none_ = refl
+told_nothing (OfChild stream.Out id) _ none = refl
+told_nothing (OfChild stream.Errs id) _ none = refl
+
+fed_all : (from : StreamReader) (it : Action) (b : Bool) → (is_news_to from it ≡ true → b ≡ true) → bytes_if b (told_to from it) ≡ told_to from it
+fed_all from it true heard = refl
+fed_all from it false heard = sym (told_nothing from it (λ is. false≢true (heard is)))
+
+told : (s : Streams) (events : List Event) (p : Parts) (child : ℕ) (it : ChildItem (List ℕ)) (moves : List Move) (after : Streams)
+    → AreReadInOrder s events p → AreFed (Some (child, it)) s moves after
+    → ((from : StreamReader) → is_news_to from (action.ChildItem child it) ≡ true → may_hear from s ≡ true)
+    → ReadMore s events after (events ++ event.Ran (action.ChildItem child it) ∷ told_by moves)
+told s events p child it moves after ordered fed heard from =
+    let act = action.ChildItem child it in
+    let one = fed.each from in
+    step from s events after (events ++ event.Ran act ∷ told_by moves) (told_to from act ++ received from (told_by moves)) one.0 (ordered from)
+    (received_then from None events (event.Ran act ∷ told_by moves) (ran_say from act moves))
+    (ap (λ bytes. held_of from s ++ (bytes ++ received from (told_by moves))) (sym (fed_all from act (may_hear from s) (heard from))) ∙ one.1.order)
+
+-- ---- what waits: the answer to a select
+waiting_both : (from : StreamReader) (xs ys : List Entry) → waiting from (xs ++ ys) ≡ waiting from xs + waiting from ys
+waiting_both from [] ys = omega arith
+waiting_both from (x ∷ xs) ys = let rest = waiting_both from xs ys in omega (arith, rest)
+
+news_is : (from : StreamReader) (it : Action) → is_news it ≡ false → is_news_to from it ≡ false
+news_is (OfConn id) it none = refl
+news_is (OfChild pipe id) (action.ChildItem child told) none = absurd (false≢true (sym none))
+news_is (OfChild stream.Out id) _ none = refl
+news_is (OfChild stream.Errs id) _ none = refl
+
+waiting_none : (from : StreamReader) (xs : List Entry) → NoneNews xs → waiting from xs ≡ 0
+waiting_none from [] none = refl
+waiting_none from (x ∷ xs) none =
+    let one : one_if (is_news_to from x.action) ≡ 0 = ap one_if (news_is from x.action none.0) in
+    let rest = waiting_none from xs none.1 in
+    omega (arith, one, rest)
+
+-- callbacks that are appended, whatever they are
+pub record Brings (actions : List Action) (p q : Parts) : Type 0 where
+  pub own : OwnNoNews p → OwnNoNews q
+  pub more : List Entry
+  pub pending : entries_of q.pending ≡ entries_of p.pending ++ more
+  pub below : AreBelow q.next_stamp more
+  pub later : p.next_stamp ≤ q.next_stamp
+  pub count : (from : StreamReader) → waiting from more ≡ told_count from actions
+
+brings : (actions : List Action) (p : Parts) → Brings actions p (soon_all actions p)
+brings [] p =
+    record {
+      own = λ own. own;
+      more = [];
+      pending = sym (append-nil (entries_of p.pending));
+      below = tt;
+      later = le_refl _;
+      count = λ from. refl;
+    }
+brings (it ∷ actions) p =
+    let rest = brings actions (soon it p) in
+    let one = record { stamp = p.next_stamp; action = it } in
+    let up : p.next_stamp + 1 ≤ (soon_all actions (soon it p)).next_stamp = rest.later in
+    record {
+      own = λ own. rest.own (record { callbacks = own.callbacks; timers = own.timers });
+      more = one ∷ rest.more;
+      pending = rest.pending
+          ∙ ap (λ es. es ++ rest.more) (entries_push p.pending (record { stamp = p.next_stamp; tag = p.next_tag; action = it; dead = false }))
+          ∙ append_assoc (entries_of p.pending) (one ∷ []) rest.more;
+      below = (omega (arith, up), rest.below);
+      later = omega (arith, up);
+      count = λ from. let counted = rest.count from in omega (arith, counted);
+    }
+
+many_entries : (handles : List Handle) → length (entries_of handles) ≡ length handles
+many_entries [] = refl
+many_entries (x ∷ xs) = ap suc (many_entries xs)
+
+no_first : (first : List Entry) → length first ≡ 0 → (from : StreamReader) → waiting from first ≡ 0
+no_first [] none from = refl
+no_first (x ∷ xs) none from = absurd (let many : suc (length xs) ≡ 0 = none in omega (arith, many))
+
+woken_due : (s : Streams) (p : Parts) (time : Option ℕ) (extra : Bool) (came : Answer) → fits (select time (watched s extra)) came ≡ true
+    → IsDue 0 0 s p → IsDue (woken_by came p).next_stamp (length (woken_by came p).pending) s (woken_by came p)
+woken_due s p time extra came fit rests =
+    record {
+      own = last.own (mid.own timed.own);
+      first = entries_of q.pending;
+      since = [];
+      pending = sym (append-nil (entries_of q.pending));
+      many = many_entries q.pending;
+      before = stamps;
+      after = tt;
+      stamps = subst (AreBelow q.next_stamp) (sym (append-nil (entries_of q.pending))) stamps;
+      once = once;
+    }
+  where
+    p1 : Parts
+    p1 = at_time (time_of came) p
+
+    p2 : Parts
+    p2 = soon_all (news_of came) (at_time (time_of came) p)
+
+    q : Parts
+    q = woken_by came p
+
+    timed : IsDue 0 0 s (at_time (time_of came) p)
+    timed = due_after 0 0 s p (at_time (time_of came) p) (goes_on.change (Passes (time_of came)) p tt) rests
+
+    mid : Brings (news_of came) (at_time (time_of came) p) (soon_all (news_of came) (at_time (time_of came) p))
+    mid = brings (news_of came) (at_time (time_of came) p)
+
+    last : Follows (soon_all (news_of came) (at_time (time_of came) p)) (woken_by came p)
+    last = goes_on.change FallsDue (soon_all (news_of came) (at_time (time_of came) p)) tt
+
+    dues : Appends (soon_all (news_of came) (at_time (time_of came) p)) (woken_by came p)
+    dues = last.appends (mid.own timed.own)
+
+    whole : entries_of (woken_by came p).pending ≡ ((timed.first ++ timed.since) ++ mid.more) ++ dues.more
+    whole = dues.pending ∙ ap (λ es. es ++ dues.more) (mid.pending ∙ ap (λ es. es ++ mid.more) timed.pending)
+
+    stamps : AreBelow (woken_by came p).next_stamp (entries_of (woken_by came p).pending)
+    stamps =
+        let n1 = (at_time (time_of came) p).next_stamp in
+        let n2 = (soon_all (news_of came) (at_time (time_of came) p)).next_stamp in
+        let n3 = (woken_by came p).next_stamp in
+        subst (AreBelow n3) (sym whole)
+        (below_both n3 ((timed.first ++ timed.since) ++ mid.more) dues.more
+        (below_later n2 n3 ((timed.first ++ timed.since) ++ mid.more) dues.later
+        (below_both n2 (timed.first ++ timed.since) mid.more (below_later n1 n2 (timed.first ++ timed.since) mid.later timed.stamps) mid.below))
+        dues.below)
+
+    once : (from : StreamReader) → waiting from (entries_of (woken_by came p).pending) ≤ one_if (may_hear from s)
+    once from =
+        let all = ap (waiting from) whole in
+        let a = waiting_both from ((timed.first ++ timed.since) ++ mid.more) dues.more in
+        let b = waiting_both from (timed.first ++ timed.since) mid.more in
+        let c = waiting_both from timed.first timed.since in
+        let d = no_first timed.first timed.many from in
+        let e = waiting_none from timed.since timed.after in
+        let f = mid.count from in
+        let g = waiting_none from dues.more dues.none in
+        let h = told_once s time extra came fit from in
+        omega (arith, all, a, b, c, d, e, f, g, h)
+
+-- ---- what is told so goes on
+-- what goes on with what is read
+pub record TellsOn (Tells : Streams → List Event → Parts → Type 0) : Type 0 where
+  pub ordered : (s : Streams) (events : List Event) (p : Parts) → Tells s events p → AreReadInOrder s events p
+  pub reads : (s : Streams) (events : List Event) (p : Parts) (after : Streams) (later_ : List Event) (q : Parts) → ReadMore s events after later_
+      → Tells s events p → Tells after later_ q
+  pub loops : (s : Streams) (events : List Event) (p q : Parts) → Tells s events p → Tells s events q
+
+pub order_tells : TellsOn AreReadInOrder
+order_tells =
+    record {
+      ordered = λ s events p it. it;
+      reads = λ s events p after later_ q more it from. (more from).order;
+      loops = λ s events p q it. it;
+    }
+
+pub have_tells : (from : StreamReader) (bytes : List ℕ) → TellsOn (HaveRead from bytes)
+have_tells from bytes =
+    record {
+      ordered = λ s events p it. it.ordered;
+      reads = λ s events p after later_ q more it.
+          record {
+            ordered = λ other. (more other).order;
+            more = it.more ++ (more from).went;
+            first = (more from).read ∙ ap (λ all. all ++ (more from).went) it.first ∙ append_assoc bytes it.more (more from).went;
+          };
+      loops = λ s events p q it. record { ordered = it.ordered; more = it.more; first = it.first };
+    }
+
+module _ {Tells : Streams → List Event → Parts → Type 0} (on_ : TellsOn Tells) where
+  beside_reads : (s : Streams) (events more : List Event) (p : Parts) → IsAside more → Tells s events p → Tells s (events ++ more) p
+  beside_reads s events _ p (says task text) it =
+      on_.reads s events p s (events ++ event.Said task text ∷ []) p
+      (still s events (event.Said task text ∷ []) p (on_.ordered s events p it) (λ from last. refl) (λ from. refl)) it
+  beside_reads s events _ p (hears asked came is) it =
+      on_.reads s events p s (events ++ event.Called asked ∷ event.Got came ∷ []) p
+      (still s events (event.Called asked ∷ event.Got came ∷ []) p (on_.ordered s events p it) (λ from last. refl)
+      (λ from. ap (λ bytes. bytes ++ []) (beside_none from asked came is))) it
+
+  pub here : (bar left : ℕ) → IsHere Follows AreFed Tells (IsReading Tells bar left)
+  here bar left =
+      record {
+        tells = λ s events p it. it.tells;
+        beside = λ s events more p is it. record { tells = beside_reads s events more p is it.tells; due = it.due };
+        loops = λ s events p q follows it. record { tells = on_.loops s events p q it.tells; due = due_after bar left s p q follows it.due };
+        tree = λ s events p moves after fed it.
+            record {
+              tells = on_.reads s events p after (events ++ told_by moves) (made_on moves p)
+                  (moved s events p moves after (on_.ordered s events p it.tells) fed) it.tells;
+              due = due_streams bar left s after (made_on moves p) (λ from. (fed.each from).1.hears refl)
+                  (due_after bar left s p (made_on moves p) (made_follows moves p fed.schedule) it.due);
+            };
+      }
+
+  ran_reads : (bar left : ℕ) (s : Streams) (events : List Event) (p : Parts) (handle : Handle) (rest : List Handle) (it : Action)
+      → p.pending ≡ handle ∷ rest → news_in it ≡ None → IsReading Tells bar (suc left) s events p
+      → IsReading Tells bar left s (events ++ event.Ran it ∷ []) (record p { pending = rest })
+  ran_reads bar left s events p handle rest it first none reading =
+      record {
+        tells = on_.reads s events p s (events ++ event.Ran it ∷ []) (record p { pending = rest })
+            (still s events (event.Ran it ∷ []) p (on_.ordered s events p reading.tells) (λ from. ran_say from it [])
+            (λ from. ap (λ bytes. bytes ++ []) (ran_none from it none))) reading.tells;
+        due = due_taken bar left s p handle rest first reading.due;
+      }
+
+  told_reads : (bar left : ℕ) (s : Streams) (events : List Event) (p : Parts) (handle : Handle) (rest : List Handle) (child : ℕ)
+      (it : ChildItem (List ℕ)) (moves : List Move) (after : Streams) → p.pending ≡ handle ∷ rest → handle.action ≡ action.ChildItem child it
+      → AreFed (Some (child, it)) s moves after → IsReading Tells bar (suc left) s events p
+      → IsReading Tells bar left after (events ++ event.Ran (action.ChildItem child it) ∷ told_by moves) (made_on moves (record p { pending = rest }))
+  told_reads bar left s events p handle rest child it moves after first is fed reading =
+      record {
+        tells = on_.reads s events p after (events ++ event.Ran (action.ChildItem child it) ∷ told_by moves)
+            (made_on moves (record p { pending = rest }))
+            (told s events p child it moves after (on_.ordered s events p reading.tells) fed
+            (λ from news. due_heard bar left s p handle rest from first reading.due (ap (is_news_to from) is ∙ news))) reading.tells;
+        due = due_after bar left after (record p { pending = rest }) (made_on moves (record p { pending = rest }))
+            (made_follows moves (record p { pending = rest }) fed.schedule)
+            (due_told bar left s after p handle rest first reading.due
+            (λ from none. (fed.each from).1.hears (sym (ap (is_news_to from) is) ∙ none)));
+      }
+
+  pub walks : Walks Follows AreFed Tells (IsReading Tells)
+  walks =
+      record {
+        goes_on = goes_on;
+        trees = all_fed;
+        here = here;
+        wakes = λ s events p time extra came fit it.
+            record {
+              tells = on_.loops s (events ++ event.Called (select time (watched s extra)) ∷ event.Got came ∷ []) p (woken_by came p)
+                  (beside_reads s events _ p (hears (select time (watched s extra)) came refl) it.tells);
+              due = woken_due s p time extra came fit it.due;
+            };
+        taken = λ bar left s events p handle rest first dead it.
+            record {
+              tells = on_.loops s events p (record p { pending = rest }) it.tells;
+              due = due_taken bar left s p handle rest first it.due;
+            };
+        runs = λ bar left s events p handle rest it first live is none reading. ran_reads bar left s events p handle rest it first none reading;
+        news = λ bar left s events p handle rest child told moves after first live is fed reading.
+            told_reads bar left s events p handle rest child told moves after first is fed reading;
+        empty = λ bar left s events p none it. absurd (none_empty bar left s p none it.due);
+        stops = λ bar left s events p handle rest first behind it.
+            absurd (false≢true (sym behind ∙ lt-ltb handle.stamp bar (none_behind bar left s p handle rest first it.due)));
+        ends = λ bar s events p it. record { tells = it.tells; due = due_over bar s p it.due };
+      }
+
+-- ---- a run begins so
+pub begins : {S : Type 0} (most : ℕ) (state : S) (program : Program) (answers : List Entry) → In IsBetween (start most state program answers)
+begins most state program answers = record { tells = tells; due = due_first }
+  where
+    tells : AreReadInOrder (start most state program answers).streams [] (start most state program answers).loop.parts
+    tells (OfConn id) = refl
+    tells (OfChild stream.Out id) = refl
+    tells (OfChild stream.Errs id) = refl
+
+    callbacks : (id : ℕ) → NoNews (callbacks_of (start most state program answers).loop.parts id)
+    callbacks zero = (refl, tt)
+    callbacks (suc id) = tt
+
+    due_first : IsDue 0 0 (start most state program answers).streams (start most state program answers).loop.parts
+    due_first =
+        record {
+          own = record { callbacks = callbacks; timers = tt };
+          first = [];
+          since = entries_of (start most state program answers).loop.parts.pending;
+          pending = refl;
+          many = refl;
+          before = tt;
+          after = (refl, tt);
+          stamps = (omega arith, tt);
+          once = λ from. omega arith;
+        }
+
+-- from a state on, with what was read so far
+pub read_now : {S : Type 0} (s : State S) (from : StreamReader) → In IsBetween s
+    → In (IsReading (HaveRead from (read_of from s.streams s.events)) 0 0) s
+read_now s from between =
+    record {
+      tells = record { ordered = between.tells; more = []; first = sym (append-nil (read_of from s.streams s.events)) };
+      due = between.due;
+    }

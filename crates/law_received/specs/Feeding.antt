@@ -1,0 +1,43 @@
+-- What is done to all that is open, told of each reader: what it held, and what it was told and received then, is what went and
+-- what it holds after.
+use Rattle.std.specs.Prelude.{◌≡◌, ℕ, Bool, true, false, List, [], ◌∷◌, ◌++◌, Some, None}
+use Rattle.model_value.specs.declared.action.Action.TheVariants as action
+use Rattle.model_stream.specs.Doing.{CallSoon, MakeFuture, Settle}
+use Rattle.model_stream.specs.Requests.{StreamReader}
+use Rattle.model_stream.specs.Streams.{Streams}
+use Rattle.law_sender.specs.Ways.{Move, Did, Heard, told_by}
+use Rattle.law_walk.specs.Walks.{News}
+use Rattle.law_received.specs.Received.{bytes_if, held_of, received, told_to}
+use Rattle.law_received.specs.Running.{is_news, is_news_to, may_hear}
+
+-- moves that schedule no news
+abbrev pub ScheduleNone : List Move → Type 0
+ScheduleNone [] = Unit {0}
+ScheduleNone (Did MakeFuture ∷ moves) = ScheduleNone moves
+ScheduleNone (Did (Settle future outcome) ∷ moves) = ScheduleNone moves
+ScheduleNone (Did (CallSoon it) ∷ moves) = (is_news it ≡ false) × ScheduleNone moves
+ScheduleNone (Heard it came ∷ moves) = ScheduleNone moves
+
+-- ---- what a callback tells
+abbrev pub fed_if : Bool → StreamReader → News → List ℕ
+fed_if b from None = []
+fed_if b from (Some it) = bytes_if b (told_to from (action.ChildItem it.0 it.1))
+
+abbrev pub is_told : StreamReader → News → Bool
+is_told from None = false
+is_told from (Some it) = is_news_to from (action.ChildItem it.0 it.1)
+
+-- this went
+pub record IsFed (from : StreamReader) (news : News) (went : List ℕ) (s : Streams) (moves : List Move) (after : Streams) : Type 0 where
+  pub order : held_of from s ++ (fed_if (may_hear from s) from news ++ received from (told_by moves)) ≡ went ++ held_of from after
+  -- a pipe that takes more goes on to, but where news of it come
+  pub hears : is_told from news ≡ false → may_hear from s ≡ true → may_hear from after ≡ true
+
+pub record AreFed (news : News) (s : Streams) (moves : List Move) (after : Streams) : Type 0 where
+  pub schedule : ScheduleNone moves
+  pub each : (from : StreamReader) → (went : List ℕ) × IsFed from news went s moves after
+
+-- nothing went
+pub record AreOnlyFed (news : News) (s : Streams) (moves : List Move) (after : Streams) : Type 0 where
+  pub schedule : ScheduleNone moves
+  pub each : (from : StreamReader) → IsFed from news [] s moves after

@@ -1,0 +1,4 @@
+pub mod Feeding
+pub mod Gives
+pub mod Received
+pub mod Running

@@ -1,0 +1,103 @@
+-- What children told waits within a turn to be run: at most one callback for each pipe, which takes more then, so none is in
+-- vain. Between turns none waits.
+use Rattle.std.specs.Prelude.{◌≡◌, ℕ, ◌+◌, ◌<◌, ◌≤◌, Bool, true, false, ◌==◌, List, [], ◌∷◌, ◌++◌, Option, Some, None, length}
+use Rattle.std.specs.Prelude.{slice_get}
+use Rattle.model_pump.specs.declared.stream.Stream.{Stream}
+use Rattle.model_pump.specs.declared.stream.Stream.TheVariants as stream
+use Rattle.model_value.specs.declared.action.Action.TheVariants as action
+use Rattle.model_value.specs.declared.action.ChildItem.TheVariants as news
+use Rattle.model_value.specs.Action.{Action}
+use Rattle.model_wire.specs.Event.{Event}
+use Rattle.model_loop.specs.Parts.{Handle, Parts, Timer}
+use Rattle.model_loop.specs.Totals.{callbacks_of}
+use Rattle.model_stream.specs.Children.{Child, its_pipe}
+use Rattle.model_stream.specs.Receivers.{takes_more}
+use Rattle.model_stream.specs.Requests.{StreamReader, OfConn, OfChild}
+use Rattle.model_stream.specs.Streams.{Streams}
+use Rattle.law_sender.specs.Ways.{one_if}
+use Rattle.law_received.specs.Received.{AreReadInOrder}
+
+-- ---- news
+-- bytes of a pipe, or its end
+abbrev pub is_news_to : StreamReader → Action → Bool
+is_news_to (OfChild stream.Out id) (action.ChildItem child (news.Out bytes)) = id == child
+is_news_to (OfChild stream.Out id) (action.ChildItem child news.OutEnd) = id == child
+is_news_to (OfChild stream.Errs id) (action.ChildItem child (news.Errs bytes)) = id == child
+is_news_to (OfChild stream.Errs id) (action.ChildItem child news.ErrsEnd) = id == child
+is_news_to _ _ = false
+
+-- of a child, whatever it tells
+abbrev pub is_news : Action → Bool
+is_news (action.ChildItem child told) = true
+is_news _ = false
+
+-- a pipe hears news where it takes more; a connection is told none
+abbrev pub pipe_hears : Stream → Option Child → Bool
+pipe_hears pipe None = false
+pipe_hears pipe (Some p) = takes_more ((its_pipe pipe).get p)
+
+abbrev pub may_hear : StreamReader → Streams → Bool
+may_hear (OfConn id) s = true
+may_hear (OfChild pipe id) s = pipe_hears pipe (slice_get s.children id)
+
+-- ---- what is no news
+abbrev pub NoNews : List Action → Type 0
+NoNews [] = Unit {0}
+NoNews (it ∷ more) = (is_news it ≡ false) × NoNews more
+
+abbrev pub NoneTimed : List Timer → Type 0
+NoneTimed [] = Unit {0}
+NoneTimed (timer ∷ timers) = (is_news timer.action ≡ false) × NoneTimed timers
+
+-- none is registered on a future, and none has a time
+pub record OwnNoNews (p : Parts) : Type 0 where
+  pub callbacks : (id : ℕ) → NoNews (callbacks_of p id)
+  pub timers : NoneTimed p.timers
+
+-- ---- handles, by their stamps and what they do
+pub record Entry : Type 0 where
+  pub stamp : ℕ
+  pub action : Action
+
+abbrev pub entry_of : Handle → Entry
+entry_of handle = record { stamp = handle.stamp; action = handle.action }
+
+abbrev pub entries_of : List Handle → List Entry
+entries_of [] = []
+entries_of (handle ∷ handles) = entry_of handle ∷ entries_of handles
+
+abbrev pub AreBelow : ℕ → List Entry → Type 0
+AreBelow bar [] = Unit {0}
+AreBelow bar (entry ∷ entries) = (entry.stamp < bar) × AreBelow bar entries
+
+abbrev pub NoneNews : List Entry → Type 0
+NoneNews [] = Unit {0}
+NoneNews (entry ∷ entries) = (is_news entry.action ≡ false) × NoneNews entries
+
+-- how many have news of a pipe
+abbrev pub waiting : StreamReader → List Entry → ℕ
+waiting from [] = 0
+waiting from (entry ∷ entries) = one_if (is_news_to from entry.action) + waiting from entries
+
+-- ---- within a turn
+-- The first handles may run still: so many, all appended before the bar. What was appended since has no news, and there is at
+-- most one handle with news of a pipe, which takes more.
+pub record IsDue (bar left : ℕ) (s : Streams) (p : Parts) : Type 0 where
+  pub own : OwnNoNews p
+  pub first : List Entry
+  pub since : List Entry
+  pub pending : entries_of p.pending ≡ first ++ since
+  pub many : length first ≡ left
+  pub before : AreBelow bar first
+  pub after : NoneNews since
+  pub stamps : AreBelow p.next_stamp (first ++ since)
+  pub once : (from : StreamReader) → waiting from first ≤ one_if (may_hear from s)
+
+-- ---- what holds within a turn, and tells this
+pub record IsReading (Tells : Streams → List Event → Parts → Type 0) (bar left : ℕ) (s : Streams) (events : List Event) (p : Parts) : Type 0 where
+  pub tells : Tells s events p
+  pub due : IsDue bar left s p
+
+-- between turns, and with these bytes read first
+abbrev pub IsBetween : Streams → List Event → Parts → Type 0
+IsBetween = IsReading AreReadInOrder 0 0
