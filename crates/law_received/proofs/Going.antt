@@ -27,10 +27,11 @@ use Rattle.law_bytes.specs.ReaderSteps.{taken_away}
 use Rattle.law_changes.specs.Changes.{FallsDue, Passes}
 use Rattle.law_sender.specs.Ways.{Move, Did, Heard, one_if, told_by}
 use Rattle.law_walk.specs.Walks.{In, IsAside, IsHere, News, Walks, hears, is_aside, made_on, news_in, says}
-use Rattle.law_received.specs.Received.{AreReadInOrder, HaveRead, brought_by, brought_last, bytes_if, held_of, read_of, received, received_after, told_to}
-use Rattle.law_received.specs.Running.{AreBelow, Entry, IsBetween, IsDue, IsReading, NoNews, NoneNews, OwnNoNews, entries_of, is_news, is_news_to, may_hear, waiting}
-use Rattle.law_received.proofs.AllFed.{all_fed}
-use Rattle.law_received.specs.Feeding.{AreFed}
+use Rattle.law_readers.specs.Readers.{brought_by, brought_last, bytes_if, held_of, is_news, is_news_to, may_hear, received, received_after, told_to}
+use Rattle.law_feeding.specs.Feeding.{AreFed}
+use Rattle.law_feeding.proofs.AllFed.{all_fed}
+use Rattle.law_received.specs.Received.{AreReadInOrder, HaveRead, read_of}
+use Rattle.law_received.specs.Running.{AreBelow, Entry, IsBetween, IsDue, IsReading, NoNews, NoneNews, OwnNoNews, entries_of, waiting}
 use Rattle.law_received.proofs.Select.{told_count, told_once}
 use Rattle.law_received.proofs.Waiting.{Appends, Follows, below_both, below_later, due_after, due_heard, due_over, due_streams, due_taken, due_told}
 use Rattle.law_received.proofs.Waiting.{entries_push, goes_on, made_follows, none_behind, none_empty}
@@ -205,7 +206,7 @@ brings [] p =
     }
 brings (it ∷ actions) p =
     let rest = brings actions (soon it p) in
-    let one = record { stamp = p.next_stamp; action = it } in
+    let one : Entry = record { stamp = p.next_stamp; action = it } in
     let up : p.next_stamp + 1 ≤ (soon_all actions (soon it p)).next_stamp = rest.later in
     record {
       own = λ own. rest.own (record { callbacks = own.callbacks; timers = own.timers });
@@ -231,25 +232,16 @@ woken_due : (s : Streams) (p : Parts) (time : Option ℕ) (extra : Bool) (came :
 woken_due s p time extra came fit rests =
     record {
       own = last.own (mid.own timed.own);
-      first = entries_of q.pending;
+      first = entries_of (woken_by came p).pending;
       since = [];
-      pending = sym (append-nil (entries_of q.pending));
-      many = many_entries q.pending;
+      pending = sym (append-nil (entries_of (woken_by came p).pending));
+      many = many_entries (woken_by came p).pending;
       before = stamps;
       after = tt;
-      stamps = subst (AreBelow q.next_stamp) (sym (append-nil (entries_of q.pending))) stamps;
+      stamps = subst (AreBelow (woken_by came p).next_stamp) (sym (append-nil (entries_of (woken_by came p).pending))) stamps;
       once = once;
     }
   where
-    p1 : Parts
-    p1 = at_time (time_of came) p
-
-    p2 : Parts
-    p2 = soon_all (news_of came) (at_time (time_of came) p)
-
-    q : Parts
-    q = woken_by came p
-
     timed : IsDue 0 0 s (at_time (time_of came) p)
     timed = due_after 0 0 s p (at_time (time_of came) p) (goes_on.change (Passes (time_of came)) p tt) rests
 

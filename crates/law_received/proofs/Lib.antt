@@ -1,9 +1,4 @@
-pub mod AllFed
-pub mod Apart
-pub mod Fed
 pub mod Going
-pub mod Looks
-pub mod Own
 pub mod Replies
 pub mod Select
 pub mod Waiting

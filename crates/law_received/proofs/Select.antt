@@ -2,7 +2,7 @@
 use Rattle.std.proofs.Common.{◌≡◌, ℕ, ℤ, zero, suc, ◌+◌, ◌≤◌, Bool, true, false, cond, eqb, not, ◌&&◌, ◌||◌, List, [], ◌∷◌, ◌++◌, Option, Some, None, refl, sym, ap}
 use Rattle.std.proofs.Common.{slice_get, subst, ◌∙◌, arith}
 use Rattle.std.specs.List.{flat_map, list_all, list_any}
-use Rattle.std.proofs.lemmas.Bool.{and_parts, eq-eqb, eqb-true, false≢true}
+use Rattle.std.proofs.lemmas.Bool.{and_parts, eq-eqb, eqb-true, false≢true, or_parts}
 use Rattle.std.proofs.lemmas.List.Folds.{list_any-append}
 use Rattle.model_pump.specs.declared.stream.Stream.{Stream}
 use Rattle.model_pump.specs.declared.stream.Stream.TheVariants as stream
@@ -34,7 +34,7 @@ use Rattle.model_stream.specs.Watching as watching
 use Rattle.model_stream.specs.Watching.{entry_if, watch_list, watched_child, watched_connection, watched_server, watched_standing}
 use Rattle.model_machine.specs.Outside.{actions_of, news_of, select, watched}
 use Rattle.law_sender.specs.Ways.{one_if}
-use Rattle.law_received.specs.Running.{is_news_to, may_hear, pipe_hears}
+use Rattle.law_readers.specs.Readers.{is_news_to, may_hear, pipe_hears}
 
 -- how many of these have news of a pipe
 abbrev pub told_count : StreamReader → List Action → ℕ
@@ -88,14 +88,15 @@ none_extra (OfChild stream.Errs id) code bytes more = omega arith
 
 item_count : (from : StreamReader) (it : Item) (more : List Action) → told_count from (actions_of it ++ more) ≡ one_if (is_item_to from it) + told_count from more
 item_count from (item.Child child told) more = refl
-item_count from (item.ReadableServer server) more = none_server from server more
-item_count from (item.Ready conn ready.Read) more = none_ready from conn more
-item_count from (item.Ready conn ready.Write) more = none_writable from conn more
-item_count from (item.Ready conn ready.Both) more = none_ready from conn (action.Writable conn ∷ more) ∙ none_writable from conn more
-item_count from (item.Up conn) more = none_up from conn more
-item_count from (item.Down conn) more = none_down from conn more
-item_count from (item.WritableChild child) more = none_feed from child more
-item_count from (item.Extra code bytes) more = none_extra from code bytes more
+item_count from (item.ReadableServer server) more = let e = none_server from server more in omega (arith, e)
+item_count from (item.Ready conn ready.Read) more = let e = none_ready from conn more in omega (arith, e)
+item_count from (item.Ready conn ready.Write) more = let e = none_writable from conn more in omega (arith, e)
+item_count from (item.Ready conn ready.Both) more =
+    let e = none_ready from conn (action.Writable conn ∷ more) ∙ none_writable from conn more in omega (arith, e)
+item_count from (item.Up conn) more = let e = none_up from conn more in omega (arith, e)
+item_count from (item.Down conn) more = let e = none_down from conn more in omega (arith, e)
+item_count from (item.WritableChild child) more = let e = none_feed from child more in omega (arith, e)
+item_count from (item.Extra code bytes) more = let e = none_extra from code bytes more in omega (arith, e)
 
 items_count : (from : StreamReader) (items : List Item) → told_count from (flat_map actions_of items) ≡ items_to from items
 items_count from [] = refl
@@ -131,16 +132,20 @@ not_both : (b : Bool) → b ≡ true → b ≡ false → ⊥
 not_both true is none = let bad : ⊥ = cc in bad
 not_both false is none = let bad : ⊥ = cc in bad
 
+none_first : (pipe : Stream) (id : ℕ) (it other : Item) (more : List Item) → is_item_to (OfChild pipe id) it ≡ true
+    → items_to (OfChild pipe id) more ≡ 0 → clashes it other ≡ false → items_to (OfChild pipe id) (other ∷ more) ≡ 0
+none_first pipe id it other more is rest none = at (is_item_to (OfChild pipe id) other) refl
+  where
+    at : (b : Bool) → is_item_to (OfChild pipe id) other ≡ b → one_if b + items_to (OfChild pipe id) more ≡ 0
+    at true mine = absurd (not_both (clashes it other) (both_clash pipe id it other is mine) none)
+    at false mine = omega (arith, rest)
+
 none_more : (pipe : Stream) (id : ℕ) (it : Item) (items : List Item) → is_item_to (OfChild pipe id) it ≡ true → list_any (clashes it) items ≡ false
     → items_to (OfChild pipe id) items ≡ 0
 none_more pipe id it [] is none = refl
-none_more pipe id it (other ∷ more) is none = at (is_item_to (OfChild pipe id) other) refl (clashes it other) refl none
-  where
-    at : (b : Bool) → is_item_to (OfChild pipe id) other ≡ b → (c : Bool) → clashes it other ≡ c → c || list_any (clashes it) more ≡ false
-        → one_if b + items_to (OfChild pipe id) more ≡ 0
-    at b mine true clash none_ = absurd (false≢true (sym none_))
-    at true mine false clash none_ = absurd (not_both (clashes it other) (both_clash pipe id it other is mine) clash)
-    at false mine false clash none_ = let rest = none_more pipe id it more is none_ in omega (arith, rest)
+none_more pipe id it (other ∷ more) is none =
+    let parts = or_parts (clashes it other) (list_any (clashes it) more) none in
+    none_first pipe id it other more is (none_more pipe id it more is parts.1) parts.0
 
 -- ---- what has news is watched, and takes more
 any_if : (f : Watch → Bool) (b : Bool) (w : Watch) → list_any f (entry_if b w) ≡ true → f w ≡ true
@@ -200,7 +205,7 @@ module _ (pipe : Stream) (id : ℕ) (s : Streams) (child : ℕ) (told : ChildIte
       let errs = takes_more p.errs in
       let exit = is_none p.code in
       let it = and_parts (eqb child number) (is_told told stdin out errs exit)
-      (any_if by_item (feeds || (stdin || (out || (errs || exit)))) (watch.Child number feeds stdin out errs exit) any) in
+      (any_if by_item _ (watch.Child number feeds stdin out errs exit) any) in
       let which = told_which pipe id child told stdin out errs exit is it.1 in
       let same : id ≡ number = which.0 ∙ eqb-true child number it.0 in
       ap (λ n. pipe_hears pipe (slice_get s.children n)) same ∙ ap (pipe_hears pipe) e ∙ picked pipe p which.1
@@ -210,16 +215,21 @@ module _ (pipe : Stream) (id : ℕ) (s : Streams) (child : ℕ) (told : ChildIte
   opened_hears (OpenedConn number) any = absurd (conn_none number (slice_get s.connections number) any)
   opened_hears (OpenedChild number) any = child_hears number (slice_get s.children number) refl any
 
-  any_hears : (opened : List Opened) → list_any by_item (flat_map (watching.watched s) opened) ≡ true → may_hear (OfChild pipe id) s ≡ true
-  any_hears [] any = absurd (false≢true any)
-  any_hears (o ∷ more) any =
-      at (list_any by_item (watching.watched s o)) refl
-      (sym (list_any-append by_item (watching.watched s o) (flat_map (watching.watched s) more)) ∙ any)
+  either_hears : (o : Opened) (more : List Opened)
+      → (list_any by_item (flat_map (watching.watched s) more) ≡ true → may_hear (OfChild pipe id) s ≡ true)
+      → list_any by_item (watching.watched s o) || list_any by_item (flat_map (watching.watched s) more) ≡ true → may_hear (OfChild pipe id) s ≡ true
+  either_hears o more rest any = at (list_any by_item (watching.watched s o)) refl any
     where
       at : (b : Bool) → list_any by_item (watching.watched s o) ≡ b → b || list_any by_item (flat_map (watching.watched s) more) ≡ true
           → may_hear (OfChild pipe id) s ≡ true
       at true mine any_ = opened_hears o mine
-      at false mine any_ = any_hears more any_
+      at false mine any_ = rest any_
+
+  any_hears : (opened : List Opened) → list_any by_item (flat_map (watching.watched s) opened) ≡ true → may_hear (OfChild pipe id) s ≡ true
+  any_hears [] any = absurd (false≢true any)
+  any_hears (o ∷ more) any =
+      either_hears o more (any_hears more)
+      (sym (list_any-append by_item (watching.watched s o) (flat_map (watching.watched s) more)) ∙ any)
 
   extra_none : (extra : Bool) → list_any by_item (entry_if extra watch.Extra) ≡ false
   extra_none true = refl
@@ -252,23 +262,25 @@ true_not : (b : Bool) → not b ≡ true → b ≡ false
 true_not true is = absurd (false≢true is)
 true_not false is = refl
 
+one_once : (pipe : Stream) (id : ℕ) (s : Streams) (extra : Bool) (it : Item) (more : List Item) → is_awaited (watched s extra) it ≡ true
+    → not (list_any (clashes it) more) ≡ true → items_to (OfChild pipe id) more ≤ one_if (may_hear (OfChild pipe id) s)
+    → items_to (OfChild pipe id) (it ∷ more) ≤ one_if (may_hear (OfChild pipe id) s)
+one_once pipe id s extra it more awaited apart rest = at (is_item_to (OfChild pipe id) it) refl
+  where
+    at : (b : Bool) → is_item_to (OfChild pipe id) it ≡ b → one_if b + items_to (OfChild pipe id) more ≤ one_if (may_hear (OfChild pipe id) s)
+    at false is = omega (arith, rest)
+    at true is =
+        let none = none_more pipe id it more is (true_not (list_any (clashes it) more) apart) in
+        let hears : one_if (may_hear (OfChild pipe id) s) ≡ 1 = ap one_if (item_hears pipe id s extra it is awaited) in
+        omega (arith, none, hears)
+
 items_once : (pipe : Stream) (id : ℕ) (s : Streams) (extra : Bool) (items : List Item) → list_all (is_awaited (watched s extra)) items ≡ true
     → stand_apart items ≡ true → items_to (OfChild pipe id) items ≤ one_if (may_hear (OfChild pipe id) s)
 items_once pipe id s extra [] awaited apart = omega arith
-items_once pipe id s extra (it ∷ more) awaited apart = at (is_item_to (OfChild pipe id) it) refl
-  where
-    all : (is_awaited (watched s extra) it ≡ true) × (list_all (is_awaited (watched s extra)) more ≡ true)
-    all = and_parts (is_awaited (watched s extra) it) (list_all (is_awaited (watched s extra)) more) awaited
-
-    stand : (not (list_any (clashes it) more) ≡ true) × (stand_apart more ≡ true)
-    stand = and_parts (not (list_any (clashes it) more)) (stand_apart more) apart
-
-    at : (b : Bool) → is_item_to (OfChild pipe id) it ≡ b → one_if b + items_to (OfChild pipe id) more ≤ one_if (may_hear (OfChild pipe id) s)
-    at false is = let rest = items_once pipe id s extra more all.1 stand.1 in omega (arith, rest)
-    at true is =
-        let none = none_more pipe id it more is (true_not (list_any (clashes it) more) stand.0) in
-        let hears : one_if (may_hear (OfChild pipe id) s) ≡ 1 = ap one_if (item_hears pipe id s extra it is all.0) in
-        omega (arith, none, hears)
+items_once pipe id s extra (it ∷ more) awaited apart =
+    let all = and_parts (is_awaited (watched s extra) it) (list_all (is_awaited (watched s extra)) more) awaited in
+    let stand = and_parts (not (list_any (clashes it) more)) (stand_apart more) apart in
+    one_once pipe id s extra it more all.0 stand.0 (items_once pipe id s extra more all.1 stand.1)
 
 -- a connection is told none
 conn_none_of : (id : ℕ) (actions : List Action) → told_count (OfConn id) actions ≡ 0

@@ -21,8 +21,9 @@ use Rattle.law_changes.specs.Changes.{PartsChange, CallsSoon, CallsLater, Revoke
 use Rattle.law_changes.specs.Changes.{Unmarks, Counts, Uncounts, Passes, FallsDue, LeavesPending, made_of_parts}
 use Rattle.law_sender.specs.Ways.{Move, Did, Heard, one_if}
 use Rattle.law_walk.specs.Walks.{GoesOn, MayOfParts, is_of_loop, made_on}
-use Rattle.law_received.specs.Running.{AreBelow, Entry, IsDue, NoNews, NoneNews, NoneTimed, OwnNoNews, entries_of, entry_of, is_news, is_news_to, may_hear, waiting}
-use Rattle.law_received.specs.Feeding.{ScheduleNone}
+use Rattle.law_readers.specs.Calm.{ScheduleNone}
+use Rattle.law_readers.specs.Readers.{is_news, is_news_to, may_hear}
+use Rattle.law_received.specs.Running.{AreBelow, Entry, IsDue, NoNews, NoneNews, NoneTimed, OwnNoNews, entries_of, entry_of, waiting}
 
 -- ---- lists
 pub none_both : (xs ys : List Entry) → NoneNews xs → NoneNews ys → NoneNews (xs ++ ys)
@@ -47,11 +48,11 @@ timed_push (x ∷ xs) timer none is = (none.0, timed_push xs timer none.1 is)
 
 timed_filter : (test : Timer → Bool) (timers : List Timer) → NoneTimed timers → NoneTimed (filter test timers)
 timed_filter test [] none = tt
-timed_filter test (timer ∷ timers) none = at (test timer)
+timed_filter test (timer ∷ timers) none = at (test timer) (timed_filter test timers none.1)
   where
-    at : (b : Bool) → NoneTimed (cond b (timer ∷ filter test timers) (filter test timers))
-    at true = (none.0, timed_filter test timers none.1)
-    at false = timed_filter test timers none.1
+    at : (b : Bool) → NoneTimed (filter test timers) → NoneTimed (cond b (timer ∷ filter test timers) (filter test timers))
+    at true rest = (none.0, rest)
+    at false rest = rest
 
 timed_placed : (timer : Timer) (timers : List Timer) → is_news timer.action ≡ false → NoneTimed timers → NoneTimed (placed timer timers)
 timed_placed timer [] is none = (is, tt)
@@ -232,29 +233,31 @@ spawn_follows p =
     (alike made mid refl refl (λ own. record { callbacks = own.callbacks; timers = own.timers })))
     (soon_follows (action.Step (next_task p)) mid refl)
 
+abbrev fallen : Timer → Parts → Parts
+fallen timer p =
+    record p {
+      pending = p.pending ++ record { stamp = p.next_stamp; tag = timer.tag; action = timer.action; dead = false } ∷ [];
+      next_stamp = p.next_stamp + 1;
+    }
+
+fallen_follows : (timer : Timer) (p : Parts) → is_news timer.action ≡ false → Follows p (fallen timer p)
+fallen_follows timer p none =
+    record {
+      own = λ own. record { callbacks = own.callbacks; timers = own.timers };
+      appends = λ own.
+          record {
+            more = record { stamp = p.next_stamp; action = timer.action } ∷ [];
+            pending = entries_push p.pending (record { stamp = p.next_stamp; tag = timer.tag; action = timer.action; dead = false });
+            none = (none, tt);
+            below = (omega arith, tt);
+            later = omega arith;
+          };
+    }
+
 fall_follows : (timers : List Timer) (p : Parts) → NoneTimed timers → Follows p (fall_due timers p)
 fall_follows [] p none = same p
-fall_follows (timer ∷ timers) p none = next p fallen (fall_due timers fallen) first (fall_follows timers fallen none.1)
-  where
-    handle : Handle
-    handle = record { stamp = p.next_stamp; tag = timer.tag; action = timer.action; dead = false }
-
-    fallen : Parts
-    fallen = record p { pending = p.pending ++ handle ∷ []; next_stamp = p.next_stamp + 1 }
-
-    first : Follows p fallen
-    first =
-        record {
-          own = λ own. record { callbacks = own.callbacks; timers = own.timers };
-          appends = λ own.
-              record {
-                more = record { stamp = p.next_stamp; action = timer.action } ∷ [];
-                pending = entries_push p.pending handle;
-                none = (none.0, tt);
-                below = (omega arith, tt);
-                later = omega arith;
-              };
-        }
+fall_follows (timer ∷ timers) p none =
+    next p (fallen timer p) (fall_due timers (fallen timer p)) (fallen_follows timer p none.0) (fall_follows timers (fallen timer p) none.1)
 
 due_follows : (p : Parts) → Follows p (due p)
 due_follows p =

@@ -1,4 +1,3 @@
-pub mod Feeding
 pub mod Gives
 pub mod Received
 pub mod Running

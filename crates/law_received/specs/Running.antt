@@ -1,44 +1,15 @@
 -- What children told waits within a turn to be run: at most one callback for each pipe, which takes more then, so none is in
 -- vain. Between turns none waits.
-use Rattle.std.specs.Prelude.{◌≡◌, ℕ, ◌+◌, ◌<◌, ◌≤◌, Bool, true, false, ◌==◌, List, [], ◌∷◌, ◌++◌, Option, Some, None, length}
-use Rattle.std.specs.Prelude.{slice_get}
-use Rattle.model_pump.specs.declared.stream.Stream.{Stream}
-use Rattle.model_pump.specs.declared.stream.Stream.TheVariants as stream
-use Rattle.model_value.specs.declared.action.Action.TheVariants as action
-use Rattle.model_value.specs.declared.action.ChildItem.TheVariants as news
+use Rattle.std.specs.Prelude.{◌≡◌, ℕ, ◌+◌, ◌<◌, ◌≤◌, false, List, [], ◌∷◌, ◌++◌, length}
 use Rattle.model_value.specs.Action.{Action}
 use Rattle.model_wire.specs.Event.{Event}
 use Rattle.model_loop.specs.Parts.{Handle, Parts, Timer}
 use Rattle.model_loop.specs.Totals.{callbacks_of}
-use Rattle.model_stream.specs.Children.{Child, its_pipe}
-use Rattle.model_stream.specs.Receivers.{takes_more}
-use Rattle.model_stream.specs.Requests.{StreamReader, OfConn, OfChild}
+use Rattle.model_stream.specs.Requests.{StreamReader}
 use Rattle.model_stream.specs.Streams.{Streams}
 use Rattle.law_sender.specs.Ways.{one_if}
+use Rattle.law_readers.specs.Readers.{is_news, is_news_to, may_hear}
 use Rattle.law_received.specs.Received.{AreReadInOrder}
-
--- ---- news
--- bytes of a pipe, or its end
-abbrev pub is_news_to : StreamReader → Action → Bool
-is_news_to (OfChild stream.Out id) (action.ChildItem child (news.Out bytes)) = id == child
-is_news_to (OfChild stream.Out id) (action.ChildItem child news.OutEnd) = id == child
-is_news_to (OfChild stream.Errs id) (action.ChildItem child (news.Errs bytes)) = id == child
-is_news_to (OfChild stream.Errs id) (action.ChildItem child news.ErrsEnd) = id == child
-is_news_to _ _ = false
-
--- of a child, whatever it tells
-abbrev pub is_news : Action → Bool
-is_news (action.ChildItem child told) = true
-is_news _ = false
-
--- a pipe hears news where it takes more; a connection is told none
-abbrev pub pipe_hears : Stream → Option Child → Bool
-pipe_hears pipe None = false
-pipe_hears pipe (Some p) = takes_more ((its_pipe pipe).get p)
-
-abbrev pub may_hear : StreamReader → Streams → Bool
-may_hear (OfConn id) s = true
-may_hear (OfChild pipe id) s = pipe_hears pipe (slice_get s.children id)
 
 -- ---- what is no news
 abbrev pub NoNews : List Action → Type 0

@@ -2,5 +2,4 @@
 //! function has no body: its clauses are the law.
 #![tactic(auto)]
 
-pub mod feeding;
 pub mod received;

@@ -5,14 +5,18 @@ ghost use Rattle.model_wire.specs.declared.event.Handed.{Handed};
 ghost use Rattle.model_stream.specs.declared.answers.ChildWait.{ChildWait};
 ghost use Rattle.model_stream.specs.declared.answers.Wrote.{Wrote};
 ghost use Rattle.model_stream.specs.declared.put.Limited.{Limited};
+ghost use Rattle.model_stream.specs.Reading.{ReadOp};
+ghost use Rattle.model_stream.specs.Receivers.{AllGot, StreamGot};
 ghost use Rattle.model_stream.specs.Requests as requests;
 ghost use Rattle.model_stream.specs.Requests.{StreamReader};
 ghost use Rattle.model_stream.specs.Senders.{Drain};
 ghost use Rattle.model_stream.specs.Streams as plain;
 ghost use Rattle.model_stream.specs.Streams.{Streams};
 ghost use Rattle.law_sender.specs.Ways.{Always};
+ghost use Rattle.law_stream.specs.ReceiverOrder.{went};
+ghost use Rattle.law_readers.specs.Readers.{held_of};
 ghost use Rattle.law_walk.specs.Walks.{news_in};
-ghost use Rattle.law_received.specs.Feeding.{AreOnlyFed};
+ghost use Rattle.law_feeding.specs.Feeding.{AreOnlyFed, IsLook};
 
 /// Only reads take: whatever else is done, each reader holds then what it held and what it received
 /// meanwhile, by an answer or by what a child told.
@@ -51,4 +55,17 @@ pub fn only_reads_take()
         → Always {A = Streams × ChildWait} (λ moves done. AreOnlyFed None s moves done.0)
         (requests.wait next id s) }
     ensures kills { (id : ℕ) (s : Streams) → Always (AreOnlyFed None s) (requests.kill id s) }
+{}
+
+/// A look of a read takes a front of what its reader holds: the bytes that it gives, and with an
+/// exception those that it removes. Others hold what they held. A look of a read with a negative
+/// count takes what stays with the read.
+pub fn reads_take_fronts()
+    ensures reads { (next : ℕ) (op : ReadOp) (from : StreamReader) (s : Streams)
+        → Always {A = Streams × StreamGot}
+        (λ moves done. IsLook from (went done.1 (held_of from s) (held_of from done.0)) s done.0)
+        (requests.read next op from s) }
+    ensures reads_all { (next : ℕ) (from : StreamReader) (s : Streams)
+        → Always {A = Streams × AllGot} (λ moves done. IsLook from done.1.taken s done.0)
+        (requests.read_all next from s) }
 {}

@@ -13,7 +13,8 @@ use Rattle.law_stream.proofs.ReceiverOrder.{step_in_order}
 use Rattle.law_stream.specs.ReceiverOrder as order
 use Rattle.law_stream.specs.ReceiverOrder.{InOrder, went}
 use Rattle.law_stream.specs.SoundReceivers.{Reads, ReadsAll}
-use Rattle.law_received.proofs.Apart.{Apart, BringNone, apart_always, apart_then}
+use Rattle.law_readers.specs.Calm.{Apart}
+use Rattle.law_readers.proofs.Apart.{BringNone, apart_always, apart_then}
 
 -- a reader that takes more takes more after
 abbrev pub TakesOn : Receiver → Receiver → Type 0

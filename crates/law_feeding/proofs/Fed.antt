@@ -20,11 +20,11 @@ use Rattle.law_cancel.proofs.Lookups.{get-push_last, get-push_other, get-set_kep
 use Rattle.law_sender.specs.Ways.{Move, Always, told_by}
 use Rattle.law_sender.proofs.Along.{always_map}
 use Rattle.law_walk.specs.Walks.{News}
-use Rattle.law_received.specs.Feeding.{AreFed, AreOnlyFed, IsFed, fed_if, is_told}
-use Rattle.law_received.specs.Received.{bytes_if, conn_receiver, held_of, pipe_receiver, received, receiver_of, told_to}
-use Rattle.law_received.specs.Running.{is_news_to, may_hear, pipe_hears}
-use Rattle.law_received.proofs.Apart.{Apart, BringNone, apart_always, apart_map}
-use Rattle.law_received.proofs.Own.{OwnFed, SameChild, SameConn, break_apart, exit_apart}
+use Rattle.law_feeding.specs.Feeding.{AreFed, AreOnlyFed, IsFed, fed_if, is_told}
+use Rattle.law_readers.specs.Calm.{Apart, SameChild, SameConn}
+use Rattle.law_readers.specs.Readers.{bytes_if, conn_receiver, held_of, is_news_to, may_hear, pipe_hears, pipe_receiver, received, receiver_of, told_to}
+use Rattle.law_readers.proofs.Apart.{BringNone, apart_always, apart_map}
+use Rattle.law_readers.proofs.Own.{OwnFed, break_apart, exit_apart}
 
 -- ---- what goes
 pub only_fed : (news : News) (s : Streams) (moves : List Move) (after : Streams) → AreOnlyFed news s moves after → AreFed news s moves after

@@ -33,10 +33,10 @@ use Rattle.model_stream.specs.Senders.{fail_sender, drain_sender, limits_sender,
 use Rattle.model_stream.specs.Sending.{set_eof}
 use Rattle.law_sender.specs.Ways.{Move, Heard, Always, told_by}
 use Rattle.law_sender.proofs.Along.{always_if, always_map}
-use Rattle.law_received.specs.Feeding.{ScheduleNone}
-use Rattle.law_received.specs.Received.{brought_by, bytes_if, received}
-use Rattle.law_received.proofs.Apart.{Apart, BringNone, Calm, apart_always, apart_if, apart_then, calm_into}
-use Rattle.law_received.proofs.Apart.{close_apart, drain_apart, fail_apart, lose_apart, schedule_apart, send_apart, write_apart}
+use Rattle.law_readers.specs.Calm.{Apart, SameChild, SameConn, ScheduleNone}
+use Rattle.law_readers.specs.Readers.{brought_by, bytes_if, received}
+use Rattle.law_readers.proofs.Apart.{BringNone, Calm, apart_always, apart_if, apart_then, apart_told, calm_into}
+use Rattle.law_readers.proofs.Apart.{close_apart, drain_apart, fail_apart, lose_apart, schedule_apart, send_apart, write_apart}
 
 -- ---- a reader
 -- What was held and what was told and received then is what went and what is held after; another received nothing.
@@ -56,10 +56,6 @@ own_still from r moves after none same =
     }
 
 -- ---- a connection
--- its reader holds what it held
-abbrev pub SameConn : Connection → Connection → Type 0
-SameConn c after = after.receiver.reader.held ≡ c.receiver.reader.held
-
 -- only bytes are received
 abbrev is_data : Answer → Bool
 is_data (answer.Data bytes) = true
@@ -228,16 +224,16 @@ module _ (id : ℕ) where
 
   received_fed : (c : Connection) (came : Answer) → Always (ConnHears c came) (hears id c came)
   received_fed c (answer.Data bytes) = fed_with bytes c c.receiver.waiter
-  received_fed c answer.Eof = unheard c answer.Eof refl _ (told_apart None c)
+  received_fed c answer.Eof = unheard c answer.Eof refl (on its_receiver receive_end c) (told_apart None c)
   received_fed c answer.Again = unheard c answer.Again refl (Ends c) refl
-  received_fed c answer.Broken = unheard c answer.Broken refl _ (fails_apart c)
-  received_fed c (answer.Turn now items) = unheard c (answer.Turn now items) refl _ (fails_apart c)
-  received_fed c answer.Done = unheard c answer.Done refl _ (fails_apart c)
-  received_fed c answer.Refused = unheard c answer.Refused refl _ (fails_apart c)
-  received_fed c answer.Conn = unheard c answer.Conn refl _ (fails_apart c)
-  received_fed c (answer.Took count) = unheard c (answer.Took count) refl _ (fails_apart c)
-  received_fed c answer.Child = unheard c answer.Child refl _ (fails_apart c)
-  received_fed c (answer.Extra bytes) = unheard c (answer.Extra bytes) refl _ (fails_apart c)
+  received_fed c answer.Broken = unheard c answer.Broken refl (fail id c) (fails_apart c)
+  received_fed c (answer.Turn now items) = unheard c (answer.Turn now items) refl (fail id c) (fails_apart c)
+  received_fed c answer.Done = unheard c answer.Done refl (fail id c) (fails_apart c)
+  received_fed c answer.Refused = unheard c answer.Refused refl (fail id c) (fails_apart c)
+  received_fed c answer.Conn = unheard c answer.Conn refl (fail id c) (fails_apart c)
+  received_fed c (answer.Took count) = unheard c (answer.Took count) refl (fail id c) (fails_apart c)
+  received_fed c answer.Child = unheard c answer.Child refl (fail id c) (fails_apart c)
+  received_fed c (answer.Extra bytes) = unheard c (answer.Extra bytes) refl (fail id c) (fails_apart c)
 
   pub readable_fed : (c : Connection) → Always (ConnFed c) (readable id c)
   readable_fed c =
@@ -245,10 +241,6 @@ module _ (id : ℕ) where
       (λ is. conn_still c (Ends c) refl)
 
 -- ---- a child
--- its pipes are what they were
-abbrev pub SameChild : Child → Child → Type 0
-SameChild p after = (after.out ≡ p.out) × (after.errs ≡ p.errs)
-
 module _ (id : ℕ) where
   child_on : (change : Sender → Doing Sender) (p mid : Child) → Calm (change mid.stdin) → SameChild p mid
       → Apart (SameChild p) (on its_stdin change mid)
@@ -287,11 +279,7 @@ module _ (id : ℕ) where
   pub exit_apart : (code : ℤ) (p : Child) → Apart (SameChild p) (exit_with code p)
   exit_apart code p =
       apart_if (SameChild p) (is_none p.code) (settles p.waits _ (Ends (record p { code = Some code; waits = [] }))) (Ends p)
-      (told p.waits) (refl, refl)
-    where
-      told : (futures : List ℕ) → Apart (SameChild p) (settles futures _ (Ends (record p { code = Some code; waits = [] })))
-      told [] = (refl, refl)
-      told (future ∷ futures) = told futures
+      (apart_told (SameChild p) p.waits _ (Ends (record p { code = Some code; waits = [] })) (refl, refl)) (refl, refl)
 
   pub child_close_apart : (p : Child) → Apart (SameChild p) (close_child id p)
   child_close_apart p =

@@ -1,22 +1,13 @@
 -- What is done to all that is open, told of each reader: what it held, and what it was told and received then, is what went and
 -- what it holds after.
-use Rattle.std.specs.Prelude.{◌≡◌, ℕ, Bool, true, false, List, [], ◌∷◌, ◌++◌, Some, None}
+use Rattle.std.specs.Prelude.{◌≡◌, ℕ, Bool, true, false, List, [], ◌++◌, Some, None}
 use Rattle.model_value.specs.declared.action.Action.TheVariants as action
-use Rattle.model_stream.specs.Doing.{CallSoon, MakeFuture, Settle}
 use Rattle.model_stream.specs.Requests.{StreamReader}
 use Rattle.model_stream.specs.Streams.{Streams}
-use Rattle.law_sender.specs.Ways.{Move, Did, Heard, told_by}
+use Rattle.law_sender.specs.Ways.{Move, told_by}
+use Rattle.law_readers.specs.Calm.{ScheduleNone}
+use Rattle.law_readers.specs.Readers.{bytes_if, held_of, is_news_to, may_hear, received, told_to}
 use Rattle.law_walk.specs.Walks.{News}
-use Rattle.law_received.specs.Received.{bytes_if, held_of, received, told_to}
-use Rattle.law_received.specs.Running.{is_news, is_news_to, may_hear}
-
--- moves that schedule no news
-abbrev pub ScheduleNone : List Move → Type 0
-ScheduleNone [] = Unit {0}
-ScheduleNone (Did MakeFuture ∷ moves) = ScheduleNone moves
-ScheduleNone (Did (Settle future outcome) ∷ moves) = ScheduleNone moves
-ScheduleNone (Did (CallSoon it) ∷ moves) = (is_news it ≡ false) × ScheduleNone moves
-ScheduleNone (Heard it came ∷ moves) = ScheduleNone moves
 
 -- ---- what a callback tells
 abbrev pub fed_if : Bool → StreamReader → News → List ℕ
@@ -41,3 +32,9 @@ pub record AreFed (news : News) (s : Streams) (moves : List Move) (after : Strea
 pub record AreOnlyFed (news : News) (s : Streams) (moves : List Move) (after : Streams) : Type 0 where
   pub schedule : ScheduleNone moves
   pub each : (from : StreamReader) → IsFed from news [] s moves after
+
+-- ---- looks
+-- a look of a read takes these bytes: they are a front of what was held, and what is held then is the rest; what others hold stays
+pub record IsLook (from : StreamReader) (took : List ℕ) (s after : Streams) : Type 0 where
+  pub takes : held_of from s ≡ took ++ held_of from after
+  pub others : (other : StreamReader) → (other ≡ from → ⊥) → held_of other after ≡ held_of other s

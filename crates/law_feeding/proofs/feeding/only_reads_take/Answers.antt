@@ -1,5 +1,5 @@
-use Rattle.law_received.proofs.AllFed as fed
-use Rattle.law_received.proofs.feeding.only_reads_take.Goals as goal
+use Rattle.law_feeding.proofs.AllFed as fed
+use Rattle.law_feeding.proofs.feeding.only_reads_take.Goals as goal
 
 pub returns : goal.returns
 returns c = record {

@@ -28,23 +28,10 @@ use Rattle.model_stream.specs.Senders.{drain_sender, limits_sender, lost_text}
 use Rattle.model_stream.specs.Sending.{offer, put, put_answer, took}
 use Rattle.law_sender.specs.Ways.{Move, Did, Heard, Always, told_by}
 use Rattle.law_sender.proofs.Along.{always_map}
-use Rattle.law_received.specs.Received.{brought_by, received}
-use Rattle.law_received.specs.Feeding.{ScheduleNone}
-use Rattle.law_received.specs.Running.{is_news}
+use Rattle.law_readers.specs.Calm.{Apart, ScheduleNone, is_recv}
+use Rattle.law_readers.specs.Readers.{brought_by, is_news, received}
 
 -- ---- along every way
-abbrev pub is_recv : Call → Bool
-is_recv (call.Recv conn) = true
-is_recv _ = false
-
--- this holds of the result, and nothing is received on the way
-abbrev pub Apart : {A : Type 0} → (A → Type 0) → Doing A → Type 0
-Apart Holds (Ends result) = Holds result
-Apart Holds (Changes MakeFuture rest) = Apart Holds rest
-Apart Holds (Changes (Settle future outcome) rest) = Apart Holds rest
-Apart Holds (Changes (CallSoon it) rest) = (is_news it ≡ false) × Apart Holds rest
-Apart Holds (Asks it rest) = (is_recv it ≡ false) × ((answer : Answer) → Apart Holds (rest answer))
-
 -- moves that schedule no news, and with which nothing is received
 pub record BringNone (moves : List Move) : Type 0 where
   pub schedule : ScheduleNone moves

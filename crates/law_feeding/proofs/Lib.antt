@@ -1,0 +1,4 @@
+pub mod AllFed
+pub mod Fed
+pub mod Looks
+pub mod Reads
