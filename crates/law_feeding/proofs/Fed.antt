@@ -2,7 +2,7 @@
 -- what it holds after.
 use Rattle.std.proofs.Common.{◌≡◌, ◌⊎◌, inl, inr, ℕ, ℤ, Bool, true, false, cond, eqb, List, [], ◌∷◌, ◌++◌, Option, Some, None, length, slice_get, slice_set, refl}
 use Rattle.std.proofs.Common.{sym, ap, subst, ◌∙◌}
-use Rattle.std.proofs.lemmas.Bool.{cases_eq, eq-eqb, eqb-true, false≢true}
+use Rattle.std.proofs.lemmas.Bool.{cases_eq, eq-eqb, false≢true}
 use Rattle.std.proofs.lemmas.List.{append-nil}
 use Rattle.model_pump.specs.declared.stream.Stream.{Stream}
 use Rattle.model_pump.specs.declared.stream.Stream.TheVariants as stream
@@ -11,7 +11,7 @@ use Rattle.model_value.specs.declared.action.ChildItem.{ChildItem}
 use Rattle.model_value.specs.declared.action.ChildItem.TheVariants.{Broken, Out, OutEnd, Errs, ErrsEnd, Exit}
 use Rattle.model_stream.specs.Children.{Child, break_stdin, exit_with, its_pipe, new_child, tell_child}
 use Rattle.model_stream.specs.Connections.{Connection}
-use Rattle.model_stream.specs.Doing.{Doing, Ends, Changes, Settle, and_then, on}
+use Rattle.model_stream.specs.Doing.{Doing, Ends, and_then, on}
 use Rattle.model_stream.specs.Reading.{Reading, feed, feed_eof}
 use Rattle.model_stream.specs.Receivers.{Receiver, new_receiver, receive, receive_end, takes_more, wakes}
 use Rattle.model_stream.specs.Requests.{StreamReader, OfConn, OfChild}

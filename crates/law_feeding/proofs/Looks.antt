@@ -1,11 +1,11 @@
 -- A look of a read takes a front of what is held, asks nothing and schedules no news; and a reader that takes more takes more then.
-use Rattle.std.proofs.Common.{◌≡◌, ℕ, Bool, true, false, cond, not, ◌&&◌, List, [], ◌∷◌, ◌++◌, Option, Some, None, length, refl, sym, ◌∙◌}
+use Rattle.std.proofs.Common.{◌≡◌, ℕ, Bool, true, false, cond, not, ◌&&◌, List, [], ◌∷◌, ◌++◌, Option, Some, None, refl, sym, ◌∙◌}
 use Rattle.std.proofs.lemmas.List.{append-nil}
 use Rattle.model_value.specs.Value.{Exc}
 use Rattle.model_stream.specs.declared.answers.StreamGot.TheVariants as got_as
 use Rattle.model_stream.specs.declared.read_op.Taken.TheVariants as taken
 use Rattle.model_stream.specs.Doing.{Doing, Ends, Changes, Asks, MakeFuture, and_then}
-use Rattle.model_stream.specs.Reading.{Reading, ReadOp, Take, Taken, after_take, gives, resume, take_read}
+use Rattle.model_stream.specs.Reading.{ReadOp, Taken, take_read}
 use Rattle.model_stream.specs.Receivers.{AllGot, Receiver, StreamGot, all_taken, read, read_all, read_as, second_waiter, takes_more, wait_for_data}
 use Rattle.law_sender.specs.Ways.{Move, Did, Heard, Always}
 use Rattle.law_sender.proofs.Along.{always_map}

@@ -1,22 +1,15 @@
 -- Whatever connections and children do, but where they receive, asks to receive nothing, schedules no news of a child, and lets
 -- readers be.
-use Rattle.std.proofs.Common.{◌≡◌, ℕ, ℤ, Bool, true, false, cond, not, ◌&&◌, ◌||◌, List, [], ◌∷◌, ◌++◌, Option, Some, None, refl, ap, ◌∙◌}
-use Rattle.std.specs.Prelude.{is_none, is_some}
-use Rattle.model_pump.specs.declared.stream.Stream.{Stream}
-use Rattle.model_value.specs.declared.action.Action.TheVariants as action
+use Rattle.std.proofs.Common.{◌≡◌, ℕ, Bool, true, false, cond, not, ◌&&◌, List, [], ◌∷◌, ◌++◌, refl, ap, ◌∙◌}
 use Rattle.model_value.specs.declared.kind.Kind.TheVariants.{ConnectionResetError}
-use Rattle.model_value.specs.declared.outcome.Outcome.TheVariants.{Value as Returned, Failed}
-use Rattle.model_value.specs.Action.{Action}
-use Rattle.model_value.specs.Value.{Nothing, Exc, Outcome, exception_of}
+use Rattle.model_value.specs.declared.outcome.Outcome.TheVariants.{Value as Returned}
+use Rattle.model_value.specs.Value.{Nothing, Outcome, exception_of}
 use Rattle.model_wire.specs.declared.call.Call.TheVariants as call
 use Rattle.model_wire.specs.Call.{Call, Answer}
-use Rattle.model_stream.specs.declared.answers.ChildWait.TheVariants as wait_as
-use Rattle.model_stream.specs.declared.answers.ChildWait.{ChildWait}
 use Rattle.model_stream.specs.declared.answers.Drain.TheVariants as drain_as
 use Rattle.model_stream.specs.declared.answers.Wrote.{Wrote}
 use Rattle.model_stream.specs.declared.answers.Wrote.TheVariants as wrote
 use Rattle.model_stream.specs.declared.phase.Phase.TheVariants as phase
-use Rattle.model_stream.specs.declared.put.Limited.{Limited}
 use Rattle.model_stream.specs.declared.put.Put.{Put}
 use Rattle.model_stream.specs.declared.put.Put.TheVariants.{Offer, Kept, Empty, AfterEof, Dropped}
 use Rattle.model_stream.specs.Answers.{Sent, SentSome, SentNone, SendFailed, sent_by}
@@ -24,7 +17,7 @@ use Rattle.model_stream.specs.Doing.{Doing, Ends, Changes, Asks, MakeFuture, Set
 use Rattle.model_stream.specs.Requests.{StreamReader, OfConn, OfChild}
 use Rattle.model_stream.specs.Senders.{Sender, Drain, Outlet, has_unsent, is_closing, is_lost, ended_sender, loss_of, outcome_of, waiting_for_loss}
 use Rattle.model_stream.specs.Senders.{fail_sender, close_sender, lose_sender, offered, write, write_as, sent, send_more, schedule_loss, with_writer}
-use Rattle.model_stream.specs.Senders.{drain_sender, limits_sender, lost_text}
+use Rattle.model_stream.specs.Senders.{drain_sender, lost_text}
 use Rattle.model_stream.specs.Sending.{offer, put, put_answer, took}
 use Rattle.law_sender.specs.Ways.{Move, Did, Heard, Always, told_by}
 use Rattle.law_sender.proofs.Along.{always_map}

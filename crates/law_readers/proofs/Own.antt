@@ -3,11 +3,7 @@ use Rattle.std.proofs.Common.{◌≡◌, ℕ, ℤ, Bool, true, false, cond, eqb,
 use Rattle.std.specs.Prelude.{is_none, is_some}
 use Rattle.std.proofs.lemmas.Bool.{eq-eqb, eqb-true}
 use Rattle.std.proofs.lemmas.List.{append-nil}
-use Rattle.model_pump.specs.declared.stream.Stream.{Stream}
-use Rattle.model_pump.specs.declared.stream.Stream.TheVariants as stream
-use Rattle.model_value.specs.declared.action.Action.TheVariants as action
-use Rattle.model_value.specs.declared.action.ChildItem.{ChildItem}
-use Rattle.model_value.specs.declared.action.ChildItem.TheVariants.{Broken, Out, OutEnd, Errs, ErrsEnd, Exit}
+use Rattle.model_value.specs.declared.action.ChildItem.TheVariants.{Broken}
 use Rattle.model_value.specs.declared.outcome.Outcome.TheVariants.{Failed}
 use Rattle.model_value.specs.Value.{Exc}
 use Rattle.model_wire.specs.declared.answer.Answer.TheVariants as answer
@@ -26,10 +22,10 @@ use Rattle.model_stream.specs.Connections.{lose, flushed, writable, up, down, st
 use Rattle.model_stream.specs.Connections.{handler_done, drop_connect, write_to, write_eof, drain_of, limits_of}
 use Rattle.model_stream.specs.Doing.{Doing, Ends, Changes, Asks, MakeFuture, Settle, and_then, asks, asked_on, on, settles}
 use Rattle.model_stream.specs.Reading.{Reading, feed, feed_eof, fail as failed}
-use Rattle.model_stream.specs.Receivers.{Receiver, receive, receive_end, receive_loss, wakes}
+use Rattle.model_stream.specs.Receivers.{Receiver, receive_end, receive_loss, wakes}
 use Rattle.model_stream.specs.Requests.{StreamReader, OfConn, OfChild}
 use Rattle.model_stream.specs.Senders.{Sender, Drain, has_unsent, is_closing, is_flushed, close_sender, lose_sender, loss_of, send_more, schedule_loss}
-use Rattle.model_stream.specs.Senders.{fail_sender, drain_sender, limits_sender, with_writer, write}
+use Rattle.model_stream.specs.Senders.{fail_sender, drain_sender, with_writer, write}
 use Rattle.model_stream.specs.Sending.{set_eof}
 use Rattle.law_sender.specs.Ways.{Move, Heard, Always, told_by}
 use Rattle.law_sender.proofs.Along.{always_if, always_map}

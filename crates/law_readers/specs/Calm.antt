@@ -1,6 +1,6 @@
 -- What receives nothing: along every way, whichever answers come, nothing is asked to be received, no news of a child is
 -- scheduled, and this holds of the result.
-use Rattle.std.specs.Prelude.{◌≡◌, ℕ, Bool, true, false, List, [], ◌∷◌}
+use Rattle.std.specs.Prelude.{◌≡◌, Bool, true, false, List, [], ◌∷◌}
 use Rattle.model_wire.specs.declared.call.Call.TheVariants as call
 use Rattle.model_wire.specs.Call.{Call, Answer}
 use Rattle.model_stream.specs.Children.{Child}

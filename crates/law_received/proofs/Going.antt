@@ -1,6 +1,6 @@
 -- What reads took is a front of what was received, and goes on with each small thing that the machine does.
-use Rattle.std.proofs.Common.{◌≡◌, ℕ, zero, suc, ◌+◌, ◌-◌, ◌<◌, ◌≤◌, Bool, true, false, cond, eqb, List, [], ◌∷◌, ◌++◌, Option, Some, None, length, nat_lt}
-use Rattle.std.proofs.Common.{take, refl, sym, ap, subst, ◌∙◌, le_refl, max, arith}
+use Rattle.std.proofs.Common.{◌≡◌, ℕ, zero, suc, ◌+◌, ◌-◌, ◌≤◌, Bool, true, false, eqb, List, [], ◌∷◌, ◌++◌, Option, Some, None, length}
+use Rattle.std.proofs.Common.{take, refl, sym, ap, subst, ◌∙◌, le_refl, arith}
 use Rattle.std.proofs.lemmas.Bool.{false≢true, lt-ltb}
 use Rattle.std.proofs.lemmas.List.{append-nil, append_assoc, length-append}
 use Rattle.model_pump.specs.declared.stream.Stream.TheVariants as stream
@@ -26,7 +26,7 @@ use Rattle.model_machine.specs.Turn.{at_time, woken_by}
 use Rattle.law_bytes.specs.ReaderSteps.{taken_away}
 use Rattle.law_changes.specs.Changes.{FallsDue, Passes}
 use Rattle.law_sender.specs.Ways.{Move, Did, Heard, one_if, told_by}
-use Rattle.law_walk.specs.Walks.{In, IsAside, IsHere, News, Walks, hears, is_aside, made_on, news_in, says}
+use Rattle.law_walk.specs.Walks.{In, IsAside, IsHere, Walks, hears, is_aside, made_on, news_in, says}
 use Rattle.law_readers.specs.Readers.{brought_by, brought_last, bytes_if, held_of, is_news, is_news_to, may_hear, received, received_after, told_to}
 use Rattle.law_feeding.specs.Feeding.{AreFed}
 use Rattle.law_feeding.proofs.AllFed.{all_fed}

@@ -1,6 +1,6 @@
 -- What a select brings of a pipe: at most one piece of news, and only where the pipe takes more.
-use Rattle.std.proofs.Common.{◌≡◌, ℕ, ℤ, zero, suc, ◌+◌, ◌≤◌, Bool, true, false, cond, eqb, not, ◌&&◌, ◌||◌, List, [], ◌∷◌, ◌++◌, Option, Some, None, refl, sym, ap}
-use Rattle.std.proofs.Common.{slice_get, subst, ◌∙◌, arith}
+use Rattle.std.proofs.Common.{◌≡◌, ℕ, ℤ, ◌+◌, ◌≤◌, Bool, true, false, eqb, not, ◌&&◌, ◌||◌, List, [], ◌∷◌, ◌++◌, Option, Some, None, refl, sym, ap}
+use Rattle.std.proofs.Common.{slice_get, ◌∙◌, arith}
 use Rattle.std.specs.List.{flat_map, list_all, list_any}
 use Rattle.std.proofs.lemmas.Bool.{and_parts, eq-eqb, eqb-true, false≢true, or_parts}
 use Rattle.std.proofs.lemmas.List.Folds.{list_any-append}
@@ -14,13 +14,12 @@ use Rattle.model_wire.specs.declared.answer.Answer.TheVariants as answer
 use Rattle.model_wire.specs.declared.item.Item.TheVariants as item
 use Rattle.model_wire.specs.declared.item.Interest.{Interest}
 use Rattle.model_wire.specs.declared.item.Interest.TheVariants as interest
-use Rattle.model_wire.specs.declared.item.Readiness.{Readiness}
 use Rattle.model_wire.specs.declared.item.Readiness.TheVariants as ready
 use Rattle.model_wire.specs.declared.watch.Watch.{Watch}
 use Rattle.model_wire.specs.declared.watch.Watch.TheVariants as watch
 use Rattle.model_wire.specs.Call.{Answer, Item}
 use Rattle.model_wire.specs.Fits.{are_awaited, are_few, clashes, fits, interest_of, is_awaited, is_same, is_sized, is_told, is_watched, is_watched_by}
-use Rattle.model_wire.specs.Fits.{stand_apart, turn_fits}
+use Rattle.model_wire.specs.Fits.{stand_apart}
 use Rattle.model_value.specs.Number.{most}
 use Rattle.model_stream.specs.Children.{Child}
 use Rattle.model_stream.specs.Connections.{Connection, reads}

@@ -1,6 +1,6 @@
 -- What the loop does of itself, and what trees schedule, is appended behind what is pending, and has no news of a child.
 use Rattle.std.proofs.Common.{◌≡◌, ◌⊎◌, inl, inr, ℕ, zero, suc, ◌+◌, ◌<◌, ◌≤◌, Bool, true, false, cond, eqb, not, List, [], ◌∷◌, ◌++◌, Option, Some, None}
-use Rattle.std.proofs.Common.{map, filter, length, nat_le, nat_lt, slice_get, slice_set, refl, sym, ap, subst, ◌∙◌, le_refl, arith}
+use Rattle.std.proofs.Common.{map, filter, length, nat_le, nat_lt, slice_get, slice_set, refl, sym, ap, subst, ◌∙◌, arith}
 use Rattle.std.specs.Option.{option_map_or}
 use Rattle.std.proofs.lemmas.Bool.{cases_eq}
 use Rattle.std.proofs.lemmas.List.{append-nil, append_assoc}
@@ -11,7 +11,7 @@ use Rattle.model_loop.specs.Futures.{asked_kind, make_future, mark_asked, regist
 use Rattle.model_loop.specs.Handles.{by_deadline, cancelled_if, due, fall_due, later, placed, revoke, soon, soon_all}
 use Rattle.model_loop.specs.Parts.{Future, FutureKind, Handle, OfTask, Parts, Plain, Task, Timer}
 use Rattle.model_loop.specs.Tasks.{change_task, next_task, spawn}
-use Rattle.model_loop.specs.Totals.{callbacks_at, callbacks_of}
+use Rattle.model_loop.specs.Totals.{callbacks_at}
 use Rattle.model_stream.specs.Doing.{CallSoon, MakeFuture, Settle}
 use Rattle.model_stream.specs.Requests.{StreamReader}
 use Rattle.model_stream.specs.Streams.{Streams}

@@ -1,5 +1,5 @@
 -- What happened stays: the events of each state begin with those of each before.
-use Rattle.std.proofs.Common.{◌≡◌, ℕ, Bool, true, false, List, [], ◌∷◌, ◌++◌, Option, None, refl, sym, ap, ◌∙◌}
+use Rattle.std.proofs.Common.{List, [], ◌++◌, sym, ap, ◌∙◌}
 use Rattle.std.proofs.lemmas.List.{append-nil, append_assoc}
 use Rattle.model_wire.specs.Event.{Event}
 use Rattle.model_loop.specs.Parts.{Parts}
@@ -7,7 +7,7 @@ use Rattle.model_stream.specs.Doing.{Doing, Ends, Changes, Asks}
 use Rattle.model_stream.specs.Requests.{write, drain, limits, write_eof, close, drop_connect, read, read_all, wait, kill}
 use Rattle.model_stream.specs.Streams.{Streams, act, listen, connect, launch, close_server}
 use Rattle.model_machine.specs.State.{State}
-use Rattle.law_sender.specs.Ways.{Move, Did, Heard, Always}
+use Rattle.law_sender.specs.Ways.{Move, Always}
 use Rattle.law_walk.specs.Walks.{AreTrees, BeginWith, GoesOn, In, News, Walks}
 
 -- anything goes on

@@ -19,7 +19,7 @@ use Rattle.model_stream.specs.Doing.{Doing}
 use Rattle.model_stream.specs.Requests.{close}
 use Rattle.model_stream.specs.Streams.{Streams, act, handler_of}
 use Rattle.model_machine.specs.Extra.{Extra}
-use Rattle.model_machine.specs.Mids.{mids, mids_below, mids_by, mids_fitted, mids_from, mids_if, mids_unless, next_mids, then_mids}
+use Rattle.model_machine.specs.Mids.{mids, mids_below, mids_by, mids_fitted, mids_if, mids_unless, next_mids, then_mids}
 use Rattle.model_machine.specs.Outcomes.{finished_as}
 use Rattle.model_machine.specs.Replies.{RequestReply, Answers, Raises, Rests, Halts, decides, most_ids, reply}
 use Rattle.model_machine.specs.State.{Asked, State, generator_of, noted, stands, unbooked_in}
