@@ -105,9 +105,9 @@ listens_apart : (port handler : ℕ) (s : Streams) → Apart (λ (done : Streams
 listens_apart port handler s = (
   refl,
   λ came.
-  apart_if (λ (done : Streams × Option ℕ). Still s done.0) (is_done came)
-  (Ends (add_server (record { handler = handler; is_open = true }) s, Some (length s.servers))) (Ends (s, None))
-  (still_alike s (add_server (record { handler = handler; is_open = true }) s) refl refl) (still_same s),
+      apart_if (λ (done : Streams × Option ℕ). Still s done.0) (is_done came)
+      (Ends (add_server (record { handler = handler; is_open = true }) s, Some (length s.servers))) (Ends (s, None))
+      (still_alike s (add_server (record { handler = handler; is_open = true }) s) refl refl) (still_same s),
 )
 
 closes_server_apart : (id : ℕ) (s : Streams) → Apart (Still s) (close_server id s)
@@ -128,19 +128,19 @@ connects_apart : (port next : ℕ) (s : Streams) → Apart (λ (done : Streams �
 connects_apart port next s = (
   refl,
   λ came.
-  apart_if (λ (done : Streams × Option (ℕ × ℕ)). Still s done.0) (is_conn came)
-  (Changes MakeFuture (Changes MakeFuture
-  (Ends (add_connection (connecting next (next + 1)) s, Some (length s.connections, next + 1))))) (Ends (s, None))
-  (still_opened s (connecting next (next + 1)) refl) (still_same s),
+      apart_if (λ (done : Streams × Option (ℕ × ℕ)). Still s done.0) (is_conn came)
+      (Changes MakeFuture (Changes MakeFuture
+      (Ends (add_connection (connecting next (next + 1)) s, Some (length s.connections, next + 1))))) (Ends (s, None))
+      (still_opened s (connecting next (next + 1)) refl) (still_same s),
 )
 
 launches_apart : (words : List (List ℕ)) (next : ℕ) (s : Streams) → Apart (λ (done : Streams × Option ℕ). Still s done.0) (launch words next s)
 launches_apart words next s = (
   refl,
   λ came.
-  apart_if (λ (done : Streams × Option ℕ). Still s done.0) (is_child came)
-  (Changes MakeFuture (Ends (add_child (new_child next) s, Some (length s.children)))) (Ends (s, None))
-  (still_launched s next) (still_same s),
+      apart_if (λ (done : Streams × Option ℕ). Still s done.0) (is_child came)
+      (Changes MakeFuture (Ends (add_child (new_child next) s, Some (length s.children)))) (Ends (s, None))
+      (still_launched s next) (still_same s),
 )
 
 accepts_apart : (more server handler next : ℕ) (first s : Streams) → Still first s → Apart (Still first) (accept_most more server handler next s)
@@ -149,10 +149,14 @@ accepts_apart (suc more) server handler next first s still =
     apart_if (Still first) (may_connect s) _ (Ends s) (
       refl,
       λ came.
-      apart_if (Still first) (is_conn came) (and_then (accept handler next s) (accept_most more server handler (next + 1))) (Ends s)
-      (refl, (refl,
-      accepts_apart more server handler (next + 1) first (add_connection (accepted next handler) s)
-      (still_both first s (add_connection (accepted next handler) s) still (still_opened s (accepted next handler) refl)))) still,
+          apart_if (Still first) (is_conn came) (and_then (accept handler next s) (accept_most more server handler (next + 1))) (Ends s) (
+            refl,
+            (
+              refl,
+              accepts_apart more server handler (next + 1) first (add_connection (accepted next handler) s)
+                  (still_both first s (add_connection (accepted next handler) s) still (still_opened s (accepted next handler) refl)),
+            ),
+          ) still,
     ) still
 
 server_apart : (next id : ℕ) (s : Streams) (found : Option Server) → Apart (Still s) (elim found [
