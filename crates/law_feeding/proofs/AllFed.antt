@@ -45,7 +45,7 @@ use Rattle.law_feeding.proofs.Fed.{PipesTold, Still, apart_fed, bytes_none, chil
 use Rattle.law_feeding.proofs.Fed.{now_child, now_conn, number_of, only_fed}
 use Rattle.law_feeding.proofs.Fed.{still_alike, still_both, still_child, still_conn, still_fed, still_launched, still_opened}
 use Rattle.law_feeding.proofs.Fed.{still_same, tell_apart}
-use Rattle.law_feeding.proofs.Reads.{LooksAt, gives_up, reads, reads_all}
+use Rattle.law_feeding.proofs.AllLooks.{LooksAt, gives_up, reads, reads_all}
 
 -- ---- where nothing is received
 module _ (id : ℕ) (s : Streams) where

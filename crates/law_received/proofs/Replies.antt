@@ -20,8 +20,8 @@ use Rattle.law_walk.specs.Walks.{In}
 use Rattle.law_walk.proofs.Trees.{IsMoved, does_comes}
 use Rattle.law_received.specs.Gives.{GivesAll, GivesNext, IsNext}
 use Rattle.law_readers.specs.Readers.{held_of, received}
-use Rattle.law_feeding.proofs.Reads as fed
-use Rattle.law_feeding.proofs.Reads.{LooksAt, gives_up}
+use Rattle.law_feeding.proofs.AllLooks as fed
+use Rattle.law_feeding.proofs.AllLooks.{LooksAt, gives_up}
 use Rattle.law_received.specs.Received.{AreReadInOrder, read_of}
 use Rattle.law_received.proofs.Going.{moves_say, read_more, received_then, taken_front}
 

@@ -1,4 +1,4 @@
-use Rattle.law_feeding.proofs.Reads.{all_look, read_look}
+use Rattle.law_feeding.proofs.AllLooks.{all_look, read_look}
 use Rattle.law_feeding.proofs.feeding.reads_take_fronts.Goals as goal
 
 pub returns : goal.returns
