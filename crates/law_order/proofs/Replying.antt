@@ -10,7 +10,8 @@ use Rattle.model_value.specs.Value.{Nothing, Outcome, Exc}
 use Rattle.model_wire.specs.declared.call.Call.TheVariants as call
 use Rattle.model_wire.specs.declared.event.Handed.{Handed}
 use Rattle.model_wire.specs.declared.event.Handed.TheVariants as to
-use Rattle.model_wire.specs.Event.{Event}
+use Rattle.model_wire.specs.Call.{Answer}
+use Rattle.model_wire.specs.Event.{Event, handed_by}
 use Rattle.model_wire.specs.Trace.{End}
 use Rattle.model_loop.specs.Futures.{next_future}
 use Rattle.model_loop.specs.Groups.{GroupExit, Waits, Passes, Raises as RaisedBy, exit_begin, exit_woken}
@@ -53,19 +54,28 @@ use Rattle.law_quiet.specs.Quiet.{IsQuiet as Quiet}
 use Rattle.law_quiet.proofs.Parts.{change_quiet, make_quiet, settle_quiet, soon_quiet}
 use Rattle.law_quiet.proofs.Rows as loops
 use Rattle.law_reach.specs.Reaches.{IsUnmet}
+use Rattle.law_sender.specs.Ways.{is_close}
 use Rattle.model_loop.specs.Parts.{Parts, Plain}
 use Rattle.model_value.specs.declared.action.Action.TheVariants as action
 use Rattle.model_machine.specs.Replies.{alarmed, waits}
 use Rattle.model_machine.specs.State.{unbooked_in}
-use Rattle.law_sides.specs.Sides.{AreKept, KeepsAll, KeepsAllWith}
+use Rattle.law_fronts.specs.Fronts.{MayGiveUp}
+use Rattle.law_sides.specs.Sides.{AreKept, AreKeptBy, KeepsAll, KeepsAllBy, KeepsAllWith}
 use Rattle.law_sides.proofs.AllSides as sides
 use Rattle.law_sides.proofs.Writing.{writes}
 use Rattle.law_order.specs.Order.{In, LeavesBy}
-use Rattle.law_order.proofs.Moving.{HandsNone, IsKept, asked_comes, does_comes, heard_kept, said_kept, tree_kept}
+use Rattle.law_order.proofs.Moving.{EndsGiving, HandsNone, IsKept, asked_comes, does_comes, heard_kept, moved_holds, said_kept, tree_kept}
+
+extra_hands : (code : ℤ) (bytes : List ℕ) (whom : Handed) (came : Answer) → handed_by whom (call.Extra code bytes) came ≡ []
+extra_hands code bytes (to.Conn id) came = refl
+extra_hands code bytes (to.Child id) came = refl
+
+extra_closes : (code : ℤ) (bytes : List ℕ) (whom : Handed) → is_close whom (call.Extra code bytes) ≡ false
+extra_closes code bytes (to.Conn id) = refl
+extra_closes code bytes (to.Child id) = refl
 
 extra_none : (code : ℤ) (bytes : List ℕ) → HandsNone (call.Extra code bytes)
-extra_none code bytes (to.Conn id) came = refl
-extra_none code bytes (to.Child id) came = refl
+extra_none code bytes = record { hands = extra_hands code bytes; closes = extra_closes code bytes }
 
 module _ {S : Type 0} {Holds : Streams → List Event → Parts → Type 0} (kept : IsKept Holds) (added : Extra S) (task : ℕ) where
   unmet : (how : End) (last : State S) → IsUnmet how → LeavesBy {S = S} Holds (Halts how last)
@@ -189,6 +199,14 @@ module _ {S : Type 0} {Holds : Streams → List Event → Parts → Type 0} (kep
   change_ordered tree next s ordered keeps each =
       does_comes Halts (LeavesBy Holds) unmet tree (λ streams now. next (with_streams streams now)) s (AreKept s.streams) keeps
       (λ moves streams t moved it. each (with_streams streams t) (tree_kept kept s t moves streams ordered moved it))
+
+  gives_ordered : (conn : ℕ) (tree : Doing Streams) (next : State S → RequestReply S) (s : State S) → In Holds s → EndsGiving s.events
+      → KeepsAllBy (MayGiveUp conn) s.streams tree → ((t : State S) → In Holds t → LeavesBy Holds (next t)) → LeavesBy Holds (streams_change tree next s)
+  gives_ordered conn tree next s ordered ran keeps each =
+      does_comes Halts (LeavesBy Holds) unmet tree (λ streams now. next (with_streams streams now)) s (AreKeptBy (MayGiveUp conn) s.streams) keeps
+      (λ moves streams t moved it.
+      each (with_streams streams t)
+      (moved_holds Holds s t moves streams moved (kept.gives_up conn s.streams s.events s.loop.parts moves streams ran it ordered)))
 
   do_ordered : {R : Type 0} (tree : Doing (Streams × R)) (next : R → State S → RequestReply S) (s : State S) → In Holds s
       → KeepsAllWith {R = R} s.streams tree → ((answer : R) (t : State S) → In Holds t → LeavesBy Holds (next answer t))
@@ -338,19 +356,20 @@ module _ {S : Type 0} {Holds : Streams → List Event → Parts → Type 0} (kep
       tree_kept kept s s [] (give_up_read on from s.streams) ordered (record { streams = refl; events = sym (append-nil s.events); parts = refl })
       (sides.gives_up on from s.streams)
 
-  pub decides_ordered : (standing : Standing) (input : Input) (s : State S) → In Holds s → LeavesBy Holds (decides added standing task input s)
-  decides_ordered Asked input s ordered = replied_ordered input s ordered
-  decides_ordered (Sleeping tag) input s ordered = replied_ordered input s ordered
-  decides_ordered (Leaving group) input s ordered =
+  pub decides_ordered : (standing : Standing) (input : Input) (s : State S) → In Holds s → EndsGiving s.events
+      → LeavesBy Holds (decides added standing task input s)
+  decides_ordered Asked input s ordered ran = replied_ordered input s ordered
+  decides_ordered (Sleeping tag) input s ordered ran = replied_ordered input s ordered
+  decides_ordered (Leaving group) input s ordered ran =
       exits_ordered (exit_woken input group s.loop).answer group (exit_woken input group s.loop).loop s (loops.exit_woken_quiet input group s.loop) ordered
-  decides_ordered (Serving key) input s ordered = woken_ordered key input s ordered
-  decides_ordered (Connecting conn) (Send value) s ordered = ordered
-  decides_ordered (Connecting conn) (Throw fault) s ordered =
-      change_ordered (drop_connect conn s.streams) (Raises fault) s ordered (sides.drops conn s.streams) (λ t it. it)
-  decides_ordered (Yielding whom) input s ordered = hears_ordered input (drains true task whom) s ordered (drains_ordered true whom s ordered)
-  decides_ordered (Reading from op on) input s ordered =
+  decides_ordered (Serving key) input s ordered ran = woken_ordered key input s ordered
+  decides_ordered (Connecting conn) (Send value) s ordered ran = ordered
+  decides_ordered (Connecting conn) (Throw fault) s ordered ran =
+      gives_ordered conn (drop_connect conn s.streams) (Raises fault) s ordered ran (sides.drops conn s.streams) (λ t it. it)
+  decides_ordered (Yielding whom) input s ordered ran = hears_ordered input (drains true task whom) s ordered (drains_ordered true whom s ordered)
+  decides_ordered (Reading from op on) input s ordered ran =
       let now = given_up_ordered on from s ordered in
       hears_ordered input (reads task op from) (waits_no_more on from s) now (reads_ordered op from (waits_no_more on from s) now)
-  decides_ordered (ReadingAll from taken on) input s ordered =
+  decides_ordered (ReadingAll from taken on) input s ordered ran =
       let now = given_up_ordered on from s ordered in
       hears_ordered input (reads_all task from taken) (waits_no_more on from s) now (reads_all_ordered from taken (waits_no_more on from s) now)

@@ -1,5 +1,5 @@
 -- A step, a callback and a turn leave a state in order, and so does each callback of a turn.
-use Rattle.std.proofs.Common.{inl, inr, ℕ, zero, suc, refl, Bool, true, false, not, ◌&&◌, List, [], ◌∷◌, Option, Some, None, nat_lt}
+use Rattle.std.proofs.Common.{inl, inr, ℕ, zero, suc, refl, Bool, true, false, not, ◌&&◌, List, [], ◌∷◌, ◌++◌, Option, Some, None, nat_lt}
 use Rattle.model_value.specs.Action.{Action}
 use Rattle.model_value.specs.declared.action.Action.TheVariants as action
 use Rattle.model_value.specs.Input.{Input}
@@ -10,7 +10,8 @@ use Rattle.model_wire.specs.declared.event.Handed.TheVariants as to
 use Rattle.model_wire.specs.Call.{Answer}
 use Rattle.model_wire.specs.Fits.{fits}
 use Rattle.model_wire.specs.Journal.{Entry, Answered, Refused}
-use Rattle.model_wire.specs.Event.{Event}
+use Rattle.model_wire.specs.declared.event.Handed.{Handed}
+use Rattle.model_wire.specs.Event.{Event, handed_by}
 use Rattle.model_wire.specs.Trace.{End}
 use Rattle.model_loop.specs.Futures.{next_future}
 use Rattle.model_loop.specs.Parts.{Handle}
@@ -45,10 +46,12 @@ use Rattle.law_quiet.specs.Quiet.{IsQuiet as Quiet, is_a_loss}
 use Rattle.law_quiet.proofs.Parts.{change_quiet, next, register_quiet, same, settle_quiet, soon_quiet}
 use Rattle.law_quiet.proofs.Rows as loops
 use Rattle.law_reach.specs.Reaches.{IsUnmet}
-use Rattle.law_sides.specs.Sides.{AreKept, KeepsAll}
+use Rattle.law_sender.specs.Ways.{Move, is_close, told_by}
+use Rattle.law_fronts.specs.Fronts.{Loses, MayGiveUp, way_of}
+use Rattle.law_sides.specs.Sides.{AreKept, AreKeptBy, KeepsAll, KeepsAllBy}
 use Rattle.law_sides.proofs.AllSides as sides
-use Rattle.law_order.specs.Order.{AfterTurn, AreAllIn, In, IsRunIn, Leaves, LeavesBy}
-use Rattle.law_order.proofs.Moving.{HandsNone, IsKept, asked_comes, does_comes, heard_kept, tree_kept}
+use Rattle.law_order.specs.Order.{AfterTurn, AreAllIn, In, IsRunIn, Leaves, LeavesBy, may_give_up}
+use Rattle.law_order.proofs.Moving.{EndsGiving, HandsNone, IsKept, asked_comes, does_comes, heard_kept, made_on, moved_holds, tree_kept}
 use Rattle.law_order.proofs.Replying.{decides_ordered, reply_ordered}
 
 -- ---- what a turn does of itself to the loop
@@ -127,16 +130,16 @@ module _ {S : Type 0} {Holds : Streams → List Event → Parts → Type 0} (kep
   serve_ordered (suc answers) task s ordered =
       served_ordered (says_of limit added task s) task (serve limit added answers task) s ordered (serve_ordered answers task)
 
-  step_ordered : (task : ℕ) (input : Input) (s : State S) → In Holds s → Leaves Holds (step limit added task input s)
+  step_ordered : (task : ℕ) (input : Input) (s : State S) → In Holds s → EndsGiving s.events → Leaves Holds (step limit added task input s)
   unfolding step
-  step_ordered task input s ordered =
+  step_ordered task input s ordered ran =
       let standing = (generator_of task s).standing in
       let begun = begin_step task input (given_up standing s.loop.parts) in
       let awake = stands Asked task (unbooked_in (λ p. begun.parts) s) in
       taken_ordered Holds task (decides added standing task begun.input awake) true (serve_all limit added task)
       (decides_ordered kept added task standing begun.input awake (quietly s
       (next s.loop.parts (given_up standing s.loop.parts) begun.parts (given_up_quiet standing s.loop.parts)
-      (loops.begin_quiet task input (given_up standing s.loop.parts))) ordered)) (λ t it. serve_ordered _ task t it)
+      (loops.begin_quiet task input (given_up standing s.loop.parts))) ordered) ran) (λ t it. serve_ordered _ task t it)
 
   -- ---- callbacks
   go_ordered : (tree : Doing Streams) (s : State S) → In Holds s → KeepsAll s.streams tree → Leaves Holds (streams_go tree s)
@@ -144,10 +147,37 @@ module _ {S : Type 0} {Holds : Streams → List Event → Parts → Type 0} (kep
       does_comes Stops (Leaves Holds) unmet tree goes_with s (AreKept s.streams) keeps
       (λ moves streams t moved it. tree_kept kept s t moves streams ordered moved it)
 
-  acts_ordered : (it : Action) (returned : Bool) (s : State S) → In Holds s
-      → Leaves Holds (streams_go (act (next_future s.loop.parts) returned it s.streams) s)
-  acts_ordered it returned s ordered =
-      go_ordered (act (next_future s.loop.parts) returned it s.streams) s ordered (sides.acts (next_future s.loop.parts) returned it s.streams)
+  -- what may give up a connection that is being made
+  falls_ordered : (conn : ℕ) (tree : Doing Streams) (s : State S) → In Holds s → EndsGiving s.events → KeepsAllBy (MayGiveUp conn) s.streams tree
+      → Leaves Holds (streams_go tree s)
+  falls_ordered conn tree s ordered ran keeps =
+      does_comes Stops (Leaves Holds) unmet tree goes_with s (AreKeptBy (MayGiveUp conn) s.streams) keeps
+      (λ moves streams t moved it.
+      moved_holds Holds s t moves streams moved (kept.gives_up conn s.streams s.events s.loop.parts moves streams ran it ordered))
+
+  -- a loss, which was scheduled: what holds after it
+  abbrev Loses_ : Handed → Bool → State S → Type 0
+  Loses_ who broken s =
+      (moves : List Move) (after : Streams) → AreKeptBy (Loses who broken) s.streams moves after
+      → Holds after (s.events ++ told_by moves) (made_on moves s.loop.parts)
+
+  lost_ordered : (who : Handed) (broken : Bool) (tree : Doing Streams) (s : State S) → Loses_ who broken s
+      → KeepsAllBy (Loses who broken) s.streams tree → Leaves Holds (streams_go tree s)
+  lost_ordered who broken tree s runs keeps =
+      does_comes Stops (Leaves Holds) unmet tree goes_with s (AreKeptBy (Loses who broken) s.streams) keeps
+      (λ moves streams t moved it. moved_holds Holds s t moves streams moved (runs moves streams it))
+
+  abbrev LossHolds : Action → State S → Type 0
+  LossHolds (action.Lost conn broken) s = Loses_ (to.Conn conn) broken s
+  LossHolds (action.LostChild child broken) s = Loses_ (to.Child child) broken s
+  LossHolds _ s = Unit {0}
+
+  -- the events end with this callback
+  abbrev HasRan : Action → List Event → Type 0
+  HasRan it events = (front : List Event) × (events ≡ front ++ event.Ran it ∷ [])
+
+  giving : (it : Action) (events : List Event) → HasRan it events → may_give_up it ≡ true → EndsGiving events
+  giving it events ran may = record { front = ran.0; it = it; ends = ran.1; giving = may }
 
   made_ordered : (handler : Option ℕ) (conn : ℕ) (s : State S) → In Holds s → Leaves Holds (made_by handler conn s)
   made_ordered None conn s ordered = ordered
@@ -162,41 +192,65 @@ module _ {S : Type 0} {Holds : Streams → List Event → Parts → Type 0} (kep
           made
       at false = go_ordered (close (to.Conn conn) s.streams) s ordered (sides.closes (to.Conn conn) s.streams)
 
-  effect_ordered : (it : Action) (s : State S) → In Holds s → Leaves Holds (effect limit added it s)
+  abbrev does_ : Action → State S → Doing Streams
+  does_ it s = act (next_future s.loop.parts) true it s.streams
+
+  does_act : (it : Action) (s : State S) → KeepsAllBy (way_of it) s.streams (does_ it s)
+  does_act it s = sides.acts (next_future s.loop.parts) true it s.streams
+
+  effect_ordered : (it : Action) (s : State S) → In Holds s → HasRan it s.events → LossHolds it s → Leaves Holds (effect limit added it s)
   unfolding effect
-  effect_ordered (action.Step task) s ordered = step_ordered task _ s ordered
-  effect_ordered (action.StepInCircle task circle) s ordered = step_ordered task _ s ordered
-  effect_ordered (action.Wakeup task) s ordered = step_ordered task _ s ordered
-  effect_ordered (action.SleepDone task future) s ordered = quietly s (settle_quiet future _ s.loop.parts) ordered
-  effect_ordered (action.GroupDone group task) s ordered = quietly s (loops.child_done_quiet group task s.loop) ordered
-  effect_ordered (action.Fires timeout) s ordered = quietly s (loops.fire_quiet timeout s.loop) ordered
-  effect_ordered action.MainDone s ordered = ordered
-  effect_ordered (action.ExtraItem code bytes) s ordered =
+  effect_ordered (action.Step task) s ordered ran loss = step_ordered task _ s ordered (giving (action.Step task) s.events ran refl)
+  effect_ordered (action.StepInCircle task circle) s ordered ran loss =
+      step_ordered task _ s ordered (giving (action.StepInCircle task circle) s.events ran refl)
+  effect_ordered (action.Wakeup task) s ordered ran loss = step_ordered task _ s ordered (giving (action.Wakeup task) s.events ran refl)
+  effect_ordered (action.SleepDone task future) s ordered ran loss = quietly s (settle_quiet future _ s.loop.parts) ordered
+  effect_ordered (action.GroupDone group task) s ordered ran loss = quietly s (loops.child_done_quiet group task s.loop) ordered
+  effect_ordered (action.Fires timeout) s ordered ran loss = quietly s (loops.fire_quiet timeout s.loop) ordered
+  effect_ordered action.MainDone s ordered ran loss = ordered
+  effect_ordered (action.ExtraItem code bytes) s ordered ran loss =
       quietly s (loops.extras_quiet (added.item code bytes s).steps s.loop) ordered
-  effect_ordered (action.Extra key) s ordered = quietly s (loops.extras_quiet (added.act key s).steps s.loop) ordered
-  effect_ordered (action.Made conn) s ordered = made_ordered (handler_of conn s.streams) conn s ordered
-  effect_ordered (action.HandlerDone conn task) s ordered =
-      acts_ordered (action.HandlerDone conn task) (has_returned s.loop.parts task) s ordered
-  effect_ordered (action.StartRead conn) s ordered = acts_ordered (action.StartRead conn) true s ordered
-  effect_ordered (action.Lost conn broken) s ordered = acts_ordered (action.Lost conn broken) true s ordered
-  effect_ordered (action.ReadableServer server) s ordered = acts_ordered (action.ReadableServer server) true s ordered
-  effect_ordered (action.Readable conn) s ordered = acts_ordered (action.Readable conn) true s ordered
-  effect_ordered (action.Writable conn) s ordered = acts_ordered (action.Writable conn) true s ordered
-  effect_ordered (action.Up conn) s ordered = acts_ordered (action.Up conn) true s ordered
-  effect_ordered (action.Down conn) s ordered = acts_ordered (action.Down conn) true s ordered
-  effect_ordered (action.WritableChild child) s ordered = acts_ordered (action.WritableChild child) true s ordered
-  effect_ordered (action.ChildItem child told) s ordered = acts_ordered (action.ChildItem child told) true s ordered
-  effect_ordered (action.LostChild child broken) s ordered = acts_ordered (action.LostChild child broken) true s ordered
+  effect_ordered (action.Extra key) s ordered ran loss = quietly s (loops.extras_quiet (added.act key s).steps s.loop) ordered
+  effect_ordered (action.Made conn) s ordered ran loss = made_ordered (handler_of conn s.streams) conn s ordered
+  effect_ordered (action.HandlerDone conn task) s ordered ran loss =
+      let returned = has_returned s.loop.parts task in
+      go_ordered (act (next_future s.loop.parts) returned (action.HandlerDone conn task) s.streams) s ordered
+      (sides.acts (next_future s.loop.parts) returned (action.HandlerDone conn task) s.streams)
+  effect_ordered (action.StartRead conn) s ordered ran loss = go_ordered (does_ (action.StartRead conn) s) s ordered (does_act (action.StartRead conn) s)
+  effect_ordered (action.ReadableServer server) s ordered ran loss = go_ordered (does_ (action.ReadableServer server) s) s ordered (does_act (action.ReadableServer server) s)
+  effect_ordered (action.Readable conn) s ordered ran loss = go_ordered (does_ (action.Readable conn) s) s ordered (does_act (action.Readable conn) s)
+  effect_ordered (action.Writable conn) s ordered ran loss = go_ordered (does_ (action.Writable conn) s) s ordered (does_act (action.Writable conn) s)
+  effect_ordered (action.Up conn) s ordered ran loss = go_ordered (does_ (action.Up conn) s) s ordered (does_act (action.Up conn) s)
+  effect_ordered (action.WritableChild child) s ordered ran loss = go_ordered (does_ (action.WritableChild child) s) s ordered (does_act (action.WritableChild child) s)
+  effect_ordered (action.ChildItem child told) s ordered ran loss = go_ordered (does_ (action.ChildItem child told) s) s ordered (does_act (action.ChildItem child told) s)
+  effect_ordered (action.Down conn) s ordered ran loss =
+      falls_ordered conn (does_ (action.Down conn) s) s ordered (giving (action.Down conn) s.events ran refl) (does_act (action.Down conn) s)
+  effect_ordered (action.Lost conn broken) s ordered ran loss = lost_ordered (to.Conn conn) broken (does_ (action.Lost conn broken) s) s loss
+      (does_act (action.Lost conn broken) s)
+  effect_ordered (action.LostChild child broken) s ordered ran loss =
+      lost_ordered (to.Child child) broken (does_ (action.LostChild child broken) s) s loss
+      (does_act (action.LostChild child broken) s)
+
+  -- it was taken out and runs
+  abbrev run_now : List Handle → Action → State S → State S
+  run_now rest it s = noted (event.Ran it) (unbooked_in (λ p. record p { pending = rest }) s)
 
   first_ordered : (handle : Handle) (rest : List Handle) (s : State S) → s.loop.parts.pending ≡ handle ∷ rest → In Holds s
       → Leaves Holds (run_first limit added handle rest s)
   first_ordered handle rest s first ordered = at handle.dead refl
     where
+      loss : handle.dead ≡ false → (it : Action) → handle.action ≡ it → LossHolds it (run_now rest it s)
+      loss live (action.Lost conn broken) is =
+          λ moves after it. kept.loses (to.Conn conn) broken s.streams s.events s.loop.parts handle rest first live is moves after it ordered
+      loss live (action.LostChild child broken) is =
+          λ moves after it. kept.loses (to.Child child) broken s.streams s.events s.loop.parts handle rest first live is moves after it ordered
+      loss live _ is = tt
+
       at : (dead : Bool) → handle.dead ≡ dead → Leaves Holds (ran limit added dead handle.action (unbooked_in (λ p. record p { pending = rest }) s))
       at true is = kept.taken s.streams s.events s.loop.parts handle rest first is ordered
       at false is =
-          effect_ordered handle.action (noted (event.Ran handle.action) (unbooked_in (λ p. record p { pending = rest }) s))
-          (kept.runs s.streams s.events s.loop.parts handle rest first is ordered)
+          effect_ordered handle.action (run_now rest handle.action s) (kept.runs s.streams s.events s.loop.parts handle rest first is ordered) (s.events, refl)
+          (loss is handle.action refl)
 
   -- ---- all callbacks of a turn
   on_ordered : (go_on : State S → Went S) (went : Went S) → ((t : State S) → In Holds t → Leaves Holds (go_on t)) → Leaves Holds went
@@ -259,9 +313,16 @@ module _ {S : Type 0} {Holds : Streams → List Event → Parts → Type 0} (kep
 
   -- ---- a turn
   module _ (s : State S) (ordered : In Holds s) where
+    select_hands : (whom : Handed) (came : Answer) → handed_by whom (call_of added s) came ≡ []
+    select_hands (to.Conn id) came = refl
+    select_hands (to.Child id) came = refl
+
+    select_closes : (whom : Handed) → is_close whom (call_of added s) ≡ false
+    select_closes (to.Conn id) = refl
+    select_closes (to.Child id) = refl
+
     select_none : HandsNone (call_of added s)
-    select_none (to.Conn id) came = refl
-    select_none (to.Child id) came = refl
+    select_none = record { hands = select_hands; closes = select_closes }
 
     pub turn_ordered : Leaves Holds (turn limit added s)
     unfolding turn

@@ -1,6 +1,8 @@
 -- A state of a run in which each sending side is sound and in order: what the events say that it was handed is a front of what
 -- the streams say was written to it, and what is unsent is the rest, until a loss is scheduled.
-use Rattle.std.specs.Prelude.{◌≡◌, ℕ, zero, suc, ◌+◌, ◌≤◌, ◌⊎◌, true, List, [], ◌∷◌}
+use Rattle.std.specs.Prelude.{◌≡◌, ℕ, zero, suc, ◌+◌, ◌≤◌, ◌⊎◌, Bool, true, false, List, [], ◌∷◌}
+use Rattle.model_value.specs.declared.action.Action.TheVariants as action
+use Rattle.model_value.specs.Action.{Action}
 use Rattle.model_wire.specs.declared.event.Event.TheVariants as event
 use Rattle.model_wire.specs.declared.event.Handed.{Handed}
 use Rattle.model_wire.specs.Event.{Event}
@@ -16,8 +18,9 @@ use Rattle.model_machine.specs.Turn.{turn}
 use Rattle.model_machine.specs.Went.{Went, Goes, Stops}
 use Rattle.law_quiet.specs.Quiet.{RegistersNone, losses_pending}
 use Rattle.law_sender.specs.SoundSenders.{IsSoundSender}
-use Rattle.law_sender.specs.Ways.{is_loss, one_if}
-use Rattle.law_sides.specs.Sides.{IsFront, standing_of}
+use Rattle.law_sender.specs.Ways.{is_close, is_loss, one_if}
+use Rattle.law_fronts.specs.Fronts.{IsFront}
+use Rattle.law_sides.specs.Sides.{standing_of}
 use Rattle.law_reach.specs.Reaches.{IsUnmet}
 
 -- of this one
@@ -79,6 +82,23 @@ losses_ran whom (event.Ran it ∷ events) = one_if (is_loss whom (CallSoon it)) 
 losses_ran whom (event.Called call ∷ events) = losses_ran whom events
 losses_ran whom (event.Got answer ∷ events) = losses_ran whom events
 losses_ran whom (event.Said task text ∷ events) = losses_ran whom events
+
+-- how often the outside was asked to close one
+abbrev pub closes_asked : Handed → List Event → ℕ
+closes_asked whom [] = 0
+closes_asked whom (event.Called it ∷ events) = one_if (is_close whom it) + closes_asked whom events
+closes_asked whom (event.Got answer ∷ events) = closes_asked whom events
+closes_asked whom (event.Ran it ∷ events) = closes_asked whom events
+closes_asked whom (event.Said task text ∷ events) = closes_asked whom events
+
+-- Callbacks in which a connection that is still being made may be given up: the outside says that it can't be made, or the task
+-- that waits for it is thrown an exception.
+abbrev pub may_give_up : Action → Bool
+may_give_up (action.Down conn) = true
+may_give_up (action.Step task) = true
+may_give_up (action.StepInCircle task circle) = true
+may_give_up (action.Wakeup task) = true
+may_give_up _ = false
 
 -- In order, with no loss registered on a future; and of each at most one loss ran or is to come, and none before it was
 -- scheduled.
