@@ -29,12 +29,11 @@ use Rattle.model_stream.specs.Children.{write_child, drain_child, wait_child, ki
 use Rattle.model_stream.specs.Connections.{Connection, outlet, its_sender, its_receiver, fail, received, readable, connect_refused}
 use Rattle.model_stream.specs.Connections.{lose, flushed, writable, up, down, stand_up, unmade, write_to, write_eof, drain_of, reads}
 use Rattle.model_stream.specs.Doing.{Doing, Ends, Change, Changes, Asks, MakeFuture, Settle, CallSoon, and_then, asks, asked_on, on, settles}
-use Rattle.model_stream.specs.Receivers.{Receiver, StreamGot, AllGot, receive_loss, read, read_all, takes_more}
-use Rattle.model_stream.specs.Reading.{ReadOp}
+use Rattle.model_stream.specs.Receivers.{Receiver, receive_loss, takes_more}
 use Rattle.model_stream.specs.Senders.{Sender, Drain, has_unsent, is_closing, is_lost, is_flushed, ended_sender, loss_of, outcome_of, waiting_for_loss}
 use Rattle.model_stream.specs.Senders.{fail_sender, lose_sender, offered, write, write_as, sent, send_more, schedule_loss, with_writer}
 use Rattle.model_stream.specs.Senders.{drain_sender, lost_text}
-use Rattle.model_stream.specs.Sending.{offer, put, put_answer, set_eof, took}
+use Rattle.model_stream.specs.Sending.{put, put_answer, set_eof, took}
 use Rattle.law_sender.specs.SoundSenders.{outlet_of}
 use Rattle.law_sender.specs.Ways.{Move, Did, Heard, Always, is_loss, losses, one_if}
 use Rattle.law_sender.proofs.Along.{always_map}

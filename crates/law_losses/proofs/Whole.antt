@@ -1,5 +1,5 @@
 -- Each state of a run is whole.
-use Rattle.std.proofs.Common.{◌≡◌, ◌⊎◌, inl, inr, ℕ, zero, suc, ◌+◌, ◌≤◌, Bool, true, false, not, List, [], ◌∷◌, ◌++◌, Some, refl, sym, ap, subst, ◌∙◌}
+use Rattle.std.proofs.Common.{◌≡◌, ◌⊎◌, inl, inr, ℕ, zero, suc, ◌+◌, ◌≤◌, Bool, true, false, List, [], ◌∷◌, ◌++◌, Some, refl, sym, ap, subst, ◌∙◌}
 use Rattle.std.proofs.Common.{le_refl, arith}
 use Rattle.std.proofs.lemmas.List.{append-nil}
 use Rattle.model_tree.specs.Syntax.{Program}
@@ -21,11 +21,11 @@ use Rattle.model_machine.specs.State.{State, start}
 use Rattle.law_quiet.specs.Quiet.{IsOfLosses, IsQuiet as Quiet, pending_of}
 use Rattle.law_quiet.proofs.Parts.{losses_of}
 use Rattle.law_sender.specs.SoundSenders.{IsInOrder, IsSoundSender, is_broken, is_losing, is_over, outlet_of}
-use Rattle.law_sender.specs.Ways.{Move, Did, Heard, closes, is_loss, losses, one_if, told_by}
+use Rattle.law_sender.specs.Ways.{Move, Did, Heard, closes, losses, one_if, told_by}
 use Rattle.law_sender.proofs.SoundSenders.{loses_counts}
 use Rattle.law_frames.specs.Mild.{good_losses, is_good_loss}
 use Rattle.law_frames.proofs.Mildly.{good_fewer, good_is_loss}
-use Rattle.law_fronts.specs.Fronts.{EndsAs, GoesOn, IsLoss, IsRegular, Loses, MayGiveUp, Way}
+use Rattle.law_fronts.specs.Fronts.{GoesOn, IsLoss, IsRegular, Loses, MayGiveUp, Way}
 use Rattle.law_sides.specs.Sides.{AreKeptBy, KeepsSide, standing_as, standing_of}
 use Rattle.law_order.specs.Order.{In, IsLostOnce, IsOver, closes_asked, may_give_up}
 use Rattle.law_order.proofs.Losing.{begins_lost, counted, first_goes, first_runs, loss_of, losses_counted, lost_kept, made_by}
@@ -159,7 +159,8 @@ module _ (way : Way) (s : Streams) (events : List Event) (p : Parts) (it : IsWho
           (side whom).1.keeps.closed (omega (arith, is, sum, told, some))
 
   -- as the streams say it
-  in_order_as : (whom : Handed) → IsInOrder (written_to whom s.written ++ (side whom).0) (handed whom events ++ handed whom (told_by moves)) (standing_of whom after)
+  in_order_as : (whom : Handed)
+      → IsInOrder (written_to whom s.written ++ (side whom).0) (handed whom events ++ handed whom (told_by moves)) (standing_of whom after)
       → IsInOrder (written_to whom after.written) (handed whom (events ++ told_by moves)) (standing_of whom after)
   in_order_as whom order =
       subst (λ bytes. IsInOrder bytes (handed whom (events ++ told_by moves)) (standing_of whom after)) (sym (side whom).1.written)
@@ -214,7 +215,8 @@ module _ (conn : ℕ) (s : Streams) (events : List Event) (p : Parts) (it : IsWh
   given_orderly : (whom : Handed) → given_up whom (events ++ told_by moves) ≡ false → IsOrderly whom after (events ++ told_by moves) (made_on moves p)
   given_orderly whom not_given = by (side (MayGiveUp conn) s events p it moves after kept whom).1.keeps.ends
     where
-      by : IsRegular whom (side (MayGiveUp conn) s events p it moves after kept whom).0 (standing_of whom s) moves (standing_of whom after) ⊎ ((whom ≡ to.Conn conn) × (closes whom moves ≡ 1))
+      by : IsRegular whom (side (MayGiveUp conn) s events p it moves after kept whom).0 (standing_of whom s) moves (standing_of whom after)
+          ⊎ ((whom ≡ to.Conn conn) × (closes whom moves ≡ 1))
           → IsOrderly whom after (events ++ told_by moves) (made_on moves p)
       by (inl regular) = orderly_after (MayGiveUp conn) s events p it moves after kept whom not_given regular
       by (inr so) = absurd (no_both (given_up whom (events ++ told_by moves)) (given_so whom so.0 so.1) not_given)

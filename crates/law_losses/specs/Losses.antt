@@ -1,7 +1,6 @@
 -- A state of a run in which no loss without an exception dropped anything, and the outside was asked to close each as its loss
 -- was done; but of a connection that was given up before it stood.
 use Rattle.std.specs.Prelude.{◌≡◌, ℕ, ◌≤◌, Bool, true, false, not, ◌&&◌, ◌||◌, List, [], ◌∷◌}
-use Rattle.model_value.specs.Action.{Action}
 use Rattle.model_wire.specs.declared.event.Event.TheVariants as event
 use Rattle.model_wire.specs.declared.event.Handed.{Handed}
 use Rattle.model_wire.specs.declared.event.Handed.TheVariants as to

@@ -216,16 +216,24 @@ module _ {S : Type 0} {Holds : Streams → List Event → Parts → Type 0} (kep
       let returned = has_returned s.loop.parts task in
       go_ordered (act (next_future s.loop.parts) returned (action.HandlerDone conn task) s.streams) s ordered
       (sides.acts (next_future s.loop.parts) returned (action.HandlerDone conn task) s.streams)
-  effect_ordered (action.StartRead conn) s ordered ran loss = go_ordered (does_ (action.StartRead conn) s) s ordered (does_act (action.StartRead conn) s)
-  effect_ordered (action.ReadableServer server) s ordered ran loss = go_ordered (does_ (action.ReadableServer server) s) s ordered (does_act (action.ReadableServer server) s)
-  effect_ordered (action.Readable conn) s ordered ran loss = go_ordered (does_ (action.Readable conn) s) s ordered (does_act (action.Readable conn) s)
-  effect_ordered (action.Writable conn) s ordered ran loss = go_ordered (does_ (action.Writable conn) s) s ordered (does_act (action.Writable conn) s)
-  effect_ordered (action.Up conn) s ordered ran loss = go_ordered (does_ (action.Up conn) s) s ordered (does_act (action.Up conn) s)
-  effect_ordered (action.WritableChild child) s ordered ran loss = go_ordered (does_ (action.WritableChild child) s) s ordered (does_act (action.WritableChild child) s)
-  effect_ordered (action.ChildItem child told) s ordered ran loss = go_ordered (does_ (action.ChildItem child told) s) s ordered (does_act (action.ChildItem child told) s)
+  effect_ordered (action.StartRead conn) s ordered ran loss =
+      go_ordered (does_ (action.StartRead conn) s) s ordered (does_act (action.StartRead conn) s)
+  effect_ordered (action.ReadableServer server) s ordered ran loss =
+      go_ordered (does_ (action.ReadableServer server) s) s ordered (does_act (action.ReadableServer server) s)
+  effect_ordered (action.Readable conn) s ordered ran loss =
+      go_ordered (does_ (action.Readable conn) s) s ordered (does_act (action.Readable conn) s)
+  effect_ordered (action.Writable conn) s ordered ran loss =
+      go_ordered (does_ (action.Writable conn) s) s ordered (does_act (action.Writable conn) s)
+  effect_ordered (action.Up conn) s ordered ran loss =
+      go_ordered (does_ (action.Up conn) s) s ordered (does_act (action.Up conn) s)
+  effect_ordered (action.WritableChild child) s ordered ran loss =
+      go_ordered (does_ (action.WritableChild child) s) s ordered (does_act (action.WritableChild child) s)
+  effect_ordered (action.ChildItem child told) s ordered ran loss =
+      go_ordered (does_ (action.ChildItem child told) s) s ordered (does_act (action.ChildItem child told) s)
   effect_ordered (action.Down conn) s ordered ran loss =
       falls_ordered conn (does_ (action.Down conn) s) s ordered (giving (action.Down conn) s.events ran refl) (does_act (action.Down conn) s)
-  effect_ordered (action.Lost conn broken) s ordered ran loss = lost_ordered (to.Conn conn) broken (does_ (action.Lost conn broken) s) s loss
+  effect_ordered (action.Lost conn broken) s ordered ran loss =
+      lost_ordered (to.Conn conn) broken (does_ (action.Lost conn broken) s) s loss
       (does_act (action.Lost conn broken) s)
   effect_ordered (action.LostChild child broken) s ordered ran loss =
       lost_ordered (to.Child child) broken (does_ (action.LostChild child broken) s) s loss

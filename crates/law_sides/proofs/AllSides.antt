@@ -32,7 +32,7 @@ use Rattle.model_stream.specs.Senders.{Drain}
 use Rattle.model_stream.specs.Streams.{Streams, act, add_connection, add_child, add_server, accept, accept_most, most_accepts, may_connect}
 use Rattle.model_stream.specs.Streams.{its_connections, its_children, on_one, listen, connect, launch, close_server, closed_server}
 use Rattle.law_sender.specs.SoundSenders.{IsSoundSender}
-use Rattle.law_sender.specs.Ways.{Did, Heard, Always, handed_in}
+use Rattle.law_sender.specs.Ways.{Did, Heard, Always}
 use Rattle.law_sender.proofs.Along.{always_if, always_into, always_map}
 use Rattle.law_stream.specs.ChildSteps as children
 use Rattle.law_stream.proofs.Quiet.{AllQuiet}
