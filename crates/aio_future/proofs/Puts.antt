@@ -14,10 +14,10 @@ use Rattle.aio_future.proofs.TableLemmas.{set-table, push-table, at_held, at_rel
 abbrev pub Puts : List (ℕ × Future) → List (ℕ × Future) → ℕ → Option Future → Type 0
 Puts es after k w = (q : ℕ) → held_in after q ≡ cond (nat_eq k q) w (held_in es q)
 
-put_same : (es after : List (ℕ × Future)) (k : ℕ) (w : Option Future) → Puts es after k w → held_in after k ≡ w
+pub put_same : (es after : List (ℕ × Future)) (k : ℕ) (w : Option Future) → Puts es after k w → held_in after k ≡ w
 put_same es after k w u = u k ∙ rw (eq-eqb k k refl) refl
 
-put_other : (es after : List (ℕ × Future)) (k : ℕ) (w : Option Future) → Puts es after k w → (j : ℕ) → j ≢ k → held_in after j ≡ held_in es j
+pub put_other : (es after : List (ℕ × Future)) (k : ℕ) (w : Option Future) → Puts es after k w → (j : ℕ) → j ≢ k → held_in after j ≡ held_in es j
 put_other es after k w u j n = u j ∙ rw (ne_eqb k j (λ e. n (sym e))) refl
 
 pub put-table : (es after : List (ℕ × Future)) (n k : ℕ) (w : Option Future) → k < n → Puts es after k w
@@ -46,7 +46,7 @@ pending_held es n k fs view p = go (held_in es k) refl (cases_lt k n)
     go None e (inl l) = not (slice_get fs k) false (rw (← view) (ap is_pending_at (at_released es n k l (sym e)))) refl p
     go None e (inr l) = not (slice_get fs k) false (rw (← view) (ap is_pending_at (get-table_past (held_in es) n k l))) refl p
 
-some_is : {X : Type 0} (o : Option X) (x : X) → Some x ≡ o → IsSome o
+pub some_is : {X : Type 0} (o : Option X) (x : X) → Some x ≡ o → IsSome o
 some_is (Some y) x e = refl
 some_is None x e = absurd (cc)
 

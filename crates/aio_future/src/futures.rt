@@ -9,8 +9,9 @@ ghost use Rattle.law_parts.specs.Forgotten.{released};
 ghost use Rattle.aio_ready.specs.Queue as queue;
 ghost use Rattle.aio_future.specs.Kinds.{kind_of, is_asked};
 ghost use Rattle.aio_future.specs.Settled.{settled, called, registered, soon_if_done, asked};
+ghost use Rattle.aio_future.specs.Awaited.{IsUnawaited};
 
-use crate::future::{Future, FutureId, FutureKind};
+use crate::future::{Future, FutureId, FutureKind, alone_after};
 use aio_base::{Action, Memory, Outcome};
 use aio_ready::{Ready, Ticket};
 use indexmap::IndexMap;
@@ -24,6 +25,8 @@ use std::marker::Model;
 pub struct Futures {
     held: IndexMap<FutureId, Future>,
     next: FutureId,
+    // none of this number or a later one has members, which are made before what stands for them
+    alone: FutureId,
     // what stands for a released one
     over: Future,
 }
@@ -40,10 +43,12 @@ impl Model for Futures {
     ghost coded = { coded_list coded_future };
 
     ghost use Rattle.aio_future.specs.Table.{table, held_in, IsBelow};
+    ghost use Rattle.aio_future.specs.Awaited.{HasNoMembersFrom};
 
     ghost view = { λ a. table (held_in a.held.entries) a.next };
 
-    ghost invariant = { λ a. IsBelow a.held.entries a.next × (a.over ≡ released) };
+    ghost invariant = { λ a. IsBelow a.held.entries a.next
+        × ((a.over ≡ released) × HasNoMembersFrom a.held.entries a.alone) };
 }
 
 impl Futures {
@@ -56,6 +61,7 @@ impl Futures {
         Ok(Futures {
             held,
             next: 0,
+            alone: 0,
             over,
         })
     }
@@ -93,8 +99,10 @@ impl Futures {
         let Some(next) = id.checked_add(1) else {
             return Err(Memory);
         };
+        let alone = alone_after(&kind, next, self.alone);
         self.held.insert(id, Future::new(kind))?;
         self.next = next;
+        self.alone = alone;
         Ok(id)
     }
 
@@ -178,6 +186,21 @@ impl Futures {
             Some(future) => !future.is_done(),
             None => false,
         }
+    }
+
+    /// Whether a task or a future that stands for several may wait for this one. None does where
+    /// the answer is false. It looks at no other future: whatever was made before the last one that
+    /// stands for several may be a member.
+    pub fn may_be_awaited(&self, id: FutureId) -> bool
+        ensures { result ≡ false → IsUnawaited id self.now }
+    {
+        let Some(future) = self.held.get(&id) else {
+            return true;
+        };
+        if id < self.alone {
+            return true;
+        }
+        future.wakes()
     }
 
     /// How a future stands for whoever walks over futures.
