@@ -1,4 +1,5 @@
--- What no future after a number has: members; and what none has that wakes no task: a step among its callbacks.
+-- What the futures keep of who waits for them: from a number on none has members, and one that isn't said to wake a task has
+-- no step among its callbacks.
 use Rattle.std.proofs.Common.{◌≡◌, ◌≢◌, ℕ, ◌+◌, ◌<◌, ◌≤◌, ◌⊎◌, Bool, true, false, ◌==◌, ◌||◌, List, [], ◌∷◌, ◌++◌, Option, Some, None, slice_get}
 use Rattle.std.proofs.Common.{refl, ap, sym, subst, ◌∙◌, arith, inl, inr, nat_lt, MutBor, if◌then◌else◌}
 use Rattle.std.specs.Prelude.{unwrap_or}
@@ -14,7 +15,7 @@ use Rattle.law_parts.specs.Shape.{members_of, members_at}
 use Rattle.aio_future.specs.Table.{table, held_in, IsBelow}
 use Rattle.aio_future.specs.Awaited.{is_step, WakesNone, HasNoMembersFrom, alone_after, IsUnawaited}
 use Rattle.aio_future.proofs.TableLemmas.{get-table, get-table_past, held_below, at_held}
-use Rattle.aio_future.proofs.Puts.{Puts, put_same, put_other, some_is}
+use Rattle.aio_future.proofs.Puts.{Puts, put_same, put_other, some_is, below_next}
 
 -- ---- callbacks
 last_step : (actions : List Action) (action : Action) → list_any is_step actions ≡ false → is_step action ≡ false
@@ -53,56 +54,73 @@ members_kept es after k w alone puts same none j l = at (cases_eq j k)
         (ap members_at (put_same es after k w puts) ∙ same ∙ none k (subst (λ i. alone ≤ i) e l))
     at (inr n) = ap members_at (put_other es after k w puts j n) ∙ none j l
 
+-- what the type keeps
+abbrev pub Kept : List (ℕ × Future) → (next alone : ℕ) → Future → Type 0
+Kept es next alone over = IsBelow es next × ((over ≡ released) × HasNoMembersFrom es alone)
+
 -- a held future changed in its place, and its members stayed
-module _ (es after : List (ℕ × Future)) (k : ℕ) (r : Option (MutBor Future)) (m : MutBor Future) (new : Future)
-    (value : option_copied_mut r ≡ held_in es k) (is : r ≡ Some m) (puts : IsSome (held_in es k) → Puts es after k (Some new)) where
-  there : Some m.now ≡ held_in es k
-  there = ap option_copied_mut (sym is) ∙ value
-
-  put : Puts es after k (Some new)
-  put = puts (some_is (held_in es k) m.now there)
-
-  pub below_wrote : (n : ℕ) → IsBelow es n → IsBelow after n
-  below_wrote n below j l =
-      let within : k < n = held_below es n k m.now below (sym there) in
-      put_other es after k (Some new) put j (λ e. omega (arith, within, l, e)) ∙ below j l
-
-  pub members_wrote : (alone : ℕ) → members_of new.kind ≡ members_of m.now.kind → HasNoMembersFrom es alone → HasNoMembersFrom after alone
-  members_wrote alone same none = members_kept es after k (Some new) alone put (same ∙ ap members_at there) none
-
-pub below_gone : (es after : List (ℕ × Future)) (k n : ℕ) → Puts es after k None → IsBelow es n → IsBelow after n
-below_gone es after k n puts below j l = at (cases_eq j k)
+pub wrote_keeps : (es after : List (ℕ × Future)) (n k alone : ℕ) (over : Future) (r : Option (MutBor Future)) (m : MutBor Future)
+    (new : Future) → Kept es n alone over → option_copied_mut r ≡ held_in es k → r ≡ Some m
+    → (IsSome (held_in es k) → Puts es after k (Some new)) → members_of new.kind ≡ members_of m.now.kind → Kept after n alone over
+wrote_keeps es after n k alone over r m new kept value is puts same =
+    (below, (kept.1.0, members_kept es after k (Some new) alone put (same ∙ ap members_at there) kept.1.1))
   where
-    at : (j ≡ k) ⊎ (j ≡ k → ⊥) → held_in after j ≡ None
-    at (inl e) = subst (λ i. held_in after i ≡ None) (sym e) (put_same es after k None puts)
-    at (inr n) = put_other es after k None puts j n ∙ below j l
+    there : Some m.now ≡ held_in es k
+    there = ap option_copied_mut (sym is) ∙ value
 
-pub members_gone : (es after : List (ℕ × Future)) (k : ℕ) (alone : ℕ) → Puts es after k None → HasNoMembersFrom es alone → HasNoMembersFrom after alone
-members_gone es after k alone puts none j l = at (cases_eq j k)
+    put : Puts es after k (Some new)
+    put = puts (some_is (held_in es k) m.now there)
+
+    below : IsBelow after n
+    below j l =
+        let within : k < n = held_below es n k m.now kept.0 (sym there) in
+        put_other es after k (Some new) put j (λ e. omega (arith, within, l, e)) ∙ kept.0 j l
+
+-- a future is let go
+pub gone_keeps : (es after : List (ℕ × Future)) (n k alone : ℕ) (over : Future) → Kept es n alone over → Puts es after k None
+    → Kept after n alone over
+gone_keeps es after n k alone over kept puts = (below, (kept.1.0, members))
   where
-    at : (j ≡ k) ⊎ (j ≡ k → ⊥) → members_at (held_in after j) ≡ []
-    at (inl e) = subst (λ i. members_at (held_in after i) ≡ []) (sym e) (ap members_at (put_same es after k None puts))
-    at (inr n) = ap members_at (put_other es after k None puts j n) ∙ none j l
+    below : IsBelow after n
+    below j l = at (cases_eq j k)
+      where
+        at : (j ≡ k) ⊎ (j ≡ k → ⊥) → held_in after j ≡ None
+        at (inl e) = subst (λ i. held_in after i ≡ None) (sym e) (put_same es after k None puts)
+        at (inr n) = put_other es after k None puts j n ∙ kept.0 j l
 
-pub members_made : (es after : List (ℕ × Future)) (n next : ℕ) (x : Future) (alone later : ℕ) → IsBelow es n → next ≡ n + 1 → Puts es after n (Some x)
-    → later ≡ alone_after x.kind next alone → HasNoMembersFrom es alone → HasNoMembersFrom after later
-members_made es after n next x alone later below is puts rises none j l = at (cases_eq j n)
+    members : HasNoMembersFrom after alone
+    members j l = at (cases_eq j k)
+      where
+        at : (j ≡ k) ⊎ (j ≡ k → ⊥) → members_at (held_in after j) ≡ []
+        at (inl e) = subst (λ i. members_at (held_in after i) ≡ []) (sym e) (ap members_at (put_same es after k None puts))
+        at (inr n) = ap members_at (put_other es after k None puts j n) ∙ kept.1.1 j l
+
+-- a future is made
+pub made_keeps : (es after : List (ℕ × Future)) (n next alone later : ℕ) (over x : Future) → Kept es n alone over → next ≡ n + 1
+    → later ≡ alone_after x.kind next alone → Puts es after n (Some x) → Kept after next later over
+made_keeps es after n next alone later over x kept is rises puts =
+    (subst (λ m. IsBelow after m) (sym is) (below_next es after n (Some x) kept.0 puts), (kept.1.0, members))
   where
     new : (kind : FutureKind) → alone_after kind next alone ≤ n → members_of kind ≡ []
     new Plain h = refl
     new (OfTask task) h = refl
     new (Many members asked) h = let k : next ≤ n = h in absurd (omega (arith, is, k))
 
-    old : (kind : FutureKind) → alone_after kind next alone ≤ j → members_at (held_in es j) ≡ []
-    old Plain h = none j h
-    old (OfTask task) h = none j h
-    old (Many members asked) h = let k : next ≤ j = h in ap members_at (below j (omega (arith, is, k)))
+    old : (kind : FutureKind) (j : ℕ) → alone_after kind next alone ≤ j → members_at (held_in es j) ≡ []
+    old Plain j h = kept.1.1 j h
+    old (OfTask task) j h = kept.1.1 j h
+    old (Many members asked) j h = let k : next ≤ j = h in ap members_at (kept.0 j (omega (arith, is, k)))
 
-    at : (j ≡ n) ⊎ (j ≡ n → ⊥) → members_at (held_in after j) ≡ []
-    at (inl e) =
-        subst (λ i. members_at (held_in after i) ≡ []) (sym e)
-        (ap members_at (put_same es after n (Some x) puts) ∙ new x.kind (subst (λ m. m ≤ n) rises (subst (λ i. later ≤ i) e l)))
-    at (inr ne) = ap members_at (put_other es after n (Some x) puts j ne) ∙ old x.kind (subst (λ m. m ≤ j) rises l)
+    members : HasNoMembersFrom after later
+    members j l = at (cases_eq j n)
+      where
+        at : (j ≡ n) ⊎ (j ≡ n → ⊥) → members_at (held_in after j) ≡ []
+        at (inl e) =
+            let here : alone_after x.kind next alone ≤ n = subst (λ m. m ≤ n) rises (subst (λ i. later ≤ i) e l) in
+            subst (λ i. members_at (held_in after i) ≡ []) (sym e) (ap members_at (put_same es after n (Some x) puts) ∙ new x.kind here)
+        at (inr ne) =
+            let past : alone_after x.kind next alone ≤ j = subst (λ m. m ≤ j) rises l in
+            ap members_at (put_other es after n (Some x) puts j ne) ∙ old x.kind j past
 
 -- ---- nobody waits
 no_member : (xs : List ℕ) (holder id : ℕ) → holder ≤ id → list_any (λ member. member == id) (made_before holder xs) ≡ false

@@ -2,7 +2,7 @@ use Rattle.std.proofs.Common.{◌++◌, ◌∷◌, [], ap}
 use Rattle.model_loop.specs.Parts as plain
 use Rattle.law_parts.specs.Shape.{members_of}
 use Rattle.aio_future.proofs.Puts.{some_lent, pending_held, wrote}
-use Rattle.aio_future.proofs.Unawaited.{below_wrote, members_wrote}
+use Rattle.aio_future.proofs.Unawaited.{wrote_keeps}
 use Rattle.aio_future.proofs.futures.Futures.add.Goals as goal
 
 pub unwrap-future-requires : goal.unwrap-future-requires
@@ -20,13 +20,7 @@ returns c = λ future found.
 
 pub invariant_of-self : goal.invariant_of-self
 invariant_of-self c =
-    let before = c.self.inside.held.entries in
-    let after = (c.get_mut.follows.lender c.add.new.self).entries in (
-      below_wrote before after c.args.id c.get_mut.result c.unwrap-future.result c.add.new.self c.get_mut.ensures.value c.unwrap-future.ensures
-          (λ some. ((c.get_mut.follows.holds c.add.new.self).3 some).0) c.self.inside.next c.self.invariant.0,
-      (
-        c.self.invariant.1.0,
-        members_wrote before after c.args.id c.get_mut.result c.unwrap-future.result c.add.new.self c.get_mut.ensures.value c.unwrap-future.ensures
-            (λ some. ((c.get_mut.follows.holds c.add.new.self).3 some).0) c.self.inside.alone (ap (λ (f : plain.Future). members_of f.kind) c.add.ensures) c.self.invariant.1.1,
-      ),
-    )
+    wrote_keeps c.self.inside.held.entries (c.get_mut.follows.lender c.add.new.self).entries c.self.inside.next c.args.id
+    c.self.inside.alone c.self.inside.over c.get_mut.result c.unwrap-future.result c.add.new.self c.self.invariant c.get_mut.ensures.value c.unwrap-future.ensures
+    (λ some. ((c.get_mut.follows.holds c.add.new.self).3 some).0)
+    (ap (λ (f : plain.Future). members_of f.kind) c.add.ensures)

@@ -3,7 +3,7 @@ use Rattle.model_loop.specs.Parts as plain
 use Rattle.model_loop.specs.Futures.{asked_kind}
 use Rattle.law_parts.specs.Shape.{members_of}
 use Rattle.aio_future.proofs.Puts.{ask_released, wrote}
-use Rattle.aio_future.proofs.Unawaited.{asked_members, below_wrote, members_wrote}
+use Rattle.aio_future.proofs.Unawaited.{asked_members, wrote_keeps}
 use Rattle.aio_future.proofs.futures.Futures.ask.Goals as goal
 
 pub returns : goal.returns
@@ -22,14 +22,7 @@ returns-in_default c = λ future found.
 
 pub invariant_of-self : goal.invariant_of-self
 invariant_of-self c =
-    let before = c.self.inside.held.entries in
-    let after = (c.get_mut.follows.lender c.ask.new.self).entries in
-    let same = ap (λ (f : plain.Future). members_of f.kind) c.ask.ensures ∙ asked_members c.in-Some.future.now.kind in (
-      below_wrote before after c.args.id c.get_mut.result c.in-Some.future c.ask.new.self c.get_mut.ensures.value c.in-Some.is
-          (λ some. ((c.get_mut.follows.holds c.ask.new.self).3 some).0) c.self.inside.next c.self.invariant.0,
-      (
-        c.self.invariant.1.0,
-        members_wrote before after c.args.id c.get_mut.result c.in-Some.future c.ask.new.self c.get_mut.ensures.value c.in-Some.is
-            (λ some. ((c.get_mut.follows.holds c.ask.new.self).3 some).0) c.self.inside.alone same c.self.invariant.1.1,
-      ),
-    )
+    wrote_keeps c.self.inside.held.entries (c.get_mut.follows.lender c.ask.new.self).entries c.self.inside.next c.args.id
+    c.self.inside.alone c.self.inside.over c.get_mut.result c.in-Some.future c.ask.new.self c.self.invariant
+    c.get_mut.ensures.value c.in-Some.is (λ some. ((c.get_mut.follows.holds c.ask.new.self).3 some).0)
+    (ap (λ (f : plain.Future). members_of f.kind) c.ask.ensures ∙ asked_members c.in-Some.future.now.kind)

@@ -4,7 +4,7 @@ use Rattle.law_parts.specs.Shape.{members_of}
 use Rattle.law_cancel.proofs.Effects.{done_as}
 use Rattle.aio_ready.specs.Queue as queue
 use Rattle.aio_future.proofs.Puts.{some_lent, pending_held, wrote, was}
-use Rattle.aio_future.proofs.Unawaited.{below_wrote, members_wrote}
+use Rattle.aio_future.proofs.Unawaited.{wrote_keeps}
 use Rattle.aio_future.proofs.futures.Futures.end.Goals as goal
 
 pub unwrap-future-requires : goal.unwrap-future-requires
@@ -28,13 +28,7 @@ returns-clause-called c = λ future found.
 
 pub invariant_of-self : goal.invariant_of-self
 invariant_of-self c =
-    let before = c.self.inside.held.entries in
-    let after = (c.get_mut.follows.lender c.end.new.self).entries in (
-      below_wrote before after c.args.id c.get_mut.result c.unwrap-future.result c.end.new.self c.get_mut.ensures.value c.unwrap-future.ensures
-          (λ some. ((c.get_mut.follows.holds c.end.new.self).3 some).0) c.self.inside.next c.self.invariant.0,
-      (
-        c.self.invariant.1.0,
-        members_wrote before after c.args.id c.get_mut.result c.unwrap-future.result c.end.new.self c.get_mut.ensures.value c.unwrap-future.ensures
-            (λ some. ((c.get_mut.follows.holds c.end.new.self).3 some).0) c.self.inside.alone (ap (λ (f : plain.Future). members_of f.kind) c.end.ensures.after) c.self.invariant.1.1,
-      ),
-    )
+    wrote_keeps c.self.inside.held.entries (c.get_mut.follows.lender c.end.new.self).entries c.self.inside.next c.args.id
+    c.self.inside.alone c.self.inside.over c.get_mut.result c.unwrap-future.result c.end.new.self c.self.invariant
+    c.get_mut.ensures.value c.unwrap-future.ensures (λ some. ((c.get_mut.follows.holds c.end.new.self).3 some).0)
+    (ap (λ (f : plain.Future). members_of f.kind) c.end.ensures.after)

@@ -2,8 +2,8 @@ use Rattle.std.proofs.Common.{refl, ap, sym, ◌∙◌}
 use Rattle.model_loop.specs.Parts as plain
 use Rattle.aio_future.specs.Awaited.{alone_after}
 use Rattle.aio_future.proofs.TableLemmas.{length-table}
-use Rattle.aio_future.proofs.Puts.{made, below_next}
-use Rattle.aio_future.proofs.Unawaited.{members_made}
+use Rattle.aio_future.proofs.Puts.{made}
+use Rattle.aio_future.proofs.Unawaited.{made_keeps}
 use Rattle.aio_future.proofs.futures.Futures.make.Goals as goal
 
 pub returns-clause-number : goal.returns-clause-number
@@ -16,16 +16,8 @@ returns-clause-after c =
 
 pub invariant_of-self-2 : goal.invariant_of-self-2
 invariant_of-self-2 c =
-    let before = c.self.inside.held.entries in
-    let after = c.insert.new.self.entries in
-    let puts = c.in_ok-insert.ensures.updates.0 in
-    let rises =
-    c.alone_after-alone.ensures
-    ∙ ap (λ (f : plain.Future). alone_after f.kind c.in-Some.next c.self.inside.alone) (sym c.new.ensures) in (
-      rw c.in-Some.ensures.1 (below_next before after c.self.inside.next _ c.self.invariant.0 puts),
-      (
-        c.self.invariant.1.0,
-        members_made before after c.self.inside.next c.in-Some.next c.new.result c.self.inside.alone c.alone_after-alone.result
-            c.self.invariant.0 c.in-Some.ensures.1 puts rises c.self.invariant.1.1,
-      ),
-    )
+    let next = c.in-Some.next in
+    let alone = c.self.inside.alone in
+    let rises = c.alone_after-alone.ensures ∙ ap (λ (f : plain.Future). alone_after f.kind next alone) (sym c.new.ensures) in
+    made_keeps c.self.inside.held.entries c.insert.new.self.entries c.self.inside.next next alone c.alone_after-alone.result
+    c.self.inside.over c.new.result c.self.invariant c.in-Some.ensures.1 rises c.in_ok-insert.ensures.updates.0
