@@ -1,6 +1,6 @@
 -- What the futures keep of who waits for them: from a number on none has members, and one that isn't said to wake a task has
 -- no step among its callbacks.
-use Rattle.std.proofs.Common.{◌≡◌, ◌≢◌, ℕ, ◌+◌, ◌<◌, ◌≤◌, ◌⊎◌, Bool, true, false, ◌==◌, ◌||◌, List, [], ◌∷◌, ◌++◌, Option, Some, None, slice_get}
+use Rattle.std.proofs.Common.{◌≡◌, ℕ, ◌+◌, ◌<◌, ◌≤◌, ◌⊎◌, Bool, true, false, ◌==◌, ◌||◌, List, [], ◌∷◌, ◌++◌, Option, Some, None, slice_get}
 use Rattle.std.proofs.Common.{refl, ap, sym, subst, ◌∙◌, arith, inl, inr, nat_lt, MutBor, if◌then◌else◌}
 use Rattle.std.specs.Prelude.{unwrap_or}
 use Rattle.std.specs.Option.{IsSome, option_copied_mut}
@@ -31,7 +31,7 @@ last_step (a ∷ actions) action none e = at (is_step a) none (λ h. last_step a
 
 pub one_more : (wakes after : Bool) (action : Action) (actions more : List Action) → WakesNone wakes actions
     → after ≡ (if is_step action then true else wakes) → more ≡ actions ++ action ∷ [] → WakesNone after more
-one_more wakes after action actions more none is grows h = rw grows (at (is_step action) refl (sym is ∙ h))
+one_more wakes after action actions more none is grows h = ap (list_any is_step) grows ∙ at (is_step action) refl (sym is ∙ h)
   where
     at : (b : Bool) → is_step action ≡ b → (if b then true else wakes) ≡ false → list_any is_step (actions ++ action ∷ []) ≡ false
     at true e k = absurd (false≢true (sym k))
@@ -127,10 +127,10 @@ no_member : (xs : List ℕ) (holder id : ℕ) → holder ≤ id → list_any (λ
 no_member [] holder id l = refl
 no_member (x ∷ xs) holder id l = at (nat_lt x holder) apart (no_member xs holder id l)
   where
-    apart : nat_lt x holder ≡ true → x ≢ id
+    apart : nat_lt x holder ≡ true → x ≡ id → ⊥
     apart h e = let b = ltb-true x holder h in omega (arith, e, b, l)
 
-    at : (b : Bool) → (b ≡ true → x ≢ id) → list_any (λ member. member == id) (made_before holder xs) ≡ false
+    at : (b : Bool) → (b ≡ true → x ≡ id → ⊥) → list_any (λ member. member == id) (made_before holder xs) ≡ false
         → list_any (λ member. member == id) (if b then x ∷ made_before holder xs else made_before holder xs) ≡ false
     at true other ih = ap (λ b. b || list_any (λ member. member == id) (made_before holder xs)) (ne_eqb x id (other refl)) ∙ ih
     at false other ih = ih
@@ -149,7 +149,9 @@ members_in es n j none = at (cases_lt j n)
 pub unawaited : (es : List (ℕ × Future)) (n id alone : ℕ) (fs : List Future) (x : Future) → IsBelow es n → table (held_in es) n ≡ fs
     → HasNoMembersFrom es alone → Some x ≡ held_in es id → alone ≤ id → list_any is_step x.callbacks ≡ false → IsUnawaited id fs
 unawaited es n id alone fs x below view none there past steps = record {
-  wakes = rw (← view) (ap (λ o. list_any is_step (callbacks_at o)) (at_held es n id x below there) ∙ steps);
+  wakes =
+      ap (λ ys. list_any is_step (callbacks_at (slice_get ys id))) (sym view)
+      ∙ ap (λ o. list_any is_step (callbacks_at o)) (at_held es n id x below there) ∙ steps;
   member = λ holder. at holder (cases_lt holder alone);
 }
   where
