@@ -1,4 +1,6 @@
 pub mod Code
+pub mod Bare
+pub mod Rooms
 pub mod Kinds
 pub mod Table
 pub mod Settled

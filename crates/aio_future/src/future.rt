@@ -3,10 +3,11 @@ ghost use Rattle.std.specs.Prelude.{◌≡◌, ◌+◌, ◌<◌, ◌^◌, IfSome
 ghost use Rattle.std.specs.Option.{option_copied};
 ghost use Rattle.model_loop.specs.Futures.{asked_kind};
 ghost use Rattle.law_parts.specs.Shape.{stands_of, members_of};
-ghost use Rattle.law_parts.specs.Forgotten.{released};
 ghost use Rattle.aio_ready.specs.Queue.{soon_all};
 ghost use Rattle.aio_future.specs.Kinds.{kind_of, is_asked_kind};
+ghost use Rattle.aio_future.specs.Bare.{future_of};
 
+use crate::bare::Bare;
 use aio_base::{Action, Outcome};
 use aio_ready::{Callbacks, Ready, Ticket};
 use law_parts::FutureState;
@@ -60,17 +61,6 @@ impl Future {
         }
     }
 
-    /// The future that stands for a released one.
-    pub fn over() -> Future
-        ensures { result ≡ released }
-    {
-        Future {
-            kind: FutureKind::Plain,
-            outcome: Some(Outcome::Cancelled),
-            callbacks: Callbacks::new(),
-        }
-    }
-
     /// Its outcome; None exactly where it is pending.
     pub fn outcome(&self) -> Option<&Outcome>
         ensures { option_copied result ≡ self.now.outcome }
@@ -92,6 +82,16 @@ impl Future {
     {
         self.outcome = Some(outcome);
         ready.soon_all(&mut self.callbacks);
+    }
+
+    /// The one that takes no room, where it is such a one and calls nothing any more.
+    pub fn bare(&self) -> Option<Bare>
+        ensures { IfSome result (λ bare. self.now.callbacks ≡ [] → future_of bare ≡ self.now) }
+    {
+        match &self.outcome {
+            Some(ended) => Bare::of(&self.kind, ended),
+            None => None,
+        }
     }
 
     /// Adds a callback behind the others, with the memory of its handle.

@@ -10,7 +10,9 @@ ghost use Rattle.aio_ready.specs.Queue as queue;
 ghost use Rattle.aio_future.specs.Kinds.{kind_of, is_asked};
 ghost use Rattle.aio_future.specs.Settled.{settled, called, registered, soon_if_done, asked};
 
-use crate::future::{Future, FutureId, FutureKind};
+use crate::ends::Ends;
+use crate::future::{FutureId, FutureKind};
+use crate::held::HeldFuture;
 use aio_base::{Action, Memory, Outcome};
 use aio_ready::{Ready, Ticket};
 use indexmap::IndexMap;
@@ -22,10 +24,12 @@ use std::marker::Model;
 /// stands as a done one without callbacks.
 #[derive(Drop)]
 pub struct Futures {
-    held: IndexMap<FutureId, Future>,
+    held: IndexMap<FutureId, HeldFuture>,
     next: FutureId,
     // what stands for a released one
-    over: Future,
+    over: HeldFuture,
+    // the outcomes of those that have no room of their own
+    ends: Ends,
 }
 
 impl Model for Futures {
@@ -52,11 +56,13 @@ impl Futures {
         ensures { IfOk result (λ futures. futures ≡ []) }
     {
         let held = IndexMap::new(alloc);
-        let over = Future::over();
+        let over = HeldFuture::over();
+        let ends = Ends::new();
         Ok(Futures {
             held,
             next: 0,
             over,
+            ends,
         })
     }
 
@@ -83,7 +89,7 @@ impl Futures {
     }
 
     /// A pending future, and its number.
-    pub fn make(&mut self, _alloc: Global, kind: FutureKind) -> Result<FutureId, Memory>
+    pub fn make(&mut self, alloc: Global, kind: FutureKind) -> Result<FutureId, Memory>
         ensures number { IfOk result (λ id. id ≡ length self.old) }
         ensures after { OnOk result (self.new ≡
             self.old ++ record { kind = kind_of kind; outcome = None; callbacks = [] } ∷ []) }
@@ -93,7 +99,8 @@ impl Futures {
         let Some(next) = id.checked_add(1) else {
             return Err(Memory);
         };
-        self.held.insert(id, Future::new(kind))?;
+        let future = HeldFuture::new(alloc, kind)?;
+        self.held.insert(id, future)?;
         self.next = next;
         Ok(id)
     }
@@ -116,6 +123,7 @@ impl Futures {
             return false;
         }
         self.end(id, outcome, ready);
+        self.let_go(id);
         true
     }
 
@@ -136,7 +144,7 @@ impl Futures {
         ensures { option_copied result ≡ outcome_at (slice_get self.now id) }
     {
         match self.at(id) {
-            Some(future) => future.outcome(),
+            Some(future) => future.outcome(&self.ends),
             None => None,
         }
     }
@@ -201,7 +209,25 @@ impl Futures {
         }
     }
 
-    fn at(&self, id: FutureId) -> Option<&Future>
+    // One that stands as a released one does takes no memory.
+    fn let_go(&mut self, id: FutureId)
+        ensures { self.new ≡ self.old }
+    {
+        if self.is_released(id) {
+            self.release(id);
+        }
+    }
+
+    fn is_released(&self, id: FutureId) -> bool
+        ensures { result ≡ true → slice_get self.now id ≡ Some released }
+    {
+        match self.at(id) {
+            Some(future) => future.is_released(),
+            None => false,
+        }
+    }
+
+    fn at(&self, id: FutureId) -> Option<&HeldFuture>
         ensures { option_copied result ≡ slice_get self.now id }
     {
         match self.held.get(&id) {
@@ -210,7 +236,7 @@ impl Futures {
         }
     }
 
-    fn released_at(&self, id: FutureId) -> Option<&Future>
+    fn released_at(&self, id: FutureId) -> Option<&HeldFuture>
         ensures { option_copied result
             ≡ (if nat_lt id (length self.now) then Some released else None) }
     {

@@ -1,12 +1,17 @@
 use Rattle.std.proofs.Common.{◌++◌, ◌∷◌, []}
 use Rattle.model_loop.specs.Parts as plain
-use Rattle.aio_future.proofs.Puts.{some_lent, pending_held, wrote}
+use Rattle.aio_future.proofs.Puts.{some_lent, open_there, pending_held, wrote}
 use Rattle.aio_future.proofs.futures.Futures.add.Goals as goal
 
 pub unwrap-future-requires : goal.unwrap-future-requires
 unwrap-future-requires c =
     some_lent c.get_mut.result _ c.get_mut.ensures.value
     (pending_held c.self.inside.held.entries c.self.inside.next c.args.id c.args.self.now c.self.view_is c.requires)
+
+pub add-requires : goal.add-requires
+add-requires c =
+    open_there c.self.inside.held.entries c.self.inside.next c.args.id c.args.self.now c.get_mut.result c.unwrap-future.result
+    c.self.invariant.0 c.self.view_is c.get_mut.ensures.value c.unwrap-future.ensures c.requires
 
 pub returns : goal.returns
 returns c = λ future found.

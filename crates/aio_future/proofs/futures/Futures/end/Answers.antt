@@ -2,13 +2,18 @@ use Rattle.std.proofs.Common.{ap, ◌∙◌}
 use Rattle.model_loop.specs.Parts as plain
 use Rattle.law_cancel.proofs.Effects.{done_as}
 use Rattle.aio_ready.specs.Queue as queue
-use Rattle.aio_future.proofs.Puts.{some_lent, pending_held, wrote, was}
+use Rattle.aio_future.proofs.Puts.{some_lent, open_there, pending_held, wrote, was}
 use Rattle.aio_future.proofs.futures.Futures.end.Goals as goal
 
 pub unwrap-future-requires : goal.unwrap-future-requires
 unwrap-future-requires c =
     some_lent c.get_mut.result _ c.get_mut.ensures.value
     (pending_held c.self.inside.held.entries c.self.inside.next c.args.id c.args.self.now c.self.view_is c.requires)
+
+pub end-requires : goal.end-requires
+end-requires c =
+    open_there c.self.inside.held.entries c.self.inside.next c.args.id c.args.self.now c.get_mut.result c.unwrap-future.result
+    c.self.invariant.0 c.self.view_is c.get_mut.ensures.value c.unwrap-future.ensures c.requires
 
 pub returns-clause-after : goal.returns-clause-after
 returns-clause-after c = λ future found.

@@ -8,5 +8,5 @@ returns-clause-number c = rw (← c.self.view_is, length-table) refl
 
 pub returns-clause-after : goal.returns-clause-after
 returns-clause-after c =
-    made c.self.inside.held.entries c.insert.new.self.entries c.self.inside.next c.in-Some.next c.args.self.now c.new.result _
-    c.self.view_is c.in-Some.ensures.1 c.new.ensures c.in_ok-insert.ensures.updates.0
+    made c.self.inside.held.entries c.insert.new.self.entries c.self.inside.next c.in-Some.next c.args.self.now c.in_ok-future.future _
+    c.self.view_is c.in-Some.ensures.1 c.in_ok-future.ensures c.in_ok-insert.ensures.updates.0
