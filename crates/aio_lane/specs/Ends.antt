@@ -1,5 +1,5 @@
 -- The two ends of a lane as contracts see them, and what a give and a take make of them.
-use Rattle.std.specs.Prelude.{◌≡◌, ℕ, ◌+◌, ◌^◌, ◌<◌, ◌≤◌, true, List, [], ◌∷◌, ◌++◌, length}
+use Rattle.std.specs.Prelude.{◌≡◌, ℕ, ◌+◌, ◌^◌, ◌<◌, ◌≤◌, true, List, [], ◌∷◌, ◌++◌, length, Option, Some, None}
 use Rattle.atomic_table.specs.Seated.{TableId}
 use Rattle.crossbeam_queue.specs.Fifo.{Held}
 use Rattle.crossbeam_queue.specs.Passes.{Pass, view}
@@ -42,6 +42,11 @@ met_full head = record head { fulls = head.fulls + 1 }
 
 abbrev pub received : TailSeen → Command → TailSeen
 received tail command = record tail { taken = tail.taken ++ command ∷ [] }
+
+-- a tail after it took a command, or found none
+abbrev pub may_receive : TailSeen → Option Command → TailSeen
+may_receive tail (Some command) = received tail command
+may_receive tail None = tail
 
 -- What a give does, by its answer. Full only where eight commands stood in the lane at a step of the call, which are
 -- then the last that were given; Spent exactly where 2^61 commands were given. What is not given comes back.

@@ -1,7 +1,7 @@
 //! The end of a lane that receives.
 ghost use Rattle.std.specs.Prelude.{◌≡◌, [], true};
 ghost use Rattle.crossbeam_queue.specs.Passes.{view};
-ghost use Rattle.aio_lane.specs.Ends.{received, tail_seen};
+ghost use Rattle.aio_lane.specs.Ends.{received, may_receive, tail_seen};
 
 use crate::between::Between;
 use crate::command::Command;
@@ -9,6 +9,7 @@ use crate::track::{LanePass, Takes};
 use std::alloc::Global;
 use std::marker::Model;
 use std::sync::{Arc, Wait};
+use std::time::Clock;
 
 /// The end that receives. Contracts see the lane that it belongs to, and what it received.
 #[derive(Drop)]
@@ -42,6 +43,28 @@ impl Tail {
             self.between.parker.park(rt, seen);
         }
         unreachable!()
+    }
+
+    /// Waits for a command for so many milliseconds at most, and takes the first. None where none came
+    /// by then.
+    pub fn next_within<R: Wait + Clock>(&mut self, rt: &R, pause: u64) -> Option<Command>
+        ensures { self.new ≡ may_receive self.old result }
+    {
+        let seen = self.between.parker.now(rt);
+        match self.take(rt) {
+            Some(command) => Some(command),
+            None => {
+                self.between.parker.park_for(rt, seen, pause);
+                self.take(rt)
+            }
+        }
+    }
+
+    // The first command that stands in the lane, where one does.
+    fn take<R: Wait>(&mut self, rt: &R) -> Option<Command>
+        ensures { self.new ≡ may_receive self.old result }
+    {
+        self.between.queue.pop_as::<Takes, R>(rt, &mut self.pass)
     }
 
     /// Its pass on the lane's queue. Its view keeps what this tail received.

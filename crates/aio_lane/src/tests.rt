@@ -130,3 +130,14 @@ fn tail_of_a_thread(rt: HostRuntime) -> Result<(), Fail> {
     head.settle(&rt, tail);
     Ok(())
 }
+
+// A tail that waits for a while finds what stands in the lane, and then nothing.
+#[test]
+fn tail_that_waits_for_a_while(rt: HostRuntime) -> Result<(), Fail> {
+    let (mut head, mut tail) = lane(rt.alloc())?;
+    assert!(rt; tail.next_within(&rt, 1).is_none());
+    assert!(rt; matches!(head.give(&rt, Command::Go), Giving::Given));
+    assert!(rt; matches!(tail.next_within(&rt, 60_000), Some(Command::Go)));
+    assert!(rt; tail.next_within(&rt, 1).is_none());
+    Ok(())
+}

@@ -134,6 +134,9 @@ impl<R: Wait, N: InboxName> Launcher<Inbox<N>, Poster<N>> for RealLauncher<R, N>
 
     fn take_in(&mut self, run: Run<N>) -> PumpReports<Poster<N>> {
         let Run { child, reports } = run;
+        if let Some(process) = self.processes.get(&child) {
+            process.leave();
+        }
         let done = PumpReports {
             stdin: reports.stdin.next(&self.rt),
             out: reports.out.next(&self.rt),

@@ -6,6 +6,7 @@ mod launcher;
 mod pipes;
 mod process;
 mod pumps;
+mod readiness;
 mod slot;
 mod starter;
 

@@ -5,23 +5,35 @@ ghost use Rattle.aio_wire.specs.Got.{FitsRead, ReadLeaves};
 ghost use Rattle.aio_wire.specs.Took.{FitsWrite, WriteLeaves};
 ghost use Rattle.aio_launcher.specs.Counts.{untold, untaken};
 
+use crate::process::Process;
+use crate::readiness::{expect_reader, wait_for_bytes, wait_for_room};
 use aio_base::{Blob, Memory};
 use aio_wire::{Sink, SinkTook, Source, SourceGot};
 use std::alloc::Global;
 use std::io;
 use std::io::{ErrorKind, Read, Write};
+use std::os::fd::AsRawFd;
+use std::sync::Arc;
 
-/// A pipe that a child writes. It tells nothing of what comes.
+/// The most bytes that one write takes: so many go into a pipe that takes some, and nobody waits.
+const MOST_BYTES: usize = 4_096;
+
+/// A pipe that a child writes. It tells nothing of what comes. A read that waits fails once the child is left.
 /// Source: `unix_events.py`, `_UnixReadPipeTransport`.
 #[derive(Drop)]
 pub struct PipeSource<P> {
     pipe: P,
+    process: Arc<Process, Global>,
     faults: u64,
 }
 
 impl<P> PipeSource<P> {
-    pub fn make(pipe: P) -> PipeSource<P> {
-        PipeSource { pipe, faults: 0 }
+    pub fn make(pipe: P, process: Arc<Process, Global>) -> PipeSource<P> {
+        PipeSource {
+            pipe,
+            process,
+            faults: 0,
+        }
     }
 
     // What is answered where the system read so: an error is a failure, and no bytes are the end.
@@ -45,20 +57,25 @@ impl<P> PipeSource<P> {
     }
 }
 
-impl<P: Read> Source for PipeSource<P> {
+impl<P: Read + AsRawFd> Source for PipeSource<P> {
     ghost seen = { λ source. untold source.faults };
 
     fn read(&mut self, alloc: Global, max: usize) -> Result<SourceGot, Memory> {
         let mut piece = vec![in alloc; 0u8; max]?;
-        let read = read_some(&mut self.pipe, piece.as_mut_slice());
+        let read = read_some(&mut self.pipe, &self.process, piece.as_mut_slice());
         Ok(self.got(read, piece))
     }
 }
 
-/// Reads once, and again where the read was interrupted.
-fn read_some<P: Read>(pipe: &mut P, piece: &mut [u8]) -> io::Result<usize>
+/// Reads once there are bytes or the end, and again where the read was interrupted.
+fn read_some<P: Read + AsRawFd>(
+    pipe: &mut P,
+    process: &Process,
+    piece: &mut [u8],
+) -> io::Result<usize>
     ensures bound { ReadsAtMost result piece.new }
 {
+    wait_for_bytes(pipe, process)?;
     for _ in 0..u64::MAX {
         match pipe.read(piece) {
             Err(error) if error.kind() == ErrorKind::Interrupted => {}
@@ -68,18 +85,23 @@ fn read_some<P: Read>(pipe: &mut P, piece: &mut [u8]) -> io::Result<usize>
     Err(io::Error::from(ErrorKind::Interrupted))
 }
 
-/// A pipe that a child reads. It tells nothing of what it took. A child that has gone takes nothing: that is a failure, and
-/// raises no signal.
+/// A pipe that a child reads. It tells nothing of what it took. Once nobody can read it any more each write is a failure,
+/// that of an empty piece too, and raises no signal. A write that waits fails once the child is left.
 /// Source: `unix_events.py`, `_UnixWritePipeTransport`.
 #[derive(Drop)]
 pub struct PipeSink<P> {
     pipe: P,
+    process: Arc<Process, Global>,
     faults: u64,
 }
 
 impl<P> PipeSink<P> {
-    pub fn make(pipe: P) -> PipeSink<P> {
-        PipeSink { pipe, faults: 0 }
+    pub fn make(pipe: P, process: Arc<Process, Global>) -> PipeSink<P> {
+        PipeSink {
+            pipe,
+            process,
+            faults: 0,
+        }
     }
 
     // What is answered where the system wrote so: an error is a failure.
@@ -100,25 +122,33 @@ impl<P> PipeSink<P> {
     }
 }
 
-impl<P: Write> Sink for PipeSink<P> {
+impl<P: Write + AsRawFd> Sink for PipeSink<P> {
     ghost seen = { λ sink. untaken sink.faults };
 
     fn write(&mut self, _alloc: Global, piece: &[u8]) -> Result<SinkTook, Memory> {
-        let wrote = write_some(&mut self.pipe, piece);
+        let wrote = write_some(&mut self.pipe, &self.process, piece);
         Ok(self.took(wrote, piece))
     }
 }
 
-/// Writes once, and again where the write was interrupted.
-fn write_some<P: Write>(pipe: &mut P, piece: &[u8]) -> io::Result<usize>
+/// Writes a front of the piece once there is room for some, and again where the write was interrupted. Of an empty piece
+/// it only looks whether anybody can still read.
+fn write_some<P: Write + AsRawFd>(
+    pipe: &mut P,
+    process: &Process,
+    piece: &[u8],
+) -> io::Result<usize>
     ensures bound { WritesAtMost result piece.now }
     ensures some { IfOk result (λ count. 0 < length piece.now → 0 < count) }
 {
     if piece.is_empty() {
+        expect_reader(pipe)?;
         return Ok(0);
     }
+    wait_for_room(pipe, process)?;
+    let front = &piece[..piece.len().min(MOST_BYTES)];
     for _ in 0..u64::MAX {
-        match pipe.write(piece) {
+        match pipe.write(front) {
             Ok(0) => return Err(io::Error::from(ErrorKind::WriteZero)),
             Err(error) if error.kind() == ErrorKind::Interrupted => {}
             written => return written,

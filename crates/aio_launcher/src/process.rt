@@ -1,6 +1,7 @@
 //! A child's process, which one thread waits for while others may kill it.
 use std::io;
 use std::process::{Child, ExitStatus};
+use std::sync::atomic::{AtomicBool, Ordering};
 use std::sync::{Condvar, Mutex, Wait};
 use std::time::{Clock, Duration};
 
@@ -13,6 +14,7 @@ const LONGEST_PAUSE: u64 = 64;
 pub struct Process {
     child: Mutex<Child>,
     stirred: Condvar,
+    is_left: AtomicBool,
 }
 
 impl Process {
@@ -20,7 +22,18 @@ impl Process {
         Process {
             child: Mutex::new(child),
             stirred: Condvar::new(),
+            is_left: AtomicBool::new(false),
         }
+    }
+
+    /// Nobody wants what goes through its pipes any more: whoever waits to read or write one is to give up.
+    pub fn leave(&self) {
+        self.is_left.store(true, Ordering::SeqCst);
+    }
+
+    /// Whether it was left.
+    pub fn is_left(&self) -> bool {
+        self.is_left.load(Ordering::SeqCst)
     }
 
     /// Kills the child, unless it was waited for.

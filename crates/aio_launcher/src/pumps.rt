@@ -128,8 +128,11 @@ where
         Arc::try_clone(process)?,
     );
     let Pipes { stdin, out, errs } = pipes;
+    let stdin_sink = PipeSink::make(stdin, Arc::try_clone(process)?);
+    let out_source = PipeSource::make(out, Arc::try_clone(process)?);
+    let errs_source = PipeSource::make(errs, Arc::try_clone(process)?);
     let stdin = thread::spawn(&rt, move || {
-        let mut sink = PipeSink::make(stdin);
+        let mut sink = stdin_sink;
         let report = pump_in(
             &rt,
             alloc,
@@ -143,7 +146,7 @@ where
         stdin_report.put(&rt, report);
     })?;
     let out = thread::spawn(&rt, move || {
-        let mut source = PipeSource::make(out);
+        let mut source = out_source;
         let report = pump_out(
             &rt,
             alloc,
@@ -159,7 +162,7 @@ where
         out_report.put(&rt, report);
     })?;
     let errs = thread::spawn(&rt, move || {
-        let mut source = PipeSource::make(errs);
+        let mut source = errs_source;
         let report = pump_out(
             &rt,
             alloc,

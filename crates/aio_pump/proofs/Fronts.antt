@@ -2,6 +2,7 @@
 use Rattle.std.proofs.Common.{◌≡◌, ℕ, ◌+◌, ◌-◌, ◌<◌, ◌≤◌, inl, inr, List, [], ◌∷◌, ◌++◌, length, take, drop, Option, Some, None}
 use Rattle.std.proofs.Common.{refl, ap, sym, ◌∙◌, subst, append_assoc, append-nil, length-take, length-drop, arith}
 use Rattle.std.proofs.Math.Seq.{take-add}
+use lib.Seq.{take-nil}
 use Rattle.std.proofs.lemmas.List.{take_rest, take-append-drop}
 use Rattle.model_wire.specs.Told.{SinkSeen, grown, took}
 use Rattle.model_pump.specs.declared.post.PostKind.TheVariants.{Broken, Starved}
@@ -18,7 +19,7 @@ grown-grown None first second = refl
 grown-grown (Some held) first second = ap (λ (bytes : List ℕ). Some bytes) (append_assoc held first second)
 
 -- nothing was added
-grown-nil : (told : Option (List ℕ)) → grown told [] ≡ told
+pub grown-nil : (told : Option (List ℕ)) → grown told [] ≡ told
 grown-nil None = refl
 grown-nil (Some held) = ap (λ (bytes : List ℕ). Some bytes) (append-nil held)
 
@@ -27,6 +28,10 @@ took-took sink first second = λ i. record { taken = grown-grown sink.taken firs
 
 pub took-nil : (sink : SinkSeen) → took sink [] ≡ sink
 took-nil sink = λ i. record { taken = grown-nil sink.taken i; faults = sink.faults }
+
+-- a piece of no bytes has none that were taken
+pub takes_none : (sink : SinkSeen) (count : ℕ) → took sink (take count []) ≡ took sink []
+takes_none sink count = ap (λ (l : List ℕ). took sink l) (take-nil count)
 
 -- one more part of these bytes
 pub took_more : (sink mid new : SinkSeen) (bytes : List ℕ) (at count : ℕ) → at ≤ length bytes → mid ≡ took sink (take at bytes)

@@ -1,21 +1,21 @@
 -- The course of `pump_in`: what is so at each turn of its loop, and how a command leads on from there.
 use Rattle.std.proofs.Common.{◌≡◌, ℕ, ◌+◌, inl, inr, ⊎_elim, List, [], ◌∷◌, ◌++◌, length, Option, Some}
 use Rattle.std.proofs.Common.{None, refl, sym, ap, ◌∙◌, subst, append-nil, length-append}
-use Rattle.model_wire.specs.Told.{Rose, SinkSeen, grown, took}
+use Rattle.model_wire.specs.Told.{Rose, SinkSeen, SinkFailed, grown, took}
 use Rattle.model_pump.specs.Posts.{PostKind}
 use Rattle.model_pump.specs.declared.post.PostKind.TheVariants.{Room, Broken, Starved}
 use Rattle.model_pump.specs.Commands.{Command}
 use Rattle.model_pump.specs.declared.command.Command.TheVariants.{Go, Write, Close, Stop}
-use Rattle.aio_lane.specs.Ends.{TailSeen, received as heard}
+use Rattle.aio_lane.specs.Ends.{TailSeen, may_receive, received as heard}
 use Rattle.aio_inbox.specs.declared.view.PosterView.{PosterView}
 use Rattle.aio_pump.specs.declared.report.Ending.{Ending}
 use Rattle.aio_pump.specs.declared.report.Ending.TheVariants.{Ended, Stopped, Failed, Spent, Memory}
 use Rattle.aio_pump.specs.Moments.{Moment, Posts, told}
 use Rattle.aio_pump.specs.Received.{took_all, writes, joined}
-use Rattle.aio_pump.specs.Writing.{rooms, PumpedIn, Writes, ObeysIn}
+use Rattle.aio_pump.specs.Writing.{rooms, PumpedIn, Writes, ObeysIn, Looks, ActsIn}
 use Rattle.aio_pump.proofs.Posting.{posts_on, posts_still, told_add}
 use Rattle.aio_pump.proofs.Lists.{heard_on, joined-append, rooms-append, writes-append}
-use Rattle.aio_pump.proofs.Fronts.{grown-grown, took-took, took-nil}
+use Rattle.aio_pump.proofs.Fronts.{grown-grown, grown-nil, took-took, took-nil}
 
 -- what is so while the pump goes on: each Write so far was written whole, and its Room was posted
 pub record GoingIn (tail hears : TailSeen) (before now : Moment SinkSeen) : Type 0 where
@@ -96,7 +96,7 @@ module _ (tail hears : TailSeen) (before now after : Moment SinkSeen) (going : G
     posts = posts_on before now after (rooms so_far) Broken going.posts posts;
     taken = taken_on part failed.0;
     moves = moved_on part moved;
-    ends = (refl, rose_on failed.1, (rest, some, broken bytes part rest is));
+    ends = (refl, rose_on failed.1, inl (rest, some, broken bytes part rest is));
   }
   writes_last bytes Spent (part, rest, is, posts, spent, taken, faults, moved) = record {
     received = going.received ++ Write bytes ∷ [];
@@ -112,7 +112,7 @@ module _ (tail hears : TailSeen) (before now after : Moment SinkSeen) (going : G
       refl,
       ap (λ (v : PosterView). length v.posted) posts.0 ∙ spent,
       ⊎_elim (λ same. inl (same ∙ same_faults)) (λ rose. inr (rose_on rose)) faults,
-      (rest, broken bytes part rest is),
+      inl (rest, broken bytes part rest is),
     );
   }
   writes_last bytes Memory (part, rest, is, some, posts, takes, moved) = record {
@@ -124,7 +124,7 @@ module _ (tail hears : TailSeen) (before now after : Moment SinkSeen) (going : G
     posts = posts_on before now after (rooms so_far) Starved going.posts posts;
     taken = taken_on part (ap (λ (s : SinkSeen). s.taken) takes);
     moves = moved_on part moved;
-    ends = (refl, ap (λ (s : SinkSeen). s.faults) takes ∙ same_faults, (rest, some, broken bytes part rest is));
+    ends = (refl, ap (λ (s : SinkSeen). s.faults) takes ∙ same_faults, inl (rest, some, broken bytes part rest is));
   }
 
 -- a command that changes nothing but what was received, and is no Write
@@ -165,7 +165,7 @@ module _ (tail hears : TailSeen) (before now : Moment SinkSeen) (going : GoingIn
     posts = no_more;
     taken = taken_all;
     moves = moved_all;
-    ends = (refl, refl, sym (same_writes Close refl), (going.received, refl), ap (λ (s : SinkSeen). s.faults) going.takes);
+    ends = (refl, (refl, sym (same_writes Close refl)), (going.received, refl), ap (λ (s : SinkSeen). s.faults) going.takes);
   }
 
   stops : PumpedIn tail before now (Some (heard hears Stop)) Stopped
@@ -178,7 +178,7 @@ module _ (tail hears : TailSeen) (before now : Moment SinkSeen) (going : GoingIn
     posts = no_more;
     taken = taken_all;
     moves = moved_all;
-    ends = (refl, refl, sym (same_writes Stop refl), (going.received, refl), ap (λ (s : SinkSeen). s.faults) going.takes);
+    ends = (refl, (refl, sym (same_writes Stop refl)), (going.received, refl), ap (λ (s : SinkSeen). s.faults) going.takes);
   }
 
 none_some : (ending : Ending) → Some ending ≡ None → ⊥
@@ -207,11 +207,96 @@ module _ (tail hears : TailSeen) (before now after : Moment SinkSeen) (going : G
       subst (λ (x : Moment SinkSeen × Ending). PumpedIn tail before x.0 (Some (heard hears Stop)) x.1)
       (λ i. (sym turned.1 i, sym (same_ending ending Stopped turned.0) i)) (stops tail hears before now going)
 
-  -- the same, where the answer is known by an equation
-  pub turns_at : (command : Command) (answer : Option Ending) → answer ≡ None → ObeysIn command now after answer
-      → GoingIn tail (heard hears command) before after
-  turns_at command answer is turned = turns command (subst (λ a. ObeysIn command now after a) is turned)
+  -- the sink was looked at, and takes bytes
+  looked_on : Looks now after None → GoingIn tail hears before after
+  looked_on looked = record {
+    received = going.received;
+    receives = going.receives;
+    posts = posts_still before now after (rooms (writes going.received)) going.posts looked.0;
+    takes = looked.1 ∙ took-nil now.served ∙ going.takes;
+    moves = looked.2 ∙ going.moves;
+  }
 
-  pub ended_at : (command : Command) (ending : Ending) (answer : Option Ending) → answer ≡ Some ending
-      → ObeysIn command now after answer → PumpedIn tail before after (Some (heard hears command)) ending
-  ended_at command ending answer is turned = ended command ending (subst (λ a. ObeysIn command now after a) is turned)
+  taken_still : after.served.taken ≡ now.served.taken
+      → after.served.taken ≡ grown before.served.taken (joined (writes going.received) ++ [])
+  taken_still taken = taken ∙ taken_all tail hears before now going
+
+  -- a sink that failed at a look took nothing
+  none_taken : SinkFailed [] now.served after.served → after.served.taken ≡ now.served.taken
+  none_taken failed = failed.0 ∙ grown-nil now.served.taken
+
+  moved_still : after.moved ≡ now.moved → after.moved ≡ told (length (joined (writes going.received) ++ []))
+  moved_still still = still ∙ moved_all tail hears before now going
+
+  faults_still : now.served.faults ≡ before.served.faults
+  faults_still = ap (λ (s : SinkSeen). s.faults) going.takes
+
+  rises : SinkFailed [] now.served after.served → Rose before.served.faults after.served.faults
+  rises failed = subst (λ n. Rose n after.served.faults) faults_still failed.1
+
+  -- a look at which the pump ends
+  looked_last : (ending : Ending) → Looks now after (Some ending) → PumpedIn tail before after (Some hears) ending
+  looked_last Ended looked = absurd looked
+  looked_last Stopped looked = absurd looked
+  looked_last Failed (posts, failed, still) = record {
+    received = going.received;
+    whole = writes going.received;
+    part = [];
+    last = Broken ∷ [];
+    returned = ap Some going.receives;
+    posts = posts_on before now after (rooms (writes going.received)) Broken going.posts posts;
+    taken = taken_still (none_taken failed);
+    moves = moved_still still;
+    ends = (refl, rises failed, inr (refl, refl));
+  }
+  looked_last Spent (posts, spent, sink, still) = record {
+    received = going.received;
+    whole = writes going.received;
+    part = [];
+    last = [];
+    returned = ap Some going.receives;
+    posts = subst (λ (l : List PostKind). Posts l before after) (sym (append-nil (rooms (writes going.received))))
+        (posts_still before now after (rooms (writes going.received)) going.posts posts);
+    taken = taken_still (⊎_elim (λ same. ap (λ (s : SinkSeen). s.taken) same) none_taken sink);
+    moves = moved_still still;
+    ends = (
+      refl,
+      ap (λ (v : PosterView). length v.posted) posts.0 ∙ spent,
+      ⊎_elim (λ same. inl (ap (λ (s : SinkSeen). s.faults) same ∙ faults_still)) (λ failed. inr (rises failed)) sink,
+      inr (refl, refl),
+    );
+  }
+  looked_last Memory (posts, same, still) = record {
+    received = going.received;
+    whole = writes going.received;
+    part = [];
+    last = Starved ∷ [];
+    returned = ap Some going.receives;
+    posts = posts_on before now after (rooms (writes going.received)) Starved going.posts posts;
+    taken = taken_still (ap (λ (s : SinkSeen). s.taken) same);
+    moves = moved_still still;
+    ends = (refl, ap (λ (s : SinkSeen). s.faults) same ∙ faults_still, inr (refl, refl));
+  }
+
+-- one turn of the loop, by what came
+module _ (tail hears : TailSeen) (before now after : Moment SinkSeen) (going : GoingIn tail hears before now) where
+  goes_on : (came : Option Command) → ActsIn came now after None → GoingIn tail (may_receive hears came) before after
+  goes_on (Some command) acted = turns tail hears before now after going command acted
+  goes_on None acted = looked_on tail hears before now after going acted
+
+  comes_to : (came : Option Command) (ending : Ending) → ActsIn came now after (Some ending)
+      → PumpedIn tail before after (Some (may_receive hears came)) ending
+  comes_to (Some command) ending acted = ended tail hears before now after going command ending acted
+  comes_to None ending acted = looked_last tail hears before now after going ending acted
+
+  -- the same, where the tail and the answer are known by equations
+  pub turns_at : (later : TailSeen) (came : Option Command) → later ≡ may_receive hears came
+      → (answer : Option Ending) → answer ≡ None → ActsIn came now after answer → GoingIn tail later before after
+  turns_at later came hear answer is acted = subst (λ (t : TailSeen). GoingIn tail t before after) (sym hear)
+      (goes_on came (subst (λ a. ActsIn came now after a) is acted))
+
+  pub ended_at : (later : TailSeen) (came : Option Command) → later ≡ may_receive hears came
+      → (ending : Ending) (answer : Option Ending) → answer ≡ Some ending → ActsIn came now after answer
+      → PumpedIn tail before after (Some later) ending
+  ended_at later came hear ending answer is acted = subst (λ (t : TailSeen). PumpedIn tail before after (Some t) ending) (sym hear)
+      (comes_to came ending (subst (λ a. ActsIn came now after a) is acted))

@@ -1,5 +1,5 @@
-//! The writing of bytes whole.
-ghost use Rattle.aio_pump.specs.Whole.{WritesWhole};
+//! The writing of bytes whole, and a look whether a sink takes bytes.
+ghost use Rattle.aio_pump.specs.Whole.{WritesWhole, LooksAt};
 
 use aio_wire::{Sink, SinkTook};
 use std::alloc::Global;
@@ -28,4 +28,16 @@ pub(crate) fn write_whole<K: Sink>(alloc: Global, sink: &mut K, bytes: &[u8]) ->
         }
     }
     (at, Wrote::Whole)
+}
+
+/// Looks whether the sink still takes bytes, by a piece of none: whole, where it does.
+#[tactic(auto, using(crate::proofs::Fronts::takes_none))]
+pub(crate) fn look_at<K: Sink>(alloc: Global, sink: &mut K) -> Wrote
+    ensures { LooksAt (K.seen sink.old) (K.seen sink.new) result }
+{
+    match sink.write(alloc, &[]) {
+        Ok(SinkTook::Took(_)) => Wrote::Whole,
+        Ok(SinkTook::Failed) => Wrote::Broken,
+        Err(_) => Wrote::Starved,
+    }
 }

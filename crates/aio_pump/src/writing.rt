@@ -1,21 +1,27 @@
 //! The pump of a child's input.
 ghost use Rattle.aio_pump.specs.Moments.{moment};
-ghost use Rattle.aio_pump.specs.Writing.{PumpedIn, ObeysIn, Writes};
+ghost use Rattle.aio_pump.specs.Writing.{PumpedIn, ActsIn, ObeysIn, Writes, Looks};
 
 use crate::bell::Bell;
 use crate::put::put;
 use crate::report::{Ending, PumpReport};
-use crate::whole::{Wrote, write_whole};
+use crate::whole::{Wrote, look_at, write_whole};
 use aio_base::Blob;
 use aio_inbox::{Inbox, InboxName, PostKind, Poster};
 use aio_lane::{Command, Tail};
 use aio_wire::Sink;
 use std::alloc::Global;
 use std::sync::Wait;
+use std::time::Clock;
 
-/// Serves a child's standard input: it writes each Write whole, and then posts Room. A Go is no command to it. It waits
-/// for commands, and while the inbox is full.
-pub fn pump_in<R: Wait, N: InboxName, K: Sink, B: Bell>(
+/// How long a command is waited for before the sink is looked at again, in milliseconds.
+const PAUSE: u64 = 64;
+
+/// Serves a child's standard input: it writes each Write whole, and then posts Room. A Go is no command to it. While no
+/// command comes it looks now and then whether the sink still takes bytes, by an empty piece. It waits for commands, and
+/// while the inbox is full.
+/// Source: `unix_events.py`, `_UnixWritePipeTransport._read_ready`.
+pub fn pump_in<R: Wait + Clock, N: InboxName, K: Sink, B: Bell>(
     rt: &R,
     alloc: Global,
     tail: Tail,
@@ -32,8 +38,8 @@ pub fn pump_in<R: Wait, N: InboxName, K: Sink, B: Bell>(
     let mut seat = poster;
     let mut moved = 0u64;
     for _ in rt.forever() {
-        let command = own.next(rt);
-        let (now, end) = obey(rt, alloc, command, sink, inbox, &mut seat, bell, moved);
+        let came = own.next_within(rt, PAUSE);
+        let (now, end) = act(rt, alloc, came, sink, inbox, &mut seat, bell, moved);
         moved = now;
         if let Some(ending) = end {
             return PumpReport {
@@ -45,6 +51,59 @@ pub fn pump_in<R: Wait, N: InboxName, K: Sink, B: Bell>(
         }
     }
     unreachable!()
+}
+
+// One turn: what was moved by then, and how the pump ends, where it does.
+fn act<R: Wait, N: InboxName, K: Sink, B: Bell>(
+    rt: &R,
+    alloc: Global,
+    came: Option<Command>,
+    sink: &mut K,
+    inbox: &Inbox<N>,
+    poster: &mut Poster<N>,
+    bell: &mut B,
+    moved: u64,
+) -> (u64, Option<Ending>)
+    ensures { ActsIn came (moment (K.seen sink.old) poster.old (B.rings bell.old) moved)
+        (moment (K.seen sink.new) poster.new (B.rings bell.new) result.0) result.1 }
+{
+    match came {
+        Some(command) => obey(rt, alloc, command, sink, inbox, poster, bell, moved),
+        None => look(rt, alloc, sink, inbox, poster, bell, moved),
+    }
+}
+
+// One look at the sink: what was moved by then, and how the pump ends, where it does.
+fn look<R: Wait, N: InboxName, K: Sink, B: Bell>(
+    rt: &R,
+    alloc: Global,
+    sink: &mut K,
+    inbox: &Inbox<N>,
+    poster: &mut Poster<N>,
+    bell: &mut B,
+    moved: u64,
+) -> (u64, Option<Ending>)
+    ensures { Looks (moment (K.seen sink.old) poster.old (B.rings bell.old) moved)
+        (moment (K.seen sink.new) poster.new (B.rings bell.new) result.0) result.1 }
+{
+    let looked = look_at(alloc, sink);
+    match looked {
+        Wrote::Whole => (moved, None),
+        Wrote::Broken => {
+            if put(rt, inbox, poster, bell, PostKind::Broken) {
+                (moved, Some(Ending::Failed))
+            } else {
+                (moved, Some(Ending::Spent))
+            }
+        }
+        Wrote::Starved => {
+            if put(rt, inbox, poster, bell, PostKind::Starved) {
+                (moved, Some(Ending::Memory))
+            } else {
+                (moved, Some(Ending::Spent))
+            }
+        }
+    }
 }
 
 // One command: what was moved by then, and how the pump ends, where it does.

@@ -24,6 +24,7 @@ use std::process::ExitCode;
 use std::rt::Env;
 use std::sync::Wait;
 use std::thread::Threads;
+use std::time::Clock;
 use std::{env, io};
 use writes::{WRITES, WriteRow};
 
@@ -74,7 +75,10 @@ fn pieces_of<R: Env + AllocGlobal>(rt: &R) -> Option<u64> {
 }
 
 /// Runs all rows, prints what came of them, and answers how many differed.
-fn run_rows<R: Print + Threads + Wait + Sync>(rt: &R, alloc: Global) -> Result<u64, io::Error> {
+fn run_rows<R: Print + Threads + Wait + Clock + Sync>(
+    rt: &R,
+    alloc: Global,
+) -> Result<u64, io::Error> {
     let mut tally = RowCount { rows: 0, differ: 0 };
     for row in &READS {
         let right = is_right(rt, alloc, Row::Reads(row));
@@ -93,14 +97,14 @@ fn run_rows<R: Print + Threads + Wait + Sync>(rt: &R, alloc: Global) -> Result<u
 }
 
 // Whether a row came out as it must. Where memory is refused it did not.
-fn is_right<R: Threads + Wait + Sync>(rt: &R, alloc: Global, row: Row) -> bool {
+fn is_right<R: Threads + Wait + Clock + Sync>(rt: &R, alloc: Global, row: Row) -> bool {
     match UnnamedInbox::new(alloc) {
         Ok(unnamed) => run_row::<Brand, R>(rt, alloc, unnamed, row),
         Err(_) => false,
     }
 }
 
-fn run_row<N: InboxName + Send + Sync, R: Threads + Wait + Sync>(
+fn run_row<N: InboxName + Send + Sync, R: Threads + Wait + Clock + Sync>(
     rt: &R,
     alloc: Global,
     unnamed: UnnamedInbox,
@@ -114,7 +118,7 @@ fn run_row<N: InboxName + Send + Sync, R: Threads + Wait + Sync>(
     }
 }
 
-fn run_with<N: InboxName + Send + Sync, R: Threads + Wait + Sync>(
+fn run_with<N: InboxName + Send + Sync, R: Threads + Wait + Clock + Sync>(
     rt: &R,
     alloc: Global,
     inbox: &Inbox<N>,
@@ -129,7 +133,7 @@ fn run_with<N: InboxName + Send + Sync, R: Threads + Wait + Sync>(
     }
 }
 
-fn run_on<N: InboxName + Send + Sync, R: Threads + Wait + Sync>(
+fn run_on<N: InboxName + Send + Sync, R: Threads + Wait + Clock + Sync>(
     rt: &R,
     alloc: Global,
     inbox: &Inbox<N>,

@@ -4,33 +4,42 @@ use crate::narrow::Narrow;
 use crate::shown::{Shown, Told, comes, give, told_of};
 use aio_base::{Blob, Memory};
 use aio_inbox::{Inbox, InboxName, Poster, Taker};
-use aio_lane::{Command, Head, Tail, lane};
+use aio_lane::{Command, Tail, lane};
 use aio_memwire::FailAt;
 use aio_pump::{Ending, MemBell, pump_in};
 use aio_wire::MemSink;
 use std::alloc::Global;
 use std::sync::Wait;
-use std::thread;
-use std::thread::Threads;
+use std::time::Clock;
 
-/// A sink that takes so many bytes a write, whose writes with the listed numbers fail; the Writes `ab` and `c` and then
-/// Close or Stop; and what must come.
+/// What is given behind all Writes.
+#[derive(Clone, Copy)]
+pub enum Last {
+    Close,
+    Stop,
+    Nothing,
+}
+
+/// A sink that takes so many bytes a write, whose writes with the listed numbers fail; the Writes, and what is given behind
+/// them; and what must come. A look at the sink, while no command comes, is a write of no bytes.
 pub struct WriteRow {
     pub name: &'static str,
     pub width: usize,
     pub failing: &'static [u64],
-    pub stops: bool,
+    pub writes: &'static [&'static [u8]],
+    pub last: Last,
     pub told: Told,
     pub taken: &'static [u8],
     pub posts: &'static [Shown],
 }
 
-pub static WRITES: [WriteRow; 3] = [
+pub static WRITES: [WriteRow; 5] = [
     WriteRow {
         name: "lane_and_sink",
         width: 1_000,
         failing: &[],
-        stops: false,
+        writes: &[b"ab", b"c"],
+        last: Last::Close,
         told: Told {
             moved: 3,
             ending: Ending::Ended,
@@ -43,7 +52,8 @@ pub static WRITES: [WriteRow; 3] = [
         name: "sink that takes a byte a write",
         width: 1,
         failing: &[],
-        stops: true,
+        writes: &[b"ab", b"c"],
+        last: Last::Stop,
         told: Told {
             moved: 3,
             ending: Ending::Stopped,
@@ -56,7 +66,8 @@ pub static WRITES: [WriteRow; 3] = [
         name: "broken_pumps: sink",
         width: 1,
         failing: &[2],
-        stops: false,
+        writes: &[b"ab", b"c"],
+        last: Last::Close,
         told: Told {
             moved: 1,
             ending: Ending::Failed,
@@ -65,11 +76,39 @@ pub static WRITES: [WriteRow; 3] = [
         taken: b"a",
         posts: &[Shown::Broken],
     },
+    WriteRow {
+        name: "sink that is broken before anything is written",
+        width: 1_000,
+        failing: &[1],
+        writes: &[],
+        last: Last::Nothing,
+        told: Told {
+            moved: 0,
+            ending: Ending::Failed,
+            rings: 1,
+        },
+        taken: b"",
+        posts: &[Shown::Broken],
+    },
+    WriteRow {
+        name: "sink that breaks once all was written",
+        width: 1_000,
+        failing: &[4],
+        writes: &[b"ab", b"c"],
+        last: Last::Nothing,
+        told: Told {
+            moved: 3,
+            ending: Ending::Failed,
+            rings: 3,
+        },
+        taken: b"abc",
+        posts: &[Shown::Room, Shown::Room, Shown::Broken],
+    },
 ];
 
 impl WriteRow {
     /// Whether it comes out as it must. Where memory is refused it does not.
-    pub fn is_right<N: InboxName + Send + Sync, R: Threads + Wait + Sync>(
+    pub fn is_right<N: InboxName, R: Wait + Clock>(
         &self,
         rt: &R,
         alloc: Global,
@@ -77,12 +116,12 @@ impl WriteRow {
         taker: Taker<N>,
         poster: Poster<N>,
     ) -> bool {
-        match self.sink(alloc) {
-            Ok(sink) => {
-                self.told_by(rt, alloc, inbox, poster, sink) == Some((self.told, true))
-                    && comes(rt, inbox, taker, self.posts)
+        match (self.sink(alloc), self.tail(rt, alloc)) {
+            (Ok(sink), Ok(tail)) => {
+                let (told, taken) = pumped(rt, alloc, tail, sink, inbox, poster, self.taken);
+                told == self.told && taken && comes(rt, inbox, taker, self.posts)
             }
-            Err(_) => false,
+            _ => false,
         }
     }
 
@@ -96,31 +135,24 @@ impl WriteRow {
         Ok(FailAt::new(narrow, failing))
     }
 
-    // What the pump tells, which has a thread of its own, and whether the sink took what it must.
-    fn told_by<N: InboxName + Send + Sync, R: Threads + Wait + Sync>(
-        &self,
-        rt: &R,
-        alloc: Global,
-        inbox: &Inbox<N>,
-        poster: Poster<N>,
-        sink: FailAt<Narrow>,
-    ) -> Option<(Told, bool)> {
-        let (taken, stops) = (self.taken, self.stops);
-        match lane(alloc) {
-            Ok((head, tail)) => {
-                let (told, given) = thread::join(
-                    rt,
-                    move || pumped(rt, alloc, tail, sink, inbox, poster, taken),
-                    move || drive(rt, alloc, head, stops),
-                );
-                if given { Some(told) } else { None }
-            }
-            Err(_) => None,
+    // The tail of a lane in which the commands stand.
+    fn tail<R: Wait>(&self, rt: &R, alloc: Global) -> Result<Tail, Memory> {
+        let (mut head, tail) = lane(alloc)?;
+        for bytes in self.writes {
+            let held = Vec::from_slice(alloc, bytes)?;
+            give(rt, &mut head, Command::Write(Blob::of(held)));
         }
+        match self.last {
+            Last::Close => give(rt, &mut head, Command::Close),
+            Last::Stop => give(rt, &mut head, Command::Stop),
+            Last::Nothing => {}
+        }
+        Ok(tail)
     }
 }
 
-fn pumped<N: InboxName, R: Wait>(
+// What the pump tells, and whether the sink took these bytes.
+fn pumped<N: InboxName, R: Wait + Clock>(
     rt: &R,
     alloc: Global,
     tail: Tail,
@@ -133,26 +165,4 @@ fn pumped<N: InboxName, R: Wait>(
     let mut bell = MemBell::new();
     let report = pump_in(rt, alloc, tail, &mut own, inbox, poster, &mut bell);
     (told_of(report, &bell), own.inner.inner.taken() == taken)
-}
-
-// Gives the commands. Where memory is refused it gives Stop at once, and says so.
-fn drive<R: Wait>(rt: &R, alloc: Global, head: Head, stops: bool) -> bool {
-    let mut own = head;
-    let given = write(rt, alloc, &mut own, b"ab") && write(rt, alloc, &mut own, b"c");
-    if stops || !given {
-        give(rt, &mut own, Command::Stop);
-    } else {
-        give(rt, &mut own, Command::Close);
-    }
-    given
-}
-
-fn write<R: Wait>(rt: &R, alloc: Global, head: &mut Head, bytes: &[u8]) -> bool {
-    match Vec::from_slice(alloc, bytes) {
-        Ok(held) => {
-            give(rt, head, Command::Write(Blob::of(held)));
-            true
-        }
-        Err(_) => false,
-    }
 }

@@ -7,10 +7,9 @@ loop-init g c = starts _ _ refl
 
 pub returns-in-Some-end : goal.returns-in-Some-end
 returns-in-Some-end g c =
-    rw c.next-command.ensures
-    (ended_at _ _ _ _ _ c.loop.invariant c.next-command.result c.in-Some-end.ending c.obey-now.result.1 c.in-Some-end.is c.obey-now.ensures)
+    ended_at _ _ _ _ _ c.loop.invariant _ _ c.next_within-came.ensures c.in-Some-end.ending c.act-now.result.1 c.in-Some-end.is
+    c.act-now.ensures
 
 pub loop-preserved : goal.loop-preserved
 loop-preserved g c =
-    rw c.next-command.ensures
-    (turns_at _ _ _ _ _ c.loop.invariant c.next-command.result c.obey-now.result.1 c.in_default.is c.obey-now.ensures)
+    turns_at _ _ _ _ _ c.loop.invariant _ _ c.next_within-came.ensures c.act-now.result.1 c.in_default.is c.act-now.ensures
