@@ -6,7 +6,7 @@ use std::io;
 use std::io::ErrorKind;
 use std::os::fd::AsRawFd;
 
-/// How long one look waits, in milliseconds. Behind each it is seen whether anybody still wants the pipe.
+/// How long one look waits, in milliseconds. After each it is seen whether anybody still wants the pipe.
 const LOOK: i32 = 250;
 
 /// Waits until the pipe has bytes or has ended.

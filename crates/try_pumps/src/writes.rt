@@ -12,7 +12,7 @@ use std::alloc::Global;
 use std::sync::Wait;
 use std::time::Clock;
 
-/// What is given behind all Writes.
+/// What is given after all Writes.
 #[derive(Clone, Copy)]
 pub enum Last {
     Close,
@@ -20,7 +20,7 @@ pub enum Last {
     Nothing,
 }
 
-/// A sink that takes so many bytes a write, whose writes with the listed numbers fail; the Writes, and what is given behind
+/// A sink that takes so many bytes a write, whose writes with the listed numbers fail; the Writes, and what is given after
 /// them; and what must come. A look at the sink, while no command comes, is a write of no bytes.
 pub struct WriteRow {
     pub name: &'static str,
