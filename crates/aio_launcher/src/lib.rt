@@ -1,6 +1,7 @@
 //! The programs of the system: children with their pipes and their exits, each with four pumps on threads of their own.
 #![tactic(auto)]
 
+mod ended;
 mod exit;
 mod launcher;
 mod pipes;
@@ -10,6 +11,7 @@ mod readiness;
 mod slot;
 mod starter;
 
+pub use ended::Ended;
 pub use exit::ChildExit;
 pub use launcher::{RealLauncher, Run};
 pub use pipes::{PipeSink, PipeSource};
